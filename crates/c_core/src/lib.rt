@@ -1,0 +1,10 @@
+//! The checked program: types, operators, trees.
+#![tactic(auto)]
+
+mod number;
+mod tree;
+
+pub use number::{BinOp, DataModel, Done, IntType, Property, Spot, StepOp, UnOp};
+pub use tree::{
+    Callee, Declared, Expr, First, Form, Function, Init, Node, Object, Program, Start, Stmt,
+};

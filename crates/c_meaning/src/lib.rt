@@ -1,0 +1,11 @@
+//! Runs of checked programs: their ends, events, draws and obligations.
+#![tactic(auto)]
+
+mod run;
+mod verdict;
+
+pub use run::{
+    Choices, Draw, DrawKind, Duty, DutyKind, End, Event, Given, HavocEnd, HavocRun,
+    PlacedInvariant, Run,
+};
+pub use verdict::{Cause, Reason, Verdict};
