@@ -1,0 +1,53 @@
+ghost use Rattle.std.specs.Prelude.{◌≡◌, ◌++◌, IfOk, OnOk, string_bytes};
+ghost use Rattle.wv_report.specs.Report.{text_of, verdict_lines};
+
+use crate::Reply;
+use crate::lines::{
+    add_obligation, add_reason, add_refusal, add_segments, add_undecided, add_values,
+};
+use c_meaning::Verdict;
+use std::alloc::Global;
+use wv_base::OutOfMemory;
+
+/// The whole text report of a reply.
+pub fn text(alloc: Global, reply: &Reply) -> Result<Vec<u8>, OutOfMemory>
+    ensures { IfOk result (λ bytes. bytes.items ≡ text_of reply.now) }
+{
+    let mut out = String::new(alloc);
+    match reply {
+        Reply::Verdict(verdict) => add_verdict(&mut out, verdict)?,
+        Reply::Refused { code, detail } => add_refusal(&mut out, code.as_str(), detail.as_str())?,
+        Reply::ReadFault(which) => {
+            let which = which.as_str();
+            write!(out, "fault read {which}\n")?;
+        }
+    }
+    Ok(out.into_bytes())
+}
+
+fn add_verdict(out: &mut String, verdict: &Verdict) -> Result<(), OutOfMemory>
+    ensures { OnOk result (string_bytes out.new ≡ string_bytes out.old ++ verdict_lines verdict.now) }
+{
+    match verdict {
+        Verdict::ViolationConfirmed { draws, positions } => {
+            out.push_str("violation confirmed\n")?;
+            add_values(out, draws.as_slice())?;
+            add_segments(out, positions.as_slice())?;
+        }
+        Verdict::ViolationNot { reason, unfixed } => {
+            out.push_str("violation not confirmed\n")?;
+            add_reason(out, *reason)?;
+            write!(out, "unfixed {unfixed}\n")?;
+        }
+        Verdict::CorrectnessConfirmed { count } => {
+            write!(out, "correctness confirmed\nobligations {count}\n")?;
+        }
+        Verdict::CorrectnessNot { index, duty, draws } => {
+            out.push_str("correctness not confirmed\n")?;
+            add_obligation(out, *index, *duty)?;
+            add_values(out, draws.as_slice())?;
+        }
+        Verdict::Undecided(cause) => add_undecided(out, *cause)?,
+    }
+    Ok(())
+}
