@@ -1,6 +1,7 @@
 -- Thin programs: `int x = __VERIFIER_nondet_int();` .., then `if (x == 5) { reach_error(); }` .., then `return 0;`, all in `main`.
 use Rattle.std.specs.Prelude.{ℕ, zero, suc, nat_eq, nat_lt, nat_le, ℤ, pos, negsuc, Bool, true, false, not, ◌&&◌, ◌||◌, List, [], ◌∷◌, length, Option, Some, None}
 use Rattle.c_core.specs.Types.{is_zero}
+use Rattle.c_core.specs.Parts.{is_empty}
 use Rattle.c_core.specs.Tree.{Exp, Expr, Node, Const, Var, Binary, Call, Exps, NoExp, MoreExp, Init, One, Names, NoName, MoreName, Stm, Stmt, Form, Do, Declare, Block, If, Return, Else, NoElse, OrElse, Stms, NoStm, MoreStm, Function, Program}
 use Rattle.c_core.specs.declared.number.IntType.{IntType}
 use Rattle.c_core.specs.declared.number.IntType.TheVariants.{Int}
@@ -13,10 +14,6 @@ use Rattle.c_core.specs.declared.number.BinOp.TheVariants.{Eq}
 use Rattle.c_core.specs.declared.tree.Callee.{Callee}
 use Rattle.c_core.specs.declared.tree.Callee.TheVariants.{Input, ReachError}
 use Rattle.c_core.specs.declared.tree.Object.{Object}
-
-abbrev pub is_empty : {A : Type 0} → List A → Bool
-is_empty [] = true
-is_empty (x ∷ xs) = false
 
 abbrev pub is_int : IntType → Bool
 is_int Int = true
