@@ -2,9 +2,11 @@
 #![tactic(auto)]
 
 mod number;
+mod place;
+mod program;
 mod tree;
 
 pub use number::{BinOp, DataModel, Done, IntType, Property, Spot, StepOp, UnOp};
-pub use tree::{
-    Callee, Declared, Expr, First, Form, Function, Init, Node, Object, Program, Start, Stmt,
-};
+pub use place::{Place, PlaceKind};
+pub use program::Program;
+pub use tree::{Callee, Declared, Expr, First, Form, Function, Init, Node, Object, Start, Stmt};

@@ -1,0 +1,309 @@
+-- One program for each way in which a part of the invariant holds or fails.
+use Rattle.std.specs.Prelude.{◌≡◌, ℕ, ◌+◌, pos, Bool, true, false, List, [], ◌∷◌, Option, Some, None}
+use Rattle.std.proofs.Common.{refl}
+use Rattle.c_core.specs.Tree as t
+use Rattle.c_core.specs.Parts.{spot_of}
+use Rattle.c_core.specs.Program.{objects_fit, cells_fit, objects_rise, names_in_place, starts_fit, starts_differ, has_main, params_fit, types_fit, names_known, owned_once, names_in_reach, blocks_fit, jumps_fit, places_rise}
+use Rattle.c_core.specs.declared.number.Spot.{Spot}
+use Rattle.c_core.specs.declared.number.IntType.{IntType}
+use Rattle.c_core.specs.declared.number.IntType.TheVariants.{Int, UInt, Char, UChar}
+use Rattle.c_core.specs.declared.number.DataModel.TheVariants.{Ilp32}
+use Rattle.c_core.specs.declared.number.Property.TheVariants.{UnreachCall}
+use Rattle.c_core.specs.declared.number.BinOp.TheVariants as b
+use Rattle.c_core.specs.declared.number.UnOp.TheVariants as u
+use Rattle.c_core.specs.declared.number.StepOp.TheVariants as s
+use Rattle.c_core.specs.declared.tree.Callee.TheVariants as c
+use Rattle.c_core.specs.declared.tree.Object.{Object}
+use Rattle.c_core.specs.declared.tree.Start.{Start}
+
+abbrev at : ℕ → ℕ → Spot
+at l c = record { line = l; column = c }
+
+-- type, cells, array, fixed, column on line 2
+abbrev object : IntType → ℕ → Bool → Bool → ℕ → Object
+object ty cells array fixed c = record { name = []; ty = ty; cells = cells; array = array; fixed = fixed; spot = at 2 c }
+
+-- `int x`, `int a[3]`, `static unsigned char g`
+abbrev the_objects : List Object
+the_objects = object Int 1 false false 7 ∷ object Int 3 true false 10 ∷ object UChar 1 false true 13 ∷ []
+
+-- `int main` with these parameters
+abbrev main_with : List ℕ → t.Stm → t.Program
+main_with params b = record {
+  model = Ilp32;
+  property = UnreachCall;
+  objects = the_objects;
+  starts = [];
+  functions = record { result = Some Int; params = params; body = b } ∷ [];
+  main = 0;
+}
+
+abbrev main_of : t.Stms → t.Program
+main_of b = main_with [] (t.Stmt (at 1 12) (t.Block b))
+
+abbrev with_objects : List Object → t.Program
+with_objects os = record (main_of t.NoStm) { objects = os }
+
+abbrev with_starts : List Start → t.Program
+with_starts ss = record (main_of t.NoStm) { starts = ss }
+
+-- `main` of one statement, and of two
+abbrev one : t.Stm → t.Program
+one s = main_of (t.MoreStm s t.NoStm)
+
+abbrev two : t.Stm → t.Stm → t.Program
+two s s' = main_of (t.MoreStm s (t.MoreStm s' t.NoStm))
+
+-- expressions at columns of line 3
+abbrev int : ℕ → t.Node → t.Exp
+int c n = t.Expr (at 3 c) (Some Int) n
+
+abbrev number : ℕ → ℕ → t.Exp
+number c v = int c (t.Const (pos v))
+
+abbrev unsigned : ℕ → ℕ → t.Exp
+unsigned c v = t.Expr (at 3 c) (Some UInt) (t.Const (pos v))
+
+abbrev x : ℕ → t.Exp
+x c = int c (t.Var 0)
+
+abbrev plus : ℕ → t.Exp → t.Exp → t.Exp
+plus c e e' = int c (t.Binary b.Add e e')
+
+-- `abort()`
+abbrev void : ℕ → t.Exp
+void n = t.Expr (at 3 n) None (t.Call c.Abort t.NoExp (at 3 (n + 6)))
+
+-- `e;`
+abbrev line : t.Exp → t.Stm
+line e = t.Stmt (spot_of e) (t.Do e)
+
+-- `int x;`
+abbrev int_x : t.Stm
+int_x = t.Stmt (at 2 3) (t.Declare (t.MoreName (at 2 7) 0 t.Absent t.NoName))
+
+abbrev block : t.Stm → t.Stm
+block s = t.Stmt (at 2 1) (t.Block (t.MoreStm s t.NoStm))
+
+-- how each part judges them
+pub record JudgedPrograms : Type 0 where
+  pub a_scalar_and_an_array : objects_fit (main_of t.NoStm) ≡ true
+  pub array_without_cell : objects_fit (with_objects (object Int 0 true false 7 ∷ [])) ≡ false
+  pub scalar_of_two_cells : objects_fit (with_objects (object Int 2 false false 7 ∷ [])) ≡ false
+  pub all_cells : cells_fit (with_objects (object Int 99999 true false 7 ∷ object Int 1 false false 9 ∷ [])) ≡ true
+  pub too_many_cells : cells_fit (with_objects (object Int 100000 true false 7 ∷ object Int 1 false false 9 ∷ [])) ≡ false
+  pub in_order_of_declarations : objects_rise (main_of t.NoStm) ≡ true
+  pub numbered_otherwise : objects_rise (with_objects (object Int 1 false false 9 ∷ object Int 1 false false 7 ∷ [])) ≡ false
+  pub start_of_255 : starts_fit (with_starts (record { object = 2; values = (pos 255 ∷ []) } ∷ [])) ≡ true
+  pub start_of_256 : starts_fit (with_starts (record { object = 2; values = (pos 256 ∷ []) } ∷ [])) ≡ false
+  pub start_of_two_values : starts_fit (with_starts (record { object = 2; values = (pos 1 ∷ pos 2 ∷ []) } ∷ [])) ≡ false
+  pub start_of_automatic : starts_fit (with_starts (record { object = 0; values = (pos 1 ∷ []) } ∷ [])) ≡ false
+  pub start_of_unknown : starts_fit (with_starts (record { object = 9; values = [] } ∷ [])) ≡ false
+  pub two_starts : starts_differ (with_starts (record { object = 2; values = (pos 1 ∷ []) } ∷ record { object = 2; values = (pos 2 ∷ []) } ∷ [])) ≡ false
+  pub main : has_main (main_of t.NoStm) ≡ true
+  pub no_main : has_main (record (main_of t.NoStm) { main = 1 }) ≡ false
+  pub main_with_parameter : has_main (main_with (0 ∷ []) (t.Stmt (at 1 12) (t.Block t.NoStm))) ≡ false
+  pub scalar_parameter : params_fit (main_with (0 ∷ []) (t.Stmt (at 1 12) (t.Block t.NoStm))) ≡ true
+  pub array_parameter : params_fit (main_with (1 ∷ []) (t.Stmt (at 1 12) (t.Block t.NoStm))) ≡ false
+  pub unknown_parameter : params_fit (main_with (9 ∷ []) (t.Stmt (at 1 12) (t.Block t.NoStm))) ≡ false
+  pub parameter_in_reach : names_in_reach (main_with (0 ∷ []) (t.Stmt (at 1 12) (t.Block (t.MoreStm (line (x 3)) t.NoStm)))) ≡ true
+  pub parameter_declared_too : owned_once (main_with (0 ∷ 1 ∷ []) (t.Stmt (at 1 12) (t.Block (t.MoreStm int_x t.NoStm)))) ≡ false
+  pub body_without_block : blocks_fit (main_with [] (t.Stmt (at 1 12) t.Empty)) ≡ false
+  pub adds : types_fit (one (line (plus 3 (x 3) (number 7 1)))) ≡ true
+  pub void_operand : types_fit (one (line (plus 3 (x 3) (void 7)))) ≡ false
+  pub sum_typed_unsigned : types_fit (one (line (t.Expr (at 3 3) (Some UInt) (t.Binary b.Add (x 3) (number 7 1))))) ≡ false
+  pub sum_with_unsigned : types_fit (one (line (t.Expr (at 3 3) (Some UInt) (t.Binary b.Add (x 3) (unsigned 7 1))))) ≡ true
+  pub comparison_with_unsigned : types_fit (one (line (int 3 (t.Binary b.Lt (x 3) (unsigned 7 1))))) ≡ true
+  pub shift_by_unsigned : types_fit (one (line (int 3 (t.Binary b.Shl (x 3) (unsigned 8 1))))) ≡ true
+  pub greatest_constant : types_fit (one (line (number 3 2147483647))) ≡ true
+  pub constant_too_large : types_fit (one (line (number 3 2147483648))) ≡ false
+  pub constant_of_char : types_fit (one (line (t.Expr (at 3 3) (Some Char) (t.Const (pos 1))))) ≡ false
+  pub void_constant : types_fit (one (line (t.Expr (at 3 3) None (t.Const (pos 1))))) ≡ false
+  pub element : types_fit (one (line (int 3 (t.Index 1 (number 5 1))))) ≡ true
+  pub array_without_index : types_fit (one (line (int 3 (t.Var 1)))) ≡ false
+  pub index_on_scalar : types_fit (one (line (int 3 (t.Index 0 (number 5 1))))) ≡ false
+  pub void_index : types_fit (one (line (int 3 (t.Index 1 (void 5))))) ≡ false
+  pub unknown_object : types_fit (one (line (int 3 (t.Var 9)))) ≡ false
+  pub object_of_other_type : types_fit (one (line (t.Expr (at 3 3) (Some UInt) (t.Var 0)))) ≡ false
+  pub negation_promotes : types_fit (one (line (int 3 (t.Unary u.Neg (t.Expr (at 3 4) (Some Char) (t.Cast (x 10))))))) ≡ true
+  pub negation_typed_char : types_fit (one (line (t.Expr (at 3 3) (Some Char) (t.Unary u.Neg (t.Expr (at 3 4) (Some Char) (t.Cast (x 10))))))) ≡ false
+  pub not_of_unsigned : types_fit (one (line (int 3 (t.Unary u.Not (unsigned 4 1))))) ≡ true
+  pub cast_to_void : types_fit (one (line (t.Expr (at 3 3) None (t.Cast (void 9))))) ≡ true
+  pub cast_of_void : types_fit (one (line (int 3 (t.Cast (void 9))))) ≡ false
+  pub step : types_fit (one (line (int 3 (t.Step s.PostInc (x 3))))) ≡ true
+  pub step_of_constant : types_fit (one (line (int 3 (t.Step s.PostInc (number 3 1))))) ≡ false
+  pub logic : types_fit (one (line (int 3 (t.Logic true (x 3) (number 8 1))))) ≡ true
+  pub logic_of_void : types_fit (one (line (int 3 (t.Logic true (x 3) (void 8))))) ≡ false
+  pub void_arms : types_fit (one (line (t.Expr (at 3 3) None (t.Choose (at 3 5) (x 3) (void 7) (void 17))))) ≡ true
+  pub one_void_arm : types_fit (one (line (int 3 (t.Choose (at 3 5) (x 3) (void 7) (number 17 1))))) ≡ false
+  pub comma_behind_void : types_fit (one (line (int 3 (t.Comma (void 3) (x 12))))) ≡ true
+  pub assigns_element : types_fit (one (line (int 3 (t.Assign None (int 3 (t.Index 1 (number 5 1))) (number 10 1))))) ≡ true
+  pub assigns_sum : types_fit (one (line (int 3 (t.Assign None (plus 3 (x 3) (number 7 1)) (number 11 1))))) ≡ false
+  pub assigns_void : types_fit (one (line (int 3 (t.Assign None (x 3) (void 7))))) ≡ false
+  pub exit_with_status : types_fit (one (line (t.Expr (at 3 3) None (t.Call c.Exit (t.MoreExp (number 8 1) t.NoExp) (at 3 9))))) ≡ true
+  pub exit_without_status : types_fit (one (line (t.Expr (at 3 3) None (t.Call c.Exit t.NoExp (at 3 8))))) ≡ false
+  pub abort_with_status : types_fit (one (line (t.Expr (at 3 3) None (t.Call c.Abort (t.MoreExp (number 9 1) t.NoExp) (at 3 10))))) ≡ false
+  pub input : types_fit (one (line (t.Expr (at 3 3) (Some UInt) (t.Call (c.Input UInt) t.NoExp (at 3 27))))) ≡ true
+  pub input_of_other_type : types_fit (one (line (t.Expr (at 3 3) (Some Int) (t.Call (c.Input UInt) t.NoExp (at 3 27))))) ≡ false
+  pub call_of_main : types_fit (one (line (t.Expr (at 3 3) (Some Int) (t.Call (c.Defined 0) t.NoExp (at 3 8))))) ≡ true
+  pub call_with_too_many : types_fit (one (line (t.Expr (at 3 3) (Some Int) (t.Call (c.Defined 0) (t.MoreExp (number 8 1) t.NoExp) (at 3 9))))) ≡ false
+  pub call_of_unknown : types_fit (one (line (t.Expr (at 3 3) (Some Int) (t.Call (c.Defined 1) t.NoExp (at 3 8))))) ≡ false
+  pub return_without_value : types_fit (one (t.Stmt (at 3 3) (t.Return None))) ≡ false
+  pub return_of_void : types_fit (one (t.Stmt (at 3 3) (t.Return (Some (void 10))))) ≡ false
+  pub void_test : types_fit (one (t.Stmt (at 3 3) (t.While (void 10) (t.Stmt (at 3 19) t.Empty)))) ≡ false
+  pub endless_for : types_fit (one (t.Stmt (at 3 3) (t.For t.NoFirst None None (t.Stmt (at 3 12) t.Empty)))) ≡ true
+  pub void_test_of_for : types_fit (one (t.Stmt (at 3 3) (t.For t.NoFirst (Some (void 9)) None (t.Stmt (at 3 19) t.Empty)))) ≡ false
+  pub list_for_array : types_fit (one (t.Stmt (at 2 3) (t.Declare (t.MoreName (at 2 10) 1 (t.Many (t.MoreExp (number 12 1) (t.MoreExp (number 14 2) (t.MoreExp (number 16 3) t.NoExp)))) t.NoName)))) ≡ true
+  pub list_too_long : types_fit (one (t.Stmt (at 2 3) (t.Declare (t.MoreName (at 2 10) 1 (t.Many (t.MoreExp (number 12 1) (t.MoreExp (number 14 2) (t.MoreExp (number 16 3) (t.MoreExp (number 18 4) t.NoExp))))) t.NoName)))) ≡ false
+  pub list_for_scalar : types_fit (one (t.Stmt (at 2 3) (t.Declare (t.MoreName (at 2 7) 0 (t.Many (t.MoreExp (number 12 1) t.NoExp)) t.NoName)))) ≡ false
+  pub value_for_array : types_fit (one (t.Stmt (at 2 3) (t.Declare (t.MoreName (at 2 10) 1 (t.One (number 14 1)) t.NoName)))) ≡ false
+  pub names_declared : names_in_reach (two int_x (line (x 3))) ≡ true
+  pub names_fixed : names_in_reach (one (line (int 3 (t.Var 2)))) ≡ true
+  pub names_undeclared : names_in_reach (two (line (x 3)) int_x) ≡ false
+  pub names_behind_block : names_in_reach (two (block int_x) (line (x 3))) ≡ false
+  pub names_in_inner_block : names_in_reach (two int_x (block (line (x 3)))) ≡ true
+  pub names_itself : names_in_reach (one (t.Stmt (at 2 3) (t.Declare (t.MoreName (at 2 7) 0 (t.One (x 11)) t.NoName)))) ≡ false
+  pub names_in_next_initializer : names_in_reach (one (t.Stmt (at 2 3) (t.Declare (t.MoreName (at 2 7) 0 t.Absent (t.MoreName (at 2 10) 1 (t.Many (t.MoreExp (x 19) t.NoExp)) t.NoName))))) ≡ true
+  pub names_in_for : names_in_reach (one (t.Stmt (at 3 3) (t.For (t.FirstNames (t.MoreName (at 3 12) 0 t.Absent t.NoName)) (Some (x 15)) None (line (x 20))))) ≡ true
+  pub names_behind_for : names_in_reach (two (t.Stmt (at 3 3) (t.For (t.FirstNames (t.MoreName (at 3 12) 0 t.Absent t.NoName)) None None (t.Stmt (at 3 15) t.Empty))) (line (x 20))) ≡ false
+  pub each_declared : owned_once (one (t.Stmt (at 2 3) (t.Declare (t.MoreName (at 2 7) 0 t.Absent (t.MoreName (at 2 10) 1 t.Absent t.NoName))))) ≡ true
+  pub one_not_declared : owned_once (one int_x) ≡ false
+  pub declared_twice : owned_once (two (t.Stmt (at 2 3) (t.Declare (t.MoreName (at 2 7) 0 t.Absent (t.MoreName (at 2 10) 1 t.Absent t.NoName)))) int_x) ≡ false
+  pub fixed_declared : owned_once (one (t.Stmt (at 2 3) (t.Declare (t.MoreName (at 2 7) 0 t.Absent (t.MoreName (at 2 10) 1 t.Absent (t.MoreName (at 2 13) 2 t.Absent t.NoName)))))) ≡ false
+  pub declares_known : names_known (one int_x) ≡ true
+  pub declares_unknown : names_known (one (t.Stmt (at 2 3) (t.Declare (t.MoreName (at 2 7) 9 t.Absent t.NoName)))) ≡ false
+  pub declared_there : names_in_place (one int_x) ≡ true
+  pub declared_elsewhere : names_in_place (one (t.Stmt (at 2 3) (t.Declare (t.MoreName (at 2 8) 0 t.Absent t.NoName)))) ≡ false
+  pub declaration_in_arm : blocks_fit (one (t.Stmt (at 3 3) (t.If (number 7 1) int_x t.NoElse))) ≡ false
+  pub declaration_in_else : blocks_fit (one (t.Stmt (at 3 3) (t.If (number 7 1) (t.Stmt (at 3 10) t.Empty) (t.OrElse int_x)))) ≡ false
+  pub declaration_in_loop : blocks_fit (one (t.Stmt (at 3 3) (t.While (number 7 1) int_x))) ≡ false
+  pub declaration_in_do : blocks_fit (one (t.Stmt (at 3 3) (t.DoWhile int_x (number 17 1)))) ≡ false
+  pub declaration_in_for : blocks_fit (one (t.Stmt (at 3 3) (t.For t.NoFirst None None int_x))) ≡ false
+  pub declaration_behind_label : blocks_fit (one (t.Stmt (at 3 3) (t.Label int_x))) ≡ false
+  pub declaration_in_block : blocks_fit (one (t.Stmt (at 3 3) (t.If (number 7 1) (block int_x) t.NoElse))) ≡ true
+  pub break_outside : jumps_fit (one (t.Stmt (at 3 3) t.Break)) ≡ false
+  pub continue_in_arm : jumps_fit (one (t.Stmt (at 3 3) (t.If (number 7 1) (t.Stmt (at 3 10) t.Continue) t.NoElse))) ≡ false
+  pub break_in_loop : jumps_fit (one (t.Stmt (at 3 3) (t.DoWhile (t.Stmt (at 3 6) (t.If (number 10 1) (t.Stmt (at 3 13) t.Break) t.NoElse)) (number 29 1)))) ≡ true
+  pub break_behind_loop : jumps_fit (two (t.Stmt (at 3 3) (t.While (number 10 1) (t.Stmt (at 3 13) t.Empty))) (t.Stmt (at 3 20) t.Break)) ≡ false
+  pub one_behind_another : places_rise (two (line (x 3)) (line (x 6))) ≡ true
+  pub two_at_one_place : places_rise (two (line (x 3)) (line (x 3))) ≡ false
+  pub sum_at_its_left : places_rise (one (line (plus 3 (x 3) (number 7 1)))) ≡ true
+  pub sum_in_parentheses : places_rise (one (line (plus 3 (x 4) (number 8 1)))) ≡ true
+  pub operands_turned_round : places_rise (one (line (plus 3 (x 7) (number 3 1)))) ≡ false
+  pub sum_behind_its_left : places_rise (one (line (plus 4 (x 3) (number 7 1)))) ≡ false
+  pub call_closed_before : places_rise (one (line (t.Expr (at 3 3) (Some Int) (t.Call (c.Defined 0) t.NoExp (at 3 3))))) ≡ false
+  pub mark_behind_arm : places_rise (one (line (int 3 (t.Choose (at 3 9) (x 3) (number 7 1) (number 11 1))))) ≡ false
+  pub prefix_at_its_target : places_rise (one (line (int 3 (t.Step s.PreInc (x 3))))) ≡ false
+  pub postfix_at_its_target : places_rise (one (line (int 3 (t.Step s.PostInc (x 3))))) ≡ true
+
+pub judged_programs : JudgedPrograms
+judged_programs = record {
+  a_scalar_and_an_array = refl;
+  array_without_cell = refl;
+  scalar_of_two_cells = refl;
+  all_cells = refl;
+  too_many_cells = refl;
+  in_order_of_declarations = refl;
+  numbered_otherwise = refl;
+  start_of_255 = refl;
+  start_of_256 = refl;
+  start_of_two_values = refl;
+  start_of_automatic = refl;
+  start_of_unknown = refl;
+  two_starts = refl;
+  main = refl;
+  no_main = refl;
+  main_with_parameter = refl;
+  scalar_parameter = refl;
+  array_parameter = refl;
+  unknown_parameter = refl;
+  parameter_in_reach = refl;
+  parameter_declared_too = refl;
+  body_without_block = refl;
+  adds = refl;
+  void_operand = refl;
+  sum_typed_unsigned = refl;
+  sum_with_unsigned = refl;
+  comparison_with_unsigned = refl;
+  shift_by_unsigned = refl;
+  greatest_constant = refl;
+  constant_too_large = refl;
+  constant_of_char = refl;
+  void_constant = refl;
+  element = refl;
+  array_without_index = refl;
+  index_on_scalar = refl;
+  void_index = refl;
+  unknown_object = refl;
+  object_of_other_type = refl;
+  negation_promotes = refl;
+  negation_typed_char = refl;
+  not_of_unsigned = refl;
+  cast_to_void = refl;
+  cast_of_void = refl;
+  step = refl;
+  step_of_constant = refl;
+  logic = refl;
+  logic_of_void = refl;
+  void_arms = refl;
+  one_void_arm = refl;
+  comma_behind_void = refl;
+  assigns_element = refl;
+  assigns_sum = refl;
+  assigns_void = refl;
+  exit_with_status = refl;
+  exit_without_status = refl;
+  abort_with_status = refl;
+  input = refl;
+  input_of_other_type = refl;
+  call_of_main = refl;
+  call_with_too_many = refl;
+  call_of_unknown = refl;
+  return_without_value = refl;
+  return_of_void = refl;
+  void_test = refl;
+  endless_for = refl;
+  void_test_of_for = refl;
+  list_for_array = refl;
+  list_too_long = refl;
+  list_for_scalar = refl;
+  value_for_array = refl;
+  names_declared = refl;
+  names_fixed = refl;
+  names_undeclared = refl;
+  names_behind_block = refl;
+  names_in_inner_block = refl;
+  names_itself = refl;
+  names_in_next_initializer = refl;
+  names_in_for = refl;
+  names_behind_for = refl;
+  each_declared = refl;
+  one_not_declared = refl;
+  declared_twice = refl;
+  fixed_declared = refl;
+  declares_known = refl;
+  declares_unknown = refl;
+  declared_there = refl;
+  declared_elsewhere = refl;
+  declaration_in_arm = refl;
+  declaration_in_else = refl;
+  declaration_in_loop = refl;
+  declaration_in_do = refl;
+  declaration_in_for = refl;
+  declaration_behind_label = refl;
+  declaration_in_block = refl;
+  break_outside = refl;
+  continue_in_arm = refl;
+  break_in_loop = refl;
+  break_behind_loop = refl;
+  one_behind_another = refl;
+  two_at_one_place = refl;
+  sum_at_its_left = refl;
+  sum_in_parentheses = refl;
+  operands_turned_round = refl;
+  sum_behind_its_left = refl;
+  call_closed_before = refl;
+  mark_behind_arm = refl;
+  prefix_at_its_target = refl;
+  postfix_at_its_target = refl;
+}

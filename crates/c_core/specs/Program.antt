@@ -1,0 +1,108 @@
+-- The invariant of a checked program.
+use Rattle.std.specs.Prelude.{ℕ, nat_eq, nat_le, Bool, true, false, cond, not, ◌&&◌, List, [], ◌∷◌, length, Option, Some, None, slice_get, map, IsTrue}
+use Rattle.std.specs.List.{list_all, range_with_len, sum_by}
+use Rattle.c_core.specs.Types.{in_range}
+use Rattle.c_core.specs.Parts.{is_empty}
+use Rattle.c_core.specs.Tree.{Function, Program}
+use Rattle.c_core.specs.Typing.{function_fits}
+use Rattle.c_core.specs.Scope.{is_in, owned_by, is_owned_once, is_object, function_reaches, function_stands, function_nests, function_jumps}
+use Rattle.c_core.specs.TextOrder.{rises, spots_of_functions, spots_of_objects}
+use Rattle.c_core.specs.declared.number.DataModel.{DataModel}
+use Rattle.c_core.specs.declared.tree.Object.{Object}
+use Rattle.c_core.specs.declared.tree.Start.{Start}
+
+-- a scalar has one cell, an array at least one
+abbrev pub object_fits : Object → Bool
+object_fits o = cond o.array (nat_le 1 o.cells) (nat_eq o.cells 1)
+
+abbrev pub objects_fit : Program → Bool
+objects_fit p = list_all object_fits p.objects
+
+-- the most cells that all objects have together
+abbrev pub most_declared_cells : ℕ
+most_declared_cells = 100000
+
+abbrev pub cells_fit : Program → Bool
+cells_fit p = nat_le (sum_by (λ o. o.cells) p.objects) most_declared_cells
+
+-- objects are numbered in the order of their declarations
+abbrev pub objects_rise : Program → Bool
+objects_rise p = rises (spots_of_objects p.objects)
+
+-- a declared name stands where its object does
+abbrev pub names_in_place : Program → Bool
+names_in_place p = list_all (function_stands p) p.functions
+
+-- of static storage, with no more values than cells, each of the object's type (C11 6.7.9p4)
+abbrev pub start_fits : DataModel → Start → Option Object → Bool
+start_fits m s None = false
+start_fits m s (Some o) = o.fixed && (nat_le (length s.values) o.cells && list_all (in_range m o.ty) s.values)
+
+abbrev pub starts_fit : Program → Bool
+starts_fit p = list_all (λ s. start_fits p.model s (slice_get p.objects s.object)) p.starts
+
+abbrev pub started_objects : List Start → List ℕ
+started_objects ss = map (λ s. s.object) ss
+
+abbrev pub are_distinct : List ℕ → Bool
+are_distinct [] = true
+are_distinct (o ∷ os) = not (is_in o os) && are_distinct os
+
+abbrev pub starts_differ : Program → Bool
+starts_differ p = are_distinct (started_objects p.starts)
+
+-- C11 5.1.2.2.1
+abbrev pub is_main : Option Function → Bool
+is_main None = false
+is_main (Some f) = is_empty f.params
+
+abbrev pub has_main : Program → Bool
+has_main p = is_main (slice_get p.functions p.main)
+
+abbrev pub is_param : Option Object → Bool
+is_param None = false
+is_param (Some o) = not o.array
+
+abbrev pub params_fit : Program → Bool
+params_fit p = list_all (λ f. list_all (λ o. is_param (slice_get p.objects o)) f.params) p.functions
+
+-- parts are well typed, numbers in range, targets can be assigned
+abbrev pub types_fit : Program → Bool
+types_fit p = list_all (function_fits p) p.functions
+
+-- parameters and declared names are objects
+abbrev pub names_known : Program → Bool
+names_known p = list_all (is_object p) (owned_by p.functions)
+
+abbrev pub owned_once : Program → Bool
+owned_once p = list_all (is_owned_once p) (range_with_len 0 (length p.objects))
+
+abbrev pub names_in_reach : Program → Bool
+names_in_reach p = list_all (function_reaches p) p.functions
+
+abbrev pub blocks_fit : Program → Bool
+blocks_fit p = list_all function_nests p.functions
+
+abbrev pub jumps_fit : Program → Bool
+jumps_fit p = list_all function_jumps p.functions
+
+-- the places of parts follow the order of the text
+abbrev pub places_rise : Program → Bool
+places_rise p = rises (spots_of_functions p.functions)
+
+pub record IsProgram (p : Program) : Type 0 where
+  pub objects : IsTrue (objects_fit p)
+  pub cells : IsTrue (cells_fit p)
+  pub numbered : IsTrue (objects_rise p)
+  pub named : IsTrue (names_in_place p)
+  pub starts : IsTrue (starts_fit p)
+  pub started_once : IsTrue (starts_differ p)
+  pub main : IsTrue (has_main p)
+  pub params : IsTrue (params_fit p)
+  pub types : IsTrue (types_fit p)
+  pub known : IsTrue (names_known p)
+  pub owned : IsTrue (owned_once p)
+  pub reach : IsTrue (names_in_reach p)
+  pub blocks : IsTrue (blocks_fit p)
+  pub jumps : IsTrue (jumps_fit p)
+  pub in_order : IsTrue (places_rise p)
