@@ -3,8 +3,10 @@
 
 mod number;
 mod tree;
+mod types;
 
 pub use number::{BinOp, DataModel, Done, IntType, Property, Spot, StepOp, UnOp};
 pub use tree::{
     Callee, Declared, Expr, First, Form, Function, Init, Node, Object, Program, Start, Stmt,
 };
+pub use types::{common, convert, promote, signed, width};
