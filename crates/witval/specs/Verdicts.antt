@@ -4,7 +4,6 @@ use Rattle.c_core.specs.Tree.{Program}
 use Rattle.c_core.specs.declared.number.Spot.{Spot}
 use Rattle.c_meaning.specs.declared.run.End.{End}
 use Rattle.c_meaning.specs.declared.run.End.TheVariants as end
-use Rattle.c_meaning.specs.declared.run.Draw.{Draw}
 use Rattle.c_meaning.specs.declared.run.Choices.TheVariants.{InTurn}
 use Rattle.c_meaning.specs.declared.run.Run.{Run as GivenRun}
 use Rattle.c_meaning.specs.declared.verdict.Verdict.{Verdict}
@@ -12,6 +11,7 @@ use Rattle.c_meaning.specs.declared.verdict.Verdict.TheVariants.{ViolationConfir
 use Rattle.c_meaning.specs.declared.verdict.Reason.TheVariants.{Ended, Undefined, Unmatched}
 use Rattle.c_meaning.specs.declared.verdict.Cause.TheVariants.{Steps, Cells}
 use Rattle.c_meaning.specs.Run.{Run}
+use Rattle.c_meaning.specs.Replay.{values_of}
 use Rattle.witval.specs.Points.{BoundSegment}
 use Rattle.witval.specs.Matching.{SeenIn, Matches, Finds}
 use Rattle.witval.specs.Given.{RunGiven, SeenGiven}
@@ -29,11 +29,12 @@ verdict_by N r end.Deep found = Undecided Cells
 abbrev pub IsRightViolation : Program → List BoundSegment → ℕ → Verdict → Type 0
 IsRightViolation p ss N v = (found : Option (List ℕ)) × Finds p ss (SeenGiven p ss N) found × (v ≡ verdict_by N (RunGiven p ss N) (RunGiven p ss N).end found)
 
-abbrev pub values_of : List Draw → List ℤ
-values_of [] = []
-values_of (d ∷ ds) = d.value ∷ values_of ds
-
 -- the values, drawn in turn, give a run that violates the property within N steps and passes the segments at these positions
 pub record Violates (p : Program) (ss : List BoundSegment) (N : ℕ) (values : List ℤ) (positions : List ℕ) : Type 0 where
   pub violated : (spot : Spot) × ((Run p (InTurn values) N).end ≡ end.Violated spot)
   pub matched : Matches p ss (SeenIn p (InTurn values) N) positions
+
+-- what 'violation confirmed' says: the shown draws and positions are those of such a run
+abbrev pub IsConfirmed : Program → List BoundSegment → ℕ → Verdict → Type 0
+IsConfirmed p ss N (ViolationConfirmed draws positions) = Violates p ss N (values_of draws) positions
+IsConfirmed p ss N _ = Unit {0}
