@@ -1,6 +1,7 @@
 //! Runs of checked programs: their ends, events, draws and obligations.
 #![tactic(auto)]
 
+mod examples;
 mod laws;
 mod run;
 mod verdict;

@@ -13,7 +13,7 @@ use Rattle.c_meaning.proofs.Replayed.{replayed}
 use Rattle.witval.specs.Points.{BoundSegment}
 use Rattle.witval.specs.Matching.{seen_of, SeenIn, Matches, Finds}
 use Rattle.witval.specs.Given.{given_by, RunGiven, SeenGiven}
-use Rattle.witval.specs.Verdicts.{verdict_by, IsRightViolation, Violates, IsConfirmed}
+use Rattle.witval.specs.Verdicts.{verdict_at, IsRightAt, IsRightOnViolation, Violates, IsConfirmed}
 
 -- the draws of a run that violates and matches do so again
 violates : (p : Program) (ss : List BoundSegment) (N : ℕ) (c : Choices) (ns : List ℕ) (spot : Spot) → (Run p c N).end ≡ end.Violated spot → Matches p ss (SeenIn p c N) ns → Violates p ss N (values_of (Run p c N).draws) ns
@@ -22,13 +22,16 @@ violates p ss N c ns spot e m = record {
   matched = subst (λ xs. Matches p ss (seen_of xs) ns) (sym (replayed p c N).moments) m;
 }
 
-confirms : (p : Program) (ss : List BoundSegment) (N : ℕ) (c : Choices) (e : End) → (Run p c N).end ≡ e → (found : Option (List ℕ)) → Finds p ss (SeenIn p c N) found → IsConfirmed p ss N (verdict_by N (Run p c N) e found)
-confirms p ss N c (end.Violated spot) h (Some ns) f = violates p ss N c ns spot h f
-confirms p ss N c (end.Violated spot) h None f = tt
-confirms p ss N c end.Ended h found f = tt
-confirms p ss N c (end.Undefined spot) h found f = tt
-confirms p ss N c end.Spent h found f = tt
-confirms p ss N c end.Deep h found f = tt
+at_positions : (p : Program) (ss : List BoundSegment) (N : ℕ) (c : Choices) (spot : Spot) → (Run p c N).end ≡ end.Violated spot → (found : Option (List ℕ)) → Finds p ss (SeenIn p c N) found → IsConfirmed p ss N (verdict_at (Run p c N) found)
+at_positions p ss N c spot h (Some ns) f = violates p ss N c ns spot h f
+at_positions p ss N c spot h None f = tt
 
-pub confirmed : (p : Program) (ss : List BoundSegment) (N : ℕ) (v : Verdict) → IsRightViolation p ss N v → IsConfirmed p ss N v
-confirmed p ss N v r = subst (λ w. IsConfirmed p ss N w) (sym r.2) (confirms p ss N (given_by p ss) (RunGiven p ss N).end refl r.0 r.1)
+at_end : (p : Program) (ss : List BoundSegment) (N : ℕ) (c : Choices) (e : End) → (Run p c N).end ≡ e → (v : Verdict) → IsRightAt p ss N (Run p c N) (SeenIn p c N) e v → IsConfirmed p ss N v
+at_end p ss N c (end.Violated spot) h v r = subst (λ w. IsConfirmed p ss N w) (sym r.2) (at_positions p ss N c spot h r.0 r.1)
+at_end p ss N c end.Ended h v r = subst (λ w. IsConfirmed p ss N w) (sym r) tt
+at_end p ss N c (end.Undefined spot) h v r = subst (λ w. IsConfirmed p ss N w) (sym r) tt
+at_end p ss N c end.Spent h v r = subst (λ w. IsConfirmed p ss N w) (sym r) tt
+at_end p ss N c end.Deep h v r = subst (λ w. IsConfirmed p ss N w) (sym r) tt
+
+pub confirmed : (p : Program) (ss : List BoundSegment) (N : ℕ) (v : Verdict) → IsRightOnViolation p ss N v → IsConfirmed p ss N v
+confirmed p ss N v r = at_end p ss N (given_by p ss) (RunGiven p ss N).end refl v r

@@ -1,2 +1,3 @@
 pub mod Confirmed
+mod ExampleVerdicts
 pub mod Tested

@@ -4,3 +4,4 @@ pub mod Passing
 pub mod Matching
 pub mod Given
 pub mod Verdicts
+pub mod ExampleVerdicts

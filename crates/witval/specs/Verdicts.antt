@@ -1,5 +1,5 @@
 -- The right verdict on a violation witness.
-use Rattle.std.specs.Prelude.{◌≡◌, ℕ, ℤ, List, [], ◌∷◌, Option, Some, None}
+use Rattle.std.specs.Prelude.{◌≡◌, ℕ, ℤ, List, Option, Some, None}
 use Rattle.c_core.specs.Tree.{Program}
 use Rattle.c_core.specs.declared.number.Spot.{Spot}
 use Rattle.c_meaning.specs.declared.run.End.{End}
@@ -13,21 +13,25 @@ use Rattle.c_meaning.specs.declared.verdict.Cause.TheVariants.{Steps, Cells}
 use Rattle.c_meaning.specs.Run.{Run}
 use Rattle.c_meaning.specs.Replay.{values_of}
 use Rattle.witval.specs.Points.{BoundSegment}
-use Rattle.witval.specs.Matching.{SeenIn, Matches, Finds}
+use Rattle.witval.specs.Matching.{Seen, SeenIn, Matches, Finds}
 use Rattle.witval.specs.Given.{RunGiven, SeenGiven}
 
--- by the run's end, and the positions at which its events match, if any
-abbrev pub verdict_by : ℕ → GivenRun → End → Option (List ℕ) → Verdict
-verdict_by N r (end.Violated spot) (Some ns) = ViolationConfirmed r.draws ns
-verdict_by N r (end.Violated spot) None = ViolationNot Unmatched r.unfixed
-verdict_by N r end.Ended found = ViolationNot Ended r.unfixed
-verdict_by N r (end.Undefined spot) found = ViolationNot (Undefined spot) r.unfixed
-verdict_by N r end.Spent found = Undecided (Steps N)
-verdict_by N r end.Deep found = Undecided Cells
+-- of a run that violates the property: confirmed at any positions that match, else unmatched
+abbrev pub verdict_at : GivenRun → Option (List ℕ) → Verdict
+verdict_at r (Some positions) = ViolationConfirmed r.draws positions
+verdict_at r None = ViolationNot Unmatched r.unfixed
 
--- the given run with a budget of N steps decides; any positions that match may be shown
-abbrev pub IsRightViolation : Program → List BoundSegment → ℕ → Verdict → Type 0
-IsRightViolation p ss N v = (found : Option (List ℕ)) × Finds p ss (SeenGiven p ss N) found × (v ≡ verdict_by N (RunGiven p ss N) (RunGiven p ss N).end found)
+-- by the end of a run with a budget of N steps and with these events
+abbrev pub IsRightAt : Program → List BoundSegment → ℕ → GivenRun → List Seen → End → Verdict → Type 0
+IsRightAt p ss N r es (end.Violated spot) v = (found : Option (List ℕ)) × Finds p ss es found × (v ≡ verdict_at r found)
+IsRightAt p ss N r es end.Ended v = v ≡ ViolationNot Ended r.unfixed
+IsRightAt p ss N r es (end.Undefined spot) v = v ≡ ViolationNot (Undefined spot) r.unfixed
+IsRightAt p ss N r es end.Spent v = v ≡ Undecided (Steps N)
+IsRightAt p ss N r es end.Deep v = v ≡ Undecided Cells
+
+-- the given run decides on a violation witness
+abbrev pub IsRightOnViolation : Program → List BoundSegment → ℕ → Verdict → Type 0
+IsRightOnViolation p ss N v = IsRightAt p ss N (RunGiven p ss N) (SeenGiven p ss N) (RunGiven p ss N).end v
 
 -- the values, drawn in turn, give a run that violates the property within N steps and passes the segments at these positions
 pub record Violates (p : Program) (ss : List BoundSegment) (N : ℕ) (values : List ℤ) (positions : List ℕ) : Type 0 where

@@ -2,6 +2,7 @@
 //! So far it holds definitions alone: bound waypoints, the events that pass them, and what a violation sequence is owed.
 #![tactic(auto)]
 
+mod examples;
 mod laws;
 
 pub use laws::{confirmed_violates, test_matches};
