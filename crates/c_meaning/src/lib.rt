@@ -1,9 +1,12 @@
 //! Runs of checked programs: their ends, events, draws and obligations.
 #![tactic(auto)]
 
+mod examples;
+mod laws;
 mod run;
 mod verdict;
 
+pub use laws::replay;
 pub use run::{
     Choices, Draw, DrawKind, Duty, DutyKind, End, Event, Given, HavocEnd, HavocRun,
     PlacedInvariant, Run,

@@ -1,0 +1,3 @@
+pub mod Confirmed
+mod ExampleVerdicts
+pub mod Tested
