@@ -1,0 +1,3 @@
+pub mod ThinProperty
+pub mod ThinCharacters
+pub mod ThinWitness

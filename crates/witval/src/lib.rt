@@ -1,0 +1,5 @@
+//! The validator: it judges a program, a property and a witness, and its one promise is that the
+//! verdict it prints holds of the program's real runs.
+#![tactic(auto)]
+
+mod thin;
