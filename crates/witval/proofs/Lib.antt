@@ -1,3 +1,4 @@
 pub mod Confirmed
 mod ExampleVerdicts
 pub mod Tested
+pub mod ThinParts

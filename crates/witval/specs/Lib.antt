@@ -5,3 +5,6 @@ pub mod Matching
 pub mod Given
 pub mod Verdicts
 pub mod ExampleVerdicts
+pub mod ThinProperty
+pub mod ThinCharacters
+pub mod ThinWitness

@@ -1,8 +1,9 @@
-//! Judges software verification witnesses, format 2.0 of SV-COMP, about integer C programs.
-//! So far it holds definitions alone: bound waypoints, the events that pass them, and what a violation sequence is owed.
+//! The validator: it judges a program, a property and a witness, and its one promise is that the
+//! verdict it prints holds of the program's real runs.
 #![tactic(auto)]
 
 mod examples;
 mod laws;
+mod thin;
 
 pub use laws::{confirmed_violates, test_matches};

@@ -1,0 +1,34 @@
+-- Classes of characters, and decimal numbers.
+use Rattle.std.specs.Prelude.{ℕ, ◌+◌, ◌-◌, ◌*◌, zero, suc, List, [], ◌∷◌, length, slice_index, fold, Bool, true, false, ◌&&◌, ◌||◌, not, nat_eq, nat_lt, nat_le, Option, Some, None, if◌then◌else◌}
+use Rattle.std.specs.List.{list_all}
+use Rattle.witval.specs.declared.thin.characters.Class.{Class}
+use Rattle.witval.specs.declared.thin.characters.Class.TheVariants.{Plain, Digit, Signed, Word}
+
+-- the number lies between two others, both included
+abbrev pub between : ℕ → ℕ → ℕ → Bool
+between low high n = nat_le low n && nat_le n high
+
+abbrev pub is_digit : ℕ → Bool
+is_digit c = between 48 57 c
+
+abbrev pub is_letter : ℕ → Bool
+is_letter c = between 65 90 c || between 97 122 c
+
+abbrev pub in_class : Class → ℕ → Bool
+-- not `"` nor `\`
+in_class Plain c = between 32 126 c && not (nat_eq c 34) && not (nat_eq c 92)
+in_class Digit c = is_digit c
+in_class Signed c = is_digit c || nat_eq c 45
+in_class Word c = (is_letter c || is_digit c) || nat_eq c 95
+
+-- the value of decimal digits
+abbrev pub decimal : List ℕ → ℕ
+decimal digits = fold (λ n d. n * 10 + (d - 48)) 0 digits
+
+-- one digit or more, of which the first is no zero unless it is the only one
+abbrev pub is_decimal : List ℕ → Bool
+is_decimal text = not (nat_eq (length text) 0) && list_all is_digit text && (nat_eq (length text) 1 || not (nat_eq (slice_index text 0) 48))
+
+-- the value of a decimal number, where it is one of `int`
+abbrev pub number_of : List ℕ → Option ℕ
+number_of digits = if is_decimal digits && nat_le (decimal digits) 2147483647 then Some (decimal digits) else None

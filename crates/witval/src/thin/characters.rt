@@ -1,0 +1,73 @@
+ghost use Rattle.std.specs.Prelude.{◌≡◌, min};
+ghost use Rattle.std.specs.List.{list_all, prefix_len};
+ghost use Rattle.witval.specs.ThinCharacters.{in_class, is_digit, decimal, is_decimal, number_of};
+
+/// Classes of characters.
+#[derive(Clone, Copy)]
+pub enum Class {
+    /// U+0020 to U+007E, other than `"` and `\`.
+    Plain,
+    Digit,
+    /// Digits and `-`.
+    Signed,
+    /// Letters, digits and `_`.
+    Word,
+}
+
+impl Class {
+    fn has(self, byte: u8) -> bool
+        ensures { result ≡ in_class self byte }
+    {
+        match self {
+            Class::Plain => matches!(byte, b' '..=b'~') && byte != b'"' && byte != b'\\',
+            Class::Digit => byte.is_ascii_digit(),
+            Class::Signed => byte.is_ascii_digit() || byte == b'-',
+            Class::Word => byte.is_ascii_alphanumeric() || byte == b'_',
+        }
+    }
+}
+
+/// How many characters at the front are of the class.
+pub fn run_length(bytes: &[u8], class: Class) -> usize
+    ensures { result ≡ prefix_len (in_class class) bytes.now }
+{
+    bytes.iter().take_while(|byte| class.has(**byte)).count()
+}
+
+fn is_digits(text: &[u8]) -> bool
+    ensures { result ≡ list_all is_digit text.now }
+{
+    text.iter().all(|byte| byte.is_ascii_digit())
+}
+
+/// One digit or more, of which the first is no zero unless it is the only one.
+fn is_decimal_number(text: &[u8]) -> bool
+    ensures { result ≡ is_decimal text.now }
+{
+    !text.is_empty() && is_digits(text) && (text.len() == 1 || text[0] != b'0')
+}
+
+/// The largest `int`.
+const LARGEST: u64 = 2147483647;
+
+/// The value of decimal digits, or the least number that is no `int` where it is larger than that.
+fn capped_value(digits: &[u8]) -> u64
+    ensures { result ≡ min (decimal digits.now) 2147483648 }
+{
+    let mut value: u64 = 0;
+    for digit in digits {
+        value = (value * 10 + u64::from(digit.saturating_sub(b'0'))).min(LARGEST + 1);
+    }
+    value
+}
+
+/// The value of a decimal number that is an `int` and has no leading zero.
+pub fn number(text: &[u8]) -> Option<u32>
+    ensures { result ≡ number_of text.now }
+{
+    if !is_decimal_number(text) {
+        return None;
+    }
+    let value = capped_value(text);
+    if value > LARGEST { None } else { Some(value as u32) }
+}
