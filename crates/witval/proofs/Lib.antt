@@ -1,4 +1,5 @@
 pub mod Confirmed
 mod ExampleVerdicts
+pub mod Judged
 pub mod Tested
 pub mod ThinParts

@@ -3,5 +3,4 @@ ghost use Rattle.witval.specs.ExampleVerdicts.{ExampleMatches};
 
 fn example_matches()
     ensures { ExampleMatches }
-{
-}
+{}

@@ -9,11 +9,9 @@ ghost use Rattle.witval.specs.Verdicts.{IsRightOnViolation, IsConfirmed};
 /// The values of a right 'violation confirmed', drawn in turn, give a run that violates the property and passes the segments at its positions.
 pub fn confirmed_violates()
     ensures { (p : Program) (ss : List BoundSegment) (steps : ℕ) (verdict : Verdict) → IsRightOnViolation p ss steps verdict → IsConfirmed p ss steps verdict }
-{
-}
+{}
 
 /// The test of positions says yes exactly where they match.
 pub fn test_matches()
     ensures { (p : Program) (ss : List BoundSegment) (events : List Seen) (positions : List ℕ) → (matches p ss events positions ≡ true) ↔ Matches p ss events positions }
-{
-}
+{}
