@@ -1,13 +1,19 @@
 //! The checked program: types, operators, trees.
 #![tactic(auto)]
 
+mod laws;
 mod number;
+mod operate;
 mod place;
 mod program;
+#[cfg(test)]
+mod tests;
 mod tree;
 mod types;
 
+pub use laws::{conversions_settle, wider_types_keep};
 pub use number::{BinOp, DataModel, Done, IntType, Property, Spot, StepOp, UnOp};
+pub use operate::{apply, apply_one};
 pub use place::{Place, PlaceKind};
 pub use program::Program;
 pub use tree::{Callee, Declared, Expr, First, Form, Function, Init, Node, Object, Start, Stmt};
