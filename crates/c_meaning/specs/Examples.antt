@@ -2,10 +2,11 @@
 use Rattle.std.specs.Prelude.{ℕ, pos, true, false, Bool, List, [], ◌∷◌, Option, Some, None}
 use Rattle.c_core.specs.Tree.{Exp, Expr, Node, Const, Var, Unary, Step, Binary, Assign, Call, Exps, NoExp, MoreExp, One, Names, NoName, MoreName, Stm, Stmt, Form, Do, Declare, Block, If, While, Return, Label, NoElse, Stms, NoStm, MoreStm, Function, Program}
 use Rattle.c_core.specs.declared.number.IntType.{IntType}
-use Rattle.c_core.specs.declared.number.IntType.TheVariants.{Int, UInt}
+use Rattle.c_core.specs.declared.number.IntType.TheVariants.{Char, Int, UInt, Long}
+use Rattle.c_core.specs.declared.number.DataModel.{DataModel}
 use Rattle.c_core.specs.declared.number.DataModel.TheVariants.{Ilp32}
 use Rattle.c_core.specs.declared.number.Property.{Property}
-use Rattle.c_core.specs.declared.number.Property.TheVariants.{UnreachCall}
+use Rattle.c_core.specs.declared.number.Property.TheVariants.{UnreachCall, NoOverflow}
 use Rattle.c_core.specs.declared.number.Spot.{Spot}
 use Rattle.c_core.specs.declared.number.BinOp.{BinOp}
 use Rattle.c_core.specs.declared.number.BinOp.TheVariants.{Add, Sub, Lt, Le, Gt, Eq, Ne}
@@ -102,16 +103,24 @@ main_alone property objects body = program property objects [] (function (Some I
 -- 2|int __VERIFIER_nondet_int();
 -- 3|int main() {
 -- 4|  int x = __VERIFIER_nondet_int();
--- 5|  if (x == n) {
+-- 5|  if (test) {
 -- 6|    reach_error();
 -- 7|  }
 -- 8|  return 0;
 -- 9|}
-abbrev pub branch_on_input : ℕ → Program
-branch_on_input n = main_alone UnreachCall (local 4 7 ∷ []) (block 3 12 (
+abbrev pub branch_on : Exp → ℕ → Program
+branch_on test brace = main_alone UnreachCall (local 4 7 ∷ []) (block 3 12 (
     declaration 4 3 7 0 (int_input 4 11 33) ∷
-    if_then 5 3 (operation 5 7 Eq (object 5 7 0) (number 5 12 n)) (block 5 15 (reach_error 6 5 17 ∷ [])) ∷
+    if_then 5 3 test (block 5 brace (reach_error 6 5 17 ∷ [])) ∷
     return_number 8 3 10 0 ∷ []))
+
+-- with the test `x == n`
+abbrev pub branch_on_input : ℕ → Program
+branch_on_input n = branch_on (operation 5 7 Eq (object 5 7 0) (number 5 12 n)) 15
+
+-- with the test `x - x != 0`
+abbrev pub branch_on_difference : Program
+branch_on_difference = branch_on (operation 5 7 Ne (operation 5 7 Sub (object 5 7 0) (object 5 11 0)) (number 5 16 0)) 19
 
 -- 1|int __VERIFIER_nondet_int();
 -- 2|int main() {
@@ -249,3 +258,25 @@ recurse = program UnreachCall (local 2 11 ∷ []) [] (
         only 4 3 (call_with 4 3 (Some Int) 0 (number 4 5 3) 6) ∷
         reach_error 5 3 15 ∷
         return_number 6 3 10 0 ∷ [])) ∷ []) 1
+
+-- 1|int main() {
+-- 2|  char c = 127;
+-- 3|  c++;
+-- 4|  return 0;
+-- 5|}
+abbrev pub step_char : Program
+step_char = main_alone NoOverflow (cell Char false 2 8 ∷ []) (block 1 12 (
+    declaration 2 3 8 0 (number 2 12 127) ∷
+    only 3 3 (exp Char 3 3 (Step PostInc (exp Char 3 3 (Var 0)))) ∷
+    return_number 4 3 10 0 ∷ []))
+
+-- 1|int main() {
+-- 2|  long x = 2147483647;
+-- 3|  x + 1;
+-- 4|  return 0;
+-- 5|}
+abbrev pub add_to_long : DataModel → Program
+add_to_long model = record (main_alone NoOverflow (cell Long false 2 8 ∷ []) (block 1 12 (
+    declaration 2 3 8 0 (number 2 12 2147483647) ∷
+    only 3 3 (exp Long 3 3 (Binary Add (exp Long 3 3 (Var 0)) (number 3 7 1))) ∷
+    return_number 4 3 10 0 ∷ []))) { model = model }
