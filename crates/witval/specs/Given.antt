@@ -1,11 +1,13 @@
 -- The values that a violation witness gives to the input calls of a program, and the run that draws them.
-use Rattle.std.specs.Prelude.{ℕ, ℤ, Bool, true, false, cond, not, nat_eq, ◌&&◌, ◌||◌, List, [], ◌∷◌, ◌++◌, Option, Some, None}
+use Rattle.std.specs.Prelude.{ℕ, ℤ, Bool, true, false, cond, not, nat_eq, ◌&&◌, ◌||◌, List, [], ◌∷◌, ◌++◌, Option, Some, None, map}
+use Rattle.std.specs.List.{filter_map}
 use Rattle.c_core.specs.Types.{fit}
 use Rattle.c_core.specs.Tree.{Exp, Expr, Node, Var, Index, Binary, Logic, Assign, Init, Absent, One, Many, Names, NoName, MoreName, Stm, Stmt, Form, Do, Declare, Program}
+use Rattle.c_core.specs.Parts.{exps_of_program}
+use Rattle.c_core.specs.Places.{InputCall, input_of, input_at, stmt_before, first_some}
 use Rattle.c_core.specs.declared.number.Spot.{Spot}
 use Rattle.c_core.specs.declared.number.BinOp.{BinOp}
 use Rattle.c_core.specs.declared.number.BinOp.TheVariants.{Eq}
-use Rattle.c_meaning.specs.declared.run.Given.{Given as GivenAt}
 use Rattle.c_meaning.specs.declared.run.Choices.{Choices}
 use Rattle.c_meaning.specs.declared.run.Choices.TheVariants.{Given}
 use Rattle.c_meaning.specs.declared.run.Run.{Run as GivenRun}
@@ -14,7 +16,6 @@ use Rattle.c_meaning.specs.Parts.{some_node}
 use Rattle.c_meaning.specs.Run.{Run}
 use Rattle.c_meaning.specs.Value.{and_then}
 use Rattle.witval.specs.Points.{ReturnTest, Point, Assume, Return, BoundSegment}
-use Rattle.witval.specs.Calls.{or_else, InputCall, input_of, call_at, input_calls, stmt_before}
 use Rattle.witval.specs.Passing.{constant_of}
 use Rattle.witval.specs.Matching.{Seen, SeenIn}
 
@@ -116,8 +117,7 @@ side_of o (Expr spot ty n) = side_in o n
 
 -- the first operand of that form counts
 abbrev pub first_side : ℕ → List Exp → Option Exp
-first_side o [] = None
-first_side o (e ∷ es) = or_else (side_of o e) (first_side o es)
+first_side o es = first_some (map (side_of o) es)
 
 -- an assumption at a statement, of the input call in the statement directly before
 abbrev pub gift_by_assumption : Program → Option Fill → Exp → Option Gift
@@ -126,7 +126,7 @@ gift_by_assumption p (Some x) test = and_then (first_side x.object (operands tes
 
 -- what a follow gives, if anything
 abbrev pub gift_by : Program → Point → Option Gift
-gift_by p (Return close test) = gift_by_return p (and_then (call_at p close) input_of) test
+gift_by p (Return close test) = gift_by_return p (input_at p close) test
 gift_by p (Assume spot test) = gift_by_assumption p (and_then (stmt_before p spot) fill_by) test
 gift_by p _ = None
 
@@ -139,13 +139,13 @@ abbrev pub values_at : Program → Spot → List BoundSegment → List ℤ
 values_at p spot [] = []
 values_at p spot (s ∷ ss) = value_at spot (gift_by p s.follow) ++ values_at p spot ss
 
-abbrev pub given_to : Program → List BoundSegment → List InputCall → List GivenAt
-given_to p ss [] = []
-given_to p ss (call ∷ calls) = record { spot = call.spot; values = values_at p call.spot ss } ∷ given_to p ss calls
+-- the input calls of a program
+abbrev pub input_calls : Program → List InputCall
+input_calls p = filter_map input_of (exps_of_program p)
 
--- for each input call of the program, in the order of their starts, the values given to it
+-- for each input call of the program the values given to it
 abbrev pub given_by : Program → List BoundSegment → Choices
-given_by p ss = Given (given_to p ss (input_calls p))
+given_by p ss = Given (map (λ call. record { spot = call.spot; values = values_at p call.spot ss }) (input_calls p))
 
 -- the run that draws them
 abbrev pub RunGiven : Program → List BoundSegment → ℕ → GivenRun

@@ -1,5 +1,4 @@
 pub mod Points
-pub mod Calls
 pub mod Passing
 pub mod Matching
 pub mod Given
