@@ -4,6 +4,8 @@ pub mod Matching
 pub mod Given
 pub mod Verdicts
 pub mod ExampleVerdicts
+pub mod ExampleGiven
+pub mod ExamplePassing
 pub mod ThinProperty
 pub mod ThinCharacters
 pub mod ThinWitness
