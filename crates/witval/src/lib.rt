@@ -6,4 +6,4 @@ mod examples;
 mod laws;
 mod thin;
 
-pub use laws::{confirmed_violates, test_matches};
+pub use laws::{confirmed_violates, confirms_exactly, test_matches};
