@@ -171,6 +171,7 @@ module _ (p : Program) (S : Type 0) (see : Moment → S → S) where
     where
       value : State S → ℤ
       value s = fit p.model ty (or_zero (chosen kind spot s.choices))
+
       new : State S → Draw
       new s = record { spot = spot; ty = ty; value = value s; from = kind }
 

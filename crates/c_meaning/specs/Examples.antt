@@ -170,16 +170,16 @@ combine_inputs property op = main_alone property (local 3 7 ∷ local 4 7 ∷ []
 abbrev pub count_down : Program
 count_down = program UnreachCall (local 5 28 ∷ cell UInt false 15 16 ∷ cell UInt false 16 16 ∷ cell UInt false 16 21 ∷ []) [] (
     function None (0 ∷ []) (block 5 34 (
-        if_then 6 3 (exp Int 6 7 (Unary Not (object 6 8 0))) (block 6 16 (
-            statement 7 5 (Label (block 7 12 (reach_error 7 13 25 ∷ only 7 27 (call 7 27 None Abort 33) ∷ []))) ∷ [])) ∷
-        statement 9 3 (Return None) ∷ [])) ∷
+    if_then 6 3 (exp Int 6 7 (Unary Not (object 6 8 0))) (block 6 16 (
+    statement 7 5 (Label (block 7 12 (reach_error 7 13 25 ∷ only 7 27 (call 7 27 None Abort 33) ∷ []))) ∷ [])) ∷
+    statement 9 3 (Return None) ∷ [])) ∷
     function (Some Int) [] (block 14 1 (
-        declaration 15 3 16 1 (call 15 20 (Some UInt) (Input UInt) 43) ∷
-        statement 16 3 (Declare (declared 16 16 2 (exp UInt 16 18 (Var 1)) (declared 16 21 3 (number 16 23 0) NoName))) ∷
-        while_do 17 3 (operation 17 9 Gt (exp UInt 17 9 (Var 2)) (number 17 11 0)) (block 18 3 (
-            only 19 5 (exp UInt 19 5 (Step PostDec (exp UInt 19 5 (Var 2)))) ∷
-            only 20 5 (exp UInt 20 5 (Step PostInc (exp UInt 20 5 (Var 3)))) ∷ [])) ∷
-        only 22 3 (call_with 22 3 None 0 (operation 22 21 Eq (exp UInt 22 21 (Var 3)) (exp UInt 22 24 (Var 1))) 25) ∷ [])) ∷ []) 1
+    declaration 15 3 16 1 (call 15 20 (Some UInt) (Input UInt) 43) ∷
+    statement 16 3 (Declare (declared 16 16 2 (exp UInt 16 18 (Var 1)) (declared 16 21 3 (number 16 23 0) NoName))) ∷
+    while_do 17 3 (operation 17 9 Gt (exp UInt 17 9 (Var 2)) (number 17 11 0)) (block 18 3 (
+    only 19 5 (exp UInt 19 5 (Step PostDec (exp UInt 19 5 (Var 2)))) ∷
+    only 20 5 (exp UInt 20 5 (Step PostInc (exp UInt 20 5 (Var 3)))) ∷ [])) ∷
+    only 22 3 (call_with 22 3 None 0 (operation 22 21 Eq (exp UInt 22 21 (Var 3)) (exp UInt 22 24 (Var 1))) 25) ∷ [])) ∷ []) 1
 
 --  1|void reach_error() { }
 --  2|int main() {
@@ -219,11 +219,11 @@ count_calls = program UnreachCall (cell Int true 2 5 ∷ local 6 7 ∷ []) (reco
     function None [] (block 3 10 (change_by_one 3 12 0 16 20 ∷ [])) ∷
     function None [] (block 4 10 (only 4 12 (call 4 12 None (Defined 0) 14) ∷ [])) ∷
     function (Some Int) [] (block 5 12 (
-        declaration 6 3 7 1 (number 6 11 0) ∷
-        while_do 7 3 (operation 7 10 Lt (object 7 10 1) (number 7 14 3)) (block 7 17 (
-            only 8 5 (call 8 5 None (Defined 1) 7) ∷ change_by_one 9 5 1 9 13 ∷ [])) ∷
-        if_then 11 3 (operation 11 7 Ne (object 11 7 0) (number 11 12 0)) (block 11 15 (reach_error 12 5 17 ∷ [])) ∷
-        return_number 14 3 10 0 ∷ [])) ∷ []) 2
+    declaration 6 3 7 1 (number 6 11 0) ∷
+    while_do 7 3 (operation 7 10 Lt (object 7 10 1) (number 7 14 3)) (block 7 17 (
+    only 8 5 (call 8 5 None (Defined 1) 7) ∷ change_by_one 9 5 1 9 13 ∷ [])) ∷
+    if_then 11 3 (operation 11 7 Ne (object 11 7 0) (number 11 12 0)) (block 11 15 (reach_error 12 5 17 ∷ [])) ∷
+    return_number 14 3 10 0 ∷ [])) ∷ []) 2
 
 --  1|void reach_error() { }
 --  2|int main() {
@@ -252,12 +252,12 @@ count_to_three = main_alone UnreachCall (local 3 7 ∷ []) (block 2 12 (
 abbrev pub recurse : Program
 recurse = program UnreachCall (local 2 11 ∷ []) [] (
     function (Some Int) (0 ∷ []) (block 2 14 (
-        if_then 2 16 (operation 2 20 Le (object 2 20 0) (number 2 25 0)) (block 2 28 (return_number 2 30 37 0 ∷ [])) ∷
-        statement 2 42 (Return (Some (call_with 2 49 (Some Int) 0 (operation 2 51 Sub (object 2 51 0) (number 2 55 1)) 56))) ∷ [])) ∷
+    if_then 2 16 (operation 2 20 Le (object 2 20 0) (number 2 25 0)) (block 2 28 (return_number 2 30 37 0 ∷ [])) ∷
+    statement 2 42 (Return (Some (call_with 2 49 (Some Int) 0 (operation 2 51 Sub (object 2 51 0) (number 2 55 1)) 56))) ∷ [])) ∷
     function (Some Int) [] (block 3 12 (
-        only 4 3 (call_with 4 3 (Some Int) 0 (number 4 5 3) 6) ∷
-        reach_error 5 3 15 ∷
-        return_number 6 3 10 0 ∷ [])) ∷ []) 1
+    only 4 3 (call_with 4 3 (Some Int) 0 (number 4 5 3) 6) ∷
+    reach_error 5 3 15 ∷
+    return_number 6 3 10 0 ∷ [])) ∷ []) 1
 
 -- 1|int main() {
 -- 2|  char c = 127;

@@ -4,10 +4,8 @@ ghost use Rattle.c_meaning.specs.ExampleRuns.{ExampleRuns};
 
 fn example_runs()
     ensures { ExampleRuns }
-{
-}
+{}
 
 fn example_havoc_runs()
     ensures { ExampleHavocRuns }
-{
-}
+{}

@@ -10,7 +10,7 @@ use Rattle.witval.specs.Points.{At, Line, Point, Assume, Target, BoundSegment}
 use Rattle.witval.specs.Matching.{Seen, Matches, matches, seen_passes, seen_passes_any}
 use Rattle.witval.specs.Passing.{passes}
 use Rattle.witval.specs.Given.{SeenGiven}
-use Rattle.witval.specs.ExampleVerdicts.{follow, avoid_then, target, returns, first_is, first_is_least, five_then_target, division, budget, ExampleVerdicts, ExampleMatches}
+use Rattle.witval.specs.ExampleVerdicts.{follow, avoid_then, inside, before_step, error_behind, target, returns, first_is, first_is_least, five_then_target, division, budget, ExampleVerdicts, ExampleMatches}
 use Rattle.witval.proofs.Tested.{tested}
 
 -- positions that pass the test match
@@ -58,8 +58,8 @@ example_verdicts = record {
   quotient = (Some (2 ∷ 5 ∷ 7 ∷ []), at_these (combine_inputs NoOverflow Div) (division 2147483648 1) budget (2 ∷ 5 ∷ 7 ∷ []) refl, refl);
   remainder = (Some (2 ∷ 5 ∷ 7 ∷ []), at_these (combine_inputs NoOverflow Rem) (division 2147483648 1) budget (2 ∷ 5 ∷ 7 ∷ []) refl, refl);
   by_zero = refl;
-  later_position = (Some (13 ∷ 17 ∷ []), at_these count_to_three (follow (Assume (at 6 5) (first_is_least 2)) ∷ avoid_then (Assume (at 5 5) (first_is 2)) (Target (At (at 8 3))) ∷ []) budget (13 ∷ 17 ∷ []) refl, refl);
-  avoided_itself = (None, own_avoid count_to_three (Assume (at 6 5) (first_is 3)) (target 8 3 ∷ []) (SeenGiven count_to_three (avoid_then (Assume (at 6 5) (first_is 3)) (Assume (at 6 5) (first_is 3)) ∷ target 8 3 ∷ []) budget), refl);
+  later_position = (Some (13 ∷ 17 ∷ []), at_these count_to_three (follow (inside (first_is_least 2)) ∷ avoid_then (before_step (first_is 2)) error_behind ∷ []) budget (13 ∷ 17 ∷ []) refl, refl);
+  avoided_itself = (None, own_avoid count_to_three (inside (first_is 3)) (target 8 3 ∷ []) (SeenGiven count_to_three (avoid_then (inside (first_is 3)) (inside (first_is 3)) ∷ target 8 3 ∷ []) budget), refl);
   recursion = (Some (24 ∷ []), at_these recurse (target 5 3 ∷ []) budget (24 ∷ []) refl, refl);
 }
 

@@ -33,15 +33,15 @@ not_true false e = refl
 
 rises_if : (b : Before) (n : ℕ) (follow : Point) → rises b n follow ≡ true → Rises b n follow
 rises_if b n follow e = elim (either (nat_le b.events n) _ e) as (λ _. Rises b n follow) [
-      inl h ↦ inl (leb-true b.events n h)
-    | inr h ↦ let x = both (nat_eq (suc n) b.events) _ h in let y = both b.assumes _ x.1 in inr (eqb-true (suc n) b.events x.0, y.0, y.1)
-    ]
+  | inl h ↦ inl (leb-true b.events n h)
+  | inr h ↦ let x = both (nat_eq (suc n) b.events) _ h in let y = both b.assumes _ x.1 in inr (eqb-true (suc n) b.events x.0, y.0, y.1)
+]
 
 rises_of : (b : Before) (n : ℕ) (follow : Point) → Rises b n follow → rises b n follow ≡ true
 rises_of b n follow r = elim r as (λ _. rises b n follow ≡ true) [
-      inl h ↦ or_left (nat_le b.events n) _ (le-leb b.events n h)
-    | inr h ↦ or_right (nat_le b.events n) _ (and_of (nat_eq (suc n) b.events) _ (eq-eqb (suc n) b.events h.0) (and_of b.assumes _ h.1 h.2))
-    ]
+  | inl h ↦ or_left (nat_le b.events n) _ (le-leb b.events n h)
+  | inr h ↦ or_right (nat_le b.events n) _ (and_of (nat_eq (suc n) b.events) _ (eq-eqb (suc n) b.events h.0) (and_of b.assumes _ h.1 h.2))
+]
 
 -- of events numbered from k on
 abbrev Clear : Program → List Point → ℕ → ℕ → ℕ → List Seen → Type 0
@@ -50,12 +50,12 @@ Clear p avoids from to k es = (j : ℕ) → from ≤ k + j → k + j < to → se
 -- the first of them
 first_clear : (a : Bool) (from to k : ℕ) → (nat_lt k from || (nat_le to k || not a)) ≡ true → from ≤ k → k < to → a ≡ false
 first_clear a from to k e f t = elim (either (nat_lt k from) _ e) as (λ _. a ≡ false) [
-      inl h ↦ let l : k < from = ltb-true k from h in absurd (omega arith)
-    | inr h ↦ elim (either (nat_le to k) _ h) as (λ _. a ≡ false) [
-    inl g ↦ let l : to ≤ k = leb-true to k g in absurd (omega arith)
-      | inr g ↦ not_true a g
-      ]
-    ]
+  | inl h ↦ let l : k < from = ltb-true k from h in absurd (omega arith)
+  | inr h ↦ elim (either (nat_le to k) _ h) as (λ _. a ≡ false) [
+    | inl g ↦ let l : to ≤ k = leb-true to k g in absurd (omega arith)
+    | inr g ↦ not_true a g
+  ]
+]
 
 avoids_if : (p : Program) (avoids : List Point) (from to k : ℕ) (es : List Seen) → avoids_from p avoids from to k es ≡ true → Clear p avoids from to k es
 avoids_if p avoids from to k [] e j f t = refl
@@ -68,6 +68,7 @@ clear_first a from to k h = by_low (nat_lt k from) refl
     by_high : (b : Bool) → nat_le to k ≡ b → from ≤ k → (b || not a) ≡ true
     by_high true e f = refl
     by_high false e f = ap not (h f (leb-false to k e))
+
     by_low : (b : Bool) → nat_lt k from ≡ b → (b || (nat_le to k || not a)) ≡ true
     by_low true e = refl
     by_low false e = by_high (nat_le to k) refl (below e)

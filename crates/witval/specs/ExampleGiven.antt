@@ -66,11 +66,15 @@ given_in_declaration vs = Given (record { spot = at 2 9; values = vs } ∷ [])
 pub record ExampleGiven : Type 0 where
   -- an assumption behind an assignment or a declaration of one object
   pub equals : given_by (before_use assigned) (assume (first_is 5)) ≡ given_there (pos 5 ∷ [])
-  pub equals_turned : given_by (before_use assigned) (assume (operation 1 1 Eq (number 1 1 5) (object 1 6 0))) ≡ given_there (pos 5 ∷ [])
-  pub in_a_declaration : given_by (input_of_type Int) (follow (Assume (at 3 3) (first_is 5)) ∷ []) ≡ given_in_declaration (pos 5 ∷ [])
+  pub equals_turned : given_by (before_use assigned) (assume (operation 1 1 Eq (number 1 1 5) (object 1 6 0))) ≡
+      given_there (pos 5 ∷ [])
+  pub in_a_declaration : given_by (input_of_type Int) (follow (Assume (at 3 3) (first_is 5)) ∷ []) ≡
+      given_in_declaration (pos 5 ∷ [])
   -- the first operand of that form counts, however the chain is grouped
-  pub first_of_chain : given_by (before_use assigned) (assume (both (second_is 1) (both (first_is 5) (first_is 6)))) ≡ given_there (pos 5 ∷ [])
-  pub first_of_chain_grouped : given_by (before_use assigned) (assume (both (both (second_is 1) (first_is 5)) (first_is 6))) ≡ given_there (pos 5 ∷ [])
+  pub first_of_chain : given_by (before_use assigned) (assume (both (second_is 1) (both (first_is 5) (first_is 6)))) ≡
+      given_there (pos 5 ∷ [])
+  pub first_of_chain_grouped : given_by (before_use assigned) (assume (both (both (second_is 1) (first_is 5)) (first_is 6))) ≡
+      given_there (pos 5 ∷ [])
   -- an operand that compares with a name is passed over, one that is undefined isn't
   pub name_passed_over : given_by (before_use assigned) (assume (both first_is_second (first_is 5))) ≡ given_there (pos 5 ∷ [])
   pub undefined_counts : given_by (before_use assigned) (assume (both first_is_undefined (first_is 5))) ≡ given_there []
@@ -80,17 +84,27 @@ pub record ExampleGiven : Type 0 where
   pub differs : given_by (before_use assigned) (assume (operation 1 1 Ne (object 1 1 0) (number 1 6 5))) ≡ given_there []
   pub other_object : given_by (before_use assigned) (assume (second_is 5)) ≡ given_there []
   -- other forms of the statement before
-  pub labelled : given_by (before_use (statement 3 3 (Label (set_to 6 None (int_input 3 10 32))))) (assume (first_is 5)) ≡ Given (record { spot = at 3 10; values = [] } ∷ [])
-  pub cast : given_by (before_use (set_to 3 None (exp Int 3 7 (Cast (int_input 3 12 34))))) (assume (first_is 5)) ≡ Given (record { spot = at 3 12; values = [] } ∷ [])
-  pub compound : given_by (before_use (set_to 3 (Some Add) (int_input 3 8 30))) (assume (first_is 5)) ≡ Given (record { spot = at 3 8; values = [] } ∷ [])
-  pub element : given_by (before_use (only 3 3 (exp Int 3 3 (Assign None (exp Int 3 3 (Index 0 (number 3 5 0))) (int_input 3 10 32))))) (assume (first_is 5)) ≡ Given (record { spot = at 3 10; values = [] } ∷ [])
-  pub two_names : given_by (before_use (statement 3 3 (Declare (declared 3 7 0 (int_input 3 11 33) (declared 3 36 1 (number 3 40 0) NoName))))) (assume (first_is 5)) ≡ Given (record { spot = at 3 11; values = [] } ∷ [])
-  pub inner_block : given_by (before_use (block 3 3 (set_to 5 None (int_input 3 9 31) ∷ []))) (assume (first_is 5)) ≡ Given (record { spot = at 3 9; values = [] } ∷ [])
+  pub labelled : given_by (before_use (statement 3 3 (Label (set_to 6 None (int_input 3 10 32))))) (assume (first_is 5)) ≡
+      Given (record { spot = at 3 10; values = [] } ∷ [])
+  pub cast : given_by (before_use (set_to 3 None (exp Int 3 7 (Cast (int_input 3 12 34))))) (assume (first_is 5)) ≡
+      Given (record { spot = at 3 12; values = [] } ∷ [])
+  pub compound : given_by (before_use (set_to 3 (Some Add) (int_input 3 8 30))) (assume (first_is 5)) ≡
+      Given (record { spot = at 3 8; values = [] } ∷ [])
+  pub element : given_by (before_use (only 3 3 (exp Int 3 3 (Assign None (exp Int 3 3 (Index 0 (number 3 5 0))) (int_input 3 10 32))))) (assume (first_is 5)) ≡
+      Given (record { spot = at 3 10; values = [] } ∷ [])
+  pub two_names : given_by (before_use (statement 3 3 (Declare (declared 3 7 0 (int_input 3 11 33) (declared 3 36 1 (number 3 40 0) NoName))))) (assume (first_is 5)) ≡
+      Given (record { spot = at 3 11; values = [] } ∷ [])
+  pub inner_block : given_by (before_use (block 3 3 (set_to 5 None (int_input 3 9 31) ∷ []))) (assume (first_is 5)) ≡
+      Given (record { spot = at 3 9; values = [] } ∷ [])
   -- values by the returns of input calls alone, in witness order
-  pub returned : given_by (input_of_type Int) (returns 2 15 (number 1 12 5) ∷ returns 2 15 (number 1 12 6) ∷ []) ≡ given_in_declaration (pos 5 ∷ pos 6 ∷ [])
+  pub returned : given_by (input_of_type Int) (returns 2 15 (number 1 12 5) ∷ returns 2 15 (number 1 12 6) ∷ []) ≡
+      given_in_declaration (pos 5 ∷ pos 6 ∷ [])
   pub defined_call : given_by recurse (returns 4 6 (number 1 12 5) ∷ []) ≡ Given []
-  pub greater : given_by (input_of_type Int) (follow (Return (at 2 15) (Some (record { op = Gt; constant = number 1 11 5 }))) ∷ []) ≡ given_in_declaration []
-  pub avoided : given_by (input_of_type Int) (avoid_then (Return (at 2 15) (Some (record { op = Eq; constant = number 1 12 5 }))) (Return (at 2 15) None) ∷ []) ≡ given_in_declaration []
+  pub greater : given_by (input_of_type Int) (follow (Return (at 2 15) (Some (record { op = Gt; constant = number 1 11 5 }))) ∷ []) ≡
+      given_in_declaration []
+  pub avoided : given_by (input_of_type Int) (avoid_then (Return (at 2 15) (Some (record { op = Eq; constant = number 1 12 5 }))) (Return (at 2 15) None) ∷ []) ≡
+      given_in_declaration []
   -- values of the input's type
   pub fitted_return : given_by (input_of_type UInt) (returns 2 15 (minus Int 1) ∷ []) ≡ given_in_declaration (pos 4294967295 ∷ [])
-  pub fitted_assumption : given_by (input_of_type UChar) (follow (Assume (at 3 3) (operation 1 1 Eq (exp UChar 1 1 (Var 0)) (number 1 6 300))) ∷ []) ≡ given_in_declaration (pos 44 ∷ [])
+  pub fitted_assumption : given_by (input_of_type UChar) (follow (Assume (at 3 3) (operation 1 1 Eq (exp UChar 1 1 (Var 0)) (number 1 6 300))) ∷ []) ≡
+      given_in_declaration (pos 44 ∷ [])

@@ -44,7 +44,8 @@ pub record ExamplePassing : Type 0 where
   pub int_differs : return_passes Int Ne (minus Int 1) (Some (negsuc 0)) ≡ false
   -- an undefined constant is met by nothing, one that overflows wraps
   pub undefined_constant : return_passes Int Ne (operation 1 12 Div (number 1 12 1) (number 1 16 0)) (Some (pos 5)) ≡ false
-  pub wrapped_constant : return_passes Int Eq (operation 1 12 Add (number 1 12 2147483647) (number 1 25 1)) (Some (negsuc 2147483647)) ≡ true
+  pub wrapped_constant : return_passes Int Eq (operation 1 12 Add (number 1 12 2147483647) (number 1 25 1)) (Some (negsuc 2147483647)) ≡
+      true
   -- no value meets no constraint
   pub no_value : return_passes Int Ne (number 1 12 5) None ≡ false
   pub no_constraint : passes (input_of_type Int) (Return (at 2 15) None) (event.Return (at 2 15) None) [] ≡ true
@@ -53,8 +54,10 @@ pub record ExamplePassing : Type 0 where
   pub holds : assumption_passes (first_is 5) (first_has (pos 5)) ≡ true
   pub does_not_hold : assumption_passes (first_is 5) (first_has (pos 6)) ≡ false
   pub any_value_but_zero : assumption_passes (object 1 1 0) (first_has (negsuc 6)) ≡ true
-  pub wraps : assumption_passes (operation 1 1 Lt (operation 1 1 Add (object 1 1 0) (number 1 5 1)) (object 1 9 0)) (first_has (pos 2147483647)) ≡ true
-  pub undefined : assumption_passes (operation 1 1 Ne (operation 1 1 Div (object 1 1 0) (number 1 5 0)) (number 1 10 5)) (first_has (pos 5)) ≡ false
+  pub wraps : assumption_passes (operation 1 1 Lt (operation 1 1 Add (object 1 1 0) (number 1 5 1)) (object 1 9 0)) (first_has (pos 2147483647)) ≡
+      true
+  pub undefined : assumption_passes (operation 1 1 Ne (operation 1 1 Div (object 1 1 0) (number 1 5 0)) (number 1 10 5)) (first_has (pos 5)) ≡
+      false
   pub no_such_cell : assumption_passes (first_is 0) [] ≡ false
   pub statement_elsewhere : passes (add_to_input NoOverflow) (Assume (at 4 3) (number 1 1 1)) (event.At (at 5 3)) [] ≡ false
   -- a target is passed where one of the violation's places is the target's

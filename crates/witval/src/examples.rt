@@ -5,20 +5,16 @@ ghost use Rattle.witval.specs.ExampleVerdicts.{ExampleMatches, ExampleVerdicts};
 
 fn example_passing()
     ensures { ExamplePassing }
-{
-}
+{}
 
 fn example_matches()
     ensures { ExampleMatches }
-{
-}
+{}
 
 fn example_given()
     ensures { ExampleGiven }
-{
-}
+{}
 
 fn example_verdicts()
     ensures { ExampleVerdicts }
-{
-}
+{}
