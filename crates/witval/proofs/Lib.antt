@@ -2,5 +2,6 @@ pub mod Confirmed
 mod ExampleGiven
 mod ExamplePassing
 mod ExampleVerdicts
+pub mod Judged
 pub mod Tested
 pub mod ThinParts

@@ -32,11 +32,11 @@ pub part_met : (template : List ℕ) (i : ℕ) (rest : List ℕ) (free : Free) (
     whole ≡ after (parts ++ text ∷ []) (parts_of (drop (i + 1) template) (drop (length text) rest))
 part_met template i rest free text parts whole within kind front met known =
     let here : parts_of (drop i template) rest ≡ filled (Some free) (get_or template i 0) (parts_of (drop (i + 1) template)) rest =
-        parts_of-drop template i rest within ∙ ap (λ k. filled k (get_or template i 0) (parts_of (drop (i + 1) template)) rest) kind in
+    parts_of-drop template i rest within ∙ ap (λ k. filled k (get_or template i 0) (parts_of (drop (i + 1) template)) rest) kind in
     let met_here : fits free (front_of free rest) ≡ true = subst (λ t. fits free t ≡ true) front met in
     known ∙ ap (after parts) (here ∙ filled_free free (get_or template i 0) (parts_of (drop (i + 1) template)) rest met_here)
-        ∙ after-one parts (front_of free rest) (parts_of (drop (i + 1) template) (drop (length (front_of free rest)) rest))
-        ∙ ap (λ t. after (parts ++ t ∷ []) (parts_of (drop (i + 1) template) (drop (length t) rest))) (sym front)
+    ∙ after-one parts (front_of free rest) (parts_of (drop (i + 1) template) (drop (length (front_of free rest)) rest))
+    ∙ ap (λ t. after (parts ++ t ∷ []) (parts_of (drop (i + 1) template) (drop (length t) rest))) (sym front)
 
 -- a free part isn't met
 pub part_unmet : (template : List ℕ) (i : ℕ) (rest : List ℕ) (free : Free) (text : List ℕ) (parts : List (List ℕ)) (whole : Option (List (List ℕ))) →
@@ -44,6 +44,6 @@ pub part_unmet : (template : List ℕ) (i : ℕ) (rest : List ℕ) (free : Free)
     whole ≡ after parts (parts_of (drop i template) rest) → whole ≡ None
 part_unmet template i rest free text parts whole within kind front unmet known =
     let here : parts_of (drop i template) rest ≡ filled (Some free) (get_or template i 0) (parts_of (drop (i + 1) template)) rest =
-        parts_of-drop template i rest within ∙ ap (λ k. filled k (get_or template i 0) (parts_of (drop (i + 1) template)) rest) kind in
+    parts_of-drop template i rest within ∙ ap (λ k. filled k (get_or template i 0) (parts_of (drop (i + 1) template)) rest) kind in
     let unmet_here : fits free (front_of free rest) ≡ false = subst (λ t. fits free t ≡ false) front unmet in
     known ∙ ap (after parts) (here ∙ filled_none free (get_or template i 0) (parts_of (drop (i + 1) template)) rest unmet_here)

@@ -9,3 +9,11 @@ pub mod ExamplePassing
 pub mod ThinProperty
 pub mod ThinCharacters
 pub mod ThinWitness
+pub mod ThinProgram
+pub mod ThinPlaces
+pub mod Words
+pub mod Names
+pub mod Inputs
+pub mod Tasks
+pub mod Replies
+pub mod Running

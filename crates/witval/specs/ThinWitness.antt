@@ -3,7 +3,6 @@ use Rattle.std.specs.Prelude.{ℕ, ℤ, pos, neg_ℤ, ◌+◌, ◌-◌, zero, su
 use Prim.Native.String.{String}
 use Rattle.std.specs.List.{prefix_len}
 use Rattle.std.specs.Option.{option_map, option_and_then}
-
 use Rattle.std.specs.Str.{bytes_eq}
 use Rattle.c_core.specs.declared.number.Spot.{Spot}
 use Rattle.witval.specs.declared.thin.characters.Class.{Class}

@@ -2,8 +2,15 @@
 //! verdict it prints holds of the program's real runs.
 #![tactic(auto)]
 
+mod answer;
 mod examples;
+mod input;
+mod judge;
 mod laws;
+mod refusal;
 mod thin;
+mod top;
+mod words;
 
 pub use laws::{confirmed_violates, confirms_exactly, test_matches};
+pub use top::run;

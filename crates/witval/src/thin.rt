@@ -2,7 +2,9 @@
 // of input calls and tests.
 mod characters;
 mod property;
+mod stub;
 mod witness;
 
 pub use property::is_unreach;
+pub use stub::{is_placed, judge_violation, read_program};
 pub use witness::{ThinWitness, read_witness};

@@ -69,5 +69,9 @@ pub fn number(text: &[u8]) -> Option<u32>
         return None;
     }
     let value = capped_value(text);
-    if value > LARGEST { None } else { Some(value as u32) }
+    if value > LARGEST {
+        None
+    } else {
+        Some(value as u32)
+    }
 }

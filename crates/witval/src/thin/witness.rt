@@ -1,5 +1,4 @@
 ghost use Rattle.std.specs.Prelude.{◌≡◌, IfOk};
-
 ghost use Rattle.witval.specs.ThinWitness.{class_of, constant_of, fits, free_of, front_of, location_of, parts_of, spot_of, template, text_at, thin_witness, witness_of};
 
 use crate::thin::characters::{Class, number, run_length};

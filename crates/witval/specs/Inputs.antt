@@ -1,0 +1,83 @@
+-- The three files of a command: their order, their limits, and why reading them stops.
+use Rattle.std.specs.Prelude.{◌≡◌, ℕ, ◌+◌, ◌-◌, ◌^◌, ◌≤◌, min, List, length, Option, Some, None, IfSome, if◌then◌else◌, nat_lt, codes}
+use Rattle.wv_base.specs.Causes.{Rose}
+use Rattle.wv_base.specs.Shelf.{ShelfState, Files, file_of}
+use Rattle.witval.specs.Words.{Command}
+use Rattle.witval.specs.declared.input.File.{File}
+use Rattle.witval.specs.declared.input.File.TheVariants.{Program, Property, Witness}
+use Rattle.witval.specs.declared.input.Stop.{Stop}
+use Rattle.witval.specs.declared.input.Stop.TheVariants.{Fault, TooLong, OutOfMemory}
+use Rattle.witval.specs.declared.input.Inputs.{Inputs}
+
+abbrev pub word_of : File → List ℕ
+word_of Program = codes "program"
+word_of Property = codes "property"
+word_of Witness = codes "witness"
+
+-- the files in the order in which they are read
+abbrev pub number_of : File → ℕ
+number_of Program = 1
+number_of Property = 2
+number_of Witness = 3
+
+abbrev pub name_of : Command → File → List ℕ
+name_of command Program = command.program
+name_of command Property = command.property
+name_of command Witness = command.witness
+
+-- in bytes
+abbrev pub limit_of : File → ℕ
+limit_of Program = 1048576
+limit_of Property = 4096
+limit_of Witness = 1048576
+
+-- the first of three files that is longer than its limit
+abbrev pub first_too_long : List ℕ → List ℕ → List ℕ → Option File
+first_too_long program property witness =
+    if nat_lt (limit_of Program) (length program) then Some Program
+    else (if nat_lt (limit_of Property) (length property) then Some Property
+    else (if nat_lt (limit_of Witness) (length witness) then Some Witness
+    else None))
+
+-- the calls of begin grew by the file's number, and its name was asked for last
+pub record Reached (command : Command) (file : File) (old new : ShelfState) : Type 0 where
+  pub begins : new.begins ≡ min (old.begins + number_of file) (2 ^ 64 - 1)
+  pub asked : new.asked ≡ name_of command file
+
+-- reading the file failed: the count of faults rose in this call and is above its mark
+pub record Faulted (command : Command) (file : File) (old new : ShelfState) : Type 0 where
+  pub reached : Reached command file old new
+  pub rose : Rose old.faults new.faults
+  pub above_mark : Rose new.mark new.faults
+
+-- one byte more than the file's limit was taken
+pub record TookTooMuch (command : Command) (file : File) (old new : ShelfState) : Type 0 where
+  pub reached : Reached command file old new
+  pub taken : new.taken ≡ limit_of file + 1
+
+-- what holds of the three files that a command names
+abbrev pub OfFiles : Command → Files → (List ℕ → List ℕ → List ℕ → Type 0) → Type 0
+OfFiles command files P = P (file_of files command.program) (file_of files command.property) (file_of files command.witness)
+
+-- where the files are told, this holds of the three that the command names
+abbrev pub Told : Command → ShelfState → (List ℕ → List ℕ → List ℕ → Type 0) → Type 0
+Told command shelf P = IfSome shelf.files (λ files. OfFiles command files P)
+
+-- why reading stopped
+abbrev pub RightStop : Command → ShelfState → ShelfState → Stop → Type 0
+RightStop command old new (Fault file) = Faulted command file old new
+RightStop command old new (TooLong file) = TookTooMuch command file old new × Told command old (λ program property witness. first_too_long program property witness ≡ Some file)
+RightStop command old new OutOfMemory = Unit {0}
+
+-- none of them is longer than its limit
+pub record AreWithin (inputs : Inputs) : Type 0 where
+  pub program_within : length inputs.program.items ≤ limit_of Program
+  pub property_within : length inputs.property.items ≤ limit_of Property
+  pub witness_within : length inputs.witness.items ≤ limit_of Witness
+
+-- the bytes of the three files, none of which is too long
+pub record AreInputs (inputs : Inputs) (program property witness : List ℕ) : Type 0 where
+  pub program_read : inputs.program.items ≡ program
+  pub property_read : inputs.property.items ≡ property
+  pub witness_read : inputs.witness.items ≡ witness
+  pub lengths : first_too_long program property witness ≡ None

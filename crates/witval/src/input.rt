@@ -1,0 +1,68 @@
+ghost use Rattle.std.specs.Prelude.{◌≡◌, IfOk, IfErr};
+ghost use Rattle.witval.specs.Inputs.{AreInputs, AreWithin, RightStop, Told};
+ghost use Rattle.witval.specs.Names.{command_in};
+
+use crate::words::Names;
+use std::alloc::Global;
+use wv_base::{ReadFault, Shelf, read_all};
+
+/// The input files, in the order in which they are read.
+#[derive(Clone, Copy, Debug, PartialEq, Eq)]
+pub enum File {
+    Program,
+    Property,
+    Witness,
+}
+
+/// Why reading stopped.
+#[derive(Clone, Copy, Debug, PartialEq, Eq)]
+pub enum Stop {
+    Fault(File),
+    TooLong(File),
+    OutOfMemory,
+}
+
+/// The bytes of the three files.
+#[derive(Drop)]
+pub struct Inputs {
+    pub program: Vec<u8>,
+    pub property: Vec<u8>,
+    pub witness: Vec<u8>,
+}
+
+/// The limits of the program and the witness, and of the property, in bytes.
+const LONG: usize = 1048576;
+
+const SHORT: usize = 4096;
+
+/// Reads the three files in their order.
+pub fn read_three<S: Shelf>(alloc: Global, names: &Names<'_>, shelf: &mut S) -> Result<Inputs, Stop>
+    ensures inputs { IfOk result (λ inputs. Told (command_in names.now) (S.state shelf.old) (AreInputs inputs)) }
+    ensures within { IfOk result AreWithin }
+    ensures stop { IfErr result (RightStop (command_in names.now) (S.state shelf.old) (S.state shelf.new)) }
+    ensures same_files { (S.state shelf.new).files ≡ (S.state shelf.old).files }
+{
+    let program = match read_all(alloc, shelf, names.program, LONG) {
+        Ok(bytes) => bytes,
+        Err(ReadFault::Fault) => return Err(Stop::Fault(File::Program)),
+        Err(ReadFault::TooLong) => return Err(Stop::TooLong(File::Program)),
+        Err(ReadFault::OutOfMemory) => return Err(Stop::OutOfMemory),
+    };
+    let property = match read_all(alloc, shelf, names.property, SHORT) {
+        Ok(bytes) => bytes,
+        Err(ReadFault::Fault) => return Err(Stop::Fault(File::Property)),
+        Err(ReadFault::TooLong) => return Err(Stop::TooLong(File::Property)),
+        Err(ReadFault::OutOfMemory) => return Err(Stop::OutOfMemory),
+    };
+    let witness = match read_all(alloc, shelf, names.witness, LONG) {
+        Ok(bytes) => bytes,
+        Err(ReadFault::Fault) => return Err(Stop::Fault(File::Witness)),
+        Err(ReadFault::TooLong) => return Err(Stop::TooLong(File::Witness)),
+        Err(ReadFault::OutOfMemory) => return Err(Stop::OutOfMemory),
+    };
+    Ok(Inputs {
+        program,
+        property,
+        witness,
+    })
+}

@@ -1,0 +1,35 @@
+ghost use Rattle.std.specs.Prelude.{◌≡◌, ◌≤◌, IfOk, length, MatchOption, None, Some};
+ghost use Rattle.c_core.specs.View.{program_view};
+ghost use Rattle.witval.specs.ThinProgram.{thin_program};
+ghost use Rattle.witval.specs.ThinPlaces.{is_placed, segments_of};
+ghost use Rattle.witval.specs.Verdicts.{IsRightOnViolation};
+ghost use Rattle.witval.specs.Tasks.{steps};
+
+use crate::thin::witness::ThinWitness;
+use c_core::Program;
+use c_meaning::Verdict;
+use std::alloc::Global;
+use wv_base::OutOfMemory;
+
+pub fn read_program(_alloc: Global, bytes: &[u8]) -> Result<Option<Program>, OutOfMemory>
+    requires { length bytes.now ≤ 1048576 }
+    ensures { IfOk result (λ p. MatchOption p (thin_program bytes.now ≡ None) (λ p. thin_program bytes.now ≡ Some (program_view p))) }
+{
+    Ok(None)
+}
+
+pub fn is_placed(_program: &Program, _witness: &ThinWitness) -> bool
+    ensures { result ≡ is_placed (program_view _program.now) _witness.now }
+{
+    false
+}
+
+pub fn judge_violation(
+    _alloc: Global,
+    _program: &Program,
+    _witness: &ThinWitness,
+) -> Result<Verdict, OutOfMemory>
+    ensures { IfOk result (IsRightOnViolation (program_view _program.now) (segments_of _witness.now) steps) }
+{
+    Err(OutOfMemory)
+}
