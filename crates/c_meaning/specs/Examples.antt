@@ -1,6 +1,6 @@
 -- Small programs, as trees with the places of their texts. Objects have no names here: no rule on runs reads them.
 use Rattle.std.specs.Prelude.{ℕ, pos, true, false, Bool, List, [], ◌∷◌, Option, Some, None}
-use Rattle.c_core.specs.Tree.{Exp, Expr, Node, Const, Var, Unary, Step, Binary, Assign, Call, Exps, NoExp, MoreExp, One, Names, NoName, MoreName, Stm, Stmt, Form, Do, Declare, Block, If, While, Return, Label, NoElse, Stms, NoStm, MoreStm, Function, Program}
+use Rattle.c_core.specs.Tree.{Exp, Expr, Node, Const, Var, Unary, Step, Binary, Assign, Call, NoExp, MoreExp, One, Names, NoName, MoreName, Stm, Stmt, Form, Do, Declare, Block, If, While, Return, Label, NoElse, Stms, NoStm, MoreStm, Function, Program}
 use Rattle.c_core.specs.declared.number.IntType.{IntType}
 use Rattle.c_core.specs.declared.number.IntType.TheVariants.{Char, Int, UInt, Long}
 use Rattle.c_core.specs.declared.number.DataModel.{DataModel}
