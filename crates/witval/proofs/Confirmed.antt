@@ -1,14 +1,13 @@
 -- A confirmed violation is a run of the shown values.
-use Rattle.std.proofs.Common.{◌≡◌, ◌↔◌, ℕ, Bool, true, false, List, Option, Some, None, refl, sym, ◌∙◌, ap, subst}
+use Rattle.std.proofs.Common.{◌≡◌, ◌↔◌, ℕ, true, false, List, Option, Some, None, refl, sym, ◌∙◌, ap, subst}
 use Rattle.c_core.specs.Tree.{Program}
 use Rattle.c_core.specs.declared.number.Spot.{Spot}
 use Rattle.c_meaning.specs.declared.run.End.{End}
 use Rattle.c_meaning.specs.declared.run.End.TheVariants as end
 use Rattle.c_meaning.specs.declared.run.Choices.{Choices}
 use Rattle.c_meaning.specs.declared.verdict.Verdict.{Verdict}
-use Rattle.c_meaning.specs.declared.verdict.Verdict.TheVariants.{ViolationConfirmed, ViolationNot, Undecided}
-use Rattle.c_meaning.specs.Run.{Run, Moments}
-use Rattle.c_meaning.specs.Replay.{values_of, drawn_by}
+use Rattle.c_meaning.specs.Run.{Run}
+use Rattle.c_meaning.specs.Replay.{values_of}
 use Rattle.c_meaning.proofs.Replayed.{replayed}
 use Rattle.witval.specs.Points.{BoundSegment}
 use Rattle.witval.specs.Matching.{seen_of, SeenIn, Matches, Finds}

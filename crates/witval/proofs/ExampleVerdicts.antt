@@ -1,12 +1,11 @@
 -- The verdicts on the examples, by computation.
-use Rattle.std.proofs.Common.{◌≡◌, ◌⊎◌, ℕ, suc, ◌+◌, ◌<◌, ◌≤◌, Bool, true, false, List, [], ◌∷◌, length, Option, Some, None, slice_get, ◌||◌, refl, sym, ◌∙◌, ap, subst, arith}
+use Rattle.std.proofs.Common.{◌≡◌, ℕ, suc, Bool, true, false, List, [], ◌∷◌, length, Option, Some, None, slice_get, ◌||◌, refl, sym, ap, subst, arith}
 use Rattle.c_core.specs.Types.{residue, signed_of, wrapped}
 use Rattle.c_core.specs.Tree.{Program}
 use Rattle.c_core.specs.declared.number.BinOp.TheVariants.{Div, Rem}
-use Rattle.c_core.specs.declared.number.Property.TheVariants.{UnreachCall, NoOverflow}
-use Rattle.c_meaning.specs.declared.run.Choices.{Choices}
+use Rattle.c_core.specs.declared.number.Property.TheVariants.{NoOverflow}
 use Rattle.c_meaning.specs.Examples.{at, number, branch_on_input, add_to_input, combine_inputs, count_to_three, recurse}
-use Rattle.witval.specs.Points.{At, Line, Point, Assume, Target, BoundSegment}
+use Rattle.witval.specs.Points.{Line, Point, Assume, Target, BoundSegment}
 use Rattle.witval.specs.Matching.{Seen, Matches, matches, seen_passes, seen_passes_any}
 use Rattle.witval.specs.Passing.{passes}
 use Rattle.witval.specs.Given.{SeenGiven}

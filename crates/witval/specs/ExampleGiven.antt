@@ -1,6 +1,6 @@
 -- The values that example witnesses give to the input calls of a program.
 use Rattle.std.specs.Prelude.{◌≡◌, ℕ, ℤ, pos, false, true, List, [], ◌∷◌, Option, Some, None}
-use Rattle.c_core.specs.Tree.{Exp, Expr, Node, Const, Var, Index, Unary, Cast, Binary, Logic, Assign, Call, NoExp, MoreExp, One, NoName, Stm, Do, Declare, Label, Program}
+use Rattle.c_core.specs.Tree.{Exp, Var, Index, Unary, Cast, Logic, Assign, NoName, Stm, Declare, Label, Program}
 use Rattle.c_core.specs.declared.number.IntType.{IntType}
 use Rattle.c_core.specs.declared.number.IntType.TheVariants.{Int, UInt, UChar}
 use Rattle.c_core.specs.declared.number.Property.TheVariants.{UnreachCall}
@@ -11,9 +11,9 @@ use Rattle.c_core.specs.declared.tree.Callee.TheVariants.{Input}
 use Rattle.c_meaning.specs.declared.run.Choices.{Choices}
 use Rattle.c_meaning.specs.declared.run.Choices.TheVariants.{Given}
 use Rattle.c_meaning.specs.Examples.{at, exp, number, object, operation, call, int_input, statement, only, declared, declaration, block, return_number, local, cell, main_alone, recurse}
-use Rattle.witval.specs.Points.{Point, Assume, Return, BoundSegment}
+use Rattle.witval.specs.Points.{Assume, Return, BoundSegment}
 use Rattle.witval.specs.Given.{given_by}
-use Rattle.witval.specs.ExampleVerdicts.{follow, avoid_then, target, returns, minus, first_is}
+use Rattle.witval.specs.ExampleVerdicts.{follow, avoid_then, returns, minus, first_is}
 
 -- 1|int main() {
 -- 2|  int x = 0, y = 0;

@@ -1,6 +1,6 @@
 -- Events that pass example waypoints, and some that don't.
-use Rattle.std.specs.Prelude.{◌≡◌, ℕ, ℤ, pos, negsuc, Bool, true, false, List, [], ◌∷◌, Option, Some, None}
-use Rattle.c_core.specs.Tree.{Exp, Program}
+use Rattle.std.specs.Prelude.{◌≡◌, ℤ, pos, negsuc, Bool, true, false, List, [], ◌∷◌, Option, Some, None}
+use Rattle.c_core.specs.Tree.{Exp}
 use Rattle.c_core.specs.declared.number.IntType.{IntType}
 use Rattle.c_core.specs.declared.number.IntType.TheVariants.{Int, UInt, SChar, LongLong}
 use Rattle.c_core.specs.declared.number.Property.TheVariants.{NoOverflow}

@@ -1,7 +1,6 @@
 -- The right verdicts on violation witnesses of the example programs.
 use Rattle.std.specs.Prelude.{◌≡◌, ℕ, pos, negsuc, Bool, true, false, List, [], ◌∷◌, Some, None}
 use Rattle.c_core.specs.Tree.{Exp, Unary, Const, Program}
-use Rattle.c_core.specs.declared.number.Spot.{Spot}
 use Rattle.c_core.specs.declared.number.IntType.{IntType}
 use Rattle.c_core.specs.declared.number.IntType.TheVariants.{Int, LongLong}
 use Rattle.c_core.specs.declared.number.Property.TheVariants.{UnreachCall, NoOverflow}
@@ -13,8 +12,8 @@ use Rattle.c_meaning.specs.declared.verdict.Cause.TheVariants.{Steps}
 use Rattle.c_meaning.specs.Examples.{at, exp, number, object, operation, branch_on_input, add_to_input, combine_inputs, count_to_three, recurse}
 use Rattle.c_meaning.specs.ExampleRuns.{drawn}
 use Rattle.witval.specs.Points.{At, Line, Point, Assume, Target, Enter, Return, BoundSegment}
-use Rattle.witval.specs.Matching.{SeenIn, matches}
-use Rattle.witval.specs.Given.{given_by, SeenGiven}
+use Rattle.witval.specs.Matching.{matches}
+use Rattle.witval.specs.Given.{SeenGiven}
 use Rattle.witval.specs.Verdicts.{IsRightOnViolation}
 
 -- a segment without avoids

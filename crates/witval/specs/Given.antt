@@ -1,5 +1,5 @@
 -- The values that a violation witness gives to the input calls of a program, and the run that draws them.
-use Rattle.std.specs.Prelude.{ℕ, ℤ, Bool, true, false, cond, not, nat_eq, ◌&&◌, ◌||◌, List, [], ◌∷◌, ◌++◌, Option, Some, None, map}
+use Rattle.std.specs.Prelude.{ℕ, ℤ, Bool, true, false, cond, not, nat_eq, ◌&&◌, List, [], ◌∷◌, ◌++◌, Option, Some, None, map}
 use Rattle.std.specs.List.{filter_map}
 use Rattle.c_core.specs.Types.{fit}
 use Rattle.c_core.specs.Tree.{Exp, Expr, Node, Var, Index, Binary, Logic, Assign, Init, Absent, One, Many, Names, NoName, MoreName, Stm, Stmt, Form, Do, Declare, Program}
