@@ -14,3 +14,6 @@ mod words;
 
 pub use laws::{confirmed_violates, confirms_exactly, test_matches};
 pub use top::run;
+
+#[cfg(test)]
+mod tests;
