@@ -50,7 +50,7 @@ abbrev pub nothing_counted : List Placed
 nothing_counted = loop_invariant 7 3 (operation 1 1 Eq (object 1 1 0) (number 1 6 0))
 
 pub record ExampleHavocRuns : Type 0 where
-  -- `c++` on a char computes in int and cannot overflow there, but it may overflow in general
+  -- `c++` on a char computes in int, which is signed: an obligation, and it holds
   pub steps_of_a_char : Duties step_char [] ≡ (duty (at 3 3) PropertyKind None ∷ [])
   pub a_char_wraps : Havoc step_char [] [] ≡ left Passed []
   -- the call in the function before, then the loop
