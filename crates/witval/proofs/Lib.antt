@@ -1,4 +1,6 @@
 pub mod Confirmed
+mod ExampleGiven
+mod ExamplePassing
 mod ExampleVerdicts
 pub mod Judged
 pub mod Tested
