@@ -1,0 +1,21 @@
+// Worked programs, as laws of the definitions.
+ghost use Rattle.c_core.specs.JudgedPrograms.{JudgedPrograms};
+ghost use Rattle.c_core.specs.WorkedPlaces.{WorkedPlaces};
+
+fn judged_programs()
+    ensures { JudgedPrograms }
+{}
+
+fn worked_places()
+    ensures { WorkedPlaces }
+{}
+
+#[test]
+fn invariant_judges_programs() {
+    judged_programs();
+}
+
+#[test]
+fn places_of_programs() {
+    worked_places();
+}
