@@ -2,6 +2,7 @@
 use Rattle.std.proofs.Common.{◌≡◌, ℕ, zero, suc, nat_eq, nat_lt, nat_le, eqb-true, subst, ℤ, pos, negsuc, Bool, true, false, ◌&&◌, ◌||◌, ◌⊎◌, inl, inr, refl, arith, Option, Some, None}
 use Rattle.std.proofs.lemmas.Bool.{false≢true}
 use Rattle.c_core.specs.Types.{is_zero}
+use Rattle.c_core.proofs.TextOrderLaws.{left, right, either}
 use Rattle.c_core.specs.Tree.{Exp, Expr, Node, Const, Var, Binary, Call, Exps, NoExp, MoreExp, Init, One, Names, NoName, MoreName, Stm, Stmt, Form, Do, Declare, Block, If, Return, Else, NoElse, OrElse, Stms, NoStm, MoreStm}
 use Rattle.c_core.specs.Thin.{is_int, has_type_int, is_void, is_no_exp, is_int_input, is_reach_error, is_equality, is_small, is_constant_node, is_thin_constant, is_zero_node, is_thin_zero, is_variable_node, is_thin_variable, is_comparison_node, is_thin_test, is_input_node, is_thin_input, is_reach_node, is_thin_reach, is_thin_init, is_no_name, is_thin_name, is_declare_form, is_thin_declaration, is_reach_form, is_reach_statement, is_no_stm, is_reach_block, is_arm_form, is_thin_arm, is_no_else, is_if_form, is_thin_if, is_zero_if, is_return_form, is_thin_return, is_thin_end, is_thin_block}
 use Rattle.c_core.specs.declared.number.IntType.{IntType}
@@ -11,18 +12,6 @@ use Rattle.c_core.specs.declared.number.BinOp.{BinOp}
 use Rattle.c_core.specs.declared.number.BinOp.TheVariants.{Eq}
 use Rattle.c_core.specs.declared.tree.Callee.{Callee}
 use Rattle.c_core.specs.declared.tree.Callee.TheVariants.{Input, ReachError}
-
-pub left : (a b : Bool) → (a && b) ≡ true → a ≡ true
-left true b h = refl
-left false b h = absurd (false≢true h)
-
-pub right : (a b : Bool) → (a && b) ≡ true → b ≡ true
-right true b h = h
-right false b h = absurd (false≢true h)
-
-pub either : (a b : Bool) → (a || b) ≡ true → (a ≡ true) ⊎ (b ≡ true)
-either true b h = inl refl
-either false b h = inr h
 
 -- `int x = __VERIFIER_nondet_int();`, of object k
 abbrev pub declaration : (at name call close : Spot) → ℕ → Stm

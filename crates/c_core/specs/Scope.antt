@@ -1,6 +1,6 @@
 -- Which objects an expression may name, where each is declared, and where statements may stand (C11 6.2.1, 6.8).
-use Rattle.std.specs.Prelude.{ℕ, nat_eq, Bool, true, false, cond, not, ◌&&◌, ◌||◌, List, [], ◌∷◌, ◌++◌, Option, Some, None, is_some, slice_get}
-use Rattle.std.specs.List.{list_all, list_any, count_by}
+use Rattle.std.specs.Prelude.{ℕ, suc, nat_eq, Bool, true, false, cond, not, ◌&&◌, ◌||◌, List, [], ◌∷◌, ◌++◌, Option, Some, None, is_some, slice_get}
+use Rattle.std.specs.List.{list_all, list_any}
 use Rattle.c_core.specs.Tree.{Exp, Expr, Node, Var, Index, Names, NoName, MoreName, First, NoFirst, FirstExp, FirstNames, Stm, Stmt, Form, Empty, Do, Declare, Block, If, While, DoWhile, For, Break, Continue, Return, Label, Else, NoElse, OrElse, Stms, NoStm, MoreStm, Function, Program}
 use Rattle.c_core.specs.Parts.{exp_if, every_exp, every_statement, fulls_of_init, objects_of_first, declared_by, declared_in, same_spot}
 use Rattle.c_core.specs.declared.number.Spot.{Spot}
@@ -11,7 +11,8 @@ is_in o os = list_any (nat_eq o) os
 
 -- how often a number stands in a list
 abbrev pub times_in : ℕ → List ℕ → ℕ
-times_in o os = count_by (nat_eq o) os
+times_in o [] = 0
+times_in o (x ∷ xs) = cond (nat_eq o x) (suc (times_in o xs)) (times_in o xs)
 
 abbrev pub is_fixed_object : Option Object → Bool
 is_fixed_object None = false
