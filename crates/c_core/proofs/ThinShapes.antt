@@ -50,10 +50,10 @@ pub data IsThinBlock (count : ℕ) : ℕ → ℕ → Stms → Type 0 where
   ends : (k : ℕ) (b : Stms) → IsEnd count b → IsThinBlock count zero k b
   declares : (n k : ℕ) (s : Stm) (b : Stms) → IsDeclaration k s → IsThinBlock count n (suc k) b → IsThinBlock count (suc n) k (MoreStm s b)
 
-data IsIntType : Option IntType → Type 0 where
+pub data IsIntType : Option IntType → Type 0 where
   int_type : IsIntType (Some Int)
 
-int_of : (ty : Option IntType) → has_type_int ty ≡ true → IsIntType ty
+pub int_of : (ty : Option IntType) → has_type_int ty ≡ true → IsIntType ty
 int_of None h = absurd (false≢true h)
 int_of (Some Int) h = int_type
 int_of (Some _) h = absurd (false≢true h)

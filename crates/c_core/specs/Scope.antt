@@ -26,6 +26,10 @@ abbrev pub owned_by : List Function → List ℕ
 owned_by [] = []
 owned_by (f ∷ fs) = (f.params ++ declared_in f.body) ++ owned_by fs
 
+abbrev pub stands_at : Spot → Option Object → Bool
+stands_at spot None = false
+stands_at spot (Some o) = same_spot o.spot spot
+
 -- where objects in reach are listed, innermost last, and those of static storage always are
 module _ (p : Program) where
   abbrev pub is_reached : List ℕ → ℕ → Bool
@@ -44,14 +48,14 @@ module _ (p : Program) where
   reaches reach e = every_exp (exp_reaches reach) e
 
   -- a name is in reach behind its initializer
-  abbrev pub names_reach : List ℕ → Names → Bool
-  names_reach reach NoName = true
-  names_reach reach (MoreName spot o i ns) = list_all (reaches reach) (fulls_of_init i) && names_reach (reach ++ o ∷ []) ns
+  abbrev pub declarators_reach : List ℕ → Names → Bool
+  declarators_reach reach NoName = true
+  declarators_reach reach (MoreName spot o i ns) = list_all (reaches reach) (fulls_of_init i) && declarators_reach (reach ++ o ∷ []) ns
 
   abbrev pub first_reaches : List ℕ → First → Bool
   first_reaches reach NoFirst = true
   first_reaches reach (FirstExp e) = reaches reach e
-  first_reaches reach (FirstNames ns) = names_reach reach ns
+  first_reaches reach (FirstNames ns) = declarators_reach reach ns
 
   -- a statement names only objects in reach: to the end of their block, or of their `for` (C11 6.2.1p4)
   abbrev mutual
@@ -61,7 +65,7 @@ module _ (p : Program) where
     pub form_reaches : List ℕ → Form → Bool
     form_reaches reach Empty = true
     form_reaches reach (Do e) = reaches reach e
-    form_reaches reach (Declare ns) = names_reach reach ns
+    form_reaches reach (Declare ns) = declarators_reach reach ns
     form_reaches reach (Block b) = block_reaches reach b
     form_reaches reach (If e a b) = reaches reach e && (statement_reaches reach a && else_reaches reach b)
     form_reaches reach (While e b) = reaches reach e && statement_reaches reach b
@@ -91,22 +95,18 @@ module _ (p : Program) where
   abbrev pub is_object : ℕ → Bool
   is_object o = is_some (slice_get p.objects o)
 
-  abbrev pub stands_at : Spot → Option Object → Bool
-  stands_at spot None = false
-  stands_at spot (Some o) = same_spot o.spot spot
-
   -- a declared name stands where its object does
-  abbrev pub names_stand : Names → Bool
-  names_stand NoName = true
-  names_stand (MoreName spot o i ns) = stands_at spot (slice_get p.objects o) && names_stand ns
+  abbrev pub declarators_stand : Names → Bool
+  declarators_stand NoName = true
+  declarators_stand (MoreName spot o i ns) = stands_at spot (slice_get p.objects o) && declarators_stand ns
 
   abbrev pub first_stands : First → Bool
   first_stands NoFirst = true
   first_stands (FirstExp e) = true
-  first_stands (FirstNames ns) = names_stand ns
+  first_stands (FirstNames ns) = declarators_stand ns
 
   abbrev pub form_stands : Form → Bool
-  form_stands (Declare ns) = names_stand ns
+  form_stands (Declare ns) = declarators_stand ns
   form_stands (For i e s b) = first_stands i
   form_stands _ = true
 

@@ -1,4 +1,10 @@
 // Worked programs, as laws of the definitions.
+ghost use Rattle.std.specs.Prelude.{◌≡◌, ◌≤◌, true, length};
+ghost use Rattle.c_core.specs.Tree as t;
+ghost use Rattle.c_core.specs.Thin.{is_thin};
+ghost use Rattle.c_core.specs.Named.{declared_spots};
+ghost use Rattle.c_core.specs.TextOrder.{spots_of_objects};
+ghost use Rattle.c_core.specs.Program.{IsProgram, places_rise};
 ghost use Rattle.c_core.specs.JudgedPrograms.{JudgedPrograms};
 ghost use Rattle.c_core.specs.WorkedPlaces.{WorkedPlaces};
 
@@ -10,6 +16,12 @@ fn worked_places()
     ensures { WorkedPlaces }
 {}
 
+// A thin program whose places follow the order of the text is a checked program.
+fn thin_programs()
+    ensures { (p : t.Program) → is_thin p ≡ true → places_rise p ≡ true → spots_of_objects p.objects ≡ declared_spots p → length p.objects ≤ 100000 → IsProgram p }
+{
+}
+
 #[test]
 fn invariant_judges_programs() {
     judged_programs();
@@ -18,4 +30,9 @@ fn invariant_judges_programs() {
 #[test]
 fn places_of_programs() {
     worked_places();
+}
+
+#[test]
+fn thin_programs_are_checked() {
+    thin_programs();
 }
