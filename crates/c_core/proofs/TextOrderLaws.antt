@@ -1,5 +1,5 @@
 -- Parts of a list of places, in its order.
-use Rattle.std.proofs.Common.{◌≡◌, ℕ, ◌<◌, ltb-true, lt-ltb, eqb-true, eq-eqb, nat_eq, nat_lt, arith, Bool, true, false, ◌&&◌, ◌||◌, ◌⊎◌, inl, inr, List, [], ◌∷◌, ◌++◌, refl}
+use Rattle.std.proofs.Common.{◌≡◌, ◌<◌, ltb-true, lt-ltb, eqb-true, eq-eqb, nat_eq, nat_lt, arith, Bool, true, false, ◌&&◌, ◌||◌, ◌⊎◌, inl, inr, List, [], ◌∷◌, ◌++◌, refl}
 use Rattle.std.proofs.lemmas.Bool.{false≢true}
 use Rattle.std.proofs.Math.Bool.{or-true}
 use Rattle.std.specs.List.{list_all}
@@ -33,8 +33,8 @@ before_of : (a b : Spot) → is_before a b ≡ true → Before a b
 unfolding Before
 before_of a b h =
     elim (either (nat_lt a.line b.line) _ h) [
-      inl l ↦ inl (ltb-true a.line b.line l)
-    | inr r ↦ inr (eqb-true a.line b.line (left _ _ r), ltb-true a.column b.column (right (nat_eq a.line b.line) _ r))
+      | inl l ↦ inl (ltb-true a.line b.line l)
+      | inr r ↦ inr (eqb-true a.line b.line (left _ _ r), ltb-true a.column b.column (right (nat_eq a.line b.line) _ r))
     ]
 
 of_before : (a b : Spot) → Before a b → is_before a b ≡ true

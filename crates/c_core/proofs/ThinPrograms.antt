@@ -1,20 +1,19 @@
 -- Thin programs are checked programs.
-use Rattle.std.proofs.Common.{◌≡◌, ℕ, zero, suc, ◌+◌, ◌<◌, ◌≤◌, nat_eq, nat_lt, nat_le, eqb-true, eq-eqb, ltb-true, lt-ltb, leb-true, le-leb, add-one, add-zero, zero-add, arith, Bool, true, false, cond, not, ◌&&◌, ◌||◌, List, [], ◌∷◌, ◌++◌, length, map, slice_get, ◌⊎◌, inl, inr, refl, sym, ap, ◌∙◌, subst, Option, Some, None, is_some, pos}
+use Rattle.std.proofs.Common.{◌≡◌, ℕ, zero, suc, ◌+◌, ◌<◌, ◌≤◌, nat_eq, nat_lt, nat_le, eqb-true, eq-eqb, ltb-true, lt-ltb, leb-true, le-leb, add-one, add-zero, zero-add, arith, Bool, true, false, not, ◌&&◌, List, [], ◌∷◌, ◌++◌, length, slice_get, ◌⊎◌, inl, inr, refl, sym, ap, ◌∙◌, subst, Option, Some, None, is_some}
 use Rattle.std.proofs.lemmas.Bool.{false≢true, false_from_ne_true}
 use Rattle.std.proofs.lemmas.List.Sums.{sum_by-cons}
 use Rattle.std.proofs.lemmas.List.{append-nil}
 use Rattle.std.proofs.Math.Bool.{or-true}
-use Rattle.std.specs.List.{list_all, list_any, flat_map, range_with_len, sum_by}
-use Rattle.c_core.specs.Tree.{Exp, Init, One, Names, NoName, MoreName, Stm, Stmt, Form, Declare, Block, Stms, NoStm, MoreStm, Function, Program}
-use Rattle.c_core.specs.Parts.{is_empty, same_spot, every_statement, every_statement_of, declared_in_block}
+use Rattle.std.specs.List.{list_all, range_with_len, sum_by}
+use Rattle.c_core.specs.Tree.{Exp, One, Stm, Stmt, Form, Block, Stms, Function, Program}
+use Rattle.c_core.specs.Parts.{is_empty, same_spot, every_statement_of, names_in_block, names_of_program, spots_of_names, objects_of}
 use Rattle.c_core.specs.Thin.{is_int, has_type_int, is_thin_object, is_thin_objects, is_ilp32, is_unreach_call, is_thin_body, is_body_form, is_thin_main, is_thin_functions, is_thin}
-use Rattle.c_core.specs.Named.{spots_of_declared, form_declares, statement_declares, block_declares, declared_spots}
-use Rattle.c_core.specs.Typing.{number_of_type, same_type, is_scalar, has_value, init_fits, statement_fits}
-use Rattle.c_core.specs.Scope.{is_in, times_in, is_fixed_object, is_fixed, is_reached, is_object, is_owned_once, block_reaches, statement_stands, stands_at, statement_nests, block_jumps}
-use Rattle.c_core.specs.Program.{IsProgram, object_fits, places_rise}
+use Rattle.c_core.specs.Typing.{same_type, is_scalar, has_value, init_fits, statement_fits}
+use Rattle.c_core.specs.Scope.{is_in, times_in, is_fixed_object, is_fixed, is_reached, is_object, is_owned_once, block_reaches, statement_nests, block_jumps}
+use Rattle.c_core.specs.Program.{IsProgram, stands_at, object_fits, places_rise}
 use Rattle.c_core.specs.TextOrder.{rises, spots_of_block, spots_of_objects}
 use Rattle.c_core.proofs.TextOrderLaws.{left, right, either, same_spot-self, IsPart, skips, takes, part_none, part_front, part_behind, rises-part}
-use Rattle.c_core.proofs.ThinShapes.{ IsComparison, comparison_of, IsArm, arm_of, IsDeclaration, declaration_of, IsReturn, return_of, IsEnd, last, test, IsThinBlock, ends, declares, block_in, IsIntType, int_type, int_of}
+use Rattle.c_core.proofs.ThinShapes.{comparison_of, arm_of, declaration_of, return_of, IsEnd, last, test, IsThinBlock, ends, declares, block_in, IsIntType, int_type, int_of}
 use Rattle.c_core.specs.declared.number.DataModel.{DataModel}
 use Rattle.c_core.specs.declared.number.Property.{Property}
 use Rattle.c_core.specs.declared.number.IntType.{IntType}
@@ -72,8 +71,8 @@ is_in-last o (x ∷ xs) = rw (is_in-last o xs) (or-true (nat_eq o x))
 is_in-next : (o k : ℕ) (xs : List ℕ) → ((q : ℕ) → q < k → is_in q xs ≡ true) → o < suc k → is_in o (xs ++ k ∷ []) ≡ true
 is_in-next o k xs all h =
     elim (below_or_same o k h) [
-      inl lt ↦ is_in-append o xs (k ∷ []) (all o lt)
-    | inr e ↦ let P : ℕ → Type 0 = λ q. is_in o (xs ++ q ∷ []) ≡ true in subst P e (is_in-last o xs)
+      | inl lt ↦ is_in-append o xs (k ∷ []) (all o lt)
+      | inr e ↦ let P : ℕ → Type 0 = λ q. is_in o (xs ++ q ∷ []) ≡ true in subst P e (is_in-last o xs)
     ]
 
 reached : (p : Program) (reach : List ℕ) (o : ℕ) → is_in o reach ≡ true → is_reached p reach o ≡ true
@@ -104,7 +103,7 @@ module _ (p : Program) (thin : is_thin_objects p.objects ≡ true) where
       rw (reached p reach o (all o (ltb-true o (length p.objects) lt))) (reach_end (reach ++ []) b rest (λ q h. is_in-append q reach [] (all q h)))
 
   reach_block : (reach : List ℕ) (n k : ℕ) (b : Stms) → IsThinBlock (length p.objects) n k b → n + k ≡ length p.objects
-    → ((o : ℕ) → o < k → is_in o reach ≡ true) → block_reaches p reach b ≡ true
+      → ((o : ℕ) → o < k → is_in o reach ≡ true) → block_reaches p reach b ≡ true
   reach_block reach _ k _ (ends _ b e) all in_reach = reach_end reach b e (λ o h. in_reach o (omega arith))
   reach_block reach _ k _ (declares n _ _ b (declaration_of at name call close) rest) all in_reach =
       reach_block (reach ++ k ∷ []) n (suc k) b rest (omega arith) (λ o h. is_in-next o k reach in_reach h)
@@ -128,23 +127,19 @@ jumps_block : (count n k : ℕ) (b : Stms) → IsThinBlock count n k b → block
 jumps_block count _ k _ (ends _ b e) = jumps_end count b e
 jumps_block count _ k _ (declares n _ _ b (declaration_of at name call close) rest) = jumps_block count n (suc k) b rest
 
-declared_end : (count : ℕ) (b : Stms) → IsEnd count b → declared_in_block b ≡ []
-declared_end count _ (last _ (return_of at value)) = refl
-declared_end count _ (test at _ _ b (comparison_of c x v o n lt le) (arm_of d e f g) rest) = declared_end count b rest
+names_end : (count : ℕ) (b : Stms) → IsEnd count b → names_in_block b ≡ []
+names_end count _ (last _ (return_of at value)) = refl
+names_end count _ (test at _ _ b (comparison_of c x v o n lt le) (arm_of d e f g) rest) = names_end count b rest
 
 -- a thin block declares its objects in turn
-declared_block : (count n k : ℕ) (b : Stms) → IsThinBlock count n k b → declared_in_block b ≡ range_with_len k n
-declared_block count _ k _ (ends _ b e) = declared_end count b e
+declared_block : (count n k : ℕ) (b : Stms) → IsThinBlock count n k b → objects_of (names_in_block b) ≡ range_with_len k n
+declared_block count _ k _ (ends _ b e) = ap objects_of (names_end count b e)
 declared_block count _ k _ (declares n _ _ b (declaration_of at name call close) rest) =
     ap (λ os. k ∷ os) (declared_block count n (suc k) b rest ∙ ap (λ j. range_with_len j n) (sym (add-one k)))
 
-no_name_declared_end : (count : ℕ) (b : Stms) → IsEnd count b → block_declares b ≡ []
-no_name_declared_end count _ (last _ (return_of at value)) = refl
-no_name_declared_end count _ (test at _ _ b (comparison_of c x v o n lt le) (arm_of d e f g) rest) = no_name_declared_end count b rest
-
-names_in_order : (count n k : ℕ) (b : Stms) → IsThinBlock count n k b → IsPart (block_declares b) (spots_of_block b)
+names_in_order : (count n k : ℕ) (b : Stms) → IsThinBlock count n k b → IsPart (spots_of_names (names_in_block b)) (spots_of_block b)
 names_in_order count _ k _ (ends _ b e) =
-    let P : List Spot → Type 0 = λ spots. IsPart spots (spots_of_block b) in subst P (sym (no_name_declared_end count b e)) (part_none (spots_of_block b))
+    let P : List Spot → Type 0 = λ spots. IsPart spots (spots_of_block b) in subst P (sym (ap spots_of_names (names_end count b e))) (part_none (spots_of_block b))
 names_in_order count _ k _ (declares n _ _ b (declaration_of at name call close) rest) =
     skips at _ _ (takes name _ _ (part_behind (call ∷ close ∷ []) _ _ (names_in_order count n (suc k) b rest)))
 
@@ -154,16 +149,13 @@ placed (o ∷ os) zero name h =
     let e : o.spot ≡ name = cc in let P : Spot → Type 0 = λ spot. same_spot spot name ≡ true in subst P (sym e) (same_spot-self name)
 placed (o ∷ os) (suc k) name h = placed os k name h
 
-stands_end : (p : Program) (count : ℕ) (b : Stms) → IsEnd count b → every_statement_of (statement_stands p) b ≡ true
-stands_end p count _ (last _ (return_of at value)) = refl
-stands_end p count _ (test at _ _ b (comparison_of c x v o n lt le) (arm_of d e f g) rest) = stands_end p count b rest
-
-stands_block : (p : Program) (count n k : ℕ) (b : Stms) → IsThinBlock count n k b
-  → ((j : ℕ) → slice_get (spots_of_objects p.objects) (k + j) ≡ slice_get (block_declares b) j) → every_statement_of (statement_stands p) b ≡ true
-stands_block p count _ k _ (ends _ b e) spots = stands_end p count b e
-stands_block p count _ k _ (declares n _ _ b (declaration_of at name call close) rest) spots =
-    rw (placed p.objects k name (ap (λ i. slice_get (spots_of_objects p.objects) i) (sym (add-zero k)) ∙ spots 0))
-      (stands_block p count n (suc k) b rest (λ j. ap (λ i. slice_get (spots_of_objects p.objects) i) (suc-along k j) ∙ spots (suc j)))
+stands_block : (os : List Object) (count n k : ℕ) (b : Stms) → IsThinBlock count n k b
+    → ((j : ℕ) → slice_get (spots_of_objects os) (k + j) ≡ slice_get (spots_of_names (names_in_block b)) j)
+    → list_all (λ name. stands_at name.spot (slice_get os name.object)) (names_in_block b) ≡ true
+stands_block os count _ k _ (ends _ b e) spots = rw (names_end count b e) refl
+stands_block os count _ k _ (declares n _ _ b (declaration_of at name call close) rest) spots =
+    rw (placed os k name (ap (λ i. slice_get (spots_of_objects os) i) (sym (add-zero k)) ∙ spots 0))
+    (stands_block os count n (suc k) b rest (λ j. ap (λ i. slice_get (spots_of_objects os) i) (suc-along k j) ∙ spots (suc j)))
 
 every_number : (q : ℕ → Bool) (k n : ℕ) → ((o : ℕ) → k ≤ o → o < k + n → q o ≡ true) → list_all q (range_with_len k n) ≡ true
 every_number q k zero all = refl
@@ -183,8 +175,8 @@ once_in : (o k n : ℕ) → k ≤ o → o < k + n → times_in o (range_with_len
 once_in o k zero a b = absurd (omega arith)
 once_in o k (suc n) a b =
     elim (below_or_same k o (omega arith)) [
-      inl lt ↦ rw (later_number o k lt) (once_in o (k + 1) n (omega arith) (omega arith))
-    | inr e ↦ rw (eq-eqb o k (sym e)) (rw (never_in o (k + 1) n (omega arith)) refl)
+      | inl lt ↦ rw (later_number o k lt) (once_in o (k + 1) n (omega arith) (omega arith))
+      | inr e ↦ rw (eq-eqb o k (sym e)) (rw (never_in o (k + 1) n (omega arith)) refl)
     ]
 
 object_at : (os : List Object) (o : ℕ) → o < length os → is_some (slice_get os o) ≡ true
@@ -228,29 +220,29 @@ thin_of m property os at b = with_body m property os (Stmt at (Block b))
 module _ (m : DataModel) (property : Property) (os : List Object) (at : Spot) (b : Stms)
     (thin : is_thin_objects os ≡ true) (shape : IsThinBlock (length os) (length os) 0 b)
     (in_order : places_rise (thin_of m property os at b) ≡ true)
-    (placed_so : spots_of_objects os ≡ declared_spots (thin_of m property os at b)) (few : length os ≤ 100000) where
+    (placed_so : spots_of_objects os ≡ spots_of_names (names_of_program (thin_of m property os at b))) (few : length os ≤ 100000) where
   abbrev thin_program : Program
   thin_program = thin_of m property os at b
 
-  owned_so : declared_in_block b ++ [] ≡ range_with_len 0 (length os)
-  owned_so = append-nil (declared_in_block b) ∙ declared_block (length os) (length os) 0 b shape
+  owned_so : objects_of (names_in_block b) ++ [] ≡ range_with_len 0 (length os)
+  owned_so = append-nil (objects_of (names_in_block b)) ∙ declared_block (length os) (length os) 0 b shape
 
-  named_so : spots_of_objects os ≡ block_declares b
-  named_so = placed_so ∙ append-nil (block_declares b)
+  named_so : spots_of_objects os ≡ spots_of_names (names_in_block b)
+  named_so = placed_so ∙ ap spots_of_names (append-nil (names_in_block b))
 
   numbered_so : rises (spots_of_objects os) ≡ true
   numbered_so =
       rises-part _ _
-        (let P : List Spot → Type 0 = λ spots. IsPart spots (at ∷ spots_of_block b ++ []) in
-         subst P (sym named_so) (skips at _ _ (part_front _ _ [] (names_in_order (length os) (length os) 0 b shape))))
-        in_order
+      (let P : List Spot → Type 0 = λ spots. IsPart spots (at ∷ spots_of_block b ++ []) in
+      subst P (sym named_so) (skips at _ _ (part_front _ _ [] (names_in_order (length os) (length os) 0 b shape))))
+      in_order
 
   checked_thin_of : IsProgram thin_program
   checked_thin_of = record {
     objects = objects_fit-thin os thin;
     cells = le-leb _ _ (let all = cells_of_all os thin in omega (arith, all, few));
     numbered = numbered_so;
-    named = rw (stands_block thin_program (length os) (length os) 0 b shape (λ j. ap (λ i. slice_get (spots_of_objects os) i) (zero-add j) ∙ ap (λ spots. slice_get spots j) named_so)) refl;
+    named = rw (append-nil (names_in_block b)) (stands_block os (length os) (length os) 0 b shape (λ j. ap (λ i. slice_get (spots_of_objects os) i) (zero-add j) ∙ ap (λ spots. slice_get spots j) named_so));
     starts = refl;
     started_once = refl;
     main = refl;
@@ -265,35 +257,35 @@ module _ (m : DataModel) (property : Property) (os : List Object) (at : Spot) (b
   }
 
 checked_form : (m : DataModel) (property : Property) (os : List Object) (at : Spot) (f : Form)
-  → is_thin_objects os ≡ true → is_body_form (length os) f ≡ true
-  → places_rise (with_body m property os (Stmt at f)) ≡ true → spots_of_objects os ≡ declared_spots (with_body m property os (Stmt at f)) → length os ≤ 100000
-  → IsProgram (with_body m property os (Stmt at f))
+    → is_thin_objects os ≡ true → is_body_form (length os) f ≡ true
+    → places_rise (with_body m property os (Stmt at f)) ≡ true → spots_of_objects os ≡ spots_of_names (names_of_program (with_body m property os (Stmt at f))) → length os ≤ 100000
+    → IsProgram (with_body m property os (Stmt at f))
 checked_form m property os at (Block b) thin shape in_order placed_so few =
     checked_thin_of m property os at b thin (block_in (length os) (length os) 0 b shape) in_order placed_so few
 checked_form m property os at _ thin shape in_order placed_so few = absurd (false≢true shape)
 
 checked_body : (m : DataModel) (property : Property) (os : List Object) (body : Stm)
-  → is_thin_objects os ≡ true → is_thin_body (length os) body ≡ true
-  → places_rise (with_body m property os body) ≡ true → spots_of_objects os ≡ declared_spots (with_body m property os body) → length os ≤ 100000
-  → IsProgram (with_body m property os body)
+    → is_thin_objects os ≡ true → is_thin_body (length os) body ≡ true
+    → places_rise (with_body m property os body) ≡ true → spots_of_objects os ≡ spots_of_names (names_of_program (with_body m property os body)) → length os ≤ 100000
+    → IsProgram (with_body m property os body)
 checked_body m property os (Stmt at f) = checked_form m property os at f
 
 checked_result : (m : DataModel) (property : Property) (os : List Object) (starts : List Start) (result : Option IntType) (params : List ℕ) (body : Stm) (main : ℕ)
-  → is_thin_objects os ≡ true → IsIntType result → is_empty starts ≡ true → is_empty params ≡ true → main ≡ 0 → is_thin_body (length os) body ≡ true
-  → places_rise (with_function m property os starts result params body main) ≡ true
-  → spots_of_objects os ≡ declared_spots (with_function m property os starts result params body main) → length os ≤ 100000
-  → IsProgram (with_function m property os starts result params body main)
+    → is_thin_objects os ≡ true → IsIntType result → is_empty starts ≡ true → is_empty params ≡ true → main ≡ 0 → is_thin_body (length os) body ≡ true
+    → places_rise (with_function m property os starts result params body main) ≡ true
+    → spots_of_objects os ≡ spots_of_names (names_of_program (with_function m property os starts result params body main)) → length os ≤ 100000
+    → IsProgram (with_function m property os starts result params body main)
 checked_result m property os [] _ [] body zero thin int_type s q n shape = checked_body m property os body thin shape
 checked_result m property os [] _ [] body (suc k) thin int_type s q n shape = absurd (omega arith)
 checked_result m property os [] _ (o ∷ params) body main thin int_type s q n shape = absurd (false≢true q)
 checked_result m property os (start ∷ starts) _ params body main thin int_type s q n shape = absurd (false≢true s)
 
 checked_functions : (m : DataModel) (property : Property) (os : List Object) (starts : List Start) (fs : List Function) (main : ℕ)
-  → is_thin (record { model = m; property = property; objects = os; starts = starts; functions = fs; main = main }) ≡ true
-  → places_rise (record { model = m; property = property; objects = os; starts = starts; functions = fs; main = main }) ≡ true
-  → spots_of_objects os ≡ declared_spots (record { model = m; property = property; objects = os; starts = starts; functions = fs; main = main })
-  → length os ≤ 100000
-  → IsProgram (record { model = m; property = property; objects = os; starts = starts; functions = fs; main = main })
+    → is_thin (record { model = m; property = property; objects = os; starts = starts; functions = fs; main = main }) ≡ true
+    → places_rise (record { model = m; property = property; objects = os; starts = starts; functions = fs; main = main }) ≡ true
+    → spots_of_objects os ≡ spots_of_names (names_of_program (record { model = m; property = property; objects = os; starts = starts; functions = fs; main = main }))
+    → length os ≤ 100000
+    → IsProgram (record { model = m; property = property; objects = os; starts = starts; functions = fs; main = main })
 checked_functions m property os starts [] main h =
     let rest = right (is_thin_objects os && is_empty starts) _ (right (is_ilp32 m && is_unreach_call property) _ h) in absurd (false≢true rest)
 checked_functions m property os starts (f ∷ g ∷ fs) main h =
@@ -306,9 +298,9 @@ checked_functions m property os starts (f ∷ []) main h =
     let whole = left _ _ (left _ _ rest) in
     let more = right (has_type_int f.result) _ whole in
     checked_result m property os starts f.result f.params f.body main
-      (left _ _ objects) (int_of f.result (left _ _ whole)) (right (is_thin_objects os) _ objects) (left _ _ more)
-      (eqb-true main 0 (right (is_thin_functions (length os) (f ∷ [])) _ rest)) (right (is_empty f.params) _ more)
+    (left _ _ objects) (int_of f.result (left _ _ whole)) (right (is_thin_objects os) _ objects) (left _ _ more)
+    (eqb-true main 0 (right (is_thin_functions (length os) (f ∷ [])) _ rest)) (right (is_empty f.params) _ more)
 
 -- a thin program whose places follow the order of the text, and whose objects stand where their names do, is a checked program
-pub checked_thin : (p : Program) → is_thin p ≡ true → places_rise p ≡ true → spots_of_objects p.objects ≡ declared_spots p → length p.objects ≤ 100000 → IsProgram p
+pub checked_thin : (p : Program) → is_thin p ≡ true → places_rise p ≡ true → spots_of_objects p.objects ≡ spots_of_names (names_of_program p) → length p.objects ≤ 100000 → IsProgram p
 checked_thin p = checked_functions p.model p.property p.objects p.starts p.functions p.main

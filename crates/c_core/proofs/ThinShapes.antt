@@ -1,10 +1,9 @@
 -- The shapes that the test of thin programs leaves: declarations, tests, `return 0;`.
-use Rattle.std.proofs.Common.{◌≡◌, ℕ, zero, suc, nat_eq, nat_lt, nat_le, eqb-true, subst, ℤ, pos, negsuc, Bool, true, false, ◌&&◌, ◌||◌, ◌⊎◌, inl, inr, refl, arith, Option, Some, None}
+use Rattle.std.proofs.Common.{◌≡◌, ℕ, zero, suc, nat_eq, nat_lt, nat_le, eqb-true, subst, pos, negsuc, true, ◌&&◌, inl, inr, arith, Option, Some, None}
 use Rattle.std.proofs.lemmas.Bool.{false≢true}
-use Rattle.c_core.specs.Types.{is_zero}
 use Rattle.c_core.proofs.TextOrderLaws.{left, right, either}
 use Rattle.c_core.specs.Tree.{Exp, Expr, Node, Const, Var, Binary, Call, Exps, NoExp, MoreExp, Init, One, Names, NoName, MoreName, Stm, Stmt, Form, Do, Declare, Block, If, Return, Else, NoElse, OrElse, Stms, NoStm, MoreStm}
-use Rattle.c_core.specs.Thin.{is_int, has_type_int, is_void, is_no_exp, is_int_input, is_reach_error, is_equality, is_small, is_constant_node, is_thin_constant, is_zero_node, is_thin_zero, is_variable_node, is_thin_variable, is_comparison_node, is_thin_test, is_input_node, is_thin_input, is_reach_node, is_thin_reach, is_thin_init, is_no_name, is_thin_name, is_declare_form, is_thin_declaration, is_reach_form, is_reach_statement, is_no_stm, is_reach_block, is_arm_form, is_thin_arm, is_no_else, is_if_form, is_thin_if, is_zero_if, is_return_form, is_thin_return, is_thin_end, is_thin_block}
+use Rattle.c_core.specs.Thin.{has_type_int, is_void, is_no_exp, is_int_input, is_reach_error, is_equality, is_constant_node, is_thin_constant, is_zero_node, is_thin_zero, is_variable_node, is_thin_variable, is_comparison_node, is_thin_test, is_input_node, is_thin_input, is_reach_node, is_thin_reach, is_thin_init, is_no_name, is_thin_name, is_declare_form, is_thin_declaration, is_reach_form, is_reach_statement, is_no_stm, is_reach_block, is_arm_form, is_thin_arm, is_no_else, is_if_form, is_thin_if, is_zero_if, is_return_form, is_thin_return, is_thin_end, is_thin_block}
 use Rattle.c_core.specs.declared.number.IntType.{IntType}
 use Rattle.c_core.specs.declared.number.IntType.TheVariants.{Int}
 use Rattle.c_core.specs.declared.number.Spot.{Spot}
@@ -116,7 +115,7 @@ variable : (count : ℕ) (e : Exp) → is_thin_variable count e ≡ true → IsV
 variable count (Expr at ty n) h = variable_node count at ty n (int_of ty (left _ _ h)) (right (has_type_int ty) _ h)
 
 compared : (count : ℕ) (at : Spot) (ty : Option IntType) (op : BinOp) (a b : Exp)
-  → IsIntType ty → IsEquality op → IsVariable count a → IsConstant b → IsComparison count (Expr at ty (Binary op a b))
+    → IsIntType ty → IsEquality op → IsVariable count a → IsConstant b → IsComparison count (Expr at ty (Binary op a b))
 compared count at _ _ _ _ int_type equality (variable_of x o h) (constant_of c n g) = comparison_of at x c o n h g
 
 compared_node : (count : ℕ) (at : Spot) (ty : Option IntType) (n : Node) → IsIntType ty → is_comparison_node count n ≡ true → IsComparison count (Expr at ty n)
@@ -281,8 +280,8 @@ pub end_in : (count : ℕ) (b : Stms) → is_thin_end count b ≡ true → IsEnd
 end_in count NoStm h = absurd (false≢true h)
 end_in count (MoreStm s b) h =
     elim (either (is_thin_return s && is_no_stm b) _ h) [
-      inl r ↦ last_of count s b (return_in s (left _ _ r)) (no_stm_of b (right (is_thin_return s) _ r))
-    | inr r ↦ test_then count s b (test_in count s (left _ _ r)) (end_in count b (right (is_thin_if count s) _ r))
+      | inl r ↦ last_of count s b (return_in s (left _ _ r)) (no_stm_of b (right (is_thin_return s) _ r))
+      | inr r ↦ test_then count s b (test_in count s (left _ _ r)) (end_in count b (right (is_thin_if count s) _ r))
     ]
 
 pub block_in : (count n k : ℕ) (b : Stms) → is_thin_block count n k b ≡ true → IsThinBlock count n k b

@@ -1,5 +1,5 @@
 -- One program for each way in which a part of the invariant holds or fails.
-use Rattle.std.specs.Prelude.{◌≡◌, ℕ, ◌+◌, pos, Bool, true, false, List, [], ◌∷◌, Option, Some, None}
+use Rattle.std.specs.Prelude.{◌≡◌, ℕ, ◌+◌, pos, Bool, true, false, List, [], ◌∷◌, Some, None}
 use Rattle.c_core.specs.Tree as t
 use Rattle.c_core.specs.Parts.{spot_of}
 use Rattle.c_core.specs.Program.{objects_fit, cells_fit, objects_rise, names_in_place, starts_fit, starts_differ, has_main, params_fit, types_fit, names_known, owned_once, names_in_reach, blocks_fit, jumps_fit, places_rise}

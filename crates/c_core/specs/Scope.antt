@@ -1,9 +1,8 @@
 -- Which objects an expression may name, where each is declared, and where statements may stand (C11 6.2.1, 6.8).
 use Rattle.std.specs.Prelude.{ℕ, suc, nat_eq, Bool, true, false, cond, not, ◌&&◌, ◌||◌, List, [], ◌∷◌, ◌++◌, Option, Some, None, is_some, slice_get}
-use Rattle.std.specs.List.{list_all, list_any}
+use Rattle.std.specs.List.{list_all, list_any, flat_map}
 use Rattle.c_core.specs.Tree.{Exp, Expr, Node, Var, Index, Names, NoName, MoreName, First, NoFirst, FirstExp, FirstNames, Stm, Stmt, Form, Empty, Do, Declare, Block, If, While, DoWhile, For, Break, Continue, Return, Label, Else, NoElse, OrElse, Stms, NoStm, MoreStm, Function, Program}
-use Rattle.c_core.specs.Parts.{exp_if, every_exp, every_statement, fulls_of_init, objects_of_first, declared_by, declared_in, same_spot}
-use Rattle.c_core.specs.declared.number.Spot.{Spot}
+use Rattle.c_core.specs.Parts.{exp_if, every_exp, every_statement, fulls_of_init, objects_of_first, declared_by, names_in, objects_of}
 use Rattle.c_core.specs.declared.tree.Object.{Object}
 
 abbrev pub is_in : ℕ → List ℕ → Bool
@@ -23,12 +22,7 @@ is_fixed p o = is_fixed_object (slice_get p.objects o)
 
 -- the parameters and declared names of functions
 abbrev pub owned_by : List Function → List ℕ
-owned_by [] = []
-owned_by (f ∷ fs) = (f.params ++ declared_in f.body) ++ owned_by fs
-
-abbrev pub stands_at : Spot → Option Object → Bool
-stands_at spot None = false
-stands_at spot (Some o) = same_spot o.spot spot
+owned_by fs = flat_map (λ f. f.params ++ objects_of (names_in f.body)) fs
 
 -- where objects in reach are listed, innermost last, and those of static storage always are
 module _ (p : Program) where
@@ -94,27 +88,6 @@ module _ (p : Program) where
 
   abbrev pub is_object : ℕ → Bool
   is_object o = is_some (slice_get p.objects o)
-
-  -- a declared name stands where its object does
-  abbrev pub declarators_stand : Names → Bool
-  declarators_stand NoName = true
-  declarators_stand (MoreName spot o i ns) = stands_at spot (slice_get p.objects o) && declarators_stand ns
-
-  abbrev pub first_stands : First → Bool
-  first_stands NoFirst = true
-  first_stands (FirstExp e) = true
-  first_stands (FirstNames ns) = declarators_stand ns
-
-  abbrev pub form_stands : Form → Bool
-  form_stands (Declare ns) = declarators_stand ns
-  form_stands (For i e s b) = first_stands i
-  form_stands _ = true
-
-  abbrev pub statement_stands : Stm → Bool
-  statement_stands (Stmt at f) = form_stands f
-
-  abbrev pub function_stands : Function → Bool
-  function_stands f = every_statement statement_stands f.body
 
 abbrev pub is_declare_form : Form → Bool
 is_declare_form (Declare ns) = true
