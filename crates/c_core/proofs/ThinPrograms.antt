@@ -7,7 +7,7 @@ use Rattle.std.proofs.Math.Bool.{or-true}
 use Rattle.std.specs.List.{list_all, range_with_len, sum_by}
 use Rattle.c_core.specs.Tree.{Exp, One, Stm, Stmt, Form, Block, Stms, Function, Program}
 use Rattle.c_core.specs.Parts.{is_empty, same_spot, every_statement_of, names_in_block, names_of_program, spots_of_names, objects_of}
-use Rattle.c_core.specs.Thin.{is_int, has_type_int, is_thin_object, is_thin_objects, is_ilp32, is_unreach_call, is_thin_body, is_body_form, is_thin_main, is_thin_functions, is_thin}
+use Rattle.c_core.specs.Thin.{is_int, has_type_int, is_thin_object, is_thin_objects, is_ilp32, is_unreach_call, is_thin_body, is_body_form, is_thin_main, is_thin_functions, is_thin, IsPlaced}
 use Rattle.c_core.specs.Typing.{same_type, is_scalar, has_value, init_fits, statement_fits}
 use Rattle.c_core.specs.Scope.{is_in, times_in, is_fixed_object, is_fixed, is_reached, is_object, is_owned_once, block_reaches, statement_nests, block_jumps}
 use Rattle.c_core.specs.Program.{IsProgram, stands_at, object_fits, places_rise}
@@ -219,8 +219,7 @@ thin_of m property os at b = with_body m property os (Stmt at (Block b))
 
 module _ (m : DataModel) (property : Property) (os : List Object) (at : Spot) (b : Stms)
     (thin : is_thin_objects os ≡ true) (shape : IsThinBlock (length os) (length os) 0 b)
-    (in_order : places_rise (thin_of m property os at b) ≡ true)
-    (placed_so : spots_of_objects os ≡ spots_of_names (names_of_program (thin_of m property os at b))) (few : length os ≤ 100000) where
+    (places : IsPlaced (thin_of m property os at b)) where
   abbrev thin_program : Program
   thin_program = thin_of m property os at b
 
@@ -228,19 +227,19 @@ module _ (m : DataModel) (property : Property) (os : List Object) (at : Spot) (b
   owned_so = append-nil (objects_of (names_in_block b)) ∙ declared_block (length os) (length os) 0 b shape
 
   named_so : spots_of_objects os ≡ spots_of_names (names_in_block b)
-  named_so = placed_so ∙ ap spots_of_names (append-nil (names_in_block b))
+  named_so = places.named ∙ ap spots_of_names (append-nil (names_in_block b))
 
   numbered_so : rises (spots_of_objects os) ≡ true
   numbered_so =
       rises-part _ _
       (let P : List Spot → Type 0 = λ spots. IsPart spots (at ∷ spots_of_block b ++ []) in
       subst P (sym named_so) (skips at _ _ (part_front _ _ [] (names_in_order (length os) (length os) 0 b shape))))
-      in_order
+      places.in_order
 
   checked_thin_of : IsProgram thin_program
   checked_thin_of = record {
     objects = objects_fit-thin os thin;
-    cells = le-leb _ _ (let all = cells_of_all os thin in omega (arith, all, few));
+    cells = le-leb _ _ (let all = cells_of_all os thin in let few : length os ≤ 100000 = places.few in omega (arith, all, few));
     numbered = numbered_so;
     named = rw (append-nil (names_in_block b)) (stands_block os (length os) (length os) 0 b shape (λ j. ap (λ i. slice_get (spots_of_objects os) i) (zero-add j) ∙ ap (λ spots. slice_get spots j) named_so));
     starts = refl;
@@ -253,41 +252,36 @@ module _ (m : DataModel) (property : Property) (os : List Object) (at : Spot) (b
     reach = rw (reach_block thin_program thin [] (length os) 0 b shape (add-zero (length os)) (λ o h. absurd (omega arith))) refl;
     blocks = rw (nests_block (length os) (length os) 0 b shape) refl;
     jumps = rw (jumps_block (length os) (length os) 0 b shape) refl;
-    in_order = in_order;
+    in_order = places.in_order;
   }
 
 checked_form : (m : DataModel) (property : Property) (os : List Object) (at : Spot) (f : Form)
-    → is_thin_objects os ≡ true → is_body_form (length os) f ≡ true
-    → places_rise (with_body m property os (Stmt at f)) ≡ true → spots_of_objects os ≡ spots_of_names (names_of_program (with_body m property os (Stmt at f))) → length os ≤ 100000
-    → IsProgram (with_body m property os (Stmt at f))
-checked_form m property os at (Block b) thin shape in_order placed_so few =
-    checked_thin_of m property os at b thin (block_in (length os) (length os) 0 b shape) in_order placed_so few
-checked_form m property os at _ thin shape in_order placed_so few = absurd (false≢true shape)
+  → is_thin_objects os ≡ true → is_body_form (length os) f ≡ true
+  → IsPlaced (with_body m property os (Stmt at f)) → IsProgram (with_body m property os (Stmt at f))
+checked_form m property os at (Block b) thin shape = checked_thin_of m property os at b thin (block_in (length os) (length os) 0 b shape)
+checked_form m property os at _ thin shape = absurd (false≢true shape)
 
 checked_body : (m : DataModel) (property : Property) (os : List Object) (body : Stm)
-    → is_thin_objects os ≡ true → is_thin_body (length os) body ≡ true
-    → places_rise (with_body m property os body) ≡ true → spots_of_objects os ≡ spots_of_names (names_of_program (with_body m property os body)) → length os ≤ 100000
-    → IsProgram (with_body m property os body)
+  → is_thin_objects os ≡ true → is_thin_body (length os) body ≡ true
+  → IsPlaced (with_body m property os body) → IsProgram (with_body m property os body)
 checked_body m property os (Stmt at f) = checked_form m property os at f
 
-checked_result : (m : DataModel) (property : Property) (os : List Object) (starts : List Start) (result : Option IntType) (params : List ℕ) (body : Stm) (main : ℕ)
-    → is_thin_objects os ≡ true → IsIntType result → is_empty starts ≡ true → is_empty params ≡ true → main ≡ 0 → is_thin_body (length os) body ≡ true
-    → places_rise (with_function m property os starts result params body main) ≡ true
-    → spots_of_objects os ≡ spots_of_names (names_of_program (with_function m property os starts result params body main)) → length os ≤ 100000
-    → IsProgram (with_function m property os starts result params body main)
-checked_result m property os [] _ [] body zero thin int_type s q n shape = checked_body m property os body thin shape
-checked_result m property os [] _ [] body (suc k) thin int_type s q n shape = absurd (omega arith)
-checked_result m property os [] _ (o ∷ params) body main thin int_type s q n shape = absurd (false≢true q)
-checked_result m property os (start ∷ starts) _ params body main thin int_type s q n shape = absurd (false≢true s)
+checked_function : (m : DataModel) (property : Property) (os : List Object) (starts : List Start) (result : Option IntType) (params : List ℕ) (body : Stm) (main : ℕ)
+  → is_thin_objects os ≡ true → IsIntType result → is_empty starts ≡ true → is_empty params ≡ true → main ≡ 0 → is_thin_body (length os) body ≡ true
+  → IsPlaced (with_function m property os starts result params body main) → IsProgram (with_function m property os starts result params body main)
+checked_function m property os [] _ [] body zero thin int_type s q n shape = checked_body m property os body thin shape
+checked_function m property os [] _ [] body (suc k) thin int_type s q n shape = absurd (omega arith)
+checked_function m property os [] _ (o ∷ params) body main thin int_type s q n shape = absurd (false≢true q)
+checked_function m property os (start ∷ starts) _ params body main thin int_type s q n shape = absurd (false≢true s)
+
+abbrev with_functions : DataModel → Property → List Object → List Start → List Function → ℕ → Program
+with_functions m property os starts fs main = record { model = m; property = property; objects = os; starts = starts; functions = fs; main = main }
 
 checked_functions : (m : DataModel) (property : Property) (os : List Object) (starts : List Start) (fs : List Function) (main : ℕ)
-    → is_thin (record { model = m; property = property; objects = os; starts = starts; functions = fs; main = main }) ≡ true
-    → places_rise (record { model = m; property = property; objects = os; starts = starts; functions = fs; main = main }) ≡ true
-    → spots_of_objects os ≡ spots_of_names (names_of_program (record { model = m; property = property; objects = os; starts = starts; functions = fs; main = main }))
-    → length os ≤ 100000
-    → IsProgram (record { model = m; property = property; objects = os; starts = starts; functions = fs; main = main })
+  → is_thin (with_functions m property os starts fs main) ≡ true
+  → IsPlaced (with_functions m property os starts fs main) → IsProgram (with_functions m property os starts fs main)
 checked_functions m property os starts [] main h =
-    let rest = right (is_thin_objects os && is_empty starts) _ (right (is_ilp32 m && is_unreach_call property) _ h) in absurd (false≢true rest)
+    absurd (false≢true (right (is_thin_objects os && is_empty starts) _ (right (is_ilp32 m && is_unreach_call property) _ h)))
 checked_functions m property os starts (f ∷ g ∷ fs) main h =
     let rest = right (is_thin_objects os && is_empty starts) _ (right (is_ilp32 m && is_unreach_call property) _ h) in
     absurd (false≢true (right (is_thin_main (length os) f) _ (left _ _ rest)))
@@ -297,10 +291,10 @@ checked_functions m property os starts (f ∷ []) main h =
     let rest = right (is_thin_objects os && is_empty starts) _ parts in
     let whole = left _ _ (left _ _ rest) in
     let more = right (has_type_int f.result) _ whole in
-    checked_result m property os starts f.result f.params f.body main
-    (left _ _ objects) (int_of f.result (left _ _ whole)) (right (is_thin_objects os) _ objects) (left _ _ more)
-    (eqb-true main 0 (right (is_thin_functions (length os) (f ∷ [])) _ rest)) (right (is_empty f.params) _ more)
+    checked_function m property os starts f.result f.params f.body main
+      (left _ _ objects) (int_of f.result (left _ _ whole)) (right (is_thin_objects os) _ objects) (left _ _ more)
+      (eqb-true main 0 (right (is_thin_functions (length os) (f ∷ [])) _ rest)) (right (is_empty f.params) _ more)
 
--- a thin program whose places follow the order of the text, and whose objects stand where their names do, is a checked program
-pub checked_thin : (p : Program) → is_thin p ≡ true → places_rise p ≡ true → spots_of_objects p.objects ≡ spots_of_names (names_of_program p) → length p.objects ≤ 100000 → IsProgram p
+-- a thin program is a checked program, where its places are as they should
+pub checked_thin : (p : Program) → is_thin p ≡ true → IsPlaced p → IsProgram p
 checked_thin p = checked_functions p.model p.property p.objects p.starts p.functions p.main

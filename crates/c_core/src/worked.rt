@@ -1,10 +1,8 @@
 // Worked programs, as laws of the definitions.
-ghost use Rattle.std.specs.Prelude.{◌≡◌, ◌≤◌, true, length};
+ghost use Rattle.std.specs.Prelude.{◌≡◌, true};
 ghost use Rattle.c_core.specs.Tree as t;
-ghost use Rattle.c_core.specs.Thin.{is_thin};
-ghost use Rattle.c_core.specs.Parts.{names_of_program, spots_of_names};
-ghost use Rattle.c_core.specs.TextOrder.{spots_of_objects};
-ghost use Rattle.c_core.specs.Program.{IsProgram, places_rise};
+ghost use Rattle.c_core.specs.Thin.{IsPlaced, is_thin};
+ghost use Rattle.c_core.specs.Program.{IsProgram};
 ghost use Rattle.c_core.specs.JudgedPrograms.{JudgedPrograms};
 ghost use Rattle.c_core.specs.WorkedPlaces.{WorkedPlaces};
 
@@ -18,7 +16,7 @@ fn worked_places()
 
 // A thin program whose places follow the order of the text is a checked program.
 fn thin_programs()
-    ensures { (p : t.Program) → is_thin p ≡ true → places_rise p ≡ true → spots_of_objects p.objects ≡ spots_of_names (names_of_program p) → length p.objects ≤ 100000 → IsProgram p }
+    ensures { (p : t.Program) → is_thin p ≡ true → IsPlaced p → IsProgram p }
 {}
 
 #[test]
