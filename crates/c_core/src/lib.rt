@@ -10,6 +10,8 @@ mod program;
 mod tests;
 mod tree;
 mod types;
+#[cfg(test)]
+mod worked;
 
 pub use laws::{conversions_settle, wider_types_keep};
 pub use number::{BinOp, DataModel, Done, IntType, Property, Spot, StepOp, UnOp};
