@@ -131,4 +131,5 @@ module _ (p : Program) (w : ThinWitness) (es : List Seen) (same : (e : Event) (c
 pub decides : (p : Program) (w : ThinWitness) (es : List Seen) → TrackingDecides p w es
 decides p w es same =
     let start : Tracks p w es same (tracking w) 0 = record { witness = refl; counted = refl; first = λ k lt. absurd (omega arith); last = λ k is_last. absurd (omega arith) } in
-    answers p w es same (after_all es (tracking w)) (tracked p w es same es 0 (tracking w) (λ j. ap (λ n. slice_get es n) (zero-add j)) start)
+    let end = tracked p w es same es 0 (tracking w) (λ j. ap (λ n. slice_get es n) (zero-add j)) start in
+    answers p w es same (after_all es (tracking w)) (subst (λ n. Tracks p w es same (after_all es (tracking w)) n) (zero-add (length es)) end)
