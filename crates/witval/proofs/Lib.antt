@@ -6,3 +6,4 @@ pub mod Judged
 pub mod Tested
 pub mod ThinParts
 pub mod ThinTracked
+pub mod ThinJudged

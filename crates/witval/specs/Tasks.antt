@@ -7,6 +7,7 @@ use Rattle.wv_report.specs.declared.reply.Reply.{Reply}
 use Rattle.wv_report.specs.declared.reply.Reply.TheVariants.{Verdict as Judged, Refused, ReadFault}
 use Rattle.witval.specs.Points.{BoundSegment}
 use Rattle.witval.specs.Verdicts.{IsRightOnViolation, IsConfirmed}
+use Rattle.witval.specs.Budget.{steps}
 use Rattle.witval.specs.ThinProperty.{is_unreach_text}
 use Rattle.witval.specs.ThinProgram.{thin_program}
 use Rattle.witval.specs.ThinWitness.{thin_witness}
@@ -32,10 +33,6 @@ task_of program property witness = if is_unreach_text property then task_with pr
 
 abbrev pub unbuilt : List ℕ
 unbuilt = codes "unbuilt"
-
--- the default budget of steps
-abbrev pub steps : ℕ
-steps = 10000000
 
 -- a verdict that is right on the given run, and that shows such values where it confirms
 pub record IsRightVerdict (p : tree.Program) (ss : List BoundSegment) (verdict : Verdict) : Type 0 where

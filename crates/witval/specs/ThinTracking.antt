@@ -7,11 +7,20 @@ use Rattle.c_core.specs.declared.number.IntType.TheVariants.{Int}
 use Rattle.c_core.specs.declared.number.DataModel.TheVariants.{Ilp32}
 use Rattle.c_meaning.specs.declared.run.Event.{Event}
 use Rattle.c_meaning.specs.declared.run.Event.TheVariants as event
+use Rattle.c_meaning.specs.declared.run.End.{End}
+use Rattle.c_meaning.specs.declared.run.End.TheVariants as end
+use Rattle.c_meaning.specs.declared.run.Run.{Run as GivenRun}
+use Rattle.c_meaning.specs.declared.verdict.Verdict.{Verdict}
+use Rattle.c_meaning.specs.declared.verdict.Verdict.TheVariants.{ViolationNot, Undecided}
+use Rattle.c_meaning.specs.declared.verdict.Reason.TheVariants.{Ended, Undefined}
+use Rattle.c_meaning.specs.declared.verdict.Cause.TheVariants.{Steps, Cells}
 use Rattle.c_meaning.specs.Cells.{Cell}
 use Rattle.c_meaning.specs.Objects.{same_spot}
 use Rattle.witval.specs.Points.{Point, Return, Target, At}
 use Rattle.witval.specs.Passing.{passes, aims_if}
 use Rattle.witval.specs.Matching.{Seen, Finds}
+use Rattle.witval.specs.Verdicts.{verdict_at}
+use Rattle.witval.specs.Budget.{steps}
 use Rattle.witval.specs.ThinPlaces.{segments_of, returns_value}
 use Rattle.witval.specs.declared.thin.tracker.Tracker.{Tracker}
 use Rattle.witval.specs.declared.thin.witness.ThinWitness.{ThinWitness}
@@ -58,6 +67,17 @@ positions_if true (Some first) count = Some (first ∷ (count - 1) ∷ [])
 -- the first event at which the call returned the value, and the last event, where that is the violation at the target
 abbrev pub positions_of : Tracker → Option (List ℕ)
 positions_of t = positions_if t.violated t.returned t.count
+
+-- the verdict by a run and what was kept of its events
+abbrev pub verdict_by_end : End → GivenRun → Tracker → Verdict
+verdict_by_end (end.Violated spot) r t = verdict_at r (positions_of t)
+verdict_by_end end.Ended r t = ViolationNot Ended r.unfixed
+verdict_by_end (end.Undefined spot) r t = ViolationNot (Undefined spot) r.unfixed
+verdict_by_end end.Spent r t = Undecided (Steps steps)
+verdict_by_end end.Deep r t = Undecided Cells
+
+abbrev pub verdict_by : GivenRun → Tracker → Verdict
+verdict_by r t = verdict_by_end r.end r t
 
 -- an event passes the first waypoint where the call came back with the value
 abbrev pub ReturnsAsInt : Program → ThinWitness → Type 0

@@ -1,0 +1,24 @@
+ghost use Rattle.std.specs.Prelude.{◌≡◌, OnOk, OnErr};
+
+use crate::memory::Memory;
+use crate::run::Event;
+use wv_base::OutOfMemory;
+
+/// Whoever sees the events of a run.
+pub trait Watcher {
+    ghost use Rattle.std.specs.Prelude.{List};
+    ghost use Rattle.c_meaning.specs.Cells.{Cell};
+    ghost use Rattle.c_meaning.specs.declared.run.Event.{Event};
+
+    /// What contracts see of a watcher.
+    ghost Seen: { Type 0 };
+
+    ghost seen: { Self → Seen };
+
+    /// What follows at an event with the live cells of that moment.
+    ghost after: { Event → List Cell → Seen → Seen };
+
+    fn see(&mut self, event: Event, memory: &Memory) -> Result<(), OutOfMemory>
+        ensures ok { OnOk result (seen self.new ≡ after event memory.now.cells (seen self.old)) }
+        ensures refused { OnErr result (seen self.new ≡ seen self.old) };
+}
