@@ -3,3 +3,4 @@ mod ExampleVerdicts
 pub mod Judged
 pub mod Tested
 pub mod ThinParts
+pub mod TokenSteps

@@ -16,3 +16,4 @@ pub mod Inputs
 pub mod Tasks
 pub mod Replies
 pub mod Running
+pub mod ThinTokens

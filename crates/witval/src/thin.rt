@@ -3,6 +3,7 @@
 mod characters;
 mod property;
 mod stub;
+mod tokens;
 mod witness;
 
 pub use property::is_unreach;
