@@ -4,3 +4,4 @@ pub mod Judged
 pub mod Tested
 pub mod ThinParts
 pub mod TokenSteps
+pub mod GrammarSteps

@@ -17,3 +17,4 @@ pub mod Tasks
 pub mod Replies
 pub mod Running
 pub mod ThinTokens
+pub mod ThinGrammar

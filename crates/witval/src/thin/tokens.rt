@@ -56,7 +56,7 @@ fn length_at_front(bytes: &[u8]) -> usize
 pub const LONGEST: usize = 1048576;
 
 /// The tokens of a text in their order.
-pub fn tokens<'a>(alloc: Global, bytes: &'a [u8]) -> Result<Vec<Token<'a>>, OutOfMemory>
+pub fn read_tokens<'a>(alloc: Global, bytes: &'a [u8]) -> Result<Vec<Token<'a>>, OutOfMemory>
     requires { length bytes.now ≤ LONGEST }
     ensures { IfOk result (λ tokens. tokens.items ≡ tokens_of bytes.now) }
 {

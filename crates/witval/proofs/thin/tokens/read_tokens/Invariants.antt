@@ -1,7 +1,7 @@
 -- The tokens of the whole are those read and those of the rest, and places are no larger than the text.
 use Rattle.std.proofs.Common.{◌≡◌, ◌+◌, ◌≤◌, ◌++◌, length}
 use Rattle.witval.specs.ThinTokens.{tokens_from, tokens_of}
-use Rattle.witval.proofs.thin.tokens.tokens.Given as goal
+use Rattle.witval.proofs.thin.tokens.read_tokens.Given as goal
 
 abbrev pub invariant-loop-rest : goal.invariant-loop-rest
 invariant-loop-rest l = record {

@@ -2,7 +2,7 @@ use Rattle.std.proofs.Common.{rules, ◌≡◌, ℕ, ◌+◌, ◌<◌, ◌≤◌
 use Rattle.std.proofs.lemmas.List.{take_rest}
 use Rattle.witval.specs.ThinTokens.{TokenAt, tokens_from, tokens_of}
 use Rattle.witval.proofs.TokenSteps.{tokens_from-token, one_more}
-use Rattle.witval.proofs.thin.tokens.tokens.Goals as goal
+use Rattle.witval.proofs.thin.tokens.read_tokens.Goals as goal
 
 pub loop-rest-preserved : goal.loop-rest-preserved
 loop-rest-preserved c =
