@@ -1,13 +1,13 @@
--- Productions at the front of tokens.
+-- Phrases at the front of tokens.
 use Rattle.std.proofs.Common.{◌≡◌, ℕ, ◌+◌, ◌-◌, ◌*◌, ◌<◌, ◌≤◌, zero, suc, List, [], ◌∷◌, length, take, drop, get_or, if◌then◌else◌, Option, Some, None, Bool, true, false, ◌&&◌, ◌||◌, refl, sym, ◌∙◌, ap, subst, arith, add-one, drop-cons}
 use Rattle.std.proofs.lemmas.List.{take_rest}
 use Rattle.std.specs.Str.{bytes_eq}
 use Rattle.std.specs.Bool.{then_some}
 use Rattle.witval.specs.declared.thin.grammar.Layout.{Layout}
-use Rattle.witval.specs.declared.thin.grammar.Production.{Production}
-use Rattle.witval.specs.declared.thin.grammar.Production.TheVariants.{Opening, Declaration, Test, Closing}
-use Rattle.witval.specs.ThinTokens.{TokenAt}
-use Rattle.witval.specs.ThinGrammar.{declaration_start, is_free, is_whole, layout_of, one_more_if, size_of, spells, test_start, times, times_within, tokens_in}
+use Rattle.witval.specs.declared.thin.grammar.Phrase.{Phrase}
+use Rattle.witval.specs.declared.thin.grammar.Phrase.TheVariants.{Opening, Declaration, Test, Closing, Reserved}
+use Rattle.witval.specs.ThinTokens.{TokenAt, tokens_of}
+use Rattle.witval.specs.ThinGrammar.{declaration_start, is_free, is_whole, layout_of, one_more_if, size_of, spells, test_start, text_of, times, times_within, tokens_in}
 
 -- a token is one that a production expects
 abbrev pub expects : TokenAt → TokenAt → Bool
@@ -72,9 +72,17 @@ layout-opened ts d e whole all ds es end =
     let end' : whole ≡ is_whole (tokens_in Closing) (drop (test_start d e) ts) = rw take_rest at end in
     rw (all, ← ds', ← es', ← end') refl
 
-pub length-tokens_in : (p : Production) → length (tokens_in p) ≡ size_of p
+pub length-tokens_in : (p : Phrase) → length (tokens_in p) ≡ size_of p
 unfolding tokens_in
 length-tokens_in Opening = refl
 length-tokens_in Declaration = refl
 length-tokens_in Test = refl
 length-tokens_in Closing = refl
+length-tokens_in Reserved = refl
+
+pub spelled : (p : Phrase) (text : List ℕ) (ts : List TokenAt) → text ≡ text_of p → ts ≡ tokens_of text → ts ≡ tokens_in p
+unfolding tokens_in
+spelled p text ts is read = read ∙ ap tokens_of is
+
+pub sized : (p : Phrase) (text : List ℕ) (ts : List TokenAt) → text ≡ text_of p → ts ≡ tokens_of text → length ts ≡ size_of p
+sized p text ts is read = ap length (spelled p text ts is read) ∙ length-tokens_in p

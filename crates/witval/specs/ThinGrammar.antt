@@ -6,27 +6,33 @@ use Rattle.std.specs.Str.{bytes_eq}
 use Rattle.c_core.specs.declared.number.Spot.{Spot}
 use Rattle.witval.specs.declared.thin.characters.Class.TheVariants.{Word}
 use Rattle.witval.specs.declared.thin.grammar.Layout.{Layout}
-use Rattle.witval.specs.declared.thin.grammar.Production.{Production}
-use Rattle.witval.specs.declared.thin.grammar.Production.TheVariants.{Opening, Declaration, Test, Closing}
+use Rattle.witval.specs.declared.thin.grammar.Phrase.{Phrase}
+use Rattle.witval.specs.declared.thin.grammar.Phrase.TheVariants.{Opening, Declaration, Test, Closing, Reserved}
 use Rattle.witval.specs.ThinCharacters.{in_class, is_digit, number_of}
 use Rattle.witval.specs.ThinTokens.{TokenAt, tokens_of}
 
--- `$` stands for a word or number
-abbrev pub text_of : Production → List ℕ
+-- phrases of the grammar; `$` stands for a word or number
+abbrev pub text_of : Phrase → List ℕ
 text_of Opening = codes "void reach_error() { } int __VERIFIER_nondet_int(); int main() {"
 text_of Declaration = codes "int $ = __VERIFIER_nondet_int();"
 text_of Test = codes "if ($ == $) { reach_error(); }"
 text_of Closing = codes "return 0; }"
+-- ISO C11 6.4.1, and the functions of a thin program
+text_of Reserved =
+    codes "auto break case char const continue default do double else enum extern float for goto if inline int long register restrict return short "
+    ++ codes "signed sizeof static struct switch typedef union unsigned void volatile while _Alignas _Alignof _Atomic _Bool _Complex _Generic "
+    ++ codes "_Imaginary _Noreturn _Static_assert _Thread_local reach_error __VERIFIER_nondet_int main"
 
-unfoldable pub tokens_in : Production → List TokenAt
+unfoldable pub tokens_in : Phrase → List TokenAt
 tokens_in p = tokens_of (text_of p)
 
 -- how many tokens a production has
-abbrev pub size_of : Production → ℕ
+abbrev pub size_of : Phrase → ℕ
 size_of Opening = 16
 size_of Declaration = 7
 size_of Test = 12
 size_of Closing = 4
+size_of Reserved = 47
 
 -- `$`
 abbrev pub is_free : TokenAt → Bool
@@ -83,31 +89,14 @@ spot_at ts k = (get_or ts k no_token).spot
 abbrev pub names_of : List TokenAt → ℕ → List (List ℕ)
 names_of ts declarations = map (λ k. text_at ts (declaration_start k + 1)) (range_with_len 0 declarations)
 
--- ISO C11 6.4.1
-abbrev pub keywords : List (List ℕ)
-keywords =
-    codes "auto" ∷ codes "break" ∷ codes "case" ∷ codes "char" ∷ codes "const" ∷ codes "continue" ∷ codes "default" ∷ codes "do" ∷ codes "double" ∷
-    codes "else" ∷ codes "enum" ∷ codes "extern" ∷ codes "float" ∷ codes "for" ∷ codes "goto" ∷ codes "if" ∷ codes "inline" ∷ codes "int" ∷ codes "long" ∷
-    codes "register" ∷ codes "restrict" ∷ codes "return" ∷ codes "short" ∷ codes "signed" ∷ codes "sizeof" ∷ codes "static" ∷ codes "struct" ∷
-    codes "switch" ∷ codes "typedef" ∷ codes "union" ∷ codes "unsigned" ∷ codes "void" ∷ codes "volatile" ∷ codes "while" ∷ codes "_Alignas" ∷
-    codes "_Alignof" ∷ codes "_Atomic" ∷ codes "_Bool" ∷ codes "_Complex" ∷ codes "_Generic" ∷ codes "_Imaginary" ∷ codes "_Noreturn" ∷
-    codes "_Static_assert" ∷ codes "_Thread_local" ∷ []
-
--- the functions of a thin program
-abbrev pub function_names : List (List ℕ)
-function_names = codes "reach_error" ∷ codes "__VERIFIER_nondet_int" ∷ codes "main" ∷ []
-
-abbrev pub is_among : List (List ℕ) → List ℕ → Bool
-is_among words w = list_any (λ v. bytes_eq w v) words
-
 -- letters, digits and `_`, the first no digit
 abbrev pub is_word : List ℕ → Bool
 is_word [] = false
 is_word (c ∷ w) = not (is_digit c) && list_all (in_class Word) (c ∷ w)
 
--- a name that may be declared
+-- a word that may be declared: no keyword, and no name of a function
 abbrev pub is_name : List ℕ → Bool
-is_name w = is_word w && not (is_among keywords w) && not (is_among function_names w)
+is_name w = is_word w && not (list_any (λ t. bytes_eq w t.text) (tokens_in Reserved))
 
 -- the number of the object with this name, where names are counted from k
 abbrev pub object_from : ℕ → List (List ℕ) → List ℕ → Option ℕ

@@ -7,32 +7,40 @@ use c_core::Spot;
 use std::alloc::Global;
 use wv_base::OutOfMemory;
 
-/// A thin program is the opening, declarations, tests and the closing.
+// ISO C11 6.4.1, and the functions of a thin program.
+const RESERVED: &[u8] = b"auto break case char const continue default do double else enum extern \
+float for goto if inline int long register restrict return short signed sizeof static struct \
+switch typedef union unsigned void volatile while _Alignas _Alignof _Atomic _Bool _Complex \
+_Generic _Imaginary _Noreturn _Static_assert _Thread_local reach_error __VERIFIER_nondet_int main";
+
+/// A thin program is the opening, declarations, tests and the closing; reserved words are no names.
 #[derive(Clone, Copy)]
-pub enum Production {
+pub enum Phrase {
     Opening,
     Declaration,
     Test,
     Closing,
+    Reserved,
 }
 
-impl Production {
+impl Phrase {
     /// Its tokens as text; `$` stands for a word or number.
     fn text(self) -> &'static [u8]
         ensures text { result.now ≡ text_of self }
-        ensures short { length result.now ≤ 64 }
+        ensures short { length result.now ≤ 512 }
     {
         match self {
-            Production::Opening => {
+            Phrase::Opening => {
                 b"void reach_error() { } int __VERIFIER_nondet_int(); int main() {".as_slice()
             }
-            Production::Declaration => b"int $ = __VERIFIER_nondet_int();".as_slice(),
-            Production::Test => b"if ($ == $) { reach_error(); }".as_slice(),
-            Production::Closing => b"return 0; }".as_slice(),
+            Phrase::Declaration => b"int $ = __VERIFIER_nondet_int();".as_slice(),
+            Phrase::Test => b"if ($ == $) { reach_error(); }".as_slice(),
+            Phrase::Closing => b"return 0; }".as_slice(),
+            Phrase::Reserved => RESERVED,
         }
     }
 
-    fn tokens(self, alloc: Global) -> Result<Vec<Token<'static>>, OutOfMemory>
+    pub fn tokens(self, alloc: Global) -> Result<Vec<Token<'static>>, OutOfMemory>
         ensures tokens { IfOk result (λ tokens. tokens.items ≡ tokens_in self) }
         ensures size { IfOk result (λ tokens. length tokens.items ≡ size_of self) }
     {
@@ -129,15 +137,15 @@ pub fn find_layout(alloc: Global, tokens: &[Token]) -> Result<Option<Layout>, Ou
     requires { length tokens.now < 2 ^ 32 }
     ensures { IfOk result (λ layout. layout ≡ layout_of tokens.now) }
 {
-    let opening = Production::Opening.tokens(alloc)?;
+    let opening = Phrase::Opening.tokens(alloc)?;
     if !begins_with(tokens, &opening) {
         return Ok(None);
     }
-    let declaration = Production::Declaration.tokens(alloc)?;
+    let declaration = Phrase::Declaration.tokens(alloc)?;
     let declarations = repetitions(&tokens[declaration_at(0)..], &declaration);
-    let test = Production::Test.tokens(alloc)?;
+    let test = Phrase::Test.tokens(alloc)?;
     let tests = repetitions(&tokens[declaration_at(declarations)..], &test);
-    let closing = Production::Closing.tokens(alloc)?;
+    let closing = Phrase::Closing.tokens(alloc)?;
     let fits = is_exactly(&tokens[test_at(declarations, tests)..], &closing);
     let layout = Layout {
         declarations,

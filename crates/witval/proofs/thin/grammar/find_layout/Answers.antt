@@ -1,5 +1,5 @@
 use Rattle.std.proofs.Common.{rules, ◌≡◌, ℕ, ◌+◌, true, false}
-use Rattle.witval.specs.declared.thin.grammar.Production.TheVariants.{Opening, Declaration, Test, Closing}
+use Rattle.witval.specs.declared.thin.grammar.Phrase.TheVariants.{Opening, Declaration, Test, Closing}
 use Rattle.witval.specs.ThinGrammar.{declaration_start, is_whole, layout_of, spells, test_start, times, tokens_in}
 use Rattle.witval.proofs.GrammarSteps.{from, layout-opened, layout-unopened}
 use Rattle.witval.proofs.thin.grammar.find_layout.Goals as goal
