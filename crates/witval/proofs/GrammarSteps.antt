@@ -27,7 +27,11 @@ spells-first p i x [] t within is some first = absurd (omega arith)
 spells-first p i x (u ∷ ts) t within is some first =
     ap (λ q. spells q (u ∷ ts)) (drop-item p i x within is) ∙ ap (λ v. expects x v && spells (drop (i + 1) p) ts) (sym first)
 
-both_right : (a b : Bool) → (a && b) ≡ true → b ≡ true
+pub both_left : (a b : Bool) → (a && b) ≡ true → a ≡ true
+both_left true b both = refl
+both_left false b both = cc
+
+pub both_right : (a b : Bool) → (a && b) ≡ true → b ≡ true
 both_right true b both = both
 both_right false b both = cc
 

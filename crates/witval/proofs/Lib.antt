@@ -5,3 +5,4 @@ pub mod Tested
 pub mod ThinParts
 pub mod TokenSteps
 pub mod GrammarSteps
+pub mod NameSteps

@@ -18,3 +18,4 @@ pub mod Replies
 pub mod Running
 pub mod ThinTokens
 pub mod ThinGrammar
+pub mod ThinObjects

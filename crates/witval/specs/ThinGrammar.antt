@@ -1,5 +1,5 @@
 -- The grammar of thin programs, over tokens.
-use Rattle.std.specs.Prelude.{ℕ, ◌+◌, ◌*◌, zero, suc, List, [], ◌∷◌, ◌++◌, length, drop, get_or, map, Bool, true, false, ◌&&◌, ◌||◌, not, nat_eq, Option, Some, None, is_some, is_none, if◌then◌else◌, codes}
+use Rattle.std.specs.Prelude.{ℕ, ◌+◌, ◌*◌, zero, suc, List, [], ◌∷◌, ◌++◌, length, drop, get_or, slice_index, map, Bool, true, false, ◌&&◌, ◌||◌, not, nat_eq, Option, Some, None, is_some, is_none, if◌then◌else◌, codes}
 use Rattle.std.specs.List.{list_all, list_any, range_with_len}
 use Rattle.std.specs.Bool.{then_some}
 use Rattle.std.specs.Str.{bytes_eq}
@@ -91,8 +91,7 @@ names_of ts declarations = map (λ k. text_at ts (declaration_start k + 1)) (ran
 
 -- letters, digits and `_`, the first no digit
 abbrev pub is_word : List ℕ → Bool
-is_word [] = false
-is_word (c ∷ w) = not (is_digit c) && list_all (in_class Word) (c ∷ w)
+is_word text = not (nat_eq (length text) 0) && not (is_digit (slice_index text 0)) && list_all (in_class Word) text
 
 -- a word that may be declared: no keyword, and no name of a function
 abbrev pub is_name : List ℕ → Bool

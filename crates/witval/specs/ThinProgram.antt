@@ -1,5 +1,5 @@
 -- The tree of a thin program.
-use Rattle.std.specs.Prelude.{ℕ, pos, ◌+◌, List, [], ◌∷◌, ◌++◌, map, false, ◌&&◌, Option, Some, None, unwrap_or, if◌then◌else◌}
+use Rattle.std.specs.Prelude.{ℕ, pos, ◌+◌, List, [], ◌∷◌, ◌++◌, map, ◌&&◌, Option, Some, None, unwrap_or, if◌then◌else◌}
 use Rattle.std.specs.List.{range_with_len}
 use Rattle.c_core.specs.Tree as t
 use Rattle.c_core.specs.declared.number.IntType.TheVariants.{Int}
@@ -7,46 +7,38 @@ use Rattle.c_core.specs.declared.number.DataModel.TheVariants.{Ilp32}
 use Rattle.c_core.specs.declared.number.Property.TheVariants.{UnreachCall}
 use Rattle.c_core.specs.declared.number.BinOp.TheVariants.{Eq}
 use Rattle.c_core.specs.declared.tree.Callee.TheVariants.{Input, ReachError}
-use Rattle.c_core.specs.declared.tree.Object.{Object}
+use Rattle.c_core.specs.declared.number.Spot.{Spot}
 use Rattle.witval.specs.declared.thin.grammar.Layout.{Layout}
 use Rattle.witval.specs.ThinCharacters.{number_of}
 use Rattle.witval.specs.ThinTokens.{TokenAt, tokens_of}
+use Rattle.witval.specs.ThinObjects.{objects_of}
 use Rattle.witval.specs.ThinGrammar.{declaration_start, is_consistent, layout_of, names_of, object_of, spot_at, test_start, text_at}
 
--- an `int` of one cell
-abbrev pub object : List TokenAt → ℕ → Object
-object ts k = record {
-  name = text_at ts (declaration_start k + 1);
-  ty = Int;
-  cells = 1;
-  array = false;
-  fixed = false;
-  spot = spot_at ts (declaration_start k + 1);
-}
+-- `__VERIFIER_nondet_int()`
+abbrev pub input_tree : Spot → Spot → t.Exp
+input_tree spot close = t.Expr spot (Some Int) (t.Call (Input Int) t.NoExp close)
 
--- `int x = __VERIFIER_nondet_int();` at a token declares the object with this number
+-- `reach_error()`
+abbrev pub reach_tree : Spot → Spot → t.Exp
+reach_tree spot close = t.Expr spot None (t.Call ReachError t.NoExp close)
+
+-- `int x = __VERIFIER_nondet_int();` from a token on declares the object with this number
 abbrev pub declaration_tree : List TokenAt → ℕ → ℕ → t.Stm
-declaration_tree ts at k =
-    t.Stmt (spot_at ts at) (t.Declare (t.MoreName (spot_at ts (at + 1)) k
-        (t.One (t.Expr (spot_at ts (at + 3)) (Some Int) (t.Call (Input Int) t.NoExp (spot_at ts (at + 5))))) t.NoName))
+declaration_tree ts at o =
+    t.Stmt (spot_at ts at) (t.Declare (t.MoreName (spot_at ts (at + 1)) o (t.One (input_tree (spot_at ts (at + 3)) (spot_at ts (at + 5)))) t.NoName))
 
 -- `x == 5`
-abbrev pub comparison_tree : List TokenAt → ℕ → ℕ → ℕ → t.Exp
-comparison_tree ts at o n =
-    t.Expr (spot_at ts (at + 2)) (Some Int) (t.Binary Eq (t.Expr (spot_at ts (at + 2)) (Some Int) (t.Var o)) (t.Expr (spot_at ts (at + 4)) (Some Int) (t.Const (pos n))))
+abbrev pub comparison_tree : Spot → Spot → ℕ → ℕ → t.Exp
+comparison_tree left right o n = t.Expr left (Some Int) (t.Binary Eq (t.Expr left (Some Int) (t.Var o)) (t.Expr right (Some Int) (t.Const (pos n))))
 
 -- `{ reach_error(); }`
-abbrev pub arm_tree : List TokenAt → ℕ → t.Stm
-arm_tree ts at =
-    t.Stmt (spot_at ts (at + 6)) (t.Block (t.MoreStm (t.Stmt (spot_at ts (at + 7))
-        (t.Do (t.Expr (spot_at ts (at + 7)) None (t.Call ReachError t.NoExp (spot_at ts (at + 9)))))) t.NoStm))
+abbrev pub arm_tree : Spot → Spot → Spot → t.Stm
+arm_tree block call close = t.Stmt block (t.Block (t.MoreStm (t.Stmt call (t.Do (reach_tree call close))) t.NoStm))
 
--- `if (x == 5) { reach_error(); }` at a token
-abbrev pub test_tree : List (List ℕ) → List TokenAt → ℕ → t.Stm
-test_tree names ts at =
-    t.Stmt (spot_at ts at) (t.If
-        (comparison_tree ts at (unwrap_or (object_of names (text_at ts (at + 2))) 0) (unwrap_or (number_of (text_at ts (at + 4))) 0))
-        (arm_tree ts at) t.NoElse)
+-- `if (x == 5) { reach_error(); }` from a token on
+abbrev pub test_tree : List TokenAt → ℕ → ℕ → ℕ → t.Stm
+test_tree ts at o n =
+    t.Stmt (spot_at ts at) (t.If (comparison_tree (spot_at ts (at + 2)) (spot_at ts (at + 4)) o n) (arm_tree (spot_at ts (at + 6)) (spot_at ts (at + 7)) (spot_at ts (at + 9))) t.NoElse)
 
 -- `return 0;` at a token
 abbrev pub return_tree : List TokenAt → ℕ → t.Stm
@@ -56,11 +48,25 @@ abbrev pub block_of : List t.Stm → t.Stms
 block_of [] = t.NoStm
 block_of (s ∷ ss) = t.MoreStm s (block_of ss)
 
+-- the declaration with this number
+abbrev pub declaration_of : List TokenAt → ℕ → t.Stm
+declaration_of ts k = declaration_tree ts (declaration_start k) k
+
+-- the object and the constant that the test with this number compares
+abbrev pub compared_object : List TokenAt → ℕ → ℕ → ℕ
+compared_object ts declarations k = unwrap_or (object_of (names_of ts declarations) (text_at ts (test_start declarations k + 2))) 0
+
+abbrev pub compared_constant : List TokenAt → ℕ → ℕ → ℕ
+compared_constant ts declarations k = unwrap_or (number_of (text_at ts (test_start declarations k + 4))) 0
+
+-- the test with this number
+abbrev pub test_of : List TokenAt → ℕ → ℕ → t.Stm
+test_of ts declarations k = test_tree ts (test_start declarations k) (compared_object ts declarations k) (compared_constant ts declarations k)
+
 -- declarations, tests, `return 0;`
 abbrev pub statements_of : List TokenAt → Layout → List t.Stm
 statements_of ts layout =
-    (map (λ k. declaration_tree ts (declaration_start k) k) (range_with_len 0 layout.declarations)
-    ++ map (λ k. test_tree (names_of ts layout.declarations) ts (test_start layout.declarations k)) (range_with_len 0 layout.tests))
+    (map (declaration_of ts) (range_with_len 0 layout.declarations) ++ map (test_of ts layout.declarations) (range_with_len 0 layout.tests))
     ++ return_tree ts (test_start layout.declarations layout.tests) ∷ []
 
 abbrev pub main_tree : List TokenAt → Layout → t.Function
@@ -70,7 +76,7 @@ abbrev pub program_tree : List TokenAt → Layout → t.Program
 program_tree ts layout = record {
   model = Ilp32;
   property = UnreachCall;
-  objects = map (object ts) (range_with_len 0 layout.declarations);
+  objects = objects_of ts layout.declarations;
   starts = [];
   functions = main_tree ts layout ∷ [];
   main = 0;

@@ -2,6 +2,7 @@
 // of input calls and tests.
 mod characters;
 mod grammar;
+mod objects;
 mod property;
 mod stub;
 mod tokens;
