@@ -190,29 +190,54 @@ declared_by_form _ = []
 abbrev pub declared_by : Stm → List ℕ
 declared_by (Stmt at f) = declared_by_form f
 
--- the objects declared in a statement, in the order of the text
+-- a declared name: its place and its object
+pub record DeclaredName : Type 0 where
+  pub spot : Spot
+  pub object : ℕ
+
+abbrev pub names_of : Names → List DeclaredName
+names_of NoName = []
+names_of (MoreName spot o i ns) = record { spot = spot; object = o } ∷ names_of ns
+
+abbrev pub names_of_first : First → List DeclaredName
+names_of_first NoFirst = []
+names_of_first (FirstExp e) = []
+names_of_first (FirstNames ns) = names_of ns
+
+-- the names declared in a statement, in the order of the text
 abbrev mutual
-  pub declared_in : Stm → List ℕ
-  declared_in (Stmt at f) = declared_in_form f
+  pub names_in : Stm → List DeclaredName
+  names_in (Stmt at f) = names_in_form f
 
-  pub declared_in_form : Form → List ℕ
-  declared_in_form Empty = []
-  declared_in_form (Do e) = []
-  declared_in_form (Declare ns) = objects_of_names ns
-  declared_in_form (Block b) = declared_in_block b
-  declared_in_form (If e a b) = declared_in a ++ declared_in_else b
-  declared_in_form (While e b) = declared_in b
-  declared_in_form (DoWhile b e) = declared_in b
-  declared_in_form (For i e s b) = objects_of_first i ++ declared_in b
-  declared_in_form Break = []
-  declared_in_form Continue = []
-  declared_in_form (Return e) = []
-  declared_in_form (Label b) = declared_in b
+  pub names_in_form : Form → List DeclaredName
+  names_in_form Empty = []
+  names_in_form (Do e) = []
+  names_in_form (Declare ns) = names_of ns
+  names_in_form (Block b) = names_in_block b
+  names_in_form (If e a b) = names_in a ++ names_in_else b
+  names_in_form (While e b) = names_in b
+  names_in_form (DoWhile b e) = names_in b
+  names_in_form (For i e s b) = names_of_first i ++ names_in b
+  names_in_form Break = []
+  names_in_form Continue = []
+  names_in_form (Return e) = []
+  names_in_form (Label b) = names_in b
 
-  pub declared_in_else : Else → List ℕ
-  declared_in_else NoElse = []
-  declared_in_else (OrElse b) = declared_in b
+  pub names_in_else : Else → List DeclaredName
+  names_in_else NoElse = []
+  names_in_else (OrElse b) = names_in b
 
-  pub declared_in_block : Stms → List ℕ
-  declared_in_block NoStm = []
-  declared_in_block (MoreStm s b) = declared_in s ++ declared_in_block b
+  pub names_in_block : Stms → List DeclaredName
+  names_in_block NoStm = []
+  names_in_block (MoreStm s b) = names_in s ++ names_in_block b
+
+abbrev pub names_of_program : Program → List DeclaredName
+names_of_program p = flat_map (λ f. names_in f.body) p.functions
+
+abbrev pub spots_of_names : List DeclaredName → List Spot
+spots_of_names [] = []
+spots_of_names (name ∷ names) = name.spot ∷ spots_of_names names
+
+abbrev pub objects_of : List DeclaredName → List ℕ
+objects_of [] = []
+objects_of (name ∷ names) = name.object ∷ objects_of names

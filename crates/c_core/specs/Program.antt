@@ -2,12 +2,13 @@
 use Rattle.std.specs.Prelude.{ℕ, nat_eq, nat_le, Bool, true, false, cond, not, ◌&&◌, List, [], ◌∷◌, length, Option, Some, None, slice_get, map, IsTrue}
 use Rattle.std.specs.List.{list_all, range_with_len, sum_by}
 use Rattle.c_core.specs.Types.{in_range}
-use Rattle.c_core.specs.Parts.{is_empty}
+use Rattle.c_core.specs.Parts.{is_empty, same_spot, names_of_program}
 use Rattle.c_core.specs.Tree.{Function, Program}
 use Rattle.c_core.specs.Typing.{function_fits}
-use Rattle.c_core.specs.Scope.{is_in, owned_by, is_owned_once, is_object, function_reaches, function_stands, function_nests, function_jumps}
+use Rattle.c_core.specs.Scope.{is_in, owned_by, is_owned_once, is_object, function_reaches, function_nests, function_jumps}
 use Rattle.c_core.specs.TextOrder.{rises, spots_of_functions, spots_of_objects}
 use Rattle.c_core.specs.declared.number.DataModel.{DataModel}
+use Rattle.c_core.specs.declared.number.Spot.{Spot}
 use Rattle.c_core.specs.declared.tree.Object.{Object}
 use Rattle.c_core.specs.declared.tree.Start.{Start}
 
@@ -29,9 +30,13 @@ cells_fit p = nat_le (sum_by (λ o. o.cells) p.objects) most_declared_cells
 abbrev pub objects_rise : Program → Bool
 objects_rise p = rises (spots_of_objects p.objects)
 
+abbrev pub stands_at : Spot → Option Object → Bool
+stands_at spot None = false
+stands_at spot (Some o) = same_spot o.spot spot
+
 -- a declared name stands where its object does
 abbrev pub names_in_place : Program → Bool
-names_in_place p = list_all (function_stands p) p.functions
+names_in_place p = list_all (λ name. stands_at name.spot (slice_get p.objects name.object)) (names_of_program p)
 
 -- of static storage, with no more values than cells, each of the object's type (C11 6.7.9p4)
 abbrev pub start_fits : DataModel → Start → Option Object → Bool

@@ -1,9 +1,8 @@
 -- Which objects an expression may name, where each is declared, and where statements may stand (C11 6.2.1, 6.8).
-use Rattle.std.specs.Prelude.{ℕ, nat_eq, Bool, true, false, cond, not, ◌&&◌, ◌||◌, List, [], ◌∷◌, ◌++◌, Option, Some, None, is_some, slice_get}
-use Rattle.std.specs.List.{list_all, list_any, count_by}
+use Rattle.std.specs.Prelude.{ℕ, suc, nat_eq, Bool, true, false, cond, not, ◌&&◌, ◌||◌, List, [], ◌∷◌, ◌++◌, Option, Some, None, is_some, slice_get}
+use Rattle.std.specs.List.{list_all, list_any, flat_map}
 use Rattle.c_core.specs.Tree.{Exp, Expr, Node, Var, Index, Names, NoName, MoreName, First, NoFirst, FirstExp, FirstNames, Stm, Stmt, Form, Empty, Do, Declare, Block, If, While, DoWhile, For, Break, Continue, Return, Label, Else, NoElse, OrElse, Stms, NoStm, MoreStm, Function, Program}
-use Rattle.c_core.specs.Parts.{exp_if, every_exp, every_statement, fulls_of_init, objects_of_first, declared_by, declared_in, same_spot}
-use Rattle.c_core.specs.declared.number.Spot.{Spot}
+use Rattle.c_core.specs.Parts.{exp_if, every_exp, every_statement, fulls_of_init, objects_of_first, declared_by, names_in, objects_of}
 use Rattle.c_core.specs.declared.tree.Object.{Object}
 
 abbrev pub is_in : ℕ → List ℕ → Bool
@@ -11,7 +10,8 @@ is_in o os = list_any (nat_eq o) os
 
 -- how often a number stands in a list
 abbrev pub times_in : ℕ → List ℕ → ℕ
-times_in o os = count_by (nat_eq o) os
+times_in o [] = 0
+times_in o (x ∷ xs) = cond (nat_eq o x) (suc (times_in o xs)) (times_in o xs)
 
 abbrev pub is_fixed_object : Option Object → Bool
 is_fixed_object None = false
@@ -22,8 +22,7 @@ is_fixed p o = is_fixed_object (slice_get p.objects o)
 
 -- the parameters and declared names of functions
 abbrev pub owned_by : List Function → List ℕ
-owned_by [] = []
-owned_by (f ∷ fs) = (f.params ++ declared_in f.body) ++ owned_by fs
+owned_by fs = flat_map (λ f. f.params ++ objects_of (names_in f.body)) fs
 
 -- where objects in reach are listed, innermost last, and those of static storage always are
 module _ (p : Program) where
@@ -43,14 +42,14 @@ module _ (p : Program) where
   reaches reach e = every_exp (exp_reaches reach) e
 
   -- a name is in reach behind its initializer
-  abbrev pub names_reach : List ℕ → Names → Bool
-  names_reach reach NoName = true
-  names_reach reach (MoreName spot o i ns) = list_all (reaches reach) (fulls_of_init i) && names_reach (reach ++ o ∷ []) ns
+  abbrev pub declarators_reach : List ℕ → Names → Bool
+  declarators_reach reach NoName = true
+  declarators_reach reach (MoreName spot o i ns) = list_all (reaches reach) (fulls_of_init i) && declarators_reach (reach ++ o ∷ []) ns
 
   abbrev pub first_reaches : List ℕ → First → Bool
   first_reaches reach NoFirst = true
   first_reaches reach (FirstExp e) = reaches reach e
-  first_reaches reach (FirstNames ns) = names_reach reach ns
+  first_reaches reach (FirstNames ns) = declarators_reach reach ns
 
   -- a statement names only objects in reach: to the end of their block, or of their `for` (C11 6.2.1p4)
   abbrev mutual
@@ -60,7 +59,7 @@ module _ (p : Program) where
     pub form_reaches : List ℕ → Form → Bool
     form_reaches reach Empty = true
     form_reaches reach (Do e) = reaches reach e
-    form_reaches reach (Declare ns) = names_reach reach ns
+    form_reaches reach (Declare ns) = declarators_reach reach ns
     form_reaches reach (Block b) = block_reaches reach b
     form_reaches reach (If e a b) = reaches reach e && (statement_reaches reach a && else_reaches reach b)
     form_reaches reach (While e b) = reaches reach e && statement_reaches reach b
@@ -89,31 +88,6 @@ module _ (p : Program) where
 
   abbrev pub is_object : ℕ → Bool
   is_object o = is_some (slice_get p.objects o)
-
-  abbrev pub stands_at : Spot → Option Object → Bool
-  stands_at spot None = false
-  stands_at spot (Some o) = same_spot o.spot spot
-
-  -- a declared name stands where its object does
-  abbrev pub names_stand : Names → Bool
-  names_stand NoName = true
-  names_stand (MoreName spot o i ns) = stands_at spot (slice_get p.objects o) && names_stand ns
-
-  abbrev pub first_stands : First → Bool
-  first_stands NoFirst = true
-  first_stands (FirstExp e) = true
-  first_stands (FirstNames ns) = names_stand ns
-
-  abbrev pub form_stands : Form → Bool
-  form_stands (Declare ns) = names_stand ns
-  form_stands (For i e s b) = first_stands i
-  form_stands _ = true
-
-  abbrev pub statement_stands : Stm → Bool
-  statement_stands (Stmt at f) = form_stands f
-
-  abbrev pub function_stands : Function → Bool
-  function_stands f = every_statement statement_stands f.body
 
 abbrev pub is_declare_form : Form → Bool
 is_declare_form (Declare ns) = true

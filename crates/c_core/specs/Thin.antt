@@ -1,7 +1,9 @@
 -- Thin programs: `int x = __VERIFIER_nondet_int();` .., then `if (x == 5) { reach_error(); }` .., then `return 0;`, all in `main`.
-use Rattle.std.specs.Prelude.{ℕ, zero, suc, nat_eq, nat_lt, nat_le, ℤ, pos, negsuc, Bool, true, false, not, ◌&&◌, ◌||◌, List, [], ◌∷◌, length, Option, Some, None}
+use Rattle.std.specs.Prelude.{◌≡◌, ◌≤◌, IsTrue, ℕ, zero, suc, nat_eq, nat_lt, nat_le, ℤ, pos, negsuc, Bool, true, false, not, ◌&&◌, ◌||◌, List, [], ◌∷◌, length, Option, Some, None}
 use Rattle.c_core.specs.Types.{is_zero}
-use Rattle.c_core.specs.Parts.{is_empty}
+use Rattle.c_core.specs.Parts.{is_empty, names_of_program, spots_of_names}
+use Rattle.c_core.specs.Program.{most_declared_cells, places_rise}
+use Rattle.c_core.specs.TextOrder.{spots_of_objects}
 use Rattle.c_core.specs.Tree.{Exp, Expr, Node, Const, Var, Binary, Call, Exps, NoExp, MoreExp, Init, One, Names, NoName, MoreName, Stm, Stmt, Form, Do, Declare, Block, If, Return, Else, NoElse, OrElse, Stms, NoStm, MoreStm, Function, Program}
 use Rattle.c_core.specs.declared.number.IntType.{IntType}
 use Rattle.c_core.specs.declared.number.IntType.TheVariants.{Int}
@@ -211,3 +213,9 @@ abbrev pub is_thin : Program → Bool
 is_thin p =
     (is_ilp32 p.model && is_unreach_call p.property)
     && ((is_thin_objects p.objects && is_empty p.starts) && (is_thin_functions (length p.objects) p.functions && nat_eq p.main 0))
+
+-- its places follow the order of the text, its objects stand where their names do, and it has no more cells than a program may have
+pub record IsPlaced (p : Program) : Type 0 where
+  pub in_order : IsTrue (places_rise p)
+  pub named : spots_of_objects p.objects ≡ spots_of_names (names_of_program p)
+  pub few : length p.objects ≤ most_declared_cells

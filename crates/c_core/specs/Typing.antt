@@ -105,6 +105,13 @@ abbrev pub is_call_of : Option IntType → Exps → Option Function → Bool
 is_call_of ty es None = false
 is_call_of ty es (Some f) = are_values (length f.params) es && same_types f.result ty
 
+-- a scalar takes one value (C11 6.7.9p11), an array a list that isn't longer (C11 6.7.9p2, p17)
+abbrev pub init_fits : Option Object → Init → Bool
+init_fits None i = false
+init_fits (Some o) Absent = true
+init_fits (Some o) (One e) = not o.array && has_value e
+init_fits (Some o) (Many es) = o.array && (list_all has_value (exps_in es) && nat_le (length (exps_in es)) o.cells)
+
 module _ (p : Program) where
   abbrev pub is_call : Option IntType → Callee → Exps → Bool
   is_call ty (Defined f) es = is_call_of ty es (slice_get p.functions f)
@@ -141,21 +148,14 @@ module _ (p : Program) where
   abbrev pub is_typed : Exp → Bool
   is_typed e = every_exp exp_fits e
 
-  -- a scalar takes one value (C11 6.7.9p11), an array a list that isn't longer (C11 6.7.9p2, p17)
-  abbrev pub init_fits : Option Object → Init → Bool
-  init_fits None i = false
-  init_fits (Some o) Absent = true
-  init_fits (Some o) (One e) = not o.array && has_value e
-  init_fits (Some o) (Many es) = o.array && (list_all has_value (exps_in es) && nat_le (length (exps_in es)) o.cells)
-
-  abbrev pub names_fit : Names → Bool
-  names_fit NoName = true
-  names_fit (MoreName spot o i ns) = init_fits (slice_get p.objects o) i && names_fit ns
+  abbrev pub declarators_fit : Names → Bool
+  declarators_fit NoName = true
+  declarators_fit (MoreName spot o i ns) = init_fits (slice_get p.objects o) i && declarators_fit ns
 
   abbrev pub first_fits : First → Bool
   first_fits NoFirst = true
   first_fits (FirstExp e) = true
-  first_fits (FirstNames ns) = names_fit ns
+  first_fits (FirstNames ns) = declarators_fit ns
 
   -- with an expression exactly in a function that has a result (C11 6.8.6.4p1)
   abbrev pub return_fits : Option IntType → Option Exp → Bool
@@ -166,7 +166,7 @@ module _ (p : Program) where
   abbrev pub form_fits : Option IntType → Form → Bool
   form_fits result Empty = true
   form_fits result (Do e) = true
-  form_fits result (Declare ns) = names_fit ns
+  form_fits result (Declare ns) = declarators_fit ns
   form_fits result (Block b) = true
   -- C11 6.8.4.1p1
   form_fits result (If e a b) = has_value e

@@ -6,6 +6,8 @@ mod place;
 mod program;
 mod tree;
 mod types;
+#[cfg(test)]
+mod worked;
 
 pub use number::{BinOp, DataModel, Done, IntType, Property, Spot, StepOp, UnOp};
 pub use place::{Place, PlaceKind};

@@ -1,6 +1,5 @@
 -- One program for each way in which a part of the invariant holds or fails.
-use Rattle.std.specs.Prelude.{◌≡◌, ℕ, ◌+◌, pos, Bool, true, false, List, [], ◌∷◌, Option, Some, None}
-use Rattle.std.proofs.Common.{refl}
+use Rattle.std.specs.Prelude.{◌≡◌, ℕ, ◌+◌, pos, Bool, true, false, List, [], ◌∷◌, Some, None}
 use Rattle.c_core.specs.Tree as t
 use Rattle.c_core.specs.Parts.{spot_of}
 use Rattle.c_core.specs.Program.{objects_fit, cells_fit, objects_rise, names_in_place, starts_fit, starts_differ, has_main, params_fit, types_fit, names_known, owned_once, names_in_reach, blocks_fit, jumps_fit, places_rise}
@@ -16,19 +15,19 @@ use Rattle.c_core.specs.declared.tree.Callee.TheVariants as c
 use Rattle.c_core.specs.declared.tree.Object.{Object}
 use Rattle.c_core.specs.declared.tree.Start.{Start}
 
-abbrev at : ℕ → ℕ → Spot
+abbrev pub at : ℕ → ℕ → Spot
 at l c = record { line = l; column = c }
 
 -- type, cells, array, fixed, column on line 2
-abbrev object : IntType → ℕ → Bool → Bool → ℕ → Object
+abbrev pub object : IntType → ℕ → Bool → Bool → ℕ → Object
 object ty cells array fixed c = record { name = []; ty = ty; cells = cells; array = array; fixed = fixed; spot = at 2 c }
 
 -- `int x`, `int a[3]`, `static unsigned char g`
-abbrev the_objects : List Object
+abbrev pub the_objects : List Object
 the_objects = object Int 1 false false 7 ∷ object Int 3 true false 10 ∷ object UChar 1 false true 13 ∷ []
 
 -- `int main` with these parameters
-abbrev main_with : List ℕ → t.Stm → t.Program
+abbrev pub main_with : List ℕ → t.Stm → t.Program
 main_with params b = record {
   model = Ilp32;
   property = UnreachCall;
@@ -38,51 +37,51 @@ main_with params b = record {
   main = 0;
 }
 
-abbrev main_of : t.Stms → t.Program
+abbrev pub main_of : t.Stms → t.Program
 main_of b = main_with [] (t.Stmt (at 1 12) (t.Block b))
 
-abbrev with_objects : List Object → t.Program
+abbrev pub with_objects : List Object → t.Program
 with_objects os = record (main_of t.NoStm) { objects = os }
 
-abbrev with_starts : List Start → t.Program
+abbrev pub with_starts : List Start → t.Program
 with_starts ss = record (main_of t.NoStm) { starts = ss }
 
 -- `main` of one statement, and of two
-abbrev one : t.Stm → t.Program
+abbrev pub one : t.Stm → t.Program
 one s = main_of (t.MoreStm s t.NoStm)
 
-abbrev two : t.Stm → t.Stm → t.Program
+abbrev pub two : t.Stm → t.Stm → t.Program
 two s s' = main_of (t.MoreStm s (t.MoreStm s' t.NoStm))
 
 -- expressions at columns of line 3
-abbrev int : ℕ → t.Node → t.Exp
+abbrev pub int : ℕ → t.Node → t.Exp
 int c n = t.Expr (at 3 c) (Some Int) n
 
-abbrev number : ℕ → ℕ → t.Exp
+abbrev pub number : ℕ → ℕ → t.Exp
 number c v = int c (t.Const (pos v))
 
-abbrev unsigned : ℕ → ℕ → t.Exp
+abbrev pub unsigned : ℕ → ℕ → t.Exp
 unsigned c v = t.Expr (at 3 c) (Some UInt) (t.Const (pos v))
 
-abbrev x : ℕ → t.Exp
+abbrev pub x : ℕ → t.Exp
 x c = int c (t.Var 0)
 
-abbrev plus : ℕ → t.Exp → t.Exp → t.Exp
+abbrev pub plus : ℕ → t.Exp → t.Exp → t.Exp
 plus c e e' = int c (t.Binary b.Add e e')
 
 -- `abort()`
-abbrev void : ℕ → t.Exp
+abbrev pub void : ℕ → t.Exp
 void n = t.Expr (at 3 n) None (t.Call c.Abort t.NoExp (at 3 (n + 6)))
 
 -- `e;`
-abbrev line : t.Exp → t.Stm
+abbrev pub line : t.Exp → t.Stm
 line e = t.Stmt (spot_of e) (t.Do e)
 
 -- `int x;`
-abbrev int_x : t.Stm
+abbrev pub int_x : t.Stm
 int_x = t.Stmt (at 2 3) (t.Declare (t.MoreName (at 2 7) 0 t.Absent t.NoName))
 
-abbrev block : t.Stm → t.Stm
+abbrev pub block : t.Stm → t.Stm
 block s = t.Stmt (at 2 1) (t.Block (t.MoreStm s t.NoStm))
 
 -- how each part judges them
@@ -195,115 +194,3 @@ pub record JudgedPrograms : Type 0 where
   pub mark_behind_arm : places_rise (one (line (int 3 (t.Choose (at 3 9) (x 3) (number 7 1) (number 11 1))))) ≡ false
   pub prefix_at_its_target : places_rise (one (line (int 3 (t.Step s.PreInc (x 3))))) ≡ false
   pub postfix_at_its_target : places_rise (one (line (int 3 (t.Step s.PostInc (x 3))))) ≡ true
-
-pub judged_programs : JudgedPrograms
-judged_programs = record {
-  a_scalar_and_an_array = refl;
-  array_without_cell = refl;
-  scalar_of_two_cells = refl;
-  all_cells = refl;
-  too_many_cells = refl;
-  in_order_of_declarations = refl;
-  numbered_otherwise = refl;
-  start_of_255 = refl;
-  start_of_256 = refl;
-  start_of_two_values = refl;
-  start_of_automatic = refl;
-  start_of_unknown = refl;
-  two_starts = refl;
-  main = refl;
-  no_main = refl;
-  main_with_parameter = refl;
-  scalar_parameter = refl;
-  array_parameter = refl;
-  unknown_parameter = refl;
-  parameter_in_reach = refl;
-  parameter_declared_too = refl;
-  body_without_block = refl;
-  adds = refl;
-  void_operand = refl;
-  sum_typed_unsigned = refl;
-  sum_with_unsigned = refl;
-  comparison_with_unsigned = refl;
-  shift_by_unsigned = refl;
-  greatest_constant = refl;
-  constant_too_large = refl;
-  constant_of_char = refl;
-  void_constant = refl;
-  element = refl;
-  array_without_index = refl;
-  index_on_scalar = refl;
-  void_index = refl;
-  unknown_object = refl;
-  object_of_other_type = refl;
-  negation_promotes = refl;
-  negation_typed_char = refl;
-  not_of_unsigned = refl;
-  cast_to_void = refl;
-  cast_of_void = refl;
-  step = refl;
-  step_of_constant = refl;
-  logic = refl;
-  logic_of_void = refl;
-  void_arms = refl;
-  one_void_arm = refl;
-  comma_behind_void = refl;
-  assigns_element = refl;
-  assigns_sum = refl;
-  assigns_void = refl;
-  exit_with_status = refl;
-  exit_without_status = refl;
-  abort_with_status = refl;
-  input = refl;
-  input_of_other_type = refl;
-  call_of_main = refl;
-  call_with_too_many = refl;
-  call_of_unknown = refl;
-  return_without_value = refl;
-  return_of_void = refl;
-  void_test = refl;
-  endless_for = refl;
-  void_test_of_for = refl;
-  list_for_array = refl;
-  list_too_long = refl;
-  list_for_scalar = refl;
-  value_for_array = refl;
-  names_declared = refl;
-  names_fixed = refl;
-  names_undeclared = refl;
-  names_behind_block = refl;
-  names_in_inner_block = refl;
-  names_itself = refl;
-  names_in_next_initializer = refl;
-  names_in_for = refl;
-  names_behind_for = refl;
-  each_declared = refl;
-  one_not_declared = refl;
-  declared_twice = refl;
-  fixed_declared = refl;
-  declares_known = refl;
-  declares_unknown = refl;
-  declared_there = refl;
-  declared_elsewhere = refl;
-  declaration_in_arm = refl;
-  declaration_in_else = refl;
-  declaration_in_loop = refl;
-  declaration_in_do = refl;
-  declaration_in_for = refl;
-  declaration_behind_label = refl;
-  declaration_in_block = refl;
-  break_outside = refl;
-  continue_in_arm = refl;
-  break_in_loop = refl;
-  break_behind_loop = refl;
-  one_behind_another = refl;
-  two_at_one_place = refl;
-  sum_at_its_left = refl;
-  sum_in_parentheses = refl;
-  operands_turned_round = refl;
-  sum_behind_its_left = refl;
-  call_closed_before = refl;
-  mark_behind_arm = refl;
-  prefix_at_its_target = refl;
-  postfix_at_its_target = refl;
-}
