@@ -6,3 +6,5 @@ pub mod ThinParts
 pub mod TokenSteps
 pub mod GrammarSteps
 pub mod NameSteps
+pub mod TreeSteps
+pub mod StatementSteps

@@ -56,13 +56,13 @@ same_text v w = (bytes_eq-Decides v w).0
 equal_text : (v w : List ℕ) → v ≡ w → bytes_eq v w ≡ true
 equal_text v w = (bytes_eq-Decides v w).1
 
-object_from-hit : (k : ℕ) (v : List ℕ) (names : List (List ℕ)) (w : List ℕ) → bytes_eq v w ≡ true → object_from k (v ∷ names) w ≡ Some k
+pub object_from-hit : (k : ℕ) (v : List ℕ) (names : List (List ℕ)) (w : List ℕ) → bytes_eq v w ≡ true → object_from k (v ∷ names) w ≡ Some k
 object_from-hit k v names w same = rw same refl
 
-object_from-miss : (k : ℕ) (v : List ℕ) (names : List (List ℕ)) (w : List ℕ) → bytes_eq v w ≡ false → object_from k (v ∷ names) w ≡ object_from (k + 1) names w
+pub object_from-miss : (k : ℕ) (v : List ℕ) (names : List (List ℕ)) (w : List ℕ) → bytes_eq v w ≡ false → object_from k (v ∷ names) w ≡ object_from (k + 1) names w
 object_from-miss k v names w other = rw other refl
 
-bool_cases : (b : Bool) → (b ≡ true) ⊎ (b ≡ false)
+pub bool_cases : (b : Bool) → (b ≡ true) ⊎ (b ≡ false)
 bool_cases true = inl refl
 bool_cases false = inr refl
 

@@ -1,5 +1,5 @@
 -- The grammar of thin programs, over tokens.
-use Rattle.std.specs.Prelude.{ℕ, ◌+◌, ◌*◌, zero, suc, List, [], ◌∷◌, ◌++◌, length, drop, get_or, slice_index, map, Bool, true, false, ◌&&◌, ◌||◌, not, nat_eq, Option, Some, None, is_some, is_none, if◌then◌else◌, codes}
+use Rattle.std.specs.Prelude.{ℕ, ◌+◌, ◌*◌, zero, suc, List, [], ◌∷◌, ◌++◌, length, drop, get_or, slice_index, map, Bool, true, false, ◌&&◌, ◌||◌, not, nat_eq, nat_le, Option, Some, None, is_some, is_none, if◌then◌else◌, codes}
 use Rattle.std.specs.List.{list_all, list_any, range_with_len}
 use Rattle.std.specs.Bool.{then_some}
 use Rattle.std.specs.Str.{bytes_eq}
@@ -119,5 +119,10 @@ test_fits names ts declarations k =
 abbrev pub tests_fit : List (List ℕ) → List TokenAt → Layout → Bool
 tests_fit names ts layout = list_all (test_fits names ts layout.declarations) (range_with_len 0 layout.tests)
 
+-- a program has at most so many cells; no text of the largest size that is read declares more
+abbrev pub most_declarations : ℕ
+most_declarations = 100000
+
 abbrev pub is_consistent : List TokenAt → Layout → Bool
-is_consistent ts layout = names_fit [] (names_of ts layout.declarations) && tests_fit (names_of ts layout.declarations) ts layout
+is_consistent ts layout =
+    nat_le layout.declarations most_declarations && (names_fit [] (names_of ts layout.declarations) && tests_fit (names_of ts layout.declarations) ts layout)

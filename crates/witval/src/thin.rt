@@ -4,8 +4,10 @@ mod characters;
 mod grammar;
 mod objects;
 mod property;
+mod statements;
 mod stub;
 mod tokens;
+mod trees;
 mod witness;
 
 pub use property::is_unreach;
