@@ -1,5 +1,5 @@
 -- Phrases at the front of tokens.
-use Rattle.std.proofs.Common.{◌≡◌, ℕ, ◌+◌, ◌-◌, ◌*◌, ◌<◌, ◌≤◌, zero, suc, List, [], ◌∷◌, length, take, drop, get_or, if◌then◌else◌, Option, Some, None, Bool, true, false, ◌&&◌, ◌||◌, refl, sym, ◌∙◌, ap, subst, arith, add-one, drop-cons}
+use Rattle.std.proofs.Common.{◌≡◌, ℕ, ◌+◌, ◌-◌, ◌*◌, ◌<◌, ◌≤◌, zero, suc, List, [], ◌∷◌, length, take, drop, get_or, if◌then◌else◌, Option, Some, None, IfSome, Bool, true, false, ◌&&◌, ◌||◌, refl, sym, ◌∙◌, ap, subst, arith, add-one, drop-cons}
 use Rattle.std.proofs.lemmas.List.{take_rest}
 use Rattle.std.specs.Str.{bytes_eq}
 use Rattle.std.specs.Bool.{then_some}
@@ -90,3 +90,7 @@ spelled p text ts is read = read ∙ ap tokens_of is
 
 pub sized : (p : Phrase) (text : List ℕ) (ts : List TokenAt) → text ≡ text_of p → ts ≡ tokens_of text → length ts ≡ size_of p
 sized p text ts is read = ap length (spelled p text ts is read) ∙ length-tokens_in p
+
+pub layout-within : (whole : Bool) (d e n : ℕ) → test_start d e ≤ n → IfSome (then_some whole (record { declarations = d; tests = e })) (λ l. test_start l.declarations l.tests ≤ n)
+layout-within true d e n room = room
+layout-within false d e n room = tt

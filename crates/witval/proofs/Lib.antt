@@ -8,3 +8,4 @@ pub mod GrammarSteps
 pub mod NameSteps
 pub mod TreeSteps
 pub mod StatementSteps
+pub mod PlaceSteps

@@ -1,7 +1,7 @@
 -- The places of a thin program's tree are those of its tokens, in their order.
-use Rattle.std.proofs.Common.{◌≡◌, ℕ, ◌+◌, ◌-◌, ◌*◌, ◌<◌, ◌≤◌, zero, suc, nat_eq, nat_lt, nat_le, leb-true, lt-ltb, eq-eqb, eqb-true, List, [], ◌∷◌, ◌++◌, length, map, drop, get_or, Bool, true, false, ◌&&◌, ◌||◌, ◌⊎◌, inl, inr, if◌then◌else◌, Option, Some, None, IsTrue, refl, sym, ◌∙◌, ap, subst, arith, append_assoc, add-one, drop-cons, length-drop, map-append}
+use Rattle.std.proofs.Common.{◌≡◌, ℕ, ◌+◌, ◌-◌, ◌*◌, ◌<◌, ◌≤◌, zero, suc, nat_eq, nat_lt, nat_le, leb-true, lt-ltb, eq-eqb, eqb-true, List, [], ◌∷◌, ◌++◌, length, map, drop, get_or, Bool, true, false, ◌&&◌, ◌||◌, ◌⊎◌, inl, inr, if◌then◌else◌, Option, Some, None, IsTrue, refl, sym, ◌∙◌, ap, subst, arith, append_assoc, add-one, drop-cons, length-drop}
 use Rattle.std.proofs.Math.Bool.{or-true}
-use Rattle.std.proofs.lemmas.List.{drop_all}
+use Rattle.std.proofs.lemmas.List.{drop-map}
 use Rattle.std.proofs.lemmas.List.FromFn.{length-map-range_with_len}
 use Rattle.std.specs.Bool.{then_some}
 use Rattle.std.specs.List.{list_all, range_with_len}
@@ -13,7 +13,7 @@ use Rattle.c_core.specs.TextOrder.{is_before, is_before_first, rises, spots_of_b
 use Rattle.c_core.proofs.TextOrderLaws.{IsPart, ends, skips, takes, part_none, is_before-then, rises-part, whole-same}
 use Rattle.c_core.specs.declared.number.Spot.{Spot}
 use Rattle.witval.specs.declared.thin.grammar.Layout.{Layout}
-use Rattle.witval.specs.declared.thin.grammar.Phrase.TheVariants.{Opening, Closing}
+use Rattle.witval.specs.declared.thin.grammar.Phrase.TheVariants.{Opening, Declaration, Test, Closing}
 use Rattle.witval.specs.ThinTokens.{TokenAt, behind, first_token, is_blank, right, token_length, tokens_from, tokens_of}
 use Rattle.witval.specs.ThinGrammar.{declaration_start, is_consistent, is_whole, layout_of, most_declarations, names_fit, names_of, no_token, spells, spot_at, test_start, tests_fit, times, tokens_in}
 use Rattle.witval.specs.ThinObjects.{object_at, objects_of}
@@ -26,12 +26,12 @@ spots ts = map (λ t. t.spot) ts
 before-right : (at : Spot) → is_before at (right at 1) ≡ true
 before-right at = rw (eq-eqb at.line at.line refl, lt-ltb at.column (at.column + 1) (omega arith)) (or-true (nat_lt at.line at.line))
 
-before-behind : (at : Spot) (c : ℕ) → is_before at (behind at c) ≡ true
-before-behind at c = before_if at (nat_eq c 10)
-
 before_if : (at : Spot) (feed : Bool) → is_before at (if feed then (record { line = at.line + 1; column = 1 }) else right at 1) ≡ true
 before_if at true = rw (lt-ltb at.line (at.line + 1) (omega arith)) refl
 before_if at false = before-right at
+
+before-behind : (at : Spot) (c : ℕ) → is_before at (behind at c) ≡ true
+before-behind at c = before_if at (nat_eq c 10)
 
 -- all places of the tokens from a place on stand behind what stands before it
 record Follows (at : Spot) (ts : List TokenAt) : Type 0 where
@@ -131,3 +131,60 @@ names_placed ts k (suc n) more none = ap (λ ss. spot_at ts (declaration_start k
 tests_nameless : (ts : List TokenAt) (d k n at : ℕ) → spots_of_names (names_in_block (block_of (map (test_of ts d) (range_with_len k n) ++ return_tree ts at ∷ []))) ≡ []
 tests_nameless ts d k zero at = refl
 tests_nameless ts d k (suc n) at = tests_nameless ts d (k + 1) n at
+
+then_some-some : (b : Bool) (x y : Layout) → then_some b x ≡ Some y → (b ≡ true) × (x ≡ y)
+then_some-some true x y is = (refl, cc)
+then_some-some false x y is = cc
+
+-- the closing stands behind the tests
+closing_within : (ts : List TokenAt) (layout : Layout) → layout_of ts ≡ Some layout → test_start layout.declarations layout.tests + 4 ≤ length ts
+closing_within ts layout found =
+    let ds = times (tokens_in Declaration) (drop (declaration_start 0) ts) in
+    let es = times (tokens_in Test) (drop (declaration_start ds) ts) in
+    let parts = then_some-some (spells (tokens_in Opening) ts && is_whole (tokens_in Closing) (drop (test_start ds es) ts)) (record { declarations = ds; tests = es }) layout found in
+    let whole = both_right (spells (tokens_in Opening) ts) (is_whole (tokens_in Closing) (drop (test_start ds es) ts)) parts.0 in
+    let room = spells-length (tokens_in Closing) (drop (test_start ds es) ts) (both_left (spells (tokens_in Closing) (drop (test_start ds es) ts)) _ whole) in
+    let size = length-tokens_in Closing in
+    let rest = length-drop (test_start ds es) ts in
+    let within : test_start ds es + 4 ≤ length ts = omega (arith, room, size, rest) in
+    subst (λ l. test_start l.declarations l.tests + 4 ≤ length ts) parts.1 within
+
+opening_places : (ts : List TokenAt) (ss : List Spot) → 16 ≤ length ts → Places ts 16 ss → Places ts 15 (spot_at ts 15 ∷ ss)
+opening_places ts ss within p = pick ts 15 16 ss refl (omega arith) p
+
+rises-drop : (n : ℕ) (ss rest : List Spot) → drop n ss ≡ rest → rises ss ≡ true → rises rest ≡ true
+rises-drop zero ss rest is rising = subst (λ xs. rises xs ≡ true) is rising
+rises-drop (suc n) [] rest is rising = subst (λ xs. rises xs ≡ true) is refl
+rises-drop (suc n) (s ∷ ss) rest is rising = rises-drop n ss rest is (both_right (is_before_first s ss) (rises ss) rising)
+
+part_from : (ts : List TokenAt) (n : ℕ) (ss : List Spot) → Places ts n ss → rises (spots ts) ≡ true → rises ss ≡ true
+part_from ts n ss p rising = rises-part ss (spots (drop n ts)) p (rises-drop n (spots ts) (spots (drop n ts)) (drop-map (λ t. t.spot) n ts) rising)
+
+few_of : (ts : List TokenAt) (layout : Layout) → is_consistent ts layout ≡ true → length (objects_of ts layout.declarations) ≤ 100000
+few_of ts layout fits =
+    let few = leb-true layout.declarations most_declarations (both_left (nat_le layout.declarations most_declarations) _ fits) in
+    let many = length-map-range_with_len (object_at ts) 0 layout.declarations in
+    omega (arith, few, many)
+
+-- the places of the tree are as a program's should be
+pub tree_placed : (ts : List TokenAt) (layout : Layout) → rises (spots ts) ≡ true → layout_of ts ≡ Some layout → is_consistent ts layout ≡ true → IsPlaced (program_tree ts layout)
+tree_placed ts layout rising found fits =
+    let d = layout.declarations in
+    let e = layout.tests in
+    let tests = map (test_of ts d) (range_with_len 0 e) ++ return_tree ts (test_start d e) ∷ [] in
+    let within = closing_within ts layout found in
+    let tests_at : test_start d 0 ≡ declaration_start d = omega arith in
+    let room : declaration_start d ≤ length ts = omega (arith, within) in
+    let opened : 16 ≤ length ts = omega (arith, within) in
+    let placed : Places ts (declaration_start d) (spots_of_block (block_of tests)) =
+        subst (λ n. Places ts n (spots_of_block (block_of tests))) tests_at (tests_placed ts d 0 e (test_start d e) refl within) in
+    let all = opening_places ts _ opened (declarations_placed ts 0 d tests room placed) in
+    let assoc = append_assoc (map (declaration_of ts) (range_with_len 0 d)) (map (test_of ts d) (range_with_len 0 e)) (return_tree ts (test_start d e) ∷ []) in
+    record {
+      in_order = rw assoc (rw (append-nil) (part_from ts 15 _ all rising));
+      named = rw assoc (rw (append-nil) (names_placed ts 0 d tests (tests_nameless ts d 0 e (test_start d e))));
+      few = few_of ts layout fits
+    }
+
+pub tokens_rise-given : (bytes : List ℕ) (ts : List TokenAt) → ts ≡ tokens_of bytes → rises (spots ts) ≡ true
+tokens_rise-given bytes ts is = subst (λ xs. rises (spots xs) ≡ true) (sym is) (tokens_rise bytes)

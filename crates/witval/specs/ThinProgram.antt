@@ -69,8 +69,12 @@ statements_of ts layout =
     (map (declaration_of ts) (range_with_len 0 layout.declarations) ++ map (test_of ts layout.declarations) (range_with_len 0 layout.tests))
     ++ return_tree ts (test_start layout.declarations layout.tests) ∷ []
 
+-- the body of `main` begins at the opening's last token
+abbrev pub body_tree : List TokenAt → Layout → t.Stm
+body_tree ts layout = t.Stmt (spot_at ts 15) (t.Block (block_of (statements_of ts layout)))
+
 abbrev pub main_tree : List TokenAt → Layout → t.Function
-main_tree ts layout = record { result = Some Int; params = []; body = t.Stmt (spot_at ts 15) (t.Block (block_of (statements_of ts layout))) }
+main_tree ts layout = record { result = Some Int; params = []; body = body_tree ts layout }
 
 abbrev pub program_tree : List TokenAt → Layout → t.Program
 program_tree ts layout = record {

@@ -3,6 +3,7 @@
 mod characters;
 mod grammar;
 mod objects;
+mod program;
 mod property;
 mod statements;
 mod stub;
@@ -11,5 +12,6 @@ mod trees;
 mod witness;
 
 pub use property::is_unreach;
-pub use stub::{is_placed, judge_violation, read_program};
+pub use program::read_program;
+pub use stub::{is_placed, judge_violation};
 pub use witness::{ThinWitness, read_witness};

@@ -1,4 +1,4 @@
-ghost use Rattle.std.specs.Prelude.{◌≡◌, ◌*◌, ◌^◌, ◌<◌, ◌≤◌, length, IfOk};
+ghost use Rattle.std.specs.Prelude.{◌≡◌, ◌*◌, ◌^◌, ◌<◌, ◌≤◌, length, IfOk, IfSome};
 ghost use Rattle.std.specs.Bool.{OnTrue};
 ghost use Rattle.witval.specs.ThinGrammar.{declaration_start, is_whole, layout_of, size_of, spells, spot_at, test_start, text_at, text_of, times, tokens_in};
 
@@ -135,7 +135,8 @@ fn is_exactly(tokens: &[Token], production: &[Token]) -> bool
 /// How the tokens are made of the productions, `None` where they aren't.
 pub fn find_layout(alloc: Global, tokens: &[Token]) -> Result<Option<Layout>, OutOfMemory>
     requires { length tokens.now < 2 ^ 32 }
-    ensures { IfOk result (λ layout. layout ≡ layout_of tokens.now) }
+    ensures layout { IfOk result (λ layout. layout ≡ layout_of tokens.now) }
+    ensures within { IfOk result (λ layout. IfSome layout (λ l. test_start l.declarations l.tests ≤ length tokens.now)) }
 {
     let opening = Phrase::Opening.tokens(alloc)?;
     if !begins_with(tokens, &opening) {

@@ -58,7 +58,8 @@ pub const LONGEST: usize = 1048576;
 /// The tokens of a text in their order.
 pub fn read_tokens<'a>(alloc: Global, bytes: &'a [u8]) -> Result<Vec<Token<'a>>, OutOfMemory>
     requires { length bytes.now ≤ LONGEST }
-    ensures { IfOk result (λ tokens. tokens.items ≡ tokens_of bytes.now) }
+    ensures tokens { IfOk result (λ tokens. tokens.items ≡ tokens_of bytes.now) }
+    ensures few { IfOk result (λ tokens. length tokens.items ≤ length bytes.now) }
 {
     let mut tokens = Vec::new(alloc);
     let mut line: u32 = 1;

@@ -12,7 +12,7 @@ use wv_base::{OutOfMemory, Seq};
 /// The largest number of a token from which a statement is read.
 const FAR: usize = 1 << 32;
 
-fn one<T: Drop>(alloc: Global, item: T) -> Result<Seq<T>, OutOfMemory>
+pub fn one<T: Drop>(alloc: Global, item: T) -> Result<Seq<T>, OutOfMemory>
     ensures { IfOk result (λ items. items ≡ item ∷ []) }
 {
     let mut items = Seq::new(alloc);

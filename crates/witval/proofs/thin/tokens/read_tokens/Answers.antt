@@ -16,6 +16,7 @@ loop-rest-preserved c =
     record {
       whole = rw (pushed, take_rest rest n) (one_more _ _ _ _ c.loop-rest.invariant.whole
           (tokens_from-token (record { line = c.loop-rest.line; column = c.loop-rest.column }) rest n some c.length_at_front-count.ensures.length c.length_at_front-count.ensures.some within space feed));
+      few = search rules;
       lines = search rules;
       columns = search rules
     }

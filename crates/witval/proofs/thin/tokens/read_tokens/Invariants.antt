@@ -6,6 +6,7 @@ use Rattle.witval.proofs.thin.tokens.read_tokens.Given as goal
 abbrev pub invariant-loop-rest : goal.invariant-loop-rest
 invariant-loop-rest l = record {
   whole : tokens_of l.bytes ≡ l.tokens.items ++ tokens_from (record { line = l.line; column = l.column }) 0 l.rest;
+  few : length l.tokens.items + length l.rest ≤ length l.bytes;
   lines : l.line + length l.rest ≤ 1048577;
   columns : l.column + length l.rest ≤ 1048577
 }
