@@ -91,6 +91,6 @@ spelled p text ts is read = read ∙ ap tokens_of is
 pub sized : (p : Phrase) (text : List ℕ) (ts : List TokenAt) → text ≡ text_of p → ts ≡ tokens_of text → length ts ≡ size_of p
 sized p text ts is read = ap length (spelled p text ts is read) ∙ length-tokens_in p
 
-pub layout-within : (whole : Bool) (d e n : ℕ) → test_start d e ≤ n → IfSome (then_some whole (record { declarations = d; tests = e })) (λ l. test_start l.declarations l.tests ≤ n)
+pub layout-within : (whole : Bool) (d e n : ℕ) → test_start d e ≤ n → IfSome {T = Layout} (then_some whole (record { declarations = d; tests = e })) (λ l. test_start l.declarations l.tests ≤ n)
 layout-within true d e n room = room
 layout-within false d e n room = tt

@@ -9,3 +9,4 @@ pub mod NameSteps
 pub mod TreeSteps
 pub mod StatementSteps
 pub mod PlaceSteps
+pub mod ProgramSteps

@@ -1,5 +1,5 @@
 -- The places of a thin program's tree are those of its tokens, in their order.
-use Rattle.std.proofs.Common.{◌≡◌, ℕ, ◌+◌, ◌-◌, ◌*◌, ◌<◌, ◌≤◌, zero, suc, nat_eq, nat_lt, nat_le, leb-true, lt-ltb, eq-eqb, eqb-true, List, [], ◌∷◌, ◌++◌, length, map, drop, get_or, Bool, true, false, ◌&&◌, ◌||◌, ◌⊎◌, inl, inr, if◌then◌else◌, Option, Some, None, IsTrue, refl, sym, ◌∙◌, ap, subst, arith, append_assoc, add-one, drop-cons, length-drop}
+use Rattle.std.proofs.Common.{◌≡◌, ℕ, ◌+◌, ◌-◌, ◌*◌, ◌<◌, ◌≤◌, zero, suc, nat_eq, nat_lt, nat_le, leb-true, lt-ltb, eq-eqb, eqb-true, List, [], ◌∷◌, ◌++◌, length, map, drop, get_or, Bool, true, false, ◌&&◌, ◌||◌, ◌⊎◌, inl, inr, if◌then◌else◌, Option, Some, None, IsTrue, refl, sym, ◌∙◌, ap, subst, arith, append_assoc, append-nil, add-one, drop-cons, length-drop}
 use Rattle.std.proofs.Math.Bool.{or-true}
 use Rattle.std.proofs.lemmas.List.{drop-map}
 use Rattle.std.proofs.lemmas.List.FromFn.{length-map-range_with_len}
@@ -9,7 +9,7 @@ use Rattle.c_core.specs.Tree as t
 use Rattle.c_core.specs.Parts.{spots_of_names, names_of_program, names_in_block}
 use Rattle.c_core.specs.Program.{places_rise}
 use Rattle.c_core.specs.Thin.{IsPlaced}
-use Rattle.c_core.specs.TextOrder.{is_before, is_before_first, rises, spots_of_block, spots_of_objects}
+use Rattle.c_core.specs.TextOrder.{is_before, is_before_first, rises, spots_of_block, spots_of_functions, spots_of_objects}
 use Rattle.c_core.proofs.TextOrderLaws.{IsPart, ends, skips, takes, part_none, is_before-then, rises-part, whole-same}
 use Rattle.c_core.specs.declared.number.Spot.{Spot}
 use Rattle.witval.specs.declared.thin.grammar.Layout.{Layout}
@@ -109,8 +109,9 @@ tests_placed ts d k (suc n) at is within =
     let room : test_start d k + 12 ≤ length ts = omega arith in
     let more = tests_placed ts d (k + 1) n at again within in
     let s = test_start d k in
+    let rest = spots_of_block (block_of (map (test_of ts d) (range_with_len (k + 1) n) ++ return_tree ts at ∷ [])) in
     rw (whole-same (spot_at ts (s + 2)) [], whole-same (spot_at ts (s + 7)) (spot_at ts (s + 9) ∷ []))
-      (test_places ts s _ room (subst (λ n. Places ts n _) next more))
+      (test_places ts s rest room (subst (λ m. Places ts m rest) next more))
 
 declarations_placed : (ts : List TokenAt) (k n : ℕ) (more : List t.Stm) → declaration_start (k + n) ≤ length ts → Places ts (declaration_start (k + n)) (spots_of_block (block_of more)) →
     Places ts (declaration_start k) (spots_of_block (block_of (map (declaration_of ts) (range_with_len k n) ++ more)))
@@ -120,8 +121,9 @@ declarations_placed ts k (suc n) more within p =
     let same : declaration_start (k + suc n) ≡ declaration_start (k + 1 + n) = omega arith in
     let within' : declaration_start (k + 1 + n) ≤ length ts = omega arith in
     let room : declaration_start k + 7 ≤ length ts = omega arith in
+    let spots_left = spots_of_block (block_of (map (declaration_of ts) (range_with_len (k + 1) n) ++ more)) in
     let rest = declarations_placed ts (k + 1) n more within' (subst (λ n. Places ts n (spots_of_block (block_of more))) same p) in
-    declaration_places ts (declaration_start k) _ room (subst (λ n. Places ts n _) next rest)
+    declaration_places ts (declaration_start k) spots_left room (subst (λ m. Places ts m spots_left) next rest)
 
 names_placed : (ts : List TokenAt) (k n : ℕ) (more : List t.Stm) → spots_of_names (names_in_block (block_of more)) ≡ [] →
     spots_of_objects (map (object_at ts) (range_with_len k n)) ≡ spots_of_names (names_in_block (block_of (map (declaration_of ts) (range_with_len k n) ++ more)))
@@ -173,16 +175,23 @@ tree_placed ts layout rising found fits =
     let e = layout.tests in
     let tests = map (test_of ts d) (range_with_len 0 e) ++ return_tree ts (test_start d e) ∷ [] in
     let within = closing_within ts layout found in
-    let tests_at : test_start d 0 ≡ declaration_start d = omega arith in
     let room : declaration_start d ≤ length ts = omega (arith, within) in
     let opened : 16 ≤ length ts = omega (arith, within) in
-    let placed : Places ts (declaration_start d) (spots_of_block (block_of tests)) =
-        subst (λ n. Places ts n (spots_of_block (block_of tests))) tests_at (tests_placed ts d 0 e (test_start d e) refl within) in
-    let all = opening_places ts _ opened (declarations_placed ts 0 d tests room placed) in
+    let tests_end : test_start d e ≡ test_start d (0 + e) = omega arith in
+    let count : declaration_start (0 + d) ≤ length ts = omega (arith, room) in
+    let tests_at' : test_start d 0 ≡ declaration_start (0 + d) = omega arith in
+    let placed : Places ts (declaration_start (0 + d)) (spots_of_block (block_of tests)) =
+        subst (λ n. Places ts n (spots_of_block (block_of tests))) tests_at' (tests_placed ts d 0 e (test_start d e) tests_end within) in
+    let body = spots_of_block (block_of (map (declaration_of ts) (range_with_len 0 d) ++ tests)) in
+    let all : Places ts 15 (spot_at ts 15 ∷ body) = opening_places ts body opened (declarations_placed ts 0 d tests count placed) in
     let assoc = append_assoc (map (declaration_of ts) (range_with_len 0 d)) (map (test_of ts d) (range_with_len 0 e)) (return_tree ts (test_start d e) ∷ []) in
+    let all_spots : spots_of_functions (program_tree ts layout).functions ≡ spot_at ts 15 ∷ body =
+        append-nil (spot_at ts 15 ∷ spots_of_block (block_of (statements_of ts layout))) ∙ ap (λ ss. spot_at ts 15 ∷ spots_of_block (block_of ss)) assoc in
+    let all_names : names_of_program (program_tree ts layout) ≡ names_in_block (block_of (map (declaration_of ts) (range_with_len 0 d) ++ tests)) =
+        append-nil (names_in_block (block_of (statements_of ts layout))) ∙ ap (λ ss. names_in_block (block_of ss)) assoc in
     record {
-      in_order = rw assoc (rw (append-nil) (part_from ts 15 _ all rising));
-      named = rw assoc (rw (append-nil) (names_placed ts 0 d tests (tests_nameless ts d 0 e (test_start d e))));
+      in_order = ap rises all_spots ∙ part_from ts 15 (spot_at ts 15 ∷ body) all rising;
+      named = names_placed ts 0 d tests (tests_nameless ts d 0 e (test_start d e)) ∙ sym (ap spots_of_names all_names);
       few = few_of ts layout fits
     }
 

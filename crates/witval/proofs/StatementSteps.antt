@@ -17,3 +17,10 @@ pub list_all-next : (test : ℕ → Bool) (k n : ℕ) → k < n → list_all tes
 list_all-next test k n below =
     let more : n - k ≡ n - (k + 1) + 1 = omega arith in
     ap (λ m. list_all test (range_with_len k m)) (more ∙ add-one (n - (k + 1)))
+
+pub list_all-unmet : (test : ℕ → Bool) (k n : ℕ) (whole : Bool) → k < n → whole ≡ list_all test (range_with_len k (n - k)) → test k ≡ false → whole ≡ false
+list_all-unmet test k n whole below known unmet = known ∙ list_all-next test k n below ∙ ap (λ b. b && list_all test (range_with_len (k + 1) (n - (k + 1)))) unmet
+
+pub list_all-met : (test : ℕ → Bool) (k n : ℕ) (whole : Bool) → k < n → whole ≡ list_all test (range_with_len k (n - k)) → test k ≡ true →
+    whole ≡ list_all test (range_with_len (k + 1) (n - (k + 1)))
+list_all-met test k n whole below known met = known ∙ list_all-next test k n below ∙ ap (λ b. b && list_all test (range_with_len (k + 1) (n - (k + 1)))) met

@@ -1,45 +1,41 @@
-ghost use Rattle.std.specs.Prelude.{◌≡◌, ℕ, List, ◌^◌, ◌<◌, ◌≤◌, length, map, IfOk, IsTrue, MatchOption, None, Some};
+ghost use Rattle.std.specs.Prelude.{◌≡◌, ◌^◌, ◌<◌, ◌≤◌, length, map, IfOk, IsTrue, MatchOption, None, Some};
 ghost use Rattle.c_core.specs.TextOrder.{rises};
-ghost use Rattle.c_core.specs.View.{program_view, stmt_view};
-ghost use Rattle.witval.specs.ThinGrammar.{is_consistent, layout_of, names_of, object_of};
-ghost use Rattle.witval.specs.ThinObjects.{AreObjects, number_in};
-ghost use Rattle.witval.specs.ThinProgram.{body_tree, program_tree, thin_program};
+ghost use Rattle.c_core.specs.View.{function_view, program_view, stmt_view};
+ghost use Rattle.witval.specs.ThinGrammar.{is_consistent, layout_of};
+ghost use Rattle.witval.specs.ThinObjects.{AreObjects};
+ghost use Rattle.witval.specs.ThinProgram.{main_tree, program_tree, statements_of, thin_program};
 
-use crate::thin::grammar::{Layout, find_layout, spot, test_at};
+use crate::thin::grammar::{Layout, find_layout, spot};
 use crate::thin::objects::{Objects, declare_objects};
-use crate::thin::statements::{add_declarations, add_tests, do_tests_fit};
+use crate::thin::statements::{do_tests_fit, main_statements};
 use crate::thin::tokens::{Token, read_tokens};
-use crate::thin::trees::{one, return_zero};
+use crate::thin::trees::one;
 use c_core::{DataModel, Form, Function, IntType, Program, Property, Stmt};
 use std::alloc::Global;
-use std::collections::BTreeMap;
 use wv_base::{OutOfMemory, Seq, Text};
 
 /// A program has at most so many cells.
 const MOST_DECLARATIONS: usize = 100000;
 
-/// The body of `main`: declarations, tests and `return 0;`.
-fn main_body(
+/// `int main() { .. }`
+fn main_function(
     alloc: Global,
     tokens: &[Token],
     layout: Layout,
-    numbers: &BTreeMap<&[u8], u32>,
-) -> Result<Stmt, OutOfMemory>
-    requires declarations { layout.declarations < 2 ^ 20 }
-    requires tests { layout.tests < 2 ^ 20 }
-    requires numbers { (w : List ℕ) → number_in numbers.now w ≡ object_of (names_of tokens.now layout.declarations) w }
-    ensures { IfOk result (λ body. stmt_view body ≡ body_tree tokens.now layout) }
+    statements: Seq<Stmt>,
+) -> Result<Function, OutOfMemory>
+    requires { map stmt_view statements ≡ statements_of tokens.now layout }
+    ensures { IfOk result (λ main. function_view main ≡ main_tree tokens.now layout) }
 {
-    let mut statements = Seq::new(alloc);
-    add_declarations(alloc, tokens, layout.declarations, &mut statements)?;
-    add_tests(alloc, tokens, layout, numbers, &mut statements)?;
-    statements.push(return_zero(
-        tokens,
-        test_at(layout.declarations, layout.tests),
-    ))?;
-    Ok(Stmt {
+    let body = Stmt {
         spot: spot(tokens, 15),
         form: Form::Block(statements),
+    };
+    Ok(Function {
+        name: Text::of(alloc, "main")?,
+        result: Some(IntType::Int),
+        params: Seq::new(alloc),
+        body,
     })
 }
 
@@ -59,13 +55,8 @@ fn build(
     ensures { IfOk result (λ program. program_view program ≡ program_tree tokens.now layout) }
 {
     let Objects { objects, numbers } = found;
-    let body = main_body(alloc, tokens, layout, &numbers)?;
-    let main = Function {
-        name: Text::of(alloc, "main")?,
-        result: Some(IntType::Int),
-        params: Seq::new(alloc),
-        body,
-    };
+    let statements = main_statements(alloc, tokens, layout, &numbers)?;
+    let main = main_function(alloc, tokens, layout, statements)?;
     let functions = one(alloc, main)?;
     Ok(Program {
         model: DataModel::Ilp32,

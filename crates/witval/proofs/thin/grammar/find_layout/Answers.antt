@@ -21,4 +21,4 @@ returns-clause-layout c =
 pub returns-clause-within : goal.returns-clause-within
 returns-clause-within c =
     let room : test_start c.repetitions-declarations.result c.repetitions-tests.result ≤ length c.args.tokens.now = search rules in
-    layout-within c.is_exactly-fits.result c.repetitions-declarations.result c.repetitions-tests.result (length c.args.tokens.now) room
+    rw c.then_some.ensures (layout-within c.is_exactly-fits.result c.repetitions-declarations.result c.repetitions-tests.result (length c.args.tokens.now) room)
