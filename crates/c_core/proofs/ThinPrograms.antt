@@ -6,11 +6,11 @@ use Rattle.std.proofs.lemmas.List.{append-nil}
 use Rattle.std.proofs.Math.Bool.{or-true}
 use Rattle.std.specs.List.{list_all, range_with_len, sum_by}
 use Rattle.c_core.specs.Tree.{Exp, One, Stm, Stmt, Form, Block, Stms, Function, Program}
-use Rattle.c_core.specs.Parts.{is_empty, same_spot, every_statement_of, names_in_block, names_of_program, spots_of_names, objects_of}
+use Rattle.c_core.specs.Parts.{is_empty, same_spot, every_statement_of, names_in_block, spots_of_names, objects_of}
 use Rattle.c_core.specs.Thin.{is_int, has_type_int, is_thin_object, is_thin_objects, is_ilp32, is_unreach_call, is_thin_body, is_body_form, is_thin_main, is_thin_functions, is_thin, IsPlaced}
 use Rattle.c_core.specs.Typing.{same_type, is_scalar, has_value, init_fits, statement_fits}
 use Rattle.c_core.specs.Scope.{is_in, times_in, is_fixed_object, is_fixed, is_reached, is_object, is_owned_once, block_reaches, statement_nests, block_jumps}
-use Rattle.c_core.specs.Program.{IsProgram, stands_at, object_fits, places_rise}
+use Rattle.c_core.specs.Program.{IsProgram, stands_at, object_fits}
 use Rattle.c_core.specs.TextOrder.{rises, spots_of_block, spots_of_objects}
 use Rattle.c_core.proofs.TextOrderLaws.{left, right, either, same_spot-self, IsPart, skips, takes, part_none, part_front, part_behind, rises-part}
 use Rattle.c_core.proofs.ThinShapes.{comparison_of, arm_of, declaration_of, return_of, IsEnd, last, test, IsThinBlock, ends, declares, block_in, IsIntType, int_type, int_of}
@@ -256,19 +256,19 @@ module _ (m : DataModel) (property : Property) (os : List Object) (at : Spot) (b
   }
 
 checked_form : (m : DataModel) (property : Property) (os : List Object) (at : Spot) (f : Form)
-  → is_thin_objects os ≡ true → is_body_form (length os) f ≡ true
-  → IsPlaced (with_body m property os (Stmt at f)) → IsProgram (with_body m property os (Stmt at f))
+    → is_thin_objects os ≡ true → is_body_form (length os) f ≡ true
+    → IsPlaced (with_body m property os (Stmt at f)) → IsProgram (with_body m property os (Stmt at f))
 checked_form m property os at (Block b) thin shape = checked_thin_of m property os at b thin (block_in (length os) (length os) 0 b shape)
 checked_form m property os at _ thin shape = absurd (false≢true shape)
 
 checked_body : (m : DataModel) (property : Property) (os : List Object) (body : Stm)
-  → is_thin_objects os ≡ true → is_thin_body (length os) body ≡ true
-  → IsPlaced (with_body m property os body) → IsProgram (with_body m property os body)
+    → is_thin_objects os ≡ true → is_thin_body (length os) body ≡ true
+    → IsPlaced (with_body m property os body) → IsProgram (with_body m property os body)
 checked_body m property os (Stmt at f) = checked_form m property os at f
 
 checked_function : (m : DataModel) (property : Property) (os : List Object) (starts : List Start) (result : Option IntType) (params : List ℕ) (body : Stm) (main : ℕ)
-  → is_thin_objects os ≡ true → IsIntType result → is_empty starts ≡ true → is_empty params ≡ true → main ≡ 0 → is_thin_body (length os) body ≡ true
-  → IsPlaced (with_function m property os starts result params body main) → IsProgram (with_function m property os starts result params body main)
+    → is_thin_objects os ≡ true → IsIntType result → is_empty starts ≡ true → is_empty params ≡ true → main ≡ 0 → is_thin_body (length os) body ≡ true
+    → IsPlaced (with_function m property os starts result params body main) → IsProgram (with_function m property os starts result params body main)
 checked_function m property os [] _ [] body zero thin int_type s q n shape = checked_body m property os body thin shape
 checked_function m property os [] _ [] body (suc k) thin int_type s q n shape = absurd (omega arith)
 checked_function m property os [] _ (o ∷ params) body main thin int_type s q n shape = absurd (false≢true q)
@@ -278,8 +278,8 @@ abbrev with_functions : DataModel → Property → List Object → List Start �
 with_functions m property os starts fs main = record { model = m; property = property; objects = os; starts = starts; functions = fs; main = main }
 
 checked_functions : (m : DataModel) (property : Property) (os : List Object) (starts : List Start) (fs : List Function) (main : ℕ)
-  → is_thin (with_functions m property os starts fs main) ≡ true
-  → IsPlaced (with_functions m property os starts fs main) → IsProgram (with_functions m property os starts fs main)
+    → is_thin (with_functions m property os starts fs main) ≡ true
+    → IsPlaced (with_functions m property os starts fs main) → IsProgram (with_functions m property os starts fs main)
 checked_functions m property os starts [] main h =
     absurd (false≢true (right (is_thin_objects os && is_empty starts) _ (right (is_ilp32 m && is_unreach_call property) _ h)))
 checked_functions m property os starts (f ∷ g ∷ fs) main h =
@@ -292,8 +292,8 @@ checked_functions m property os starts (f ∷ []) main h =
     let whole = left _ _ (left _ _ rest) in
     let more = right (has_type_int f.result) _ whole in
     checked_function m property os starts f.result f.params f.body main
-      (left _ _ objects) (int_of f.result (left _ _ whole)) (right (is_thin_objects os) _ objects) (left _ _ more)
-      (eqb-true main 0 (right (is_thin_functions (length os) (f ∷ [])) _ rest)) (right (is_empty f.params) _ more)
+    (left _ _ objects) (int_of f.result (left _ _ whole)) (right (is_thin_objects os) _ objects) (left _ _ more)
+    (eqb-true main 0 (right (is_thin_functions (length os) (f ∷ [])) _ rest)) (right (is_empty f.params) _ more)
 
 -- a thin program is a checked program, where its places are as they should
 pub checked_thin : (p : Program) → is_thin p ≡ true → IsPlaced p → IsProgram p

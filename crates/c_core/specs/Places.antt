@@ -102,8 +102,12 @@ places_of_body (Stmt at f) = places_of_form at f
 abbrev pub places_of : Program → List Place
 places_of p = flat_map (λ f. places_of_body f.body) p.functions
 
+abbrev pub of_kind : PlaceKind → List Place → List Spot
+of_kind kind [] = []
+of_kind kind (p ∷ places) = cond (same_kind kind p.kind) (p.spot ∷ of_kind kind places) (of_kind kind places)
+
 abbrev pub spots_of_kind : PlaceKind → Program → List Spot
-spots_of_kind kind p = map (λ place. place.spot) (filter (λ place. same_kind kind place.kind) (places_of p))
+spots_of_kind kind p = of_kind kind (places_of p)
 
 -- exactly there, or on the line where no column is named
 abbrev pub is_named : ℕ → Option ℕ → Spot → Bool

@@ -54,14 +54,14 @@ spots_of_init Absent = []
 spots_of_init (One e) = spots_of e
 spots_of_init (Many es) = spots_of_arguments es
 
-abbrev pub spots_of_names : Names → List Spot
-spots_of_names NoName = []
-spots_of_names (MoreName spot o i ns) = spot ∷ spots_of_init i ++ spots_of_names ns
+abbrev pub spots_of_declarators : Names → List Spot
+spots_of_declarators NoName = []
+spots_of_declarators (MoreName spot o i ns) = spot ∷ spots_of_init i ++ spots_of_declarators ns
 
 abbrev pub spots_of_first : First → List Spot
 spots_of_first NoFirst = []
 spots_of_first (FirstExp e) = spots_of e
-spots_of_first (FirstNames ns) = spots_of_names ns
+spots_of_first (FirstNames ns) = spots_of_declarators ns
 
 abbrev mutual
   pub spots_of_statement : Stm → List Spot
@@ -70,7 +70,7 @@ abbrev mutual
   pub spots_of_form : Spot → Form → List Spot
   spots_of_form at Empty = at ∷ []
   spots_of_form at (Do e) = whole at (spots_of e)
-  spots_of_form at (Declare ns) = at ∷ spots_of_names ns
+  spots_of_form at (Declare ns) = at ∷ spots_of_declarators ns
   spots_of_form at (Block b) = at ∷ spots_of_block b
   spots_of_form at (If e a b) = at ∷ spots_of e ++ spots_of_statement a ++ spots_of_else b
   spots_of_form at (While e b) = at ∷ spots_of e ++ spots_of_statement b

@@ -1,16 +1,26 @@
 //! The checked program: types, operators, trees.
 #![tactic(auto)]
 
+#[cfg(test)]
+mod built;
+mod laws;
 mod number;
+mod operate;
 mod place;
 mod program;
+mod program_laws;
+#[cfg(test)]
+mod tests;
 mod tree;
 mod types;
 #[cfg(test)]
 mod worked;
 
+pub use laws::{conversions_settle, wider_types_keep};
 pub use number::{BinOp, DataModel, Done, IntType, Property, Spot, StepOp, UnOp};
+pub use operate::{apply, apply_one};
 pub use place::{Place, PlaceKind};
 pub use program::Program;
+pub use program_laws::{places_of_a_kind_rise, thin_programs_are_checked};
 pub use tree::{Callee, Declared, Expr, First, Form, Function, Init, Node, Object, Start, Stmt};
 pub use types::{common, convert, promote, signed, width};

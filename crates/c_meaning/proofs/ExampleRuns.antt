@@ -19,4 +19,6 @@ example_runs = record {
   three_calls_are_counted = refl;
   error_after_three_turns = refl;
   error_after_recursion = refl;
+  room_for_two = refl;
+  no_room_for_three = refl;
 }

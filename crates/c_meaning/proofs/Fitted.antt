@@ -1,6 +1,5 @@
 -- A value that was converted to a type is a value of the type: converting it again changes nothing.
-use Rattle.std.proofs.Common.{◌≡◌, ℕ, suc, ◌-◌, ◌%◌, ◌^◌, ◌<◌, ◌≤◌, Bool, true, false, cond, not, nat_lt, ℤ, pos, negsuc, refl, ap, ◌∙◌, arith, unsigned_abs}
-use Rattle.std.specs.Int.{int_rem_euclid}
+use Rattle.std.proofs.Common.{◌≡◌, ℕ, suc, ◌-◌, ◌%◌, ◌^◌, ◌<◌, Bool, true, false, cond, not, nat_lt, ℤ, pos, negsuc, refl, ap, arith}
 use Rattle.std.proofs.lemmas.Nat.{pow_pos, mod_below}
 use Rattle.std.proofs.Math.Nat.{mod-eq_of_lt}
 use Rattle.c_core.specs.Types.{residue, signed_of, wrapped, fit, number_of, is_zero}

@@ -1,5 +1,5 @@
 -- The draws of a run, taken in turn, give the same run.
-use Rattle.std.proofs.Common.{◌≡◌, ℕ, zero, suc, ℤ, pos, Bool, true, false, cond, List, [], ◌∷◌, ◌++◌, length, map, reverse, Option, Some, None, refl, sym, ◌∙◌, ap, subst, nat_le, not, take, ◌+◌, ◌-◌, slice_get, append_assoc}
+use Rattle.std.proofs.Common.{◌≡◌, ℕ, zero, suc, ℤ, pos, Bool, true, false, cond, List, [], ◌∷◌, ◌++◌, length, reverse, Option, Some, None, refl, sym, ◌∙◌, ap, subst, nat_le, not, take, ◌+◌, ◌-◌, slice_get, append_assoc}
 use Rattle.std.proofs.lemmas.List.{append_cancel_left, append-nil, map-append}
 use Rattle.c_core.specs.Types.{fit, is_zero, number_of}
 use Rattle.c_core.specs.Operators.{apply_of, apply_one_of}
@@ -171,6 +171,7 @@ module _ (p : Program) (S : Type 0) (see : Moment → S → S) where
     where
       value : State S → ℤ
       value s = fit p.model ty (or_zero (chosen kind spot s.choices))
+
       new : State S → Draw
       new s = record { spot = spot; ty = ty; value = value s; from = kind }
 

@@ -1,11 +1,12 @@
 -- Small programs, as trees with the places of their texts. Objects have no names here: no rule on runs reads them.
 use Rattle.std.specs.Prelude.{ℕ, pos, true, false, Bool, List, [], ◌∷◌, Option, Some, None}
-use Rattle.c_core.specs.Tree.{Exp, Expr, Node, Const, Var, Unary, Step, Binary, Assign, Call, Exps, NoExp, MoreExp, One, Names, NoName, MoreName, Stm, Stmt, Form, Do, Declare, Block, If, While, Return, Label, NoElse, Stms, NoStm, MoreStm, Function, Program}
+use Rattle.c_core.specs.Tree.{Exp, Expr, Node, Const, Var, Unary, Step, Binary, Assign, Call, NoExp, MoreExp, One, Names, NoName, MoreName, Stm, Stmt, Form, Do, Declare, Block, If, While, Return, Label, NoElse, Stms, NoStm, MoreStm, Function, Program}
 use Rattle.c_core.specs.declared.number.IntType.{IntType}
-use Rattle.c_core.specs.declared.number.IntType.TheVariants.{Int, UInt}
+use Rattle.c_core.specs.declared.number.IntType.TheVariants.{Char, Int, UInt, Long}
+use Rattle.c_core.specs.declared.number.DataModel.{DataModel}
 use Rattle.c_core.specs.declared.number.DataModel.TheVariants.{Ilp32}
 use Rattle.c_core.specs.declared.number.Property.{Property}
-use Rattle.c_core.specs.declared.number.Property.TheVariants.{UnreachCall}
+use Rattle.c_core.specs.declared.number.Property.TheVariants.{UnreachCall, NoOverflow}
 use Rattle.c_core.specs.declared.number.Spot.{Spot}
 use Rattle.c_core.specs.declared.number.BinOp.{BinOp}
 use Rattle.c_core.specs.declared.number.BinOp.TheVariants.{Add, Sub, Lt, Le, Gt, Eq, Ne}
@@ -102,16 +103,24 @@ main_alone property objects body = program property objects [] (function (Some I
 -- 2|int __VERIFIER_nondet_int();
 -- 3|int main() {
 -- 4|  int x = __VERIFIER_nondet_int();
--- 5|  if (x == n) {
+-- 5|  if (test) {
 -- 6|    reach_error();
 -- 7|  }
 -- 8|  return 0;
 -- 9|}
-abbrev pub branch_on_input : ℕ → Program
-branch_on_input n = main_alone UnreachCall (local 4 7 ∷ []) (block 3 12 (
+abbrev pub branch_on : Exp → ℕ → Program
+branch_on test brace = main_alone UnreachCall (local 4 7 ∷ []) (block 3 12 (
     declaration 4 3 7 0 (int_input 4 11 33) ∷
-    if_then 5 3 (operation 5 7 Eq (object 5 7 0) (number 5 12 n)) (block 5 15 (reach_error 6 5 17 ∷ [])) ∷
+    if_then 5 3 test (block 5 brace (reach_error 6 5 17 ∷ [])) ∷
     return_number 8 3 10 0 ∷ []))
+
+-- with the test `x == n`
+abbrev pub branch_on_input : ℕ → Program
+branch_on_input n = branch_on (operation 5 7 Eq (object 5 7 0) (number 5 12 n)) 15
+
+-- with the test `x - x != 0`
+abbrev pub branch_on_difference : Program
+branch_on_difference = branch_on (operation 5 7 Ne (operation 5 7 Sub (object 5 7 0) (object 5 11 0)) (number 5 16 0)) 19
 
 -- 1|int __VERIFIER_nondet_int();
 -- 2|int main() {
@@ -161,16 +170,16 @@ combine_inputs property op = main_alone property (local 3 7 ∷ local 4 7 ∷ []
 abbrev pub count_down : Program
 count_down = program UnreachCall (local 5 28 ∷ cell UInt false 15 16 ∷ cell UInt false 16 16 ∷ cell UInt false 16 21 ∷ []) [] (
     function None (0 ∷ []) (block 5 34 (
-        if_then 6 3 (exp Int 6 7 (Unary Not (object 6 8 0))) (block 6 16 (
-            statement 7 5 (Label (block 7 12 (reach_error 7 13 25 ∷ only 7 27 (call 7 27 None Abort 33) ∷ []))) ∷ [])) ∷
-        statement 9 3 (Return None) ∷ [])) ∷
+    if_then 6 3 (exp Int 6 7 (Unary Not (object 6 8 0))) (block 6 16 (
+    statement 7 5 (Label (block 7 12 (reach_error 7 13 25 ∷ only 7 27 (call 7 27 None Abort 33) ∷ []))) ∷ [])) ∷
+    statement 9 3 (Return None) ∷ [])) ∷
     function (Some Int) [] (block 14 1 (
-        declaration 15 3 16 1 (call 15 20 (Some UInt) (Input UInt) 43) ∷
-        statement 16 3 (Declare (declared 16 16 2 (exp UInt 16 18 (Var 1)) (declared 16 21 3 (number 16 23 0) NoName))) ∷
-        while_do 17 3 (operation 17 9 Gt (exp UInt 17 9 (Var 2)) (number 17 11 0)) (block 18 3 (
-            only 19 5 (exp UInt 19 5 (Step PostDec (exp UInt 19 5 (Var 2)))) ∷
-            only 20 5 (exp UInt 20 5 (Step PostInc (exp UInt 20 5 (Var 3)))) ∷ [])) ∷
-        only 22 3 (call_with 22 3 None 0 (operation 22 21 Eq (exp UInt 22 21 (Var 3)) (exp UInt 22 24 (Var 1))) 25) ∷ [])) ∷ []) 1
+    declaration 15 3 16 1 (call 15 20 (Some UInt) (Input UInt) 43) ∷
+    statement 16 3 (Declare (declared 16 16 2 (exp UInt 16 18 (Var 1)) (declared 16 21 3 (number 16 23 0) NoName))) ∷
+    while_do 17 3 (operation 17 9 Gt (exp UInt 17 9 (Var 2)) (number 17 11 0)) (block 18 3 (
+    only 19 5 (exp UInt 19 5 (Step PostDec (exp UInt 19 5 (Var 2)))) ∷
+    only 20 5 (exp UInt 20 5 (Step PostInc (exp UInt 20 5 (Var 3)))) ∷ [])) ∷
+    only 22 3 (call_with 22 3 None 0 (operation 22 21 Eq (exp UInt 22 21 (Var 3)) (exp UInt 22 24 (Var 1))) 25) ∷ [])) ∷ []) 1
 
 --  1|void reach_error() { }
 --  2|int main() {
@@ -210,11 +219,11 @@ count_calls = program UnreachCall (cell Int true 2 5 ∷ local 6 7 ∷ []) (reco
     function None [] (block 3 10 (change_by_one 3 12 0 16 20 ∷ [])) ∷
     function None [] (block 4 10 (only 4 12 (call 4 12 None (Defined 0) 14) ∷ [])) ∷
     function (Some Int) [] (block 5 12 (
-        declaration 6 3 7 1 (number 6 11 0) ∷
-        while_do 7 3 (operation 7 10 Lt (object 7 10 1) (number 7 14 3)) (block 7 17 (
-            only 8 5 (call 8 5 None (Defined 1) 7) ∷ change_by_one 9 5 1 9 13 ∷ [])) ∷
-        if_then 11 3 (operation 11 7 Ne (object 11 7 0) (number 11 12 0)) (block 11 15 (reach_error 12 5 17 ∷ [])) ∷
-        return_number 14 3 10 0 ∷ [])) ∷ []) 2
+    declaration 6 3 7 1 (number 6 11 0) ∷
+    while_do 7 3 (operation 7 10 Lt (object 7 10 1) (number 7 14 3)) (block 7 17 (
+    only 8 5 (call 8 5 None (Defined 1) 7) ∷ change_by_one 9 5 1 9 13 ∷ [])) ∷
+    if_then 11 3 (operation 11 7 Ne (object 11 7 0) (number 11 12 0)) (block 11 15 (reach_error 12 5 17 ∷ [])) ∷
+    return_number 14 3 10 0 ∷ [])) ∷ []) 2
 
 --  1|void reach_error() { }
 --  2|int main() {
@@ -243,9 +252,31 @@ count_to_three = main_alone UnreachCall (local 3 7 ∷ []) (block 2 12 (
 abbrev pub recurse : Program
 recurse = program UnreachCall (local 2 11 ∷ []) [] (
     function (Some Int) (0 ∷ []) (block 2 14 (
-        if_then 2 16 (operation 2 20 Le (object 2 20 0) (number 2 25 0)) (block 2 28 (return_number 2 30 37 0 ∷ [])) ∷
-        statement 2 42 (Return (Some (call_with 2 49 (Some Int) 0 (operation 2 51 Sub (object 2 51 0) (number 2 55 1)) 56))) ∷ [])) ∷
+    if_then 2 16 (operation 2 20 Le (object 2 20 0) (number 2 25 0)) (block 2 28 (return_number 2 30 37 0 ∷ [])) ∷
+    statement 2 42 (Return (Some (call_with 2 49 (Some Int) 0 (operation 2 51 Sub (object 2 51 0) (number 2 55 1)) 56))) ∷ [])) ∷
     function (Some Int) [] (block 3 12 (
-        only 4 3 (call_with 4 3 (Some Int) 0 (number 4 5 3) 6) ∷
-        reach_error 5 3 15 ∷
-        return_number 6 3 10 0 ∷ [])) ∷ []) 1
+    only 4 3 (call_with 4 3 (Some Int) 0 (number 4 5 3) 6) ∷
+    reach_error 5 3 15 ∷
+    return_number 6 3 10 0 ∷ [])) ∷ []) 1
+
+-- 1|int main() {
+-- 2|  char c = 127;
+-- 3|  c++;
+-- 4|  return 0;
+-- 5|}
+abbrev pub step_char : Program
+step_char = main_alone NoOverflow (cell Char false 2 8 ∷ []) (block 1 12 (
+    declaration 2 3 8 0 (number 2 12 127) ∷
+    only 3 3 (exp Char 3 3 (Step PostInc (exp Char 3 3 (Var 0)))) ∷
+    return_number 4 3 10 0 ∷ []))
+
+-- 1|int main() {
+-- 2|  long x = 2147483647;
+-- 3|  x + 1;
+-- 4|  return 0;
+-- 5|}
+abbrev pub add_to_long : DataModel → Program
+add_to_long model = record (main_alone NoOverflow (cell Long false 2 8 ∷ []) (block 1 12 (
+    declaration 2 3 8 0 (number 2 12 2147483647) ∷
+    only 3 3 (exp Long 3 3 (Binary Add (exp Long 3 3 (Var 0)) (number 3 7 1))) ∷
+    return_number 4 3 10 0 ∷ []))) { model = model }

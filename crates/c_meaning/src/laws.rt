@@ -7,5 +7,4 @@ ghost use Rattle.c_meaning.specs.Replay.{IsReplayed};
 /// The draws of a run, taken in turn, give the same run.
 pub fn replay()
     ensures { (p : Program) (c : Choices) (N : ℕ) → IsReplayed p c N }
-{
-}
+{}

@@ -1,8 +1,11 @@
 pub mod Confirmed
+mod ExampleGiven
+mod ExamplePassing
 mod ExampleVerdicts
 pub mod Judged
 pub mod Tested
 pub mod ThinParts
+<<<<<<< HEAD
 pub mod TokenSteps
 pub mod GrammarSteps
 pub mod NameSteps
@@ -10,3 +13,6 @@ pub mod TreeSteps
 pub mod StatementSteps
 pub mod PlaceSteps
 pub mod ProgramSteps
+=======
+pub mod ThinTracked
+>>>>>>> origin/main

@@ -1,10 +1,11 @@
 pub mod Points
-pub mod Calls
 pub mod Passing
 pub mod Matching
 pub mod Given
 pub mod Verdicts
 pub mod ExampleVerdicts
+pub mod ExampleGiven
+pub mod ExamplePassing
 pub mod ThinProperty
 pub mod ThinCharacters
 pub mod ThinWitness
@@ -19,3 +20,4 @@ pub mod Running
 pub mod ThinTokens
 pub mod ThinGrammar
 pub mod ThinObjects
+pub mod ThinTracking

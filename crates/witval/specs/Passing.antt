@@ -3,6 +3,7 @@ use Rattle.std.specs.Prelude.{ℤ, Bool, true, false, List, [], ◌∷◌, Optio
 use Rattle.c_core.specs.Types.{fit, common_of}
 use Rattle.c_core.specs.Operators.{apply_of}
 use Rattle.c_core.specs.Tree.{Exp, Program}
+use Rattle.c_core.specs.Places.{call_at}
 use Rattle.c_core.specs.declared.number.IntType.{IntType}
 use Rattle.c_core.specs.declared.number.IntType.TheVariants.{Int}
 use Rattle.c_core.specs.declared.number.DataModel.{DataModel}
@@ -15,7 +16,6 @@ use Rattle.c_meaning.specs.Cells.{Cell}
 use Rattle.c_meaning.specs.Objects.{same_spot, type_of}
 use Rattle.c_meaning.specs.Value.{and_then, wrapping, value_of, is_true, holds}
 use Rattle.witval.specs.Points.{Aim, At, Line, ReturnTest, Point, Assume, Target, Enter, Return, Branch}
-use Rattle.witval.specs.Calls.{call_at}
 
 -- a target names the place
 abbrev pub aims : Aim → Spot → Bool

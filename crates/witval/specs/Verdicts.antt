@@ -1,5 +1,5 @@
 -- The right verdict on a violation witness.
-use Rattle.std.specs.Prelude.{◌≡◌, ℕ, ℤ, List, Option, Some, None}
+use Rattle.std.specs.Prelude.{◌≡◌, ℕ, ℤ, Bool, true, false, List, Option, Some, None}
 use Rattle.c_core.specs.Tree.{Program}
 use Rattle.c_core.specs.declared.number.Spot.{Spot}
 use Rattle.c_meaning.specs.declared.run.End.{End}
@@ -42,3 +42,12 @@ pub record Violates (p : Program) (ss : List BoundSegment) (N : ℕ) (values : L
 abbrev pub IsConfirmed : Program → List BoundSegment → ℕ → Verdict → Type 0
 IsConfirmed p ss N (ViolationConfirmed draws positions) = Violates p ss N (values_of draws) positions
 IsConfirmed p ss N _ = Unit {0}
+
+abbrev pub is_confirmation : Verdict → Bool
+is_confirmation (ViolationConfirmed draws positions) = true
+is_confirmation _ = false
+
+-- the given run violates the property within N steps, and its events match
+pub record IsGivenViolation (p : Program) (ss : List BoundSegment) (N : ℕ) : Type 0 where
+  pub violated : (spot : Spot) × ((RunGiven p ss N).end ≡ end.Violated spot)
+  pub matched : (positions : List ℕ) × Matches p ss (SeenGiven p ss N) positions

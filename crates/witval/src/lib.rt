@@ -12,5 +12,8 @@ mod thin;
 mod top;
 mod words;
 
-pub use laws::{confirmed_violates, test_matches};
+pub use laws::{confirmed_violates, confirms_exactly, test_matches};
 pub use top::run;
+
+#[cfg(test)]
+mod tests;

@@ -8,10 +8,12 @@ mod property;
 mod statements;
 mod stub;
 mod tokens;
+mod tracker;
 mod trees;
 mod witness;
 
-pub use property::is_unreach;
 pub use program::read_program;
+pub use property::is_unreach;
 pub use stub::{is_placed, judge_violation};
+pub use tracker::Tracker;
 pub use witness::{ThinWitness, read_witness};

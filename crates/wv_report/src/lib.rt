@@ -8,3 +8,6 @@ mod report;
 
 pub use reply::{Reply, status};
 pub use report::text;
+
+#[cfg(test)]
+mod tests;
