@@ -5,4 +5,14 @@ mod ExampleVerdicts
 pub mod Judged
 pub mod Tested
 pub mod ThinParts
+<<<<<<< HEAD
+pub mod TokenSteps
+pub mod GrammarSteps
+pub mod NameSteps
+pub mod TreeSteps
+pub mod StatementSteps
+pub mod PlaceSteps
+pub mod ProgramSteps
+=======
 pub mod ThinTracked
+>>>>>>> origin/main

@@ -17,4 +17,7 @@ pub mod Inputs
 pub mod Tasks
 pub mod Replies
 pub mod Running
+pub mod ThinTokens
+pub mod ThinGrammar
+pub mod ThinObjects
 pub mod ThinTracking

@@ -1,12 +1,19 @@
 // Readers of the inputs that this release takes: one property, one shape of witness, and programs
 // of input calls and tests.
 mod characters;
+mod grammar;
+mod objects;
+mod program;
 mod property;
+mod statements;
 mod stub;
+mod tokens;
 mod tracker;
+mod trees;
 mod witness;
 
+pub use program::read_program;
 pub use property::is_unreach;
-pub use stub::{is_placed, judge_violation, read_program};
+pub use stub::{is_placed, judge_violation};
 pub use tracker::Tracker;
 pub use witness::{ThinWitness, read_witness};
