@@ -5,5 +5,12 @@ mod ExampleVerdicts
 pub mod Judged
 pub mod Tested
 pub mod ThinParts
+pub mod TokenSteps
+pub mod GrammarSteps
+pub mod NameSteps
+pub mod TreeSteps
+pub mod StatementSteps
+pub mod PlaceSteps
+pub mod ProgramSteps
 pub mod ThinTracked
 pub mod ThinJudged

@@ -17,5 +17,8 @@ pub mod Inputs
 pub mod Tasks
 pub mod Replies
 pub mod Running
+pub mod ThinTokens
+pub mod ThinGrammar
+pub mod ThinObjects
 pub mod ThinTracking
 pub mod Budget

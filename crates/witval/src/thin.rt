@@ -2,13 +2,20 @@
 // of input calls and tests; and the judge of these.
 mod characters;
 mod choices;
+mod grammar;
 mod judge;
+mod objects;
+mod program;
 mod property;
+mod statements;
 mod stub;
+mod tokens;
 mod tracker;
+mod trees;
 mod witness;
 
 pub use judge::judge_violation;
+pub use program::read_program;
 pub use property::is_unreach;
-pub use stub::{is_placed, read_program};
+pub use stub::is_placed;
 pub use witness::{ThinWitness, read_witness};

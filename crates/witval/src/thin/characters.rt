@@ -15,7 +15,7 @@ pub enum Class {
 }
 
 impl Class {
-    fn has(self, byte: u8) -> bool
+    pub fn has(self, byte: u8) -> bool
         ensures { result ≡ in_class self byte }
     {
         match self {

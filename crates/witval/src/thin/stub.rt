@@ -8,13 +8,6 @@ use c_core::Program;
 use std::alloc::Global;
 use wv_base::OutOfMemory;
 
-pub fn read_program(_alloc: Global, bytes: &[u8]) -> Result<Option<Program>, OutOfMemory>
-    requires { length bytes.now ≤ 1048576 }
-    ensures { IfOk result (λ p. MatchOption p (thin_program bytes.now ≡ None) (λ p. thin_program bytes.now ≡ Some (program_view p))) }
-{
-    Ok(None)
-}
-
 pub fn is_placed(_program: &Program, _witness: &ThinWitness) -> bool
     ensures { result ≡ is_placed (program_view _program.now) _witness.now }
 {

@@ -1,0 +1,91 @@
+ghost use Rattle.std.specs.Prelude.{◌≡◌, ◌^◌, ◌<◌, ◌≤◌, length, map, IfOk, IsTrue, MatchOption, None, Some};
+ghost use Rattle.c_core.specs.TextOrder.{rises};
+ghost use Rattle.c_core.specs.View.{function_view, program_view, stmt_view};
+ghost use Rattle.witval.specs.ThinGrammar.{is_consistent, layout_of};
+ghost use Rattle.witval.specs.ThinObjects.{AreObjects};
+ghost use Rattle.witval.specs.ThinProgram.{main_tree, program_tree, statements_of, thin_program};
+
+use crate::thin::grammar::{Layout, find_layout, spot};
+use crate::thin::objects::{Objects, declare_objects};
+use crate::thin::statements::{do_tests_fit, main_statements};
+use crate::thin::tokens::{Token, read_tokens};
+use crate::thin::trees::one;
+use c_core::{DataModel, Form, Function, IntType, Program, Property, Stmt};
+use std::alloc::Global;
+use wv_base::{OutOfMemory, Seq, Text};
+
+/// A program has at most so many cells.
+const MOST_DECLARATIONS: usize = 100000;
+
+/// `int main() { .. }`
+fn main_function(
+    alloc: Global,
+    tokens: &[Token],
+    layout: Layout,
+    statements: Seq<Stmt>,
+) -> Result<Function, OutOfMemory>
+    requires { map stmt_view statements ≡ statements_of tokens.now layout }
+    ensures { IfOk result (λ main. function_view main ≡ main_tree tokens.now layout) }
+{
+    let body = Stmt {
+        spot: spot(tokens, 15),
+        form: Form::Block(statements),
+    };
+    Ok(Function {
+        name: Text::of(alloc, "main")?,
+        result: Some(IntType::Int),
+        params: Seq::new(alloc),
+        body,
+    })
+}
+
+/// The program of consistent tokens.
+fn build(
+    alloc: Global,
+    tokens: &[Token],
+    layout: Layout,
+    found: Objects,
+) -> Result<Program, OutOfMemory>
+    requires laid_out { layout_of tokens.now ≡ Some layout }
+    requires objects { AreObjects tokens.now layout.declarations found }
+    requires rising { IsTrue (rises (map (λ t. t.spot) tokens.now)) }
+    requires consistent { IsTrue (is_consistent tokens.now layout) }
+    requires declarations { layout.declarations < 2 ^ 20 }
+    requires tests { layout.tests < 2 ^ 20 }
+    ensures { IfOk result (λ program. program_view program ≡ program_tree tokens.now layout) }
+{
+    let Objects { objects, numbers } = found;
+    let statements = main_statements(alloc, tokens, layout, &numbers)?;
+    let main = main_function(alloc, tokens, layout, statements)?;
+    let functions = one(alloc, main)?;
+    Ok(Program {
+        model: DataModel::Ilp32,
+        property: Property::UnreachCall,
+        objects,
+        starts: Seq::new(alloc),
+        functions,
+        main: 0,
+    })
+}
+
+/// Reads a thin program; `None` where the bytes are none.
+pub fn read_program(alloc: Global, bytes: &[u8]) -> Result<Option<Program>, OutOfMemory>
+    requires { length bytes.now ≤ 1048576 }
+    ensures { IfOk result (λ p. MatchOption p (thin_program bytes.now ≡ None) (λ p. thin_program bytes.now ≡ Some (program_view p))) }
+{
+    let tokens = read_tokens(alloc, bytes)?;
+    let Some(layout) = find_layout(alloc, &tokens)? else {
+        return Ok(None);
+    };
+    if layout.declarations > MOST_DECLARATIONS {
+        return Ok(None);
+    }
+    let Some(objects) = declare_objects(alloc, &tokens, layout.declarations)? else {
+        return Ok(None);
+    };
+    if !do_tests_fit(&tokens, layout, &objects.numbers) {
+        return Ok(None);
+    }
+    let program = build(alloc, &tokens, layout, objects)?;
+    Ok(Some(program))
+}
