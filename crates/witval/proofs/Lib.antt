@@ -5,3 +5,4 @@ mod ExampleVerdicts
 pub mod Judged
 pub mod Tested
 pub mod ThinParts
+pub mod ThinTracked

@@ -17,3 +17,4 @@ pub mod Inputs
 pub mod Tasks
 pub mod Replies
 pub mod Running
+pub mod ThinTracking

@@ -3,8 +3,10 @@
 mod characters;
 mod property;
 mod stub;
+mod tracker;
 mod witness;
 
 pub use property::is_unreach;
 pub use stub::{is_placed, judge_violation, read_program};
+pub use tracker::Tracker;
 pub use witness::{ThinWitness, read_witness};
