@@ -18,3 +18,4 @@ pub mod Tasks
 pub mod Replies
 pub mod Running
 pub mod ThinTracking
+pub mod ThinChoices
