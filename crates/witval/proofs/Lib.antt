@@ -14,3 +14,7 @@ pub mod PlaceSteps
 pub mod ProgramSteps
 pub mod ThinTracked
 pub mod ThinJudged
+pub mod MainStatements
+pub mod ThinInputs
+pub mod ThinGiven
+pub mod ThinReturns

@@ -22,3 +22,4 @@ pub mod ThinGrammar
 pub mod ThinObjects
 pub mod ThinTracking
 pub mod Budget
+pub mod ThinChoices

@@ -1,7 +1,7 @@
-ghost use Rattle.std.specs.Prelude.{◌≡◌, IfOk, true};
+ghost use Rattle.std.specs.Prelude.{◌≡◌, IfOk};
 ghost use Rattle.c_core.specs.View.{program_view};
 ghost use Rattle.witval.specs.Tasks.{IsRightVerdict};
-ghost use Rattle.witval.specs.ThinPlaces.{is_placed, segments_of};
+ghost use Rattle.witval.specs.ThinPlaces.{segments_of};
 ghost use Rattle.witval.specs.ThinTracking.{positions_if, verdict_by};
 
 use crate::thin::choices::choices;
@@ -21,7 +21,6 @@ pub fn judge_violation(
     program: &Program,
     witness: &ThinWitness,
 ) -> Result<Verdict, OutOfMemory>
-    requires { is_placed (program_view program.now) witness.now ≡ true }
     ensures { IfOk result (IsRightVerdict (program_view program.now) (segments_of witness.now)) }
 {
     let choices = choices(alloc, program, witness)?;
