@@ -62,7 +62,7 @@ end_calls count _ (test at _ _ b (comparison_of here x constant o n h g) (arm_of
     record {
       all = more.all;
       ending = λ at. found_reach (same_spot close at) call close _ (more.ending at);
-      typed = λ at. typed_found (same_spot close at) _ _ refl (more.typed at)
+      typed = λ at. typed_found (same_spot close at) _ _ refl (more.typed at);
     }
 
 block_calls : (count n k : ℕ) (b : Stms) → IsThinBlock count n k b → AreCalls (exps_of_statements (statements_of_block b)) (spots_of_declarations b)
@@ -72,7 +72,7 @@ block_calls count (suc n) k _ (declares _ _ _ b (declaration_of at name call clo
     record {
       all = ap (λ cs. int_call call ∷ cs) more.all;
       ending = λ at. found_input (same_spot close at) call close _ _ (more.ending at);
-      typed = λ at. typed_found (same_spot close at) _ _ refl (more.typed at)
+      typed = λ at. typed_found (same_spot close at) _ _ refl (more.typed at);
     }
 
 -- of the functions of a program, where `main` has a number
@@ -82,7 +82,7 @@ OfFunctions fs main = AreCalls (exps_of_statements (flat_map (λ f. statements_o
 form_calls : (count : ℕ) (at : Spot) (f : Form) → is_body_form count f ≡ true → AreCalls (exps_of_statements (statements_of (Stmt at f) ++ [])) (spots_of_declarations (block_of (Stmt at f)))
 form_calls count at (Block b) h =
     subst (λ ss. AreCalls (exps_of_statements ss) (spots_of_declarations b)) (sym (append-nil (statements_of_block b)))
-      (block_calls count count 0 b (block_in count count 0 b h))
+    (block_calls count count 0 b (block_in count count 0 b h))
 form_calls count at _ h = absurd (false≢true h)
 
 body_calls : (count : ℕ) (s : Stm) → is_thin_body count s ≡ true → AreCalls (exps_of_statements (statements_of s ++ [])) (spots_of_declarations (block_of s))

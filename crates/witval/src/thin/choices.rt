@@ -9,7 +9,9 @@ ghost use Rattle.witval.specs.ThinChoices.{block_of, given_to_all, main_block, s
 ghost use Rattle.witval.specs.declared.thin.witness.ThinWitness.{ThinWitness};
 
 use crate::thin::witness::ThinWitness;
-use c_core::{Callee, DataModel, Declared, Expr, Form, Init, IntType, Node, Program, Spot, Stmt, convert};
+use c_core::{
+    Callee, DataModel, Declared, Expr, Form, Init, IntType, Node, Program, Spot, Stmt, convert,
+};
 use c_meaning::{Choices, Given};
 use std::alloc::Global;
 use wv_base::{OutOfMemory, Seq};
