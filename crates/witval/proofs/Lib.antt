@@ -13,3 +13,7 @@ pub mod StatementSteps
 pub mod PlaceSteps
 pub mod ProgramSteps
 pub mod ThinTracked
+pub mod MainStatements
+pub mod ThinInputs
+pub mod ThinGiven
+pub mod ThinReturns

@@ -1,6 +1,7 @@
 // Readers of the inputs that this release takes: one property, one shape of witness, and programs
 // of input calls and tests.
 mod characters;
+mod choices;
 mod grammar;
 mod objects;
 mod program;
