@@ -7,7 +7,6 @@ use Rattle.c_meaning.specs.declared.run.End.TheVariants as end
 use Rattle.c_meaning.specs.declared.run.Choices.{Choices}
 use Rattle.c_meaning.specs.declared.verdict.Verdict.{Verdict}
 use Rattle.c_meaning.specs.Run.{Run}
-use Rattle.c_meaning.specs.Replay.{values_of}
 use Rattle.c_meaning.proofs.Replayed.{replayed}
 use Rattle.witval.specs.Points.{BoundSegment}
 use Rattle.witval.specs.Matching.{seen_of, SeenIn, Matches, Finds}
@@ -18,9 +17,10 @@ true_false : true ≡ false → ⊥
 true_false e = let x : true ≡ false = e in cc
 
 -- the draws of a run that violates and matches do so again
-violates : (p : Program) (ss : List BoundSegment) (N : ℕ) (c : Choices) (ns : List ℕ) (spot : Spot) → (Run p c N).end ≡ end.Violated spot → Matches p ss (SeenIn p c N) ns → Violates p ss N (values_of (Run p c N).draws) ns
+violates : (p : Program) (ss : List BoundSegment) (N : ℕ) (c : Choices) (ns : List ℕ) (spot : Spot) → (Run p c N).end ≡ end.Violated spot → Matches p ss (SeenIn p c N) ns → Violates p ss N (Run p c N).draws ns
 violates p ss N c ns spot e m = record {
   violated = (spot, ap (λ r. r.end) (replayed p c N).run ∙ e);
+  drawn = ap (λ r. r.draws) (replayed p c N).run;
   matched = subst (λ xs. Matches p ss (seen_of xs) ns) (sym (replayed p c N).moments) m;
 }
 

@@ -1,5 +1,5 @@
 -- A thin witness gives its value to the input call that it names.
-use Rattle.std.proofs.Common.{◌≡◌, ◌∙◌, ℤ, Bool, true, cond, List, [], ◌∷◌, ◌++◌, map, Option, Some, None, refl, sym, ap}
+use Rattle.std.proofs.Common.{◌≡◌, ◌∙◌, ℤ, true, cond, List, [], ◌∷◌, ◌++◌, map, Option, Some, None, refl, sym, ap}
 use Rattle.std.proofs.lemmas.List.{append-nil}
 use Rattle.std.specs.Option.{option_map}
 use Rattle.c_core.specs.Types.{fit}

@@ -1,13 +1,13 @@
 -- The calls of a thin program are the input calls of its declarations, and calls of `reach_error`.
-use Rattle.std.proofs.Common.{◌≡◌, ◌∙◌, ℕ, zero, suc, nat_eq, eqb-true, Bool, true, false, cond, ◌&&◌, List, [], ◌∷◌, ◌++◌, length, slice_get, map, Option, Some, None, refl, sym, ap, subst}
+use Rattle.std.proofs.Common.{◌≡◌, ℕ, zero, suc, eqb-true, Bool, true, false, cond, ◌&&◌, List, [], ◌∷◌, ◌++◌, length, slice_get, map, Option, Some, None, refl, sym, ap, subst}
 use Rattle.std.proofs.lemmas.Bool.{false≢true}
 use Rattle.std.proofs.lemmas.List.{append-nil}
 use Rattle.std.specs.List.{flat_map, filter_map, find}
 use Rattle.std.specs.Option.{option_map}
-use Rattle.c_core.specs.Tree.{Exp, Expr, Call, NoExp, Stm, Stmt, Form, Block, Stms, NoStm, MoreStm, Function, Program}
+use Rattle.c_core.specs.Tree.{Exp, Expr, Call, NoExp, Stm, Stmt, Form, Block, Stms, Function, Program}
 use Rattle.c_core.specs.Parts.{is_empty, statements_of, statements_of_block, own_fulls_of, exps_of, exps_of_program}
 use Rattle.c_core.specs.Places.{InputCall, input_of, input_if, ends_at}
-use Rattle.c_core.specs.Thin.{is_thin_block, is_body_form, is_thin_body, is_thin_main, is_thin_functions, is_thin_objects, has_type_int, is_ilp32, is_unreach_call, is_thin}
+use Rattle.c_core.specs.Thin.{is_body_form, is_thin_body, is_thin_main, is_thin_functions, is_thin_objects, has_type_int, is_ilp32, is_unreach_call, is_thin}
 use Rattle.c_core.specs.declared.number.IntType.TheVariants.{Int}
 use Rattle.c_core.specs.declared.number.Spot.{Spot}
 use Rattle.c_core.specs.declared.tree.Callee.TheVariants.{Input, ReachError}

@@ -1,5 +1,5 @@
 -- An input call of a thin program returns an `int`.
-use Rattle.std.proofs.Common.{◌≡◌, ◌∙◌, ℤ, Bool, true, false, not, ◌&&◌, List, Option, Some, None, refl, ap}
+use Rattle.std.proofs.Common.{◌≡◌, ◌∙◌, ℤ, Bool, true, false, not, ◌&&◌, Some, None, refl, ap}
 use Rattle.std.specs.Ordering.{int_eq}
 use Rattle.c_core.specs.Types.{fit, is_zero, number_of}
 use Rattle.c_core.specs.Tree.{Program}
@@ -9,13 +9,11 @@ use Rattle.c_core.specs.declared.number.DataModel.TheVariants.{Ilp32}
 use Rattle.c_core.specs.declared.number.IntType.{IntType}
 use Rattle.c_core.specs.declared.number.IntType.TheVariants.{Int}
 use Rattle.c_core.specs.declared.number.Spot.{Spot}
-use Rattle.c_meaning.specs.declared.run.Event.{Event}
 use Rattle.c_meaning.specs.declared.run.Event.TheVariants as event
-use Rattle.c_meaning.specs.Cells.{Cell}
 use Rattle.c_meaning.specs.Objects.{same_spot}
-use Rattle.witval.specs.Passing.{meets, passes, type_of_call}
+use Rattle.witval.specs.Passing.{meets, type_of_call}
 use Rattle.witval.specs.ThinPlaces.{returns_value}
-use Rattle.witval.specs.ThinTracking.{follow_return, gives_value, ReturnsAsInt}
+use Rattle.witval.specs.ThinTracking.{ReturnsAsInt}
 use Rattle.witval.specs.declared.thin.witness.ThinWitness.{ThinWitness}
 use Rattle.witval.proofs.ThinInputs.{program_calls}
 

@@ -1,5 +1,5 @@
 -- The input calls of a thin program, and the values that a thin witness gives to them.
-use Rattle.std.specs.Prelude.{ℕ, ℤ, cond, List, [], ◌∷◌, ◌++◌, Option, Some, None, slice_get, map}
+use Rattle.std.specs.Prelude.{ℤ, cond, List, [], ◌∷◌, Option, Some, None, slice_get, map}
 use Rattle.c_core.specs.Tree.{Exp, Expr, Node, Call, Init, One, Names, NoName, MoreName, Stm, Stmt, Form, Declare, Block, Stms, NoStm, MoreStm, Function, Program}
 use Rattle.c_core.specs.declared.number.Spot.{Spot}
 use Rattle.c_core.specs.declared.tree.Callee.{Callee}

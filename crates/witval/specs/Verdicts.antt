@@ -2,6 +2,7 @@
 use Rattle.std.specs.Prelude.{◌≡◌, ℕ, ℤ, Bool, true, false, List, Option, Some, None}
 use Rattle.c_core.specs.Tree.{Program}
 use Rattle.c_core.specs.declared.number.Spot.{Spot}
+use Rattle.c_meaning.specs.declared.run.Draw.{Draw}
 use Rattle.c_meaning.specs.declared.run.End.{End}
 use Rattle.c_meaning.specs.declared.run.End.TheVariants as end
 use Rattle.c_meaning.specs.declared.run.Choices.TheVariants.{InTurn}
@@ -33,14 +34,15 @@ IsRightAt p ss N r es end.Deep v = v ≡ Undecided Cells
 abbrev pub IsRightOnViolation : Program → List BoundSegment → ℕ → Verdict → Type 0
 IsRightOnViolation p ss N v = IsRightAt p ss N (RunGiven p ss N) (SeenGiven p ss N) (RunGiven p ss N).end v
 
--- the values, drawn in turn, give a run that violates the property within N steps and passes the segments at these positions
-pub record Violates (p : Program) (ss : List BoundSegment) (N : ℕ) (values : List ℤ) (positions : List ℕ) : Type 0 where
-  pub violated : (spot : Spot) × ((Run p (InTurn values) N).end ≡ end.Violated spot)
-  pub matched : Matches p ss (SeenIn p (InTurn values) N) positions
+-- the values of the draws, taken in turn, give a run that makes just these draws, violates the property within N steps and passes the segments at these positions
+pub record Violates (p : Program) (ss : List BoundSegment) (N : ℕ) (draws : List Draw) (positions : List ℕ) : Type 0 where
+  pub violated : (spot : Spot) × ((Run p (InTurn (values_of draws)) N).end ≡ end.Violated spot)
+  pub drawn : (Run p (InTurn (values_of draws)) N).draws ≡ draws
+  pub matched : Matches p ss (SeenIn p (InTurn (values_of draws)) N) positions
 
 -- what 'violation confirmed' says: the shown draws and positions are those of such a run
 abbrev pub IsConfirmed : Program → List BoundSegment → ℕ → Verdict → Type 0
-IsConfirmed p ss N (ViolationConfirmed draws positions) = Violates p ss N (values_of draws) positions
+IsConfirmed p ss N (ViolationConfirmed draws positions) = Violates p ss N draws positions
 IsConfirmed p ss N _ = Unit {0}
 
 abbrev pub is_confirmation : Verdict → Bool

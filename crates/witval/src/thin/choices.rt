@@ -1,4 +1,4 @@
-ghost use Rattle.std.specs.Prelude.{◌≡◌, [], ◌∷◌, cond, IfOk, true};
+ghost use Rattle.std.specs.Prelude.{◌≡◌, IfOk, true};
 ghost use Rattle.c_core.specs.Tree as tree;
 ghost use Rattle.c_core.specs.Thin.{is_thin};
 ghost use Rattle.c_core.specs.View.{program_view, expr_view, names_view, stmt_view, stmts_view};
@@ -152,3 +152,59 @@ fn returns_as_int()
     ensures { (p : tree.Program) (w : ThinWitness) →
         is_thin p ≡ true → ReturnsAsInt p w }
 {}
+
+#[cfg(test)]
+mod tests {
+    use super::*;
+    use crate::thin::read_program;
+    use std::test::Fail;
+
+    const PROGRAM: &str = "void reach_error() { }
+int __VERIFIER_nondet_int();
+int main() {
+  int x = __VERIFIER_nondet_int();
+  int y = __VERIFIER_nondet_int();
+  if (y == 5) {
+    reach_error();
+  }
+  return 0;
+}
+";
+
+    /// The call at 5:11 ends at 5:33; no other call gets a value.
+    #[test]
+    fn the_named_call_gets_the_value(rt: HostRuntime) -> Result<(), Fail> {
+        let alloc = rt.alloc();
+        let program = read_program(alloc, PROGRAM.as_bytes())?.ok_or("no thin program")?;
+        let witness = ThinWitness {
+            close: Spot {
+                line: 5,
+                column: 33,
+            },
+            value: -5,
+            target: Spot { line: 7, column: 5 },
+        };
+        let Choices::Given(given) = choices(alloc, &program, &witness)? else {
+            return Err("in turn".into());
+        };
+        let given = given.as_slice();
+        assert_eq!(rt; given.len(), 2);
+        assert_eq!(rt;
+            given[0].spot,
+            Spot {
+                line: 4,
+                column: 11
+            }
+        );
+        assert_eq!(rt; given[0].values.as_slice(), [].as_slice());
+        assert_eq!(rt;
+            given[1].spot,
+            Spot {
+                line: 5,
+                column: 11
+            }
+        );
+        assert_eq!(rt; given[1].values.as_slice(), [-5].as_slice());
+        Ok(())
+    }
+}

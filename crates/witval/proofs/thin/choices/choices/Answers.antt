@@ -1,6 +1,5 @@
-use Rattle.std.proofs.Common.{◌≡◌, true, rules}
+use Rattle.std.proofs.Common.{◌≡◌, rules}
 use Rattle.c_core.specs.Types.{fit}
-use Rattle.c_core.specs.Thin.{is_thin}
 use Rattle.c_core.specs.View.{program_view, stmts_view}
 use Rattle.c_core.specs.declared.number.DataModel.TheVariants.{Ilp32}
 use Rattle.c_core.specs.declared.number.IntType.TheVariants.{Int}

@@ -1,5 +1,5 @@
 -- What the whole gives is what was given and what the rest gives.
-use Rattle.std.proofs.Common.{◌≡◌, ◌+◌, ◌*◌, ◌≤◌, ◌++◌, drop}
+use Rattle.std.proofs.Common.{◌≡◌, ◌++◌, drop}
 use Rattle.c_core.specs.View.{stmts_view}
 use Rattle.witval.specs.ThinChoices.{spots_of_declarations, given_to_all}
 use Rattle.witval.proofs.thin.choices.given_to_all.Given as goal

@@ -1,5 +1,5 @@
 -- The first call of the rest is that of the whole.
-use Rattle.std.proofs.Common.{◌≡◌, ◌+◌, ◌*◌, ◌≤◌, drop}
+use Rattle.std.proofs.Common.{◌≡◌, drop}
 use Rattle.c_core.specs.View.{stmts_view}
 use Rattle.witval.specs.ThinChoices.{spots_of_declarations, start_of}
 use Rattle.witval.proofs.thin.choices.start_of.Given as goal
