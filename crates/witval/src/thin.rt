@@ -17,3 +17,6 @@ pub use property::is_unreach;
 pub use stub::{is_placed, judge_violation};
 pub use tracker::Tracker;
 pub use witness::{ThinWitness, read_witness};
+
+#[cfg(test)]
+mod tests;
