@@ -5,7 +5,6 @@ mod ExampleVerdicts
 pub mod Judged
 pub mod Tested
 pub mod ThinParts
-<<<<<<< HEAD
 pub mod TokenSteps
 pub mod GrammarSteps
 pub mod NameSteps
@@ -13,6 +12,5 @@ pub mod TreeSteps
 pub mod StatementSteps
 pub mod PlaceSteps
 pub mod ProgramSteps
-=======
 pub mod ThinTracked
->>>>>>> origin/main
+pub mod AimSteps

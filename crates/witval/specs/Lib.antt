@@ -21,3 +21,4 @@ pub mod ThinTokens
 pub mod ThinGrammar
 pub mod ThinObjects
 pub mod ThinTracking
+pub mod ThinAims

@@ -1,5 +1,6 @@
 // Readers of the inputs that this release takes: one property, one shape of witness, and programs
 // of input calls and tests.
+mod aims;
 mod characters;
 mod grammar;
 mod objects;
@@ -14,7 +15,7 @@ mod witness;
 
 pub use program::read_program;
 pub use property::is_unreach;
-pub use stub::{is_placed, judge_violation};
+pub use stub::judge_violation;
 pub use tracker::Tracker;
 pub use witness::{ThinWitness, read_witness};
 

@@ -1,7 +1,6 @@
-ghost use Rattle.std.specs.Prelude.{◌≡◌, ◌≤◌, IfOk, length, MatchOption, None, Some};
+ghost use Rattle.std.specs.Prelude.{IfOk};
 ghost use Rattle.c_core.specs.View.{program_view};
-ghost use Rattle.witval.specs.ThinProgram.{thin_program};
-ghost use Rattle.witval.specs.ThinPlaces.{is_placed, segments_of};
+ghost use Rattle.witval.specs.ThinPlaces.{segments_of};
 ghost use Rattle.witval.specs.Verdicts.{IsRightOnViolation};
 ghost use Rattle.witval.specs.Tasks.{steps};
 
@@ -10,12 +9,6 @@ use c_core::Program;
 use c_meaning::Verdict;
 use std::alloc::Global;
 use wv_base::OutOfMemory;
-
-pub fn is_placed(_program: &Program, _witness: &ThinWitness) -> bool
-    ensures { result ≡ is_placed (program_view _program.now) _witness.now }
-{
-    false
-}
 
 pub fn judge_violation(
     _alloc: Global,

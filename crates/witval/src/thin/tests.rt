@@ -51,6 +51,16 @@ int main() {
 }
 ";
 
+/// What the witness says.
+const PLACED: ThinWitness = ThinWitness {
+    close: Spot {
+        line: 4,
+        column: 33,
+    },
+    value: 5,
+    target: Spot { line: 6, column: 5 },
+};
+
 fn at(line: u32, column: u32) -> Spot {
     Spot { line, column }
 }
@@ -73,7 +83,7 @@ fn is_thin_with(alloc: Global, old: &str, new: &str) -> Result<bool, OutOfMemory
     if text.len() > 1048576 {
         return Ok(false);
     }
-    Ok(read_program(alloc, text.as_str().as_bytes())?.is_some())
+    Ok(read_program(alloc, text.as_str().as_bytes(), &PLACED)?.is_some())
 }
 
 #[test]
@@ -90,12 +100,7 @@ fn property_with_or_without_a_line_feed(rt: HostRuntime) -> Result<(), Fail> {
 #[test]
 fn witness_is_read(rt: HostRuntime) -> Result<(), Fail> {
     let alloc = rt.alloc();
-    let expected = ThinWitness {
-        close: at(4, 33),
-        value: 5,
-        target: at(6, 5),
-    };
-    assert_eq!(rt; read_witness(alloc, WITNESS.as_bytes())?, Some(expected));
+    assert_eq!(rt; read_witness(alloc, WITNESS.as_bytes())?, Some(PLACED));
     for (old, new, value) in [
         ("== 5", "== -5", -5),
         ("== 5", "== -0", 0),
@@ -201,9 +206,10 @@ fn program_is_read_with_its_places(rt: HostRuntime) -> Result<(), Fail> {
     if bytes.len() > 1048576 {
         return Ok(());
     }
-    let Some(program) = read_program(alloc, bytes)? else {
+    let Some(reading) = read_program(alloc, bytes, &PLACED)? else {
         panic!(rt; "a thin program is read");
     };
+    let program = reading.program;
     let expected = [
         at(4, 3),
         at(4, 7),
@@ -271,6 +277,52 @@ fn other_programs_are_refused(rt: HostRuntime) -> Result<(), Fail> {
         ("int x", "int \u{e9}"),
     ] {
         assert!(rt; !is_thin_with(alloc, old, new)?, "{old} {new}");
+    }
+    Ok(())
+}
+
+fn is_placed(alloc: Global, close: Spot, target: Spot) -> Result<bool, OutOfMemory> {
+    let bytes = PROGRAM.as_bytes();
+    if bytes.len() > 1048576 {
+        return Ok(false);
+    }
+    let witness = ThinWitness {
+        close,
+        value: 5,
+        target,
+    };
+    Ok(read_program(alloc, bytes, &witness)?.is_some_and(|reading| reading.placed))
+}
+
+#[test]
+fn waypoints_stand_where_they_may(rt: HostRuntime) -> Result<(), Fail> {
+    let alloc = rt.alloc();
+    for target in [
+        at(4, 3),
+        at(4, 11),
+        at(5, 3),
+        at(5, 7),
+        at(5, 15),
+        at(6, 5),
+        at(8, 3),
+        at(8, 10),
+    ] {
+        assert!(rt; is_placed(alloc, at(4, 33), target)?, "{target:?}");
+    }
+    for target in [
+        at(4, 7),
+        at(4, 33),
+        at(5, 12),
+        at(6, 17),
+        at(3, 12),
+        at(1, 1),
+        at(6, 6),
+        at(7, 5),
+    ] {
+        assert!(rt; !is_placed(alloc, at(4, 33), target)?, "{target:?}");
+    }
+    for close in [at(4, 11), at(4, 32), at(6, 17), at(2, 27), at(5, 33)] {
+        assert!(rt; !is_placed(alloc, close, at(6, 5))?, "{close:?}");
     }
     Ok(())
 }
