@@ -45,7 +45,7 @@ aims_of_tests : (ts : List TokenAt) (target : Spot) (d k n at : ℕ) →
 aims_of_tests ts target d k zero at = regroup_two (same_spot (spot_at ts at) target) (same_spot (spot_at ts (at + 1)) target) false false false ∙ or-false (is_in_return ts target at)
 aims_of_tests ts target d k (suc n) at =
     regroup_four (same_spot (spot_at ts (test_start d k)) target) (same_spot (spot_at ts (test_start d k + 2)) target) (same_spot (spot_at ts (test_start d k + 6)) target)
-      (same_spot (spot_at ts (test_start d k + 7)) target) _ _ _
+    (same_spot (spot_at ts (test_start d k + 7)) target) _ _ _
     ∙ ap (λ rest. is_in_test ts target (test_start d k) || rest) (aims_of_tests ts target d (k + 1) n at)
     ∙ sym_or (is_in_test ts target (test_start d k)) (list_any (λ j. is_in_test ts target (test_start d j)) (range_with_len (k + 1) n)) (is_in_return ts target at)
 
@@ -104,18 +104,18 @@ placed-stands ts layout w =
     let whole = block_of (statements_of ts layout) in
     let parted = block_of (map (declaration_of ts) (range_with_len 0 d) ++ tests) in
     let is_parted : block_of (statements_of ts layout) ≡ block_of (map (declaration_of ts) (range_with_len 0 d) ++ tests) =
-        ap block_of (append_assoc (map (declaration_of ts) (range_with_len 0 d)) (map (test_of ts d) (range_with_len 0 e)) end) in
+    ap block_of (append_assoc (map (declaration_of ts) (range_with_len 0 d)) (map (test_of ts d) (range_with_len 0 e)) end) in
     let fulls : fulls_of_program p ≡ flat_map own_fulls_of (statements_of_block whole) = ap (flat_map own_fulls_of) (append-nil (body_tree ts layout ∷ statements_of_block whole)) in
     let exps : exps_of_program p ≡ flat_map exps_of (flat_map own_fulls_of (statements_of_block whole)) = ap (flat_map exps_of) fulls in
     let places : places_of p ≡ places_of_block whole = append-nil (places_of_block whole) in
     let input : is_some (input_at p w.close) ≡ is_input_close ts layout w.close =
-        ap (λ es. is_some (input_if (find (ends_at w.close) es))) exps ∙ ap (input_in w.close) is_parted
-        ∙ inputs_of_declarations ts w.close 0 d tests (inputs_of_tests ts w.close d 0 e (test_start d e)) in
+    ap (λ es. is_some (input_if (find (ends_at w.close) es))) exps ∙ ap (input_in w.close) is_parted
+    ∙ inputs_of_declarations ts w.close 0 d tests (inputs_of_tests ts w.close d 0 e (test_start d e)) in
     let aim : aim_fits p w.target.line (Some w.target.column) ≡ is_target ts layout w.target =
-        aims_split (λ s. same_spot s w.target) (places_of p) (fulls_of_program p) (exps_of_program p) (places_of_block whole) (flat_map own_fulls_of (statements_of_block whole))
-          (flat_map exps_of (flat_map own_fulls_of (statements_of_block whole))) places fulls exps
-        ∙ ap (aims_in w.target) is_parted ∙ aims_of_declarations ts w.target 0 d tests
-        ∙ ap (λ rest. is_in_declarations ts layout w.target || rest) (aims_of_tests ts w.target d 0 e (test_start d e)) in
+    aims_split (λ s. same_spot s w.target) (places_of p) (fulls_of_program p) (exps_of_program p) (places_of_block whole) (flat_map own_fulls_of (statements_of_block whole))
+    (flat_map exps_of (flat_map own_fulls_of (statements_of_block whole))) places fulls exps
+    ∙ ap (aims_in w.target) is_parted ∙ aims_of_declarations ts w.target 0 d tests
+    ∙ ap (λ rest. is_in_declarations ts layout w.target || rest) (aims_of_tests ts w.target d 0 e (test_start d e)) in
     ap (λ b. b && aim_fits p w.target.line (Some w.target.column)) input ∙ ap (λ b. is_input_close ts layout w.close && b) aim
 
 -- what is read of the tokens holds of the program that is built of them

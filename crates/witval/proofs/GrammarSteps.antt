@@ -56,7 +56,7 @@ pub times-counted : (whole count fuel less : ℕ) (p ts : List TokenAt) → whol
     whole ≡ count + 1 + times_within less p (drop (length p) ts)
 times-counted whole count fuel less p ts known some is all =
     let next : times_within fuel p ts ≡ 1 + times_within less p (drop (length p) ts) =
-        times_within-more fuel p ts some all ∙ ap (λ m. 1 + times_within m p (drop (length p) ts)) (sym is) in
+    times_within-more fuel p ts some all ∙ ap (λ m. 1 + times_within m p (drop (length p) ts)) (sym is) in
     omega (arith, known, next)
 
 -- what `&ts[k..]` is

@@ -14,3 +14,4 @@ pub mod PlaceSteps
 pub mod ProgramSteps
 pub mod ThinTracked
 pub mod AimSteps
+pub mod JudgedTask

@@ -69,8 +69,8 @@ bool_cases false = inr refl
 apart_from : (u v w : List ℕ) → bytes_eq u v ≡ false → bytes_eq u w ≡ true → bytes_eq v w ≡ false
 apart_from u v w other same =
     elim (bool_cases (bytes_eq v w)) [
-      inl again ↦ let clash : bytes_eq u v ≡ true = equal_text u v (same_text u w same ∙ sym (same_text v w again)) in cc
-    | inr apart ↦ apart
+      | inl again ↦ let clash : bytes_eq u v ≡ true = equal_text u v (same_text u w same ∙ sym (same_text v w again)) in cc
+      | inr apart ↦ apart
     ]
 
 object_from-more : (k : ℕ) (names : List (List ℕ)) (v w : List ℕ) → object_from k names v ≡ None →
@@ -78,20 +78,20 @@ object_from-more : (k : ℕ) (names : List (List ℕ)) (v w : List ℕ) → obje
 object_from-more k [] v w new = rw (add-zero k) refl
 object_from-more k (u ∷ names) v w new =
     elim (bool_cases (bytes_eq u v)) [
-      inl same ↦ let hit : Some k ≡ None = sym (object_from-hit k u names v same) ∙ new in cc
-    | inr other ↦
-      let rest : object_from (k + 1) names v ≡ None = sym (object_from-miss k u names v other) ∙ new in
-      let more = object_from-more (k + 1) names v w rest in
-      let count : k + 1 + length names ≡ k + suc (length names) = omega arith in
-      elim (bool_cases (bytes_eq u w)) [
-        inl same ↦
-        let apart : bytes_eq v w ≡ false = apart_from u v w other same in
-        object_from-hit k u (names ++ v ∷ []) w same ∙ sym (ap (λ b. if b then Some (k + suc (length names)) else object_from k (u ∷ names) w) apart ∙ object_from-hit k u names w same)
-      | inr none ↦
-        object_from-miss k u (names ++ v ∷ []) w none ∙ more
-        ∙ ap (λ n. if bytes_eq v w then Some n else object_from (k + 1) names w) count
-        ∙ ap (λ o. if bytes_eq v w then Some (k + suc (length names)) else o) (sym (object_from-miss k u names w none))
-      ]
+      | inl same ↦ let hit : Some k ≡ None = sym (object_from-hit k u names v same) ∙ new in cc
+      | inr other ↦
+          let rest : object_from (k + 1) names v ≡ None = sym (object_from-miss k u names v other) ∙ new in
+          let more = object_from-more (k + 1) names v w rest in
+          let count : k + 1 + length names ≡ k + suc (length names) = omega arith in
+          elim (bool_cases (bytes_eq u w)) [
+            | inl same ↦
+                let apart : bytes_eq v w ≡ false = apart_from u v w other same in
+                object_from-hit k u (names ++ v ∷ []) w same ∙ sym (ap (λ b. if b then Some (k + suc (length names)) else object_from k (u ∷ names) w) apart ∙ object_from-hit k u names w same)
+            | inr none ↦
+                object_from-miss k u (names ++ v ∷ []) w none ∙ more
+                ∙ ap (λ n. if bytes_eq v w then Some n else object_from (k + 1) names w) count
+                ∙ ap (λ o. if bytes_eq v w then Some (k + suc (length names)) else o) (sym (object_from-miss k u names w none))
+          ]
     ]
 
 pub object_of-more : (names : List (List ℕ)) (v w : List ℕ) → object_of names v ≡ None →

@@ -48,7 +48,7 @@ follows_later at next ts before f = record { rising = f.rising; behind_all = λ 
 follows_token : (at next : Spot) (text : List ℕ) (ts : List TokenAt) → is_before at next ≡ true → Follows next ts → Follows at (record { text = text; spot = at } ∷ ts)
 follows_token at next text ts before f = record {
   rising = rw (first_before at (spots ts) (f.behind_all at before)) f.rising;
-  behind_all = λ a h. rw h (f.behind_all a (is_before-then a at next h before))
+  behind_all = λ a h. rw h (f.behind_all a (is_before-then a at next h before));
 }
 
 follows_first : (at next : Spot) (bytes : List ℕ) (c : ℕ) (blank : Bool) (ts : List TokenAt) → is_before at next ≡ true → Follows next ts →
@@ -61,7 +61,7 @@ tokens_follow at left [] = record { rising = refl; behind_all = λ a h. refl }
 tokens_follow at (suc left) (c ∷ bytes) = follows_later at (right at 1) (tokens_from (right at 1) left bytes) (before-right at) (tokens_follow (right at 1) left bytes)
 tokens_follow at zero (c ∷ bytes) =
     follows_first at (behind at c) _ c (is_blank c) (tokens_from (behind at c) (token_length (c ∷ bytes) - 1) bytes) (before-behind at c)
-      (tokens_follow (behind at c) (token_length (c ∷ bytes) - 1) bytes)
+    (tokens_follow (behind at c) (token_length (c ∷ bytes) - 1) bytes)
 
 tokens_rise : (bytes : List ℕ) → rises (spots (tokens_of bytes)) ≡ true
 tokens_rise bytes = (tokens_follow (record { line = 1; column = 1 }) 0 bytes).rising
@@ -73,27 +73,27 @@ Places ts n ss = IsPart ss (spots (drop n ts))
 pass : (ts : List TokenAt) (n m : ℕ) (ss : List Spot) → m ≡ n + 1 → n < length ts → Places ts m ss → Places ts n ss
 pass ts n m ss next within p =
     subst (λ xs. IsPart ss (spots xs)) (sym (drop-cons ts n no_token within))
-      (skips (spot_at ts n) ss (spots (drop (suc n) ts)) (subst (λ k. Places ts k ss) (next ∙ add-one n) p))
+    (skips (spot_at ts n) ss (spots (drop (suc n) ts)) (subst (λ k. Places ts k ss) (next ∙ add-one n) p))
 
 pick : (ts : List TokenAt) (n m : ℕ) (ss : List Spot) → m ≡ n + 1 → n < length ts → Places ts m ss → Places ts n (spot_at ts n ∷ ss)
 pick ts n m ss next within p =
     subst (λ xs. IsPart (spot_at ts n ∷ ss) (spots xs)) (sym (drop-cons ts n no_token within))
-      (takes (spot_at ts n) ss (spots (drop (suc n) ts)) (subst (λ k. Places ts k ss) (next ∙ add-one n) p))
+    (takes (spot_at ts n) ss (spots (drop (suc n) ts)) (subst (λ k. Places ts k ss) (next ∙ add-one n) p))
 
 declaration_places : (ts : List TokenAt) (n : ℕ) (ss : List Spot) → n + 7 ≤ length ts → Places ts (n + 7) ss →
     Places ts n (spot_at ts n ∷ spot_at ts (n + 1) ∷ spot_at ts (n + 3) ∷ spot_at ts (n + 5) ∷ ss)
 declaration_places ts n ss within p =
     pick ts n (n + 1) _ refl (omega arith) (pick ts (n + 1) (n + 2) _ (omega arith) (omega arith) (pass ts (n + 2) (n + 3) _ (omega arith) (omega arith)
-      (pick ts (n + 3) (n + 4) _ (omega arith) (omega arith) (pass ts (n + 4) (n + 5) _ (omega arith) (omega arith)
-        (pick ts (n + 5) (n + 6) ss (omega arith) (omega arith) (pass ts (n + 6) (n + 7) ss (omega arith) (omega arith) p))))))
+    (pick ts (n + 3) (n + 4) _ (omega arith) (omega arith) (pass ts (n + 4) (n + 5) _ (omega arith) (omega arith)
+    (pick ts (n + 5) (n + 6) ss (omega arith) (omega arith) (pass ts (n + 6) (n + 7) ss (omega arith) (omega arith) p))))))
 
 test_places : (ts : List TokenAt) (n : ℕ) (ss : List Spot) → n + 12 ≤ length ts → Places ts (n + 12) ss →
     Places ts n (spot_at ts n ∷ spot_at ts (n + 2) ∷ spot_at ts (n + 4) ∷ spot_at ts (n + 6) ∷ spot_at ts (n + 7) ∷ spot_at ts (n + 9) ∷ ss)
 test_places ts n ss within p =
     pick ts n (n + 1) _ refl (omega arith) (pass ts (n + 1) (n + 2) _ (omega arith) (omega arith) (pick ts (n + 2) (n + 3) _ (omega arith) (omega arith)
-      (pass ts (n + 3) (n + 4) _ (omega arith) (omega arith) (pick ts (n + 4) (n + 5) _ (omega arith) (omega arith) (pass ts (n + 5) (n + 6) _ (omega arith) (omega arith)
-        (pick ts (n + 6) (n + 7) _ (omega arith) (omega arith) (pick ts (n + 7) (n + 8) _ (omega arith) (omega arith) (pass ts (n + 8) (n + 9) _ (omega arith) (omega arith)
-          (pick ts (n + 9) (n + 10) ss (omega arith) (omega arith) (pass ts (n + 10) (n + 11) ss (omega arith) (omega arith) (pass ts (n + 11) (n + 12) ss (omega arith) (omega arith) p)))))))))))
+    (pass ts (n + 3) (n + 4) _ (omega arith) (omega arith) (pick ts (n + 4) (n + 5) _ (omega arith) (omega arith) (pass ts (n + 5) (n + 6) _ (omega arith) (omega arith)
+    (pick ts (n + 6) (n + 7) _ (omega arith) (omega arith) (pick ts (n + 7) (n + 8) _ (omega arith) (omega arith) (pass ts (n + 8) (n + 9) _ (omega arith) (omega arith)
+    (pick ts (n + 9) (n + 10) ss (omega arith) (omega arith) (pass ts (n + 10) (n + 11) ss (omega arith) (omega arith) (pass ts (n + 11) (n + 12) ss (omega arith) (omega arith) p)))))))))))
 
 closing_places : (ts : List TokenAt) (n : ℕ) → n + 4 ≤ length ts → Places ts n (spot_at ts n ∷ spot_at ts (n + 1) ∷ [])
 closing_places ts n within = pick ts n (n + 1) _ refl (omega arith) (pick ts (n + 1) (n + 2) [] (omega arith) (omega arith) (part_none (spots (drop (n + 2) ts))))
@@ -111,7 +111,7 @@ tests_placed ts d k (suc n) at is within =
     let s = test_start d k in
     let rest = spots_of_block (block_of (map (test_of ts d) (range_with_len (k + 1) n) ++ return_tree ts at ∷ [])) in
     rw (whole-same (spot_at ts (s + 2)) [], whole-same (spot_at ts (s + 7)) (spot_at ts (s + 9) ∷ []))
-      (test_places ts s rest room (subst (λ m. Places ts m rest) next more))
+    (test_places ts s rest room (subst (λ m. Places ts m rest) next more))
 
 declarations_placed : (ts : List TokenAt) (k n : ℕ) (more : List t.Stm) → declaration_start (k + n) ≤ length ts → Places ts (declaration_start (k + n)) (spots_of_block (block_of more)) →
     Places ts (declaration_start k) (spots_of_block (block_of (map (declaration_of ts) (range_with_len k n) ++ more)))
@@ -181,18 +181,18 @@ tree_placed ts layout rising found fits =
     let count : declaration_start (0 + d) ≤ length ts = omega (arith, room) in
     let tests_at' : test_start d 0 ≡ declaration_start (0 + d) = omega arith in
     let placed : Places ts (declaration_start (0 + d)) (spots_of_block (block_of tests)) =
-        subst (λ n. Places ts n (spots_of_block (block_of tests))) tests_at' (tests_placed ts d 0 e (test_start d e) tests_end within) in
+    subst (λ n. Places ts n (spots_of_block (block_of tests))) tests_at' (tests_placed ts d 0 e (test_start d e) tests_end within) in
     let body = spots_of_block (block_of (map (declaration_of ts) (range_with_len 0 d) ++ tests)) in
     let all : Places ts 15 (spot_at ts 15 ∷ body) = opening_places ts body opened (declarations_placed ts 0 d tests count placed) in
     let assoc = append_assoc (map (declaration_of ts) (range_with_len 0 d)) (map (test_of ts d) (range_with_len 0 e)) (return_tree ts (test_start d e) ∷ []) in
     let all_spots : spots_of_functions (program_tree ts layout).functions ≡ spot_at ts 15 ∷ body =
-        append-nil (spot_at ts 15 ∷ spots_of_block (block_of (statements_of ts layout))) ∙ ap (λ ss. spot_at ts 15 ∷ spots_of_block (block_of ss)) assoc in
+    append-nil (spot_at ts 15 ∷ spots_of_block (block_of (statements_of ts layout))) ∙ ap (λ ss. spot_at ts 15 ∷ spots_of_block (block_of ss)) assoc in
     let all_names : names_of_program (program_tree ts layout) ≡ names_in_block (block_of (map (declaration_of ts) (range_with_len 0 d) ++ tests)) =
-        append-nil (names_in_block (block_of (statements_of ts layout))) ∙ ap (λ ss. names_in_block (block_of ss)) assoc in
+    append-nil (names_in_block (block_of (statements_of ts layout))) ∙ ap (λ ss. names_in_block (block_of ss)) assoc in
     record {
       in_order = ap rises all_spots ∙ part_from ts 15 (spot_at ts 15 ∷ body) all rising;
       named = names_placed ts 0 d tests (tests_nameless ts d 0 e (test_start d e)) ∙ sym (ap spots_of_names all_names);
-      few = few_of ts layout fits
+      few = few_of ts layout fits;
     }
 
 pub tokens_rise-given : (bytes : List ℕ) (ts : List TokenAt) → ts ≡ tokens_of bytes → rises (spots ts) ≡ true

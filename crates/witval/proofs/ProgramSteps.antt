@@ -28,7 +28,7 @@ pub statements-are : (ts : List TokenAt) (layout : Layout) (start declared teste
 statements-are ts layout start declared tested all end none ds es last is =
     ap (map stmt_view) last ∙ map-append stmt_view tested (end ∷ []) ∙ ap (λ s. map stmt_view tested ++ s ∷ []) is
     ∙ ap (λ ss. ss ++ return_tree ts (test_start layout.declarations layout.tests) ∷ []) (es ∙ ap (λ ss. ss ++ map (test_of ts layout.declarations) (range_with_len 0 layout.tests))
-        (ds ∙ ap (λ ss. map stmt_view ss ++ map (declaration_of ts) (range_with_len 0 layout.declarations)) none))
+    (ds ∙ ap (λ ss. map stmt_view ss ++ map (declaration_of ts) (range_with_len 0 layout.declarations)) none))
 
 stmts_view-map : (ss : List Stmt) → stmts_view ss ≡ block_of (map stmt_view ss)
 stmts_view-map [] = refl

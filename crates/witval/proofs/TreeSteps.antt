@@ -18,12 +18,12 @@ object_from-below : (k : ℕ) (names : List (List ℕ)) (w : List ℕ) (d : ℕ)
 object_from-below k [] w d found = cc
 object_from-below k (v ∷ names) w d found =
     elim (bool_cases (bytes_eq v w)) [
-      inl same ↦ let is : unwrap_or (object_from k (v ∷ names) w) d ≡ k = ap (λ o. unwrap_or o d) (object_from-hit k v names w same) in omega (arith, is)
-    | inr other ↦
-      let rest : is_some (object_from (k + 1) names w) ≡ true = ap is_some (sym (object_from-miss k v names w other)) ∙ found in
-      let below : unwrap_or (object_from (k + 1) names w) d < k + 1 + length names = object_from-below (k + 1) names w d rest in
-      let is : unwrap_or (object_from k (v ∷ names) w) d ≡ unwrap_or (object_from (k + 1) names w) d = ap (λ o. unwrap_or o d) (object_from-miss k v names w other) in
-      omega (arith, below, is)
+      | inl same ↦ let is : unwrap_or (object_from k (v ∷ names) w) d ≡ k = ap (λ o. unwrap_or o d) (object_from-hit k v names w same) in omega (arith, is)
+      | inr other ↦
+          let rest : is_some (object_from (k + 1) names w) ≡ true = ap is_some (sym (object_from-miss k v names w other)) ∙ found in
+          let below : unwrap_or (object_from (k + 1) names w) d < k + 1 + length names = object_from-below (k + 1) names w d rest in
+          let is : unwrap_or (object_from k (v ∷ names) w) d ≡ unwrap_or (object_from (k + 1) names w) d = ap (λ o. unwrap_or o d) (object_from-miss k v names w other) in
+          omega (arith, below, is)
     ]
 
 value_within : (decimal_text within : Bool) (n : ℕ) → is_some (if decimal_text && within then Some n else None) ≡ true → (decimal_text && within) ≡ true
@@ -59,7 +59,7 @@ test_below ts d k fits =
 test_small : (ts : List TokenAt) (d k : ℕ) → test_fits (names_of ts d) ts d k ≡ true → nat_le (compared_constant ts d k) 2147483647 ≡ true
 test_small ts d k fits =
     number_of-within (text_at ts (test_start d k + 4))
-      (both_right (is_some (object_of (names_of ts d) (text_at ts (test_start d k + 2)))) (is_some (number_of (text_at ts (test_start d k + 4)))) fits)
+    (both_right (is_some (object_of (names_of ts d) (text_at ts (test_start d k + 2)))) (is_some (number_of (text_at ts (test_start d k + 4)))) fits)
 
 tests_thin : (ts : List TokenAt) (d k n at : ℕ) → list_all (test_fits (names_of ts d) ts d) (range_with_len k n) ≡ true →
     is_thin_end d (block_of (map (test_of ts d) (range_with_len k n) ++ return_tree ts at ∷ [])) ≡ true
@@ -76,7 +76,7 @@ tree_thin ts layout fits =
     let many : length (objects_of ts layout.declarations) ≡ layout.declarations = length-map-range_with_len (object_at ts) 0 layout.declarations in
     let tests = both_right (names_fit [] names) (tests_fit names ts layout) (both_right (nat_le d most_declarations) (names_fit [] names && tests_fit names ts layout) fits) in
     let body : is_thin_block d d 0 (block_of (statements_of ts layout)) ≡ true =
-      ap (λ ss. is_thin_block d d 0 (block_of ss)) (append_assoc (map (declaration_of ts) (range_with_len 0 d)) (map (test_of ts d) (range_with_len 0 layout.tests)) (return_tree ts (test_start d layout.tests) ∷ []))
-      ∙ declarations_thin ts d d 0 (map (test_of ts d) (range_with_len 0 layout.tests) ++ return_tree ts (test_start d layout.tests) ∷ [])
-      ∙ tests_thin ts d 0 layout.tests (test_start d layout.tests) tests in
+    ap (λ ss. is_thin_block d d 0 (block_of ss)) (append_assoc (map (declaration_of ts) (range_with_len 0 d)) (map (test_of ts d) (range_with_len 0 layout.tests)) (return_tree ts (test_start d layout.tests) ∷ []))
+    ∙ declarations_thin ts d d 0 (map (test_of ts d) (range_with_len 0 layout.tests) ++ return_tree ts (test_start d layout.tests) ∷ [])
+    ∙ tests_thin ts d 0 layout.tests (test_start d layout.tests) tests in
     rw (objects_thin ts 0 layout.declarations, many, body) refl

@@ -234,7 +234,10 @@ fn other_programs_are_refused(rt: HostRuntime) -> Result<(), Fail> {
         ("== 5", "== 0"),
         ("== 5", "==\n2147483647"),
         ("absent", "  \n"),
-        ("  int x = __VERIFIER_nondet_int();\n  if (x == 5) {\n    reach_error();\n  }\n", ""),
+        (
+            "  int x = __VERIFIER_nondet_int();\n  if (x == 5) {\n    reach_error();\n  }\n",
+            "",
+        ),
     ] {
         assert!(rt; is_thin_with(alloc, old, new)?, "{old} {new}");
     }

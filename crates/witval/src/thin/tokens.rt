@@ -80,7 +80,10 @@ pub fn read_tokens<'a>(alloc: Global, bytes: &'a [u8]) -> Result<Vec<Token<'a>>,
         }
         let count = length_at_front(rest);
         let spot = Spot { line, column };
-        tokens.push(Token { text: &rest[..count], spot })?;
+        tokens.push(Token {
+            text: &rest[..count],
+            spot,
+        })?;
         column += count as u32;
         rest = &rest[count..];
     }

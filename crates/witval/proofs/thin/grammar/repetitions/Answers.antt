@@ -14,5 +14,5 @@ loop-rest-preserved c =
       whole = rw (take_rest c.loop-rest.rest.now (length c.args.production.now))
           (times-counted (times c.args.production.now c.args.tokens.now) c.loop-rest.count _ _ c.args.production.now c.loop-rest.rest.now c.loop-rest.invariant.whole some less all);
       room = search rules;
-      passed = search rules
+      passed = search rules;
     }

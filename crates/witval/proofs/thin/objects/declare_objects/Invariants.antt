@@ -9,5 +9,5 @@ abbrev pub invariant-loop-number : goal.invariant-loop-number
 invariant-loop-number l = record {
   fits : names_fit [] (names_of l.tokens l.declarations) ≡ names_fit (names_of l.tokens l.number) (names_between l.tokens l.number (l.declarations - l.number));
   objects : l.objects ≡ objects_of l.tokens l.number;
-  numbers : (w : List ℕ) → number_in l.numbers w ≡ object_of (names_of l.tokens l.number) w
+  numbers : (w : List ℕ) → number_in l.numbers w ≡ object_of (names_of l.tokens l.number) w;
 }

@@ -13,11 +13,11 @@ use Rattle.witval.proofs.thin.program.build.Goals as goal
 pub invariant_of-result : goal.invariant_of-result
 invariant_of-result c =
     let functions : functions_view c.in_ok-functions.functions ≡ main_tree c.args.tokens.now c.args.layout ∷ [] =
-      ap functions_view c.in_ok-functions.ensures ∙ ap (λ f. f ∷ []) c.in_ok-main.ensures in
+    ap functions_view c.in_ok-functions.ensures ∙ ap (λ f. f ∷ []) c.in_ok-main.ensures in
     let is = program-is c.args.tokens.now c.args.layout _ _ _ c.requires.objects.objects c.new.ensures functions in
     let thin = tree_thin c.args.tokens.now c.args.layout c.requires.consistent in
     let placed = tree_placed c.args.tokens.now c.args.layout c.requires.rising c.requires.laid_out c.requires.consistent in
     record {
       checked = subst IsProgram (sym is) (checked_thin (program_tree c.args.tokens.now c.args.layout) thin placed);
-      thin = subst (λ p. IsTrue (is_thin p)) (sym is) thin
+      thin = subst (λ p. IsTrue (is_thin p)) (sym is) thin;
     }

@@ -32,5 +32,5 @@ pub returns-clause-placed : goal.returns-clause-placed
 returns-clause-placed c =
     let same : c.deref-4.result.now ≡ c.deref-5.result.now = search rules in
     let stands_there : c.stands_in_program-placed.result ≡ stands c.deref-5.result.now c.in-Some.layout c.args.witness.now =
-      c.stands_in_program-placed.ensures ∙ ap (λ ts. stands ts c.in-Some.layout c.args.witness.now) same in
+    c.stands_in_program-placed.ensures ∙ ap (λ ts. stands ts c.in-Some.layout c.args.witness.now) same in
     placed-built c.deref-5.result.now c.in-Some.layout c.args.witness.now _ c.stands_in_program-placed.result stands_there c.in_ok-program.ensures

@@ -18,5 +18,5 @@ loop-rest-preserved c =
           (tokens_from-token (record { line = c.loop-rest.line; column = c.loop-rest.column }) rest n some c.length_at_front-count.ensures.length c.length_at_front-count.ensures.some within space feed));
       few = search rules;
       lines = search rules;
-      columns = search rules
+      columns = search rules;
     }

@@ -8,7 +8,7 @@ invariant-loop-rest l = record {
   whole : tokens_of l.bytes ≡ l.tokens.items ++ tokens_from (record { line = l.line; column = l.column }) 0 l.rest;
   few : length l.tokens.items + length l.rest ≤ length l.bytes;
   lines : l.line + length l.rest ≤ 1048577;
-  columns : l.column + length l.rest ≤ 1048577
+  columns : l.column + length l.rest ≤ 1048577;
 }
 
 abbrev pub decreases-loop-rest : goal.decreases-loop-rest

@@ -9,4 +9,4 @@ use Rattle.witval.proofs.thin.trees.input_call.Goals as goal
 pub returns : goal.returns
 returns c =
     ap (λ n. t.Expr c.args.spot (Some Int) n)
-      (view_of_call (Input Int) _ c.args.close ∙ ap (λ es. t.Call (Input Int) (exprs_view es) c.args.close) c.new.ensures)
+    (view_of_call (Input Int) _ c.args.close ∙ ap (λ es. t.Call (Input Int) (exprs_view es) c.args.close) c.new.ensures)
