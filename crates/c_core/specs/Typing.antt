@@ -96,9 +96,19 @@ is_target_node _ = false
 abbrev pub is_target : Exp → Bool
 is_target (Expr spot ty n) = is_target_node n
 
+-- `=`, or an operator with `=` behind it (C11 6.5.16p1)
+abbrev pub is_assignment : Option BinOp → Bool
+is_assignment None = true
+is_assignment (Some op) = not (is_comparison op)
+
 -- so many values
 abbrev pub are_values : ℕ → Exps → Bool
 are_values n es = nat_eq (length (exps_in es)) n && list_all has_value (exps_in es)
+
+-- there is a `__VERIFIER_nondet` function of the type
+abbrev pub has_input : IntType → Bool
+has_input SChar = false
+has_input _ = true
 
 -- an argument for each parameter (C11 6.5.2.2p2)
 abbrev pub is_call_of : Option IntType → Exps → Option Function → Bool
@@ -115,7 +125,7 @@ init_fits (Some o) (Many es) = o.array && (list_all has_value (exps_in es) && na
 module _ (p : Program) where
   abbrev pub is_call : Option IntType → Callee → Exps → Bool
   is_call ty (Defined f) es = is_call_of ty es (slice_get p.functions f)
-  is_call ty (Input input) es = are_values 0 es && is_type input ty
+  is_call ty (Input input) es = are_values 0 es && (has_input input && is_type input ty)
   is_call ty ReachError es = are_values 0 es && is_none ty
   is_call ty Abort es = are_values 0 es && is_none ty
   is_call ty Exit es = are_values 1 es && is_none ty
@@ -138,7 +148,7 @@ module _ (p : Program) where
   -- C11 6.5.17p2
   node_fits ty (Comma a b) = same_types (type_of b) ty
   -- C11 6.5.16p3
-  node_fits ty (Assign op a b) = is_target a && (has_value b && same_types (type_of a) ty)
+  node_fits ty (Assign op a b) = is_target a && (has_value b && (is_assignment op && same_types (type_of a) ty))
   node_fits ty (Call callee es close) = is_call ty callee es
 
   abbrev pub exp_fits : Exp → Bool
