@@ -18,3 +18,5 @@ pub mod MainStatements
 pub mod ThinInputs
 pub mod ThinGiven
 pub mod ThinReturns
+pub mod AimSteps
+pub mod JudgedTask

@@ -1,6 +1,6 @@
 -- Statements, one after another.
-use Rattle.std.proofs.Common.{◌≡◌, ℕ, ◌+◌, ◌-◌, ◌<◌, List, [], ◌∷◌, ◌++◌, map, Bool, true, false, ◌&&◌, refl, sym, ◌∙◌, ap, arith, append_assoc, add-one}
-use Rattle.std.specs.List.{list_all, range_with_len}
+use Rattle.std.proofs.Common.{◌≡◌, ℕ, ◌+◌, ◌-◌, ◌<◌, List, [], ◌∷◌, ◌++◌, map, Bool, true, false, ◌&&◌, ◌||◌, refl, sym, ◌∙◌, ap, arith, append_assoc, add-one}
+use Rattle.std.specs.List.{list_all, list_any, range_with_len}
 use Rattle.std.proofs.lemmas.List.{map-append}
 use Rattle.std.proofs.lemmas.List.FromFn.{map-range_with_len_more}
 
@@ -24,3 +24,15 @@ list_all-unmet test k n whole below known unmet = known ∙ list_all-next test k
 pub list_all-met : (test : ℕ → Bool) (k n : ℕ) (whole : Bool) → k < n → whole ≡ list_all test (range_with_len k (n - k)) → test k ≡ true →
     whole ≡ list_all test (range_with_len (k + 1) (n - (k + 1)))
 list_all-met test k n whole below known met = known ∙ list_all-next test k n below ∙ ap (λ b. b && list_all test (range_with_len (k + 1) (n - (k + 1)))) met
+
+list_any-next : (test : ℕ → Bool) (k n : ℕ) → k < n → list_any test (range_with_len k (n - k)) ≡ (test k || list_any test (range_with_len (k + 1) (n - (k + 1))))
+list_any-next test k n below =
+    let more : n - k ≡ n - (k + 1) + 1 = omega arith in
+    ap (λ m. list_any test (range_with_len k m)) (more ∙ add-one (n - (k + 1)))
+
+pub list_any-met : (test : ℕ → Bool) (k n : ℕ) (whole : Bool) → k < n → whole ≡ list_any test (range_with_len k (n - k)) → test k ≡ true → whole ≡ true
+list_any-met test k n whole below known met = known ∙ list_any-next test k n below ∙ ap (λ b. b || list_any test (range_with_len (k + 1) (n - (k + 1)))) met
+
+pub list_any-unmet : (test : ℕ → Bool) (k n : ℕ) (whole : Bool) → k < n → whole ≡ list_any test (range_with_len k (n - k)) → test k ≡ false →
+    whole ≡ list_any test (range_with_len (k + 1) (n - (k + 1)))
+list_any-unmet test k n whole below known unmet = known ∙ list_any-next test k n below ∙ ap (λ b. b || list_any test (range_with_len (k + 1) (n - (k + 1)))) unmet

@@ -23,3 +23,4 @@ pub mod ThinObjects
 pub mod ThinTracking
 pub mod Budget
 pub mod ThinChoices
+pub mod ThinAims

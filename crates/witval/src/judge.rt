@@ -4,7 +4,7 @@ ghost use Rattle.witval.specs.Tasks.{RightOn, task_of};
 
 use crate::input::Inputs;
 use crate::refusal::refuse_unbuilt;
-use crate::thin::{is_placed, is_unreach, judge_violation, read_program, read_witness};
+use crate::thin::{is_unreach, judge_violation, read_program, read_witness};
 use std::alloc::Global;
 use wv_base::OutOfMemory;
 use wv_report::Reply;
@@ -20,11 +20,12 @@ pub fn judge(alloc: Global, inputs: &Inputs) -> Result<Reply, OutOfMemory>
     let Some(witness) = read_witness(alloc, &inputs.witness)? else {
         return refuse_unbuilt(alloc, "witness");
     };
-    let Some(program) = read_program(alloc, &inputs.program)? else {
+    let Some(reading) = read_program(alloc, &inputs.program, &witness)? else {
         return refuse_unbuilt(alloc, "program");
     };
-    if !is_placed(&program, &witness) {
+    if !reading.placed {
         return refuse_unbuilt(alloc, "waypoint");
     }
-    Ok(Reply::Verdict(judge_violation(alloc, &program, &witness)?))
+    let verdict = judge_violation(alloc, &reading.program, &witness)?;
+    Ok(Reply::Verdict(verdict))
 }

@@ -1,5 +1,6 @@
-// Readers of the inputs that this release takes: one property, one shape of witness, and programs
-// of input calls and tests; and the judge of these.
+// What this release takes: one property, one shape of witness, and programs of input calls and
+// tests; readers of these, and the judge of what they read.
+mod aims;
 mod characters;
 mod choices;
 mod grammar;
@@ -8,7 +9,6 @@ mod objects;
 mod program;
 mod property;
 mod statements;
-mod stub;
 mod tokens;
 mod tracker;
 mod trees;
@@ -17,5 +17,7 @@ mod witness;
 pub use judge::judge_violation;
 pub use program::read_program;
 pub use property::is_unreach;
-pub use stub::is_placed;
 pub use witness::{ThinWitness, read_witness};
+
+#[cfg(test)]
+mod tests;

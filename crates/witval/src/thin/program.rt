@@ -1,21 +1,31 @@
-ghost use Rattle.std.specs.Prelude.{◌≡◌, ◌^◌, ◌<◌, ◌≤◌, length, map, IfOk, IsTrue, MatchOption, None, Some};
+ghost use Rattle.std.specs.Prelude.{◌≡◌, ◌^◌, ◌<◌, ◌≤◌, length, map, IfOk, IfSome, IsTrue, MatchOption, None, Some};
 ghost use Rattle.c_core.specs.TextOrder.{rises};
 ghost use Rattle.c_core.specs.View.{function_view, program_view, stmt_view};
 ghost use Rattle.witval.specs.ThinGrammar.{is_consistent, layout_of};
 ghost use Rattle.witval.specs.ThinObjects.{AreObjects};
+ghost use Rattle.witval.specs.ThinPlaces.{is_placed};
 ghost use Rattle.witval.specs.ThinProgram.{main_tree, program_tree, statements_of, thin_program};
 
+use crate::thin::aims::stands_in_program;
 use crate::thin::grammar::{Layout, find_layout, spot};
 use crate::thin::objects::{Objects, declare_objects};
 use crate::thin::statements::{do_tests_fit, main_statements};
 use crate::thin::tokens::{Token, read_tokens};
 use crate::thin::trees::one;
+use crate::thin::witness::ThinWitness;
 use c_core::{DataModel, Form, Function, IntType, Program, Property, Stmt};
 use std::alloc::Global;
 use wv_base::{OutOfMemory, Seq, Text};
 
 /// A program has at most so many cells.
 const MOST_DECLARATIONS: usize = 100000;
+
+/// A thin program, and whether the waypoints of a witness stand where they may.
+#[derive(Drop)]
+pub struct Reading {
+    pub program: Program,
+    pub placed: bool,
+}
 
 /// `int main() { .. }`
 fn main_function(
@@ -68,10 +78,15 @@ fn build(
     })
 }
 
-/// Reads a thin program; `None` where the bytes are none.
-pub fn read_program(alloc: Global, bytes: &[u8]) -> Result<Option<Program>, OutOfMemory>
+/// Reads a thin program, and whether a witness is placed in it; `None` where the bytes are none.
+pub fn read_program(
+    alloc: Global,
+    bytes: &[u8],
+    witness: &ThinWitness,
+) -> Result<Option<Reading>, OutOfMemory>
     requires { length bytes.now ≤ 1048576 }
-    ensures { IfOk result (λ p. MatchOption p (thin_program bytes.now ≡ None) (λ p. thin_program bytes.now ≡ Some (program_view p))) }
+    ensures program { IfOk result (λ r. MatchOption r (thin_program bytes.now ≡ None) (λ r. thin_program bytes.now ≡ Some (program_view r.program))) }
+    ensures placed { IfOk result (λ r. IfSome r (λ r. r.placed ≡ is_placed (program_view r.program) witness.now)) }
 {
     let tokens = read_tokens(alloc, bytes)?;
     let Some(layout) = find_layout(alloc, &tokens)? else {
@@ -86,6 +101,7 @@ pub fn read_program(alloc: Global, bytes: &[u8]) -> Result<Option<Program>, OutO
     if !do_tests_fit(&tokens, layout, &objects.numbers) {
         return Ok(None);
     }
+    let placed = stands_in_program(&tokens, layout, witness);
     let program = build(alloc, &tokens, layout, objects)?;
-    Ok(Some(program))
+    Ok(Some(Reading { program, placed }))
 }

@@ -1,0 +1,331 @@
+use crate::thin::{ThinWitness, is_unreach, read_program, read_witness};
+use c_core::{Form, Init, Node, Program, Spot, Stmt};
+use std::alloc::{AllocError, Global};
+use std::test::Fail;
+use wv_base::OutOfMemory;
+
+const WITNESS: &str = "- entry_type: \"violation_sequence\"
+  metadata:
+    format_version: \"2.0\"
+    uuid: \"01234567-89ab-4cde-8f01-23456789abcd\"
+    creation_time: \"2024-04-10T12:00:00Z\"
+    producer:
+      name: \"hand\"
+      version: \"1\"
+    task:
+      input_files:
+        - \"p.c\"
+      input_file_hashes:
+        \"p.c\": \"d5a3\"
+      specification: \"G ! call(reach_error())\"
+      data_model: \"ILP32\"
+      language: \"C\"
+  content:
+    - segment:
+        - waypoint:
+            type: \"function_return\"
+            action: \"follow\"
+            location:
+              line: 4
+              column: 33
+            constraint:
+              value: \"\\\\result == 5\"
+              format: \"c_expression\"
+    - segment:
+        - waypoint:
+            type: \"target\"
+            action: \"follow\"
+            location:
+              line: 6
+              column: 5
+";
+
+const PROGRAM: &str = "void reach_error() { }
+int __VERIFIER_nondet_int();
+int main() {
+  int x = __VERIFIER_nondet_int();
+  if (x == 5) {
+    reach_error();
+  }
+  return 0;
+}
+";
+
+/// What the witness says.
+const PLACED: ThinWitness = ThinWitness {
+    close: Spot {
+        line: 4,
+        column: 33,
+    },
+    value: 5,
+    target: Spot { line: 6, column: 5 },
+};
+
+fn at(line: u32, column: u32) -> Spot {
+    Spot { line, column }
+}
+
+/// The text with the first of a part in it replaced.
+fn replaced(alloc: Global, text: &str, old: &str, new: &str) -> Result<String, AllocError> {
+    match text.split_once(old) {
+        Some((front, back)) => format!(in alloc; "{front}{new}{back}"),
+        None => format!(in alloc; "{text}{new}"),
+    }
+}
+
+fn witness_with(alloc: Global, old: &str, new: &str) -> Result<Option<ThinWitness>, OutOfMemory> {
+    let text = replaced(alloc, WITNESS, old, new)?;
+    read_witness(alloc, text.as_str().as_bytes())
+}
+
+fn is_thin_with(alloc: Global, old: &str, new: &str) -> Result<bool, OutOfMemory> {
+    let text = replaced(alloc, PROGRAM, old, new)?;
+    if text.len() > 1048576 {
+        return Ok(false);
+    }
+    Ok(read_program(alloc, text.as_str().as_bytes(), &PLACED)?.is_some())
+}
+
+#[test]
+fn property_with_or_without_a_line_feed(rt: HostRuntime) -> Result<(), Fail> {
+    let text = b"CHECK( init(main()), LTL(G ! call(reach_error())) )";
+    assert!(rt; is_unreach(text.as_slice()));
+    assert!(rt; is_unreach(b"CHECK( init(main()), LTL(G ! call(reach_error())) )\n".as_slice()));
+    assert!(rt; !is_unreach(b"CHECK( init(main()), LTL(G ! call(reach_error())) )\n\n".as_slice()));
+    assert!(rt; !is_unreach(b"CHECK( init(main()), LTL(G ! overflow) )".as_slice()));
+    assert!(rt; !is_unreach(b"".as_slice()));
+    Ok(())
+}
+
+#[test]
+fn witness_is_read(rt: HostRuntime) -> Result<(), Fail> {
+    let alloc = rt.alloc();
+    assert_eq!(rt; read_witness(alloc, WITNESS.as_bytes())?, Some(PLACED));
+    for (old, new, value) in [
+        ("== 5", "== -5", -5),
+        ("== 5", "== -0", 0),
+        ("== 5", "== 2147483647", 2147483647),
+        ("== 5", "== -2147483647", -2147483647),
+        ("\"hand\"", "\"\"", 5),
+        ("\"1\"", "\" ~!\"", 5),
+    ] {
+        let read = witness_with(alloc, old, new)?;
+        assert_eq!(rt; read.map(|witness| witness.value), Some(value), "{new}");
+    }
+    let far = witness_with(alloc, "line: 4", "line: 1234567")?;
+    assert_eq!(rt; far.map(|witness| witness.close), Some(at(1234567, 33)));
+    Ok(())
+}
+
+#[test]
+fn other_witnesses_are_refused(rt: HostRuntime) -> Result<(), Fail> {
+    let alloc = rt.alloc();
+    for (old, new) in [
+        ("\"2.0\"", "\"2.1\""),
+        ("violation_sequence", "invariant_set"),
+        ("ILP32", "LP64"),
+        ("line: 4", "line: 0"),
+        ("line: 4", "line: 04"),
+        ("line: 4", "line: 12345678"),
+        ("line: 4", "line: "),
+        ("line: 4", "line: -4"),
+        ("column: 33", "column: 3 3"),
+        ("hand", "ha\"nd"),
+        ("hand", "ha\\nd"),
+        ("hand", "ha\tnd"),
+        ("hand", "h\u{e9}nd"),
+        ("- \"p.c\"", "- \"q.c\""),
+        ("== 5", "== 05"),
+        ("== 5", "== 2147483648"),
+        ("== 5", "== -2147483648"),
+        ("== 5", "== --5"),
+        ("== 5", "== +5"),
+        ("== 5", "== -"),
+        ("== 5", "== "),
+        ("== 5", "!= 5"),
+        ("column: 5\n", "column: 5"),
+        ("column: 5\n", "column: 5\n\n"),
+        ("              column: 5\n", ""),
+        ("\n", "\r\n"),
+        ("  metadata", "\tmetadata"),
+        ("absent", "# end\n"),
+    ] {
+        let read = witness_with(alloc, old, new)?;
+        assert_eq!(rt; read, None, "{old} {new}");
+    }
+    assert_eq!(rt; read_witness(alloc, b"".as_slice())?, None);
+    Ok(())
+}
+
+/// The places of statements, expressions and calls in the body of a thin program's `main`.
+fn places(alloc: Global, program: &Program) -> Result<Vec<Spot>, OutOfMemory> {
+    let mut places = Vec::new(alloc);
+    for function in program.functions.as_slice() {
+        if let Form::Block(statements) = &function.body.form {
+            for statement in statements.as_slice() {
+                add_places(&mut places, statement)?;
+            }
+        }
+    }
+    Ok(places)
+}
+
+fn add_places(places: &mut Vec<Spot>, statement: &Stmt) -> Result<(), OutOfMemory> {
+    places.push(statement.spot)?;
+    match &statement.form {
+        Form::Declare(names) => {
+            for name in names.as_slice() {
+                places.push(name.spot)?;
+                if let Init::One(call) = &name.init {
+                    places.push(call.spot)?;
+                    if let Node::Call { close, .. } = &call.node {
+                        places.push(*close)?;
+                    }
+                }
+            }
+        }
+        Form::If { test, yes, .. } => {
+            places.push(test.spot)?;
+            places.push(yes.spot)?;
+            if let Form::Block(arm) = &yes.form {
+                for inner in arm.as_slice() {
+                    places.push(inner.spot)?;
+                }
+            }
+        }
+        Form::Return(Some(value)) => places.push(value.spot)?,
+        _ => {}
+    }
+    Ok(())
+}
+
+#[test]
+fn program_is_read_with_its_places(rt: HostRuntime) -> Result<(), Fail> {
+    let alloc = rt.alloc();
+    let bytes = PROGRAM.as_bytes();
+    if bytes.len() > 1048576 {
+        return Ok(());
+    }
+    let Some(reading) = read_program(alloc, bytes, &PLACED)? else {
+        panic!(rt; "a thin program is read");
+    };
+    let program = reading.program;
+    let expected = [
+        at(4, 3),
+        at(4, 7),
+        at(4, 11),
+        at(4, 33),
+        at(5, 3),
+        at(5, 7),
+        at(5, 15),
+        at(6, 5),
+        at(8, 3),
+        at(8, 10),
+    ];
+    assert_eq!(rt; places(alloc, &program)?.as_slice(), expected.as_slice());
+    assert_eq!(rt; program.objects.len(), 1);
+    Ok(())
+}
+
+#[test]
+fn other_programs_are_refused(rt: HostRuntime) -> Result<(), Fail> {
+    let alloc = rt.alloc();
+    for (old, new) in [
+        ("== 5", "== 0"),
+        ("== 5", "==\n2147483647"),
+        ("absent", "  \n"),
+        (
+            "  int x = __VERIFIER_nondet_int();\n  if (x == 5) {\n    reach_error();\n  }\n",
+            "",
+        ),
+    ] {
+        assert!(rt; is_thin_with(alloc, old, new)?, "{old} {new}");
+    }
+    for (old, new) in [
+        ("== 5", "== 05"),
+        ("== 5", "== 00"),
+        ("== 5", "== 2147483648"),
+        ("== 5", "== 99999999999999999999"),
+        ("== 5", "== -5"),
+        ("== 5", "== 5u"),
+        ("== 5", "!= 5"),
+        ("== 5", "= = 5"),
+        ("== 5", "== x"),
+        ("(x ==", "(y =="),
+        ("(x ==", "(5 =="),
+        ("int x", "int y"),
+        ("int x", "int while"),
+        ("int x", "int main"),
+        ("int x", "int 1x"),
+        ("int x", "int x, y"),
+        ("int x", "char x"),
+        ("  if", "  int x = __VERIFIER_nondet_int();\n  if"),
+        ("  if", "  int while = __VERIFIER_nondet_int();\n  if"),
+        ("  if", "  int _Bool = __VERIFIER_nondet_int();\n  if"),
+        ("  if", "  int reach_error = __VERIFIER_nondet_int();\n  if"),
+        ("  if", "  int main = __VERIFIER_nondet_int();\n  if"),
+        ("  if", "  int 1y = __VERIFIER_nondet_int();\n  if"),
+        ("  if", "\tif"),
+        ("{ }\n", "{ }\r\n"),
+        ("  if", "  // test\n  if"),
+        ("  if", "  /* */ if"),
+        ("return 0", "return 1"),
+        ("return 0", "return0"),
+        ("return 0;", "return 0"),
+        ("return 0;\n}\n", "return 0;\n"),
+        ("absent", "x"),
+        ("absent", "}"),
+        ("int main() {", "int main(void) {"),
+        ("void reach_error() { }\n", ""),
+        ("int x", "int \u{e9}"),
+    ] {
+        assert!(rt; !is_thin_with(alloc, old, new)?, "{old} {new}");
+    }
+    Ok(())
+}
+
+fn is_placed(alloc: Global, close: Spot, target: Spot) -> Result<bool, OutOfMemory> {
+    let bytes = PROGRAM.as_bytes();
+    if bytes.len() > 1048576 {
+        return Ok(false);
+    }
+    let witness = ThinWitness {
+        close,
+        value: 5,
+        target,
+    };
+    Ok(read_program(alloc, bytes, &witness)?.is_some_and(|reading| reading.placed))
+}
+
+#[test]
+fn waypoints_stand_where_they_may(rt: HostRuntime) -> Result<(), Fail> {
+    let alloc = rt.alloc();
+    for target in [
+        at(4, 3),
+        at(4, 11),
+        at(5, 3),
+        at(5, 7),
+        at(5, 15),
+        at(6, 5),
+        at(8, 3),
+        at(8, 10),
+    ] {
+        assert!(rt; is_placed(alloc, at(4, 33), target)?, "{target:?}");
+    }
+    for target in [
+        at(4, 7),
+        at(4, 33),
+        at(5, 12),
+        at(6, 17),
+        at(3, 12),
+        at(1, 1),
+        at(6, 6),
+        at(7, 5),
+    ] {
+        assert!(rt; !is_placed(alloc, at(4, 33), target)?, "{target:?}");
+    }
+    for close in [at(4, 11), at(4, 32), at(6, 17), at(2, 27), at(5, 33)] {
+        assert!(rt; !is_placed(alloc, close, at(6, 5))?, "{close:?}");
+    }
+    Ok(())
+}
