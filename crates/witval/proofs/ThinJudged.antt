@@ -47,7 +47,7 @@ judged_right : (p : Program) (w : ThinWitness) (r : GivenRun) (t : Tracker) → 
     → t ≡ seen_after after (tracking w) (Moments p (given_by p (segments_of w)) steps) → IsRightVerdict p (segments_of w) (verdict_by r t)
 judged_right p w r t same ran seen =
     let is_seen = seen ∙ sees (Moments p (given_by p (segments_of w)) steps) (tracking w) in
-    let is_right = rw (ran, is_seen) (right p w same) in
+    let is_right : IsRightOnViolation p (segments_of w) steps (verdict_by r t) = rw (ran, is_seen) (right p w same) in
     record { right = is_right; confirmed = confirmed p (segments_of w) steps (verdict_by r t) is_right }
 
 -- with the choices that were made, the tracker as it began and as the run left it

@@ -175,7 +175,6 @@ int main() {
     #[test]
     fn the_named_call_gets_the_value(rt: HostRuntime) -> Result<(), Fail> {
         let alloc = rt.alloc();
-        let program = read_program(alloc, PROGRAM.as_bytes())?.ok_or("no thin program")?;
         let witness = ThinWitness {
             close: Spot {
                 line: 5,
@@ -184,7 +183,8 @@ int main() {
             value: -5,
             target: Spot { line: 7, column: 5 },
         };
-        let Choices::Given(given) = choices(alloc, &program, &witness)? else {
+        let reading = read_program(alloc, PROGRAM.as_bytes(), &witness)?.ok_or("no thin program")?;
+        let Choices::Given(given) = choices(alloc, &reading.program, &witness)? else {
             return Err("in turn".into());
         };
         let given = given.as_slice();

@@ -18,4 +18,4 @@ returns c =
     let yes : c.in-Some-2.reading.placed ≡ true = search rules in
     let placed : is_placed (program_view c.in-Some-2.reading.program) c.in-Some.witness ≡ true = sym stands ∙ yes in
     judged_right c.args.inputs.now.program.items c.args.inputs.now.property.items c.args.inputs.now.witness.items c.in-Some.witness (program_view c.in-Some-2.reading.program) _
-      unreach read built placed c.in_ok-verdict.ensures
+    unreach read built placed c.in_ok-verdict.ensures
