@@ -1,0 +1,9 @@
+//! The tokens of a C source text: each is the longest that stands at its place, and a text that is no list of tokens
+//! is refused at the first place where that shows.
+#![tactic(auto)]
+
+mod look;
+mod place;
+mod token;
+
+pub use token::{Punct, Token, TokenFault, TokenKind};
