@@ -2,8 +2,10 @@
 //! is refused at the first place where that shows.
 #![tactic(auto)]
 
-mod look;
+mod bytes;
 mod place;
+mod quoted;
+mod sign;
 mod token;
 
 pub use token::{Punct, Token, TokenFault, TokenKind};

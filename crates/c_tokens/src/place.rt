@@ -1,7 +1,7 @@
 ghost use Rattle.std.specs.Prelude.{◌≡◌};
-ghost use Rattle.c_tokens.specs.Bytes;
 ghost use Rattle.c_tokens.specs.Reading.{start, past, after};
 
+use crate::bytes::is_blank;
 use c_core::Spot;
 
 /// A place in the text, and whether only blanks stand before it on its line.
@@ -18,12 +18,6 @@ pub fn first_place() -> Place
         spot: Spot { line: 1, column: 1 },
         fresh: true,
     }
-}
-
-pub fn is_blank(byte: u8) -> bool
-    ensures { result ≡ Bytes.is_blank byte }
-{
-    byte == b' ' || byte == b'\t'
 }
 
 /// The place after one byte.
