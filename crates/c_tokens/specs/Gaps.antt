@@ -2,18 +2,10 @@
 use Rattle.std.specs.Prelude.{◌+◌, ℕ, Bool, true, false, List, [], ◌∷◌, ◌==◌, ◌||◌, ◌&&◌, Option, Some, None, drop, if◌then◌else◌, codes}
 use Rattle.std.specs.Option.{option_map}
 use Rattle.std.specs.List.{prefix_len, position_or_len, take_while}
+use Rattle.c_tokens.specs.declared.gap.Gap.{Gap}
+use Rattle.c_tokens.specs.declared.gap.Gap.TheVariants.{Space, Refused, Unclosed, Absent}
 use Rattle.c_tokens.specs.Bytes.{is_blank, is_digit, is_word_byte, line_feed, form_feed, carriage_return, hash, slash, star}
 use Rattle.c_tokens.specs.Numbers.{is_spelled}
-
-pub data Gap : Type 0 where
-  -- so many bytes are passed over
-  Space : ℕ → Gap
-  -- a directive that is not passed over
-  Refused : Gap
-  -- a comment that nothing closes
-  Unclosed : Gap
-  -- no gap: here a token stands, or the text ends
-  Absent : Gap
 
 -- how many bytes stand before the line's end
 abbrev pub line_length : List ℕ → ℕ
@@ -23,10 +15,15 @@ abbrev pub begins_with : ℕ → List ℕ → Bool
 begins_with b [] = false
 begins_with b (c ∷ text) = c == b
 
+-- `*/` stands here
+abbrev pub closes : List ℕ → Bool
+closes [] = false
+closes (b ∷ text) = (b == star) && begins_with slash text
+
 -- how many bytes there are up to the first `*/` and with it
 abbrev pub close_length : List ℕ → Option ℕ
 close_length [] = None
-close_length (b ∷ text) = if (b == star) && begins_with slash text then Some 2 else option_map (λ n. n + 1) (close_length text)
+close_length (b ∷ text) = if closes (b ∷ text) then Some 2 else option_map (λ n. n + 1) (close_length text)
 
 abbrev pub closed : Option ℕ → Gap
 closed None = Unclosed

@@ -8,7 +8,8 @@ use Rattle.c_tokens.specs.declared.token.TokenFault.{TokenFault}
 use Rattle.c_tokens.specs.declared.token.TokenFault.TheVariants.{Token as TokenAt, Directive, OutOfMemory}
 use Rattle.c_tokens.specs.declared.place.Place.{Place}
 use Rattle.c_tokens.specs.Bytes.{is_blank, line_feed}
-use Rattle.c_tokens.specs.Gaps.{gap, Space, Refused, Unclosed, Absent}
+use Rattle.c_tokens.specs.declared.gap.Gap.TheVariants.{Space, Refused, Unclosed, Absent}
+use Rattle.c_tokens.specs.Gaps.{gap}
 use Rattle.c_tokens.specs.Pieces.{Longest, NoPiece}
 
 -- one more line or column; a count stands still at its type's end

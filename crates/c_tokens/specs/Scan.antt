@@ -64,12 +64,42 @@ abbrev pub sign_among : List (List ℕ × Punct) → List ℕ → Option (ℕ ×
 sign_among [] text = None
 sign_among (row ∷ rows) text = if begins row.0 text then Some (length row.0, row.1) else sign_among rows text
 
--- the length of the longest piece here, and the token that it is
+-- each of these is the length of the piece here that is the longest of its form, and the token that it is
+abbrev pub word_scan : List ℕ → Option (ℕ × Option TokenKind)
+word_scan [] = None
+word_scan (b ∷ text) = let n = prefix_len is_word_byte text + 1 in Some (n, Some (Word (take n (b ∷ text))))
+
+abbrev pub number_scan : List ℕ → Option (ℕ × Option TokenKind)
+number_scan [] = None
+number_scan (b ∷ text) = let n = prefix_len is_number_byte text + 1 in Some (n, constant (take n (b ∷ text)))
+
+-- a character behind its first quote
+abbrev pub character_scan : List ℕ → Option (ℕ × Option TokenKind)
+character_scan text = option_map (λ c. (c.0 + 1, Some (Char (signed_of 8 c.1)))) (character_end text)
+
+-- a string behind its first quote
+abbrev pub string_scan : List ℕ → Option (ℕ × Option TokenKind)
+string_scan text = option_map (λ n. (n + 1, Some Str)) (string_end false text)
+
+abbrev pub sign_scan : List ℕ → Option (ℕ × Option TokenKind)
+sign_scan text = option_map (λ s. (s.0, Some (Sign s.1))) (sign_among signs text)
+
+-- the longest piece here by its first byte
 abbrev pub scan : List ℕ → Option (ℕ × Option TokenKind)
 scan [] = None
 scan (b ∷ text) =
-    if is_letter b then (let n = prefix_len is_word_byte text in Some (n + 1, Some (Word (b ∷ take n text))))
-    else if is_digit b then (let n = prefix_len is_number_byte text in Some (n + 1, constant (b ∷ take n text)))
-    else if b == quote then option_map (λ c. (c.0 + 1, Some (Char (signed_of 8 c.1)))) (character_end text)
-    else if b == double_quote then option_map (λ n. (n + 1, Some Str)) (string_end false text)
-    else option_map (λ s. (s.0, Some (Sign s.1))) (sign_among signs (b ∷ text))
+    if is_letter b then word_scan (b ∷ text)
+    else if is_digit b then number_scan (b ∷ text)
+    else if b == quote then character_scan text
+    else if b == double_quote then string_scan text
+    else sign_scan (b ∷ text)
+
+-- a piece that is a token
+abbrev pub good : Option (ℕ × Option TokenKind) → Option (ℕ × TokenKind)
+good None = None
+good (Some (n, None)) = None
+good (Some (n, Some kind)) = Some (n, kind)
+
+abbrev pub begins_word : List ℕ → Bool
+begins_word [] = false
+begins_word (b ∷ text) = is_letter b

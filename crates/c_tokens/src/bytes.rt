@@ -1,5 +1,5 @@
 // Classes of bytes, and how many bytes of a class stand at the front of a text.
-ghost use Rattle.std.specs.Prelude.{◌≡◌};
+ghost use Rattle.std.specs.Prelude.{◌≡◌, ◌≤◌, ◌<◌, length, IsTrue};
 ghost use Rattle.std.specs.List.{prefix_len};
 ghost use Rattle.c_tokens.specs.Bytes;
 ghost use Rattle.c_tokens.specs.Gaps;
@@ -63,7 +63,8 @@ pub fn digit_value(digit: u8) -> u8
 }
 
 pub fn begins_with(byte: u8, text: &[u8]) -> bool
-    ensures { result ≡ Gaps.begins_with byte text.now }
+    ensures here { result ≡ Gaps.begins_with byte text.now }
+    ensures within { IsTrue result → 0 < length text.now }
 {
     match text {
         [first, ..] => *first == byte,
@@ -72,31 +73,36 @@ pub fn begins_with(byte: u8, text: &[u8]) -> bool
 }
 
 pub fn blank_run(text: &[u8]) -> usize
-    ensures { result ≡ prefix_len Bytes.is_blank text.now }
+    ensures run { result ≡ prefix_len Bytes.is_blank text.now }
+    ensures within { result ≤ length text.now }
 {
     text.iter().take_while(|byte| is_blank(**byte)).count()
 }
 
 pub fn word_run(text: &[u8]) -> usize
-    ensures { result ≡ prefix_len Bytes.is_word_byte text.now }
+    ensures run { result ≡ prefix_len Bytes.is_word_byte text.now }
+    ensures within { result ≤ length text.now }
 {
     text.iter().take_while(|byte| is_word_byte(**byte)).count()
 }
 
 pub fn number_run(text: &[u8]) -> usize
-    ensures { result ≡ prefix_len Bytes.is_number_byte text.now }
+    ensures run { result ≡ prefix_len Bytes.is_number_byte text.now }
+    ensures within { result ≤ length text.now }
 {
     text.iter().take_while(|byte| is_number_byte(**byte)).count()
 }
 
 pub fn digit_run(text: &[u8]) -> usize
-    ensures { result ≡ prefix_len Bytes.is_digit text.now }
+    ensures run { result ≡ prefix_len Bytes.is_digit text.now }
+    ensures within { result ≤ length text.now }
 {
     text.iter().take_while(|byte| is_digit(**byte)).count()
 }
 
 pub fn octal_run(text: &[u8]) -> usize
-    ensures { result ≡ prefix_len Bytes.is_octal_digit text.now }
+    ensures run { result ≡ prefix_len Bytes.is_octal_digit text.now }
+    ensures within { result ≤ length text.now }
 {
     text.iter()
         .take_while(|byte| is_octal_digit(**byte))
@@ -104,7 +110,8 @@ pub fn octal_run(text: &[u8]) -> usize
 }
 
 pub fn hexadecimal_run(text: &[u8]) -> usize
-    ensures { result ≡ prefix_len Bytes.is_hexadecimal_digit text.now }
+    ensures run { result ≡ prefix_len Bytes.is_hexadecimal_digit text.now }
+    ensures within { result ≤ length text.now }
 {
     text.iter()
         .take_while(|byte| is_hexadecimal_digit(**byte))
@@ -113,7 +120,8 @@ pub fn hexadecimal_run(text: &[u8]) -> usize
 
 /// How many bytes stand before the line's end.
 pub fn line_length(text: &[u8]) -> usize
-    ensures { result ≡ Gaps.line_length text.now }
+    ensures before { result ≡ Gaps.line_length text.now }
+    ensures within { result ≤ length text.now }
 {
     text.iter().take_while(|byte| **byte != b'\n').count()
 }

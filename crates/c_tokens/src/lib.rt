@@ -3,6 +3,9 @@
 #![tactic(auto)]
 
 mod bytes;
+mod gap;
+mod number;
+mod piece;
 mod place;
 mod quoted;
 mod sign;
