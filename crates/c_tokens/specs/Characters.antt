@@ -1,6 +1,6 @@
 -- Character constants (C11 6.4.4.4) and strings (C11 6.4.5).
 use Rattle.std.specs.Prelude.{◌≡◌, ◌≢◌, ◌<◌, ◌≤◌, ℕ, true, List, [], ◌∷◌, length, ◌⊎◌}
-use Rattle.std.specs.List.{AllPass}
+use Rattle.std.specs.List.{list_all}
 use Rattle.c_tokens.specs.Bytes.{is_plain, is_octal_digit, is_hexadecimal_digit, backslash, double_quote, line_feed, small_x}
 use Rattle.c_tokens.specs.Numbers.{number_in}
 
@@ -19,9 +19,9 @@ Pairs (row ∷ rows) x y = ((row.0 ≡ x) × (row.1 ≡ y)) ⊎ Pairs rows x y
 pub data Character : List ℕ → ℕ → Type 0 where
   Plain : {b : ℕ} → is_plain b ≡ true → Character (b ∷ []) b
   Simple : {b value : ℕ} → Pairs simple_escapes b value → Character (backslash ∷ b ∷ []) value
-  Octal : {digits : List ℕ} → AllPass is_octal_digit digits → 1 ≤ length digits → length digits ≤ 3 → number_in 8 digits < 256 →
+  Octal : {digits : List ℕ} → list_all is_octal_digit digits ≡ true → 1 ≤ length digits → length digits ≤ 3 → number_in 8 digits < 256 →
       Character (backslash ∷ digits) (number_in 8 digits)
-  Hexadecimal : {digits : List ℕ} → AllPass is_hexadecimal_digit digits → 1 ≤ length digits → length digits ≤ 2 →
+  Hexadecimal : {digits : List ℕ} → list_all is_hexadecimal_digit digits ≡ true → 1 ≤ length digits → length digits ≤ 2 →
       Character (backslash ∷ small_x ∷ digits) (number_in 16 digits)
 
 -- what stands between double quotes, on one line; a backslash passes the next byte

@@ -1,6 +1,6 @@
 -- The forms of tokens, and the longest that stands at a place (C11 6.4).
 use Rattle.std.specs.Prelude.{◌≡◌, ◌≤◌, ℕ, true, List, [], ◌∷◌, ◌++◌, length, Option, Some, None}
-use Rattle.std.specs.List.{AllPass}
+use Rattle.std.specs.List.{list_all}
 use Rattle.c_core.specs.Types.{signed_of}
 use Rattle.c_tokens.specs.declared.token.Punct.{Punct}
 use Rattle.c_tokens.specs.declared.token.TokenKind.{TokenKind}
@@ -12,8 +12,8 @@ use Rattle.c_tokens.specs.Characters.{Pairs, Character, StringText}
 
 -- a piece of text of one of the forms, and the token that it is; a number may be none
 pub data Piece : List ℕ → Option TokenKind → Type 0 where
-  AWord : {b : ℕ} {w : List ℕ} → is_letter b ≡ true → AllPass is_word_byte w → Piece (b ∷ w) (Some (Word (b ∷ w)))
-  ANumber : {b : ℕ} {w : List ℕ} → is_digit b ≡ true → AllPass is_number_byte w → Piece (b ∷ w) (constant (b ∷ w))
+  AWord : {b : ℕ} {w : List ℕ} → is_letter b ≡ true → list_all is_word_byte w ≡ true → Piece (b ∷ w) (Some (Word (b ∷ w)))
+  ANumber : {b : ℕ} {w : List ℕ} → is_digit b ≡ true → list_all is_number_byte w ≡ true → Piece (b ∷ w) (constant (b ∷ w))
   ACharacter : {text : List ℕ} {value : ℕ} → Character text value → Piece (quote ∷ (text ++ quote ∷ [])) (Some (Char (signed_of 8 value)))
   AString : {text : List ℕ} → StringText text → Piece (double_quote ∷ (text ++ double_quote ∷ [])) (Some Str)
   ASign : {w : List ℕ} {s : Punct} → Pairs signs w s → Piece w (Some (Sign s))

@@ -1,16 +1,23 @@
 -- How far the scanner reads: functions of the text, proved to find the longest piece.
-use Rattle.std.specs.Prelude.{◌+◌, ℕ, Bool, true, false, not, List, [], ◌∷◌, ◌==◌, ◌&&◌, Option, Some, None, take, drop, length, nat_le, nat_lt, if◌then◌else◌}
+use Rattle.std.specs.Prelude.{◌≡◌, ◌≤◌, ◌⊎◌, Result, Ok, Err, ◌+◌, ℕ, Bool, true, false, not, List, [], ◌∷◌, ◌==◌, ◌&&◌, Option, Some, None, take, drop, length, nat_le, nat_lt, if◌then◌else◌}
 use Rattle.std.specs.Option.{option_map}
 use Rattle.std.specs.List.{prefix_len}
 use Rattle.c_core.specs.Types.{signed_of}
+use Rattle.c_core.specs.declared.number.Spot.{Spot}
 use Rattle.c_tokens.specs.declared.token.Punct.{Punct}
+use Rattle.c_tokens.specs.declared.token.Token.{Token}
+use Rattle.c_tokens.specs.declared.token.TokenFault.{TokenFault}
+use Rattle.c_tokens.specs.declared.token.TokenFault.TheVariants.{Token as TokenAt, Directive, OutOfMemory}
+use Rattle.c_tokens.specs.declared.gap.Gap.{Gap}
+use Rattle.c_tokens.specs.declared.gap.Gap.TheVariants.{Space, Refused, Unclosed, Absent}
+use Rattle.c_tokens.specs.declared.place.Place.{Place}
 use Rattle.c_tokens.specs.declared.token.TokenKind.{TokenKind}
 use Rattle.c_tokens.specs.declared.token.TokenKind.TheVariants.{Word, Char, Str, Punct as Sign}
 use Rattle.c_tokens.specs.Bytes.{is_letter, is_digit, is_word_byte, is_number_byte, is_plain, is_octal_digit, is_hexadecimal_digit, quote, double_quote, backslash, line_feed, small_x}
 use Rattle.c_tokens.specs.Signs.{signs}
 use Rattle.c_tokens.specs.Numbers.{constant, number_in}
 use Rattle.c_tokens.specs.Characters.{simple_escapes}
-use Rattle.c_tokens.specs.Gaps.{begins_with}
+use Rattle.c_tokens.specs.Gaps.{begins_with, gap}
 
 -- the bytes of a string behind its first quote, the closing quote included; the byte before passes this one or not
 abbrev pub string_end : Bool → List ℕ → Option ℕ
@@ -103,3 +110,19 @@ good (Some (n, Some kind)) = Some (n, kind)
 abbrev pub begins_word : List ℕ → Bool
 begins_word [] = false
 begins_word (b ∷ text) = is_letter b
+
+-- a gap takes a byte at least, and so many at most
+abbrev pub Within : Gap → ℕ → Type 0
+Within (Space n) size = (1 ≤ n) × (n ≤ size)
+Within Refused size = Unit {0}
+Within Unclosed size = Unit {0}
+Within Absent size = Unit {0}
+
+-- one step of the scanner at a place
+abbrev pub Steps : Place → List ℕ → Result (ℕ × Option Token) TokenFault → Type 0
+Steps at text (Ok (n, None)) = (gap at.fresh text ≡ Space n) × ((1 ≤ n) × (n ≤ length text))
+Steps at text (Ok (n, Some t)) = (gap at.fresh text ≡ Absent) × ((good (scan text) ≡ Some (n, t.kind)) × ((t.spot ≡ at.spot) × ((1 ≤ n) × (n ≤ length text))))
+Steps at text (Err (TokenAt line column)) =
+    (line ≡ at.spot.line) × ((column ≡ at.spot.column) × ((gap at.fresh text ≡ Unclosed) ⊎ ((gap at.fresh text ≡ Absent) × (good (scan text) ≡ None))))
+Steps at text (Err (Directive line)) = (line ≡ at.spot.line) × (gap at.fresh text ≡ Refused)
+Steps at text (Err OutOfMemory) = Unit {0}

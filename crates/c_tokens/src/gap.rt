@@ -1,6 +1,7 @@
 // What stands between tokens.
-ghost use Rattle.std.specs.Prelude.{◌≡◌, ◌≤◌, length, IfSome, IsTrue};
+ghost use Rattle.std.specs.Prelude.{◌≡◌, ◌≤◌, ◌+◌, length, IfSome, IsTrue};
 ghost use Rattle.c_tokens.specs.Gaps;
+ghost use Rattle.c_tokens.specs.Scan.{Within};
 
 use crate::bytes::{blank_run, is_digit, line_length, word_run};
 
@@ -18,7 +19,8 @@ pub enum Gap {
 }
 
 pub fn gap_at(fresh: bool, text: &[u8]) -> Gap
-    ensures { result ≡ Gaps.gap fresh text.now }
+    ensures here { result ≡ Gaps.gap fresh text.now }
+    ensures within { Within result (length text.now) }
 {
     match text {
         [b' ' | b'\t' | b'\n' | 12, ..] => Gap::Space(1),
@@ -31,7 +33,8 @@ pub fn gap_at(fresh: bool, text: &[u8]) -> Gap
 
 /// What a slash begins.
 fn comment(text: &[u8]) -> Gap
-    ensures { result ≡ Gaps.comment text.now }
+    ensures here { result ≡ Gaps.comment text.now }
+    ensures within { Within result (length text.now + 1) }
 {
     match text {
         [b'/', rest @ ..] => Gap::Space(line_length(rest) + 2),
@@ -65,7 +68,8 @@ fn closes(text: &[u8]) -> bool
 
 /// What a `#` begins.
 fn directive(text: &[u8]) -> Gap
-    ensures { result ≡ Gaps.directive text.now }
+    ensures here { result ≡ Gaps.directive text.now }
+    ensures within { Within result (length text.now + 1) }
 {
     if is_passed_over(text) {
         Gap::Space(line_length(text) + 1)

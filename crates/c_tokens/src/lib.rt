@@ -8,7 +8,9 @@ mod number;
 mod piece;
 mod place;
 mod quoted;
+mod reading;
 mod sign;
 mod token;
 
+pub use reading::tokens;
 pub use token::{Punct, Token, TokenFault, TokenKind};

@@ -1,5 +1,5 @@
 ghost use Rattle.std.specs.Prelude.{◌≡◌, IfOk, IsTrue};
-ghost use Rattle.std.specs.List.{AllPass};
+ghost use Rattle.std.specs.List.{list_all};
 ghost use Rattle.c_core.specs.Types.{signed_of};
 ghost use Rattle.c_tokens.specs.Bytes;
 ghost use Rattle.c_tokens.specs.Scan;
@@ -43,7 +43,7 @@ fn word_token(alloc: Global, text: &[u8]) -> Result<Option<(usize, TokenKind)>, 
 }
 
 fn word_of(alloc: Global, word: &[u8]) -> Result<Text, OutOfMemory>
-    requires { AllPass Bytes.is_word_byte word.now }
+    requires { IsTrue (list_all Bytes.is_word_byte word.now) }
     ensures { IfOk result (λ text. text ≡ word.now) }
 {
     match str::from_utf8(word) {

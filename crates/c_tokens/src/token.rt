@@ -88,6 +88,11 @@ pub enum TokenFault {
 }
 
 impl From<OutOfMemory> for TokenFault {
+    ghost use Rattle.std.specs.Prelude.{◌≡◌};
+    ghost use Rattle.c_tokens.specs.declared.token.TokenFault.TheVariants.{OutOfMemory as NoMemory};
+
+    ghost from_gives = { λ _ fault. fault ≡ NoMemory };
+
     fn from(_: OutOfMemory) -> Self {
         TokenFault::OutOfMemory
     }
