@@ -1,5 +1,5 @@
 -- Tests and options: what an answer says of its parts.
-use Rattle.std.proofs.Common.{◌≡◌, ◌≢◌, ◌+◌, ◌≤◌, ◌<◌, ℕ, Bool, true, false, cond, not, ◌&&◌, ◌==◌, List, [], ◌∷◌, Option, Some, None, refl, sym, ap, ◌∙◌, arith, inl, inr}
+use Rattle.std.proofs.Common.{◌≡◌, ◌≢◌, ◌+◌, Result, Ok, Err, IsErrAnd, ◌≤◌, ◌<◌, ℕ, Bool, true, false, cond, not, ◌&&◌, ◌==◌, List, [], ◌∷◌, Option, Some, None, refl, sym, ap, ◌∙◌, arith, inl, inr}
 use Rattle.std.specs.Option.{option_map}
 use Rattle.std.specs.List.{list_all}
 use Rattle.std.proofs.lemmas.Bool.{eqb-true}
@@ -39,3 +39,7 @@ pub pair_passes : {X Y : Type 0} (p : X → Y → Bool) (rows : List (X × Y)) �
 pair_passes p [] all x y h = absurd h
 pair_passes p (row ∷ rows) all x y (inl h) = sym (ap (λ a. p a row.1) h.0 ∙ ap (p x) h.1) ∙ (both (p row.0 row.1) _ all).0
 pair_passes p (row ∷ rows) all x y (inr h) = pair_passes p rows (both (p row.0 row.1) _ all).1 x y h
+
+pub err_is : {T E : Type 0} {r : Result T E} {e : E} → IsErrAnd r (λ x. x ≡ e) → r ≡ Err e
+err_is {r = Ok x} h = absurd h
+err_is {r = Err x} h = ap Err h

@@ -13,7 +13,7 @@ next_byte : (b i : ℕ) (text : List ℕ) → closes (b ∷ text) ≡ false →
     option_map (λ n. n + i) (close_length (b ∷ text)) ≡ option_map (λ n. n + (i + 1)) (close_length text)
 next_byte b i text e = rw e (moved_on i (close_length text))
 
-rest_whole : (text : List ℕ) (i : ℕ) → take (length text - i) (drop i text) ≡ drop i text
+pub rest_whole : (text : List ℕ) (i : ℕ) → take (length text - i) (drop i text) ≡ drop i text
 rest_whole text i = ap (λ n. take n (drop i text)) (sym (length-drop i text)) ∙ take-length (drop i text)
 
 -- where no comment ends at a place, its end is looked for from the next place on
