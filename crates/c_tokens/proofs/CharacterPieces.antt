@@ -1,5 +1,5 @@
 -- Characters: the scanner finds one exactly where it stands.
-use Rattle.std.proofs.Common.{◌≡◌, ◌≤◌, ◌<◌, ◌+◌, ◌*◌, ◌∙◌, ℕ, zero, suc, Bool, true, false, cond, not, ◌&&◌, ◌==◌, nat_lt, nat_le, List, [], ◌∷◌, ◌++◌, length, take, drop, Option, Some, None, refl, sym, ap, subst, arith, inl, inr}
+use Rattle.std.proofs.Common.{◌≡◌, ◌≤◌, ◌<◌, ◌+◌, ◌∙◌, ℕ, Bool, true, false, cond, not, ◌&&◌, ◌==◌, nat_lt, nat_le, List, [], ◌∷◌, ◌++◌, length, take, drop, Option, Some, None, refl, sym, ap, subst, arith, inl, inr}
 use Rattle.std.specs.Option.{option_map}
 use Rattle.std.specs.List.{prefix_len, list_all}
 use Rattle.std.proofs.lemmas.Bool.{eqb-true, ltb-true, leb-true}
@@ -10,7 +10,6 @@ use Rattle.std.proofs.lemmas.List.{take-append-drop}
 use Rattle.c_tokens.specs.Bytes.{is_plain, is_octal_digit, is_hexadecimal_digit, digit_value, quote, backslash, small_x}
 use Rattle.c_tokens.specs.Numbers.{number_in}
 use Rattle.c_tokens.specs.Characters.{simple_escapes, Pairs, Character, Plain, Simple, Octal, Hexadecimal}
-use Rattle.c_tokens.specs.Gaps.{begins_with}
 use Rattle.c_tokens.specs.Scan.{value_among, closed_after, byte_in, digits_escape, escape_end, character_end}
 use Rattle.c_tokens.proofs.Choices.{both, not_true, some_pair, second_choice, pair_passes}
 use Rattle.c_tokens.proofs.Runs.{run_passes, run_exact}
@@ -83,7 +82,7 @@ octal_whole (d ∷ digits) all some few small rest =
     let here = (both (is_octal_digit d) _ all).0 in
     let text = digits ++ quote ∷ rest in
     second_choice (d == small_x) (is_octal_digit d) (digits_escape 16 is_hexadecimal_digit 2 2 text) (digits_escape 8 is_octal_digit 3 1 (d ∷ text)) (closed_after 2 text (value_among simple_escapes d))
-      (octal_digit d here) here ∙ digits_whole 8 is_octal_digit 3 1 (d ∷ digits) rest all refl some few small
+    (octal_digit d here) here ∙ digits_whole 8 is_octal_digit 3 1 (d ∷ digits) rest all refl some few small
 
 pub character_whole : {text : List ℕ} {v : ℕ} → Character text v → (rest : List ℕ) → character_end (text ++ quote ∷ rest) ≡ Some (length text + 1, v)
 character_whole (Plain {b = b} plain) rest = rw (plain_itself b plain, plain) refl
@@ -157,9 +156,16 @@ digits_here : (radix : ℕ) (p : ℕ → Bool) (most before : ℕ) (text : List 
 digits_here radix p most before text n v e =
     let m = prefix_len p text in
     let end = closed_from (before + m) (drop m text) (byte_in radix most (take m text)) n v e in
-    let size : length (take m text) ≡ m = length-prefix_len p text in
-    (take m text, (end.rest, (byte_case radix most v (take m text) (nat_lt 0 (length (take m text)) && (nat_le (length (take m text)) most && nat_lt (number_in radix (take m text)) 256)) refl end.valued,
-      (run_passes p text, (sym (take-append-drop m text) ∙ ap (λ t. take m text ++ t) end.parts, (let k = end.size in omega (arith, k, size)))))))
+    let size : length (take m text) ≡ m = length-prefix_len p text in (
+      take m text,
+      (
+        end.rest,
+        (
+          byte_case radix most v (take m text) (nat_lt 0 (length (take m text)) && (nat_le (length (take m text)) most && nat_lt (number_in radix (take m text)) 256)) refl end.valued,
+          (run_passes p text, (sym (take-append-drop m text) ∙ ap (λ t. take m text ++ t) end.parts, (let k = end.size in omega (arith, k, size)))),
+        ),
+      ),
+    )
 
 escape_case : (b : ℕ) (text : List ℕ) (n v : ℕ) (x octal : Bool) → (b == small_x) ≡ x → is_octal_digit b ≡ octal →
     cond x (digits_escape 16 is_hexadecimal_digit 2 2 text) (cond octal (digits_escape 8 is_octal_digit 3 1 (b ∷ text)) (closed_after 2 text (value_among simple_escapes b))) ≡ Some (n, v) →

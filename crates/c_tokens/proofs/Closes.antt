@@ -1,5 +1,5 @@
 -- The end of a comment, byte by byte.
-use Rattle.std.proofs.Common.{◌≡◌, ◌<◌, ◌+◌, ◌-◌, ℕ, Bool, true, false, List, [], ◌∷◌, length, take, drop, get_or, Option, Some, None, refl, sym, ap, arith, add-one, ◌∙◌}
+use Rattle.std.proofs.Common.{◌≡◌, ◌<◌, ◌+◌, ◌-◌, ℕ, false, List, ◌∷◌, length, take, drop, get_or, Option, Some, None, refl, sym, ap, arith, add-one, ◌∙◌}
 use Rattle.std.specs.Option.{option_map}
 use Rattle.std.proofs.Math.Seq.{drop-cons, take-length}
 use Rattle.std.proofs.lemmas.List.{length-drop}

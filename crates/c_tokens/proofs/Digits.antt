@@ -37,7 +37,7 @@ too_large radix digits i limit h inside large =
     let n = number_in radix (take i digits) in
     let last = fold_least radix h (drop (i + 1) digits) (more radix n (get_or digits i 0)) in
     let e : number_in radix digits ≡ fold (more radix) (more radix n (get_or digits i 0)) (drop (i + 1) digits) =
-        split_at radix digits i ∙ ap (fold (more radix) n) rest in
+    split_at radix digits i ∙ ap (fold (more radix) n) rest in
     omega (arith, last, e, large)
 
 -- a number of all digits

@@ -1,7 +1,6 @@
 -- A text has one outcome.
-use Rattle.std.proofs.Common.{◌≡◌, ◌≤◌, ◌<◌, ◌+◌, ◌∙◌, ℕ, Bool, List, [], ◌∷◌, ◌++◌, length, take, drop, Option, Some, None, Result, Ok, Err, refl, sym, ap, subst, arith}
+use Rattle.std.proofs.Common.{◌≡◌, ◌∙◌, ℕ, List, [], ◌∷◌, ◌++◌, length, take, drop, Option, Some, None, Result, Ok, Err, refl, sym, ap, subst}
 use Rattle.std.proofs.Math.Seq.{take-append_seam, drop-append_seam}
-use Rattle.c_core.specs.declared.number.Spot.{Spot}
 use Rattle.c_tokens.specs.declared.token.Token.{Token}
 use Rattle.c_tokens.specs.declared.token.TokenKind.{TokenKind}
 use Rattle.c_tokens.specs.declared.token.TokenFault.{TokenFault}
@@ -10,10 +9,10 @@ use Rattle.c_tokens.specs.declared.gap.Gap.{Gap}
 use Rattle.c_tokens.specs.declared.gap.Gap.TheVariants.{Space, Refused, Unclosed, Absent}
 use Rattle.c_tokens.specs.declared.place.Place.{Place}
 use Rattle.c_tokens.specs.Gaps.{gap}
-use Rattle.c_tokens.specs.Pieces.{Longest, NoPiece}
+use Rattle.c_tokens.specs.Pieces.{NoPiece}
 use Rattle.c_tokens.specs.Scan.{scan}
-use Rattle.c_tokens.specs.Reading.{Ending, Whole, NoToken, BadDirective, start, past, token, Reads, AtEnd, Between, AToken, RefusedDirective, UnclosedComment, BadNumber, BadByte, Tokens, Answers, IsOutcome}
-use Rattle.c_tokens.proofs.Scanned.{found_longest, longest_found, none_found}
+use Rattle.c_tokens.specs.Reading.{Ending, Whole, NoToken, BadDirective, past, token, Reads, AtEnd, Between, AToken, RefusedDirective, UnclosedComment, BadNumber, BadByte, Tokens, Answers, IsOutcome}
+use Rattle.c_tokens.proofs.Scanned.{found_longest, longest_found}
 
 -- what is left of a reading behind its first step
 Behind : Gap → Option (ℕ × Option TokenKind) → Place → List ℕ → List Token → Ending → Type 0

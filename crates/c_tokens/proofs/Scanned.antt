@@ -1,27 +1,25 @@
 -- The scanner finds the longest piece, and none where none stands.
-use Rattle.std.proofs.Common.{◌≡◌, ◌≤◌, ◌<◌, ◌+◌, ◌∙◌, ℕ, zero, suc, Bool, true, false, cond, ◌&&◌, ◌==◌, List, [], ◌∷◌, ◌++◌, length, take, drop, Option, Some, None, refl, sym, ap, subst, arith, append_assoc, length-append, length-take}
+use Rattle.std.proofs.Common.{◌≡◌, ◌≤◌, ◌+◌, ◌∙◌, ℕ, suc, Bool, true, false, cond, ◌==◌, List, [], ◌∷◌, ◌++◌, length, take, drop, Option, Some, None, refl, sym, ap, subst, arith, append_assoc, length-append}
 use Rattle.std.specs.Option.{option_map}
 use Rattle.std.specs.List.{prefix_len, list_all}
 use Rattle.std.proofs.lemmas.Bool.{eqb-true}
 use Rattle.std.proofs.lemmas.Bool.Decides.{nat_tests}
 use Rattle.std.proofs.lemmas.List.Folds.{length-prefix_len}
-use Rattle.std.proofs.Math.Seq.{take-append_seam, drop-append_seam}
+use Rattle.std.proofs.Math.Seq.{take-append_seam}
 use Rattle.std.proofs.lemmas.List.{take-append-drop}
-use Rattle.c_core.specs.Types.{signed_of}
 use Rattle.c_tokens.specs.declared.token.Punct.{Punct}
 use Rattle.c_tokens.specs.declared.token.TokenKind.{TokenKind}
-use Rattle.c_tokens.specs.declared.token.TokenKind.TheVariants.{Word, Char, Str, Punct as Sign}
+use Rattle.c_tokens.specs.declared.token.TokenKind.TheVariants.{Word, Punct as Sign}
 use Rattle.c_tokens.specs.Bytes.{is_letter, is_digit, is_word_byte, is_number_byte, quote, double_quote}
 use Rattle.c_tokens.specs.Signs.{signs}
 use Rattle.c_tokens.specs.Numbers.{constant}
-use Rattle.c_tokens.specs.Characters.{Pairs, Character, StringText}
 use Rattle.c_tokens.specs.Pieces.{Piece, AWord, ANumber, ACharacter, AString, ASign, Longest, NoPiece}
 use Rattle.c_tokens.specs.Scan.{string_end, character_end, sign_among, word_scan, number_scan, character_scan, string_scan, sign_scan, scan}
 use Rattle.c_tokens.proofs.Choices.{first_choice, second_choice, some_pair, mapped}
 use Rattle.c_tokens.proofs.Runs.{run_passes, run_least}
 use Rattle.c_tokens.proofs.StringPieces.{string_whole, string_here}
 use Rattle.c_tokens.proofs.CharacterPieces.{character_whole, character_here}
-use Rattle.c_tokens.proofs.SignPieces.{Bounds, sign_found, SignHere, sign_here, Apart, sign_apart}
+use Rattle.c_tokens.proofs.SignPieces.{Bounds, sign_found, sign_here, Apart, sign_apart}
 
 -- a piece of this length is the one found, or is shorter
 abbrev pub Reaches : Option (ℕ × Option TokenKind) → ℕ → Option TokenKind → Type 0
@@ -62,12 +60,12 @@ piece_reached (ANumber {b = b} {w = w} digit all) rest =
     subst P (sym (scan_number b (w ++ rest) digit)) (run_reaches is_number_byte constant b w rest all)
 piece_reached (ACharacter {text = text} {value = value} character) rest =
     let whole : character_end ((text ++ quote ∷ []) ++ rest) ≡ Some (length text + 1, value) =
-          ap character_end (append_assoc text (quote ∷ []) rest) ∙ character_whole character rest in
+    ap character_end (append_assoc text (quote ∷ []) rest) ∙ character_whole character rest in
     let size : length (text ++ quote ∷ []) ≡ length text + 1 = length-append text (quote ∷ []) in
     rw whole (omega (arith, size), λ same. refl)
 piece_reached (AString {text = text} string) rest =
     let whole : string_end false ((text ++ double_quote ∷ []) ++ rest) ≡ Some (length text + 1) =
-          ap (string_end false) (append_assoc text (double_quote ∷ []) rest) ∙ string_whole string rest in
+    ap (string_end false) (append_assoc text (double_quote ∷ []) rest) ∙ string_whole string rest in
     let size : length (text ++ double_quote ∷ []) ≡ length text + 1 = length-append text (double_quote ∷ []) in
     rw whole (omega (arith, size), λ same. refl)
 piece_reached (ASign {w = w} {s = s} listed) rest =

@@ -1,16 +1,15 @@
 -- A step of the scanner is a step of the reading.
-use Rattle.std.proofs.Common.{◌≡◌, ◌≤◌, ◌<◌, ◌+◌, ◌∙◌, ℕ, Bool, List, [], ◌∷◌, ◌++◌, length, take, drop, Option, Some, None, Result, Ok, Err, refl, sym, ap, subst, arith, inl, inr, ◌⊎◌, append_assoc, append-nil}
+use Rattle.std.proofs.Common.{◌≡◌, ◌≤◌, ◌∙◌, ℕ, List, [], ◌∷◌, ◌++◌, length, take, drop, Option, Some, None, Ok, Err, refl, sym, ap, subst, arith, inl, inr, ◌⊎◌, append_assoc, append-nil}
 use Rattle.std.specs.Option.{option_to_list}
-use Rattle.c_core.specs.declared.number.Spot.{Spot}
 use Rattle.c_tokens.specs.declared.token.Token.{Token}
 use Rattle.c_tokens.specs.declared.token.TokenKind.{TokenKind}
 use Rattle.c_tokens.specs.declared.token.TokenFault.{TokenFault}
 use Rattle.c_tokens.specs.declared.token.TokenFault.TheVariants.{Token as TokenAt, Directive, OutOfMemory}
-use Rattle.c_tokens.specs.declared.gap.Gap.TheVariants.{Space, Refused, Unclosed, Absent}
+use Rattle.c_tokens.specs.declared.gap.Gap.TheVariants.{Unclosed, Absent}
 use Rattle.c_tokens.specs.declared.place.Place.{Place}
 use Rattle.c_tokens.specs.Gaps.{gap}
 use Rattle.c_tokens.specs.Scan.{scan, good, Steps}
-use Rattle.c_tokens.specs.Reading.{Ending, Whole, NoToken, BadDirective, start, past, token, Reads, AtEnd, Between, AToken, RefusedDirective, UnclosedComment, BadNumber, BadByte, Tokens, Answers}
+use Rattle.c_tokens.specs.Reading.{Ending, Whole, NoToken, BadDirective, past, token, Reads, AtEnd, Between, AToken, RefusedDirective, UnclosedComment, BadNumber, BadByte, Tokens, Answers}
 use Rattle.c_tokens.proofs.Choices.{some_pair}
 use Rattle.c_tokens.proofs.Scanned.{longest_found, none_found, found_within}
 
@@ -47,7 +46,7 @@ pub refused : (text : List ℕ) (found : List Token) (at : Place) (rest : List �
     ((ts : List Token) (end : Ending) → Reads at rest ts end → Tokens text (found ++ ts) end) → 1 ≤ length rest → Steps at rest (Err fault) → Answers text (Err fault)
 refused text found at rest (TokenAt line column) continued some h =
     let there : NoToken at.spot ≡ NoToken (record { line = line; column = column }) =
-          ap (λ l. NoToken (record { line = l; column = at.spot.column })) (sym h.0) ∙ ap (λ c. NoToken (record { line = line; column = c })) (sym h.1.0) in
+    ap (λ l. NoToken (record { line = l; column = at.spot.column })) (sym h.0) ∙ ap (λ c. NoToken (record { line = line; column = c })) (sym h.1.0) in
     (found ++ [], continued [] (NoToken (record { line = line; column = column })) (subst (Reads at rest []) there (no_token at rest some h.1.1)))
 refused text found at rest (Directive line) continued some h =
     (found ++ [], continued [] (BadDirective line) (subst (Reads at rest []) (ap BadDirective (sym h.0)) (RefusedDirective h.1)))

@@ -1,5 +1,5 @@
 -- What stands between tokens: blanks, line ends, comments (C11 6.4.9) and directives (C11 6.10).
-use Rattle.std.specs.Prelude.{◌+◌, ℕ, Bool, true, false, List, [], ◌∷◌, ◌==◌, ◌||◌, ◌&&◌, Option, Some, None, drop, if◌then◌else◌, codes}
+use Rattle.std.specs.Prelude.{◌+◌, ℕ, Bool, false, List, [], ◌∷◌, ◌==◌, ◌||◌, ◌&&◌, Option, Some, None, drop, if◌then◌else◌, codes}
 use Rattle.std.specs.Option.{option_map}
 use Rattle.std.specs.List.{prefix_len, position_or_len, take_while}
 use Rattle.c_tokens.specs.declared.gap.Gap.{Gap}

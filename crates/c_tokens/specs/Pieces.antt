@@ -1,5 +1,5 @@
 -- The forms of tokens, and the longest that stands at a place (C11 6.4).
-use Rattle.std.specs.Prelude.{◌≡◌, ◌≤◌, ℕ, true, List, [], ◌∷◌, ◌++◌, length, Option, Some, None}
+use Rattle.std.specs.Prelude.{◌≡◌, ◌≤◌, ℕ, true, List, [], ◌∷◌, ◌++◌, length, Option, Some}
 use Rattle.std.specs.List.{list_all}
 use Rattle.c_core.specs.Types.{signed_of}
 use Rattle.c_tokens.specs.declared.token.Punct.{Punct}

@@ -1,5 +1,5 @@
 -- The tokens of a text, each with its place, and where the text stops being tokens.
-use Rattle.std.specs.Prelude.{◌≡◌, ◌+◌, ◌-◌, ◌^◌, min, ℕ, Bool, true, ◌&&◌, ◌==◌, List, [], ◌∷◌, ◌++◌, Option, Some, None, Result, Ok, Err, take, drop, if◌then◌else◌}
+use Rattle.std.specs.Prelude.{◌≡◌, ◌+◌, ◌-◌, ◌^◌, min, ℕ, true, ◌&&◌, ◌==◌, List, [], ◌∷◌, Some, None, Result, Ok, Err, take, drop, if◌then◌else◌}
 use Rattle.std.specs.List.{fold}
 use Rattle.c_core.specs.declared.number.Spot.{Spot}
 use Rattle.c_tokens.specs.declared.token.Token.{Token}

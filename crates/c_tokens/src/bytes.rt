@@ -90,7 +90,9 @@ pub fn number_run(text: &[u8]) -> usize
     ensures run { result ≡ prefix_len Bytes.is_number_byte text.now }
     ensures within { result ≤ length text.now }
 {
-    text.iter().take_while(|byte| is_number_byte(**byte)).count()
+    text.iter()
+        .take_while(|byte| is_number_byte(**byte))
+        .count()
 }
 
 pub fn digit_run(text: &[u8]) -> usize

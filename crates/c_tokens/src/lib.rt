@@ -10,6 +10,8 @@ mod place;
 mod quoted;
 mod reading;
 mod sign;
+#[cfg(test)]
+mod tests;
 mod token;
 
 pub use reading::tokens;

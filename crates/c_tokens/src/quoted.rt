@@ -75,7 +75,11 @@ fn byte_in(radix: u64, most: usize, digits: &[u8]) -> Option<u8>
         return None;
     }
     let number = number_in(radix, digits)?;
-    if number < 256 { Some(number as u8) } else { None }
+    if number < 256 {
+        Some(number as u8)
+    } else {
+        None
+    }
 }
 
 /// The value of an escape of one letter or sign.

@@ -1,4 +1,4 @@
-use Rattle.std.proofs.Common.{◌≡◌, ◌-◌, ◌∙◌, sym, false, length, take, drop, rules}
+use Rattle.std.proofs.Common.{◌≡◌, ◌-◌, ◌∙◌, sym, false, length, take, drop}
 use Rattle.c_tokens.specs.Gaps.{closes}
 use Rattle.c_tokens.proofs.Closes.{close_later}
 use Rattle.c_tokens.proofs.gap.close_length.Goals as goal

@@ -1,5 +1,4 @@
-use Rattle.std.proofs.Common.{◌≡◌, ◌≤◌, ◌<◌, ◌^◌, ◌+◌, ◌*◌, get_or, take, length, sym, ap, ◌∙◌, arith, rules}
-use Rattle.c_tokens.specs.Bytes.{digit_value}
+use Rattle.std.proofs.Common.{◌≡◌, ◌≤◌, ◌^◌, ◌+◌, ◌*◌, get_or, take, sym, arith}
 use Rattle.c_tokens.specs.Numbers.{number_in}
 use Rattle.c_tokens.proofs.Digits.{more, too_large, whole}
 use Rattle.c_tokens.proofs.number.number_in.Goals as goal

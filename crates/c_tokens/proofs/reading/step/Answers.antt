@@ -1,4 +1,4 @@
-use Rattle.std.proofs.Common.{◌≡◌, ◌∙◌, Some, refl, sym, rules}
+use Rattle.std.proofs.Common.{◌≡◌, ◌∙◌, Some, refl, sym}
 use Rattle.c_tokens.specs.Scan.{scan, good}
 use Rattle.c_tokens.specs.Gaps.{gap}
 use Rattle.c_tokens.specs.declared.gap.Gap.TheVariants.{Absent}

@@ -1,8 +1,5 @@
-use Rattle.std.proofs.Common.{◌≡◌, ◌≤◌, ◌∙◌, length, Ok, Err, Result, List, sym, subst, arith}
+use Rattle.std.proofs.Common.{◌≡◌, ◌≤◌, ◌∙◌, length, Ok, Err, sym, arith}
 use Rattle.std.proofs.lemmas.Bool.{eqb-true, eqb-false}
-use Rattle.c_tokens.specs.declared.token.Token.{Token}
-use Rattle.c_tokens.specs.declared.token.TokenFault.{TokenFault}
-use Rattle.c_tokens.specs.Reading.{Answers}
 use Rattle.c_tokens.proofs.Choices.{err_is}
 use Rattle.c_tokens.proofs.Closes.{rest_whole}
 use Rattle.c_tokens.proofs.Stepping.{further, refused, finished}
@@ -24,12 +21,12 @@ loop-rest-preserved c ts end d =
     let rest = c.loop-rest.rest.now in
     let n = c.in_ok-length.length in
     further c.args.bytes.now c.loop-rest.found c.add.new.found c.loop-rest.place rest n c.in_ok-length.token
-      c.loop-rest.invariant c.in_ok-length.ensures c.in_ok-add.ensures ts end (rw (c.place_past-place.ensures, rest_whole rest n) at d)
+    c.loop-rest.invariant c.in_ok-length.ensures c.in_ok-add.ensures ts end (rw (c.place_past-place.ensures, rest_whole rest n) at d)
 
 pub returns-clause-found : goal.returns-clause-found
 returns-clause-found c =
     finished c.args.bytes.now c.loop-rest.found c.loop-rest.place c.loop-rest.rest.now c.loop-rest.invariant
-      (eqb-true (length c.loop-rest.rest.now) 0 (sym c.is_empty.ensures ∙ c.loop-rest-test.false))
+    (eqb-true (length c.loop-rest.rest.now) 0 (sym c.is_empty.ensures ∙ c.loop-rest-test.false))
 
 pub returns-clause-only : goal.returns-clause-only
 returns-clause-only c = only c.args.bytes.now (Ok c.loop-rest.found) (returns-clause-found c)
