@@ -8,3 +8,4 @@ pub mod SignPieces
 pub mod Scanned
 pub mod Outcomes
 pub mod Stepping
+pub mod Total

@@ -4,6 +4,7 @@
 
 mod bytes;
 mod gap;
+mod laws;
 mod number;
 mod piece;
 mod place;
@@ -14,5 +15,6 @@ mod sign;
 mod tests;
 mod token;
 
+pub use laws::{one_outcome, some_outcome};
 pub use reading::tokens;
 pub use token::{Punct, Token, TokenFault, TokenKind};
