@@ -1,0 +1,11 @@
+pub mod Choices
+pub mod Digits
+pub mod Closes
+pub mod Runs
+pub mod StringPieces
+pub mod CharacterPieces
+pub mod SignPieces
+pub mod Scanned
+pub mod Outcomes
+pub mod Stepping
+pub mod Total

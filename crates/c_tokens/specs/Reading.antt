@@ -1,0 +1,73 @@
+-- The tokens of a text, each with its place, and where the text stops being tokens.
+use Rattle.std.specs.Prelude.{◌≡◌, ◌+◌, ◌-◌, ◌^◌, min, ℕ, true, ◌&&◌, ◌==◌, List, [], ◌∷◌, Some, None, Result, Ok, Err, take, drop, if◌then◌else◌}
+use Rattle.std.specs.List.{fold}
+use Rattle.c_core.specs.declared.number.Spot.{Spot}
+use Rattle.c_tokens.specs.declared.token.Token.{Token}
+use Rattle.c_tokens.specs.declared.token.TokenKind.{TokenKind}
+use Rattle.c_tokens.specs.declared.token.TokenFault.{TokenFault}
+use Rattle.c_tokens.specs.declared.token.TokenFault.TheVariants.{Token as TokenAt, Directive, OutOfMemory}
+use Rattle.c_tokens.specs.declared.place.Place.{Place}
+use Rattle.c_tokens.specs.Bytes.{is_blank, line_feed}
+use Rattle.c_tokens.specs.declared.gap.Gap.TheVariants.{Space, Refused, Unclosed, Absent}
+use Rattle.c_tokens.specs.Gaps.{gap}
+use Rattle.c_tokens.specs.Pieces.{Longest, NoPiece}
+
+-- one more line or column; a count stands still at its type's end
+abbrev pub next : ℕ → ℕ
+next n = min (n + 1) (2 ^ 32 - 1)
+
+-- the first place of a text; only blanks stand before it on its line
+abbrev pub start : Place
+start = record { spot = record { line = 1; column = 1 }; fresh = true }
+
+-- the place after a byte: lines part at line feeds, columns count bytes
+abbrev pub after : Place → ℕ → Place
+after at b =
+    if b == line_feed then record { spot = record { line = next at.spot.line; column = 1 }; fresh = true }
+    else record { spot = record { line = at.spot.line; column = next at.spot.column }; fresh = at.fresh && is_blank b }
+
+-- the place after a piece of text
+abbrev pub past : Place → List ℕ → Place
+past at piece = fold after at piece
+
+-- where a text stops being tokens
+pub data Ending : Type 0 where
+  -- nowhere: the whole text is these tokens
+  Whole : Ending
+  -- at a place where no token stands
+  NoToken : Spot → Ending
+  -- at a directive on this line that is not passed over
+  BadDirective : ℕ → Ending
+
+abbrev pub token : TokenKind → Place → Token
+token kind at = record { kind = kind; spot = at.spot }
+
+-- the tokens of the text from this place on, each the longest that stands at its place, and where the text stops
+pub data Reads : Place → List ℕ → List Token → Ending → Type 0 where
+  AtEnd : {at : Place} → Reads at [] [] Whole
+  Between : {at : Place} {text : List ℕ} {n : ℕ} {ts : List Token} {end : Ending} →
+      gap at.fresh text ≡ Space n → Reads (past at (take n text)) (drop n text) ts end → Reads at text ts end
+  AToken : {at : Place} {w text rest : List ℕ} {kind : TokenKind} {ts : List Token} {end : Ending} →
+      gap at.fresh text ≡ Absent → Longest w (Some kind) text rest → Reads (past at w) rest ts end → Reads at text (token kind at ∷ ts) end
+  RefusedDirective : {at : Place} {text : List ℕ} → gap at.fresh text ≡ Refused → Reads at text [] (BadDirective at.spot.line)
+  UnclosedComment : {at : Place} {text : List ℕ} → gap at.fresh text ≡ Unclosed → Reads at text [] (NoToken at.spot)
+  BadNumber : {at : Place} {w text rest : List ℕ} → gap at.fresh text ≡ Absent → Longest w None text rest → Reads at text [] (NoToken at.spot)
+  BadByte : {at : Place} {b : ℕ} {text : List ℕ} → gap at.fresh (b ∷ text) ≡ Absent → NoPiece (b ∷ text) → Reads at (b ∷ text) [] (NoToken at.spot)
+
+-- the whole text is these tokens, or stops after them there
+abbrev pub Tokens : List ℕ → List Token → Ending → Type 0
+Tokens text ts end = Reads start text ts end
+
+-- an answer that the text bears out
+abbrev pub Answers : List ℕ → Result (List Token) TokenFault → Type 0
+Answers text (Ok ts) = Tokens text ts Whole
+Answers text (Err (TokenAt line column)) = (ts : List Token) × Tokens text ts (NoToken (record { line = line; column = column }))
+Answers text (Err (Directive line)) = (ts : List Token) × Tokens text ts (BadDirective line)
+Answers text (Err OutOfMemory) = Unit {0}
+
+-- the answer is these tokens and this ending; want of memory alone may stand in their place
+abbrev pub IsOutcome : Result (List Token) TokenFault → List Token → Ending → Type 0
+IsOutcome (Ok found) ts end = (found ≡ ts) × (end ≡ Whole)
+IsOutcome (Err (TokenAt line column)) ts end = end ≡ NoToken (record { line = line; column = column })
+IsOutcome (Err (Directive line)) ts end = end ≡ BadDirective line
+IsOutcome (Err OutOfMemory) ts end = Unit {0}
