@@ -1,0 +1,4 @@
+pub mod Net
+pub mod Reach
+pub mod Numbers
+pub mod Outcome
