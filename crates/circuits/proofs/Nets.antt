@@ -56,6 +56,9 @@ grown_then j k n a b c p q h = record {
   gates = omega (arith, count_ands-append p.more q.more, length-append p.more q.more, p.gates, q.gates);
   few = omega (arith, length-append p.more q.more, p.few, q.few) }
 
+pub wider : {j n : ℕ} {a b : List NetNode} → Grown j a b → j ≤ n → Grown n a b
+wider {j} {n} {a} {b} g h = record { more = g.more; is = g.is; gates = g.gates; few = omega (arith, g.few) }
+
 pub longer : (most : ℕ) (old new : List NetNode) → Grown most old new → (length old ≤ length new) × (length new ≤ length old + most)
 longer most old new g = (omega (arith, ap length g.is, length-append old g.more), omega (arith, ap length g.is, length-append old g.more, g.few))
 

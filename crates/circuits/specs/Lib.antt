@@ -2,3 +2,4 @@ pub mod Net
 pub mod Reach
 pub mod Numbers
 pub mod Outcome
+pub mod Gates

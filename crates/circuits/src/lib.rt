@@ -3,7 +3,14 @@
 #![tactic(auto)]
 
 mod bits;
+mod gates;
+mod lists;
+mod logic;
+mod check;
 mod net;
+mod signs;
+mod sums;
+mod types;
 
 pub use bits::{Bits, Outcome};
 pub use net::{Bit, Net, NetNode, not};

@@ -1,0 +1,6 @@
+ghost use Rattle.std.specs.Prelude.{◌≡◌};
+fn probe() -> u8
+    ensures { result ≡ 0 }
+{
+    0
+}
