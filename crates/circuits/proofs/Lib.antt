@@ -5,3 +5,7 @@ pub mod Reading
 pub mod Judged
 pub mod Carrying
 pub mod Summed
+pub mod Digits
+pub mod Converted
+pub mod Rows
+pub mod Shifted

@@ -39,3 +39,8 @@ typed m ty v net bits = read (width_of m ty) (is_signed ty) (number v net bits)
 pub record AreTyped (m : DataModel) (ty : IntType) (net : List NetNode) (bits : List Bit) : Type 0 where
   pub inside : AreIn net bits
   pub wide : length bits ≡ width_of m ty
+
+-- bits of the net, as many as the type is wide, and their number in it for all inputs
+pub record Reads (m : DataModel) (ty : IntType) (net : List NetNode) (bits : List Bit) (value : (ℕ → Bool) → ℤ) : Type 0 where
+  pub bits_in : AreTyped m ty net bits
+  pub is : (v : ℕ → Bool) → typed m ty v net bits ≡ value v

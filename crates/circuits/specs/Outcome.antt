@@ -4,7 +4,7 @@ use Rattle.c_core.specs.Types.{width_of, promote_of}
 use Rattle.c_core.specs.Operators.{is_comparison}
 use Rattle.c_core.specs.declared.number.DataModel.{DataModel}
 use Rattle.c_core.specs.declared.number.IntType.{IntType}
-use Rattle.c_core.specs.declared.number.IntType.TheVariants.{Int}
+use Rattle.c_core.specs.declared.number.IntType.TheVariants.{Bool as BoolType, Int}
 use Rattle.c_core.specs.declared.number.BinOp.{BinOp}
 use Rattle.c_core.specs.declared.number.BinOp.TheVariants.{Add, Sub, Mul, Div, Rem, Shl, Shr, And, Xor, Or, Lt, Le, Gt, Ge, Eq, Ne}
 use Rattle.c_core.specs.declared.number.UnOp.{UnOp}
@@ -40,3 +40,9 @@ pub record Gives (m : DataModel) (ty : IntType) (net : List NetNode) (o : Outcom
   pub value_is : (v : ℕ → Bool) → HasValue (done v) (typed m ty v net o.value.bits)
   pub overflow_is : (v : ℕ → Bool) → holds v net o.overflow ≡ overflowed (done v)
   pub undefined_is : (v : ℕ → Bool) → holds v net o.undefined ≡ undefined (done v)
+
+-- a conversion asks of each digit whether it is 0, or moves the digits alone
+abbrev pub conversion_cost : DataModel → IntType → IntType → ℕ
+conversion_cost m BoolType BoolType = 0
+conversion_cost m from BoolType = width_of m from
+conversion_cost m from to = 0

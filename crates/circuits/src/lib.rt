@@ -3,11 +3,14 @@
 #![tactic(auto)]
 
 mod bits;
+mod conversions;
 mod gates;
 mod lists;
 mod logic;
 mod check;
 mod net;
+mod products;
+mod shifts;
 mod signs;
 mod sums;
 mod types;

@@ -1,8 +1,9 @@
-use Rattle.std.proofs.Common.{◌+◌, ◌*◌, ◌≡◌, ◌∙◌, get_or, length, ap, arith}
+use Rattle.std.proofs.Common.{◌+◌, ◌*◌, ◌≡◌, length, arith}
 use Rattle.circuits.proofs.Nets.{kept, opp, grown_then, wider, three}
 use Rattle.circuits.proofs.Counting.{counts_later}
 use Rattle.circuits.proofs.Composing.{xor_of, pick_of}
-use Rattle.circuits.proofs.Carrying.{difference_of, sign_of, at_means}
+use Rattle.circuits.proofs.Carrying.{difference_of, sign_of, at_means, at_index}
+use Rattle.c_core.specs.Types.{width_of}
 use Rattle.circuits.proofs.Summed.{width_pos, typed_counts, below_means}
 use Rattle.circuits.proofs.sums.below.Goals as goal
 
@@ -12,8 +13,8 @@ returns-clause-value c =
   let hb = c.requires.b_in in
   let g = c.in_ok-rest.ensures.grown in
   let full = difference_of c.in_ok-rest.ensures.value (typed_counts ha) (typed_counts hb) in
-  let at = c.index-carry.ensures ∙ ap (λ k. get_or c.in_ok-rest.rest.items k _) ha.wide in
-  let carry = at_means _ _ full (omega arith) at in
+  let at = at_index _ _ c.index-carry.ensures ha.wide in
+  let carry = at_means (width_of c.args.model c.args.ty) _ full (omega arith) at in
   let left = sign_of _ c.sign-left.ensures (counts_later g (typed_counts ha)) in
   let right = sign_of _ c.sign-right.ensures (counts_later g (typed_counts hb)) in
   let apart = c.in_ok-apart.ensures in
