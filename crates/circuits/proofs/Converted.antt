@@ -1,5 +1,5 @@
 -- Constants and conversions, from what the circuits on lists count.
-use Rattle.std.proofs.Common.{◌≡◌, ℕ, suc, ◌+◌, ◌-◌, ◌*◌, ◌/◌, ◌%◌, ◌^◌, ◌<◌, ◌≤◌, Bool, true, false, cond, not, ◌&&◌, nat_eq, nat_lt, ℤ, pos, negsuc, ◌+ℤ◌, ◌-ℤ◌, neg_ℤ, unsigned_abs, List, [], ◌∷◌, ◌++◌, take, length, refl, sym, ◌∙◌, ap, subst, arith, add-one, zero-add}
+use Rattle.std.proofs.Common.{◌≡◌, ℕ, suc, ◌+◌, ◌-◌, ◌*◌, ◌/◌, ◌%◌, ◌^◌, ◌<◌, ◌≤◌, Bool, true, false, cond, not, ◌&&◌, nat_eq, nat_lt, ℤ, pos, negsuc, ◌+ℤ◌, ◌-ℤ◌, neg_ℤ, unsigned_abs, List, [], ◌∷◌, ◌++◌, take, length, refl, sym, ◌∙◌, ap, subst, arith, add-one, zero-add, lit≤}
 use Rattle.std.proofs.lemmas.Int.{ints}
 use Rattle.std.specs.Int.{int_rem_euclid}
 use Rattle.std.proofs.Math.Nat.{mod-eq_of_lt, pow-succ'}
@@ -16,6 +16,7 @@ use Rattle.circuits.specs.declared.net.NetNode.{NetNode}
 use Rattle.circuits.specs.Net.{holds, IsIn, Means, Grown}
 use Rattle.circuits.specs.Numbers.{number, digit, read, typed, AreIn, AreTyped, Counts, Reads}
 use Rattle.circuits.specs.Gates.{negative}
+use Rattle.circuits.specs.Outcome.{conversion_cost}
 use Rattle.circuits.proofs.Nets.{own}
 use Rattle.circuits.proofs.Counting.{in_none, snoc}
 use Rattle.circuits.proofs.Carrying.{counts_by, counts_same, counts_lt, low_counts, joined_counts, sign_of}
@@ -200,3 +201,36 @@ same_reads {m} {net} {out} a h e =
   let all = counts_same e (typed_counts h) in
   record { bits_in = record { inside = all.inside; wide = all.wide };
     is = λ v. ap pos (all.is v ∙ small (number v net a) (counts_lt (typed_counts h) v)) ∙ bool_fit m BoolType (number v net a) (counts_lt (typed_counts h) v) }
+
+-- what the digits are taken of
+pub rest_is_residue : (k : ℕ) (v u q r d : ℤ) → q ≡ r → r ≡ int_rem_euclid u d → u ≡ v → d ≡ pos (2 ^ k) → unsigned_abs q ≡ residue k v
+unfolding residue
+rest_is_residue k v u q r d a e f g = ap unsigned_abs (a ∙ e) ∙ ap (λ x. unsigned_abs (int_rem_euclid x d)) f ∙ ap (λ x. unsigned_abs (int_rem_euclid v x)) g
+
+pub constant_counts : {net : List NetNode} {out : List Bit} {n : ℕ} (w x : ℕ) → n ≡ w → Counts net out n (λ v. x % 2 ^ n) → Counts net out w (λ v. x % 2 ^ w)
+constant_counts {net} {out} {n} w x e c = subst (λ (k : ℕ). Counts net out k (λ v. x % 2 ^ k)) e c
+
+pub same_reads_at : {m : DataModel} {from to : IntType} {net : List NetNode} {out : List Bit} (a : List Bit) → to ≡ BoolType → from ≡ BoolType → AreTyped m from net a → out ≡ a
+  → Reads m to net out (λ v. fit m to (typed m from v net a))
+same_reads_at {m} {from} {to} {net} {out} a et ef h e = rw (et, ef) (same_reads a (subst (λ (t : IntType). AreTyped m t net a) ef h) e)
+
+pub some_reads_at : {m : DataModel} {from to : IntType} {old new : List NetNode} {bit : Bit} {out : List Bit} (a : List Bit) → to ≡ BoolType → AreTyped m from old a
+  → Means new bit (λ v. not (nat_eq (number v old a) 0)) → out ≡ bit ∷ [] → Reads m to new out (λ v. fit m to (typed m from v old a))
+some_reads_at {m} {from} {to} {old} {new} {bit} {out} a et h t e = rw et (some_reads a h t e)
+
+some_cost : (m : DataModel) (from : IntType) → (from ≡ BoolType → ⊥) → width_of m from ≤ conversion_cost m from BoolType
+some_cost m BoolType p = absurd (p refl)
+some_cost m Char p = lit≤ tt
+some_cost m SChar p = lit≤ tt
+some_cost m UChar p = lit≤ tt
+some_cost m Short p = lit≤ tt
+some_cost m UShort p = lit≤ tt
+some_cost m Int p = lit≤ tt
+some_cost m UInt p = lit≤ tt
+some_cost m Long p = omega arith
+some_cost m ULong p = omega arith
+some_cost m LongLong p = lit≤ tt
+some_cost m ULongLong p = lit≤ tt
+
+pub conversion_costs : (m : DataModel) (from to : IntType) → to ≡ BoolType → (from ≡ BoolType → ⊥) → width_of m from ≤ conversion_cost m from to
+conversion_costs m from to e p = rw e (some_cost m from p)

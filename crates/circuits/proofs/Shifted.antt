@@ -38,11 +38,11 @@ room_for : (m n k : ℕ) → m ≤ n → 2 ^ n ≤ k → 2 ^ m ≤ k
 room_for m n k h le = omega (arith, pow_le m n h)
 
 -- one stage
-pub moved_made : {old new : List NetNode} {gap out : List Bit} {test : Bit} (a : List Bit) (places : ℕ) → AreIn old a → IsIn old test
+pub moved_made : {old new : List NetNode} {gap out : List Bit} (test : Bit) (a : List Bit) (places : ℕ) → AreIn old a → IsIn old test
   → Counts old gap places (λ v. 0) → (ups sames : List Bit) → ups ≡ gap ++ a → sames ≡ a ++ gap
   → Counts new out (length ups) (λ v. cond (holds v old test) (number v old ups) (number v old sames))
   → Counts new out (length a + places) (λ v. cond (holds v old test) (2 ^ places * number v old a) (number v old a))
-moved_made {old} {new} {gap} {out} {test} a places ha ht z ups sames eu es c =
+moved_made {old} {new} {gap} {out} test a places ha ht z ups sames eu es c =
   let up' = counts_same eu (joined_counts z (own_counts old a ha)) in
   let same' = counts_same es (joined_counts (own_counts old a ha) z) in
   counts_by (λ v. cond (holds v old test) (2 ^ places * number v old a) (number v old a))

@@ -1,11 +1,11 @@
 // Constants and conversions.
 ghost use Rattle.std.specs.Prelude.{◌≡◌, ℕ, Bool, ◌+◌, ◌-◌, ◌*◌, ◌%◌, ◌≤◌, ◌<◌, ◌^◌, IfOk, IsTrue, length, pos};
-ghost use Rattle.c_core.specs.Types.{width_of, in_range, fit};
+ghost use Rattle.c_core.specs.Types.{width_of, in_range, residue, fit};
 ghost use Rattle.circuits.specs.Net.{holds, Grown, Means, IsIn};
 ghost use Rattle.circuits.specs.Numbers.{number, digit, typed, AreIn, AreTyped, Counts, Reads};
 ghost use Rattle.circuits.specs.Outcome.{conversion_cost};
 
-use crate::lists::{any, joined};
+use crate::lists::{any, copied, joined};
 use crate::signs::sign;
 use crate::types::width;
 use crate::{Bit, Net, not};
@@ -54,6 +54,12 @@ fn modulus(model: DataModel, ty: IntType) -> i128
     }
 }
 
+fn residue_in(model: DataModel, ty: IntType, v: i128) -> u128
+    ensures { result ≡ residue (width_of model ty) v }
+{
+    v.rem_euclid(modulus(model, ty)) as u128
+}
+
 pub fn constant_bits(
     alloc: Global,
     net: &Net,
@@ -64,8 +70,8 @@ pub fn constant_bits(
     requires { IsTrue (in_range model ty v) }
     ensures { IfOk result (λ r. Reads model ty net.now r.items (λ i. v)) }
 {
-    let rest = v.rem_euclid(modulus(model, ty));
-    let out = digits(alloc, net, width(model, ty), rest as u128)?;
+    let rest = residue_in(model, ty, v);
+    let out = digits(alloc, net, width(model, ty), rest)?;
     Ok(out)
 }
 
@@ -97,7 +103,8 @@ fn resized(
 {
     let n = width(model, to);
     if n <= a.len() {
-        let low = a[..n].to_vec(alloc)?;
+        let mut low = copied(alloc, a)?;
+        low.truncate(n);
         return Ok(low);
     }
     let top = sign(net, from, a);
@@ -122,7 +129,7 @@ pub fn converted(
     match to {
         IntType::Bool => match from {
             IntType::Bool => {
-                let out = a.to_vec(alloc)?;
+                let out = copied(alloc, a)?;
                 Ok(out)
             }
             _ => {

@@ -32,6 +32,14 @@ pub fn flipped(alloc: Global, a: &[Bit]) -> Result<Vec<Bit>, OutOfMemory>
     Ok(out)
 }
 
+pub fn copied(alloc: Global, a: &[Bit]) -> Result<Vec<Bit>, OutOfMemory>
+    ensures { IfOk result (λ r. r.items ≡ a.now) }
+{
+    let mut out = Vec::new(alloc);
+    out.extend_from_slice(a)?;
+    Ok(out)
+}
+
 pub fn joined(alloc: Global, low: &[Bit], high: &[Bit]) -> Result<Vec<Bit>, OutOfMemory>
     ensures { IfOk result (λ r. r.items ≡ low.now ++ high.now) }
 {

@@ -8,7 +8,7 @@ ghost use Rattle.circuits.specs.Numbers.{number, typed, AreIn, AreTyped, Counts}
 ghost use Rattle.circuits.specs.Outcome.{Gives};
 
 use crate::gates::or;
-use crate::lists::{any, choose, flipped, joined, zeros};
+use crate::lists::{choose, copied, joined, zeros};
 use crate::signs::{complemented, sign};
 use crate::types::signed;
 use crate::{Bit, Bits, Net, Outcome, not};
@@ -52,7 +52,7 @@ fn shifted(
     ensures value { IfOk result (λ r. Counts net.new r.items (length a.now + 2 ^ length count.now - 1) (λ v. 2 ^ number v net.old count.now * number v net.old a.now)) }
 {
     let mut places = 1;
-    let mut out = a.to_vec(alloc)?;
+    let mut out = copied(alloc, a)?;
     for i in 0..count.len() {
         out = moved(alloc, net, &out, places, count[i])?;
         places *= 2;
