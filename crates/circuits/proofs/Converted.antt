@@ -234,3 +234,6 @@ some_cost m ULongLong p = lit≤ tt
 
 pub conversion_costs : (m : DataModel) (from to : IntType) → to ≡ BoolType → (from ≡ BoolType → ⊥) → width_of m from ≤ conversion_cost m from to
 conversion_costs m from to e p = rw e (some_cost m from p)
+
+pub reads_at : {m : DataModel} {ty : IntType} {net : List NetNode} {xs ys : List Bit} {u : ℤ} (v : ℤ) → ys ≡ xs → u ≡ v → Reads m ty net xs (λ i. u) → Reads m ty net ys (λ i. v)
+reads_at {m} {ty} {net} {xs} {ys} {u} v e h r = rw e (record { bits_in = r.bits_in; is = λ i. r.is i ∙ h })

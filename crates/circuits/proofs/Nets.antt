@@ -1,4 +1,5 @@
-use Rattle.std.proofs.Common.{◌≡◌, ℕ, ◌+◌, ◌*◌, ◌<◌, ◌≤◌, ◌≢◌, Bool, true, false, not, cond, ◌&&◌, List, [], ◌∷◌, ◌++◌, length, get_or, refl, sym, ◌∙◌, ap, subst, arith, append_assoc, append-nil, length-append, add_assoc, add-one, zero-add, inl, inr}
+use Rattle.std.proofs.Common.{◌≡◌, ℕ, ◌+◌, ◌*◌, ◌<◌, ◌≤◌, ◌≢◌, Bool, true, false, not, cond, ◌&&◌, List, [], ◌∷◌, ◌++◌, length, get_or, take, refl, sym, ◌∙◌, ap, subst, arith, append_assoc, append-nil, length-append, add_assoc, add-one, zero-add, inl, inr}
+use Rattle.std.proofs.lemmas.List.{take_more, take_all}
 use Rattle.std.proofs.Math.ListN.{get_or-append}
 use Rattle.std.proofs.Math.Seq.{get_or-append_seam}
 use Rattle.circuits.specs.declared.net.Bit.{Bit}
@@ -180,3 +181,21 @@ input_added {new} {items} {now} {k} e f h = e ∙ ap (λ l. l ++ Input k ∷ [])
 
 pub input_means : {new : List NetNode} (now : List NetNode) (k : ℕ) → new ≡ now ++ Input (count_inputs now) ∷ [] → k ≡ length now → Means new (record { node = k; negated = false }) (λ v. v (count_inputs now))
 input_means {new} now k e h = rw e (means_input now (count_inputs now) k h)
+
+-- the values of one node more
+pub values_next : {values after : List Bool} (v : ℕ → Bool) (net : List NetNode) (i : ℕ) (d : NetNode) → values ≡ values_from v [] (take i net) → i < length net
+  → after ≡ values ++ node_in v values (get_or net i d) ∷ [] → after ≡ values_from v [] (take (i + 1) net)
+values_next {values} {after} v net i d e lt h = h ∙ ap (λ l. l ++ node_in v l (get_or net i d) ∷ []) e ∙ sym (values_from-one v (take i net) (get_or net i d)) ∙ ap (values_from v []) (sym (take_more net i d lt))
+
+pub values_end : {values : List Bool} (v : ℕ → Bool) (net : List NetNode) (i : ℕ) (b : Bit) (r : Bool) → values ≡ values_from v [] (take i net) → i ≡ length net → r ≡ bit_in values b → r ≡ holds v net b
+unfolding holds
+values_end {values} v net i b r e h q = q ∙ ap (λ l. bit_in l b) (e ∙ ap (values_from v []) (take_all i net (omega arith)))
+
+pub values_step : {values after given : List Bool} {next : Bool} {node : NetNode} (v : ℕ → Bool) (net items : List NetNode) (i : ℕ) (d : NetNode) → values ≡ values_from v [] (take i net) → i < length items → items ≡ net
+  → node ≡ get_or items i d → given ≡ values → next ≡ node_in v given node → after ≡ values ++ next ∷ [] → after ≡ values_from v [] (take (i + 1) net)
+values_step {values} {after} {given} {next} {node} v net items i d e lt h n g q a =
+  values_next v net i d e (omega (arith, ap length h)) (a ∙ ap (λ x. values ++ x ∷ []) (q ∙ ap (λ l. node_in v l node) g ∙ ap (node_in v values) (n ∙ ap (λ l. get_or l i d) h)))
+
+pub values_none : (v : ℕ → Bool) (out : List Bool) → out ≡ [] → out ≡ values_from v [] []
+unfolding values_from
+values_none v out e = e
