@@ -7,5 +7,3 @@ pub mod Carrying
 pub mod Summed
 pub mod Digits
 pub mod Converted
-pub mod Rows
-pub mod Shifted

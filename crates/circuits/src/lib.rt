@@ -7,13 +7,13 @@ mod conversions;
 mod gates;
 mod lists;
 mod logic;
-mod check;
 mod net;
-mod products;
-mod shifts;
 mod signs;
 mod sums;
 mod types;
 
-pub use bits::{Bits, Outcome};
+pub use bits::{Bits, Outcome, choose_bits, const_bits, convert_bits};
+pub use gates::Gate;
+pub use logic::{bit_operator, complement, truth_bits};
 pub use net::{Bit, Net, NetNode, not};
+pub use sums::{add, below, differ, subtract};

@@ -1,6 +1,0 @@
-ghost use Rattle.std.specs.Prelude.{◌≡◌};
-fn probe() -> u8
-    ensures { result ≡ 0 }
-{
-    0
-}
