@@ -46,18 +46,21 @@ pub or_made : (old new : List NetNode) (r a b : Bit) → Means new r (λ v. not 
 or_made old new r a b p = means_by _ _ _ _ p (λ v. or_gates (holds v old a) (holds v old b))
 
 pub xor_made : (old new : List NetNode) (r a b : Bit)
-  → Means new r (λ v. not (holds v old a && holds v old b) && not (not (holds v old a) && not (holds v old b)))
-  → Means new r (λ v. xor (holds v old a) (holds v old b))
+    → Means new r (λ v. not (holds v old a && holds v old b) && not (not (holds v old a) && not (holds v old b)))
+    → Means new r (λ v. xor (holds v old a) (holds v old b))
 xor_made old new r a b p = means_by _ _ _ _ p (λ v. xor_gates (holds v old a) (holds v old b))
 
 pub pick_made : (old new : List NetNode) (r t y n : Bit)
-  → Means new r (λ v. holds v old t && holds v old y || not (holds v old t) && holds v old n)
-  → Means new r (λ v. cond (holds v old t) (holds v old y) (holds v old n))
+    → Means new r (λ v. holds v old t && holds v old y || not (holds v old t) && holds v old n)
+    → Means new r (λ v. cond (holds v old t) (holds v old y) (holds v old n))
 pick_made old new r t y n p = means_by _ _ _ _ p (λ v. pick_gates (holds v old t) (holds v old y) (holds v old n))
 
 pub sum_made : {old new : List NetNode} {s c x y z : Bit}
-  → Means new s (λ v. xor (xor (holds v old x) (holds v old y)) (holds v old z))
-  → Means new c (λ v. holds v old x && holds v old y || xor (holds v old x) (holds v old y) && holds v old z)
-  → IsSumOf old new s c x y z
-sum_made {old} {new} {s} {c} {x} {y} {z} p q = record { low_in = p.inside; high_in = q.inside;
-  is = λ v. ap (λ a. digit a + 2 * digit (holds v new c)) (p.is v) ∙ ap (λ a. digit (xor (xor (holds v old x) (holds v old y)) (holds v old z)) + 2 * digit a) (q.is v) ∙ full_gates _ _ _ }
+    → Means new s (λ v. xor (xor (holds v old x) (holds v old y)) (holds v old z))
+    → Means new c (λ v. holds v old x && holds v old y || xor (holds v old x) (holds v old y) && holds v old z)
+    → IsSumOf old new s c x y z
+sum_made {old} {new} {s} {c} {x} {y} {z} p q = record {
+  low_in = p.inside;
+  high_in = q.inside;
+  is = λ v. ap (λ a. digit a + 2 * digit (holds v new c)) (p.is v) ∙ ap (λ a. digit (xor (xor (holds v old x) (holds v old y)) (holds v old z)) + 2 * digit a) (q.is v) ∙ full_gates _ _ _;
+}

@@ -1,11 +1,11 @@
-use Rattle.std.proofs.Common.{◌≡◌, ℕ, ◌+◌, ◌*◌, ◌<◌, ◌≤◌, ◌≢◌, Bool, true, false, not, cond, ◌&&◌, List, [], ◌∷◌, ◌++◌, length, get_or, take, refl, sym, ◌∙◌, ap, subst, arith, append_assoc, append-nil, length-append, add_assoc, add-one, zero-add, inl, inr}
+use Rattle.std.proofs.Common.{◌≡◌, ℕ, ◌+◌, ◌<◌, ◌≤◌, Bool, true, false, not, ◌&&◌, List, [], ◌∷◌, ◌++◌, length, get_or, take, refl, sym, ◌∙◌, ap, subst, arith, append_assoc, append-nil, length-append, zero-add, inl, inr}
 use Rattle.std.proofs.lemmas.List.{take_more, take_all}
 use Rattle.std.proofs.Math.ListN.{get_or-append}
 use Rattle.std.proofs.Math.Seq.{get_or-append_seam}
 use Rattle.circuits.specs.declared.net.Bit.{Bit}
 use Rattle.circuits.specs.declared.net.NetNode.{NetNode}
 use Rattle.circuits.specs.declared.net.NetNode.TheVariants.{Constant, Input, And}
-use Rattle.circuits.specs.Net.{xor, bit_in, node_in, values_from, holds, opposite, count_ands, count_inputs, Grown, Means, IsFine, AreFine, IsNet, IsCounted, Folds, Stands, IsIn}
+use Rattle.circuits.specs.Net.{xor, bit_in, node_in, values_from, holds, opposite, count_ands, count_inputs, Grown, Means, IsFine, AreFine, IsNet, IsCounted, Folds, IsIn}
 
 pub values_from-append : (v : ℕ → Bool) (vs : List Bool) (xs ys : List NetNode) → values_from v vs (xs ++ ys) ≡ values_from v (values_from v vs xs) ys
 unfolding values_from
@@ -21,13 +21,13 @@ pub values_from-keep : (v : ℕ → Bool) (vs : List Bool) (xs : List NetNode) (
 unfolding values_from
 values_from-keep v vs [] k h = refl
 values_from-keep v vs (x ∷ xs) k h =
-  values_from-keep v (vs ++ node_in v vs x ∷ []) xs k (omega (arith, length-append vs (node_in v vs x ∷ [])))
-  ∙ get_or-append vs (node_in v vs x ∷ []) false k h
+    values_from-keep v (vs ++ node_in v vs x ∷ []) xs k (omega (arith, length-append vs (node_in v vs x ∷ [])))
+    ∙ get_or-append vs (node_in v vs x ∷ []) false k h
 
 pub holds-append : (v : ℕ → Bool) (net more : List NetNode) (b : Bit) → b.node < length net → holds v (net ++ more) b ≡ holds v net b
 unfolding holds
 holds-append v net more b h =
-  ap (xor b.negated) (ap (λ l. get_or l b.node false) (values_from-append v [] net more) ∙ values_from-keep v (values_from v [] net) more b.node (omega (arith, length-values_from v [] net)))
+    ap (xor b.negated) (ap (λ l. get_or l b.node false) (values_from-append v [] net more) ∙ values_from-keep v (values_from v [] net) more b.node (omega (arith, length-values_from v [] net)))
 
 pub stays : (v : ℕ → Bool) (most : ℕ) (old new : List NetNode) (b : Bit) → Grown most old new → b.node < length old → holds v new b ≡ holds v old b
 stays v most old new b g h = rw g.is (holds-append v old g.more b h)
@@ -55,7 +55,8 @@ grown_then j k n a b c p q h = record {
   more = p.more ++ q.more;
   is = q.is ∙ ap (λ l. l ++ q.more) p.is ∙ append_assoc a p.more q.more;
   gates = omega (arith, count_ands-append p.more q.more, length-append p.more q.more, p.gates, q.gates);
-  few = omega (arith, length-append p.more q.more, p.few, q.few) }
+  few = omega (arith, length-append p.more q.more, p.few, q.few);
+}
 
 pub wider : {j n : ℕ} {a b : List NetNode} → Grown j a b → j ≤ n → Grown n a b
 wider {j} {n} {a} {b} g h = record { more = g.more; is = g.is; gates = g.gates; few = omega (arith, g.few) }
@@ -70,29 +71,36 @@ values_from-one v net n = values_from-append v [] net (n ∷ [])
 pub holds-pushed : (v : ℕ → Bool) (net : List NetNode) (n : NetNode) (k : ℕ) → k ≡ length net → holds v (net ++ n ∷ []) (record { node = k; negated = false }) ≡ node_in v (values_from v [] net) n
 unfolding holds
 holds-pushed v net n k h =
-  ap (λ l. get_or l k false) (values_from-one v net n)
-  ∙ ap (λ i. get_or (values_from v [] net ++ node_in v (values_from v [] net) n ∷ []) i false) (omega (arith, h, length-values_from v [] net))
-  ∙ get_or-append_seam (values_from v [] net) (node_in v (values_from v [] net) n) [] false
+    ap (λ l. get_or l k false) (values_from-one v net n)
+    ∙ ap (λ i. get_or (values_from v [] net ++ node_in v (values_from v [] net) n ∷ []) i false) (omega (arith, h, length-values_from v [] net))
+    ∙ get_or-append_seam (values_from v [] net) (node_in v (values_from v [] net) n) [] false
 
 pub holds-opposite : (v : ℕ → Bool) (net : List NetNode) (b : Bit) → holds v net (opposite b) ≡ not (holds v net b)
 unfolding holds
 holds-opposite v net b = elim b.negated as (λ n. xor (not n) (get_or (values_from v [] net) b.node false) ≡ not (xor n (get_or (values_from v [] net) b.node false))) [
-    true ↦ elim (get_or (values_from v [] net) b.node false) as (λ w. w ≡ not (not w)) [ true ↦ refl | false ↦ refl ]
-  | false ↦ refl ]
+  | true ↦ elim (get_or (values_from v [] net) b.node false) as (λ w. w ≡ not (not w)) [ true ↦ refl | false ↦ refl ]
+  | false ↦ refl
+]
 
 pub AreFine-append : (at before : ℕ) (xs : List NetNode) (n : NetNode) → AreFine at before xs → IsFine (length xs + at) (count_inputs xs + before) n → AreFine at before (xs ++ n ∷ [])
 unfolding AreFine count_inputs
 AreFine-append at before [] n h f = (subst (λ (k : ℕ). IsFine k before n) (zero-add at) (subst (λ (k : ℕ). IsFine (0 + at) k n) (zero-add before) f), tt)
-AreFine-append at before (x ∷ xs) n h f =
-  (h.0, AreFine-append (at + 1) (count_inputs (x ∷ []) + before) xs n h.1
-    (subst (λ (k : ℕ). IsFine k (count_inputs xs + (count_inputs (x ∷ []) + before)) n) (omega arith)
-      (subst (λ (k : ℕ). IsFine (length (x ∷ xs) + at) k n) (omega (arith, inputs-append (x ∷ []) xs)) f)))
+AreFine-append at before (x ∷ xs) n h f = (
+  h.0,
+  AreFine-append (at + 1) (count_inputs (x ∷ []) + before) xs n h.1
+      (subst (λ (k : ℕ). IsFine k (count_inputs xs + (count_inputs (x ∷ []) + before)) n) (omega arith)
+      (subst (λ (k : ℕ). IsFine (length (x ∷ xs) + at) k n) (omega (arith, inputs-append (x ∷ []) xs)) f)),
+)
 
 pub IsNet-push : (net : List NetNode) (n : NetNode) → IsNet net → IsFine (length net) (count_inputs net) n → IsNet (net ++ n ∷ [])
 unfolding count_inputs
-IsNet-push net n h f = (h.0 ++ n ∷ [], ap (λ l. l ++ n ∷ []) h.1, AreFine-append 1 0 h.0 n h.2
-  (subst (λ (k : ℕ). IsFine k (count_inputs h.0 + 0) n) (omega (arith, ap length h.1))
-    (subst (λ (k : ℕ). IsFine (length net) k n) (omega (arith, ap count_inputs h.1)) f)))
+IsNet-push net n h f = (
+  h.0 ++ n ∷ [],
+  ap (λ l. l ++ n ∷ []) h.1,
+  AreFine-append 1 0 h.0 n h.2
+      (subst (λ (k : ℕ). IsFine k (count_inputs h.0 + 0) n) (omega (arith, ap length h.1))
+      (subst (λ (k : ℕ). IsFine (length net) k n) (omega (arith, ap count_inputs h.1)) f)),
+)
 
 -- node 0 is true
 pub first_true : (v : ℕ → Bool) (net : List NetNode) → IsNet net → get_or (values_from v [] net) 0 false ≡ true
@@ -106,9 +114,11 @@ pub means_here : (net : List NetNode) (a b r : Bit) → IsNet net → IsIn net a
 unfolding holds
 means_here net a b r h ia ib f = record {
   inside = elim f.from as (λ _. r.node < length net) [
-      inl e ↦ omega (arith, ap length h.1, e)
-    | inr o ↦ elim o as (λ _. r.node < length net) [ inl e ↦ omega arith | inr e ↦ omega arith ] ];
-  is = λ v. f.is (values_from v [] net) (first_true v net h) }
+    | inl e ↦ omega (arith, ap length h.1, e)
+    | inr o ↦ elim o as (λ _. r.node < length net) [ inl e ↦ omega arith | inr e ↦ omega arith ]
+  ];
+  is = λ v. f.is (values_from v [] net) (first_true v net h);
+}
 
 pub means_pushed : (net : List NetNode) (a b : Bit) (k : ℕ) → k ≡ length net → Means (net ++ And a b ∷ []) (record { node = k; negated = false }) (λ v. holds v net a && holds v net b)
 unfolding holds
@@ -184,7 +194,7 @@ input_means {new} now k e h = rw e (means_input now (count_inputs now) k h)
 
 -- the values of one node more
 pub values_next : {values after : List Bool} (v : ℕ → Bool) (net : List NetNode) (i : ℕ) (d : NetNode) → values ≡ values_from v [] (take i net) → i < length net
-  → after ≡ values ++ node_in v values (get_or net i d) ∷ [] → after ≡ values_from v [] (take (i + 1) net)
+    → after ≡ values ++ node_in v values (get_or net i d) ∷ [] → after ≡ values_from v [] (take (i + 1) net)
 values_next {values} {after} v net i d e lt h = h ∙ ap (λ l. l ++ node_in v l (get_or net i d) ∷ []) e ∙ sym (values_from-one v (take i net) (get_or net i d)) ∙ ap (values_from v []) (sym (take_more net i d lt))
 
 pub values_end : {values : List Bool} (v : ℕ → Bool) (net : List NetNode) (i : ℕ) (b : Bit) (r : Bool) → values ≡ values_from v [] (take i net) → i ≡ length net → r ≡ bit_in values b → r ≡ holds v net b
@@ -192,9 +202,9 @@ unfolding holds
 values_end {values} v net i b r e h q = q ∙ ap (λ l. bit_in l b) (e ∙ ap (values_from v []) (take_all i net (omega arith)))
 
 pub values_step : {values after given : List Bool} {next : Bool} {node : NetNode} (v : ℕ → Bool) (net items : List NetNode) (i : ℕ) (d : NetNode) → values ≡ values_from v [] (take i net) → i < length items → items ≡ net
-  → node ≡ get_or items i d → given ≡ values → next ≡ node_in v given node → after ≡ values ++ next ∷ [] → after ≡ values_from v [] (take (i + 1) net)
+    → node ≡ get_or items i d → given ≡ values → next ≡ node_in v given node → after ≡ values ++ next ∷ [] → after ≡ values_from v [] (take (i + 1) net)
 values_step {values} {after} {given} {next} {node} v net items i d e lt h n g q a =
-  values_next v net i d e (omega (arith, ap length h)) (a ∙ ap (λ x. values ++ x ∷ []) (q ∙ ap (λ l. node_in v l node) g ∙ ap (node_in v values) (n ∙ ap (λ l. get_or l i d) h)))
+    values_next v net i d e (omega (arith, ap length h)) (a ∙ ap (λ x. values ++ x ∷ []) (q ∙ ap (λ l. node_in v l node) g ∙ ap (node_in v values) (n ∙ ap (λ l. get_or l i d) h)))
 
 pub values_none : (v : ℕ → Bool) (out : List Bool) → out ≡ [] → out ≡ values_from v [] []
 unfolding values_from

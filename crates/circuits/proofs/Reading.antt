@@ -1,6 +1,5 @@
 -- Numbers read in two's complement.
-use Rattle.std.proofs.Common.{◌≡◌, ℕ, suc, ◌+◌, ◌-◌, ◌*◌, ◌%◌, ◌^◌, ◌<◌, ◌≤◌, Bool, true, false, cond, not, ◌&&◌, nat_lt, nat_eq, ℤ, pos, negsuc, ◌+ℤ◌, ◌-ℤ◌, ◌*ℤ◌, ◌≤ℤ◌, ◌<ℤ◌, neg_ℤ, int_lt, unsigned_abs, refl, sym, ◌∙◌, ap, subst, arith}
-use Rattle.std.specs.Int.{int_rem_euclid}
+use Rattle.std.proofs.Common.{◌≡◌, ℕ, suc, ◌+◌, ◌-◌, ◌*◌, ◌%◌, ◌^◌, ◌<◌, ◌≤◌, Bool, true, false, cond, not, ◌&&◌, nat_lt, nat_eq, ℤ, pos, negsuc, ◌+ℤ◌, ◌-ℤ◌, ◌≤ℤ◌, ◌<ℤ◌, neg_ℤ, int_lt, unsigned_abs, refl, sym, ◌∙◌, ap, arith}
 use Rattle.std.proofs.lemmas.Int.{ints, int_rem_euclid_is}
 use Rattle.std.proofs.lemmas.Nat.{pow_pos}
 use Rattle.std.proofs.Math.Nat.{mod-eq_of_lt, add-mul-mod_self_left, pow-succ'}
@@ -69,7 +68,7 @@ pub is_top : (P m : ℕ) → m < 2 * P → IsTop P m (not (nat_lt m P))
 is_top P m h = by_half P m (nat_lt m P) refl h
 
 pub sum_over : (P m n t : ℕ) (c da db dt : Bool) → IsTop P m da → IsTop P n db → IsTop P t dt → t + cond c (2 * P) 0 ≡ m + n
-  → (not (xor da db) && xor da dt) ≡ not (fits P (two P m +ℤ two P n))
+    → (not (xor da db) && xor da dt) ≡ not (fits P (two P m +ℤ two P n))
 sum_over P m n t false false false false a b d e = rw (two_low P m a, two_low P n b, fits_yes P (pos m +ℤ pos n) (omega (arith, ints)) (omega (arith, ints))) refl
 sum_over P m n t true false false false a b d e = rw (two_low P m a, two_low P n b, fits_yes P (pos m +ℤ pos n) (omega (arith, ints)) (omega (arith, ints))) refl
 sum_over P m n t false false false true a b d e = rw (two_low P m a, two_low P n b, fits_high P (pos m +ℤ pos n) (omega (arith, ints))) refl
@@ -85,7 +84,7 @@ sum_over P m n t true true false dt a b d e = rw (two_top P m a.0, two_low P n b
 
 -- the same of a difference, t being m - n modulo 2P
 pub difference_over : (P m n t : ℕ) (c da db dt : Bool) → IsTop P m da → IsTop P n db → IsTop P t dt → t + cond c (2 * P) 0 ≡ m + (2 * P - n)
-  → (not (xor da (not db)) && xor da dt) ≡ not (fits P (two P m -ℤ two P n))
+    → (not (xor da (not db)) && xor da dt) ≡ not (fits P (two P m -ℤ two P n))
 difference_over P m n t false false false dt a b d e = rw (two_low P m a, two_low P n b, fits_yes P (pos m -ℤ pos n) (omega (arith, ints)) (omega (arith, ints))) refl
 difference_over P m n t true false false dt a b d e = rw (two_low P m a, two_low P n b, fits_yes P (pos m -ℤ pos n) (omega (arith, ints)) (omega (arith, ints))) refl
 difference_over P m n t false true true dt a b d e = rw (two_top P m a.0, two_top P n b.0, fits_yes P (negsuc (2 * P - suc m) -ℤ negsuc (2 * P - suc n)) (omega (arith, ints)) (omega (arith, ints))) refl
@@ -110,21 +109,21 @@ abbrev pub ranged : ℕ → Bool → ℤ → Bool
 ranged w s z = cond s (fits_signed w z) (fits_unsigned w z)
 
 pub sum_turned : (w : ℕ) (s : Bool) (m n t : ℕ) (c : Bool) → 0 < w → m < 2 ^ w → n < 2 ^ w → t < 2 ^ w → t + 2 ^ w * digit c ≡ m + n
-  → (not (xor (negative w s m) (negative w s n)) && xor (negative w s m) (negative w s t)) ≡ (s && not (ranged w s (read w s m +ℤ read w s n)))
+    → (not (xor (negative w s m) (negative w s n)) && xor (negative w s m) (negative w s t)) ≡ (s && not (ranged w s (read w s m +ℤ read w s n)))
 sum_turned w false m n t c hw hm hn ht e = refl
 sum_turned w true m n t c hw hm hn ht e =
-  let P = 2 ^ (w - 1) in
-  sum_over P m n t c (negative w true m) (negative w true n) (negative w true t) (negative_top w m hw hm) (negative_top w n hw hn) (negative_top w t hw ht) (carried P (2 ^ w) t (m + n) c (half w hw) e)
-  ∙ ap not (sym (fits_is w (read w true m +ℤ read w true n) ∙ ap (λ x. fits P (x +ℤ read w true n)) (signed_is w m hw) ∙ ap (λ y. fits P (two P m +ℤ y)) (signed_is w n hw)))
+    let P = 2 ^ (w - 1) in
+    sum_over P m n t c (negative w true m) (negative w true n) (negative w true t) (negative_top w m hw hm) (negative_top w n hw hn) (negative_top w t hw ht) (carried P (2 ^ w) t (m + n) c (half w hw) e)
+    ∙ ap not (sym (fits_is w (read w true m +ℤ read w true n) ∙ ap (λ x. fits P (x +ℤ read w true n)) (signed_is w m hw) ∙ ap (λ y. fits P (two P m +ℤ y)) (signed_is w n hw)))
 
 pub difference_turned : (w : ℕ) (s : Bool) (m n t : ℕ) (c : Bool) → 0 < w → m < 2 ^ w → n < 2 ^ w → t < 2 ^ w → t + 2 ^ w * digit c ≡ m + (2 ^ w - n)
-  → (not (xor (negative w s m) (not (negative w s n))) && xor (negative w s m) (negative w s t)) ≡ (s && not (ranged w s (read w s m -ℤ read w s n)))
+    → (not (xor (negative w s m) (not (negative w s n))) && xor (negative w s m) (negative w s t)) ≡ (s && not (ranged w s (read w s m -ℤ read w s n)))
 difference_turned w false m n t c hw hm hn ht e = refl
 difference_turned w true m n t c hw hm hn ht e =
-  let P = 2 ^ (w - 1) in
-  let e' : t + 2 ^ w * digit c ≡ m + (2 * P - n) = e ∙ ap (λ M. m + (M - n)) (half w hw) in
-  difference_over P m n t c (negative w true m) (negative w true n) (negative w true t) (negative_top w m hw hm) (negative_top w n hw hn) (negative_top w t hw ht) (carried P (2 ^ w) t (m + (2 * P - n)) c (half w hw) e')
-  ∙ ap not (sym (fits_is w (read w true m -ℤ read w true n) ∙ ap (λ x. fits P (x -ℤ read w true n)) (signed_is w m hw) ∙ ap (λ y. fits P (two P m -ℤ y)) (signed_is w n hw)))
+    let P = 2 ^ (w - 1) in
+    let e' : t + 2 ^ w * digit c ≡ m + (2 * P - n) = e ∙ ap (λ M. m + (M - n)) (half w hw) in
+    difference_over P m n t c (negative w true m) (negative w true n) (negative w true t) (negative_top w m hw hm) (negative_top w n hw hn) (negative_top w t hw ht) (carried P (2 ^ w) t (m + (2 * P - n)) c (half w hw) e')
+    ∙ ap not (sym (fits_is w (read w true m -ℤ read w true n) ∙ ap (λ x. fits P (x -ℤ read w true n)) (signed_is w m hw) ∙ ap (λ y. fits P (two P m -ℤ y)) (signed_is w n hw)))
 
 -- ---- residues
 pub residue_is : (w : ℕ) (z : ℤ) (k m : ℕ) → z +ℤ pos (k * 2 ^ w) ≡ pos m → residue w z ≡ m % 2 ^ w
@@ -148,12 +147,12 @@ residue_read w s n h = residue_is w (read w s n) (digit (negative w s n)) n (rea
 
 pub residue_sum : (w : ℕ) (s : Bool) (m n : ℕ) → m < 2 ^ w → n < 2 ^ w → residue w (read w s m +ℤ read w s n) ≡ (m + n) % 2 ^ w
 residue_sum w s m n hm hn = residue_is w (read w s m +ℤ read w s n) (digit (negative w s m) + digit (negative w s n)) (m + n)
-  (omega (arith, ints, read_off w s m hm, read_off w s n hn))
+    (omega (arith, ints, read_off w s m hm, read_off w s n hn))
 
 pub residue_difference : (w : ℕ) (s : Bool) (m n : ℕ) → m < 2 ^ w → n < 2 ^ w → residue w (read w s m -ℤ read w s n) ≡ (m + (2 ^ w - n)) % 2 ^ w
 residue_difference w s m n hm hn = residue_is w (read w s m -ℤ read w s n) (digit (negative w s m) + 1) (m + (2 ^ w - n) + 2 ^ w * digit (negative w s n))
-  (omega (arith, ints, read_off w s m hm, read_off w s n hn))
-  ∙ add-mul-mod_self_left (m + (2 ^ w - n)) (2 ^ w) (digit (negative w s n))
+    (omega (arith, ints, read_off w s m hm, read_off w s n hn))
+    ∙ add-mul-mod_self_left (m + (2 ^ w - n)) (2 ^ w) (digit (negative w s n))
 
 -- ---- comparisons
 abbrev pub IsCarry : Bool → ℕ → ℕ → Type 0
@@ -179,12 +178,12 @@ two_below P m n true false c a b h = sym (ap (λ x. int_lt x (two P n)) (two_top
 two_below P m n true true c a b h = sym (ap (λ x. int_lt x (two P n)) (two_top P m a.0) ∙ ap (int_lt (negsuc (2 * P - suc m))) (two_top P n b.0) ∙ lt_back c (2 * P) m n h a.1 b.1)
 
 pub read_below : (w : ℕ) (s : Bool) (m n t : ℕ) (c : Bool) → 0 < w → m < 2 ^ w → n < 2 ^ w → t < 2 ^ w → t + 2 ^ w * digit c ≡ m + (2 ^ w - n)
-  → cond (xor (negative w s m) (negative w s n)) (negative w s m) (not c) ≡ int_lt (read w s m) (read w s n)
+    → cond (xor (negative w s m) (negative w s n)) (negative w s m) (not c) ≡ int_lt (read w s m) (read w s n)
 read_below w false m n t c hw hm hn ht e = sym (lt_is c m n (is_carry (2 ^ w) t m n c ht (omega arith) hm e))
 read_below w true m n t c hw hm hn ht e =
-  let P = 2 ^ (w - 1) in
-  two_below P m n (negative w true m) (negative w true n) c (negative_top w m hw hm) (negative_top w n hw hn) (is_carry (2 ^ w) t m n c ht (omega arith) hm e)
-  ∙ sym (ap (λ x. int_lt x (read w true n)) (signed_is w m hw) ∙ ap (int_lt (two P m)) (signed_is w n hw))
+    let P = 2 ^ (w - 1) in
+    two_below P m n (negative w true m) (negative w true n) c (negative_top w m hw hm) (negative_top w n hw hn) (is_carry (2 ^ w) t m n c ht (omega arith) hm e)
+    ∙ sym (ap (λ x. int_lt x (read w true n)) (signed_is w m hw) ∙ ap (int_lt (two P m)) (signed_is w n hw))
 
 zero_apart : (M t m n : ℕ) (c : Bool) → t < M → n < M → t + M * digit c ≡ m + (M - n) → t ≡ 0 → m ≡ n
 zero_apart M t m n true a b e z = omega (arith, e)
@@ -195,8 +194,9 @@ zero_same M t m n true a b e z = omega (arith, e)
 zero_same M t m n false a b e z = omega (arith, e)
 
 pub read_equal : (w : ℕ) (s : Bool) (m n t : ℕ) (c : Bool) → m < 2 ^ w → n < 2 ^ w → t < 2 ^ w → t + 2 ^ w * digit c ≡ m + (2 ^ w - n)
-  → nat_eq t 0 ≡ int_eq (read w s m) (read w s n)
-read_equal w s m n t c hm hn ht e = same_from_decides (nat_eq t 0) (int_eq (read w s m) (read w s n))
-  ((λ z. ap (read w s) (zero_apart (2 ^ w) t m n c ht hn e (eqb-true t 0 z))),
-   (λ z. eq-eqb t 0 (zero_same (2 ^ w) t m n c ht hn e (sym (residue_read w s m hm) ∙ ap (residue w) z ∙ residue_read w s n hn))))
-  (Decides-int_eq (read w s m) (read w s n))
+    → nat_eq t 0 ≡ int_eq (read w s m) (read w s n)
+read_equal w s m n t c hm hn ht e = same_from_decides (nat_eq t 0) (int_eq (read w s m) (read w s n)) (
+  (λ z. ap (read w s) (zero_apart (2 ^ w) t m n c ht hn e (eqb-true t 0 z))),
+  (λ z. eq-eqb t 0 (zero_same (2 ^ w) t m n c ht hn e (sym (residue_read w s m hm) ∙ ap (residue w) z ∙ residue_read w s n hn))),
+)
+    (Decides-int_eq (read w s m) (read w s n))

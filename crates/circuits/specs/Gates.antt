@@ -1,5 +1,5 @@
 -- What the gates compute.
-use Rattle.std.specs.Prelude.{◌≡◌, ℕ, ◌+◌, ◌*◌, ◌^◌, ◌-◌, Bool, not, ◌&&◌, ◌||◌, nat_lt, List, length, bit_and, bit_or, bit_xor}
+use Rattle.std.specs.Prelude.{◌≡◌, ℕ, ◌+◌, ◌*◌, ◌^◌, ◌-◌, Bool, not, ◌&&◌, ◌||◌, nat_lt, List, bit_and, bit_or, bit_xor}
 use Rattle.circuits.specs.declared.net.Bit.{Bit}
 use Rattle.circuits.specs.declared.net.NetNode.{NetNode}
 use Rattle.circuits.specs.declared.gates.Gate.{Gate}

@@ -1,5 +1,5 @@
 -- What lists of bits of a net count.
-use Rattle.std.specs.Prelude.{◌≡◌, ℕ, ◌+◌, ◌*◌, ◌^◌, ◌<◌, ◌≤◌, Bool, true, false, ℤ, pos, cond, List, [], ◌∷◌, length}
+use Rattle.std.specs.Prelude.{◌≡◌, ℕ, ◌+◌, ◌*◌, Bool, true, false, ℤ, pos, cond, List, [], ◌∷◌, length}
 use Rattle.std.specs.List.{All}
 use Rattle.c_core.specs.Types.{width_of, is_signed, signed_of}
 use Rattle.c_core.specs.declared.number.DataModel.{DataModel}

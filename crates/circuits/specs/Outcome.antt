@@ -1,14 +1,9 @@
 -- What the circuit of an operator gives, and how many and-nodes it may add.
-use Rattle.std.specs.Prelude.{◌≡◌, ℕ, ◌+◌, ◌*◌, ◌^◌, Bool, true, false, cond, ℤ, pos, List}
-use Rattle.c_core.specs.Types.{width_of, promote_of}
-use Rattle.c_core.specs.Operators.{is_comparison}
+use Rattle.std.specs.Prelude.{◌≡◌, ℕ, Bool, true, false, ℤ, List}
+use Rattle.c_core.specs.Types.{width_of}
 use Rattle.c_core.specs.declared.number.DataModel.{DataModel}
 use Rattle.c_core.specs.declared.number.IntType.{IntType}
-use Rattle.c_core.specs.declared.number.IntType.TheVariants.{Bool as BoolType, Int}
-use Rattle.c_core.specs.declared.number.BinOp.{BinOp}
-use Rattle.c_core.specs.declared.number.BinOp.TheVariants.{Add, Sub, Mul, Div, Rem, Shl, Shr, And, Xor, Or, Lt, Le, Gt, Ge, Eq, Ne}
-use Rattle.c_core.specs.declared.number.UnOp.{UnOp}
-use Rattle.c_core.specs.declared.number.UnOp.TheVariants.{Plus, Neg, BitNot, Not}
+use Rattle.c_core.specs.declared.number.IntType.TheVariants.{Bool as BoolType}
 use Rattle.c_core.specs.declared.number.Done.{Done}
 use Rattle.c_core.specs.declared.number.Done.TheVariants.{Value, Overflow, Undefined}
 use Rattle.circuits.specs.declared.net.NetNode.{NetNode}

@@ -5,9 +5,9 @@ use Rattle.circuits.proofs.gates.pick.Goals as goal
 
 pub returns-clause-value : goal.returns-clause-value
 returns-clause-value c =
-  let taken = c.in_ok-taken.ensures in
-  let left = and_of c.in_ok-left.ensures.value (opp c.not.ensures (kept taken.grown (own _ _ c.requires.test_in))) (kept taken.grown (own _ _ c.requires.other_in)) in
-  pick_made _ _ _ _ _ _ (or_of c.in_ok-picked.ensures.value (kept c.in_ok-left.ensures.grown taken.value) left)
+    let taken = c.in_ok-taken.ensures in
+    let left = and_of c.in_ok-left.ensures.value (opp c.not.ensures (kept taken.grown (own _ _ c.requires.test_in))) (kept taken.grown (own _ _ c.requires.other_in)) in
+    pick_made _ _ _ _ _ _ (or_of c.in_ok-picked.ensures.value (kept c.in_ok-left.ensures.grown taken.value) left)
 
 pub returns-in_err-picked-clause-grown : goal.returns-in_err-picked-clause-grown
 returns-in_err-picked-clause-grown c = three 3 c.in_ok-taken.ensures.grown c.in_ok-left.ensures.grown c.in_err-picked.ensures.grown (omega arith)

@@ -1,4 +1,4 @@
-use Rattle.std.proofs.Common.{◌≡◌, length, arith}
+use Rattle.std.proofs.Common.{arith}
 use Rattle.circuits.proofs.Counting.{noted_none, noted_next, noted_end}
 use Rattle.circuits.proofs.Nets.{grown_then, wider}
 use Rattle.circuits.proofs.lists.any.Goals as goal

@@ -8,13 +8,13 @@ loop-i-init c = rw c.new-out.ensures.items (chosen_none _ _)
 
 pub loop-i-preserved : goal.loop-i-preserved
 loop-i-preserved c =
-  rw c.in_ok-push.ensures.items
+    rw c.in_ok-push.ensures.items
     (chosen_next _ _ _ _ c.loop-i.invariant c.in_ok-bit.ensures.grown c.in_ok-bit.ensures.value c.requires.test_in c.requires.yes_in c.requires.other_in (omega arith) c.requires.same)
 
 pub returns-clause-value : goal.returns-clause-value
 returns-clause-value c =
-  let n : c.loop-i.i ≡ length c.args.yes.now = omega arith in
-  rw (← n) (chosen_end _ _ _ c.loop-i.invariant n c.requires.same)
+    let n : c.loop-i.i ≡ length c.args.yes.now = omega arith in
+    rw (← n) (chosen_end _ _ _ c.loop-i.invariant n c.requires.same)
 
 pub returns-in_err-bit-clause-grown : goal.returns-in_err-bit-clause-grown
 returns-in_err-bit-clause-grown c = grown_then _ _ _ _ _ _ c.loop-i.invariant.grown c.in_err-bit.ensures.grown (omega arith)

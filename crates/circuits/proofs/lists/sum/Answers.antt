@@ -8,13 +8,13 @@ loop-i-init c = rw c.new-out.ensures.items (added_none _ _ c.requires.c_in)
 
 pub loop-i-preserved : goal.loop-i-preserved
 loop-i-preserved c =
-  rw c.in_ok-push.ensures.items
+    rw c.in_ok-push.ensures.items
     (added_next _ _ _ _ c.loop-i.invariant c.in_ok-digits.ensures.grown c.in_ok-digits.ensures.value c.requires.a_in c.requires.b_in (omega arith) c.requires.same)
 
 pub returns-clause-value : goal.returns-clause-value
 returns-clause-value c =
-  let n : c.loop-i.i ≡ length c.args.a.now = omega arith in
-  rw (c.in_ok-push-2.ensures.items, ← n) (added_end _ _ _ c.loop-i.invariant n c.requires.same)
+    let n : c.loop-i.i ≡ length c.args.a.now = omega arith in
+    rw (c.in_ok-push-2.ensures.items, ← n) (added_end _ _ _ c.loop-i.invariant n c.requires.same)
 
 pub returns-in_err-digits-clause-grown : goal.returns-in_err-digits-clause-grown
 returns-in_err-digits-clause-grown c = grown_then _ _ _ _ _ _ c.loop-i.invariant.grown c.in_err-digits.ensures.grown (omega arith)

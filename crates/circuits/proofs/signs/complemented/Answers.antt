@@ -12,5 +12,5 @@ returns-in_err-other-clause-grown c = grown_not _ _
 
 pub returns-clause-value : goal.returns-clause-value
 returns-clause-value c =
-  let a = own_counts _ _ c.requires.a_in in
-  chosen_of c.in_ok-out.ensures.value (own _ _ c.requires.test_in) (counts_same (c.deref.ensures.value ∙ c.in_ok-other.ensures) (flipped_counts a)) a
+    let a = own_counts _ _ c.requires.a_in in
+    chosen_of c.in_ok-out.ensures.value (own _ _ c.requires.test_in) (counts_same (c.deref.ensures.value ∙ c.in_ok-other.ensures) (flipped_counts a)) a

@@ -1,4 +1,4 @@
-use Rattle.std.proofs.Common.{◌+◌, ◌*◌, ◌≡◌, length, arith}
+use Rattle.std.proofs.Common.{arith}
 use Rattle.circuits.proofs.Nets.{kept, opp, grown_then, wider, three}
 use Rattle.circuits.proofs.Counting.{counts_later}
 use Rattle.circuits.proofs.Composing.{xor_of, pick_of}
@@ -9,16 +9,16 @@ use Rattle.circuits.proofs.sums.below.Goals as goal
 
 pub returns-clause-value : goal.returns-clause-value
 returns-clause-value c =
-  let ha = c.requires.a_in in
-  let hb = c.requires.b_in in
-  let g = c.in_ok-rest.ensures.grown in
-  let full = difference_of c.in_ok-rest.ensures.value (typed_counts ha) (typed_counts hb) in
-  let at = at_index c.in_ok-rest.rest.items c.index-carry.result.now c.index-carry.ensures ha.wide in
-  let carry = at_means (width_of c.args.model c.args.ty) c.index-carry.result.now full (omega arith) at in
-  let left = sign_of _ c.sign-left.ensures (counts_later g (typed_counts ha)) in
-  let right = sign_of _ c.sign-right.ensures (counts_later g (typed_counts hb)) in
-  let apart = c.in_ok-apart.ensures in
-  below_means _ _ c.index-carry.result.now ha hb full at
+    let ha = c.requires.a_in in
+    let hb = c.requires.b_in in
+    let g = c.in_ok-rest.ensures.grown in
+    let full = difference_of c.in_ok-rest.ensures.value (typed_counts ha) (typed_counts hb) in
+    let at = at_index c.in_ok-rest.rest.items c.index-carry.result.now c.index-carry.ensures ha.wide in
+    let carry = at_means (width_of c.args.model c.args.ty) c.index-carry.result.now full (omega arith) at in
+    let left = sign_of _ c.sign-left.ensures (counts_later g (typed_counts ha)) in
+    let right = sign_of _ c.sign-right.ensures (counts_later g (typed_counts hb)) in
+    let apart = c.in_ok-apart.ensures in
+    below_means _ _ c.index-carry.result.now ha hb full at
     (pick_of c.in_ok-below.ensures.value (xor_of apart.value left right) (kept apart.grown left) (opp c.not.ensures (kept apart.grown carry)))
 
 pub returns-in_err-rest-clause-grown : goal.returns-in_err-rest-clause-grown

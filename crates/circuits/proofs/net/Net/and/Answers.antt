@@ -7,7 +7,7 @@ returns-in-Some-clause-value c = means_here _ _ _ _ (rw (← c.self.view_is) c.s
 
 pub invariant_of-self-2 : goal.invariant_of-self-2
 invariant_of-self-2 c = rw c.in_ok-push.ensures.items
-  (counted_and _ _ _ _ c.self.invariant (rw c.self.view_is (c.requires.a_in, c.requires.b_in, c.in_default.ensures.left, c.in_default.ensures.right, c.in_default.ensures.two)))
+    (counted_and _ _ _ _ c.self.invariant (rw c.self.view_is (c.requires.a_in, c.requires.b_in, c.in_default.ensures.left, c.in_default.ensures.right, c.in_default.ensures.two)))
 
 pub returns-clause-value : goal.returns-clause-value
 returns-clause-value c = rw (c.in_ok-push.ensures.items, c.self.view_is) (means_pushed _ _ _ _ (let e : c.len-node.result ≡ length c.self.inside.nodes.items = search rules in e ∙ ap length c.self.view_is))

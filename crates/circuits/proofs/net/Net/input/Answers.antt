@@ -13,5 +13,5 @@ returns-clause-added c = input_added c.in_ok-push.ensures.items c.self.view_is c
 
 pub returns-clause-value : goal.returns-clause-value
 returns-clause-value c =
-  let e : c.len-node.result ≡ length c.self.inside.nodes.items = search rules in
-  input_means _ _ (input_added c.in_ok-push.ensures.items c.self.view_is c.self.invariant.is) (e ∙ ap length c.self.view_is)
+    let e : c.len-node.result ≡ length c.self.inside.nodes.items = search rules in
+    input_means _ _ (input_added c.in_ok-push.ensures.items c.self.view_is c.self.invariant.is) (e ∙ ap length c.self.view_is)
