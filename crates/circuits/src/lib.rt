@@ -10,6 +10,8 @@ mod logic;
 mod net;
 mod signs;
 mod sums;
+#[cfg(test)]
+mod tests;
 mod types;
 
 pub use bits::{Bits, Outcome, choose_bits, const_bits, convert_bits};
