@@ -6,13 +6,7 @@ use std::test::Fail;
 #[test]
 fn adds_beyond_the_largest_int(rt: HostRuntime) -> Result<(), Fail> {
     let mut net = Net::new(rt.alloc())?;
-    let a = const_bits(
-        rt.alloc(),
-        &net,
-        DataModel::Lp64,
-        IntType::Int,
-        2147483647,
-    )?;
+    let a = const_bits(rt.alloc(), &net, DataModel::Lp64, IntType::Int, 2147483647)?;
     let b = const_bits(rt.alloc(), &net, DataModel::Lp64, IntType::Int, 1)?;
     let sum = add(
         rt.alloc(),
