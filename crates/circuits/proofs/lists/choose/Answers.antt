@@ -1,0 +1,26 @@
+use Rattle.std.proofs.Common.{◌≡◌, length, arith}
+use Rattle.circuits.proofs.Counting.{chosen_none, chosen_next, chosen_end}
+use Rattle.circuits.proofs.Nets.{grown_then, wider}
+use Rattle.circuits.proofs.lists.choose.Goals as goal
+
+pub loop-i-init : goal.loop-i-init
+loop-i-init c = rw c.new-out.ensures.items (chosen_none _ _)
+
+pub loop-i-preserved : goal.loop-i-preserved
+loop-i-preserved c =
+    rw c.in_ok-push.ensures.items
+    (chosen_next _ _ _ _ c.loop-i.invariant c.in_ok-bit.ensures.grown c.in_ok-bit.ensures.value c.requires.test_in c.requires.yes_in c.requires.other_in (omega arith) c.requires.same)
+
+pub returns-clause-value : goal.returns-clause-value
+returns-clause-value c =
+    let n : c.loop-i.i ≡ length c.args.yes.now = omega arith in
+    rw (← n) (chosen_end _ _ _ c.loop-i.invariant n c.requires.same)
+
+pub returns-in_err-bit-clause-grown : goal.returns-in_err-bit-clause-grown
+returns-in_err-bit-clause-grown c = grown_then _ _ _ _ _ _ c.loop-i.invariant.grown c.in_err-bit.ensures.grown (omega arith)
+
+pub returns-in_err-push-clause-grown : goal.returns-in_err-push-clause-grown
+returns-in_err-push-clause-grown c = grown_then _ _ _ _ _ _ c.loop-i.invariant.grown c.in_ok-bit.ensures.grown (omega arith)
+
+pub returns-clause-grown : goal.returns-clause-grown
+returns-clause-grown c = wider c.loop-i.invariant.grown (omega arith)

@@ -1,0 +1,29 @@
+use Rattle.std.proofs.Common.{◌≡◌, length, arith}
+use Rattle.circuits.proofs.Counting.{added_none, added_next, added_end}
+use Rattle.circuits.proofs.Nets.{grown_then, wider}
+use Rattle.circuits.proofs.lists.sum.Goals as goal
+
+pub loop-i-init : goal.loop-i-init
+loop-i-init c = rw c.new-out.ensures.items (added_none _ _ c.requires.c_in)
+
+pub loop-i-preserved : goal.loop-i-preserved
+loop-i-preserved c =
+    rw c.in_ok-push.ensures.items
+    (added_next _ _ _ _ c.loop-i.invariant c.in_ok-digits.ensures.grown c.in_ok-digits.ensures.value c.requires.a_in c.requires.b_in (omega arith) c.requires.same)
+
+pub returns-clause-value : goal.returns-clause-value
+returns-clause-value c =
+    let n : c.loop-i.i ≡ length c.args.a.now = omega arith in
+    rw (c.in_ok-push-2.ensures.items, ← n) (added_end _ _ _ c.loop-i.invariant n c.requires.same)
+
+pub returns-in_err-digits-clause-grown : goal.returns-in_err-digits-clause-grown
+returns-in_err-digits-clause-grown c = grown_then _ _ _ _ _ _ c.loop-i.invariant.grown c.in_err-digits.ensures.grown (omega arith)
+
+pub returns-in_err-push-clause-grown : goal.returns-in_err-push-clause-grown
+returns-in_err-push-clause-grown c = grown_then _ _ _ _ _ _ c.loop-i.invariant.grown c.in_ok-digits.ensures.grown (omega arith)
+
+pub returns-clause-grown : goal.returns-clause-grown
+returns-clause-grown c = wider c.loop-i.invariant.grown (omega arith)
+
+pub returns-in_err-push-2-clause-grown : goal.returns-in_err-push-2-clause-grown
+returns-in_err-push-2-clause-grown c = wider c.loop-i.invariant.grown (omega arith)

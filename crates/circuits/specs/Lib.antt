@@ -1,0 +1,5 @@
+pub mod Net
+pub mod Reach
+pub mod Numbers
+pub mod Outcome
+pub mod Gates

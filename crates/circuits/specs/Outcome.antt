@@ -1,0 +1,43 @@
+-- What the circuit of an operator gives, and how many and-nodes it may add.
+use Rattle.std.specs.Prelude.{◌≡◌, ℕ, Bool, true, false, ℤ, List}
+use Rattle.c_core.specs.Types.{width_of}
+use Rattle.c_core.specs.declared.number.DataModel.{DataModel}
+use Rattle.c_core.specs.declared.number.IntType.{IntType}
+use Rattle.c_core.specs.declared.number.IntType.TheVariants.{Bool as BoolType}
+use Rattle.c_core.specs.declared.number.Done.{Done}
+use Rattle.c_core.specs.declared.number.Done.TheVariants.{Value, Overflow, Undefined}
+use Rattle.circuits.specs.declared.net.NetNode.{NetNode}
+use Rattle.circuits.specs.declared.bits.Outcome.{Outcome}
+use Rattle.circuits.specs.Net.{holds, IsIn}
+use Rattle.circuits.specs.Numbers.{typed, AreTyped}
+
+abbrev pub overflowed : Done → Bool
+overflowed (Value r) = false
+overflowed (Overflow r) = true
+overflowed Undefined = false
+
+abbrev pub undefined : Done → Bool
+undefined (Value r) = false
+undefined (Overflow r) = false
+undefined Undefined = true
+
+-- the value is the one that is given, if one is
+abbrev pub HasValue : Done → ℤ → Type 0
+HasValue (Value r) z = z ≡ r
+HasValue (Overflow r) z = z ≡ r
+HasValue Undefined z = Unit {0}
+
+-- the value in a type, the overflow and the undefined bit are those of the operator, for all inputs
+pub record Gives (m : DataModel) (ty : IntType) (net : List NetNode) (o : Outcome) (done : (ℕ → Bool) → Done) : Type 0 where
+  pub value : AreTyped m ty net o.value.bits
+  pub overflow : IsIn net o.overflow
+  pub undefined_in : IsIn net o.undefined
+  pub value_is : (v : ℕ → Bool) → HasValue (done v) (typed m ty v net o.value.bits)
+  pub overflow_is : (v : ℕ → Bool) → holds v net o.overflow ≡ overflowed (done v)
+  pub undefined_is : (v : ℕ → Bool) → holds v net o.undefined ≡ undefined (done v)
+
+-- a conversion asks of each digit whether it is 0, or moves the digits alone
+abbrev pub conversion_cost : DataModel → IntType → IntType → ℕ
+conversion_cost m BoolType BoolType = 0
+conversion_cost m from BoolType = width_of m from
+conversion_cost m from to = 0

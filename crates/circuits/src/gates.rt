@@ -1,0 +1,101 @@
+// Gates of two and three bits.
+ghost use Rattle.std.specs.Prelude.{◌≡◌, ℕ, ◌+◌, ◌≤◌, ◌^◌, IfOk, cond, ◌||◌, length};
+ghost use Rattle.circuits.specs.Net.{holds, xor, Grown, Means, IsIn};
+ghost use Rattle.circuits.specs.Gates.{IsSumOf, gate_of};
+
+use crate::{Bit, Net, not};
+use wv_base::OutOfMemory;
+
+/// A gate of two bits.
+#[derive(Clone, Copy, Debug, PartialEq, Eq)]
+pub enum Gate {
+    And,
+    Xor,
+    Or,
+}
+
+/// The digits of a sum of three bits.
+#[derive(Clone, Copy)]
+pub struct Sum {
+    pub low: Bit,
+    pub high: Bit,
+}
+
+pub fn or(net: &mut Net, a: Bit, b: Bit) -> Result<Bit, OutOfMemory>
+    requires a_in { IsIn net.old a }
+    requires b_in { IsIn net.old b }
+    requires room { length net.old + 1 ≤ 2 ^ 31 }
+    ensures grown { Grown 1 net.old net.new }
+    ensures value { IfOk result (λ r. Means net.new r (λ v. holds v net.old a || holds v net.old b)) }
+{
+    let neither = net.and(not(a), not(b))?;
+    Ok(not(neither))
+}
+
+pub fn xor(net: &mut Net, a: Bit, b: Bit) -> Result<Bit, OutOfMemory>
+    requires a_in { IsIn net.old a }
+    requires b_in { IsIn net.old b }
+    requires room { length net.old + 3 ≤ 2 ^ 31 }
+    ensures grown { Grown 3 net.old net.new }
+    ensures value { IfOk result (λ r. Means net.new r (λ v. xor (holds v net.old a) (holds v net.old b))) }
+{
+    let both = net.and(a, b)?;
+    let neither = net.and(not(a), not(b))?;
+    let one = net.and(not(both), not(neither))?;
+    Ok(one)
+}
+
+/// `yes` where the test is true, else `other`.
+pub fn pick(net: &mut Net, test: Bit, yes: Bit, other: Bit) -> Result<Bit, OutOfMemory>
+    requires test_in { IsIn net.old test }
+    requires yes_in { IsIn net.old yes }
+    requires other_in { IsIn net.old other }
+    requires room { length net.old + 3 ≤ 2 ^ 31 }
+    ensures grown { Grown 3 net.old net.new }
+    ensures value { IfOk result (λ r. Means net.new r (λ v. cond (holds v net.old test) (holds v net.old yes) (holds v net.old other))) }
+{
+    let taken = net.and(test, yes)?;
+    let left = net.and(not(test), other)?;
+    let picked = or(net, taken, left)?;
+    Ok(picked)
+}
+
+#[tactic(auto, using(crate::proofs::Nets::grown_then))]
+pub fn full(net: &mut Net, a: Bit, b: Bit, c: Bit) -> Result<Sum, OutOfMemory>
+    requires a_in { IsIn net.old a }
+    requires b_in { IsIn net.old b }
+    requires c_in { IsIn net.old c }
+    requires room { length net.old + 9 ≤ 2 ^ 31 }
+    ensures grown { Grown 9 net.old net.new }
+    ensures value { IfOk result (λ r. IsSumOf net.old net.new r.low r.high a b c) }
+{
+    let half = xor(net, a, b)?;
+    let low = xor(net, half, c)?;
+    let both = net.and(a, b)?;
+    let carried = net.and(half, c)?;
+    let high = or(net, both, carried)?;
+    Ok(Sum { low, high })
+}
+
+pub fn apply_gate(net: &mut Net, kind: Gate, a: Bit, b: Bit) -> Result<Bit, OutOfMemory>
+    requires a_in { IsIn net.old a }
+    requires b_in { IsIn net.old b }
+    requires room { length net.old + 3 ≤ 2 ^ 31 }
+    ensures grown { Grown 3 net.old net.new }
+    ensures value { IfOk result (λ r. Means net.new r (λ v. gate_of kind (holds v net.old a) (holds v net.old b))) }
+{
+    match kind {
+        Gate::And => {
+            let bit = net.and(a, b)?;
+            Ok(bit)
+        }
+        Gate::Xor => {
+            let bit = xor(net, a, b)?;
+            Ok(bit)
+        }
+        Gate::Or => {
+            let bit = or(net, a, b)?;
+            Ok(bit)
+        }
+    }
+}

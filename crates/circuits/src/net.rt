@@ -1,0 +1,199 @@
+// Nets of and-nodes.
+ghost use Rattle.std.specs.Prelude.{◌≡◌, ℕ, ◌+◌, ◌<◌, ◌^◌, IfOk, IfErr, MatchOption, true, ◌&&◌, Some, length, false, slice_get, slice_index_or, ◌++◌, ◌∷◌, []};
+ghost use Rattle.circuits.specs.declared.net.NetNode.TheVariants.{Constant, Input};
+ghost use Rattle.circuits.specs.Net.{holds, opposite, Grown, Means, IsIn, IsNet, IsFolded, Folds, Stands, bit_in, node_in, count_ands, count_inputs};
+
+use std::alloc::Global;
+use std::marker::Model;
+use wv_base::OutOfMemory;
+
+/// The value of a node, or its opposite.
+#[derive(Clone, Copy, Debug, PartialEq, Eq)]
+pub struct Bit {
+    pub node: u32,
+    pub negated: bool,
+}
+
+/// An input carries its number, counted from 0. The arguments of an and-node are earlier nodes.
+#[derive(Clone, Copy, Debug, PartialEq, Eq)]
+pub enum NetNode {
+    Constant(bool),
+    Input(u32),
+    And(Bit, Bit),
+}
+
+/// A net: the constant, inputs and and-nodes, each behind its arguments. Contracts see the list of its nodes.
+#[derive(Drop)]
+pub struct Net {
+    nodes: Vec<NetNode>,
+    inputs: u32,
+}
+
+impl Model for Net {
+    ghost use Rattle.std.specs.Prelude.{List};
+    ghost use Rattle.circuits.specs.declared.net.NetNode.{NetNode};
+    ghost use Rattle.circuits.specs.Net.{IsCounted};
+
+    ghost Value = { List NetNode };
+
+    ghost view = { λ n. n.nodes.items };
+
+    ghost invariant = { λ n. IsCounted n.nodes.items n.inputs };
+}
+
+/// The bit whose value is the opposite.
+pub fn not(a: Bit) -> Bit
+    ensures { result ≡ opposite a }
+{
+    Bit {
+        node: a.node,
+        negated: !a.negated,
+    }
+}
+
+// the bit that is their conjunction already, if one is
+fn folded(a: Bit, b: Bit) -> Option<Bit>
+    ensures { MatchOption result (Stands a b) (λ r. IsFolded a b × Folds a b r) }
+{
+    let never = Bit {
+        node: 0,
+        negated: true,
+    };
+    if a.node == 0 {
+        return Some(if a.negated { never } else { b });
+    }
+    if b.node == 0 {
+        return Some(if b.negated { never } else { a });
+    }
+    if a.node == b.node {
+        return Some(if a.negated == b.negated { a } else { never });
+    }
+    None
+}
+
+impl Net {
+    /// The net of the constant alone.
+    pub fn new(alloc: Global) -> Result<Net, OutOfMemory>
+        ensures { IfOk result (λ n. n ≡ Constant true ∷ []) }
+    {
+        let mut nodes = Vec::new(alloc);
+        nodes.push(NetNode::Constant(true))?;
+        Ok(Net { nodes, inputs: 0 })
+    }
+
+    /// The bit that is always true.
+    pub fn yes(&self) -> Bit
+        ensures { Means self.now result (λ v. true) }
+    {
+        let _ = self.nodes.len();
+        Bit {
+            node: 0,
+            negated: false,
+        }
+    }
+
+    /// The number of all nodes: the constant, the inputs and the and-nodes.
+    pub fn nodes(&self) -> u64
+        ensures count { result ≡ length self.now }
+        ensures fine { IsNet self.now }
+    {
+        self.nodes.len() as u64
+    }
+
+    pub fn inputs(&self) -> u64
+        ensures { result ≡ count_inputs self.now }
+    {
+        let _ = self.nodes.len();
+        u64::from(self.inputs)
+    }
+
+    /// The number of and-nodes.
+    pub fn ands(&self) -> u64
+        ensures { result ≡ count_ands self.now }
+    {
+        let nodes = self.nodes.len() as u64;
+        nodes - 1 - u64::from(self.inputs)
+    }
+
+    pub fn node(&self, at: u32) -> NetNode
+        requires { at < length self.now }
+        ensures { Some result ≡ slice_get self.now at }
+    {
+        self.nodes[at as usize]
+    }
+
+    /// One more input. A refusal leaves the net as it was.
+    pub fn input(&mut self) -> Result<Bit, OutOfMemory>
+        requires room { length self.old < 2 ^ 31 }
+        ensures added { IfOk result (λ r. self.new ≡ self.old ++ Input (count_inputs self.old) ∷ []) }
+        ensures value { IfOk result (λ r. Means self.new r (λ v. v (count_inputs self.old))) }
+        ensures refused { IfErr result (λ e. self.new ≡ self.old) }
+    {
+        let node = self.nodes.len() as u32;
+        self.nodes.push(NetNode::Input(self.inputs))?;
+        self.inputs += 1;
+        Ok(Bit {
+            node,
+            negated: false,
+        })
+    }
+
+    /// The conjunction. A refusal leaves the net as it was.
+    #[tactic(auto, using(crate::proofs::Nets::grown_not, crate::proofs::Nets::grown_pushed))]
+    pub fn and(&mut self, a: Bit, b: Bit) -> Result<Bit, OutOfMemory>
+        requires a_in { IsIn self.old a }
+        requires b_in { IsIn self.old b }
+        requires room { length self.old < 2 ^ 31 }
+        ensures grown { Grown 1 self.old self.new }
+        ensures value { IfOk result (λ r. Means self.new r (λ v. holds v self.old a && holds v self.old b)) }
+        ensures folded { IsFolded a b → self.new ≡ self.old }
+        ensures refused { IfErr result (λ e. self.new ≡ self.old) }
+    {
+        let node = self.nodes.len() as u32;
+        if let Some(r) = folded(a, b) {
+            return Ok(r);
+        }
+        self.nodes.push(NetNode::And(a, b))?;
+        Ok(Bit {
+            node,
+            negated: false,
+        })
+    }
+
+    /// The value of a bit where input k has the value `inputs[k]`.
+    pub fn value(&self, alloc: Global, b: Bit, inputs: &[bool]) -> Result<bool, OutOfMemory>
+        requires b_in { IsIn self.now b }
+        requires all { length inputs.now ≡ count_inputs self.now }
+        ensures { IfOk result (λ r. r ≡ holds (λ k. slice_index_or inputs.now k false) self.now b) }
+    {
+        let mut values = Vec::new(alloc);
+        for i in 0..self.nodes.len() {
+            let next = value_of_node(self.nodes[i], inputs, &values);
+            values.push(next)?;
+        }
+        Ok(value_of_bit(&values, b))
+    }
+}
+
+fn value_of_bit(values: &[bool], b: Bit) -> bool
+    ensures { result ≡ bit_in values.now b }
+{
+    let on = match values.get(b.node as usize) {
+        Some(value) => *value,
+        None => false,
+    };
+    if b.negated { !on } else { on }
+}
+
+fn value_of_node(node: NetNode, inputs: &[bool], values: &[bool]) -> bool
+    ensures { result ≡ node_in (λ k. slice_index_or inputs.now k false) values.now node }
+{
+    match node {
+        NetNode::Constant(value) => value,
+        NetNode::Input(k) => match inputs.get(k as usize) {
+            Some(value) => *value,
+            None => false,
+        },
+        NetNode::And(a, b) => value_of_bit(values, a) && value_of_bit(values, b),
+    }
+}

@@ -1,0 +1,138 @@
+// Addition, subtraction and comparisons in a type.
+ghost use Rattle.std.specs.Prelude.{◌≡◌, ℕ, ◌+◌, ◌*◌, ◌≤◌, ◌<◌, ◌^◌, IfOk, not, ◌&&◌, int_lt, length};
+ghost use Rattle.std.specs.Ordering.{int_eq};
+ghost use Rattle.c_core.specs.Types.{promote_of, width_of};
+ghost use Rattle.c_core.specs.Operators.{apply_of};
+ghost use Rattle.c_core.specs.declared.number.BinOp.TheVariants.{Add, Sub};
+ghost use Rattle.circuits.specs.Net.{holds, xor, Grown, Means, IsIn};
+ghost use Rattle.circuits.specs.Numbers.{typed, AreTyped};
+ghost use Rattle.circuits.specs.Outcome.{Gives};
+
+use crate::gates::{pick, xor};
+use crate::lists::{any, difference, sum};
+use crate::signs::sign;
+use crate::{Bit, Bits, Net, Outcome, not};
+use c_core::{DataModel, IntType};
+use std::alloc::Global;
+use wv_base::{OutOfMemory, Seq};
+
+// whether a sum has another sign than both of its terms
+fn turned(net: &mut Net, a: Bit, b: Bit, total: Bit) -> Result<Bit, OutOfMemory>
+    requires a_in { IsIn net.old a }
+    requires b_in { IsIn net.old b }
+    requires total_in { IsIn net.old total }
+    requires room { length net.old + 7 ≤ 2 ^ 31 }
+    ensures grown { Grown 7 net.old net.new }
+    ensures value { IfOk result (λ r. Means net.new r (λ v. not (xor (holds v net.old a) (holds v net.old b)) && xor (holds v net.old a) (holds v net.old total))) }
+{
+    let apart = xor(net, a, b)?;
+    let other = xor(net, a, total)?;
+    let turned = net.and(not(apart), other)?;
+    Ok(turned)
+}
+
+pub fn add(
+    alloc: Global,
+    net: &mut Net,
+    model: DataModel,
+    ty: IntType,
+    a: &[Bit],
+    b: &[Bit],
+) -> Result<Outcome, OutOfMemory>
+    requires promoted { promote_of ty ≡ ty }
+    requires a_in { AreTyped model ty net.old a.now }
+    requires b_in { AreTyped model ty net.old b.now }
+    requires room { length net.old + 16 * width_of model ty ≤ 2 ^ 31 }
+    ensures grown { Grown (16 * width_of model ty) net.old net.new }
+    ensures value { IfOk result (λ r. Gives model ty net.new r (λ v. apply_of model Add ty (typed model ty v net.old a.now) (typed model ty v net.old b.now))) }
+{
+    let never = not(net.yes());
+    let mut total = sum(alloc, net, a, b, never)?;
+    total.truncate(a.len());
+    let left = sign(net, ty, a);
+    let right = sign(net, ty, b);
+    let made = sign(net, ty, &total);
+    let overflow = turned(net, left, right, made)?;
+    let bits = Seq::from_vec(total);
+    Ok(Outcome {
+        value: Bits { bits },
+        overflow,
+        undefined: never,
+    })
+}
+
+pub fn subtract(
+    alloc: Global,
+    net: &mut Net,
+    model: DataModel,
+    ty: IntType,
+    a: &[Bit],
+    b: &[Bit],
+) -> Result<Outcome, OutOfMemory>
+    requires promoted { promote_of ty ≡ ty }
+    requires a_in { AreTyped model ty net.old a.now }
+    requires b_in { AreTyped model ty net.old b.now }
+    requires room { length net.old + 16 * width_of model ty ≤ 2 ^ 31 }
+    ensures grown { Grown (16 * width_of model ty) net.old net.new }
+    ensures value { IfOk result (λ r. Gives model ty net.new r (λ v. apply_of model Sub ty (typed model ty v net.old a.now) (typed model ty v net.old b.now))) }
+{
+    let never = not(net.yes());
+    let mut rest = difference(alloc, net, a, b)?;
+    rest.truncate(a.len());
+    let left = sign(net, ty, a);
+    let right = sign(net, ty, b);
+    let made = sign(net, ty, &rest);
+    let overflow = turned(net, left, not(right), made)?;
+    let bits = Seq::from_vec(rest);
+    Ok(Outcome {
+        value: Bits { bits },
+        overflow,
+        undefined: never,
+    })
+}
+
+/// Whether a is below b.
+pub fn below(
+    alloc: Global,
+    net: &mut Net,
+    model: DataModel,
+    ty: IntType,
+    a: &[Bit],
+    b: &[Bit],
+) -> Result<Bit, OutOfMemory>
+    requires promoted { promote_of ty ≡ ty }
+    requires a_in { AreTyped model ty net.old a.now }
+    requires b_in { AreTyped model ty net.old b.now }
+    requires room { length net.old + 16 * width_of model ty ≤ 2 ^ 31 }
+    ensures grown { Grown (16 * width_of model ty) net.old net.new }
+    ensures value { IfOk result (λ r. Means net.new r (λ v. int_lt (typed model ty v net.old a.now) (typed model ty v net.old b.now))) }
+{
+    let rest = difference(alloc, net, a, b)?;
+    let carry = rest[a.len()];
+    let left = sign(net, ty, a);
+    let right = sign(net, ty, b);
+    let apart = xor(net, left, right)?;
+    let below = pick(net, apart, left, not(carry))?;
+    Ok(below)
+}
+
+/// Whether a and b are different numbers.
+pub fn differ(
+    alloc: Global,
+    net: &mut Net,
+    model: DataModel,
+    ty: IntType,
+    a: &[Bit],
+    b: &[Bit],
+) -> Result<Bit, OutOfMemory>
+    requires a_in { AreTyped model ty net.old a.now }
+    requires b_in { AreTyped model ty net.old b.now }
+    requires room { length net.old + 16 * width_of model ty ≤ 2 ^ 31 }
+    ensures grown { Grown (16 * width_of model ty) net.old net.new }
+    ensures value { IfOk result (λ r. Means net.new r (λ v. not (int_eq (typed model ty v net.old a.now) (typed model ty v net.old b.now)))) }
+{
+    let mut rest = difference(alloc, net, a, b)?;
+    rest.truncate(a.len());
+    let differ = any(net, &rest)?;
+    Ok(differ)
+}
