@@ -1,0 +1,15 @@
+-- What a call answers, by what a definition gives.
+use Rattle.std.specs.Prelude.{◌≡◌, ℕ, List, Option, Some, None, Result, Ok, Err}
+use Rattle.wv_yaml.specs.declared.fault.YamlFault.{YamlFault}
+use Rattle.wv_yaml.specs.declared.fault.YamlFault.TheVariants.{Bytes, Grammar, Duplicate, OutOfMemory}
+
+-- a refusal where nothing is given; want of memory is free
+abbrev pub Fails : {Y : Type 0} → YamlFault → Option Y → Type 0
+Fails Bytes given = ⊥
+Fails Grammar given = given ≡ None
+Fails Duplicate given = ⊥
+Fails OutOfMemory given = Unit {0}
+
+abbrev pub Gives : {X Y : Type 0} → (X → Y) → Result X YamlFault → Option Y → Type 0
+Gives view (Ok x) given = given ≡ Some (view x)
+Gives view (Err e) given = Fails e given

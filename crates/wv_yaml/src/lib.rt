@@ -1,0 +1,10 @@
+//! YAML 1.2.2 in a block and flow profile: `read` gives the tree that bytes spell, and refuses exactly what spells none;
+//! `write` gives the canonical text of a tree.
+#![tactic(auto)]
+
+mod fault;
+mod token;
+mod tree;
+
+pub use fault::YamlFault;
+pub use tree::{Pair, Tree};
