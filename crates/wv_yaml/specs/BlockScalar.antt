@@ -1,20 +1,11 @@
 -- Block scalars (YAML 1.2.2, 8.1).
 use Rattle.std.specs.Prelude.{◌≡◌, ℕ, zero, suc, ◌+◌, ◌-◌, ◌<◌, ◌≤◌, List, [], ◌∷◌, ◌++◌, length, map, min, Bool, true, false, ◌==◌, ◌&&◌, ◌||◌, not, nat_lt, nat_le, Option, Some, None, if◌then◌else◌}
 use Rattle.wv_yaml.specs.Line.{Line}
+use Rattle.wv_yaml.specs.declared.header.Chomp.{Chomp}
+use Rattle.wv_yaml.specs.declared.header.Chomp.TheVariants.{Strip, Clip, Keep}
+use Rattle.wv_yaml.specs.declared.header.Header.{Header}
 use Rattle.wv_yaml.specs.Chunks.{Each, ◌>>=◌, provided}
 use Rattle.wv_yaml.specs.Marks.{blank, is_end, quiet, all_quiet, is_tail, indented, breaks, folded, count_of, Quiet}
-
--- what becomes of the line breaks at the end: none stays, one stays, all stay
-pub data Chomp : Type 0 where
-  Strip : Chomp
-  Clip : Chomp
-  Keep : Chomp
-
--- a header: whether it folds, its digit or 0, its sign
-pub record Header : Type 0 where
-  pub folds : Bool
-  pub digit : ℕ
-  pub chomp : Chomp
 
 abbrev pub is_digit : ℕ → Bool
 is_digit c = nat_le 49 c && nat_le c 57

@@ -1,5 +1,6 @@
 -- What a call answers, by what a definition gives.
-use Rattle.std.specs.Prelude.{◌≡◌, ℕ, List, Option, Some, None, Result, Ok, Err}
+use Rattle.std.specs.Str.{encode_utf8_all}
+use Rattle.std.specs.Prelude.{◌≡◌, ℕ, List, ◌++◌, Option, Some, None, Result, Ok, Err}
 use Rattle.wv_yaml.specs.declared.fault.YamlFault.{YamlFault}
 use Rattle.wv_yaml.specs.declared.fault.YamlFault.TheVariants.{Bytes, Grammar, Duplicate, OutOfMemory}
 
@@ -13,3 +14,8 @@ Fails OutOfMemory given = Unit {0}
 abbrev pub Gives : {X Y : Type 0} → (X → Y) → Result X YamlFault → Option Y → Type 0
 Gives view (Ok x) given = given ≡ Some (view x)
 Gives view (Err e) given = Fails e given
+
+-- a text that is written behind another
+abbrev pub behind : List ℕ → Option (List ℕ) → Option (List ℕ)
+behind front None = None
+behind front (Some more) = Some (front ++ encode_utf8_all more)

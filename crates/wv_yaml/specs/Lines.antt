@@ -2,7 +2,7 @@
 use Rattle.std.specs.Prelude.{◌≡◌, ◌≢◌, ℕ, zero, suc, ◌+◌, List, [], ◌∷◌, ◌++◌, length, Bool, true, false, ◌==◌, ◌&&◌, ◌||◌, not, nat_lt, nat_le, if◌then◌else◌}
 use Rattle.wv_yaml.specs.Line.{Line, line_at}
 use Rattle.wv_yaml.specs.Chunks.{NoneOf}
-use Rattle.wv_yaml.specs.Marks.{begins_with, indented}
+use Rattle.wv_yaml.specs.Marks.{begins_with, indented, is_end}
 
 abbrev pub within : ℕ → ℕ → ℕ → Bool
 within low high c = nat_le low c && nat_le c high
@@ -21,23 +21,41 @@ abbrev pub unmarked : List ℕ → List ℕ
 unmarked [] = []
 unmarked (c ∷ cs) = if c == 0xFEFF then cs else c ∷ cs
 
--- Lines, found from the end.
+-- the text before the first line feed, and from there on
+abbrev pub to_feed : List ℕ → List ℕ
+to_feed [] = []
+to_feed (c ∷ cs) = if c == 10 then [] else c ∷ to_feed cs
 
-abbrev pub with_space : List Line → List Line
-with_space [] = line_at 1 [] false ∷ []
-with_space (l ∷ ls) = line_at (suc l.indent) l.text l.ended ∷ ls
+abbrev pub from_feed : List ℕ → List ℕ
+from_feed [] = []
+from_feed (c ∷ cs) = if c == 10 then c ∷ cs else from_feed cs
 
-abbrev pub with_front : ℕ → List Line → List Line
-with_front c [] = line_at 0 (c ∷ []) false ∷ []
-with_front c (l ∷ ls) = line_at 0 (c ∷ indented l.indent l.text) l.ended ∷ ls
+-- without the CR at its end
+abbrev pub without_return : List ℕ → List ℕ
+without_return [] = []
+without_return (c ∷ []) = if c == 13 then [] else c ∷ []
+without_return (c ∷ d ∷ ds) = c ∷ without_return (d ∷ ds)
 
+abbrev pub spaces : List ℕ → ℕ
+spaces [] = 0
+spaces (c ∷ cs) = if c == 32 then suc (spaces cs) else 0
+
+abbrev pub unspaced : List ℕ → List ℕ
+unspaced [] = []
+unspaced (c ∷ cs) = if c == 32 then unspaced cs else c ∷ cs
+
+-- the line of a text, without its break
+abbrev pub ended_line : List ℕ → Bool → Line
+ended_line text ended = line_at (spaces text) (unspaced text) ended
+
+-- The lines: `front` is what the first has before these characters.
+abbrev pub lines_from : List ℕ → List ℕ → List Line
+lines_from front [] = if is_end front then [] else ended_line front false ∷ []
+lines_from front (c ∷ cs) =
+    if c == 10 then ended_line (without_return front) true ∷ lines_from [] cs else lines_from (front ++ (c ∷ [])) cs
 
 abbrev pub lines_in : List ℕ → List Line
-lines_in [] = []
-lines_in (c ∷ cs) =
-    if c == 10 then line_at 0 [] true ∷ lines_in cs
-    else (if (c == 13) && begins_with 10 cs then lines_in cs
-    else (if c == 32 then with_space (lines_in cs) else with_front c (lines_in cs)))
+lines_in cs = lines_from [] cs
 
 -- Lines, as a relation.
 

@@ -30,6 +30,15 @@ flow_parted (c ∷ cs) = blank c || (c == 10) || (c == 13) || flow_sign c
 abbrev pub flow_stops : Bool → ℕ → List ℕ → Bool
 flow_stops behind c cs = (c == 10) || (c == 13) || flow_sign c || ((c == 58) && flow_parted cs) || ((c == 35) && behind)
 
+-- what ends a plain scalar behind an indicator, and what stops it: in flow, or in block context
+abbrev pub parted_in : Bool → List ℕ → Bool
+parted_in true = flow_parted
+parted_in false = parted
+
+abbrev pub stops_in : Bool → Bool → ℕ → List ℕ → Bool
+stops_in true = flow_stops
+stops_in false = stops
+
 abbrev pub first_to : ℕ → List ℕ × List ℕ → List ℕ × List ℕ
 first_to c r = (c ∷ r.0, r.1)
 

@@ -3,6 +3,11 @@
 #![tactic(auto)]
 
 mod fault;
+mod header;
+mod line;
+mod lines;
+mod plain;
+mod scan;
 mod token;
 mod tree;
 
