@@ -1,3 +1,6 @@
 pub mod Ends
 pub mod Returns
 pub mod LineLaws
+pub mod FoldOut
+pub mod Numbers
+pub mod Quotes

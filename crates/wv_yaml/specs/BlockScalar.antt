@@ -44,6 +44,20 @@ row_at m l = (indented (l.indent - m) l.text, l.ended)
 abbrev pub empty_row : Line → Row
 empty_row l = ([], l.ended)
 
+-- the row of a line where the content stands at a column, or where there is none
+abbrev pub row_in : Option ℕ → Line → Row
+row_in None l = empty_row l
+row_in (Some m) l = row_at m l
+
+-- the spaces and the text of a row
+abbrev pub extra_in : Option ℕ → Line → ℕ
+extra_in None l = 0
+extra_in (Some m) l = l.indent - m
+
+abbrev pub text_in : Option ℕ → Line → List ℕ
+text_in None l = []
+text_in (Some m) l = l.text
+
 abbrev pub is_empty_row : Row → Bool
 is_empty_row r = is_end r.0
 
@@ -110,10 +124,14 @@ abbrev pub rows_of : ℕ → ℕ → List Line → Option (List Row)
 rows_of n zero body = rows_found n body (while is_spaces body) (past is_spaces body)
 rows_of n (suc d) body = rows_at (n + suc d) body
 
+-- the text of rows, by the header
+abbrev pub content_of : Header → Option (List Row) → Option (List ℕ)
+content_of h o = o >>= λ rows. Some (content h.folds h.chomp None 0 rows)
+
 -- the block scalar whose header follows `|` or `>` behind an indicator at n, with the lines after it
 abbrev pub block_scalar : Bool → ℕ → List ℕ → List Line → Option (List ℕ)
 block_scalar folds n header body =
-    header_of folds header >>= λ h. rows_of n h.digit body >>= λ rows. Some (content h.folds h.chomp None 0 rows)
+    header_of folds header >>= λ h. content_of h (rows_of n h.digit body)
 
 -- The same as relations.
 

@@ -107,6 +107,24 @@ double_step c cs =
     else (if c == 92 then escape cs
     else (if c == 13 then Refused else (if white c then white_step c cs else Stands (c ∷ []) 0)))
 
+-- a step between double quotes, or between single ones
+abbrev pub step_in : Bool → ℕ → List ℕ → Step
+step_in true = double_step
+step_in false = single_step
+
+-- the step at the front of a text
+abbrev pub first_step : Bool → List ℕ → Step
+first_step is_double [] = Refused
+first_step is_double (c ∷ cs) = step_in is_double c cs
+
+abbrev pub white_run : List ℕ → Step
+white_run [] = Refused
+white_run (c ∷ cs) = white_step c cs
+
+abbrev pub begins_white : List ℕ → Bool
+begins_white [] = false
+begins_white (c ∷ cs) = white c
+
 abbrev pub on_step : Step → (ℕ → Option (List ℕ × ℕ)) → Option (List ℕ × ℕ)
 on_step Refused more = None
 on_step Closed more = Some ([], 1)

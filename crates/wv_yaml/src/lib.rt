@@ -2,11 +2,13 @@
 //! `write` gives the canonical text of a tree.
 #![tactic(auto)]
 
+mod block_scalar;
 mod fault;
 mod header;
 mod line;
 mod lines;
 mod plain;
+mod quoted;
 mod scan;
 mod token;
 mod tree;

@@ -3,11 +3,12 @@ ghost use Rattle.std.specs.Prelude.{◌≡◌, ◌≤◌, ◌<◌, ◌+◌, ◌+
 ghost use Rattle.std.specs.Str.{encode_utf8_all};
 ghost use Rattle.wv_yaml.specs.Marks.{breaks, folded};
 ghost use Rattle.wv_yaml.specs.Plain.{flow_sign, is_sign, plain_start, parted_in, stops_in, cut, goes_on, plain_lines, flow_parted};
+ghost use Rattle.wv_yaml.specs.Line.{Line as SourceLine};
 ghost use Rattle.wv_yaml.specs.Gives.{Gives, behind};
 
 use crate::fault::YamlFault;
 use crate::line::Line;
-use crate::scan::{are_quiet, from_place, is_blank, is_nothing, is_parted, is_quiet, len_without_end, to_place, without_gap};
+use crate::scan::{are_quiet, from_place, is_blank, is_nothing, is_parted, len_without_end, lines_from, to_place, without_gap};
 use std::alloc::AllocError;
 
 pub fn is_flow_sign(c: char) -> bool
@@ -118,5 +119,74 @@ pub fn push_fold(out: &mut String, empties: usize) -> Result<(), AllocError>
         return Ok(());
     }
     push_breaks(out, empties)?;
+    Ok(())
+}
+
+/// Appends what the lines behind a plain scalar add to it.
+fn push_continued(out: &mut String, indent: usize, lines: &[Line<'_>]) -> Result<(), YamlFault>
+    ensures { Gives (λ (_ : Unit {0}). string_bytes out.new) result (behind (string_bytes out.old) (goes_on indent 0 lines.now)) }
+{
+    let mut empties = 0;
+    let mut left = lines;
+    loop {
+        if left.is_empty() {
+            return Ok(());
+        }
+        let line = &left[0];
+        let text = without_gap(line.text());
+        let rest = lines_from(left, 1);
+        if text.is_empty() {
+            empties += 1;
+            left = rest;
+            continue;
+        }
+        if is_nothing(text) {
+            if !are_quiet(rest) {
+                return Err(YamlFault::Grammar);
+            }
+            return Ok(());
+        }
+        if line.indent() <= indent {
+            return Err(YamlFault::Grammar);
+        }
+        let len = cut_len(false, text);
+        let tail = from_place(text, len);
+        if !is_nothing(tail) {
+            return Err(YamlFault::Grammar);
+        }
+        let front = to_place(text, len);
+        push_fold(out, empties)?;
+        push_chars(out, to_place(front, len_without_end(front)))?;
+        if !tail.is_empty() {
+            if !are_quiet(rest) {
+                return Err(YamlFault::Grammar);
+            }
+            return Ok(());
+        }
+        empties = 0;
+        left = rest;
+    }
+}
+
+/// Appends a plain scalar behind an indicator, with what the lines behind it add to it.
+pub fn push_plain(out: &mut String, indent: usize, text: &[char], body: &[Line<'_>]) -> Result<(), YamlFault>
+    ensures { Gives (λ (_ : Unit {0}). string_bytes out.new) result (behind (string_bytes out.old) (plain_lines indent text.now body.now)) }
+{
+    if !is_plain_start(false, text) {
+        return Err(YamlFault::Grammar);
+    }
+    let len = cut_len(false, text);
+    let tail = from_place(text, len);
+    let front = to_place(text, len);
+    let value = to_place(front, len_without_end(front));
+    if tail.is_empty() {
+        push_chars(out, value)?;
+        push_continued(out, indent, body)?;
+        return Ok(());
+    }
+    if !is_nothing(tail) || !are_quiet(body) {
+        return Err(YamlFault::Grammar);
+    }
+    push_chars(out, value)?;
     Ok(())
 }

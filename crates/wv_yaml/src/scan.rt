@@ -110,3 +110,18 @@ pub fn are_quiet(lines: &[Line<'_>]) -> bool
     }
     true
 }
+
+/// What is left of lines from a place on.
+pub fn lines_from<'a, 'b>(lines: &'b [Line<'a>], at: usize) -> &'b [Line<'a>]
+    requires { at ≤ length lines.now }
+    ensures { result.now ≡ drop at lines.now }
+{
+    &lines[at..]
+}
+
+pub fn lines_to<'a, 'b>(lines: &'b [Line<'a>], end: usize) -> &'b [Line<'a>]
+    requires { end ≤ length lines.now }
+    ensures { result.now ≡ take end lines.now }
+{
+    &lines[..end]
+}
