@@ -4,3 +4,5 @@ pub mod LineLaws
 pub mod FoldOut
 pub mod Numbers
 pub mod Quotes
+pub mod Rows
+pub mod TokenSteps

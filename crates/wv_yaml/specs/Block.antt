@@ -4,7 +4,6 @@ use Rattle.wv_yaml.specs.Line.{Line, line_at}
 use Rattle.wv_yaml.specs.declared.tree.Tree.{Tree}
 use Rattle.wv_yaml.specs.declared.tree.Tree.TheVariants as tree
 use Rattle.wv_yaml.specs.declared.tree.Pair.{Pair}
-use Rattle.std.specs.Str.{encode_utf8_all}
 use Rattle.wv_yaml.specs.Chunks.{chunked, ◌>>=◌, collected}
 use Rattle.wv_yaml.specs.Marks.{trimmed, gap, nothing, quiet, dash}
 use Rattle.wv_yaml.specs.Flow.{pair_of, as_list, as_map}
@@ -66,7 +65,7 @@ module _ (inline : Bool → ℕ → List ℕ → List Line → Option Tree) (key
       entry_of read n (all_spaces blanks) (line_at (n + 1 + length blanks) (trimmed (drop 1 c.0.text)) c.0.ended) c.1
 
   abbrev pub pair : (List Line → Option Tree) → ℕ → Chunk → Option Pair
-  pair read n c = key c.0.text >>= λ k. value_of read n (trimmed k.1) c.1 >>= λ v. Some (pair_of (encode_utf8_all k.0) v)
+  pair read n c = key c.0.text >>= λ k. value_of read n (trimmed k.1) c.1 >>= λ v. Some (pair_of k.0 v)
 
   abbrev pub sequence : (List Line → Option Tree) → Line → List Line → Option Tree
   sequence read l ls = as_list (collected (item read l.indent) (chunked (is_item l.indent) (l ∷ ls)).1)

@@ -9,7 +9,7 @@ use Rattle.wv_yaml.specs.Marks.{begins_with, trimmed, quiet, is_tail, parted, al
 use Rattle.wv_yaml.specs.Lines.{allowed, unmarked, lines_in, AreLines}
 use Rattle.wv_yaml.specs.BlockScalar.{while, past}
 use Rattle.wv_yaml.specs.Quoted.{joined}
-use Rattle.wv_yaml.specs.Inline.{key, inline, opens_flow, flow_text, KeyAt, Inline, FlowText}
+use Rattle.wv_yaml.specs.Inline.{key_bytes, inline, opens_flow, flow_text, KeyText, Inline, FlowText}
 use Rattle.wv_yaml.specs.Block.{ahead, block}
 use Rattle.wv_yaml.specs.Spelled.{Block}
 
@@ -56,7 +56,7 @@ begins_flow (c ∷ cs) = opens_flow c
 abbrev pub top : List Line → Option Tree
 top [] = None
 top (l ∷ ls) =
-    if begins_flow (trimmed l.text) then flow_text max_depth (joined 0 (trimmed l.text) ls) else block inline key max_depth (l ∷ ls)
+    if begins_flow (trimmed l.text) then flow_text max_depth (joined 0 (trimmed l.text) ls) else block inline key_bytes max_depth (l ∷ ls)
 
 abbrev pub framed : List Line → Option Tree
 framed ls = provided (is_closing (past is_plain_line ls)) (top (ahead (while is_plain_line ls)))
@@ -94,7 +94,7 @@ pub data Closed : List Line → Type 0 where
 
 pub data Top : List Line → Tree → Type 0 where
   TopFlow : (l : Line) (ls : List Line) (t : Tree) → begins_flow (trimmed l.text) ≡ true → FlowText max_depth (joined 0 (trimmed l.text) ls) t → Top (l ∷ ls) t
-  TopBlock : (l : Line) (ls : List Line) (t : Tree) → begins_flow (trimmed l.text) ≡ false → Block KeyAt Inline max_depth (l ∷ ls) t → Top (l ∷ ls) t
+  TopBlock : (l : Line) (ls : List Line) (t : Tree) → begins_flow (trimmed l.text) ≡ false → Block KeyText Inline max_depth (l ∷ ls) t → Top (l ∷ ls) t
 
 -- quiet lines, maybe a line `---`, quiet lines, the top node, and maybe a line `...` with quiet lines behind it
 pub record Document (lines : List Line) (t : Tree) : Type 0 where

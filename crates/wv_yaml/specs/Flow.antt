@@ -81,6 +81,11 @@ before_last closes [] = None
 before_last closes (t ∷ []) = provided (closes t) (Some [])
 before_last closes (t ∷ u ∷ ts) = before_last closes (u ∷ ts) >>= λ front. Some (t ∷ front)
 
+-- the last token closes, and what stands before it
+abbrev pub closer : Bool → Token → Bool
+closer true = closes_list
+closer false = closes_map
+
 abbrev pub flow_word : List Token → Option Tree
 flow_word [] = None
 flow_word (Word v ∷ []) = Some (tree.Text v)

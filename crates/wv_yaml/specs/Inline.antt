@@ -29,6 +29,10 @@ key (c ∷ cs) =
     else (if c == 39 then quoted_key (quoted single_step 0) cs
     else provided (plain_start parted (c ∷ cs)) (let part = cut stops false (c ∷ cs) in colon (without_end part.0) part.1))
 
+-- the same, the name as bytes
+abbrev pub key_bytes : List ℕ → Option (List ℕ × List ℕ)
+key_bytes text = key text >>= λ k. Some (encode_utf8_all k.0, k.1)
+
 abbrev pub as_text : Option (List ℕ) → Option Tree
 as_text o = o >>= λ v. Some (tree.Text (encode_utf8_all v))
 
@@ -65,6 +69,10 @@ pub data KeyAt : List ℕ → List ℕ → List ℕ → Type 0 where
   PlainKey : (text name rest : List ℕ) → plain_start parted text ≡ true → Part stops text name (58 ∷ rest) → KeyEnd name [] rest → KeyAt text name rest
   DoubleKey : (inner name gap rest : List ℕ) → Double inner name (gap ++ (58 ∷ rest)) → KeyEnd name gap rest → KeyAt (34 ∷ inner) name rest
   SingleKey : (inner name gap rest : List ℕ) → Single inner name (gap ++ (58 ∷ rest)) → KeyEnd name gap rest → KeyAt (39 ∷ inner) name rest
+
+-- the same, the name as bytes
+abbrev pub KeyText : List ℕ → List ℕ → List ℕ → Type 0
+KeyText text name rest = (value : List ℕ) × KeyAt text value rest × (name ≡ encode_utf8_all value)
 
 -- the tokens of the text are a flow collection
 abbrev pub FlowText : ℕ → List ℕ → Tree → Type 0

@@ -1,6 +1,5 @@
 -- Which trees block collections spell.
 use Rattle.std.specs.Prelude.{◌≡◌, ℕ, zero, suc, ◌+◌, ◌<◌, List, [], ◌∷◌, ◌++◌, length, Bool, true, false, Option, Some, None, ◌⊎◌}
-use Rattle.std.specs.Str.{encode_utf8_all}
 use Rattle.wv_yaml.specs.Line.{Line, line_at}
 use Rattle.wv_yaml.specs.declared.tree.Tree.{Tree}
 use Rattle.wv_yaml.specs.declared.tree.Tree.TheVariants as tree
@@ -66,7 +65,7 @@ module _ (KeyAt : List ℕ → List ℕ → List ℕ → Type 0) (Inline : Bool 
       pub blanks : Each blank gap
       pub no_more : Trimmed text
       pub spelled : Value n text c.1 value
-      pub is : p ≡ pair_of (encode_utf8_all name) value
+      pub is : p ≡ pair_of name value
 
     pub record Sequence (n : ℕ) (l : Line) (ls : List Line) (t : Tree) : Type 0 where
       pub chunks : List Chunk

@@ -74,6 +74,35 @@ tokens behind zero (c ∷ cs) =
     else (if flow_sign c then one_more (sign_of c) (tokens false 0 cs)
     else (word c cs >>= λ w. let t = token_of (is_quote c) (c ∷ cs) w.0 w.1 in one_more t.0 (tokens false t.1 cs)))))
 
+-- The front of a text: the tokens that it is, whether it leaves a blank or a break behind, and how many more characters it has.
+abbrev pub word_step : Bool → List ℕ → Option (List ℕ × ℕ) → Option (List Token × (Bool × ℕ))
+word_step is_quoted text o = o >>= λ w. let t = token_of is_quoted text w.0 w.1 in Some (t.0 ∷ [], (false, t.1))
+
+abbrev pub token_step : Bool → List ℕ → Option (List Token × (Bool × ℕ))
+token_step behind [] = None
+token_step behind (c ∷ cs) =
+    if white c then Some ([], (true, 0))
+    else (if c == 13 then (if begins_with 35 (trimmed cs) then Some ([], (true, 0)) else None)
+    else (if c == 35 then (if behind then Some ([], (true, length (comment_front cs))) else None)
+    else (if flow_sign c then Some (sign_of c ∷ [], (false, 0)) else word_step (is_quote c) (c ∷ cs) (word c cs))))
+
+-- the scalar at the front of a text, and its token
+abbrev pub first_word : List ℕ → Option (List ℕ × ℕ)
+first_word [] = None
+first_word (c ∷ cs) = word c cs
+
+abbrev pub first_quote : List ℕ → Bool
+first_quote [] = false
+first_quote (c ∷ cs) = is_quote c
+
+abbrev pub word_token : List ℕ → Option (Token × ℕ)
+word_token text = first_word text >>= λ w. Some (token_of (first_quote text) text w.0 w.1)
+
+-- tokens that are found behind others
+abbrev pub advanced : List Token → Option (List Token × (Bool × ℕ)) → Option ((Bool × ℕ) × List Token)
+advanced front None = None
+advanced front (Some s) = Some (s.1, front ++ s.0)
+
 -- nothing but blanks, line breaks and comments
 abbrev pub is_silent : List ℕ → Bool
 is_silent text = elim (tokens false 0 text) [ None ↦ false | Some ts ↦ is_end ts ]

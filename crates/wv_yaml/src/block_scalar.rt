@@ -1,5 +1,5 @@
 // Block scalars.
-ghost use Rattle.std.specs.Prelude.{◌≡◌, ◌≤◌, ◌<◌, ◌+◌, ◌-◌, ◌++◌, [], ◌^◌, length, drop, take, map, OnOk, ℕ, List, All, Bool, string_bytes, Option, Some, None};
+ghost use Rattle.std.specs.Prelude.{◌≡◌, ◌≤◌, ◌<◌, ◌+◌, ◌-◌, ◌++◌, [], ◌^◌, length, drop, take, map, OnOk, IfSome, if◌then◌else◌, ℕ, List, All, Bool, string_bytes, Option, Some, None};
 ghost use Rattle.std.specs.Str.{encode_utf8_all};
 ghost use Rattle.wv_yaml.specs.Line.{IsSmall};
 ghost use Rattle.wv_yaml.specs.Marks.{indented, is_end};
@@ -14,7 +14,8 @@ use crate::scan::{are_quiet, from_place, is_blank, is_tail_text, lines_from, lin
 use std::alloc::AllocError;
 
 fn header_with(folds: bool, digit: usize, chomp: Chomp, rest: &[char]) -> Option<Header>
-    ensures { result ≡ header_by folds digit chomp rest.now }
+    ensures value { result ≡ header_by folds digit chomp rest.now }
+    ensures digit { IfSome result (λ h. h.digit ≡ digit) }
 {
     if is_tail_text(rest) {
         Some(Header { folds, digit, chomp })
@@ -42,7 +43,8 @@ fn chomp_with(c: char) -> Chomp
 }
 
 fn header_after_digit(folds: bool, digit: usize, text: &[char]) -> Option<Header>
-    ensures { result ≡ after_digit folds digit text.now }
+    ensures value { result ≡ after_digit folds digit text.now }
+    ensures digit { IfSome result (λ h. h.digit ≡ digit) }
 {
     if !text.is_empty() && is_sign_char(text[0]) {
         return header_with(folds, digit, chomp_with(text[0]), from_place(text, 1));
@@ -51,7 +53,8 @@ fn header_after_digit(folds: bool, digit: usize, text: &[char]) -> Option<Header
 }
 
 fn header_after_sign(folds: bool, chomp: Chomp, text: &[char]) -> Option<Header>
-    ensures { result ≡ after_sign folds chomp text.now }
+    ensures value { result ≡ after_sign folds chomp text.now }
+    ensures digit { IfSome result (λ h. h.digit ≤ 9) }
 {
     if !text.is_empty() && is_digit_char(text[0]) {
         let digit = text[0] as usize - 48;
@@ -62,7 +65,8 @@ fn header_after_sign(folds: bool, chomp: Chomp, text: &[char]) -> Option<Header>
 
 /// The header behind `|` or `>`.
 fn header_in(folds: bool, text: &[char]) -> Option<Header>
-    ensures { result ≡ header_of folds text.now }
+    ensures value { result ≡ header_of folds text.now }
+    ensures digit { IfSome result (λ h. h.digit ≤ 9) }
 {
     if !text.is_empty() && is_digit_char(text[0]) {
         let digit = text[0] as usize - 48;
@@ -150,12 +154,20 @@ fn does_row_begin_blank(extra: usize, text: &[char]) -> bool
     extra > 0 || does_begin_blank(text)
 }
 
+fn break_count(line: &Line<'_>) -> usize
+    ensures value { result ≡ (if line.now.ended then 1 else 0) }
+    ensures few { result ≤ 1 }
+{
+    if line.is_ended() { 1 } else { 0 }
+}
+
 /// Appends the text of a row of content: so many spaces, and what follows them.
 fn push_row(out: &mut String, extra: usize, text: &[char]) -> Result<(), AllocError>
     ensures { OnOk result (string_bytes out.new ≡ string_bytes out.old ++ encode_utf8_all (indented extra text.now)) }
 {
     push_spaces(out, extra)?;
-    push_chars(out, text)
+    push_chars(out, text)?;
+    Ok(())
 }
 
 /// Appends the text of content lines, whose content stands at a column.
@@ -167,7 +179,7 @@ fn push_content(out: &mut String, header: Header, column: Option<usize>, lines: 
     for line in lines {
         let extra = extra_spaces(column, line);
         let text = row_text(column, line);
-        let has_break = if line.is_ended() { 1 } else { 0 };
+        let has_break = break_count(line);
         if is_empty_row(extra, text) {
             breaks += has_break;
             continue;
@@ -263,7 +275,7 @@ fn push_rows_found(out: &mut String, header: Header, indent: usize, body: &[Line
 
 /// Appends a block scalar, whose header follows `|` or `>` behind an indicator.
 pub fn push_block(out: &mut String, folds: bool, indent: usize, text: &[char], body: &[Line<'_>]) -> Result<(), YamlFault>
-    requires { indent + 9 < 2 ^ 64 }
+    requires { indent < 2 ^ 63 }
     ensures { Gives (λ (_ : Unit {0}). string_bytes out.new) result (behind (string_bytes out.old) (block_scalar folds indent text.now body.now)) }
 {
     let Some(header) = header_in(folds, text) else {
