@@ -6,3 +6,6 @@ pub mod Numbers
 pub mod Quotes
 pub mod Rows
 pub mod TokenSteps
+pub mod FlowSteps
+pub mod TreeRows
+pub mod WriteSteps

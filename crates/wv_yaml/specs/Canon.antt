@@ -22,9 +22,12 @@ escaped c =
     else (if nat_lt c 32 || within 0x7F 0x9F c then 92 ∷ 120 ∷ hex_of (c / 16) ∷ hex_of (c % 16) ∷ []
     else (if within 0xFFFE 0xFFFF c then 92 ∷ 117 ∷ 102 ∷ 102 ∷ 102 ∷ hex_of (c % 16) ∷ [] else c ∷ [])))))
 
--- a text's bytes between quotes
+-- characters between quotes, and a text's
+abbrev pub between_quotes : List ℕ → List ℕ
+between_quotes cs = 34 ∷ (encode_utf8_all (flat_map escaped cs) ++ (34 ∷ []))
+
 abbrev pub quoted_text : List ℕ → List ℕ
-quoted_text text = 34 ∷ (encode_utf8_all (flat_map escaped (chars text)) ++ (34 ∷ []))
+quoted_text text = between_quotes (chars text)
 
 abbrev pub is_letter : ℕ → Bool
 is_letter c = within 65 90 c || within 97 122 c
@@ -36,10 +39,13 @@ abbrev pub all_of : (ℕ → Bool) → List ℕ → Bool
 all_of p [] = true
 all_of p (c ∷ cs) = p c && all_of p cs
 
+abbrev pub is_word_char : ℕ → Bool
+is_word_char c = is_letter c || (is_decimal c || (c == 95))
+
 -- a letter or `_`, and then letters, digits and `_`
 abbrev pub is_name : List ℕ → Bool
 is_name [] = false
-is_name (c ∷ cs) = (is_letter c || (c == 95)) && all_of (λ d. is_letter d || (is_decimal d || (d == 95))) cs
+is_name (c ∷ cs) = (is_letter c || (c == 95)) && all_of is_word_char cs
 
 abbrev pub key_text : List ℕ → List ℕ
 key_text k = if is_name k then k else quoted_text k
@@ -102,6 +108,16 @@ unfoldable mutual
   pairs_form n first (more_of-Pair k v rest) =
       lead n first ++ (key_text k ++ (58 ∷ (after_colon (n + 2) (is_inline v) ++ (form (n + 2) (is_place k) v ++ pairs_form n false rest))))
 
+-- the same for the items of a list and the pairs of a map
+abbrev pub items_bytes : ℕ → Bool → List Tree → List ℕ
+items_bytes n first [] = []
+items_bytes n first (t ∷ ts) = lead n first ++ (45 ∷ 32 ∷ (form (n + 2) false t ++ items_bytes n false ts))
+
+abbrev pub pairs_bytes : ℕ → Bool → List Pair → List ℕ
+pairs_bytes n first [] = []
+pairs_bytes n first (p ∷ ps) =
+    lead n first ++ (key_text p.key ++ (58 ∷ (after_colon (n + 2) (is_inline p.value) ++ (form (n + 2) (is_place p.key) p.value ++ pairs_bytes n false ps))))
+
 unfoldable pub canon : Tree → List ℕ
 canon t = form 0 false t
 
@@ -119,6 +135,9 @@ abbrev mutual
   pub PairsFit : {m : _} → ℕ → Row_of-Pair m → Type 0
   PairsFit e end_of-Pair = Unit {0}
   PairsFit e (more_of-Pair k v rest) = (length (chars k) ≤ max_key) × (Fits e v × PairsFit e rest)
+
+abbrev pub PairFits : ℕ → Pair → Type 0
+PairFits e p = (length (chars p.key) ≤ max_key) × Fits e p.value
 
 -- a list or a map
 abbrev pub IsCollection : Tree → Type 0

@@ -4,14 +4,18 @@
 
 mod block_scalar;
 mod fault;
+mod flow;
 mod header;
 mod line;
 mod lines;
 mod plain;
 mod quoted;
+mod quoting;
 mod scan;
 mod token;
+mod tokens;
 mod tree;
 
 pub use fault::YamlFault;
+pub use quoting::quote;
 pub use tree::{Pair, Tree};

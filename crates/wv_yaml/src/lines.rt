@@ -25,7 +25,7 @@ pub fn without_mark(text: &[char]) -> &[char]
     }
 }
 
-fn is_within(low: char, high: char, c: char) -> bool
+pub fn is_within(low: char, high: char, c: char) -> bool
     ensures { result ≡ within low high c }
 {
     low <= c && c <= high
