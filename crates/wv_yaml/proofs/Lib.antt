@@ -9,3 +9,4 @@ pub mod TokenSteps
 pub mod FlowSteps
 pub mod TreeRows
 pub mod WriteSteps
+pub mod KeySteps

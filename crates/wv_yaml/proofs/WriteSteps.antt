@@ -7,7 +7,7 @@ use Rattle.wv_yaml.specs.declared.tree.Tree.{Tree, Text, List', Map', Row_of-Tre
 use Rattle.wv_yaml.specs.declared.tree.Pair.{Pair}
 use Rattle.wv_yaml.specs.declared.tree.Tree.TheVariants as tree
 use Rattle.wv_yaml.specs.Marks.{is_end}
-use Rattle.wv_yaml.specs.Canon.{form, items_form, pairs_form, items_bytes, pairs_bytes, has_items, has_pairs, is_inline, lead, after_colon, key_text, is_place, Fits, ItemsFit, PairsFit, PairFits, text_form}
+use Rattle.wv_yaml.specs.Canon.{form, items_form, pairs_form, items_bytes, pairs_bytes, has_items, has_pairs, is_inline, lead, after_colon, key_text, is_place, Fits, ItemsFit, PairsFit, PairFits, text_form, bytes_are}
 use Rattle.wv_yaml.proofs.TreeRows.{items_of_list, pairs_of_map}
 
 items_rows : {m : _} (row : Row_of-Tree m) (n : ℕ) (first : Bool) → items_form n first row ≡ items_bytes n first (items-the_row-Tree _ row)
@@ -161,3 +161,16 @@ pub text_out : (n : ℕ) (bare : Bool) (v : List ℕ) (t : Tree) (out mid new : 
 unfolding form
 text_out n bare v t out mid new h a b =
     b ∙ ap (λ xs. xs ++ (10 ∷ [])) a ∙ append_assoc out (text_form bare v) (10 ∷ []) ∙ ap (λ (x : Tree). out ++ form n bare x) (sym h)
+
+pub none_left : {X : Type 0} (xs : List X) (n : ℕ) → n ≡ length xs → n ≡ 0 → is_end xs ≡ true
+none_left [] n e h = refl
+none_left (x ∷ xs) n e h = absurd (omega (arith, e, h))
+
+pub some_here : {X : Type 0} (xs : List X) (n : ℕ) → n ≡ length xs → (n ≡ 0 → ⊥) → is_end xs ≡ false
+some_here [] n e h = absurd (h e)
+some_here (x ∷ xs) n e h = refl
+
+pub longer : (xs ys : List ℕ) → 0 < length xs → length ys ≡ 0 → bytes_are xs ys ≡ false
+longer [] ys h e = absurd (omega arith)
+longer (x ∷ xs) [] h e = refl
+longer (x ∷ xs) (y ∷ ys) h e = absurd (omega (arith, e))

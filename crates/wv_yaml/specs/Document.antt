@@ -9,7 +9,7 @@ use Rattle.wv_yaml.specs.Marks.{begins_with, trimmed, quiet, is_tail, parted, al
 use Rattle.wv_yaml.specs.Lines.{allowed, unmarked, lines_in, AreLines}
 use Rattle.wv_yaml.specs.BlockScalar.{while, past}
 use Rattle.wv_yaml.specs.Quoted.{joined}
-use Rattle.wv_yaml.specs.Inline.{key_bytes, inline, opens_flow, flow_text, KeyText, Inline, FlowText}
+use Rattle.wv_yaml.specs.Inline.{key_bytes, inline, begins_flow, flow_text, KeyText, Inline, FlowText}
 use Rattle.wv_yaml.specs.Block.{ahead, block}
 use Rattle.wv_yaml.specs.Spelled.{Block}
 
@@ -47,10 +47,6 @@ opened (l ∷ ls) = if is_start l && is_alone l then ls else l ∷ ls
 abbrev pub is_closing : List Line → Bool
 is_closing [] = true
 is_closing (l ∷ ls) = is_stop l && (is_alone l && all_quiet ls)
-
-abbrev pub begins_flow : List ℕ → Bool
-begins_flow [] = false
-begins_flow (c ∷ cs) = opens_flow c
 
 -- the top node: a flow collection, or a block collection at any indentation
 abbrev pub top : List Line → Option Tree

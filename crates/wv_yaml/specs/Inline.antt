@@ -18,8 +18,16 @@ abbrev pub colon : List ℕ → List ℕ → Option (List ℕ × List ℕ)
 colon name [] = None
 colon name (c ∷ cs) = provided ((c == 58) && (parted cs && nat_le (length name) max_key)) (Some (name, cs))
 
+-- a colon with a blank or the line's end behind it
+abbrev pub is_colon : List ℕ → Bool
+is_colon [] = false
+is_colon (c ∷ cs) = (c == 58) && parted cs
+
 abbrev pub quoted_key : (List ℕ → Option (List ℕ × ℕ)) → List ℕ → Option (List ℕ × List ℕ)
 quoted_key inside cs = inside cs >>= λ r. colon r.0 (trimmed (drop r.1 cs))
+
+abbrev pub plain_key : List ℕ → Option (List ℕ × List ℕ)
+plain_key text = provided (plain_start parted text) (let part = cut stops false text in colon (without_end part.0) part.1)
 
 -- the key that a line's text begins with, and what follows its colon
 abbrev pub key : List ℕ → Option (List ℕ × List ℕ)
@@ -27,11 +35,14 @@ key [] = None
 key (c ∷ cs) =
     if c == 34 then quoted_key (quoted double_step 0) cs
     else (if c == 39 then quoted_key (quoted single_step 0) cs
-    else provided (plain_start parted (c ∷ cs)) (let part = cut stops false (c ∷ cs) in colon (without_end part.0) part.1))
+    else plain_key (c ∷ cs))
 
 -- the same, the name as bytes
+abbrev pub named : Option (List ℕ × List ℕ) → Option (List ℕ × List ℕ)
+named o = o >>= λ k. Some (encode_utf8_all k.0, k.1)
+
 abbrev pub key_bytes : List ℕ → Option (List ℕ × List ℕ)
-key_bytes text = key text >>= λ k. Some (encode_utf8_all k.0, k.1)
+key_bytes text = named (key text)
 
 abbrev pub as_text : Option (List ℕ) → Option Tree
 as_text o = o >>= λ v. Some (tree.Text (encode_utf8_all v))
@@ -48,14 +59,20 @@ opens_flow c = (c == 91) || (c == 123)
 
 -- The scalar or flow collection that begins with a text behind an indicator at n, and goes on over the lines of the body, up
 -- to its end. `here` tells whether it stands on the indicator's line; d more collections may be open.
+abbrev pub scalar : Bool → ℕ → List ℕ → List Line → Option (List ℕ)
+scalar here n [] body = None
+scalar here n (c ∷ cs) body =
+    if c == 34 then quoted_alone (quoted double_step 0) (joined (suc n) cs body)
+    else (if c == 39 then quoted_alone (quoted single_step 0) (joined (suc n) cs body)
+    else (if (c == 124) || (c == 62) then (if here then block_scalar (c == 62) n cs body else None)
+    else plain_lines n (c ∷ cs) body))
+
+abbrev pub begins_flow : List ℕ → Bool
+begins_flow [] = false
+begins_flow (c ∷ cs) = opens_flow c
+
 abbrev pub inline : ℕ → Bool → ℕ → List ℕ → List Line → Option Tree
-inline d here n [] body = None
-inline d here n (c ∷ cs) body =
-    if c == 34 then as_text (quoted_alone (quoted double_step 0) (joined (suc n) cs body))
-    else (if c == 39 then as_text (quoted_alone (quoted single_step 0) (joined (suc n) cs body))
-    else (if opens_flow c then flow_text d (joined (suc n) (c ∷ cs) body)
-    else (if (c == 124) || (c == 62) then (if here then as_text (block_scalar (c == 62) n cs body) else None)
-    else as_text (plain_lines n (c ∷ cs) body))))
+inline d here n text body = if begins_flow text then flow_text d (joined (suc n) text body) else as_text (scalar here n text body)
 
 -- The same as relations.
 

@@ -15,7 +15,9 @@ mod scan;
 mod token;
 mod tokens;
 mod tree;
+mod writing;
 
 pub use fault::YamlFault;
 pub use quoting::quote;
 pub use tree::{Pair, Tree};
+pub use writing::write;
