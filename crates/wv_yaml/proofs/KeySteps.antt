@@ -4,14 +4,18 @@ use Rattle.std.proofs.lemmas.Bool.{cond-true}
 use Rattle.std.proofs.lemmas.List.{drop-drop}
 use Rattle.std.proofs.lemmas.Str.{chars_from_encodes}
 use Rattle.std.specs.Str.{chars, IsUtf8}
+use Rattle.std.proofs.Common.{◌||◌}
+use Rattle.std.proofs.lemmas.Bool.{cond-false}
 use lib.Utf8.{encodes}
+use Rattle.wv_yaml.specs.declared.fault.YamlFault.{YamlFault}
+use Rattle.wv_yaml.specs.declared.fault.YamlFault.TheVariants.{Bytes, Grammar, Duplicate, OutOfMemory}
 use Rattle.wv_yaml.specs.Chunks.{◌>>=◌, provided}
-use Rattle.wv_yaml.specs.Marks.{trimmed, parted, without_end}
+use Rattle.wv_yaml.specs.Marks.{begins_with, trimmed, parted, without_end}
 use Rattle.wv_yaml.specs.Plain.{plain_start, cut, stops}
-use Rattle.wv_yaml.specs.Quoted.{quoted, step_in}
-use Rattle.wv_yaml.specs.Tokens.{max_key}
-use Rattle.wv_yaml.specs.Inline.{colon, is_colon, quoted_key, plain_key, named}
-use Rattle.wv_yaml.specs.Gives.{with_text}
+use Rattle.wv_yaml.specs.Quoted.{quoted, step_in, double_step, single_step}
+use Rattle.wv_yaml.specs.Tokens.{max_key, first_quote}
+use Rattle.wv_yaml.specs.Inline.{key, colon, is_colon, quoted_key, plain_key, named}
+use Rattle.wv_yaml.specs.Gives.{with_text, Fails}
 
 regroup : (a b c : Bool) → (a && (b && c)) ≡ ((a && b) && c)
 regroup true b c = refl
@@ -73,3 +77,22 @@ pub key_place : (text after rest : List ℕ) (count g : ℕ) → after ≡ drop 
 key_place text after rest count g a r =
     let n : count + (g + 1) ≡ count + g + 1 = omega arith in
     ap (drop 1) r ∙ drop-drop 1 g after ∙ ap (drop (g + 1)) a ∙ drop-drop (g + 1) count text ∙ ap (λ k. drop k text) n
+
+-- a key that begins with a quote
+pub key_quote : (text rest : List ℕ) (b : Bool) → first_quote text ≡ true → b ≡ begins_with 34 text → rest ≡ drop 1 text → key text ≡ quoted_key (quoted (step_in b) 0) rest
+key_quote [] rest b h k r = absurd (cc)
+key_quote (c ∷ cs) rest b h k r = at_double (c == 34) refl ∙ ap (quoted_key (quoted (step_in b) 0)) (sym r)
+  where
+    single : (c == 34) ≡ false → (c == 39) ≡ true
+    single e = ap (λ (v : Bool). v || (c == 39)) (sym e) ∙ h
+
+    at_double : (v : Bool) → (c == 34) ≡ v → key (c ∷ cs) ≡ quoted_key (quoted (step_in b) 0) cs
+    at_double true e = cond-true (c == 34) _ _ e ∙ ap (λ (v : Bool). quoted_key (quoted (step_in v) 0) cs) (sym (k ∙ e))
+    at_double false e = cond-false (c == 34) _ _ e ∙ cond-true (c == 39) _ _ (single e) ∙ ap (λ (v : Bool). quoted_key (quoted (step_in v) 0) cs) (sym (k ∙ e))
+
+-- a refusal goes on
+pub still_fails : {A B : Type 0} (fault : YamlFault) (o : Option A) (f : A → Option B) → Fails fault o → Fails fault (o >>= f)
+still_fails Bytes o f e = e
+still_fails Grammar o f e = ap (λ x. x >>= f) e
+still_fails Duplicate o f e = e
+still_fails OutOfMemory o f e = tt

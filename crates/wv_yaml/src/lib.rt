@@ -6,6 +6,7 @@ mod block_scalar;
 mod fault;
 mod flow;
 mod header;
+mod inline;
 mod line;
 mod lines;
 mod plain;

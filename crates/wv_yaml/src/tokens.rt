@@ -101,7 +101,7 @@ pub fn is_short(text: &str) -> bool
     text.chars().count() <= 1024
 }
 
-fn is_quoted_start(text: &[char]) -> bool
+pub fn is_quoted_start(text: &[char]) -> bool
     ensures { result ≡ first_quote text.now }
 {
     !text.is_empty() && is_quote_char(text[0])
