@@ -89,11 +89,11 @@ pub quoted_on : (d : Bool) (text front : List ℕ) (at more : ℕ) (out new : Li
 quoted_on d text front at more out new f h e =
     let g = goes_of out new (first_step d front) more e in
     let further : drop more (drop 1 front) ≡ drop (at + (1 + more)) text =
-        drop-drop more 1 front ∙ ap (drop (1 + more)) f ∙ drop-drop (1 + more) at text in
+    drop-drop more 1 front ∙ ap (drop (1 + more)) f ∙ drop-drop (1 + more) at text in
     ap (λ xs. with_count (at + (1 + more)) xs (quoted (step_in d) 0 (drop (at + (1 + more)) text))) g.text
     ∙ sym (step_on at more out g.value (quoted (step_in d) 0 (drop (at + (1 + more)) text)))
     ∙ ap (λ (o : Option (List ℕ × ℕ)). with_count at out (o >>= λ r. Some (g.value ++ r.0, suc r.1)))
-        (ap (λ xs. counted more (quoted (step_in d) 0 xs)) (sym further) ∙ sym (quoted_skip (step_in d) more (drop 1 front)))
+    (ap (λ xs. counted more (quoted (step_in d) 0 xs)) (sym further) ∙ sym (quoted_skip (step_in d) more (drop 1 front)))
     ∙ ap (λ s. with_count at out (on_step s (λ k. quoted (step_in d) k (drop 1 front)))) (sym g.is)
     ∙ ap (with_count at out) (sym (quoted_first d front h) ∙ ap (quoted (step_in d) 0) f)
 

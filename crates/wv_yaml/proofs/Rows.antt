@@ -33,9 +33,9 @@ content_on folds chomp before p h blank r rs text out o1 o2 t e b k a c =
     let B : List ℕ = between folds before p blank in
     let C : List ℕ = content folds chomp (Some blank) h rs in
     let same : content folds chomp before p (r ∷ rs) ≡ B ++ (text ++ C) =
-        cond-false (is_end r.0) _ _ (ap is_end t ∙ e)
-        ∙ ap (λ (xs : List ℕ). between folds before p (begins_blank xs) ++ (xs ++ content folds chomp (Some (begins_blank xs)) (if r.1 then 1 else 0) rs)) t
-        ∙ ap (λ (v : Bool). between folds before p v ++ (text ++ content folds chomp (Some v) (if r.1 then 1 else 0) rs)) (sym b)
-        ∙ ap (λ (n : ℕ). B ++ (text ++ content folds chomp (Some blank) n rs)) (sym k) in
+    cond-false (is_end r.0) _ _ (ap is_end t ∙ e)
+    ∙ ap (λ (xs : List ℕ). between folds before p (begins_blank xs) ++ (xs ++ content folds chomp (Some (begins_blank xs)) (if r.1 then 1 else 0) rs)) t
+    ∙ ap (λ (v : Bool). between folds before p v ++ (text ++ content folds chomp (Some v) (if r.1 then 1 else 0) rs)) (sym b)
+    ∙ ap (λ (n : ℕ). B ++ (text ++ content folds chomp (Some blank) n rs)) (sym k) in
     ap (λ xs. xs ++ encodes C) (c ∙ ap (λ xs. xs ++ encodes text) a) ∙ append_assoc (out ++ encodes B) (encodes text) (encodes C) ∙ append_assoc out (encodes B) (encodes text ++ encodes C)
     ∙ ap (λ xs. out ++ (encodes B ++ xs)) (sym (encodes-append text C)) ∙ ap (λ xs. out ++ xs) (sym (encodes-append B (text ++ C))) ∙ ap (λ xs. out ++ encodes xs) (sym same)

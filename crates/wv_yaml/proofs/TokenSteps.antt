@@ -149,7 +149,7 @@ scalar_is text out count b e u k =
     let w = word_at text out count (first_word text) refl e in
     let same : w.value ≡ chars out = chars_from_encodes w.value out u (sym w.bytes) in
     let key : is_key (first_quote text) (take count text) w.value (drop count text) ≡ b =
-        ap (λ xs. is_key (first_quote text) (take count text) xs (drop count text)) same ∙ sym k in
+    ap (λ xs. is_key (first_quote text) (take count text) xs (drop count text)) same ∙ sym k in
     ap (λ (o : Option (List ℕ × ℕ)). o >>= λ w. Some (token_of (first_quote text) text w.0 w.1)) w.is
     ∙ ap (λ (v : Bool). Some (cond v (token.Key (encodes w.value), count + length (gap (drop count text))) (token.Word (encodes w.value), count - 1))) key
     ∙ ap (λ (xs : List ℕ). Some (cond b (token.Key xs, count + length (gap (drop count text))) (token.Word xs, count - 1))) (sym w.bytes)

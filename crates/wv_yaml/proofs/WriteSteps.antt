@@ -51,14 +51,14 @@ unfolding form
 list_form n bare xs =
     ap (λ (b : Bool). cond b (items_form n true (row_of_items (tree.List xs)).1) (91 ∷ 93 ∷ 10 ∷ [])) (items_there xs)
     ∙ ap (λ (ys : List ℕ). cond (not (is_end xs)) ys (91 ∷ 93 ∷ 10 ∷ []))
-        (items_rows {m = (row_of_items (tree.List xs)).0} (row_of_items (tree.List xs)).1 n true ∙ ap (items_bytes n true) (items_of_list xs))
+    (items_rows {m = (row_of_items (tree.List xs)).0} (row_of_items (tree.List xs)).1 n true ∙ ap (items_bytes n true) (items_of_list xs))
 
 pub map_form : (n : ℕ) (bare : Bool) (ps : List Pair) → form n bare (tree.Map ps) ≡ cond (not (is_end ps)) (pairs_bytes n true ps) (123 ∷ 125 ∷ 10 ∷ [])
 unfolding form
 map_form n bare ps =
     ap (λ (b : Bool). cond b (pairs_form n true (row_of_pairs (tree.Map ps)).1) (123 ∷ 125 ∷ 10 ∷ [])) (pairs_there ps)
     ∙ ap (λ (ys : List ℕ). cond (not (is_end ps)) ys (123 ∷ 125 ∷ 10 ∷ []))
-        (pairs_rows {m = (row_of_pairs (tree.Map ps)).0} (row_of_pairs (tree.Map ps)).1 n true ∙ ap (pairs_bytes n true) (pairs_of_map ps))
+    (pairs_rows {m = (row_of_pairs (tree.Map ps)).0} (row_of_pairs (tree.Map ps)).1 n true ∙ ap (pairs_bytes n true) (pairs_of_map ps))
 
 double_not : (b : Bool) → not (not b) ≡ b
 double_not true = refl

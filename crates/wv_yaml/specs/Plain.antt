@@ -54,9 +54,9 @@ goes_on n k (l ∷ ls) =
     if is_empty l then goes_on n (suc k) ls
     else (if quiet l.text then provided (all_quiet ls) (Some [])
     else (if nat_lt n l.indent then
-        (let part = cut stops false (trimmed l.text) in
-        if is_end part.1 then (goes_on n 0 ls >>= λ more. Some (folded k ++ (without_end part.0 ++ more)))
-        else provided (nothing part.1 && all_quiet ls) (Some (folded k ++ without_end part.0)))
+    (let part = cut stops false (trimmed l.text) in
+    if is_end part.1 then (goes_on n 0 ls >>= λ more. Some (folded k ++ (without_end part.0 ++ more)))
+    else provided (nothing part.1 && all_quiet ls) (Some (folded k ++ without_end part.0)))
     else None))
 
 -- a plain scalar behind an indicator at n, with what the lines add to it

@@ -18,7 +18,11 @@ fn header_with(folds: bool, digit: usize, chomp: Chomp, rest: &[char]) -> Option
     ensures digit { IfSome result (λ h. h.digit ≡ digit) }
 {
     if is_tail_text(rest) {
-        Some(Header { folds, digit, chomp })
+        Some(Header {
+            folds,
+            digit,
+            chomp,
+        })
     } else {
         None
     }
@@ -96,7 +100,13 @@ fn push_spaces(out: &mut String, count: usize) -> Result<(), AllocError>
 }
 
 /// Appends what stands between two content lines, or before the first.
-fn push_between(out: &mut String, folds: bool, before: Option<bool>, breaks: usize, is_blank: bool) -> Result<(), AllocError>
+fn push_between(
+    out: &mut String,
+    folds: bool,
+    before: Option<bool>,
+    breaks: usize,
+    is_blank: bool,
+) -> Result<(), AllocError>
     ensures { OnOk result (string_bytes out.new ≡ string_bytes out.old ++ encode_utf8_all (between folds before breaks is_blank)) }
 {
     if let Some(was_blank) = before {
@@ -108,7 +118,12 @@ fn push_between(out: &mut String, folds: bool, before: Option<bool>, breaks: usi
 }
 
 /// Appends what the line breaks at the end leave.
-fn push_chomped(out: &mut String, chomp: Chomp, before: Option<bool>, breaks: usize) -> Result<(), AllocError>
+fn push_chomped(
+    out: &mut String,
+    chomp: Chomp,
+    before: Option<bool>,
+    breaks: usize,
+) -> Result<(), AllocError>
     ensures { OnOk result (string_bytes out.new ≡ string_bytes out.old ++ encode_utf8_all (chomped chomp before breaks)) }
 {
     match chomp {
@@ -171,7 +186,12 @@ fn push_row(out: &mut String, extra: usize, text: &[char]) -> Result<(), AllocEr
 }
 
 /// Appends the text of content lines, whose content stands at a column.
-fn push_content(out: &mut String, header: Header, column: Option<usize>, lines: &[Line<'_>]) -> Result<(), AllocError>
+fn push_content(
+    out: &mut String,
+    header: Header,
+    column: Option<usize>,
+    lines: &[Line<'_>],
+) -> Result<(), AllocError>
     ensures { OnOk result (string_bytes out.new ≡ string_bytes out.old ++ encode_utf8_all (content header.folds header.chomp None 0 (map (row_in column) lines.now))) }
 {
     let mut before = None;
@@ -237,7 +257,12 @@ fn are_no_deeper(column: usize, lines: &[Line<'_>]) -> bool
 }
 
 /// Appends the content that stands at a column, behind which nothing may stand.
-fn push_rows_at(out: &mut String, header: Header, column: usize, body: &[Line<'_>]) -> Result<(), YamlFault>
+fn push_rows_at(
+    out: &mut String,
+    header: Header,
+    column: usize,
+    body: &[Line<'_>],
+) -> Result<(), YamlFault>
     ensures { Gives (λ (_ : Unit {0}). string_bytes out.new) result (behind (string_bytes out.old) (content_of header (rows_at column body.now))) }
 {
     let len = content_len(column, body);
@@ -249,7 +274,12 @@ fn push_rows_at(out: &mut String, header: Header, column: usize, body: &[Line<'_
 }
 
 /// Appends the content that stands where its first line says, behind an indicator.
-fn push_rows_found(out: &mut String, header: Header, indent: usize, body: &[Line<'_>]) -> Result<(), YamlFault>
+fn push_rows_found(
+    out: &mut String,
+    header: Header,
+    indent: usize,
+    body: &[Line<'_>],
+) -> Result<(), YamlFault>
     ensures { Gives (λ (_ : Unit {0}). string_bytes out.new) result (behind (string_bytes out.old) (content_of header (rows_of indent 0 body.now))) }
 {
     let len = spaces_lines(body);
@@ -274,7 +304,13 @@ fn push_rows_found(out: &mut String, header: Header, indent: usize, body: &[Line
 }
 
 /// Appends a block scalar, whose header follows `|` or `>` behind an indicator.
-pub fn push_block(out: &mut String, folds: bool, indent: usize, text: &[char], body: &[Line<'_>]) -> Result<(), YamlFault>
+pub fn push_block(
+    out: &mut String,
+    folds: bool,
+    indent: usize,
+    text: &[char],
+    body: &[Line<'_>],
+) -> Result<(), YamlFault>
     requires { indent < 2 ^ 63 }
     ensures { Gives (λ (_ : Unit {0}). string_bytes out.new) result (behind (string_bytes out.old) (block_scalar folds indent text.now body.now)) }
 {

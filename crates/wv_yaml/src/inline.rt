@@ -15,7 +15,9 @@ use crate::flow::flow_of;
 use crate::line::Line;
 use crate::plain::{cut_len, is_plain_start, push_chars, push_plain};
 use crate::quoted::push_quoted;
-use crate::scan::{does_begin_with, from_place, gap_len, is_empty_line, is_parted, len_without_end, to_place};
+use crate::scan::{
+    does_begin_with, from_place, gap_len, is_empty_line, is_parted, len_without_end, to_place,
+};
 use crate::tokens::{is_quote_char, is_quoted_start, is_short, read_tokens};
 use crate::tree::Tree;
 use std::alloc::{AllocError, Global};
@@ -89,11 +91,20 @@ pub fn key_of(alloc: Global, text: &[char]) -> Result<(Text, usize), YamlFault>
 fn break_char(column: usize, line: &Line<'_>) -> char
     ensures { result ≡ break_before column line.now }
 {
-    if is_empty_line(line) || column <= line.indent() { '\n' } else { '\r' }
+    if is_empty_line(line) || column <= line.indent() {
+        '\n'
+    } else {
+        '\r'
+    }
 }
 
 /// The text of a value that may go on over lines which are indented by a column or more.
-pub fn joined_text(alloc: Global, column: usize, text: &[char], body: &[Line<'_>]) -> Result<Vec<char>, AllocError>
+pub fn joined_text(
+    alloc: Global,
+    column: usize,
+    text: &[char],
+    body: &[Line<'_>],
+) -> Result<Vec<char>, AllocError>
     ensures { IfOk result (λ v. v.items ≡ joined column text.now body.now) }
 {
     let mut all = Vec::from_slice(alloc, text)?;
@@ -116,7 +127,12 @@ fn is_silent_text(alloc: Global, text: &[char]) -> Result<bool, YamlFault>
 }
 
 /// Appends a quoted scalar with nothing behind it. Its text follows the opening quote.
-fn push_quoted_alone(alloc: Global, out: &mut String, is_double: bool, text: &[char]) -> Result<(), YamlFault>
+fn push_quoted_alone(
+    alloc: Global,
+    out: &mut String,
+    is_double: bool,
+    text: &[char],
+) -> Result<(), YamlFault>
     ensures { Gives (λ (_ : Unit {0}). string_bytes out.new) result (behind (string_bytes out.old) (quoted_alone (quoted (step_in is_double) 0) text.now)) }
 {
     let count = push_quoted(out, is_double, text)?;
@@ -127,7 +143,14 @@ fn push_quoted_alone(alloc: Global, out: &mut String, is_double: bool, text: &[c
 }
 
 /// Appends the scalar that begins with a text behind an indicator, and goes on over the lines of the body.
-fn push_scalar(alloc: Global, out: &mut String, is_here: bool, indent: usize, text: &[char], body: &[Line<'_>]) -> Result<(), YamlFault>
+fn push_scalar(
+    alloc: Global,
+    out: &mut String,
+    is_here: bool,
+    indent: usize,
+    text: &[char],
+    body: &[Line<'_>],
+) -> Result<(), YamlFault>
     requires { indent < 2 ^ 63 }
     ensures { Gives (λ (_ : Unit {0}). string_bytes out.new) result (behind (string_bytes out.old) (scalar is_here indent text.now body.now)) }
 {
@@ -167,7 +190,14 @@ pub fn flow_text_of(alloc: Global, depth: usize, text: &[char]) -> Result<Tree, 
 }
 
 /// The scalar or flow collection that begins with a text behind an indicator, and goes on over the lines of the body.
-pub fn inline_of(alloc: Global, depth: usize, is_here: bool, indent: usize, text: &[char], body: &[Line<'_>]) -> Result<Tree, YamlFault>
+pub fn inline_of(
+    alloc: Global,
+    depth: usize,
+    is_here: bool,
+    indent: usize,
+    text: &[char],
+    body: &[Line<'_>],
+) -> Result<Tree, YamlFault>
     requires depth { depth < 2 ^ 32 }
     requires indent { indent < 2 ^ 63 }
     ensures { Gives (λ (t : Tree). t) result (inline depth is_here indent text.now body.now) }

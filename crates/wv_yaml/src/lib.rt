@@ -22,3 +22,6 @@ pub use fault::YamlFault;
 pub use quoting::quote;
 pub use tree::{Pair, Tree};
 pub use writing::write;
+
+#[cfg(test)]
+mod tests;

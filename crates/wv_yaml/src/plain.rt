@@ -8,7 +8,10 @@ ghost use Rattle.wv_yaml.specs.Gives.{Gives, behind};
 
 use crate::fault::YamlFault;
 use crate::line::Line;
-use crate::scan::{are_quiet, from_place, is_blank, is_nothing, is_parted, len_without_end, lines_from, to_place, without_gap};
+use crate::scan::{
+    are_quiet, from_place, is_blank, is_nothing, is_parted, len_without_end, lines_from, to_place,
+    without_gap,
+};
 use std::alloc::AllocError;
 
 pub fn is_flow_sign(c: char) -> bool
@@ -37,13 +40,21 @@ fn is_sign_char(c: char) -> bool
 fn is_flow_parted(text: &[char]) -> bool
     ensures { result ≡ flow_parted text.now }
 {
-    text.is_empty() || is_blank(text[0]) || text[0] == '\n' || text[0] == '\r' || is_flow_sign(text[0])
+    text.is_empty()
+        || is_blank(text[0])
+        || text[0] == '\n'
+        || text[0] == '\r'
+        || is_flow_sign(text[0])
 }
 
 fn is_parted_in(is_flow: bool, text: &[char]) -> bool
     ensures { result ≡ parted_in is_flow text.now }
 {
-    if is_flow { is_flow_parted(text) } else { is_parted(text) }
+    if is_flow {
+        is_flow_parted(text)
+    } else {
+        is_parted(text)
+    }
 }
 
 /// Whether a plain scalar begins with a text, in flow or in block context.
@@ -54,14 +65,19 @@ pub fn is_plain_start(is_flow: bool, text: &[char]) -> bool
         return false;
     }
     let c = text[0];
-    let is_indicator = (c == '-' || c == '?' || c == ':') && is_parted_in(is_flow, from_place(text, 1));
+    let is_indicator = (c == '-' || c == '?' || c == ':')
+        && is_parted_in(is_flow, from_place(text, 1));
     !(is_sign_char(c) || is_blank(c)) && !is_indicator
 }
 
 fn does_stop_flow(is_behind: bool, c: char, rest: &[char]) -> bool
     ensures { result ≡ stops_in true is_behind c rest.now }
 {
-    c == '\n' || c == '\r' || is_flow_sign(c) || (c == ':' && is_flow_parted(rest)) || (c == '#' && is_behind)
+    c == '\n'
+        || c == '\r'
+        || is_flow_sign(c)
+        || (c == ':' && is_flow_parted(rest))
+        || (c == '#' && is_behind)
 }
 
 fn does_stop(is_flow: bool, is_behind: bool, c: char, rest: &[char]) -> bool
@@ -169,7 +185,12 @@ fn push_continued(out: &mut String, indent: usize, lines: &[Line<'_>]) -> Result
 }
 
 /// Appends a plain scalar behind an indicator, with what the lines behind it add to it.
-pub fn push_plain(out: &mut String, indent: usize, text: &[char], body: &[Line<'_>]) -> Result<(), YamlFault>
+pub fn push_plain(
+    out: &mut String,
+    indent: usize,
+    text: &[char],
+    body: &[Line<'_>],
+) -> Result<(), YamlFault>
     ensures { Gives (λ (_ : Unit {0}). string_bytes out.new) result (behind (string_bytes out.old) (plain_lines indent text.now body.now)) }
 {
     if !is_plain_start(false, text) {

@@ -12,7 +12,9 @@ ghost use Rattle.wv_yaml.specs.Gives.{Gives, with_text};
 use crate::fault::YamlFault;
 use crate::plain::{cut_len, is_flow_sign, is_plain_start, push_chars};
 use crate::quoted::{is_white, push_quoted};
-use crate::scan::{does_begin_with, from_place, gap_len, is_blank, len_without_end, to_place, without_gap};
+use crate::scan::{
+    does_begin_with, from_place, gap_len, is_blank, len_without_end, to_place, without_gap,
+};
 use crate::token::Token;
 use std::alloc::Global;
 use wv_base::Text;
@@ -125,7 +127,12 @@ fn scalar_token(alloc: Global, text: &[char]) -> Result<(Token, usize), YamlFaul
     let count = push_word(&mut out, text)?;
     let rest = from_place(text, count);
     let value = Text::of(alloc, out.as_str())?;
-    if does_make_key(is_quoted_start(text), to_place(text, count), out.as_str(), rest) {
+    if does_make_key(
+        is_quoted_start(text),
+        to_place(text, count),
+        out.as_str(),
+        rest,
+    ) {
         return Ok((Token::Key(value), count + gap_len(rest)));
     }
     Ok((Token::Word(value), count.saturating_sub(1)))
@@ -133,7 +140,12 @@ fn scalar_token(alloc: Global, text: &[char]) -> Result<(Token, usize), YamlFaul
 
 /// Appends the tokens at the front of a text, and says whether it leaves a blank or a line break behind, and how many
 /// characters it has behind its first.
-fn push_token(alloc: Global, out: &mut Vec<Token>, is_behind: bool, text: &[char]) -> Result<(bool, usize), YamlFault>
+fn push_token(
+    alloc: Global,
+    out: &mut Vec<Token>,
+    is_behind: bool,
+    text: &[char],
+) -> Result<(bool, usize), YamlFault>
     requires { 0 < length text.now }
     ensures value { Gives (λ (x : Bool × ℕ). (x, out.new.items)) result (advanced out.old.items (token_step is_behind text.now)) }
     ensures within { IfOk result (λ x. x.1 + 1 ≤ length text.now) }

@@ -61,7 +61,11 @@ fn is_bare_key(key: &[u8]) -> bool
 fn is_bare_count(text: &[u8]) -> bool
     ensures { result ≡ is_count text.now }
 {
-    !text.is_empty() && 49 <= text[0] && text[0] <= 57 && are_decimals(&text[1..]) && text.len() <= 7
+    !text.is_empty()
+        && 49 <= text[0]
+        && text[0] <= 57
+        && are_decimals(&text[1..])
+        && text.len() <= 7
 }
 
 fn bytes_from(bytes: &[u8], at: usize) -> &[u8]
@@ -131,7 +135,11 @@ fn push_indent(out: &mut String, column: usize) -> Result<(), AllocError>
 fn push_lead(out: &mut String, column: usize, is_first: bool) -> Result<(), AllocError>
     ensures { OnOk result (string_bytes out.new ≡ string_bytes out.old ++ lead column is_first) }
 {
-    if is_first { Ok(()) } else { push_indent(out, column) }
+    if is_first {
+        Ok(())
+    } else {
+        push_indent(out, column)
+    }
 }
 
 fn is_inline_tree(tree: &Tree) -> bool
@@ -158,7 +166,14 @@ fn push_after_colon(out: &mut String, column: usize, is_inline: bool) -> Result<
 
 /// Appends a value that begins at a column.
 #[cycle(write)]
-fn write_value(alloc: Global, out: &mut String, column: usize, is_bare: bool, depth: usize, tree: &Tree) -> Result<(), AllocError>
+fn write_value(
+    alloc: Global,
+    out: &mut String,
+    column: usize,
+    is_bare: bool,
+    depth: usize,
+    tree: &Tree,
+) -> Result<(), AllocError>
     requires fits { Fits depth tree.now }
     requires room { column + 2 * depth < 2 ^ 32 }
     ensures { OnOk result (string_bytes out.new ≡ string_bytes out.old ++ form column is_bare tree.now) }
@@ -187,7 +202,13 @@ fn write_value(alloc: Global, out: &mut String, column: usize, is_bare: bool, de
 }
 
 #[cycle(write)]
-fn write_items(alloc: Global, out: &mut String, column: usize, depth: usize, items: &[Tree]) -> Result<(), AllocError>
+fn write_items(
+    alloc: Global,
+    out: &mut String,
+    column: usize,
+    depth: usize,
+    items: &[Tree],
+) -> Result<(), AllocError>
     requires fit { AllByRecursion (λ t. Fits depth t) items.now }
     requires room { column + 2 * depth + 2 < 2 ^ 32 }
     ensures { OnOk result (string_bytes out.new ≡ string_bytes out.old ++ items_bytes column true items.now) }
@@ -203,7 +224,13 @@ fn write_items(alloc: Global, out: &mut String, column: usize, depth: usize, ite
 }
 
 #[cycle(write)]
-fn write_pairs(alloc: Global, out: &mut String, column: usize, depth: usize, pairs: &[Pair]) -> Result<(), AllocError>
+fn write_pairs(
+    alloc: Global,
+    out: &mut String,
+    column: usize,
+    depth: usize,
+    pairs: &[Pair],
+) -> Result<(), AllocError>
     requires fit { AllByRecursion (λ p. PairFits depth p) pairs.now }
     requires room { column + 2 * depth + 2 < 2 ^ 32 }
     ensures { OnOk result (string_bytes out.new ≡ string_bytes out.old ++ pairs_bytes column true pairs.now) }
@@ -214,7 +241,14 @@ fn write_pairs(alloc: Global, out: &mut String, column: usize, depth: usize, pai
         push_key(alloc, out, pair.key.as_str())?;
         out.push_str(":")?;
         push_after_colon(out, column + 2, is_inline_tree(&pair.value))?;
-        write_value(alloc, out, column + 2, is_place_key(pair.key.as_str().as_bytes()), depth, &pair.value)?;
+        write_value(
+            alloc,
+            out,
+            column + 2,
+            is_place_key(pair.key.as_str().as_bytes()),
+            depth,
+            &pair.value,
+        )?;
         is_first = false;
     }
     Ok(())

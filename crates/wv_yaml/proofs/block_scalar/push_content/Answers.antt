@@ -16,8 +16,8 @@ loop-line-preserved c =
     let text_is : (row_in column l).0 ≡ text = row_text column l ∙ ap (λ n. indented n (text_in column l)) (sym c.extra_spaces-extra.ensures) ∙ ap (indented c.extra_spaces-extra.result) (sym c.row_text-text.ensures) in
     let h : c.break_count-has_break.result ≡ (if (row_in column l).1 then 1 else 0) = c.break_count-has_break.ensures.value ∙ ap (λ (b : Bool). if b then 1 else 0) (sym (row_break column l)) in
     let here : drop c.loop-line.line-index c.args.lines.now ≡ l ∷ rest =
-        drop-cons c.args.lines.now c.loop-line.line-index l c.loop-line-test.true ∙ ap (λ x. x ∷ drop (suc c.loop-line.line-index) c.args.lines.now) (sym c.line-item.is)
-        ∙ ap (λ i. l ∷ drop i c.args.lines.now) (sym (add-one c.loop-line.line-index)) in
+    drop-cons c.args.lines.now c.loop-line.line-index l c.loop-line-test.true ∙ ap (λ x. x ∷ drop (suc c.loop-line.line-index) c.args.lines.now) (sym c.line-item.is)
+    ∙ ap (λ i. l ∷ drop i c.args.lines.now) (sym (add-one c.loop-line.line-index)) in
     record {
       few = omega (arith, c.break_count-has_break.ensures.few);
       same = content_on c.args.header.folds c.args.header.chomp c.loop-line.before c.loop-line.breaks c.break_count-has_break.result c.does_row_begin_blank-is_blank_row.result (row_in column l) (map (row_in column) rest) text

@@ -23,13 +23,13 @@ flow_of-returns-else-not-is_closed t c =
     let P : Option Tree → Type 0 = λ o. Gives (λ (u : Tree). u) c.flow_list.result o in
     let lt : 0 < length c.args.tokens.now = some_left (length c.args.tokens.now) (sym c.is_empty.ensures ∙ c.if-is_empty.false) in
     subst P (sym (flow_list_is c.args.depth c.args.tokens.now c.tokens_from-rest.result.now c.tokens_to.result.now (omega arith)
-        (opens_with c.args.tokens.now c.tokens_from-rest.result.now c.index-tokens-0.result _ lt c.index-tokens-0.is c.tokens_from-rest.ensures c.in-OpenList.is)
-        (c.if-not-is_closed.ensures.closed refl ∙ ap Some (sym c.tokens_to.ensures)))) c.flow_list.ensures
+    (opens_with c.args.tokens.now c.tokens_from-rest.result.now c.index-tokens-0.result _ lt c.index-tokens-0.is c.tokens_from-rest.ensures c.in-OpenList.is)
+    (c.if-not-is_closed.ensures.closed refl ∙ ap Some (sym c.tokens_to.ensures)))) c.flow_list.ensures
 
 pub flow_of-returns-else-not-is_closed-2 : goal.flow_of-returns-else-not-is_closed-2
 flow_of-returns-else-not-is_closed-2 t c =
     let P : Option Tree → Type 0 = λ o. Gives (λ (u : Tree). u) c.flow_map.result o in
     let lt : 0 < length c.args.tokens.now = some_left (length c.args.tokens.now) (sym c.is_empty.ensures ∙ c.if-is_empty.false) in
     subst P (sym (flow_map_is c.args.depth c.args.tokens.now c.tokens_from-rest.result.now c.tokens_to-in-OpenMap.result.now (omega arith)
-        (opens_with c.args.tokens.now c.tokens_from-rest.result.now c.index-tokens-0.result _ lt c.index-tokens-0.is c.tokens_from-rest.ensures c.in-OpenMap.is)
-        (c.if-not-is_closed-2.ensures.closed refl ∙ ap Some (sym c.tokens_to-in-OpenMap.ensures)))) c.flow_map.ensures
+    (opens_with c.args.tokens.now c.tokens_from-rest.result.now c.index-tokens-0.result _ lt c.index-tokens-0.is c.tokens_from-rest.ensures c.in-OpenMap.is)
+    (c.if-not-is_closed-2.ensures.closed refl ∙ ap Some (sym c.tokens_to-in-OpenMap.ensures)))) c.flow_map.ensures

@@ -10,4 +10,4 @@ pub returns-then-does_begin_flow : goal.returns-then-does_begin_flow
 returns-then-does_begin_flow c =
     let P : Option Tree → Type 0 = λ o. Gives (λ (t : Tree). t) c.flow_text_of.result o in
     subst P (ap (flow_text c.args.depth) (c.as_slice.ensures.value ∙ c.in_ok-all.ensures ∙ ap (λ k. joined k c.args.text.now c.args.body.now) (add-one c.args.indent))
-        ∙ sym (cond-true (begins_flow c.args.text.now) _ _ (sym c.does_begin_flow.ensures ∙ c.if-does_begin_flow.true))) c.flow_text_of.ensures
+    ∙ sym (cond-true (begins_flow c.args.text.now) _ _ (sym c.does_begin_flow.ensures ∙ c.if-does_begin_flow.true))) c.flow_text_of.ensures
