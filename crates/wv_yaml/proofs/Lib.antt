@@ -1,0 +1,12 @@
+pub mod Ends
+pub mod Returns
+pub mod LineLaws
+pub mod FoldOut
+pub mod Numbers
+pub mod Quotes
+pub mod Rows
+pub mod TokenSteps
+pub mod FlowSteps
+pub mod TreeRows
+pub mod WriteSteps
+pub mod KeySteps

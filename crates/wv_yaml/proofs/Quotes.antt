@@ -1,0 +1,129 @@
+-- A quoted scalar, step by step.
+use Rattle.std.proofs.Common.{◌≡◌, ℕ, zero, suc, ◌+◌, ◌-◌, ◌<◌, ◌≤◌, List, [], ◌∷◌, ◌++◌, length, take, drop, get_or, Bool, true, false, refl, sym, ap, ◌∙◌, subst, cond, arith, Option, Some, None, append_assoc, append-nil, drop-cons, add-one, ◌==◌, nat_lt}
+use Rattle.std.proofs.lemmas.Bool.{cond-true, cond-false}
+use Rattle.std.proofs.lemmas.Bool.Decides.{nat_tests}
+use Rattle.std.proofs.lemmas.List.{drop-drop}
+use Rattle.std.proofs.lemmas.Str.{encodes-append}
+use lib.Utf8.{encodes}
+use Rattle.wv_yaml.specs.Chunks.{◌>>=◌}
+use Rattle.wv_yaml.specs.Quoted.{quoted, step_in, first_step, on_step, Step, Refused, Closed, Stands, escape, digits_of, if_character, number, if_simple, simple}
+use Rattle.wv_yaml.specs.Gives.{with_text, stepped}
+
+-- a value that is written behind another text, and the characters that it takes besides so many
+abbrev pub with_count : ℕ → List ℕ → Option (List ℕ × ℕ) → Option (List ℕ × ℕ)
+with_count k front None = None
+with_count k front (Some r) = Some (front ++ encodes r.0, k + r.1)
+
+-- so many characters more
+abbrev pub counted : ℕ → Option (List ℕ × ℕ) → Option (List ℕ × ℕ)
+counted k None = None
+counted k (Some r) = Some (r.0, k + r.1)
+
+counted_more : (k : ℕ) (o : Option (List ℕ × ℕ)) → (counted k o >>= λ r. Some (r.0, suc r.1)) ≡ counted (suc k) o
+counted_more k None = refl
+counted_more k (Some r) = let same : suc (k + r.1) ≡ suc k + r.1 = omega arith in ap (λ n. Some (r.0, n)) same
+
+counted_none : (o : Option (List ℕ × ℕ)) → o ≡ counted 0 o
+counted_none None = refl
+counted_none (Some r) = let same : r.1 ≡ 0 + r.1 = omega arith in ap (λ n. Some (r.0, n)) same
+
+-- characters that are passed over
+pub quoted_skip : (step : ℕ → List ℕ → Step) (k : ℕ) (cs : List ℕ) → quoted step k cs ≡ counted k (quoted step 0 (drop k cs))
+quoted_skip step zero [] = refl
+quoted_skip step (suc k) [] = refl
+quoted_skip step zero (c ∷ cs) = counted_none (quoted step 0 (c ∷ cs))
+quoted_skip step (suc k) (c ∷ cs) = ap (λ (o : Option (List ℕ × ℕ)). o >>= λ r. Some (r.0, suc r.1)) (quoted_skip step k cs) ∙ counted_more k (quoted step 0 (drop k cs))
+
+quoted_first : (d : Bool) (text : List ℕ) → 0 < length text → quoted (step_in d) 0 text ≡ on_step (first_step d text) (λ k. quoted (step_in d) k (drop 1 text))
+quoted_first d [] h = absurd (omega arith)
+quoted_first d (c ∷ cs) h = refl
+
+step_on : (at more : ℕ) (out v : List ℕ) (o : Option (List ℕ × ℕ)) →
+    with_count at out (counted more o >>= λ r. Some (v ++ r.0, suc r.1)) ≡ with_count (at + (1 + more)) (out ++ encodes v) o
+step_on at more out v None = refl
+step_on at more out v (Some r) =
+    let n : at + suc (more + r.1) ≡ at + (1 + more) + r.1 = omega arith in
+    let t : out ++ encodes (v ++ r.0) ≡ (out ++ encodes v) ++ encodes r.0 = ap (λ xs. out ++ xs) (encodes-append v r.0) ∙ sym (append_assoc out (encodes v) (encodes r.0)) in
+    ap (λ m. Some (out ++ encodes (v ++ r.0), m)) n ∙ ap (λ xs. Some (xs, at + (1 + more) + r.1)) t
+
+-- the front of the text, by its step
+pub quoted_refused : (d : Bool) (text : List ℕ) → 0 < length text → first_step d text ≡ Refused → quoted (step_in d) 0 text ≡ None
+quoted_refused d text h e = quoted_first d text h ∙ ap (λ s. on_step s (λ k. quoted (step_in d) k (drop 1 text))) e
+
+pub refused_of : (out : List ℕ) (s : Step) → stepped out s ≡ None → s ≡ Refused
+refused_of out Refused e = refl
+refused_of out Closed e = absurd (cc)
+refused_of out (Stands v k) e = absurd (cc)
+
+-- what a step that goes on says, and one that ends
+pub record Goes (out new : List ℕ) (s : Step) (more : ℕ) : Type 0 where
+  pub value : List ℕ
+  pub is : s ≡ Stands value more
+  pub text : new ≡ out ++ encodes value
+
+some_same : {A : Type 0} {x y : A} → Some x ≡ Some y → x ≡ y
+some_same e = cc
+
+pub goes_of : (out new : List ℕ) (s : Step) (more : ℕ) → stepped out s ≡ Some (Some more, new) → Goes out new s more
+goes_of out new Refused more e = absurd (cc)
+goes_of out new Closed more e = let p : (None, out) ≡ (Some more, new) = some_same e in let q : None ≡ Some more = ap (λ (r : Option ℕ × List ℕ). r.0) p in absurd (cc)
+goes_of out new (Stands v k) more e =
+    let p : (Some k, out ++ encodes v) ≡ (Some more, new) = some_same e in
+    let q : Some k ≡ Some more = ap (λ (r : Option ℕ × List ℕ). r.0) p in
+    record { value = v; is = ap (Stands v) (some_same q); text = sym (ap (λ (r : Option ℕ × List ℕ). r.1) p) }
+
+pub record Ends (out new : List ℕ) (s : Step) : Type 0 where
+  pub is : s ≡ Closed
+  pub text : new ≡ out
+
+pub ends_of : (out new : List ℕ) (s : Step) → stepped out s ≡ Some (None, new) → Ends out new s
+ends_of out new Refused e = absurd (cc)
+ends_of out new Closed e = let p : (None, out) ≡ (None, new) = some_same e in record { is = refl; text = sym (ap (λ (r : Option ℕ × List ℕ). r.1) p) }
+ends_of out new (Stands v k) e =
+    let p : (Some k, out ++ encodes v) ≡ (None, new) = some_same e in let q : Some k ≡ None = ap (λ (r : Option ℕ × List ℕ). r.0) p in absurd (cc)
+
+-- the loop's step: `front` is the text from its place on
+pub quoted_on : (d : Bool) (text front : List ℕ) (at more : ℕ) (out new : List ℕ) → front ≡ drop at text → 0 < length front →
+    stepped out (first_step d front) ≡ Some (Some more, new) →
+    with_count (at + (1 + more)) new (quoted (step_in d) 0 (drop (at + (1 + more)) text)) ≡ with_count at out (quoted (step_in d) 0 (drop at text))
+quoted_on d text front at more out new f h e =
+    let g = goes_of out new (first_step d front) more e in
+    let further : drop more (drop 1 front) ≡ drop (at + (1 + more)) text =
+    drop-drop more 1 front ∙ ap (drop (1 + more)) f ∙ drop-drop (1 + more) at text in
+    ap (λ xs. with_count (at + (1 + more)) xs (quoted (step_in d) 0 (drop (at + (1 + more)) text))) g.text
+    ∙ sym (step_on at more out g.value (quoted (step_in d) 0 (drop (at + (1 + more)) text)))
+    ∙ ap (λ (o : Option (List ℕ × ℕ)). with_count at out (o >>= λ r. Some (g.value ++ r.0, suc r.1)))
+    (ap (λ xs. counted more (quoted (step_in d) 0 xs)) (sym further) ∙ sym (quoted_skip (step_in d) more (drop 1 front)))
+    ∙ ap (λ s. with_count at out (on_step s (λ k. quoted (step_in d) k (drop 1 front)))) (sym g.is)
+    ∙ ap (with_count at out) (sym (quoted_first d front h) ∙ ap (quoted (step_in d) 0) f)
+
+pub quoted_end : (d : Bool) (text front : List ℕ) (at : ℕ) (out new : List ℕ) → front ≡ drop at text → 0 < length front →
+    stepped out (first_step d front) ≡ Some (None, new) → with_count at out (quoted (step_in d) 0 (drop at text)) ≡ Some (new, at + 1)
+quoted_end d text front at out new f h e =
+    let g = ends_of out new (first_step d front) e in
+    let nil : out ++ [] ≡ new = append-nil out ∙ sym g.text in
+    ap (with_count at out) (ap (quoted (step_in d) 0) (sym f) ∙ quoted_first d front h ∙ ap (λ s. on_step s (λ k. quoted (step_in d) k (drop 1 front))) g.is)
+    ∙ ap (λ xs. Some (xs, at + 1)) nil
+
+pub quoted_none : (d : Bool) (text front : List ℕ) (at : ℕ) (out : List ℕ) → front ≡ drop at text → 0 < length front →
+    stepped out (first_step d front) ≡ None → with_count at out (quoted (step_in d) 0 (drop at text)) ≡ None
+quoted_none d text front at out f h e =
+    ap (with_count at out) (ap (quoted (step_in d) 0) (sym f) ∙ quoted_refused d front h (refused_of out (first_step d front) e))
+
+pub first_count : (o : Option (List ℕ × ℕ)) (out : List ℕ) → with_count 0 out o ≡ with_text out o
+first_count None out = refl
+first_count (Some r) out = let same : 0 + r.1 ≡ r.1 = omega arith in ap (λ n. Some (out ++ encodes r.0, n)) same
+
+-- escapes
+pub escape_number : (text cs : List ℕ) (e count : ℕ) → text ≡ e ∷ cs → (e == 10) ≡ false → count ≡ digits_of e → 0 < count → escape text ≡ if_character (number count 0 cs) (count + 1)
+escape_number text cs e count t h k lt =
+    let some : (digits_of e == 0) ≡ false = ap (λ n. n == 0) (sym k) ∙ grind (arith, nat_tests) in
+    ap escape t ∙ cond-false (e == 10) _ _ h ∙ cond-false (digits_of e == 0) _ _ some ∙ ap (λ n. if_character (number n 0 cs) (suc n)) (sym k) ∙ ap (if_character (number count 0 cs)) (sym (add-one count))
+
+pub escape_simple : (text cs : List ℕ) (e count : ℕ) → text ≡ e ∷ cs → (e == 10) ≡ false → count ≡ digits_of e → count ≤ 0 → escape text ≡ if_simple (simple e)
+escape_simple text cs e count t h k lt =
+    let none : (digits_of e == 0) ≡ true = ap (λ n. n == 0) (sym k) ∙ grind (arith, nat_tests) in
+    ap escape t ∙ cond-false (e == 10) _ _ h ∙ cond-true (digits_of e == 0) _ _ none
+
+pub first_is : (text : List ℕ) (c : ℕ) → 0 < length text → c ≡ get_or text 0 c → text ≡ c ∷ drop 1 text
+first_is text c h is = drop-cons text 0 c h ∙ ap (λ x. x ∷ drop 1 text) (sym is)

@@ -1,0 +1,14 @@
+use Rattle.std.proofs.Common.{◌≡◌, ◌≤◌, ◌<◌, ◌-◌, ◌^◌, length, drop, ℕ}
+use Rattle.wv_yaml.specs.Quoted.{number}
+use Rattle.wv_yaml.proofs.quoted.hex_number.Given as goal
+
+abbrev pub invariant-loop-at : goal.invariant-loop-at
+invariant-loop-at l = record {
+  within : l.at ≤ length l.text;
+  few : l.at ≤ l.count;
+  small : l.value < 16 ^ l.at;
+  rest : number (l.count - l.at) l.value (drop l.at l.text) ≡ number l.count 0 l.text;
+}
+
+abbrev pub decreases-loop-at : goal.decreases-loop-at
+decreases-loop-at l = l.count - l.at

@@ -1,0 +1,10 @@
+use Rattle.std.proofs.Common.{◌≡◌, ◌++◌, ℕ, []}
+use Rattle.std.specs.String.{string_bytes}
+use Rattle.wv_yaml.specs.Marks.{indented}
+use Rattle.wv_yaml.proofs.writing.push_indent.Given as goal
+
+abbrev pub invariant-loop-left : goal.invariant-loop-left
+invariant-loop-left l = string_bytes l.out ++ indented l.left [] ≡ string_bytes l.fn.out ++ indented l.column []
+
+abbrev pub decreases-loop-left : goal.decreases-loop-left
+decreases-loop-left l = l.left

@@ -1,0 +1,52 @@
+ghost use Rattle.std.specs.Prelude.{◌≡◌};
+ghost use Rattle.wv_yaml.specs.Line.{line_at};
+
+use std::marker::Model;
+
+/// One line of a document: how many spaces it begins with, the characters behind them, and whether a line break ends it.
+#[derive(Drop)]
+pub struct Line<'a> {
+    spaces: usize,
+    rest: &'a [char],
+    has_break: bool,
+}
+
+impl<'a> Model for Line<'a> {
+    ghost use Rattle.wv_yaml.specs.Line.{Line as SourceLine, line_at, coded_line};
+
+    ghost Value = { SourceLine };
+
+    ghost coded = { coded_line };
+
+    ghost view = { λ l. line_at l.spaces l.rest.now l.has_break };
+}
+
+impl<'a> Line<'a> {
+    pub fn new(indent: usize, text: &'a [char], ended: bool) -> Line<'a>
+        ensures { result ≡ line_at indent text.now ended }
+    {
+        Line {
+            spaces: indent,
+            rest: text,
+            has_break: ended,
+        }
+    }
+
+    pub fn indent(&self) -> usize
+        ensures { result ≡ self.now.indent }
+    {
+        self.spaces
+    }
+
+    pub fn text(&self) -> &'a [char]
+        ensures { result.now ≡ self.now.text }
+    {
+        self.rest
+    }
+
+    pub fn is_ended(&self) -> bool
+        ensures { result ≡ self.now.ended }
+    {
+        self.has_break
+    }
+}
