@@ -13,8 +13,5 @@ pub mod StatementSteps
 pub mod PlaceSteps
 pub mod ProgramSteps
 pub mod ThinTracked
-<<<<<<< HEAD
 pub mod AimSteps
 pub mod JudgedTask
-=======
->>>>>>> origin/main
