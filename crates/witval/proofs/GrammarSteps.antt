@@ -1,5 +1,5 @@
 -- Phrases at the front of tokens.
-use Rattle.std.proofs.Common.{◌≡◌, ℕ, ◌+◌, ◌-◌, ◌*◌, ◌<◌, ◌≤◌, zero, suc, List, [], ◌∷◌, length, take, drop, get_or, if◌then◌else◌, Option, Some, None, IfSome, Bool, true, false, ◌&&◌, ◌||◌, refl, sym, ◌∙◌, ap, subst, arith, add-one, drop-cons}
+use Rattle.std.proofs.Common.{◌≡◌, ℕ, ◌+◌, ◌-◌, ◌<◌, ◌≤◌, zero, suc, List, [], ◌∷◌, length, take, drop, get_or, None, IfSome, Bool, true, false, ◌&&◌, ◌||◌, refl, sym, ◌∙◌, ap, arith, add-one, drop-cons}
 use Rattle.std.proofs.lemmas.List.{take_rest}
 use Rattle.std.specs.Str.{bytes_eq}
 use Rattle.std.specs.Bool.{then_some}

@@ -1,14 +1,13 @@
 -- The reply to the bytes read is the reply that the files call for.
-use Rattle.std.proofs.Common.{◌≡◌, Result, Ok, Err, IfOk, ℕ, List, [], Option, Some, None, IfSome, false, refl, ap, sym, subst, inl}
+use Rattle.std.proofs.Common.{◌≡◌, Result, Ok, Err, IfOk, ℕ, List, [], Option, Some, None, IfSome, false, ap, sym, subst, inl}
 use Rattle.std.specs.Str.{bytes_eq}
 use Rattle.wv_base.specs.Shelf.{ShelfState, Files}
 use Rattle.wv_report.specs.declared.reply.Reply.{Reply}
 use Rattle.wv_report.specs.declared.reply.Reply.TheVariants.{Verdict as Judged, Refused, ReadFault}
 use Rattle.witval.specs.Words.{Command}
-use Rattle.witval.specs.Inputs.{OfFiles, AreInputs, first_too_long}
-use Rattle.witval.specs.Tasks.{Task, Unbuilt, Violation, RightOn, task_of, unbuilt}
-use Rattle.witval.specs.Replies.{RightAfter, RightOnBytes, RightFor, too_long}
-use Rattle.witval.specs.declared.input.File.{File}
+use Rattle.witval.specs.Inputs.{OfFiles, AreInputs}
+use Rattle.witval.specs.Tasks.{Task, Unbuilt, Violation, RightOn, task_of}
+use Rattle.witval.specs.Replies.{RightOnBytes, RightFor, too_long}
 use Rattle.witval.specs.declared.input.Inputs.{Inputs}
 
 code_of : Reply → List ℕ

@@ -1,5 +1,5 @@
 -- Declared names, one after another.
-use Rattle.std.proofs.Common.{◌≡◌, ℕ, ◌+◌, ◌-◌, ◌<◌, zero, suc, List, [], ◌∷◌, ◌++◌, length, map, Bool, true, false, cond, not, ◌&&◌, Option, Some, None, is_none, is_some, slice_index, nat_eq, ◌⊎◌, inl, inr, if◌then◌else◌, refl, sym, ◌∙◌, ap, subst, arith, add-one, add-zero, zero-add, add-suc}
+use Rattle.std.proofs.Common.{◌≡◌, ℕ, ◌+◌, ◌-◌, ◌<◌, zero, suc, List, [], ◌∷◌, ◌++◌, length, map, Bool, true, false, cond, not, ◌&&◌, Option, Some, None, is_none, is_some, slice_index, nat_eq, ◌⊎◌, inl, inr, if◌then◌else◌, refl, sym, ◌∙◌, ap, arith, add-one, add-zero, zero-add}
 use Rattle.std.specs.List.{list_all, range_with_len}
 use Rattle.std.specs.Map.{update}
 use Rattle.std.specs.Str.{IsAscii, IsUtf8, bytes_eq}

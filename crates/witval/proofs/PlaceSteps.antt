@@ -1,5 +1,5 @@
 -- The places of a thin program's tree are those of its tokens, in their order.
-use Rattle.std.proofs.Common.{◌≡◌, ℕ, ◌+◌, ◌-◌, ◌*◌, ◌<◌, ◌≤◌, zero, suc, nat_eq, nat_lt, nat_le, leb-true, lt-ltb, eq-eqb, eqb-true, List, [], ◌∷◌, ◌++◌, length, map, drop, get_or, Bool, true, false, ◌&&◌, ◌||◌, ◌⊎◌, inl, inr, if◌then◌else◌, Option, Some, None, IsTrue, refl, sym, ◌∙◌, ap, subst, arith, append_assoc, append-nil, add-one, drop-cons, length-drop}
+use Rattle.std.proofs.Common.{◌≡◌, ℕ, ◌+◌, ◌-◌, ◌<◌, ◌≤◌, zero, suc, nat_eq, nat_lt, nat_le, leb-true, lt-ltb, eq-eqb, List, [], ◌∷◌, ◌++◌, length, map, drop, Bool, true, false, ◌&&◌, if◌then◌else◌, Some, refl, sym, ◌∙◌, ap, subst, arith, append_assoc, append-nil, add-one, drop-cons, length-drop}
 use Rattle.std.proofs.Math.Bool.{or-true}
 use Rattle.std.proofs.lemmas.List.{drop-map}
 use Rattle.std.proofs.lemmas.List.FromFn.{length-map-range_with_len}
@@ -7,15 +7,14 @@ use Rattle.std.specs.Bool.{then_some}
 use Rattle.std.specs.List.{list_all, range_with_len}
 use Rattle.c_core.specs.Tree as t
 use Rattle.c_core.specs.Parts.{spots_of_names, names_of_program, names_in_block}
-use Rattle.c_core.specs.Program.{places_rise}
 use Rattle.c_core.specs.Thin.{IsPlaced}
 use Rattle.c_core.specs.TextOrder.{is_before, is_before_first, rises, spots_of_block, spots_of_functions, spots_of_objects}
-use Rattle.c_core.proofs.TextOrderLaws.{IsPart, ends, skips, takes, part_none, is_before-then, rises-part, whole-same}
+use Rattle.c_core.proofs.TextOrderLaws.{IsPart, skips, takes, part_none, is_before-then, rises-part, whole-same}
 use Rattle.c_core.specs.declared.number.Spot.{Spot}
 use Rattle.witval.specs.declared.thin.grammar.Layout.{Layout}
 use Rattle.witval.specs.declared.thin.grammar.Phrase.TheVariants.{Opening, Declaration, Test, Closing}
-use Rattle.witval.specs.ThinTokens.{TokenAt, behind, first_token, is_blank, right, token_length, tokens_from, tokens_of}
-use Rattle.witval.specs.ThinGrammar.{declaration_start, is_consistent, is_whole, layout_of, most_declarations, names_fit, names_of, no_token, spells, spot_at, test_start, tests_fit, times, tokens_in}
+use Rattle.witval.specs.ThinTokens.{TokenAt, behind, is_blank, right, token_length, tokens_from, tokens_of}
+use Rattle.witval.specs.ThinGrammar.{declaration_start, is_consistent, is_whole, layout_of, most_declarations, no_token, spells, spot_at, test_start, times, tokens_in}
 use Rattle.witval.specs.ThinObjects.{object_at, objects_of}
 use Rattle.witval.specs.ThinProgram.{block_of, declaration_of, program_tree, return_tree, statements_of, test_of}
 use Rattle.witval.proofs.GrammarSteps.{both_left, both_right, length-tokens_in, spells-length}

@@ -1,5 +1,5 @@
 -- The tree of a thin program, from its parts in memory.
-use Rattle.std.proofs.Common.{◌≡◌, ℕ, List, [], ◌∷◌, ◌++◌, map, true, ◌≤◌, nat_le, le-leb, Option, Some, None, refl, sym, ◌∙◌, ap}
+use Rattle.std.proofs.Common.{◌≡◌, ℕ, List, [], ◌∷◌, ◌++◌, map, true, ◌≤◌, nat_le, le-leb, Option, Some, refl, sym, ◌∙◌, ap}
 use Rattle.std.proofs.lemmas.List.{map-append}
 use Rattle.std.specs.List.{range_with_len}
 use Rattle.c_core.specs.Tree as t
@@ -18,7 +18,7 @@ use Rattle.witval.specs.declared.thin.grammar.Layout.{Layout}
 use Rattle.witval.specs.ThinTokens.{TokenAt, tokens_of}
 use Rattle.witval.specs.ThinGrammar.{is_consistent, layout_of, most_declarations, names_fit, names_of, spot_at, test_start, tests_fit}
 use Rattle.witval.specs.ThinObjects.{objects_of}
-use Rattle.witval.specs.ThinProgram.{block_of, body_tree, declaration_of, main_tree, program_if, program_tree, return_tree, statements_of, test_of, thin_program}
+use Rattle.witval.specs.ThinProgram.{block_of, declaration_of, main_tree, program_if, program_tree, return_tree, statements_of, test_of, thin_program}
 
 -- declarations, tests and the last statement are all statements
 pub statements-are : (ts : List TokenAt) (layout : Layout) (start declared tested all : List Stmt) (end : Stmt) → start ≡ [] →

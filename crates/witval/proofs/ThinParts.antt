@@ -1,5 +1,5 @@
 -- The free parts of a text, from a character of the template on.
-use Rattle.std.proofs.Common.{◌≡◌, ℕ, ◌+◌, ◌<◌, ◌≤◌, List, [], ◌∷◌, ◌++◌, length, take, drop, get_or, Bool, true, false, nat_eq, refl, sym, ◌∙◌, ap, subst, arith, add-one, drop-cons, Option, Some, None, append_assoc}
+use Rattle.std.proofs.Common.{◌≡◌, ℕ, ◌+◌, ◌<◌, List, [], ◌∷◌, ◌++◌, length, drop, get_or, true, false, refl, sym, ◌∙◌, ap, subst, add-one, drop-cons, Option, Some, None, append_assoc}
 use Rattle.std.specs.Option.{option_map}
 use Rattle.witval.specs.declared.thin.witness.Free.{Free}
 use Rattle.witval.specs.ThinWitness.{filled, fits, free_of, front_of, parts_of}

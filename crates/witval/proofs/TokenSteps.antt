@@ -1,7 +1,7 @@
 -- The tokens of a text, from its front on.
-use Rattle.std.proofs.Common.{◌≡◌, ℕ, ◌+◌, ◌-◌, ◌<◌, ◌≤◌, zero, suc, List, [], ◌∷◌, ◌++◌, length, take, drop, get_or, if◌then◌else◌, Bool, true, false, nat_eq, refl, sym, ◌∙◌, ap, subst, arith, append_assoc}
+use Rattle.std.proofs.Common.{◌≡◌, ℕ, ◌+◌, ◌-◌, ◌<◌, ◌≤◌, zero, suc, List, [], ◌∷◌, ◌++◌, length, take, drop, get_or, if◌then◌else◌, Bool, false, nat_eq, refl, sym, ◌∙◌, ap, arith, append_assoc}
 use Rattle.c_core.specs.declared.number.Spot.{Spot}
-use Rattle.witval.specs.ThinTokens.{TokenAt, behind, first_token, is_blank, right, token_length, tokens_from}
+use Rattle.witval.specs.ThinTokens.{TokenAt, behind, is_blank, right, token_length, tokens_from}
 
 -- characters that belong to a token before them are passed over
 tokens_from-skip : (left : ℕ) (at : Spot) (bytes : List ℕ) → left ≤ length bytes → tokens_from at left bytes ≡ tokens_from (right at left) 0 (drop left bytes)

@@ -1,5 +1,5 @@
 -- The tree of a thin program has the shape of one.
-use Rattle.std.proofs.Common.{◌≡◌, ℕ, ◌+◌, ◌<◌, ◌≤◌, zero, suc, nat_lt, nat_le, lt-ltb, eq-eqb, List, [], ◌∷◌, ◌++◌, length, map, Bool, true, false, ◌&&◌, ◌⊎◌, inl, inr, if◌then◌else◌, Option, Some, None, is_some, unwrap_or, refl, sym, ◌∙◌, ap, arith, append_assoc, add-one}
+use Rattle.std.proofs.Common.{◌≡◌, ℕ, ◌+◌, ◌<◌, zero, suc, nat_lt, nat_le, lt-ltb, eq-eqb, List, [], ◌∷◌, ◌++◌, length, map, Bool, true, false, ◌&&◌, inl, inr, if◌then◌else◌, Some, None, is_some, unwrap_or, refl, sym, ◌∙◌, ap, arith, append_assoc, add-one}
 use Rattle.std.specs.List.{list_all, range_with_len}
 use Rattle.std.specs.Str.{bytes_eq}
 use Rattle.std.proofs.lemmas.List.FromFn.{length-map-range_with_len}

@@ -1,11 +1,11 @@
 -- Which reply is right.
-use Rattle.std.specs.Prelude.{◌≡◌, ℕ, List, [], ◌⊎◌, false, Option, Some, None, codes}
+use Rattle.std.specs.Prelude.{◌≡◌, ℕ, List, ◌⊎◌, false, Option, Some, None, codes}
 use Rattle.std.specs.Str.{bytes_eq}
-use Rattle.wv_base.specs.Shelf.{ShelfState, Files}
+use Rattle.wv_base.specs.Shelf.{ShelfState}
 use Rattle.wv_report.specs.declared.reply.Reply.{Reply}
 use Rattle.wv_report.specs.declared.reply.Reply.TheVariants.{Verdict as Judged, Refused, ReadFault}
 use Rattle.witval.specs.Words.{Command}
-use Rattle.witval.specs.Inputs.{OfFiles, Told, Faulted, TookTooMuch, word_of, first_too_long}
+use Rattle.witval.specs.Inputs.{Told, Faulted, TookTooMuch, word_of, first_too_long}
 use Rattle.witval.specs.Tasks.{RightOn, task_of, unbuilt}
 use Rattle.witval.specs.declared.input.File.{File}
 

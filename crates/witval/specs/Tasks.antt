@@ -1,6 +1,5 @@
 -- What three files of allowed length ask for, and the reply that they are owed.
-use Rattle.std.specs.Prelude.{◌≡◌, ℕ, List, [], Bool, true, false, Option, Some, None, if◌then◌else◌, codes}
-use Rattle.std.specs.Str.{bytes_eq}
+use Rattle.std.specs.Prelude.{◌≡◌, ℕ, List, Option, Some, None, if◌then◌else◌, codes}
 use Rattle.c_core.specs.Tree as tree
 use Rattle.c_meaning.specs.declared.verdict.Verdict.{Verdict}
 use Rattle.wv_report.specs.declared.reply.Reply.{Reply}

@@ -1,5 +1,5 @@
 -- Classes of characters, and decimal numbers.
-use Rattle.std.specs.Prelude.{ℕ, ◌+◌, ◌-◌, ◌*◌, zero, suc, List, [], ◌∷◌, length, slice_index, fold, Bool, true, false, ◌&&◌, ◌||◌, not, nat_eq, nat_lt, nat_le, Option, Some, None, if◌then◌else◌}
+use Rattle.std.specs.Prelude.{ℕ, ◌+◌, ◌-◌, ◌*◌, List, length, slice_index, fold, Bool, ◌&&◌, ◌||◌, not, nat_eq, nat_le, Option, Some, None, if◌then◌else◌}
 use Rattle.std.specs.List.{list_all}
 use Rattle.witval.specs.declared.thin.characters.Class.{Class}
 use Rattle.witval.specs.declared.thin.characters.Class.TheVariants.{Plain, Digit, Signed, Word}

@@ -1,6 +1,6 @@
-use Rattle.std.proofs.Common.{rules, ◌≡◌, ℕ, ◌+◌, true, false, ◌≤◌, length}
+use Rattle.std.proofs.Common.{rules, ◌≡◌, true, false, ◌≤◌, length}
 use Rattle.witval.specs.declared.thin.grammar.Phrase.TheVariants.{Opening, Declaration, Test, Closing}
-use Rattle.witval.specs.ThinGrammar.{declaration_start, is_whole, layout_of, spells, test_start, times, tokens_in}
+use Rattle.witval.specs.ThinGrammar.{declaration_start, is_whole, spells, test_start, times, tokens_in}
 use Rattle.witval.proofs.GrammarSteps.{from, layout-opened, layout-unopened, layout-within}
 use Rattle.witval.proofs.thin.grammar.find_layout.Goals as goal
 

@@ -1,6 +1,6 @@
-use Rattle.std.proofs.Common.{rules, ◌≡◌, ℕ, ◌+◌, ◌-◌, ◌*◌, ◌<◌, ◌≤◌, true, length, arith}
+use Rattle.std.proofs.Common.{rules, ◌≡◌, ◌+◌, ◌-◌, ◌<◌, ◌≤◌, true, length, arith}
 use Rattle.std.proofs.lemmas.List.{take_rest}
-use Rattle.witval.specs.ThinGrammar.{spells, times, times_within}
+use Rattle.witval.specs.ThinGrammar.{spells, times}
 use Rattle.witval.proofs.GrammarSteps.{times-counted}
 use Rattle.witval.proofs.thin.grammar.repetitions.Goals as goal
 

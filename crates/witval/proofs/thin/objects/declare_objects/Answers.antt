@@ -1,6 +1,6 @@
-use Rattle.std.proofs.Common.{rules, ◌≡◌, ℕ, ◌+◌, ◌-◌, ◌<◌, true, false, List, [], ◌∷◌, ◌++◌, Option, Some, None, is_some, is_none, sym, ◌∙◌, ap}
+use Rattle.std.proofs.Common.{rules, ◌≡◌, true, false, [], ◌∷◌, ◌++◌, None, is_some, is_none, sym, ◌∙◌, ap}
 use Rattle.witval.specs.ThinGrammar.{is_name, names_of, object_of}
-use Rattle.witval.specs.ThinObjects.{number_in, object_at, objects_of}
+use Rattle.witval.specs.ThinObjects.{number_in, object_at}
 use Rattle.witval.proofs.NameSteps.{name_at, names-again, names-fit, names-unfit, none-where, numbers-more, objects-more, some-where}
 use Rattle.witval.proofs.thin.objects.declare_objects.Goals as goal
 

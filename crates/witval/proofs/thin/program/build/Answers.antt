@@ -1,5 +1,4 @@
 use Rattle.std.proofs.Common.{◌≡◌, ◌∙◌, ap, subst, sym, IsTrue, [], ◌∷◌}
-use Rattle.c_core.specs.Tree as t
 use Rattle.c_core.specs.Program.{IsProgram}
 use Rattle.c_core.specs.Thin.{is_thin}
 use Rattle.c_core.specs.View.{functions_view}

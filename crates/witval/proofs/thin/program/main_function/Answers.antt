@@ -1,4 +1,3 @@
-use Rattle.std.proofs.Common.{◌≡◌}
 use Rattle.witval.proofs.ProgramSteps.{main-is}
 use Rattle.witval.proofs.thin.program.main_function.Goals as goal
 

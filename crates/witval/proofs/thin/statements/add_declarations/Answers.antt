@@ -1,4 +1,4 @@
-use Rattle.std.proofs.Common.{rules, ◌≡◌, List, [], ◌∷◌, ◌++◌, ◌∙◌, ap}
+use Rattle.std.proofs.Common.{rules, ◌≡◌, [], ◌∷◌, ◌++◌, ◌∙◌, ap}
 use Rattle.c_core.specs.View.{stmt_view}
 use Rattle.witval.specs.ThinProgram.{declaration_of, declaration_tree}
 use Rattle.witval.proofs.StatementSteps.{pushed-more}

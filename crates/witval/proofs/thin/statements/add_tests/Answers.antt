@@ -1,4 +1,4 @@
-use Rattle.std.proofs.Common.{rules, ◌≡◌, List, [], ◌∷◌, ◌++◌, ◌∙◌, ap, unwrap_or}
+use Rattle.std.proofs.Common.{rules, ◌≡◌, [], ◌∷◌, ◌++◌, ◌∙◌, ap, unwrap_or}
 use Rattle.c_core.specs.View.{stmt_view}
 use Rattle.witval.specs.ThinGrammar.{test_start}
 use Rattle.witval.specs.ThinProgram.{compared_constant, compared_object, test_of, test_tree}

@@ -1,5 +1,4 @@
-use Rattle.std.proofs.Common.{rules, ◌≡◌, ◌∙◌, ap, sym, true, false, ◌&&◌}
-use Rattle.std.specs.List.{list_all, range_with_len}
+use Rattle.std.proofs.Common.{rules, ◌≡◌, sym, true, false}
 use Rattle.witval.specs.ThinGrammar.{names_of, test_fits}
 use Rattle.witval.proofs.StatementSteps.{list_all-met, list_all-unmet}
 use Rattle.witval.proofs.thin.statements.do_tests_fit.Goals as goal

@@ -1,4 +1,4 @@
-use Rattle.std.proofs.Common.{◌≡◌, ◌+◌, ◌∙◌, ap}
+use Rattle.std.proofs.Common.{◌+◌, ◌∙◌, ap}
 use Rattle.witval.specs.ThinGrammar.{names_of, object_of, text_at}
 use Rattle.witval.proofs.thin.statements.test_object.Goals as goal
 

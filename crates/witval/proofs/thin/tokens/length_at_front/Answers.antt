@@ -1,4 +1,4 @@
-use Rattle.std.proofs.Common.{◌≡◌, ◌≤◌, length, arith}
+use Rattle.std.proofs.Common.{arith}
 use Rattle.std.proofs.lemmas.List.Sums.{prefix_len-le-length}
 use Rattle.witval.specs.declared.thin.characters.Class.TheVariants.{Word}
 use Rattle.witval.specs.ThinCharacters.{in_class}

@@ -1,6 +1,5 @@
-use Rattle.std.proofs.Common.{rules, ◌≡◌, ℕ, ◌+◌, ◌<◌, ◌≤◌, true, false, nat_eq, List, [], ◌∷◌, ◌++◌, length, get_or, take, drop, sym, ap, ◌∙◌, append_assoc, arith}
+use Rattle.std.proofs.Common.{rules, ◌≡◌, ◌<◌, ◌≤◌, false, nat_eq, [], ◌∷◌, ◌++◌, length, get_or, take}
 use Rattle.std.proofs.lemmas.List.{take_rest}
-use Rattle.witval.specs.ThinTokens.{TokenAt, tokens_from, tokens_of}
 use Rattle.witval.proofs.TokenSteps.{tokens_from-token, one_more}
 use Rattle.witval.proofs.thin.tokens.read_tokens.Goals as goal
 

@@ -1,4 +1,4 @@
-use Rattle.std.proofs.Common.{◌≡◌, ◌∙◌, ap, None}
+use Rattle.std.proofs.Common.{◌∙◌, ap, None}
 use Rattle.c_core.specs.Tree as t
 use Rattle.c_core.specs.View.{exprs_view}
 use Rattle.c_core.proofs.View.{view_of_call}

@@ -1,4 +1,4 @@
-use Rattle.std.proofs.Common.{rules, ◌≡◌, ℕ, ◌+◌, ◌<◌, true, List, [], ◌∷◌, ◌++◌, length, get_or, sym, Some}
+use Rattle.std.proofs.Common.{rules, ◌≡◌, true, [], ◌∷◌, ◌++◌, length, get_or, Some}
 use Rattle.std.proofs.lemmas.List.{take_rest}
 use Rattle.witval.specs.ThinWitness.{fits, free_of, front_of}
 use Rattle.witval.proofs.ThinParts.{part_met}

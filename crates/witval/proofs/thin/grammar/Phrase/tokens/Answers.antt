@@ -1,6 +1,3 @@
-use Rattle.std.proofs.Common.{rules, ◌≡◌, List, ℕ, length}
-use Rattle.witval.specs.ThinGrammar.{tokens_in, text_of}
-use Rattle.witval.specs.ThinTokens.{TokenAt, tokens_of}
 use Rattle.witval.proofs.GrammarSteps.{sized, spelled}
 use Rattle.witval.proofs.thin.grammar.Phrase.tokens.Goals as goal
 
