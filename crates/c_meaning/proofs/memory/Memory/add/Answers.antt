@@ -17,4 +17,4 @@ pub returns-in_err-push-clause-within : goal.returns-in_err-push-clause-within
 returns-in_err-push-clause-within c =
     rw (← c.self.view_is, length_cells c.self.inside.cells.items)
     (λ h. let e : vec_len c.self.inside.cells ≡ length c.self.inside.cells.items = search rules in
-        absurd (omega (arith, h, c.in_err-push.ensures.full)))
+    absurd (omega (arith, h, c.in_err-push.ensures.full)))
