@@ -4,14 +4,12 @@
 mod examples;
 mod laws;
 mod memory;
-mod plain;
 mod run;
 mod verdict;
 mod watcher;
 
 pub use laws::replay;
 pub use memory::Memory;
-pub use plain::run_plain;
 pub use run::{
     Choices, Draw, DrawKind, Duty, DutyKind, End, Event, Given, HavocEnd, HavocRun,
     PlacedInvariant, Run,

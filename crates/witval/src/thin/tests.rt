@@ -1,4 +1,6 @@
-use crate::thin::{ThinWitness, is_unreach, read_program, read_witness};
+use crate::thin::program::read_program;
+use crate::thin::property::is_unreach;
+use crate::thin::witness::{ThinWitness, read_witness};
 use c_core::{Form, Init, Node, Program, Spot, Stmt};
 use std::alloc::{AllocError, Global};
 use std::test::Fail;
