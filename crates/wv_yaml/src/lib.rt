@@ -1,5 +1,5 @@
-//! YAML 1.2.2 in a block and flow profile: `read` gives the tree that bytes spell, and refuses exactly what spells none;
-//! `write` gives the canonical text of a tree.
+//! YAML 1.2.2 in a block and flow profile: `write` gives the canonical text of a tree, `quote` that of a scalar. What bytes
+//! spell a tree is defined in `specs/`; the reader of it is proved below block collections and isn't public yet.
 #![tactic(auto)]
 
 mod block_scalar;
