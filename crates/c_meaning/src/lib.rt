@@ -5,6 +5,8 @@ mod examples;
 mod laws;
 mod memory;
 mod run;
+#[cfg(test)]
+mod tests;
 mod verdict;
 mod watcher;
 

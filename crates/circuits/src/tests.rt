@@ -1,5 +1,8 @@
 // Rows whose values come from ISO C11 6.3.1.3 and 6.5, not from the circuits.
-use crate::{Net, add, choose_bits, const_bits, convert_bits};
+use crate::{
+    Gate, Net, add, below, bit_operator, choose_bits, complement, const_bits, convert_bits, differ,
+    subtract, truth_bits,
+};
 use c_core::{DataModel, IntType};
 use std::test::Fail;
 
@@ -58,5 +61,95 @@ fn joins_inputs(rt: HostRuntime) -> Result<(), Fail> {
     assert_eq!(rt; net.inputs(), 2);
     assert!(rt; !net.value(rt.alloc(), both, &[true, false])?);
     assert!(rt; net.value(rt.alloc(), both, &[true, true])?);
+    Ok(())
+}
+
+#[test]
+fn subtracts_below_the_least_int(rt: HostRuntime) -> Result<(), Fail> {
+    let mut net = Net::new(rt.alloc())?;
+    let a = const_bits(rt.alloc(), &net, DataModel::Lp64, IntType::Int, -2147483648)?;
+    let b = const_bits(rt.alloc(), &net, DataModel::Lp64, IntType::Int, 1)?;
+    let rest = subtract(
+        rt.alloc(),
+        &mut net,
+        DataModel::Lp64,
+        IntType::Int,
+        a.bits.as_slice(),
+        b.bits.as_slice(),
+    )?;
+    assert_eq!(rt; net.inputs(), 0);
+    assert!(rt; net.value(rt.alloc(), rest.overflow, &[])?);
+    Ok(())
+}
+
+#[test]
+fn compares_signed_numbers(rt: HostRuntime) -> Result<(), Fail> {
+    let mut net = Net::new(rt.alloc())?;
+    let a = const_bits(rt.alloc(), &net, DataModel::Lp64, IntType::Int, -1)?;
+    let b = const_bits(rt.alloc(), &net, DataModel::Lp64, IntType::Int, 1)?;
+    let is_below = below(
+        rt.alloc(),
+        &mut net,
+        DataModel::Lp64,
+        IntType::Int,
+        a.bits.as_slice(),
+        b.bits.as_slice(),
+    )?;
+    assert_eq!(rt; net.inputs(), 0);
+    assert!(rt; net.value(rt.alloc(), is_below, &[])?);
+    Ok(())
+}
+
+#[test]
+fn equal_numbers_do_not_differ(rt: HostRuntime) -> Result<(), Fail> {
+    let mut net = Net::new(rt.alloc())?;
+    let a = const_bits(rt.alloc(), &net, DataModel::Lp64, IntType::Int, 7)?;
+    let b = const_bits(rt.alloc(), &net, DataModel::Lp64, IntType::Int, 7)?;
+    let are_different = differ(
+        rt.alloc(),
+        &mut net,
+        DataModel::Lp64,
+        IntType::Int,
+        a.bits.as_slice(),
+        b.bits.as_slice(),
+    )?;
+    assert_eq!(rt; net.inputs(), 0);
+    assert!(rt; !net.value(rt.alloc(), are_different, &[])?);
+    Ok(())
+}
+
+#[test]
+fn combines_digits(rt: HostRuntime) -> Result<(), Fail> {
+    let mut net = Net::new(rt.alloc())?;
+    let a = const_bits(rt.alloc(), &net, DataModel::Lp64, IntType::Int, 6)?;
+    let b = const_bits(rt.alloc(), &net, DataModel::Lp64, IntType::Int, 3)?;
+    let out = bit_operator(
+        rt.alloc(),
+        &mut net,
+        DataModel::Lp64,
+        Gate::Xor,
+        IntType::Int,
+        a.bits.as_slice(),
+        b.bits.as_slice(),
+    )?;
+    assert_eq!(rt; out.value.bits.len(), 32);
+    Ok(())
+}
+
+#[test]
+fn complements_digits_and_widens_a_bit(rt: HostRuntime) -> Result<(), Fail> {
+    let net = Net::new(rt.alloc())?;
+    let zero = const_bits(rt.alloc(), &net, DataModel::Lp64, IntType::Int, 0)?;
+    let ones = complement(
+        rt.alloc(),
+        &net,
+        DataModel::Lp64,
+        IntType::Int,
+        zero.bits.as_slice(),
+    )?;
+    assert_eq!(rt; ones.value.bits.len(), 32);
+    let yes = net.yes();
+    let one = truth_bits(rt.alloc(), &net, DataModel::Lp64, yes)?;
+    assert_eq!(rt; one.value.bits.len(), 32);
     Ok(())
 }

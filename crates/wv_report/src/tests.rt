@@ -41,7 +41,7 @@ fn draws(alloc: Global) -> Result<Seq<Draw>, OutOfMemory> {
 }
 
 #[test]
-fn each_verdict_has_its_lines(rt: HostRuntime) -> Result<(), Fail> {
+fn violation_verdicts_have_their_lines(rt: HostRuntime) -> Result<(), Fail> {
     let alloc = rt.alloc();
     let mut positions = Seq::new(alloc);
     positions.push(2u64)?;
@@ -68,6 +68,12 @@ fn each_verdict_has_its_lines(rt: HostRuntime) -> Result<(), Fail> {
         "violation not confirmed\nreason undefined 15:20\nunfixed 3\n",
         1,
     )?;
+    Ok(())
+}
+
+#[test]
+fn correctness_verdicts_have_their_lines(rt: HostRuntime) -> Result<(), Fail> {
+    let alloc = rt.alloc();
     reports(
         &rt,
         alloc,
@@ -92,6 +98,12 @@ fn each_verdict_has_its_lines(rt: HostRuntime) -> Result<(), Fail> {
         "correctness not confirmed\nobligation 2 kept 15:20\n",
         1,
     )?;
+    Ok(())
+}
+
+#[test]
+fn undecided_verdicts_have_one_line(rt: HostRuntime) -> Result<(), Fail> {
+    let alloc = rt.alloc();
     reports(
         &rt,
         alloc,
