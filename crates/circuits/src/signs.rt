@@ -6,9 +6,8 @@ ghost use Rattle.circuits.specs.Numbers.{number, AreIn, Counts};
 ghost use Rattle.circuits.specs.Gates.{negative};
 
 use crate::lists::{choose, difference, flipped, zeros};
-use crate::types::signed;
 use crate::{Bit, Net, not};
-use c_core::IntType;
+use c_core::{IntType, signed};
 use std::alloc::Global;
 use wv_base::OutOfMemory;
 
