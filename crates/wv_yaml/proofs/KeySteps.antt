@@ -1,5 +1,5 @@
 -- Keys, from what the code has read.
-use Rattle.std.proofs.Common.{◌≡◌, ℕ, zero, suc, ◌+◌, ◌-◌, ◌<◌, List, [], ◌∷◌, ◌++◌, length, drop, Bool, true, false, refl, sym, ap, ◌∙◌, cond, Option, Some, None, arith, ◌==◌, ◌&&◌, nat_le}
+use Rattle.std.proofs.Common.{◌≡◌, ℕ, ◌+◌, List, [], ◌∷◌, length, drop, Bool, true, false, refl, sym, ap, ◌∙◌, Option, Some, None, arith, ◌==◌, ◌&&◌, nat_le}
 use Rattle.std.proofs.lemmas.Bool.{cond-true}
 use Rattle.std.proofs.lemmas.List.{drop-drop}
 use Rattle.std.proofs.lemmas.Str.{chars_from_encodes}
@@ -12,7 +12,7 @@ use Rattle.wv_yaml.specs.declared.fault.YamlFault.TheVariants.{Bytes, Grammar, D
 use Rattle.wv_yaml.specs.Chunks.{◌>>=◌, provided}
 use Rattle.wv_yaml.specs.Marks.{begins_with, trimmed, parted, without_end}
 use Rattle.wv_yaml.specs.Plain.{plain_start, cut, stops}
-use Rattle.wv_yaml.specs.Quoted.{quoted, step_in, double_step, single_step}
+use Rattle.wv_yaml.specs.Quoted.{quoted, step_in}
 use Rattle.wv_yaml.specs.Tokens.{max_key, first_quote}
 use Rattle.wv_yaml.specs.Inline.{key, colon, is_colon, quoted_key, plain_key, named}
 use Rattle.wv_yaml.specs.Gives.{with_text, Fails}

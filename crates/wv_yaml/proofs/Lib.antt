@@ -10,3 +10,8 @@ pub mod FlowSteps
 pub mod TreeRows
 pub mod WriteSteps
 pub mod KeySteps
+pub mod Entries
+pub mod Heads
+pub mod RepeatLaws
+pub mod RepeatSteps
+pub mod ReadSteps

@@ -1,5 +1,5 @@
 -- The CR at a line's end.
-use Rattle.std.proofs.Common.{◌≡◌, ℕ, ◌+◌, ◌-◌, ◌<◌, ◌≤◌, List, [], ◌∷◌, ◌++◌, length, take, get_or, Bool, true, false, refl, sym, ap, ◌∙◌, arith, le_refl, ◌==◌}
+use Rattle.std.proofs.Common.{◌≡◌, ℕ, ◌-◌, ◌<◌, List, [], ◌∷◌, ◌++◌, length, take, get_or, false, refl, sym, ap, ◌∙◌, le_refl, ◌==◌}
 use Rattle.std.proofs.lemmas.List.{take_all}
 use Rattle.wv_yaml.specs.Lines.{without_return}
 use Rattle.wv_yaml.proofs.Ends.{take_last}

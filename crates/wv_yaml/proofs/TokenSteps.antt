@@ -1,7 +1,7 @@
 -- Tokens one by one.
 use Rattle.std.proofs.Common.{◌≡◌, ℕ, zero, suc, ◌+◌, ◌-◌, ◌<◌, List, [], ◌∷◌, ◌++◌, length, drop, Bool, true, false, refl, sym, ap, ◌∙◌, cond, append_assoc, Option, Some, None, arith, ◌==◌}
 use Rattle.std.proofs.lemmas.List.{drop-drop}
-use Rattle.std.proofs.Common.{append-nil, take, nat_le, ◌&&◌, if◌then◌else◌}
+use Rattle.std.proofs.Common.{append-nil, take, nat_le, ◌&&◌}
 use Rattle.std.proofs.lemmas.Str.{chars_from_encodes}
 use Rattle.std.specs.Str.{chars, IsUtf8}
 use lib.Utf8.{encodes}

@@ -1,10 +1,9 @@
 -- The items of a list and the pairs of a map, as lists.
-use Rattle.std.proofs.Common.{◌≡◌, ℕ, List, [], ◌∷◌, ◌++◌, refl, sym, ap, ◌∙◌}
-use Rattle.wv_yaml.specs.declared.tree.Tree.{Tree, Text, List', Map', Row_of-Tree, Row_of-Pair, items-the_row-Tree, items-the_row-Pair, items_shown-the_row-Tree-0, items_hidden-the_row-Tree-0, items_shown-the_row-Pair-1, items_hidden-the_row-Pair-1, out-Tree, roll-Tree, roll-out-Tree}
+use Rattle.std.proofs.Common.{◌≡◌, List, [], refl, sym, ap, ◌∙◌}
+use Rattle.wv_yaml.specs.declared.tree.Tree.{Tree, Text, List', Map', items-the_row-Tree, items-the_row-Pair, items_shown-the_row-Tree-0, items_hidden-the_row-Tree-0, items_shown-the_row-Pair-1, items_hidden-the_row-Pair-1, roll-Tree, roll-out-Tree}
 use Rattle.wv_yaml.specs.declared.tree.Pair.{Pair}
 use Rattle.wv_yaml.specs.declared.tree.Tree.TheVariants as tree
 use Rattle.wv_yaml.specs.declared.tree.Tree.TheVariants.{outs-List', outs-Map', rolls-List, rolls-Map}
-use Rattle.wv_yaml.specs.declared.tree.Tree.TheOpen as F
 
 abbrev pub items_of : Tree → List Tree
 items_of (Text v) = []

@@ -1,5 +1,5 @@
 -- Block collections (YAML 1.2.2, 8.2), from the outside in.
-use Rattle.std.specs.Prelude.{◌≡◌, ℕ, zero, suc, ◌+◌, ◌<◌, ◌^◌, List, [], ◌∷◌, ◌++◌, length, drop, Bool, true, false, ◌==◌, ◌&&◌, ◌||◌, not, nat_lt, Option, Some, None, if◌then◌else◌}
+use Rattle.std.specs.Prelude.{ℕ, zero, suc, ◌+◌, List, [], ◌∷◌, length, drop, Bool, true, false, ◌==◌, ◌&&◌, ◌||◌, not, nat_lt, Option, Some, None, if◌then◌else◌}
 use Rattle.wv_yaml.specs.Line.{Line, line_at}
 use Rattle.wv_yaml.specs.declared.tree.Tree.{Tree}
 use Rattle.wv_yaml.specs.declared.tree.Tree.TheVariants as tree

@@ -1,5 +1,5 @@
 -- Block scalars (YAML 1.2.2, 8.1).
-use Rattle.std.specs.Prelude.{◌≡◌, ℕ, zero, suc, ◌+◌, ◌-◌, ◌<◌, ◌≤◌, List, [], ◌∷◌, ◌++◌, length, map, min, Bool, true, false, ◌==◌, ◌&&◌, ◌||◌, not, nat_lt, nat_le, Option, Some, None, if◌then◌else◌}
+use Rattle.std.specs.Prelude.{◌≡◌, ℕ, zero, suc, ◌+◌, ◌-◌, ◌<◌, List, [], ◌∷◌, ◌++◌, map, min, Bool, true, false, ◌==◌, ◌&&◌, ◌||◌, not, nat_lt, nat_le, Option, Some, None, if◌then◌else◌}
 use Rattle.wv_yaml.specs.Line.{Line}
 use Rattle.wv_yaml.specs.declared.header.Chomp.{Chomp}
 use Rattle.wv_yaml.specs.declared.header.Chomp.TheVariants.{Strip, Clip, Keep}

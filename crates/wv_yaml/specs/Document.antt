@@ -1,11 +1,10 @@
 -- Whole documents (YAML 1.2.2, 9), and which bytes spell a tree.
-use Rattle.std.specs.Prelude.{◌≡◌, ℕ, zero, suc, ◌+◌, List, [], ◌∷◌, ◌++◌, drop, Bool, true, false, ◌==◌, ◌&&◌, ◌||◌, not, Option, Some, None, ◌⊎◌, if◌then◌else◌}
+use Rattle.std.specs.Prelude.{◌≡◌, ℕ, List, [], ◌∷◌, ◌++◌, drop, Bool, true, false, ◌==◌, ◌&&◌, ◌||◌, not, Option, None, if◌then◌else◌}
 use Rattle.std.specs.Str.{encode_utf8_all, all_scalars, chars, is_utf8}
 use Rattle.wv_yaml.specs.Line.{Line}
-use Rattle.wv_yaml.specs.declared.tree.Tree.{Tree, Text, List', Map', Row_of-Tree, end_of-Tree, more_of-Tree, Row_of-Pair, end_of-Pair, more_of-Pair}
-use Rattle.wv_yaml.specs.declared.tree.Pair.{Pair}
-use Rattle.wv_yaml.specs.Chunks.{Each, NoneOf, ◌>>=◌, provided}
-use Rattle.wv_yaml.specs.Marks.{begins_with, trimmed, quiet, is_tail, parted, all_quiet, Quiet}
+use Rattle.wv_yaml.specs.declared.tree.Tree.{Tree}
+use Rattle.wv_yaml.specs.Chunks.{Each, provided}
+use Rattle.wv_yaml.specs.Marks.{trimmed, quiet, is_tail, parted, all_quiet, Quiet}
 use Rattle.wv_yaml.specs.Lines.{allowed, unmarked, lines_in, AreLines}
 use Rattle.wv_yaml.specs.BlockScalar.{while, past}
 use Rattle.wv_yaml.specs.Quoted.{joined}

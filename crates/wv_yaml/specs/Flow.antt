@@ -1,5 +1,5 @@
 -- Flow collections (YAML 1.2.2, 7.4), from their tokens.
-use Rattle.std.specs.Prelude.{◌≡◌, ℕ, zero, suc, ◌+◌, ◌-◌, List, [], ◌∷◌, ◌++◌, Bool, true, false, ◌==◌, ◌&&◌, Option, Some, None, if◌then◌else◌}
+use Rattle.std.specs.Prelude.{◌≡◌, ℕ, zero, suc, ◌-◌, List, [], ◌∷◌, ◌++◌, Bool, true, false, ◌==◌, ◌&&◌, Option, Some, None, if◌then◌else◌}
 use Rattle.wv_yaml.specs.declared.token.Token.{Token}
 use Rattle.wv_yaml.specs.declared.token.Token.TheVariants.{OpenList, CloseList, OpenMap, CloseMap, Comma, Key, Word}
 use Rattle.wv_yaml.specs.declared.tree.Tree.{Tree}

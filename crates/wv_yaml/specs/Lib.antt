@@ -13,5 +13,6 @@ pub mod Spelled
 pub mod Document
 pub mod Gives
 pub mod Repeats
+pub mod Reading
 pub mod Canon
 pub mod Examples

@@ -1,5 +1,5 @@
 -- Characters, and the lines that they make (YAML 1.2.2, 5.1 and 5.4).
-use Rattle.std.specs.Prelude.{◌≡◌, ◌≢◌, ℕ, zero, suc, ◌+◌, List, [], ◌∷◌, ◌++◌, length, Bool, true, false, ◌==◌, ◌&&◌, ◌||◌, not, nat_lt, nat_le, if◌then◌else◌}
+use Rattle.std.specs.Prelude.{◌≡◌, ◌≢◌, ℕ, suc, List, [], ◌∷◌, ◌++◌, Bool, true, false, ◌==◌, ◌&&◌, ◌||◌, nat_le, if◌then◌else◌}
 use Rattle.wv_yaml.specs.Line.{Line, line_at}
 use Rattle.wv_yaml.specs.Chunks.{NoneOf}
 use Rattle.wv_yaml.specs.Marks.{begins_with, indented, is_end}

@@ -1,5 +1,5 @@
 -- The marks of YAML within one line (YAML 1.2.2, 5.3 to 6.7).
-use Rattle.std.specs.Prelude.{◌≡◌, ℕ, zero, suc, ◌+◌, List, [], ◌∷◌, ◌++◌, length, Bool, true, false, ◌==◌, ◌&&◌, ◌||◌, not, nat_lt, nat_le, if◌then◌else◌}
+use Rattle.std.specs.Prelude.{◌≡◌, ℕ, zero, suc, List, [], ◌∷◌, Bool, true, false, ◌==◌, ◌&&◌, ◌||◌, if◌then◌else◌}
 use Rattle.wv_yaml.specs.Line.{Line}
 use Rattle.wv_yaml.specs.Chunks.{Each}
 

@@ -1,5 +1,5 @@
 -- Plain scalars (YAML 1.2.2, 7.3.3) and how they go on over lines (6.5).
-use Rattle.std.specs.Prelude.{◌≡◌, ℕ, zero, suc, ◌+◌, ◌<◌, List, [], ◌∷◌, ◌++◌, length, Bool, true, false, ◌==◌, ◌&&◌, ◌||◌, not, nat_lt, Option, Some, None, if◌then◌else◌}
+use Rattle.std.specs.Prelude.{◌≡◌, ℕ, suc, ◌<◌, List, [], ◌∷◌, ◌++◌, length, Bool, true, false, ◌==◌, ◌&&◌, ◌||◌, not, nat_lt, Option, Some, None, if◌then◌else◌}
 use Rattle.wv_yaml.specs.Line.{Line}
 use Rattle.wv_yaml.specs.Chunks.{Each, ◌>>=◌, provided}
 use Rattle.wv_yaml.specs.Marks.{blank, is_end, trimmed, without_end, nothing, quiet, all_quiet, is_empty, parted, folded, EndsWell, Quiet}

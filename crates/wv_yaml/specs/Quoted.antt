@@ -1,6 +1,6 @@
 -- Quoted scalars (YAML 1.2.2, 5.7, 7.3.1 and 7.3.2), over the text of a value with its line breaks: 10 is a break, and 13
 -- is one before a line that is not indented enough.
-use Rattle.std.specs.Prelude.{◌≡◌, ℕ, zero, suc, ◌+◌, ◌-◌, ◌*◌, ◌<◌, List, [], ◌∷◌, ◌++◌, length, drop, take, Bool, true, false, ◌==◌, ◌&&◌, ◌||◌, not, nat_lt, nat_le, Option, Some, None, if◌then◌else◌}
+use Rattle.std.specs.Prelude.{◌≡◌, ℕ, zero, suc, ◌+◌, ◌-◌, ◌*◌, List, [], ◌∷◌, ◌++◌, length, Bool, true, false, ◌==◌, ◌&&◌, ◌||◌, not, nat_lt, nat_le, Option, Some, None, if◌then◌else◌}
 use Rattle.wv_yaml.specs.Line.{Line}
 use Rattle.wv_yaml.specs.Chunks.{Each, ◌>>=◌}
 use Rattle.wv_yaml.specs.Marks.{blank, is_empty, begins_with, breaks, folded, count_of}

@@ -1,11 +1,11 @@
 -- Flow collections as tokens (YAML 1.2.2, 7.4). The text is one with its line breaks: 10 is a break, and 13 is one before a
 -- line that is not indented enough.
-use Rattle.std.specs.Prelude.{◌≡◌, ℕ, zero, suc, ◌+◌, ◌-◌, ◌<◌, ◌≤◌, List, [], ◌∷◌, ◌++◌, length, drop, take, Bool, true, false, ◌==◌, ◌&&◌, ◌||◌, not, nat_lt, nat_le, Option, Some, None, if◌then◌else◌}
+use Rattle.std.specs.Prelude.{◌≡◌, ℕ, zero, suc, ◌+◌, ◌-◌, List, [], ◌∷◌, ◌++◌, length, drop, take, Bool, true, false, ◌==◌, ◌&&◌, ◌||◌, not, nat_le, Option, Some, None, if◌then◌else◌}
 use Rattle.std.specs.Str.{encode_utf8_all}
 use Rattle.wv_yaml.specs.declared.token.Token.{Token}
 use Rattle.wv_yaml.specs.declared.token.Token.TheVariants as token
 use Rattle.wv_yaml.specs.Chunks.{NoneOf, Each, ◌>>=◌, provided}
-use Rattle.wv_yaml.specs.Marks.{blank, is_end, begins_with, gap, trimmed, without_end, nothing, EndsWell}
+use Rattle.wv_yaml.specs.Marks.{blank, is_end, begins_with, gap, trimmed, without_end}
 use Rattle.wv_yaml.specs.Lines.{is_break}
 use Rattle.wv_yaml.specs.Plain.{flow_sign, plain_start, flow_parted, flow_stops, cut, Part}
 use Rattle.wv_yaml.specs.Quoted.{white, double_step, single_step, quoted, Double, Single}

@@ -1,7 +1,8 @@
-//! YAML 1.2.2 in a block and flow profile: `write` gives the canonical text of a tree, `quote` that of a scalar. What bytes
-//! spell a tree is defined in `specs/`; the reader of it is proved below block collections and isn't public yet.
+//! YAML 1.2.2 in a block and flow profile: `read` gives the tree that bytes spell, or the exact reason why they give none,
+//! `write` the canonical text of a tree, `quote` that of a scalar. What bytes spell a tree is defined in `specs/`.
 #![tactic(auto)]
 
+mod block;
 mod block_scalar;
 mod fault;
 mod flow;
@@ -12,6 +13,8 @@ mod lines;
 mod plain;
 mod quoted;
 mod quoting;
+mod reading;
+mod repeats;
 mod scan;
 mod token;
 mod tokens;
@@ -20,6 +23,7 @@ mod writing;
 
 pub use fault::YamlFault;
 pub use quoting::quote;
+pub use reading::read;
 pub use tree::{Pair, Tree};
 pub use writing::write;
 

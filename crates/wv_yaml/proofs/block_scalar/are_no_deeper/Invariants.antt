@@ -1,4 +1,4 @@
-use Rattle.std.proofs.Common.{◌≡◌, drop, ℕ}
+use Rattle.std.proofs.Common.{◌≡◌, drop}
 use Rattle.wv_yaml.specs.BlockScalar.{no_deeper}
 use Rattle.wv_yaml.proofs.block_scalar.are_no_deeper.Given as goal
 

@@ -1,5 +1,5 @@
-use Rattle.std.proofs.Common.{length, ◌-◌, ◌≡◌, ◌≤◌, ◌++◌, drop, take, ℕ}
-use Rattle.wv_yaml.specs.BlockScalar.{while, past, belongs, is_spaces}
+use Rattle.std.proofs.Common.{length, ◌-◌, ◌≡◌, ◌≤◌, ◌++◌, drop, take}
+use Rattle.wv_yaml.specs.BlockScalar.{while, past, belongs}
 use Rattle.wv_yaml.proofs.block_scalar.content_len.Given as goal
 
 abbrev pub invariant-loop-at : goal.invariant-loop-at

@@ -1,9 +1,9 @@
-use Rattle.std.proofs.Common.{arith, ◌≡◌, ◌∷◌, ◌++◌, ◌+◌, ◌∙◌, sym, ap, map, drop, drop-cons, add-one, suc, if◌then◌else◌, Bool, ℕ, List}
+use Rattle.std.proofs.Common.{arith, ◌≡◌, ◌∷◌, ◌++◌, ◌+◌, ◌∙◌, sym, ap, map, drop, drop-cons, add-one, suc, if◌then◌else◌, Bool, List}
 use Rattle.std.specs.String.{string_bytes}
 use Rattle.std.specs.Str.{encode_utf8_all}
 use Rattle.wv_yaml.specs.Line.{Line}
-use Rattle.wv_yaml.specs.Marks.{indented, is_end}
-use Rattle.wv_yaml.specs.BlockScalar.{row_in, content, extra_in, text_in, begins_blank, Row}
+use Rattle.wv_yaml.specs.Marks.{indented}
+use Rattle.wv_yaml.specs.BlockScalar.{row_in, content, text_in}
 use Rattle.wv_yaml.proofs.Rows.{row_text, row_break, content_on}
 use Rattle.wv_yaml.proofs.block_scalar.push_content.Goals as goal
 

@@ -1,4 +1,4 @@
-use Rattle.std.proofs.Common.{◌≡◌, ◌≤◌, ◌++◌, ◌+◌, drop, map, ℕ, None}
+use Rattle.std.proofs.Common.{◌≡◌, ◌≤◌, ◌++◌, drop, map, None}
 use Rattle.std.specs.String.{string_bytes}
 use Rattle.std.specs.Str.{encode_utf8_all}
 use Rattle.wv_yaml.specs.BlockScalar.{content, row_in}

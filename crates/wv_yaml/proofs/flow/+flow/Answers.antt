@@ -1,4 +1,4 @@
-use Rattle.std.proofs.Common.{arith, refl, Some, ◌∙◌, ap, sym, ◌≡◌, ◌<◌, ◌∷◌, List, Option, length, drop, drop-cons, subst}
+use Rattle.std.proofs.Common.{arith, refl, Some, ◌∙◌, ap, sym, ◌<◌, Option, length, subst}
 use Rattle.wv_yaml.specs.declared.tree.Tree.{Tree}
 use Rattle.wv_yaml.specs.Flow.{flow, flow_pair}
 use Rattle.wv_yaml.specs.Gives.{Gives}

@@ -1,4 +1,4 @@
-use Rattle.std.proofs.Common.{◌≡◌, ◌+◌, ◌*◌, length, ℕ}
+use Rattle.std.proofs.Common.{◌≡◌, ◌+◌, ◌*◌, length}
 use Rattle.wv_yaml.specs.Chunks.{collected}
 use Rattle.wv_yaml.specs.Flow.{flow, flow_pair, entries_of}
 use Rattle.wv_yaml.proofs.TokenSteps.{together}

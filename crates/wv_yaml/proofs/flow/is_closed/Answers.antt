@@ -1,4 +1,4 @@
-use Rattle.std.proofs.Common.{arith, ◌∙◌, ap, sym, ◌≡◌, ◌<◌, length, true, false}
+use Rattle.std.proofs.Common.{◌∙◌, sym, length, true, false}
 use Rattle.wv_yaml.specs.Flow.{closer}
 use Rattle.wv_yaml.proofs.FlowSteps.{closed_is, true_is}
 use Rattle.wv_yaml.proofs.FoldOut.{some_left}

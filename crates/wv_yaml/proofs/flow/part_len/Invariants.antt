@@ -1,4 +1,4 @@
-use Rattle.std.proofs.Common.{length, ◌-◌, ◌≡◌, ◌≤◌, ◌++◌, take, drop, ℕ}
+use Rattle.std.proofs.Common.{length, ◌-◌, ◌≡◌, ◌≤◌, ◌++◌, take, drop}
 use Rattle.wv_yaml.specs.Flow.{parts}
 use Rattle.wv_yaml.proofs.flow.part_len.Given as goal
 

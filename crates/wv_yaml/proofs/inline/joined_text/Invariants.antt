@@ -1,4 +1,4 @@
-use Rattle.std.proofs.Common.{◌≡◌, ◌++◌, drop, ℕ}
+use Rattle.std.proofs.Common.{◌≡◌, ◌++◌, drop}
 use Rattle.wv_yaml.specs.Quoted.{joined, after_breaks}
 use Rattle.wv_yaml.proofs.inline.joined_text.Given as goal
 

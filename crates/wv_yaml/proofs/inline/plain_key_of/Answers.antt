@@ -1,4 +1,4 @@
-use Rattle.std.proofs.Common.{arith, ◌∙◌, ◌+◌, ap, sym, ◌≡◌, ◌++◌, Some, drop}
+use Rattle.std.proofs.Common.{◌∙◌, ap, sym, ◌++◌, Some, drop}
 use Rattle.std.specs.String.{string_bytes}
 use Rattle.std.specs.Str.{encode_utf8_all}
 use Rattle.std.proofs.lemmas.Str.{IsUtf8-string_bytes}

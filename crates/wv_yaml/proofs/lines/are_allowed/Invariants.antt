@@ -1,4 +1,4 @@
-use Rattle.std.proofs.Common.{length, ◌-◌, ◌≡◌, ◌≤◌, drop, ℕ}
+use Rattle.std.proofs.Common.{length, ◌-◌, ◌≡◌, ◌≤◌, drop}
 use Rattle.wv_yaml.specs.Lines.{allowed}
 use Rattle.wv_yaml.proofs.lines.are_allowed.Given as goal
 

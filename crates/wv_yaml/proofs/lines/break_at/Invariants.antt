@@ -1,4 +1,4 @@
-use Rattle.std.proofs.Common.{length, ◌-◌, ◌≡◌, ◌≤◌, ◌++◌, drop, take, ℕ}
+use Rattle.std.proofs.Common.{length, ◌-◌, ◌≡◌, ◌≤◌, ◌++◌, drop, take}
 use Rattle.wv_yaml.specs.Lines.{to_feed, from_feed}
 use Rattle.wv_yaml.proofs.lines.break_at.Given as goal
 

@@ -1,6 +1,6 @@
-use Rattle.std.proofs.Common.{rules, arith, ap, sym, ◌∙◌, ◌≡◌, ◌≤◌, ◌<◌, ◌+◌, ◌++◌, ◌∷◌, [], length, length-drop, length-take, take, subst, All, append-nil, true, false}
+use Rattle.std.proofs.Common.{arith, ap, sym, ◌∙◌, ◌≡◌, ◌<◌, ◌+◌, ◌++◌, [], length, length-drop, length-take, take, subst, All, append-nil, true}
 use Rattle.std.proofs.lemmas.List.Elements.{All-push}
-use Rattle.wv_yaml.specs.Line.{Line, IsSmall}
+use Rattle.wv_yaml.specs.Line.{IsSmall}
 use Rattle.wv_yaml.specs.Lines.{lines_in, ended_line, without_return}
 use Rattle.wv_yaml.proofs.LineLaws.{last_line, next_line, line_step}
 use Rattle.wv_yaml.proofs.lines.read_lines.Goals as goal

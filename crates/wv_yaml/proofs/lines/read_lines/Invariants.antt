@@ -1,4 +1,4 @@
-use Rattle.std.proofs.Common.{length, ◌≡◌, ◌≤◌, ◌++◌, All, ℕ}
+use Rattle.std.proofs.Common.{length, ◌≡◌, ◌≤◌, ◌++◌, All}
 use Rattle.wv_yaml.specs.Lines.{lines_in}
 use Rattle.wv_yaml.specs.Line.{IsSmall}
 use Rattle.wv_yaml.proofs.lines.read_lines.Given as goal

@@ -1,4 +1,4 @@
-use Rattle.std.proofs.Common.{length, ◌-◌, ◌≡◌, ◌≤◌, ◌++◌, drop, take, ℕ, false}
+use Rattle.std.proofs.Common.{length, ◌-◌, ◌≡◌, ◌≤◌, ◌++◌, drop, take, false}
 use Rattle.wv_yaml.specs.Plain.{cut, stops_in}
 use Rattle.wv_yaml.proofs.plain.cut_len.Given as goal
 

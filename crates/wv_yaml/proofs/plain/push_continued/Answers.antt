@@ -1,6 +1,5 @@
-use Rattle.std.proofs.Common.{arith, ◌∙◌, ap, sym, length, length-drop, ◌≡◌, ◌<◌, ◌∷◌, drop, drop-cons, suc}
+use Rattle.std.proofs.Common.{arith, ◌∙◌, ap, sym, length, length-drop, ◌<◌, ◌∷◌, drop, drop-cons}
 use Rattle.std.specs.String.{string_bytes}
-use Rattle.wv_yaml.specs.Line.{Line}
 use Rattle.wv_yaml.specs.Marks.{without_end, trimmed}
 use Rattle.wv_yaml.proofs.FoldOut.{GoesOn, some_left, line_on, line_last}
 use Rattle.wv_yaml.proofs.plain.push_continued.Goals as goal

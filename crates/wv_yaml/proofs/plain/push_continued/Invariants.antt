@@ -1,4 +1,4 @@
-use Rattle.std.proofs.Common.{◌≡◌, ◌≤◌, ◌+◌, length, ℕ}
+use Rattle.std.proofs.Common.{◌≡◌, ◌≤◌, ◌+◌, length}
 use Rattle.std.specs.String.{string_bytes}
 use Rattle.wv_yaml.specs.Plain.{goes_on}
 use Rattle.wv_yaml.specs.Gives.{behind}

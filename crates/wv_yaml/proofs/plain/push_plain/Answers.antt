@@ -1,4 +1,4 @@
-use Rattle.std.proofs.Common.{arith, ◌∙◌, ap, sym, length, ◌≡◌}
+use Rattle.std.proofs.Common.{arith, ◌∙◌, ap, sym, length}
 use Rattle.std.proofs.lemmas.Bool.{eqb-true}
 use Rattle.std.specs.String.{string_bytes}
 use Rattle.wv_yaml.specs.Marks.{without_end}

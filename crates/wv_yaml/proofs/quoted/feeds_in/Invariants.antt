@@ -1,4 +1,4 @@
-use Rattle.std.proofs.Common.{◌≡◌, ◌≤◌, ◌+◌, drop, ℕ}
+use Rattle.std.proofs.Common.{◌≡◌, ◌≤◌, ◌+◌, drop}
 use Rattle.wv_yaml.specs.Marks.{count_of}
 use Rattle.wv_yaml.specs.Quoted.{is_feed}
 use Rattle.wv_yaml.proofs.quoted.feeds_in.Given as goal

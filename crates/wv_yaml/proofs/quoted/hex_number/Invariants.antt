@@ -1,4 +1,4 @@
-use Rattle.std.proofs.Common.{◌≡◌, ◌≤◌, ◌<◌, ◌-◌, ◌^◌, length, drop, ℕ}
+use Rattle.std.proofs.Common.{◌≡◌, ◌≤◌, ◌<◌, ◌-◌, ◌^◌, length, drop}
 use Rattle.wv_yaml.specs.Quoted.{number}
 use Rattle.wv_yaml.proofs.quoted.hex_number.Given as goal
 

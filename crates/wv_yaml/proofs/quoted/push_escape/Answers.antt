@@ -1,8 +1,8 @@
-use Rattle.std.proofs.Common.{arith, ◌∙◌, ap, sym, length, ◌≡◌, ◌<◌, ◌==◌, ◌∷◌, ◌++◌, append-nil, ℕ, List, Option, Some, false, subst}
+use Rattle.std.proofs.Common.{arith, ◌∙◌, ap, sym, length, ◌<◌, ◌==◌, ◌∷◌, ◌++◌, append-nil, ℕ, List, Option, Some, subst}
 use Rattle.std.proofs.lemmas.Bool.{eqb-true, false_from_ne_true}
 use Rattle.std.specs.String.{string_bytes}
 use Rattle.std.specs.Char.{encode_utf8}
-use Rattle.wv_yaml.specs.Quoted.{simple, if_simple}
+use Rattle.wv_yaml.specs.Quoted.{if_simple}
 use Rattle.wv_yaml.specs.Gives.{Gives, stepped}
 use Rattle.wv_yaml.proofs.Quotes.{escape_number, escape_simple, first_is}
 use Rattle.wv_yaml.proofs.quoted.push_escape.Goals as goal

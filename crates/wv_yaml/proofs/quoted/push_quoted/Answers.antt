@@ -1,4 +1,4 @@
-use Rattle.std.proofs.Common.{arith, ◌∙◌, ap, sym, length, length-drop, ◌≡◌, ◌≤◌, ◌<◌, ◌+◌, drop, subst, Some, IfSome}
+use Rattle.std.proofs.Common.{arith, ◌∙◌, ap, length, length-drop, ◌≡◌, ◌≤◌, ◌+◌, drop, subst, Some, IfSome}
 use Rattle.std.specs.String.{string_bytes}
 use Rattle.wv_yaml.proofs.Quotes.{quoted_on}
 use Rattle.wv_yaml.proofs.quoted.push_quoted.Goals as goal

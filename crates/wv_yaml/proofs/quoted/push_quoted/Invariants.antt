@@ -1,4 +1,4 @@
-use Rattle.std.proofs.Common.{◌≡◌, ◌≤◌, ◌-◌, length, drop, ℕ}
+use Rattle.std.proofs.Common.{◌≡◌, ◌≤◌, ◌-◌, length, drop}
 use Rattle.std.specs.String.{string_bytes}
 use Rattle.wv_yaml.specs.Quoted.{quoted, step_in}
 use Rattle.wv_yaml.specs.Gives.{with_text}

@@ -1,4 +1,4 @@
-use Rattle.std.proofs.Common.{length, ◌-◌, ◌≡◌, ◌≤◌, ◌++◌, ◌+◌, drop, take, ℕ}
+use Rattle.std.proofs.Common.{length, ◌-◌, ◌≡◌, ◌≤◌, ◌++◌, ◌+◌, drop, take}
 use Rattle.wv_yaml.specs.Quoted.{white_front}
 use Rattle.wv_yaml.proofs.quoted.white_len.Given as goal
 

@@ -1,4 +1,4 @@
-use Rattle.std.proofs.Common.{◌≡◌, drop, ℕ}
+use Rattle.std.proofs.Common.{◌≡◌, drop}
 use Rattle.wv_yaml.specs.Marks.{all_quiet}
 use Rattle.wv_yaml.proofs.scan.are_quiet.Given as goal
 

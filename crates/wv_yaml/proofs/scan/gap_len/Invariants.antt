@@ -1,4 +1,4 @@
-use Rattle.std.proofs.Common.{length, ◌-◌, ◌≡◌, ◌≤◌, drop, take, ◌++◌, ℕ, ◌+◌}
+use Rattle.std.proofs.Common.{length, ◌-◌, ◌≡◌, ◌≤◌, drop, take, ◌++◌, ◌+◌}
 use Rattle.wv_yaml.specs.Marks.{gap, trimmed}
 use Rattle.wv_yaml.proofs.scan.gap_len.Given as goal
 

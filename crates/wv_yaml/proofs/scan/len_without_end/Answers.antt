@@ -1,4 +1,4 @@
-use Rattle.std.proofs.Common.{arith, ◌≡◌, ◌∙◌, sym}
+use Rattle.std.proofs.Common.{arith, ◌∙◌, sym}
 use Rattle.wv_yaml.proofs.Ends.{end_back, end_here}
 use Rattle.wv_yaml.proofs.scan.len_without_end.Goals as goal
 

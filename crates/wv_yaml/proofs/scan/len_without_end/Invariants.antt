@@ -1,4 +1,4 @@
-use Rattle.std.proofs.Common.{length, ◌≡◌, ◌≤◌, take, ℕ}
+use Rattle.std.proofs.Common.{length, ◌≡◌, ◌≤◌, take}
 use Rattle.wv_yaml.specs.Marks.{without_end}
 use Rattle.wv_yaml.proofs.scan.len_without_end.Given as goal
 

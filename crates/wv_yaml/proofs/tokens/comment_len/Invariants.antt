@@ -1,4 +1,4 @@
-use Rattle.std.proofs.Common.{length, ◌-◌, ◌≡◌, ◌≤◌, ◌+◌, drop, ℕ}
+use Rattle.std.proofs.Common.{length, ◌-◌, ◌≡◌, ◌≤◌, ◌+◌, drop}
 use Rattle.wv_yaml.specs.Tokens.{comment_front}
 use Rattle.wv_yaml.proofs.tokens.comment_len.Given as goal
 

@@ -1,4 +1,4 @@
-use Rattle.std.proofs.Common.{◌≡◌, drop, ℕ}
+use Rattle.std.proofs.Common.{◌≡◌, drop}
 use Rattle.wv_yaml.specs.Tokens.{on_one_line}
 use Rattle.wv_yaml.proofs.tokens.is_on_one_line.Given as goal
 

@@ -1,4 +1,4 @@
-use Rattle.std.proofs.Common.{arith, ◌∙◌, ap, sym, ◌∷◌, ◌<◌, length}
+use Rattle.std.proofs.Common.{◌∙◌, ap, sym, ◌∷◌}
 use Rattle.wv_yaml.specs.Marks.{begins_with}
 use Rattle.wv_yaml.proofs.Quotes.{first_is}
 use Rattle.wv_yaml.proofs.TokenSteps.{step_return}

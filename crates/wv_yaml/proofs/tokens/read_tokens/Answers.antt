@@ -1,4 +1,4 @@
-use Rattle.std.proofs.Common.{arith, ◌∙◌, ap, length, length-drop, ◌≡◌, ◌<◌, ◌≤◌, ◌+◌, ◌-◌, drop}
+use Rattle.std.proofs.Common.{arith, ◌∙◌, ap, length, length-drop, ◌≡◌, ◌-◌}
 use Rattle.wv_yaml.proofs.TokenSteps.{tokens_on, tokens_fail}
 use Rattle.wv_yaml.proofs.tokens.read_tokens.Goals as goal
 

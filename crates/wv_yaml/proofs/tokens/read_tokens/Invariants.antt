@@ -1,4 +1,4 @@
-use Rattle.std.proofs.Common.{length, ◌-◌, ◌≡◌, ◌≤◌, drop, ℕ, false}
+use Rattle.std.proofs.Common.{length, ◌-◌, ◌≡◌, ◌≤◌, drop, false}
 use Rattle.wv_yaml.specs.Tokens.{tokens}
 use Rattle.wv_yaml.proofs.TokenSteps.{together}
 use Rattle.wv_yaml.proofs.tokens.read_tokens.Given as goal

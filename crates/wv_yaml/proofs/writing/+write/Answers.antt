@@ -1,10 +1,8 @@
-use Rattle.std.proofs.Common.{rules, arith, ◌≡◌, ◌<◌, ◌+◌, ◌-◌, ℕ, suc, List, ◌++◌, ◌∷◌, [], sym, ap, ◌∙◌, subst, OnOk, length, false}
+use Rattle.std.proofs.Common.{rules, arith, ◌≡◌, ◌-◌, ℕ, suc, List, ◌++◌, sym, ap, ◌∙◌, subst, OnOk}
 use Rattle.std.specs.List.{AllByRecursion}
 use Rattle.std.specs.String.{string_bytes}
-use Rattle.wv_yaml.specs.declared.tree.Tree.{Tree}
-use Rattle.wv_yaml.specs.declared.tree.Pair.{Pair}
-use Rattle.wv_yaml.specs.Canon.{Fits, PairFits, items_bytes, pairs_bytes, form, text_form}
-use Rattle.wv_yaml.proofs.WriteSteps.{item_out, pair_out, list_fits, map_fits, fit_at, pair_fit_at, list_out, map_out, list_empty, map_empty, text_out, none_left, some_here}
+use Rattle.wv_yaml.specs.Canon.{Fits, PairFits, text_form}
+use Rattle.wv_yaml.proofs.WriteSteps.{item_out, list_fits, map_fits, list_out, map_out, list_empty, map_empty, text_out, none_left, some_here}
 use Rattle.wv_yaml.proofs.writing.+write.Goals as goal
 
 pub write_items-loop-item-preserved : goal.write_items-loop-item-preserved

@@ -1,4 +1,4 @@
-use Rattle.std.proofs.Common.{◌≡◌, ◌+◌, ◌*◌, ◌++◌, drop, ℕ, true}
+use Rattle.std.proofs.Common.{◌≡◌, ◌+◌, ◌*◌, ◌++◌, drop, true}
 use Rattle.std.specs.String.{string_bytes}
 use Rattle.wv_yaml.specs.Canon.{items_bytes, pairs_bytes}
 use Rattle.wv_yaml.proofs.writing.+write.Given as goal

@@ -1,4 +1,4 @@
-use Rattle.std.proofs.Common.{◌≡◌, drop, ℕ}
+use Rattle.std.proofs.Common.{◌≡◌, drop}
 use Rattle.wv_yaml.specs.Canon.{all_of, is_decimal}
 use Rattle.wv_yaml.proofs.writing.are_decimals.Given as goal
 

@@ -1,4 +1,4 @@
-use Rattle.std.proofs.Common.{length, ◌≡◌, ℕ}
+use Rattle.std.proofs.Common.{length, ◌≡◌}
 use Rattle.wv_yaml.specs.Canon.{bytes_are}
 use Rattle.wv_yaml.proofs.writing.is_same.Given as goal
 

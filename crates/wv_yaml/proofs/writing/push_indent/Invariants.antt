@@ -1,4 +1,4 @@
-use Rattle.std.proofs.Common.{◌≡◌, ◌++◌, ℕ, []}
+use Rattle.std.proofs.Common.{◌≡◌, ◌++◌, []}
 use Rattle.std.specs.String.{string_bytes}
 use Rattle.wv_yaml.specs.Marks.{indented}
 use Rattle.wv_yaml.proofs.writing.push_indent.Given as goal

@@ -1,0 +1,19 @@
+use Rattle.std.proofs.Common.{◌≡◌, ◌∙◌, ap, sym, subst, Option}
+use Rattle.std.specs.Str.{chars}
+use Rattle.wv_yaml.specs.declared.tree.Tree.{Tree}
+use Rattle.wv_yaml.specs.Lines.{allowed, unmarked}
+use Rattle.wv_yaml.specs.Document.{tree_of}
+use Rattle.wv_yaml.specs.Gives.{Fails}
+use Rattle.wv_yaml.proofs.ReadSteps.{reads_on, reads_not, tree_by}
+use Rattle.wv_yaml.proofs.reading.read_text.Goals as goal
+
+pub returns-in-Ok : goal.returns-in-Ok
+returns-in-Ok c =
+    let cs : c.without_mark-chars.result.now ≡ unmarked (chars c.args.text.now) = c.without_mark-chars.ensures ∙ ap unmarked (c.as_slice.ensures.value ∙ c.in_ok-all.ensures) in
+    reads_on _ _ c.in-Ok.tree _ (sym (ap allowed cs) ∙ (sym c.are_allowed.ensures ∙ c.if-not-are_allowed.false)) (sym (tree_by c.args.text.now _ cs) ∙ c.in-Ok.ensures) c.without_repeats.ensures
+
+pub returns : goal.returns
+returns c =
+    let cs : c.without_mark-chars.result.now ≡ unmarked (chars c.args.text.now) = c.without_mark-chars.ensures ∙ ap unmarked (c.as_slice.ensures.value ∙ c.in_ok-all.ensures) in
+    let P : Option Tree → Type 0 = λ o. Fails c.in-Err.fault o in
+    reads_not _ (tree_of c.args.text.now) c.in-Err.fault (sym (ap allowed cs) ∙ (sym c.are_allowed.ensures ∙ c.if-not-are_allowed.false)) (subst P (tree_by c.args.text.now _ cs) c.in-Err.ensures)
