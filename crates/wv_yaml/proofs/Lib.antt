@@ -15,3 +15,7 @@ pub mod Heads
 pub mod RepeatLaws
 pub mod RepeatSteps
 pub mod ReadSteps
+pub mod Parts
+pub mod KeyLaws
+pub mod FlowFits
+pub mod BlockFits

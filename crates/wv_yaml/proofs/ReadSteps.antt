@@ -10,9 +10,6 @@ use Rattle.wv_yaml.specs.Document.{is_allowed, tree_of, document}
 use Rattle.wv_yaml.specs.Gives.{Fails}
 use Rattle.wv_yaml.specs.Reading.{IsReading}
 
-pub some_same : {A : Type 0} (x y : A) → Some x ≡ Some y → x ≡ y
-some_same x y e = cc
-
 pub reads_on : (fit : Bool) (given : Option Tree) (t : Tree) (r : Result Tree YamlFault) → fit ≡ true → given ≡ Some t → IsReading true (Some t) r → IsReading fit given r
 reads_on fit given t r f g h =
     let P : Bool → Type 0 = λ b. IsReading b given r in

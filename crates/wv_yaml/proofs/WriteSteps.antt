@@ -29,12 +29,12 @@ some_pairs : {m : _} (row : Row_of-Pair m) → has_pairs row ≡ not (is_end (it
 some_pairs end_of-Pair = refl
 some_pairs (more_of-Pair k v rest) = refl
 
-abbrev row_of_items : Tree → (m : Count) × Row_of-Tree m
+abbrev pub row_of_items : Tree → (m : Count) × Row_of-Tree m
 row_of_items (Text v) = (_, end_of-Tree)
 row_of_items (List' s row) = (_, row)
 row_of_items (Map' s row) = (_, end_of-Tree)
 
-abbrev row_of_pairs : Tree → (m : Count) × Row_of-Pair m
+abbrev pub row_of_pairs : Tree → (m : Count) × Row_of-Pair m
 row_of_pairs (Text v) = (_, end_of-Pair)
 row_of_pairs (List' s row) = (_, end_of-Pair)
 row_of_pairs (Map' s row) = (_, row)

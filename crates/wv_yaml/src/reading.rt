@@ -1,11 +1,12 @@
 // Whole documents.
-ghost use Rattle.std.specs.Prelude.{◌≡◌, ◌≤◌, length, drop, take, All, true, Some};
+ghost use Rattle.std.specs.Prelude.{◌≡◌, ◌≤◌, length, drop, take, All, IfOk, true, Some};
 ghost use Rattle.std.specs.Str.{chars};
 ghost use Rattle.wv_yaml.specs.Line.{IsSmall};
 ghost use Rattle.wv_yaml.specs.declared.tree.Tree.{Tree};
 ghost use Rattle.wv_yaml.specs.BlockScalar.{while, past};
 ghost use Rattle.wv_yaml.specs.Lines.{allowed, unmarked, lines_in};
-ghost use Rattle.wv_yaml.specs.Document.{is_triple, is_start, is_stop, is_plain_line, is_alone, opened, is_closing, top, framed, document, is_allowed, tree_of};
+ghost use Rattle.wv_yaml.specs.Document.{is_triple, is_start, is_stop, is_plain_line, is_alone, opened, is_closing, top, framed, document, is_allowed, tree_of, max_depth};
+ghost use Rattle.wv_yaml.specs.Canon.{Fits, IsCollection};
 ghost use Rattle.wv_yaml.specs.Gives.{Gives};
 ghost use Rattle.wv_yaml.specs.Reading.{IsReading};
 
@@ -160,7 +161,10 @@ fn read_text(alloc: Global, text: &str) -> Result<Tree, YamlFault>
 /// The tree that bytes spell: `Bytes` where they are no characters that may stand in a document, `Grammar` where they spell no
 /// tree, `Duplicate` where they spell one and one of its maps has two equal keys.
 pub fn read(alloc: Global, bytes: &[u8]) -> Result<Tree, YamlFault>
-    ensures { IsReading (is_allowed bytes.now) (tree_of bytes.now) result }
+    ensures answer { IsReading (is_allowed bytes.now) (tree_of bytes.now) result }
+    // What is read may be written again.
+    ensures collection { IfOk result IsCollection }
+    ensures fits { IfOk result (λ t. Fits max_depth t) }
 {
     match str::from_utf8(bytes) {
         Ok(text) => read_text(alloc, text),

@@ -1,5 +1,5 @@
 use Rattle.std.proofs.Common.{◌∙◌, refl}
-use Rattle.wv_yaml.proofs.ReadSteps.{some_same}
+use Rattle.wv_yaml.proofs.Parts.{some_same}
 use Rattle.wv_yaml.proofs.RepeatLaws.{repeats_true, repeats_false}
 use Rattle.wv_yaml.proofs.reading.without_repeats.Goals as goal
 

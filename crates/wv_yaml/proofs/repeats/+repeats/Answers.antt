@@ -1,7 +1,7 @@
 use Rattle.std.proofs.Common.{◌≡◌, ◌||◌, [], ap, sym, ◌∙◌, subst, Bool, Some, true, false}
 use Rattle.wv_yaml.specs.Gives.{Gives}
 use Rattle.wv_yaml.specs.Repeats.{repeats, repeats_after, values_repeat, items_repeat}
-use Rattle.wv_yaml.proofs.ReadSteps.{some_same}
+use Rattle.wv_yaml.proofs.Parts.{some_same}
 use Rattle.wv_yaml.proofs.RepeatSteps.{text_repeats, list_repeats, map_repeats}
 use Rattle.wv_yaml.proofs.repeats.+repeats.Goals as goal
 
