@@ -21,7 +21,7 @@ last_part t ts e = at_comma (is_comma t && (0 == 0)) e
     at_comma false h = refl
 
 -- the parts behind a comma
-after_comma : (p : List Token) (rest : List Token) → without_empty_last p ((parts 0 rest).0 ∷ (parts 0 rest).1) ≡ p ∷ entries_of rest
+pub after_comma : (p : List Token) (rest : List Token) → without_empty_last p ((parts 0 rest).0 ∷ (parts 0 rest).1) ≡ p ∷ entries_of rest
 after_comma p [] = refl
 after_comma p (t ∷ ts) = at_parts (parts 0 (t ∷ ts)) refl
   where

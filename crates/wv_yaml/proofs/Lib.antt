@@ -19,3 +19,12 @@ pub mod Parts
 pub mod KeyLaws
 pub mod FlowFits
 pub mod BlockFits
+pub mod ChunkLaws
+pub mod BlockLaws
+pub mod PlainLaws
+pub mod QuotedLaws
+pub mod ScalarLaws
+pub mod TokenLaws
+pub mod FlowLaws
+pub mod InlineLaws
+pub mod SpelledLaws

@@ -4,7 +4,7 @@ use Rattle.std.proofs.lemmas.List.{take_all}
 use Rattle.wv_yaml.specs.Lines.{without_return}
 use Rattle.wv_yaml.proofs.Ends.{take_last}
 
-return_off : (xs : List ℕ) → without_return (xs ++ 13 ∷ []) ≡ xs
+pub return_off : (xs : List ℕ) → without_return (xs ++ 13 ∷ []) ≡ xs
 return_off [] = refl
 return_off (x ∷ []) = refl
 return_off (x ∷ y ∷ xs) = ap (λ zs. x ∷ zs) (return_off (y ∷ xs))

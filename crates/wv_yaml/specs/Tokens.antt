@@ -111,7 +111,7 @@ is_silent text = elim (tokens false 0 text) [ None ↦ false | Some ts ↦ is_en
 
 -- the text is a scalar and a rest
 pub data WordAt : Bool → List ℕ → List ℕ → List ℕ → Type 0 where
-  PlainWord : (value rest : List ℕ) (part : List ℕ) (space : List ℕ) → rest ≡ space ++ part → Part flow_stops (value ++ rest) value part →
+  PlainWord : (value rest : List ℕ) (part : List ℕ) (space : List ℕ) → is_end value ≡ false → rest ≡ space ++ part → Part flow_stops (value ++ rest) value part →
       plain_start flow_parted (value ++ rest) ≡ true → WordAt false value value rest
   DoubleWord : (spelled value rest : List ℕ) → Double (spelled ++ rest) value rest → WordAt true (34 ∷ spelled) value rest
   SingleWord : (spelled value rest : List ℕ) → Single (spelled ++ rest) value rest → WordAt true (39 ∷ spelled) value rest

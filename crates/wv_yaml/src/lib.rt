@@ -23,7 +23,7 @@ mod writing;
 
 pub use fault::YamlFault;
 pub use quoting::quote;
-pub use reading::read;
+pub use reading::{one_tree, read, spelled_is_computed};
 pub use tree::{Pair, Tree};
 pub use writing::write;
 

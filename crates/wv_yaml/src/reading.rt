@@ -1,14 +1,14 @@
 // Whole documents.
-ghost use Rattle.std.specs.Prelude.{◌≡◌, ◌≤◌, length, drop, take, All, IfOk, true, Some};
+ghost use Rattle.std.specs.Prelude.{◌≡◌, ◌≤◌, length, drop, take, All, IfOk, true, Some, ℕ, List, ◌↔◌};
 ghost use Rattle.std.specs.Str.{chars};
 ghost use Rattle.wv_yaml.specs.Line.{IsSmall};
 ghost use Rattle.wv_yaml.specs.declared.tree.Tree.{Tree};
 ghost use Rattle.wv_yaml.specs.BlockScalar.{while, past};
 ghost use Rattle.wv_yaml.specs.Lines.{allowed, unmarked, lines_in};
-ghost use Rattle.wv_yaml.specs.Document.{is_triple, is_start, is_stop, is_plain_line, is_alone, opened, is_closing, top, framed, document, is_allowed, tree_of, max_depth};
+ghost use Rattle.wv_yaml.specs.Document.{is_triple, is_start, is_stop, is_plain_line, is_alone, opened, is_closing, top, framed, document, is_allowed, tree_of, max_depth, Spelled};
 ghost use Rattle.wv_yaml.specs.Canon.{Fits, IsCollection};
 ghost use Rattle.wv_yaml.specs.Gives.{Gives};
-ghost use Rattle.wv_yaml.specs.Reading.{IsReading};
+ghost use Rattle.wv_yaml.specs.Reading.{IsReading, IsAnswer};
 
 use crate::block::{block_of, quiet_len};
 use crate::fault::YamlFault;
@@ -161,7 +161,9 @@ fn read_text(alloc: Global, text: &str) -> Result<Tree, YamlFault>
 /// The tree that bytes spell: `Bytes` where they are no characters that may stand in a document, `Grammar` where they spell no
 /// tree, `Duplicate` where they spell one and one of its maps has two equal keys.
 pub fn read(alloc: Global, bytes: &[u8]) -> Result<Tree, YamlFault>
-    ensures answer { IsReading (is_allowed bytes.now) (tree_of bytes.now) result }
+    ensures answer { IsAnswer bytes.now result }
+    // The same, of what the definitions compute.
+    ensures computed { IsReading (is_allowed bytes.now) (tree_of bytes.now) result }
     // What is read may be written again.
     ensures collection { IfOk result IsCollection }
     ensures fits { IfOk result (λ t. Fits max_depth t) }
@@ -171,3 +173,13 @@ pub fn read(alloc: Global, bytes: &[u8]) -> Result<Tree, YamlFault>
         Err(_) => Err(YamlFault::Bytes),
     }
 }
+
+/// One text spells at most one tree.
+pub fn one_tree()
+    ensures { (bytes : List ℕ) (t u : Tree) → Spelled t bytes → Spelled u bytes → t ≡ u }
+{}
+
+/// The relation of named cases says what the definition computes.
+pub fn spelled_is_computed()
+    ensures { (bytes : List ℕ) (t : Tree) → Spelled t bytes ↔ ((is_allowed bytes ≡ true) × (tree_of bytes ≡ Some t)) }
+{}
