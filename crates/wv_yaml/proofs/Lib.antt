@@ -28,3 +28,4 @@ pub mod TokenLaws
 pub mod FlowLaws
 pub mod InlineLaws
 pub mod SpelledLaws
+pub mod QuoteLaws

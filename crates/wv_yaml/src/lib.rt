@@ -22,7 +22,7 @@ mod tree;
 mod writing;
 
 pub use fault::YamlFault;
-pub use quoting::quote;
+pub use quoting::{quote, quoted_reads_back};
 pub use reading::{one_tree, read, spelled_is_computed};
 pub use tree::{Pair, Tree};
 pub use writing::write;

@@ -4,6 +4,7 @@ ghost use Rattle.std.specs.List.{flat_map};
 ghost use Rattle.std.specs.Str.{encode_utf8_all, chars};
 ghost use Rattle.wv_yaml.specs.Lines.{within};
 ghost use Rattle.wv_yaml.specs.Canon.{hex_of, escaped, quoted_text, between_quotes};
+ghost use Rattle.wv_yaml.specs.Quoted.{Double};
 
 use crate::lines::{characters, is_within};
 use std::alloc::{AllocError, Global};
@@ -103,4 +104,10 @@ pub fn quote(alloc: Global, text: &Text) -> Result<Text, OutOfMemory>
     push_quoted_text(alloc, &mut out, text.as_str())?;
     let quoted = Text::of(alloc, out.as_str())?;
     Ok(quoted)
+}
+
+/// The canonical form between its quotes spells the characters that were written, whatever follows the closing quote.
+pub fn quoted_reads_back()
+    ensures { (cs rest : List ℕ) → Double (flat_map escaped cs ++ (34 ∷ rest)) cs rest }
+{
 }
