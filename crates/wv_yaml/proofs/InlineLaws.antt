@@ -15,12 +15,12 @@ use Rattle.wv_yaml.specs.Tokens.{max_key, tokens, is_silent, Lexed}
 use Rattle.wv_yaml.specs.Flow.{flow, Flow}
 use Rattle.wv_yaml.specs.Inline.{colon, quoted_key, plain_key, key, named, key_bytes, as_text, quoted_alone, flow_text, opens_flow, scalar, begins_flow, inline, KeyEnd, KeyAt, PlainKey, DoubleKey, SingleKey, KeyText, FlowText, Silent, Inline, PlainOver, PlainThen, InDouble, InSingle, Literal, Folded, InFlow}
 use Rattle.wv_yaml.proofs.Heads.{and_both, and_true}
-use Rattle.wv_yaml.proofs.Parts.{chosen, bind_some, provided_some, some_same}
+use Rattle.wv_yaml.proofs.Parts.{chosen, bind_some, provided_some, some_same, or_none}
 use Rattle.wv_yaml.proofs.ChunkLaws.{gap_whole, gap_blanks, gap_again}
 use Rattle.wv_yaml.proofs.PlainLaws.{part_sound, part_complete, goes_on_sound, goes_on_complete, end_is, comment_is, quiet_sound, quiet_complete, passed}
 use Rattle.wv_yaml.proofs.QuotedLaws.{Found, double_sound, double_complete, single_sound, single_complete}
 use Rattle.wv_yaml.proofs.ScalarLaws.{block_text_sound, block_text_complete}
-use Rattle.wv_yaml.proofs.TokenLaws.{tokens_sound, lexed_complete, or_none, no_sign}
+use Rattle.wv_yaml.proofs.TokenLaws.{tokens_sound, lexed_complete, no_sign}
 use Rattle.wv_yaml.proofs.FlowLaws.{flow_sound, flow_complete}
 
 -- a colon

@@ -8,8 +8,8 @@ use Rattle.wv_yaml.specs.Marks.{blank, count_of}
 use Rattle.wv_yaml.specs.Lines.{within}
 use Rattle.wv_yaml.specs.Canon.{hex_of, escaped}
 use Rattle.wv_yaml.specs.Quoted.{is_feed, white, white_front, digit, digits_of, number, simple, is_character, White, DoublePiece, DoubleOther, DoubleBlanks, Simple, Numbered, Inside, Close, More, Double}
-use Rattle.wv_yaml.proofs.TokenLaws.{or_none, or_cases}
 use Rattle.wv_yaml.proofs.Heads.{and_both}
+use Rattle.wv_yaml.proofs.Parts.{or_none, or_cases}
 
 abbrev is_space : ℕ → Bool
 is_space c = c == 32
@@ -57,9 +57,10 @@ escape_at c k text rest e w = subst (λ x. Written x text rest) (sym (eqb-true c
 
 controls : (c : ℕ) → (nat_lt c 32 || within 0x7F 0x9F c) ≡ true → c < 256
 controls c e =
-    elim (or_cases _ _ e)
-    [ inl h ↦ let lt : c < 32 = ltb-true c 32 h in omega arith
-    | inr h ↦ let le : c ≤ 0x9F = leb-true c 0x9F (and_both _ _ h).1 in omega arith ]
+    elim (or_cases _ _ e) [
+      | inl h ↦ let lt : c < 32 = ltb-true c 32 h in omega arith
+      | inr h ↦ let le : c ≤ 0x9F = leb-true c 0x9F (and_both _ _ h).1 in omega arith
+    ]
 
 last_two : (c : ℕ) → within 0xFFFE 0xFFFF c ≡ true → (c ≡ 0xFFFE) ⊎ (c ≡ 0xFFFF)
 last_two c e =
@@ -84,9 +85,10 @@ written c rest sp = quote ((c == 34) || (c == 92)) refl
         Written c (cond v (92 ∷ 117 ∷ 102 ∷ 102 ∷ 102 ∷ hex_of (c % 16) ∷ []) (c ∷ [])) rest
     noncharacter true e a b d t n =
         let P : ℕ → Type 0 = λ x. Written x (92 ∷ 117 ∷ 102 ∷ 102 ∷ 102 ∷ hex_of (x % 16) ∷ []) rest in
-        elim (last_two c e)
-        [ inl h ↦ subst P (sym h) (record { piece = Numbered 117 0xFFFE (102 ∷ 102 ∷ 102 ∷ 101 ∷ []) refl refl refl refl refl; no_white = refl })
-        | inr h ↦ subst P (sym h) (record { piece = Numbered 117 0xFFFF (102 ∷ 102 ∷ 102 ∷ 102 ∷ []) refl refl refl refl refl; no_white = refl }) ]
+        elim (last_two c e) [
+          | inl h ↦ subst P (sym h) (record { piece = Numbered 117 0xFFFE (102 ∷ 102 ∷ 102 ∷ 101 ∷ []) refl refl refl refl refl; no_white = refl })
+          | inr h ↦ subst P (sym h) (record { piece = Numbered 117 0xFFFF (102 ∷ 102 ∷ 102 ∷ 102 ∷ []) refl refl refl refl refl; no_white = refl })
+        ]
     noncharacter false e a b d t n = other a b d t n
 
     control : (v : Bool) → (nat_lt c 32 || within 0x7F 0x9F c) ≡ v → (c == 34) ≡ false → (c == 92) ≡ false → (c == 13) ≡ false → (c == 9) ≡ false → (c == 10) ≡ false →
@@ -100,9 +102,10 @@ written c rest sp = quote ((c == 34) || (c == 92)) refl
         Written c (cond v (92 ∷ c ∷ []) (cond (c == 10) (92 ∷ 110 ∷ []) (cond (c == 9) (92 ∷ 116 ∷ []) (cond (c == 13) (92 ∷ 114 ∷ []) (cond (nat_lt c 32 || within 0x7F 0x9F c) (92 ∷ 120 ∷ hex_of (c / 16) ∷ hex_of (c % 16) ∷ []) (cond (within 0xFFFE 0xFFFF c) (92 ∷ 117 ∷ 102 ∷ 102 ∷ 102 ∷ hex_of (c % 16) ∷ []) (c ∷ []))))))) rest
     quote true e =
         let P : ℕ → Type 0 = λ x. Written x (92 ∷ x ∷ []) rest in
-        elim (or_cases _ _ e)
-        [ inl h ↦ subst P (sym (eqb-true c 34 h)) (record { piece = Simple 34 34 refl refl refl; no_white = refl })
-        | inr h ↦ subst P (sym (eqb-true c 92 h)) (record { piece = Simple 92 92 refl refl refl; no_white = refl }) ]
+        elim (or_cases _ _ e) [
+          | inl h ↦ subst P (sym (eqb-true c 34 h)) (record { piece = Simple 34 34 refl refl refl; no_white = refl })
+          | inr h ↦ subst P (sym (eqb-true c 92 h)) (record { piece = Simple 92 92 refl refl refl; no_white = refl })
+        ]
     quote false e = feed (or_none _ _ e) (c == 10) refl
       where
         back : ((c == 34) ≡ false) × ((c == 92) ≡ false) → (c == 10) ≡ false → (c == 9) ≡ false → (v : Bool) → (c == 13) ≡ v →
@@ -149,7 +152,7 @@ read_back w (c ∷ cs) rest h = at (λ v k. read_back v cs rest k) (c == 32) ref
     at ih true e =
         let c_is = eqb-true c 32 e in
         let one : Double (w ++ (32 ∷ text)) (w ++ (32 ∷ cs)) rest =
-            subst (λ xs. Double xs (w ++ (32 ∷ cs)) rest) (append_assoc w (32 ∷ []) text) (subst (λ ys. Double ((w ++ (32 ∷ [])) ++ text) ys rest) (append_assoc w (32 ∷ []) cs) (ih (w ++ 32 ∷ []) (space_pushed w 32 h refl))) in
+        subst (λ xs. Double xs (w ++ (32 ∷ cs)) rest) (append_assoc w (32 ∷ []) text) (subst (λ ys. Double ((w ++ (32 ∷ [])) ++ text) ys rest) (append_assoc w (32 ∷ []) cs) (ih (w ++ 32 ∷ []) (space_pushed w 32 h refl))) in
         subst (λ x. Double (w ++ ((escaped x ++ flat_map escaped cs) ++ (34 ∷ rest))) (w ++ (x ∷ cs)) rest) (sym c_is) one
     at ih false e =
         let p = written c text e in

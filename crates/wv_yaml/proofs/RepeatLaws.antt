@@ -5,10 +5,7 @@ use Rattle.std.proofs.lemmas.Slice.Eq.{bytes_eq-Decides}
 use Rattle.wv_yaml.specs.declared.tree.Tree.{Tree, Text, List', Map', Row_of-Tree, end_of-Tree, more_of-Tree, Row_of-Pair, end_of-Pair, more_of-Pair, items-the_row-Pair}
 use Rattle.wv_yaml.specs.declared.tree.Pair.{Pair}
 use Rattle.wv_yaml.specs.Repeats.{HasKey, Repeats, ItemRepeats, PairRepeats, has_key_of, repeats_after, repeats, item_repeats, value_repeats}
-
-or_cases : (a b : Bool) → (a || b) ≡ true → (a ≡ true) ⊎ (b ≡ true)
-or_cases true b e = inl refl
-or_cases false b e = inr e
+use Rattle.wv_yaml.proofs.Parts.{or_cases}
 
 or_left : (a b : Bool) → a ≡ true → (a || b) ≡ true
 or_left a b e = rw e refl

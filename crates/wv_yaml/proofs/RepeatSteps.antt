@@ -8,6 +8,7 @@ use Rattle.wv_yaml.specs.declared.tree.Tree.TheVariants as tree
 use Rattle.wv_yaml.specs.declared.tree.Pair.{Pair}
 use Rattle.wv_yaml.specs.Repeats.{has_key_of, repeats_after, repeats, item_repeats, value_repeats, items_repeat, values_repeat}
 use Rattle.wv_yaml.proofs.TreeRows.{items_of_list, pairs_of_map}
+use Rattle.wv_yaml.proofs.WriteSteps.{row_of_items, row_of_pairs}
 
 split_at : (ps : List Pair) (i : ℕ) (p : Pair) → i < length ps → p ≡ get_or ps i p → drop i ps ≡ p ∷ drop (i + 1) ps
 split_at ps i p lt is = drop-cons ps i p lt ∙ ap (λ x. x ∷ drop (suc i) ps) (sym is) ∙ ap (λ k. p ∷ drop k ps) (sym (add-one i))
@@ -38,16 +39,6 @@ any_more f ps i p lt is = ap (list_any f) (taken_more ps i p lt is) ∙ pushed (
     pushed : (xs : List Pair) → list_any f (xs ++ p ∷ []) ≡ (f p || list_any f xs)
     pushed [] = refl
     pushed (x ∷ xs) = ap (λ b. f x || b) (pushed xs) ∙ swapped (f x) (f p) (list_any f xs)
-
-abbrev row_of_items : Tree → (m : Count) × Row_of-Tree m
-row_of_items (Text v) = (_, end_of-Tree)
-row_of_items (List' s row) = (_, row)
-row_of_items (Map' s row) = (_, end_of-Tree)
-
-abbrev row_of_pairs : Tree → (m : Count) × Row_of-Pair m
-row_of_pairs (Text v) = (_, end_of-Pair)
-row_of_pairs (List' s row) = (_, end_of-Pair)
-row_of_pairs (Map' s row) = (_, row)
 
 items_row : {m : _} (row : Row_of-Tree m) → item_repeats row ≡ items_repeat (items-the_row-Tree _ row)
 unfolding repeats

@@ -9,7 +9,7 @@ use Rattle.wv_yaml.specs.Chunks.{Each, ◌>>=◌, provided}
 use Rattle.wv_yaml.specs.Marks.{blank, is_end, quiet, all_quiet, is_tail, count_of, Quiet}
 use Rattle.wv_yaml.specs.BlockScalar.{is_digit, is_chomp, chomp_of, header_by, after_digit, after_sign, header_of, Row, row_at, empty_row, is_empty_row, has_break, begins_blank, between, chomped, content, is_spaces, belongs, while, past, rows_at, no_deeper, rows_found, rows_of, content_of, block_scalar, Tail, IsSign, Minus, Plus, IsHeader, Bare, Digit, Sign, DigitSign, SignDigit, Content, Over, Then, RowsAt, Rows, ByDigit, ByLine, NoContent, BlockText}
 use Rattle.wv_yaml.proofs.Heads.{and_both, and_true}
-use Rattle.wv_yaml.proofs.Parts.{chosen, bind_some, provided_some, some_same}
+use Rattle.wv_yaml.proofs.Parts.{chosen, bind_some, provided_some, some_same, or_none}
 use Rattle.wv_yaml.proofs.PlainLaws.{quiet_sound, quiet_complete, passed}
 
 tail_sound : (text : List ℕ) → is_tail text ≡ true → Tail text
@@ -90,26 +90,18 @@ sign_back : (folds : Bool) (chomp : Chomp) (rest : List ℕ) → Tail rest → a
 sign_back folds chomp [] t = refl
 sign_back folds chomp (c ∷ cs) t = by_blank (λ x. after_sign folds chomp (x ∷ cs) ≡ header_by folds 0 chomp (x ∷ cs)) c t.0 refl refl
 
+by_sign : (P : ℕ → Chomp → Type 0) (x : ℕ) (y : Chomp) → IsSign x y → P 45 Strip → P 43 Keep → P x y
+by_sign P _ _ Minus a b = a
+by_sign P _ _ Plus a b = b
+
 header_complete : (folds : Bool) (text : List ℕ) (h : Header) → IsHeader folds text h → header_of folds text ≡ Some h
 header_complete folds _ _ (Bare rest t) = bare_back folds rest t ∙ header_back folds 0 Clip rest t
 header_complete folds _ _ (Digit d rest e t) = cond-true (is_digit d) _ _ e ∙ digit_back folds (d - 48) rest t ∙ header_back folds (d - 48) Clip rest t
 header_complete folds _ _ (Sign s chomp rest g t) = by_sign (λ x y. header_of folds (x ∷ rest) ≡ after_sign folds y rest) s chomp g refl refl ∙ sign_back folds chomp rest t ∙ header_back folds 0 chomp rest t
-  where
-    by_sign : (P : ℕ → Chomp → Type 0) (x : ℕ) (y : Chomp) → IsSign x y → P 45 Strip → P 43 Keep → P x y
-    by_sign P _ _ Minus a b = a
-    by_sign P _ _ Plus a b = b
 header_complete folds _ _ (DigitSign d s chomp rest e g t) =
     cond-true (is_digit d) _ _ e ∙ by_sign (λ x y. after_digit folds (d - 48) (x ∷ rest) ≡ header_by folds (d - 48) y rest) s chomp g refl refl ∙ header_back folds (d - 48) chomp rest t
-  where
-    by_sign : (P : ℕ → Chomp → Type 0) (x : ℕ) (y : Chomp) → IsSign x y → P 45 Strip → P 43 Keep → P x y
-    by_sign P _ _ Minus a b = a
-    by_sign P _ _ Plus a b = b
 header_complete folds _ _ (SignDigit s d chomp rest g e t) =
     by_sign (λ x y. header_of folds (x ∷ d ∷ rest) ≡ after_sign folds y (d ∷ rest)) s chomp g refl refl ∙ cond-true (is_digit d) _ _ e ∙ header_back folds (d - 48) chomp rest t
-  where
-    by_sign : (P : ℕ → Chomp → Type 0) (x : ℕ) (y : Chomp) → IsSign x y → P 45 Strip → P 43 Keep → P x y
-    by_sign P _ _ Minus a b = a
-    by_sign P _ _ Plus a b = b
 
 -- the elements that pass, and those from the first on that doesn't
 module _ {X : Type 0} (p : X → Bool) where
@@ -206,10 +198,6 @@ rows_sound n zero body rows e = at (past is_spaces body) refl e
               let p = provided_some (all_quiet (l ∷ ls)) (Some (map empty_row (while is_spaces body))) rows h.1 in
               NoContent (while is_spaces body) (l ∷ ls) whole (while_each is_spaces body) (not_deep n l ls loud h.0) (quiet_sound (l ∷ ls) p.0) (sym (some_same _ _ p.1))
         ]
-
-or_none : (a b : Bool) → (a || b) ≡ false → (a ≡ false) × (b ≡ false)
-or_none true b e = absurd (cc)
-or_none false b e = (refl, e)
 
 no_spaces : (l : Line) (ls : List Line) → is_spaces l ≡ false → while is_spaces (l ∷ ls) ≡ []
 no_spaces l ls e = cond-false (is_spaces l) _ _ e

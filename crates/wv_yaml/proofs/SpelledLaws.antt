@@ -17,7 +17,7 @@ use Rattle.wv_yaml.specs.Inline.{key_bytes, inline, begins_flow, flow_text, KeyT
 use Rattle.wv_yaml.specs.Block.{ahead, block}
 use Rattle.wv_yaml.specs.Document.{max_depth, is_start, is_stop, is_plain_line, is_alone, opened, is_closing, top, framed, document, is_allowed, tree_of, Characters, Opened, Marked, Unmarked, Closed, Open, Stopped, Top, TopFlow, TopBlock, Document, Spelled}
 use Rattle.wv_yaml.proofs.Heads.{and_both, and_true}
-use Rattle.wv_yaml.proofs.Parts.{chosen, provided_some, some_same}
+use Rattle.wv_yaml.proofs.Parts.{chosen, provided_some, some_same, or_none}
 use Rattle.wv_yaml.proofs.ChunkLaws.{Ahead, ahead_cases, ahead_loud}
 use Rattle.wv_yaml.proofs.BlockLaws.{block_sound, block_complete}
 use Rattle.wv_yaml.proofs.PlainLaws.{quiet_sound, quiet_complete, passed}
@@ -59,10 +59,6 @@ none_indented (suc n) text h = (refl, none_indented n text h)
 
 abbrev is_feed_char : ℕ → Bool
 is_feed_char c = c == 10
-
-or_none : (a b : Bool) → (a || b) ≡ false → (a ≡ false) × (b ≡ false)
-or_none true b e = absurd (cc)
-or_none false b e = (refl, e)
 
 or_false : (a b : Bool) → a ≡ false → b ≡ false → (a || b) ≡ false
 or_false a b e f = rw (e, f) refl

@@ -12,19 +12,11 @@ use Rattle.wv_yaml.specs.Plain.{flow_sign, is_sign, plain_start, flow_parted, fl
 use Rattle.wv_yaml.specs.Quoted.{white, is_feed, Step, Refused, Closed, Stands, double_step, single_step, on_step, quoted, Double, Single}
 use Rattle.wv_yaml.specs.Tokens.{max_key, sign_of, with_quote, plain_word, is_quote, word, line_parted, key_colon, on_one_line, is_key, token_of, comment_front, one_more, tokens, is_silent, WordAt, PlainWord, DoubleWord, SingleWord, EndsLine, Lexed, NoMore, Blank, CommentLine, Comment, Sign, IsWord, IsKey}
 use Rattle.wv_yaml.proofs.Heads.{and_both, and_true}
-use Rattle.wv_yaml.proofs.Parts.{chosen, bind_some, provided_some, some_same}
+use Rattle.wv_yaml.proofs.Parts.{chosen, bind_some, provided_some, some_same, or_none, or_cases}
 use Rattle.wv_yaml.proofs.ChunkLaws.{gap_whole, gap_blanks, gap_again}
 use Rattle.wv_yaml.proofs.PlainLaws.{part_sound, part_complete, passed}
 use Rattle.wv_yaml.proofs.QuotedLaws.{double_sound, double_complete, single_sound, single_complete}
 use Rattle.wv_yaml.proofs.TokenSteps.{tokens_skip}
-
-pub or_none : (a b : Bool) → (a || b) ≡ false → (a ≡ false) × (b ≡ false)
-or_none true b e = absurd (cc)
-or_none false b e = (refl, e)
-
-pub or_cases : (a b : Bool) → (a || b) ≡ true → (a ≡ true) ⊎ (b ≡ true)
-or_cases true b e = inl refl
-or_cases false b e = inr e
 
 pub by_flow : (P : ℕ → Type 0) (c : ℕ) → flow_sign c ≡ true → P 44 → P 91 → P 93 → P 123 → P 125 → P c
 by_flow P c e p44 p91 p93 p123 p125 =

@@ -109,5 +109,4 @@ pub fn quote(alloc: Global, text: &Text) -> Result<Text, OutOfMemory>
 /// The canonical form between its quotes spells the characters that were written, whatever follows the closing quote.
 pub fn quoted_reads_back()
     ensures { (cs rest : List ℕ) → Double (flat_map escaped cs ++ (34 ∷ rest)) cs rest }
-{
-}
+{}
