@@ -1,31 +1,29 @@
 -- What is read may be written again: it is a collection, has few levels and short keys.
-use Rattle.std.proofs.Common.{◌≡◌, ℕ, zero, suc, ◌+◌, ◌≤◌, List, [], ◌∷◌, ◌++◌, length, drop, Bool, true, false, ◌&&◌, ◌||◌, ◌==◌, refl, sym, ap, ◌∙◌, subst, cond, inl, inr, ◌⊎◌, Option, Some, None, Result, Ok, Err, IfOk}
+use Rattle.std.proofs.Common.{◌≡◌, ℕ, zero, suc, ◌+◌, List, [], ◌∷◌, ◌++◌, length, drop, Bool, true, false, ◌&&◌, ◌||◌, ◌==◌, refl, sym, ap, ◌∙◌, subst, inl, inr, Option, Some, Result, Ok, Err, IfOk}
 use Rattle.std.specs.List.{AllByRecursion}
 use Rattle.std.specs.Str.{chars, encode_utf8_all}
 use Rattle.std.proofs.lemmas.Bool.{eqb-true}
 use Rattle.wv_yaml.specs.declared.tree.Tree.{Tree}
 use Rattle.wv_yaml.specs.declared.tree.Tree.TheVariants as tree
 use Rattle.wv_yaml.specs.declared.tree.Pair.{Pair}
-use Rattle.wv_yaml.specs.declared.token.Token.{Token}
 use Rattle.wv_yaml.specs.declared.token.Token.TheVariants as token
 use Rattle.wv_yaml.specs.declared.fault.YamlFault.{YamlFault}
-use Rattle.wv_yaml.specs.declared.fault.YamlFault.TheVariants.{Bytes, Grammar, Duplicate, OutOfMemory}
 use Rattle.wv_yaml.specs.Line.{Line, line_at}
-use Rattle.wv_yaml.specs.Chunks.{◌>>=◌, collected, provided, chunked}
+use Rattle.wv_yaml.specs.Chunks.{collected, chunked}
 use Rattle.wv_yaml.specs.Marks.{dash, quiet, nothing, trimmed, gap}
 use Rattle.wv_yaml.specs.Quoted.{joined, after_breaks}
-use Rattle.wv_yaml.specs.Tokens.{max_key, tokens}
+use Rattle.wv_yaml.specs.Tokens.{tokens}
 use Rattle.wv_yaml.specs.Flow.{pair_of, flow, before_last, closes_list, closes_map, entries_of, flow_pair}
-use Rattle.wv_yaml.specs.Inline.{key_bytes, inline, flow_text, scalar, begins_flow, opens_flow, as_text}
-use Rattle.wv_yaml.specs.Block.{Chunk, is_item, is_pair, is_under, opens, all_spaces, ahead, below, value_of, entry_of, item, pair, sequence, mapping, collection, block}
+use Rattle.wv_yaml.specs.Inline.{key_bytes, inline, flow_text, scalar, begins_flow}
+use Rattle.wv_yaml.specs.Block.{Chunk, is_item, is_pair, is_under, opens, all_spaces, ahead, below, value_of, entry_of, item, pair, collection, block}
 use Rattle.wv_yaml.specs.BlockScalar.{while, past}
-use Rattle.wv_yaml.specs.Document.{max_depth, top, framed, document, opened, is_plain_line, is_closing, tree_of}
+use Rattle.wv_yaml.specs.Document.{max_depth, top, document, opened, is_plain_line, is_closing, tree_of}
 use Rattle.wv_yaml.specs.Lines.{lines_in, unmarked}
 use Rattle.wv_yaml.specs.Reading.{IsReading}
 use Rattle.wv_yaml.specs.Canon.{Fits, PairFits, IsCollection}
 use Rattle.wv_yaml.proofs.Parts.{chosen, bind_some, provided_some, collected_all, some_same}
 use Rattle.wv_yaml.proofs.KeyLaws.{key_short}
-use Rattle.wv_yaml.proofs.FlowFits.{Short, flow_fits, tokens_short, list_that_fits, map_that_fits, text_that_fits}
+use Rattle.wv_yaml.proofs.FlowFits.{flow_fits, tokens_short, list_that_fits, map_that_fits, text_that_fits}
 
 text_fits : (d : ℕ) (text : List ℕ) (t : Tree) → flow_text d text ≡ Some t → Fits d t
 text_fits d text t e =

@@ -1,19 +1,18 @@
 -- What the function reads is what the relation says, and nothing else.
-use Rattle.std.proofs.Common.{◌≡◌, ℕ, zero, suc, ◌+◌, List, [], ◌∷◌, ◌++◌, length, drop, Bool, true, false, refl, sym, ap, ◌∙◌, subst, cond, inl, inr, ◌⊎◌, Option, Some, None, rules, arith, true≢false, ◌==◌, ◌&&◌, ◌||◌, not, eq-eqb}
+use Rattle.std.proofs.Common.{◌≡◌, ℕ, zero, suc, List, [], ◌∷◌, ◌++◌, drop, Bool, true, false, refl, sym, ap, ◌∙◌, subst, cond, inl, inr, ◌⊎◌, Option, Some, None, true≢false, ◌&&◌, ◌||◌, not, eq-eqb}
 use Rattle.std.proofs.lemmas.Bool.{cond-true, cond-false, eqb-true, not-true, false_from_ne_true}
 use Rattle.std.proofs.Math.Bool.{or-true}
-use Rattle.wv_yaml.specs.Line.{Line, line_at}
+use Rattle.wv_yaml.specs.Line.{Line}
 use Rattle.wv_yaml.specs.declared.tree.Tree.{Tree}
-use Rattle.wv_yaml.specs.declared.tree.Tree.TheVariants as tree
 use Rattle.wv_yaml.specs.declared.tree.Pair.{Pair}
-use Rattle.wv_yaml.specs.Chunks.{NoneOf, Each, Pairwise, unchunked, AreChunks, chunked, collected, ◌>>=◌}
-use Rattle.wv_yaml.specs.Marks.{blank, trimmed, gap, nothing, quiet, dash, parted, Quiet, Trimmed}
-use Rattle.wv_yaml.specs.Flow.{pair_of, as_list, as_map}
-use Rattle.wv_yaml.specs.Block.{Chunk, ahead, all_spaces, is_item, is_pair, is_under, opens, has_key, below, value_of, entry_of, item, pair, collection, block}
-use Rattle.wv_yaml.specs.Spelled.{Begins, Nothing, First, Below, Empty, Nested, Later, Value, Under, Beside, Entry, EntryUnder, Compact, EntryBeside, Item, PairAt, Sequence, Mapping, Collection, Items, Pairs, Block}
+use Rattle.wv_yaml.specs.Chunks.{Pairwise, unchunked, AreChunks, chunked, collected}
+use Rattle.wv_yaml.specs.Marks.{trimmed, gap, nothing, quiet, dash, Quiet}
+use Rattle.wv_yaml.specs.Flow.{as_list, as_map}
+use Rattle.wv_yaml.specs.Block.{Chunk, ahead, is_item, is_pair, is_under, opens, has_key, below, value_of, entry_of, item, pair, collection, block}
+use Rattle.wv_yaml.specs.Spelled.{Begins, First, Below, Empty, Nested, Later, Value, Under, Beside, Entry, EntryUnder, Compact, EntryBeside, Item, PairAt, Sequence, Mapping, Collection, Items, Pairs, Block}
 use Rattle.wv_yaml.proofs.Parts.{chosen, bind_some, some_same}
 use Rattle.wv_yaml.proofs.Heads.{and_both, and_true}
-use Rattle.wv_yaml.proofs.ChunkLaws.{chunked_chunks, chunked_head, chunked_again, collected_sound, collected_complete, Ahead, ahead_cases, ahead_quiet, ahead_loud, gap_whole, gap_blanks, gap_again}
+use Rattle.wv_yaml.proofs.ChunkLaws.{chunked_chunks, chunked_head, chunked_again, collected_complete, Ahead, ahead_cases, ahead_quiet, ahead_loud, gap_whole, gap_blanks, gap_again}
 
 -- each chunk gives what it is related to
 module _ {X Y : Type 0} (head : X → Bool) (f : X × List X → Option Y) (R : X × List X → Y → Type 0) where

@@ -1,6 +1,6 @@
 -- Chunks, quiet lines and blanks: the functions and the relations agree.
-use Rattle.std.proofs.Common.{◌≡◌, ℕ, List, [], ◌∷◌, ◌++◌, Bool, true, false, refl, sym, ap, ◌∙◌, subst, cond, inl, inr, ◌⊎◌, append_assoc, append-nil, Option, Some, None, rules, arith}
-use Rattle.wv_yaml.specs.Chunks.{NoneOf, Each, Pairwise, unchunked, AreChunks, onto, chunked, collected, ◌>>=◌}
+use Rattle.std.proofs.Common.{◌≡◌, ℕ, List, [], ◌∷◌, ◌++◌, Bool, true, false, refl, sym, ap, ◌∙◌, subst, inl, inr, ◌⊎◌, append-nil, Option, Some}
+use Rattle.wv_yaml.specs.Chunks.{NoneOf, Each, Pairwise, unchunked, AreChunks, onto, chunked, collected}
 use Rattle.wv_yaml.specs.Marks.{blank, trimmed, gap, quiet, Quiet, Trimmed}
 use Rattle.wv_yaml.specs.Line.{Line}
 use Rattle.wv_yaml.specs.Block.{ahead}

@@ -1,19 +1,18 @@
 -- A flow collection that is read has few levels and short keys.
-use Rattle.std.proofs.Common.{◌≡◌, ℕ, zero, suc, ◌+◌, ◌-◌, ◌≤◌, List, [], ◌∷◌, ◌++◌, length, drop, take, Bool, true, false, ◌&&◌, ◌==◌, nat_le, refl, sym, ap, ◌∙◌, subst, cond, inl, inr, ◌⊎◌, Option, Some, None}
+use Rattle.std.proofs.Common.{◌≡◌, ℕ, zero, suc, ◌+◌, ◌-◌, ◌≤◌, List, [], ◌∷◌, length, drop, take, Bool, true, false, ◌&&◌, ◌==◌, refl, sym, subst, cond, inl, inr, Option, Some}
 use Rattle.std.specs.List.{AllByRecursion}
 use Rattle.std.specs.Str.{chars, encode_utf8_all}
-use mathlib.Core.Former.{Count}
-use Rattle.wv_yaml.specs.declared.tree.Tree.{Tree, Text, List', Map', Row_of-Tree, end_of-Tree, more_of-Tree, Row_of-Pair, end_of-Pair, more_of-Pair, items-the_row-Tree, items-the_row-Pair}
+use Rattle.wv_yaml.specs.declared.tree.Tree.{Tree, Text, Row_of-Tree, end_of-Tree, more_of-Tree, Row_of-Pair, end_of-Pair, more_of-Pair, items-the_row-Tree, items-the_row-Pair}
 use Rattle.wv_yaml.specs.declared.tree.Tree.TheVariants as tree
 use Rattle.wv_yaml.specs.declared.tree.Pair.{Pair}
 use Rattle.wv_yaml.specs.declared.token.Token.{Token}
 use Rattle.wv_yaml.specs.declared.token.Token.TheVariants.{OpenList, CloseList, OpenMap, CloseMap, Comma, Key, Word}
-use Rattle.wv_yaml.specs.Chunks.{◌>>=◌, collected, provided}
+use Rattle.wv_yaml.specs.Chunks.{collected}
 use Rattle.wv_yaml.specs.Marks.{is_end, begins_with, trimmed, gap}
 use Rattle.wv_yaml.specs.Plain.{flow_sign}
 use Rattle.wv_yaml.specs.Quoted.{white}
-use Rattle.wv_yaml.specs.Tokens.{max_key, sign_of, is_quote, word, on_one_line, key_colon, is_key, token_of, comment_front, one_more, tokens}
-use Rattle.wv_yaml.specs.Flow.{pair_of, is_comma, open_after, to_part, new_part, parts, without_empty_last, entries_of, before_last, closes_list, closes_map, flow_word, flow_pair, flow_value, flow, as_list, as_map}
+use Rattle.wv_yaml.specs.Tokens.{max_key, sign_of, is_quote, word, is_key, token_of, comment_front, one_more, tokens}
+use Rattle.wv_yaml.specs.Flow.{pair_of, is_comma, open_after, to_part, new_part, parts, without_empty_last, entries_of, before_last, closes_list, closes_map, flow_word, flow_pair, flow_value, flow}
 use Rattle.wv_yaml.specs.Canon.{Fits, ItemsFit, PairsFit, PairFits}
 use Rattle.wv_yaml.proofs.Heads.{and_both}
 use Rattle.wv_yaml.proofs.Parts.{chosen, bind_some, provided_some, collected_all, some_same}

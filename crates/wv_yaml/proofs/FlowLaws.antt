@@ -1,16 +1,16 @@
 -- Flow collections: the function gives what the relation says, and nothing else.
-use Rattle.std.proofs.Common.{◌≡◌, ℕ, zero, suc, ◌+◌, ◌-◌, List, [], ◌∷◌, ◌++◌, Bool, true, false, refl, sym, ap, ◌∙◌, subst, cond, inl, inr, ◌⊎◌, append_assoc, append-nil, Option, Some, None, ◌==◌, ◌&&◌, arith}
-use Rattle.std.proofs.lemmas.Bool.{cond-true, cond-false, eqb-true}
+use Rattle.std.proofs.Common.{◌≡◌, ℕ, zero, suc, List, [], ◌∷◌, ◌++◌, Bool, true, false, refl, sym, ap, ◌∙◌, subst, cond, append_assoc, append-nil, Option, Some, ◌==◌, ◌&&◌, arith}
+use Rattle.std.proofs.lemmas.Bool.{cond-false, eqb-true}
 use Rattle.wv_yaml.specs.declared.tree.Tree.{Tree}
 use Rattle.wv_yaml.specs.declared.tree.Tree.TheVariants as tree
 use Rattle.wv_yaml.specs.declared.tree.Pair.{Pair}
 use Rattle.wv_yaml.specs.declared.token.Token.{Token}
 use Rattle.wv_yaml.specs.declared.token.Token.TheVariants.{OpenList, CloseList, OpenMap, CloseMap, Comma, Key, Word}
-use Rattle.wv_yaml.specs.Chunks.{Pairwise, ◌>>=◌, collected, provided}
+use Rattle.wv_yaml.specs.Chunks.{Pairwise, ◌>>=◌, collected}
 use Rattle.wv_yaml.specs.Marks.{is_end}
 use Rattle.wv_yaml.specs.Flow.{pair_of, is_comma, open_after, to_part, new_part, parts, without_empty_last, entries_of, before_last, closes_list, closes_map, flow_word, flow_pair, flow_value, flow, as_list, as_map, Separated, NoPart, LastPart, LastComma, NextPart, PairOf, FlowValue, FlowWord, FlowList, FlowMap, IsFlowWord, Flow}
 use Rattle.wv_yaml.proofs.Heads.{and_both}
-use Rattle.wv_yaml.proofs.Parts.{chosen, bind_some, provided_some, some_same}
+use Rattle.wv_yaml.proofs.Parts.{bind_some, provided_some, some_same}
 use Rattle.wv_yaml.proofs.ChunkLaws.{collected_sound, collected_complete}
 use Rattle.wv_yaml.proofs.FlowSteps.{after_comma}
 use Rattle.wv_yaml.proofs.PlainLaws.{passed}

@@ -1,24 +1,24 @@
 -- Keys, and values that begin on a line: the functions give what the relations say, and nothing else.
-use Rattle.std.proofs.Common.{◌≡◌, ℕ, zero, suc, ◌+◌, ◌<◌, ◌≤◌, List, [], ◌∷◌, ◌++◌, length, take, drop, Bool, true, false, refl, sym, ap, ◌∙◌, subst, cond, inl, inr, ◌⊎◌, Option, Some, None, ◌==◌, ◌&&◌, ◌||◌, not, true≢false, nat_le, append-nil}
-use Rattle.std.proofs.lemmas.Bool.{cond-true, cond-false, eqb-true, false_from_ne_true, not-true, leb-true, le-leb}
+use Rattle.std.proofs.Common.{◌≡◌, ℕ, suc, ◌≤◌, List, [], ◌∷◌, ◌++◌, length, drop, Bool, true, false, refl, sym, ap, ◌∙◌, subst, cond, inl, inr, Option, Some, None, ◌==◌, ◌&&◌, ◌||◌, not, nat_le}
+use Rattle.std.proofs.lemmas.Bool.{cond-true, cond-false, eqb-true, not-true, leb-true, le-leb}
 use Rattle.std.specs.Str.{encode_utf8_all}
 use Rattle.wv_yaml.specs.Line.{Line}
 use Rattle.wv_yaml.specs.declared.tree.Tree.{Tree}
 use Rattle.wv_yaml.specs.declared.tree.Tree.TheVariants as tree
 use Rattle.wv_yaml.specs.declared.token.Token.{Token}
-use Rattle.wv_yaml.specs.Chunks.{Each, ◌>>=◌, provided}
-use Rattle.wv_yaml.specs.Marks.{blank, is_end, gap, trimmed, without_end, nothing, parted, all_quiet, Quiet}
-use Rattle.wv_yaml.specs.Plain.{flow_sign, is_sign, plain_start, stops, cut, goes_on, plain_lines, Part, Continues}
+use Rattle.wv_yaml.specs.Chunks.{◌>>=◌, provided}
+use Rattle.wv_yaml.specs.Marks.{is_end, gap, trimmed, without_end, nothing, parted, all_quiet}
+use Rattle.wv_yaml.specs.Plain.{is_sign, plain_start, stops, cut, goes_on, plain_lines, Part}
 use Rattle.wv_yaml.specs.Quoted.{joined, quoted, double_step, single_step, Double, Single}
-use Rattle.wv_yaml.specs.BlockScalar.{block_scalar, BlockText}
-use Rattle.wv_yaml.specs.Tokens.{max_key, tokens, is_silent, Lexed}
-use Rattle.wv_yaml.specs.Flow.{flow, Flow}
-use Rattle.wv_yaml.specs.Inline.{colon, quoted_key, plain_key, key, named, key_bytes, as_text, quoted_alone, flow_text, opens_flow, scalar, begins_flow, inline, KeyEnd, KeyAt, PlainKey, DoubleKey, SingleKey, KeyText, FlowText, Silent, Inline, PlainOver, PlainThen, InDouble, InSingle, Literal, Folded, InFlow}
+use Rattle.wv_yaml.specs.BlockScalar.{block_scalar}
+use Rattle.wv_yaml.specs.Tokens.{max_key, tokens, is_silent}
+use Rattle.wv_yaml.specs.Flow.{flow}
+use Rattle.wv_yaml.specs.Inline.{colon, quoted_key, key, named, key_bytes, as_text, quoted_alone, flow_text, opens_flow, scalar, inline, KeyEnd, KeyAt, PlainKey, DoubleKey, SingleKey, KeyText, FlowText, Silent, Inline, PlainOver, PlainThen, InDouble, InSingle, Literal, Folded, InFlow}
 use Rattle.wv_yaml.proofs.Heads.{and_both, and_true}
 use Rattle.wv_yaml.proofs.Parts.{chosen, bind_some, provided_some, some_same, or_none}
 use Rattle.wv_yaml.proofs.ChunkLaws.{gap_whole, gap_blanks, gap_again}
 use Rattle.wv_yaml.proofs.PlainLaws.{part_sound, part_complete, goes_on_sound, goes_on_complete, end_is, comment_is, quiet_sound, quiet_complete, passed}
-use Rattle.wv_yaml.proofs.QuotedLaws.{Found, double_sound, double_complete, single_sound, single_complete}
+use Rattle.wv_yaml.proofs.QuotedLaws.{double_sound, double_complete, single_sound, single_complete}
 use Rattle.wv_yaml.proofs.ScalarLaws.{block_text_sound, block_text_complete}
 use Rattle.wv_yaml.proofs.TokenLaws.{tokens_sound, lexed_complete, no_sign}
 use Rattle.wv_yaml.proofs.FlowLaws.{flow_sound, flow_complete}

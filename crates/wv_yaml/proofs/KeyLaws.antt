@@ -1,15 +1,14 @@
 -- A key that is read has few characters.
-use Rattle.std.proofs.Common.{◌≡◌, ℕ, zero, suc, ◌+◌, ◌*◌, ◌/◌, ◌%◌, ◌-◌, ◌<◌, ◌≤◌, List, [], ◌∷◌, ◌++◌, length, drop, Bool, true, false, ◌&&◌, ◌==◌, nat_lt, nat_le, refl, sym, ap, ◌∙◌, subst, cond, arith, inl, inr, ◌⊎◌, Option, Some, None, append_assoc}
-use Rattle.std.proofs.lemmas.Bool.{cond-true, cond-false, leb-true, leb-false, lt-ltb}
+use Rattle.std.proofs.Common.{◌≡◌, ℕ, zero, suc, ◌+◌, ◌/◌, ◌<◌, ◌≤◌, List, [], ◌∷◌, ◌++◌, length, drop, Bool, true, false, ◌&&◌, ◌==◌, nat_lt, nat_le, refl, sym, ap, ◌∙◌, subst, cond, arith, inl, inr, Option, Some}
+use Rattle.std.proofs.lemmas.Bool.{cond-true, cond-false, leb-true, lt-ltb}
 use Rattle.std.proofs.Math.Nat.{div-lt_iff_lt-mul}
 use Rattle.std.specs.Str.{chars, chars_after, continuation_len, lead_bits, encode_utf8_all}
 use lib.Utf8.{encode, encodes, next}
-use Rattle.wv_yaml.specs.Chunks.{◌>>=◌, provided}
 use Rattle.wv_yaml.specs.Marks.{trimmed, without_end, parted}
-use Rattle.wv_yaml.specs.Plain.{plain_start, stops, cut}
+use Rattle.wv_yaml.specs.Plain.{stops, cut}
 use Rattle.wv_yaml.specs.Quoted.{quoted, double_step, single_step}
 use Rattle.wv_yaml.specs.Tokens.{max_key}
-use Rattle.wv_yaml.specs.Inline.{colon, quoted_key, plain_key, key, key_bytes, named}
+use Rattle.wv_yaml.specs.Inline.{colon, quoted_key, plain_key, key, key_bytes}
 use Rattle.wv_yaml.proofs.Heads.{and_both}
 use Rattle.wv_yaml.proofs.Parts.{chosen, bind_some, provided_some, some_same}
 

@@ -1,10 +1,10 @@
 -- Plain scalars: the functions give what the relations say, and nothing else.
-use Rattle.std.proofs.Common.{◌≡◌, ℕ, zero, suc, ◌+◌, ◌<◌, ◌≤◌, List, [], ◌∷◌, ◌++◌, length, Bool, true, false, refl, sym, ap, ◌∙◌, subst, cond, inl, inr, ◌⊎◌, append_assoc, Option, Some, None, arith, ◌==◌, ◌&&◌, nat_lt, true≢false, add-zero}
+use Rattle.std.proofs.Common.{◌≡◌, ℕ, suc, ◌+◌, ◌<◌, List, [], ◌∷◌, ◌++◌, length, Bool, true, false, refl, sym, ap, ◌∙◌, subst, cond, inl, inr, ◌⊎◌, append_assoc, Option, Some, None, arith, ◌&&◌, nat_lt, true≢false, add-zero}
 use Rattle.std.proofs.lemmas.Bool.{cond-true, cond-false, eqb-true, ltb-true, lt-ltb, false_from_ne_true}
 use Rattle.wv_yaml.specs.Line.{Line}
 use Rattle.wv_yaml.specs.Chunks.{Each, ◌>>=◌, provided}
 use Rattle.wv_yaml.specs.Marks.{blank, is_end, trimmed, without_end, unless_blank, nothing, quiet, all_quiet, is_empty, folded, EndsWell, Quiet}
-use Rattle.wv_yaml.specs.Plain.{stops, first_to, cut, goes_on, RunsTo, Part, Continues, Done, Next, Last}
+use Rattle.wv_yaml.specs.Plain.{stops, cut, goes_on, RunsTo, Part, Continues, Done, Next, Last}
 use Rattle.wv_yaml.proofs.Heads.{and_both, and_true}
 use Rattle.wv_yaml.proofs.Parts.{chosen, bind_some, provided_some, some_same}
 

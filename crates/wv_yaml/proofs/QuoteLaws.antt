@@ -1,13 +1,13 @@
 -- What stands between the quotes of the canonical form is read as the text that was written.
-use Rattle.std.proofs.Common.{◌≡◌, ℕ, zero, suc, ◌+◌, ◌*◌, ◌/◌, ◌%◌, ◌-◌, ◌<◌, ◌≤◌, List, [], ◌∷◌, ◌++◌, length, Bool, true, false, refl, sym, ap, ◌∙◌, subst, cond, inl, inr, ◌⊎◌, append_assoc, Option, Some, None, arith, ◌==◌, ◌&&◌, ◌||◌, not, true≢false, nat_lt, nat_le}
-use Rattle.std.proofs.lemmas.Bool.{cond-true, cond-false, eqb-true, ltb-true, lt-ltb, leb-true, false_from_ne_true}
+use Rattle.std.proofs.Common.{◌≡◌, ℕ, zero, suc, ◌+◌, ◌*◌, ◌/◌, ◌%◌, ◌-◌, ◌<◌, ◌≤◌, List, [], ◌∷◌, ◌++◌, Bool, true, false, refl, sym, ap, ◌∙◌, subst, cond, inl, inr, ◌⊎◌, append_assoc, Option, Some, arith, ◌==◌, ◌&&◌, ◌||◌, nat_lt, nat_le}
+use Rattle.std.proofs.lemmas.Bool.{cond-false, eqb-true, ltb-true, lt-ltb, leb-true}
 use Rattle.std.proofs.Math.Nat.{div-lt_iff_lt-mul, mod-eq-sub-div-mul, div-mul-le_self, lt-div-mul-add}
 use Rattle.std.specs.List.{flat_map}
 use Rattle.wv_yaml.specs.Chunks.{Each, ◌>>=◌}
-use Rattle.wv_yaml.specs.Marks.{blank, count_of}
+use Rattle.wv_yaml.specs.Marks.{count_of}
 use Rattle.wv_yaml.specs.Lines.{within}
 use Rattle.wv_yaml.specs.Canon.{hex_of, escaped}
-use Rattle.wv_yaml.specs.Quoted.{is_feed, white, white_front, digit, digits_of, number, simple, is_character, White, DoublePiece, DoubleOther, DoubleBlanks, Simple, Numbered, Inside, Close, More, Double}
+use Rattle.wv_yaml.specs.Quoted.{is_feed, white, white_front, digit, number, is_character, DoublePiece, DoubleOther, DoubleBlanks, Simple, Numbered, Close, More, Double}
 use Rattle.wv_yaml.proofs.Heads.{and_both}
 use Rattle.wv_yaml.proofs.Parts.{or_none, or_cases}
 

@@ -1,9 +1,9 @@
 -- Quoted scalars: the function gives what the relation says, and nothing else.
-use Rattle.std.proofs.Common.{◌≡◌, ℕ, zero, suc, ◌+◌, ◌*◌, ◌<◌, ◌≤◌, List, [], ◌∷◌, ◌++◌, length, take, drop, Bool, true, false, refl, sym, ap, ◌∙◌, subst, cond, inl, inr, ◌⊎◌, append_assoc, Option, Some, None, arith, ◌==◌, ◌&&◌, ◌||◌, not, true≢false}
+use Rattle.std.proofs.Common.{◌≡◌, ℕ, zero, suc, ◌+◌, ◌*◌, List, [], ◌∷◌, ◌++◌, length, take, drop, Bool, true, false, refl, sym, ap, ◌∙◌, subst, inl, inr, ◌⊎◌, Option, Some, None, arith, ◌==◌, ◌||◌, not}
 use Rattle.std.proofs.lemmas.Bool.{cond-true, cond-false, eqb-true}
 use Rattle.std.proofs.lemmas.List.{take-append-drop}
 use Rattle.wv_yaml.specs.Chunks.{Each, ◌>>=◌}
-use Rattle.wv_yaml.specs.Marks.{blank, begins_with, breaks, folded, count_of}
+use Rattle.wv_yaml.specs.Marks.{begins_with, breaks, folded, count_of}
 use Rattle.wv_yaml.specs.Quoted.{is_feed, white, white_front, white_stands, Step, Refused, Closed, Stands, white_step, single_step, simple, digits_of, digit, number, is_character, if_character, if_simple, escape, double_step, on_step, quoted, White, SinglePiece, SingleOther, SingleQuote, SingleBlanks, SingleFold, DoublePiece, DoubleOther, DoubleBlanks, DoubleFold, Simple, Numbered, Joined, Inside, Close, More, Double, Single}
 use Rattle.wv_yaml.proofs.Parts.{chosen, bind_some, some_same}
 

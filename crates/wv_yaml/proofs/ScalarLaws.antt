@@ -1,12 +1,12 @@
 -- Block scalars: the function gives what the relation says, and nothing else.
-use Rattle.std.proofs.Common.{◌≡◌, ℕ, zero, suc, ◌+◌, ◌-◌, ◌<◌, ◌≤◌, List, [], ◌∷◌, ◌++◌, length, map, Bool, true, false, refl, sym, ap, ◌∙◌, subst, cond, inl, inr, ◌⊎◌, append_assoc, append-nil, Option, Some, None, arith, ◌==◌, ◌&&◌, ◌||◌, nat_lt, nat_le, true≢false, if◌then◌else◌}
+use Rattle.std.proofs.Common.{◌≡◌, ℕ, zero, suc, ◌+◌, ◌-◌, List, [], ◌∷◌, ◌++◌, map, Bool, true, false, refl, sym, ap, ◌∙◌, subst, cond, inl, inr, ◌⊎◌, append_assoc, append-nil, Option, Some, None, arith, ◌==◌, ◌||◌, nat_lt, if◌then◌else◌}
 use Rattle.std.proofs.lemmas.Bool.{cond-true, cond-false, eqb-true, ltb-true, lt-ltb}
 use Rattle.wv_yaml.specs.Line.{Line}
 use Rattle.wv_yaml.specs.declared.header.Chomp.{Chomp}
 use Rattle.wv_yaml.specs.declared.header.Chomp.TheVariants.{Strip, Clip, Keep}
 use Rattle.wv_yaml.specs.declared.header.Header.{Header}
 use Rattle.wv_yaml.specs.Chunks.{Each, ◌>>=◌, provided}
-use Rattle.wv_yaml.specs.Marks.{blank, is_end, quiet, all_quiet, is_tail, count_of, Quiet}
+use Rattle.wv_yaml.specs.Marks.{blank, is_end, all_quiet, is_tail, count_of}
 use Rattle.wv_yaml.specs.BlockScalar.{is_digit, is_chomp, chomp_of, header_by, after_digit, after_sign, header_of, Row, row_at, empty_row, is_empty_row, has_break, begins_blank, between, chomped, content, is_spaces, belongs, while, past, rows_at, no_deeper, rows_found, rows_of, content_of, block_scalar, Tail, IsSign, Minus, Plus, IsHeader, Bare, Digit, Sign, DigitSign, SignDigit, Content, Over, Then, RowsAt, Rows, ByDigit, ByLine, NoContent, BlockText}
 use Rattle.wv_yaml.proofs.Heads.{and_both, and_true}
 use Rattle.wv_yaml.proofs.Parts.{chosen, bind_some, provided_some, some_same, or_none}

@@ -1,26 +1,26 @@
 -- Whole texts: the functions give what the relations say, and nothing else.
-use Rattle.std.proofs.Common.{◌≡◌, ◌≢◌, ℕ, zero, suc, List, [], ◌∷◌, ◌++◌, drop, Bool, true, false, refl, sym, ap, ◌∙◌, subst, cond, inl, inr, ◌⊎◌, append_assoc, append-nil, Option, Some, None, Result, Ok, Err, ◌==◌, ◌&&◌, ◌||◌, not, true≢false}
+use Rattle.std.proofs.Common.{◌≡◌, ◌≢◌, ℕ, zero, suc, List, [], ◌∷◌, ◌++◌, Bool, true, false, refl, sym, ap, ◌∙◌, subst, cond, inl, inr, ◌⊎◌, append_assoc, append-nil, Some, None, Result, Ok, Err, ◌==◌, ◌&&◌, ◌||◌, not, true≢false}
 use Rattle.std.proofs.lemmas.Bool.{cond-true, cond-false, eqb-true, false_from_ne_true}
 use Rattle.std.proofs.lemmas.Str.{chars-encodes, encodes-chars, scalars-chars, IsUtf8-from_is_utf8, is_utf8-from_IsUtf8}
-use Rattle.std.specs.Str.{encode_utf8_all, all_scalars, chars, is_utf8}
+use Rattle.std.specs.Str.{chars}
 use Rattle.wv_yaml.specs.Line.{Line, line_at}
 use Rattle.wv_yaml.specs.declared.tree.Tree.{Tree}
 use Rattle.wv_yaml.specs.declared.fault.YamlFault.{YamlFault}
 use Rattle.wv_yaml.specs.declared.fault.YamlFault.TheVariants.{Bytes, Grammar, Duplicate, OutOfMemory}
 use Rattle.wv_yaml.specs.Reading.{IsReading, IsAnswer}
 use Rattle.wv_yaml.specs.Chunks.{Each, NoneOf, provided}
-use Rattle.wv_yaml.specs.Marks.{begins_with, trimmed, quiet, is_end, indented, all_quiet, Quiet}
+use Rattle.wv_yaml.specs.Marks.{begins_with, trimmed, quiet, is_end, indented, Quiet}
 use Rattle.wv_yaml.specs.Lines.{may_stand, allowed, unmarked, without_return, spaces, unspaced, ended_line, lines_from, lines_in, is_break, NoSpace, IsBreak, LineFeed, ReturnLineFeed, Missing, LineAt, AreLines}
 use Rattle.wv_yaml.specs.BlockScalar.{while, past}
 use Rattle.wv_yaml.specs.Quoted.{joined}
-use Rattle.wv_yaml.specs.Inline.{key_bytes, inline, begins_flow, flow_text, KeyText, Inline}
-use Rattle.wv_yaml.specs.Block.{ahead, block}
-use Rattle.wv_yaml.specs.Document.{max_depth, is_start, is_stop, is_plain_line, is_alone, opened, is_closing, top, framed, document, is_allowed, tree_of, Characters, Opened, Marked, Unmarked, Closed, Open, Stopped, Top, TopFlow, TopBlock, Document, Spelled}
+use Rattle.wv_yaml.specs.Inline.{key_bytes, inline, begins_flow, KeyText, Inline}
+use Rattle.wv_yaml.specs.Block.{ahead}
+use Rattle.wv_yaml.specs.Document.{max_depth, is_start, is_plain_line, is_alone, opened, is_closing, top, framed, document, is_allowed, tree_of, Characters, Opened, Marked, Unmarked, Closed, Open, Stopped, Top, TopFlow, TopBlock, Document, Spelled}
 use Rattle.wv_yaml.proofs.Heads.{and_both, and_true}
 use Rattle.wv_yaml.proofs.Parts.{chosen, provided_some, some_same, or_none}
 use Rattle.wv_yaml.proofs.ChunkLaws.{Ahead, ahead_cases, ahead_loud}
 use Rattle.wv_yaml.proofs.BlockLaws.{block_sound, block_complete}
-use Rattle.wv_yaml.proofs.PlainLaws.{quiet_sound, quiet_complete, passed}
+use Rattle.wv_yaml.proofs.PlainLaws.{quiet_sound, quiet_complete}
 use Rattle.wv_yaml.proofs.ScalarLaws.{while_parts, while_back}
 use Rattle.wv_yaml.proofs.InlineLaws.{key_text_sound, key_text_complete, flow_text_sound, flow_text_complete, inline_sound, inline_complete}
 use Rattle.wv_yaml.proofs.Returns.{return_off}

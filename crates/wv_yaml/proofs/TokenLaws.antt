@@ -1,16 +1,16 @@
 -- Tokens: the function gives what the relation says, and nothing else.
-use Rattle.std.proofs.Common.{◌≡◌, ℕ, zero, suc, ◌+◌, ◌-◌, ◌<◌, ◌≤◌, List, [], ◌∷◌, ◌++◌, length, take, drop, Bool, true, false, refl, sym, ap, ◌∙◌, subst, cond, inl, inr, ◌⊎◌, append_assoc, Option, Some, None, arith, ◌==◌, ◌&&◌, ◌||◌, not, true≢false, nat_le, length-append, length-drop}
+use Rattle.std.proofs.Common.{◌≡◌, ℕ, zero, suc, ◌+◌, ◌-◌, ◌≤◌, List, [], ◌∷◌, ◌++◌, length, take, drop, Bool, true, false, refl, sym, ap, ◌∙◌, subst, cond, inl, inr, append_assoc, Option, Some, arith, ◌==◌, ◌&&◌, ◌||◌, true≢false, length-append, length-drop}
 use Rattle.std.proofs.lemmas.Bool.{cond-true, cond-false, eqb-true, false_from_ne_true, not-true}
 use Rattle.std.proofs.lemmas.List.{take-append-drop}
 use Rattle.std.specs.Str.{encode_utf8_all}
 use Rattle.wv_yaml.specs.declared.token.Token.{Token}
 use Rattle.wv_yaml.specs.declared.token.Token.TheVariants as token
-use Rattle.wv_yaml.specs.Chunks.{Each, NoneOf, ◌>>=◌, provided}
+use Rattle.wv_yaml.specs.Chunks.{NoneOf, ◌>>=◌}
 use Rattle.wv_yaml.specs.Marks.{blank, is_end, begins_with, gap, trimmed, without_end, unless_blank}
 use Rattle.wv_yaml.specs.Lines.{is_break}
-use Rattle.wv_yaml.specs.Plain.{flow_sign, is_sign, plain_start, flow_parted, flow_stops, cut, first_to, RunsTo, Part}
-use Rattle.wv_yaml.specs.Quoted.{white, is_feed, Step, Refused, Closed, Stands, double_step, single_step, on_step, quoted, Double, Single}
-use Rattle.wv_yaml.specs.Tokens.{max_key, sign_of, with_quote, plain_word, is_quote, word, line_parted, key_colon, on_one_line, is_key, token_of, comment_front, one_more, tokens, is_silent, WordAt, PlainWord, DoubleWord, SingleWord, EndsLine, Lexed, NoMore, Blank, CommentLine, Comment, Sign, IsWord, IsKey}
+use Rattle.wv_yaml.specs.Plain.{flow_sign, is_sign, plain_start, flow_parted, flow_stops, cut, first_to, Part}
+use Rattle.wv_yaml.specs.Quoted.{white, Step, Refused, Closed, Stands, double_step, single_step, on_step, quoted, Double, Single}
+use Rattle.wv_yaml.specs.Tokens.{sign_of, with_quote, plain_word, is_quote, word, key_colon, is_key, token_of, comment_front, one_more, tokens, WordAt, PlainWord, DoubleWord, SingleWord, EndsLine, Lexed, NoMore, Blank, CommentLine, Comment, Sign, IsWord, IsKey}
 use Rattle.wv_yaml.proofs.Heads.{and_both, and_true}
 use Rattle.wv_yaml.proofs.Parts.{chosen, bind_some, provided_some, some_same, or_none, or_cases}
 use Rattle.wv_yaml.proofs.ChunkLaws.{gap_whole, gap_blanks, gap_again}
