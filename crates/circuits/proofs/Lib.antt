@@ -7,3 +7,7 @@ pub mod Carrying
 pub mod Summed
 pub mod Digits
 pub mod Converted
+pub mod Multiplying
+pub mod Sizes
+pub mod Distances
+pub mod Multiplied

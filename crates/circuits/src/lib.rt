@@ -8,6 +8,7 @@ mod gates;
 mod lists;
 mod logic;
 mod net;
+mod products;
 mod signs;
 mod sums;
 #[cfg(test)]
@@ -18,4 +19,5 @@ pub use bits::{Bits, Outcome, choose_bits, const_bits, convert_bits};
 pub use gates::Gate;
 pub use logic::{bit_operator, complement, truth_bits};
 pub use net::{Bit, Net, NetNode, not};
+pub use products::multiply;
 pub use sums::{add, below, differ, subtract};

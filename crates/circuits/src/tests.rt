@@ -1,7 +1,7 @@
 // Rows whose values come from ISO C11 6.3.1.3 and 6.5, not from the circuits.
 use crate::{
     Gate, Net, add, below, bit_operator, choose_bits, complement, const_bits, convert_bits, differ,
-    subtract, truth_bits,
+    multiply, not, subtract, truth_bits,
 };
 use c_core::{DataModel, IntType};
 use std::test::Fail;
@@ -151,5 +151,49 @@ fn complements_digits_and_widens_a_bit(rt: HostRuntime) -> Result<(), Fail> {
     let yes = net.yes();
     let one = truth_bits(rt.alloc(), &net, DataModel::Lp64, yes)?;
     assert_eq!(rt; one.value.bits.len(), 32);
+    Ok(())
+}
+
+#[test]
+fn multiplies_beyond_the_largest_int(rt: HostRuntime) -> Result<(), Fail> {
+    let mut net = Net::new(rt.alloc())?;
+    let a = const_bits(rt.alloc(), &net, DataModel::Lp64, IntType::Int, 65536)?;
+    let out = multiply(
+        rt.alloc(),
+        &mut net,
+        DataModel::Lp64,
+        IntType::Int,
+        a.bits.as_slice(),
+        a.bits.as_slice(),
+    )?;
+    assert_eq!(rt; net.inputs(), 0);
+    assert!(rt; net.value(rt.alloc(), out.overflow, &[])?);
+    let never = not(net.yes());
+    for bit in out.value.bits.as_slice() {
+        assert!(rt; *bit == never);
+    }
+    Ok(())
+}
+
+#[test]
+fn unsigned_products_never_overflow(rt: HostRuntime) -> Result<(), Fail> {
+    let mut net = Net::new(rt.alloc())?;
+    let a = const_bits(
+        rt.alloc(),
+        &net,
+        DataModel::Lp64,
+        IntType::ULongLong,
+        4294967296,
+    )?;
+    let out = multiply(
+        rt.alloc(),
+        &mut net,
+        DataModel::Lp64,
+        IntType::ULongLong,
+        a.bits.as_slice(),
+        a.bits.as_slice(),
+    )?;
+    assert_eq!(rt; net.inputs(), 0);
+    assert!(rt; !net.value(rt.alloc(), out.overflow, &[])?);
     Ok(())
 }
