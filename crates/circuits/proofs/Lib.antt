@@ -11,3 +11,5 @@ pub mod Multiplying
 pub mod Sizes
 pub mod Distances
 pub mod Multiplied
+pub mod Dividing
+pub mod Halves

@@ -9,6 +9,7 @@ mod lists;
 mod logic;
 mod net;
 mod products;
+mod quotients;
 mod signs;
 mod sums;
 #[cfg(test)]
@@ -20,4 +21,5 @@ pub use gates::Gate;
 pub use logic::{bit_operator, complement, truth_bits};
 pub use net::{Bit, Net, NetNode, not};
 pub use products::multiply;
+pub use quotients::{divide, remainder};
 pub use sums::{add, below, differ, subtract};

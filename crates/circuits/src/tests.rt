@@ -1,7 +1,7 @@
 // Rows whose values come from ISO C11 6.3.1.3 and 6.5, not from the circuits.
 use crate::{
     Gate, Net, add, below, bit_operator, choose_bits, complement, const_bits, convert_bits, differ,
-    multiply, not, subtract, truth_bits,
+    divide, multiply, not, remainder, subtract, truth_bits,
 };
 use c_core::{DataModel, IntType};
 use std::test::Fail;
@@ -195,5 +195,45 @@ fn unsigned_products_never_overflow(rt: HostRuntime) -> Result<(), Fail> {
     )?;
     assert_eq!(rt; net.inputs(), 0);
     assert!(rt; !net.value(rt.alloc(), out.overflow, &[])?);
+    Ok(())
+}
+
+#[test]
+fn divides_the_least_int_by_minus_one(rt: HostRuntime) -> Result<(), Fail> {
+    let mut net = Net::new(rt.alloc())?;
+    let a = const_bits(rt.alloc(), &net, DataModel::Lp64, IntType::Int, -2147483648)?;
+    let b = const_bits(rt.alloc(), &net, DataModel::Lp64, IntType::Int, -1)?;
+    let out = remainder(
+        rt.alloc(),
+        &mut net,
+        DataModel::Lp64,
+        IntType::Int,
+        a.bits.as_slice(),
+        b.bits.as_slice(),
+    )?;
+    assert_eq!(rt; net.inputs(), 0);
+    assert!(rt; net.value(rt.alloc(), out.overflow, &[])?);
+    let never = not(net.yes());
+    for bit in out.value.bits.as_slice() {
+        assert!(rt; *bit == never);
+    }
+    Ok(())
+}
+
+#[test]
+fn a_quotient_by_zero_is_undefined(rt: HostRuntime) -> Result<(), Fail> {
+    let mut net = Net::new(rt.alloc())?;
+    let a = const_bits(rt.alloc(), &net, DataModel::Lp64, IntType::Int, 1)?;
+    let b = const_bits(rt.alloc(), &net, DataModel::Lp64, IntType::Int, 0)?;
+    let out = divide(
+        rt.alloc(),
+        &mut net,
+        DataModel::Lp64,
+        IntType::Int,
+        a.bits.as_slice(),
+        b.bits.as_slice(),
+    )?;
+    assert_eq!(rt; net.inputs(), 0);
+    assert!(rt; net.value(rt.alloc(), out.undefined, &[])?);
     Ok(())
 }
