@@ -13,3 +13,4 @@ pub mod Distances
 pub mod Multiplied
 pub mod Dividing
 pub mod Halves
+pub mod Single

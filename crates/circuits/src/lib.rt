@@ -15,6 +15,7 @@ mod sums;
 #[cfg(test)]
 mod tests;
 mod types;
+mod unary;
 
 pub use bits::{Bits, Outcome, choose_bits, const_bits, convert_bits};
 pub use gates::Gate;
@@ -23,3 +24,4 @@ pub use net::{Bit, Net, NetNode, not};
 pub use products::multiply;
 pub use quotients::{divide, remainder};
 pub use sums::{add, below, differ, subtract};
+pub use unary::one_bits;

@@ -1,9 +1,9 @@
 // Rows whose values come from ISO C11 6.3.1.3 and 6.5, not from the circuits.
 use crate::{
     Gate, Net, add, below, bit_operator, choose_bits, complement, const_bits, convert_bits, differ,
-    divide, multiply, not, remainder, subtract, truth_bits,
+    divide, multiply, not, one_bits, remainder, subtract, truth_bits,
 };
-use c_core::{DataModel, IntType};
+use c_core::{DataModel, IntType, UnOp};
 use std::test::Fail;
 
 #[test]
@@ -235,5 +235,22 @@ fn a_quotient_by_zero_is_undefined(rt: HostRuntime) -> Result<(), Fail> {
     )?;
     assert_eq!(rt; net.inputs(), 0);
     assert!(rt; net.value(rt.alloc(), out.undefined, &[])?);
+    Ok(())
+}
+
+#[test]
+fn not_of_zero_is_one(rt: HostRuntime) -> Result<(), Fail> {
+    let mut net = Net::new(rt.alloc())?;
+    let zero = const_bits(rt.alloc(), &net, DataModel::Lp64, IntType::Int, 0)?;
+    let out = one_bits(
+        rt.alloc(),
+        &mut net,
+        DataModel::Lp64,
+        UnOp::Not,
+        IntType::Int,
+        &zero,
+    )?;
+    let one = const_bits(rt.alloc(), &net, DataModel::Lp64, IntType::Int, 1)?;
+    assert!(rt; out.value.bits.as_slice() == one.bits.as_slice());
     Ok(())
 }
