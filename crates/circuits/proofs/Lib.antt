@@ -14,3 +14,6 @@ pub mod Multiplied
 pub mod Dividing
 pub mod Halves
 pub mod Single
+pub mod Raising
+pub mod Moved
+pub mod Placed

@@ -11,7 +11,7 @@ use Rattle.circuits.specs.Numbers.{digit, read}
 use Rattle.circuits.specs.Gates.{negative, size}
 use Rattle.circuits.proofs.Reading.{fits, fits_is, residue_is, ranged, half}
 
-pub signed_number : Bool → ℕ → ℤ
+unfoldable pub signed_number : Bool → ℕ → ℤ
 signed_number true m = neg_ℤ (pos m)
 signed_number false m = pos m
 

@@ -10,6 +10,7 @@ mod logic;
 mod net;
 mod products;
 mod quotients;
+mod shifts;
 mod signs;
 mod sums;
 #[cfg(test)]
@@ -23,5 +24,6 @@ pub use logic::{bit_operator, complement, truth_bits};
 pub use net::{Bit, Net, NetNode, not};
 pub use products::multiply;
 pub use quotients::{divide, remainder};
+pub use shifts::{shift_left, shift_right};
 pub use sums::{add, below, differ, subtract};
 pub use unary::one_bits;

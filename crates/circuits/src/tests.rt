@@ -1,7 +1,7 @@
 // Rows whose values come from ISO C11 6.3.1.3 and 6.5, not from the circuits.
 use crate::{
     Gate, Net, add, below, bit_operator, choose_bits, complement, const_bits, convert_bits, differ,
-    divide, multiply, not, one_bits, remainder, subtract, truth_bits,
+    divide, multiply, not, one_bits, remainder, shift_left, shift_right, subtract, truth_bits,
 };
 use c_core::{DataModel, IntType, UnOp};
 use std::test::Fail;
@@ -252,5 +252,43 @@ fn not_of_zero_is_one(rt: HostRuntime) -> Result<(), Fail> {
     )?;
     let one = const_bits(rt.alloc(), &net, DataModel::Lp64, IntType::Int, 1)?;
     assert!(rt; out.value.bits.as_slice() == one.bits.as_slice());
+    Ok(())
+}
+
+#[test]
+fn a_shift_by_the_width_is_undefined(rt: HostRuntime) -> Result<(), Fail> {
+    let mut net = Net::new(rt.alloc())?;
+    let a = const_bits(rt.alloc(), &net, DataModel::Lp64, IntType::Int, 1)?;
+    let b = const_bits(rt.alloc(), &net, DataModel::Lp64, IntType::Int, 32)?;
+    let out = shift_left(
+        rt.alloc(),
+        &mut net,
+        DataModel::Lp64,
+        IntType::Int,
+        a.bits.as_slice(),
+        IntType::Int,
+        b.bits.as_slice(),
+    )?;
+    assert_eq!(rt; net.inputs(), 0);
+    assert!(rt; net.value(rt.alloc(), out.undefined, &[])?);
+    Ok(())
+}
+
+#[test]
+fn a_shift_to_the_right_keeps_the_sign(rt: HostRuntime) -> Result<(), Fail> {
+    let mut net = Net::new(rt.alloc())?;
+    let a = const_bits(rt.alloc(), &net, DataModel::Lp64, IntType::Int, -7)?;
+    let b = const_bits(rt.alloc(), &net, DataModel::Lp64, IntType::Int, 1)?;
+    let out = shift_right(
+        rt.alloc(),
+        &mut net,
+        DataModel::Lp64,
+        IntType::Int,
+        a.bits.as_slice(),
+        IntType::Int,
+        b.bits.as_slice(),
+    )?;
+    let wanted = const_bits(rt.alloc(), &net, DataModel::Lp64, IntType::Int, -4)?;
+    assert!(rt; out.value.bits.as_slice() == wanted.bits.as_slice());
     Ok(())
 }
