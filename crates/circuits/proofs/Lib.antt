@@ -7,3 +7,13 @@ pub mod Carrying
 pub mod Summed
 pub mod Digits
 pub mod Converted
+pub mod Multiplying
+pub mod Sizes
+pub mod Distances
+pub mod Multiplied
+pub mod Dividing
+pub mod Halves
+pub mod Single
+pub mod Raising
+pub mod Moved
+pub mod Placed

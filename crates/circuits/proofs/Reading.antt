@@ -163,7 +163,7 @@ pub is_carry : (M t m n : ℕ) (c : Bool) → t < M → n ≤ M → m < M → t 
 is_carry M t m n true a b h e = omega (arith, e)
 is_carry M t m n false a b h e = omega (arith, e)
 
-lt_is : (c : Bool) (m n : ℕ) → IsCarry c m n → nat_lt m n ≡ not c
+pub lt_is : (c : Bool) (m n : ℕ) → IsCarry c m n → nat_lt m n ≡ not c
 lt_is true m n h = le-ltb m n h
 lt_is false m n h = lt-ltb m n h
 

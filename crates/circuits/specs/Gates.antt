@@ -1,5 +1,5 @@
 -- What the gates compute.
-use Rattle.std.specs.Prelude.{◌≡◌, ℕ, ◌+◌, ◌*◌, ◌^◌, ◌-◌, Bool, not, ◌&&◌, ◌||◌, nat_lt, List, bit_and, bit_or, bit_xor}
+use Rattle.std.specs.Prelude.{◌≡◌, ℕ, ◌+◌, ◌*◌, ◌^◌, ◌-◌, Bool, not, ◌&&◌, ◌||◌, nat_lt, List, cond, bit_and, bit_or, bit_xor}
 use Rattle.circuits.specs.declared.net.Bit.{Bit}
 use Rattle.circuits.specs.declared.net.NetNode.{NetNode}
 use Rattle.circuits.specs.declared.gates.Gate.{Gate}
@@ -27,3 +27,7 @@ digits_of Or a b = bit_or a b
 -- a number of w digits is negative in a type
 abbrev pub negative : ℕ → Bool → ℕ → Bool
 negative w signed n = signed && not (nat_lt n (2 ^ (w - 1)))
+
+-- the distance from 0 of a number of w digits in a type
+abbrev pub size : ℕ → Bool → ℕ → ℕ
+size w signed n = cond (negative w signed n) (2 ^ w - n) n

@@ -3,3 +3,4 @@ pub mod Reach
 pub mod Numbers
 pub mod Outcome
 pub mod Gates
+pub mod Division

@@ -1,9 +1,11 @@
 -- What the circuit of an operator gives, and how many and-nodes it may add.
-use Rattle.std.specs.Prelude.{◌≡◌, ℕ, Bool, true, false, ℤ, List}
+use Rattle.std.specs.Prelude.{◌≡◌, ℕ, ◌*◌, Bool, true, false, ℤ, List}
 use Rattle.c_core.specs.Types.{width_of}
 use Rattle.c_core.specs.declared.number.DataModel.{DataModel}
 use Rattle.c_core.specs.declared.number.IntType.{IntType}
-use Rattle.c_core.specs.declared.number.IntType.TheVariants.{Bool as BoolType}
+use Rattle.c_core.specs.declared.number.IntType.TheVariants.{Bool as BoolType, Int}
+use Rattle.c_core.specs.declared.number.UnOp.{UnOp}
+use Rattle.c_core.specs.declared.number.UnOp.TheVariants.{Plus, Neg, BitNot, Not}
 use Rattle.c_core.specs.declared.number.Done.{Done}
 use Rattle.c_core.specs.declared.number.Done.TheVariants.{Value, Overflow, Undefined}
 use Rattle.circuits.specs.declared.net.NetNode.{NetNode}
@@ -41,3 +43,17 @@ abbrev pub conversion_cost : DataModel → IntType → IntType → ℕ
 conversion_cost m BoolType BoolType = 0
 conversion_cost m from BoolType = width_of m from
 conversion_cost m from to = 0
+
+-- the type of an operator of one number: `!` gives an `int`
+abbrev pub one_type : UnOp → IntType → IntType
+one_type Plus ty = ty
+one_type Neg ty = ty
+one_type BitNot ty = ty
+one_type Not ty = Int
+
+-- and-nodes of an operator of one number
+abbrev pub one_cost : DataModel → UnOp → IntType → ℕ
+one_cost m Plus ty = 0
+one_cost m Neg ty = 16 * width_of m ty
+one_cost m BitNot ty = 4 * width_of m ty
+one_cost m Not ty = width_of m ty

@@ -13,7 +13,7 @@ use c_core::{DataModel, IntType};
 use std::alloc::Global;
 use wv_base::OutOfMemory;
 
-fn constant(net: &Net, value: bool) -> Bit
+pub fn constant(net: &Net, value: bool) -> Bit
     ensures { Means net.now result (λ v. value) }
 {
     if value {

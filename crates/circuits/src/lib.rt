@@ -8,14 +8,22 @@ mod gates;
 mod lists;
 mod logic;
 mod net;
+mod products;
+mod quotients;
+mod shifts;
 mod signs;
 mod sums;
 #[cfg(test)]
 mod tests;
 mod types;
+mod unary;
 
 pub use bits::{Bits, Outcome, choose_bits, const_bits, convert_bits};
 pub use gates::Gate;
 pub use logic::{bit_operator, complement, truth_bits};
 pub use net::{Bit, Net, NetNode, not};
+pub use products::multiply;
+pub use quotients::{divide, remainder};
+pub use shifts::{shift_left, shift_right};
 pub use sums::{add, below, differ, subtract};
+pub use unary::one_bits;
