@@ -1,0 +1,2 @@
+pub mod Interpreting
+pub mod Drawing

@@ -1,0 +1,164 @@
+// Declared names and their initializers.
+ghost use Rattle.std.specs.Prelude.{◌≤◌};
+ghost use Rattle.c_core.specs.View.{program_view, expr_view, exprs_view, names_view, first_view, init_view};
+ghost use Rattle.c_interpreter.specs.Interpreting.{Gives, same, state_of, flow_of, declaring, introduced, initialised, initialised_one, initialised_by, begun};
+
+use crate::cells::{add_cells, draw_cells, ticks};
+use crate::full_expressions::{full, only};
+use crate::machine::{Element, Flow, Halt, Machine};
+use crate::steps::room;
+use crate::values::{size_of_object, store, type_of_object};
+use c_core::{Declared, Expr, First, Init, Program, Spot};
+use c_meaning::Watcher;
+
+// One value of an initializer.
+fn initial_value<W: Watcher>(
+    program: &Program,
+    machine: &mut Machine,
+    watcher: &mut W,
+    depth: u64,
+    at: Spot,
+    object: u32,
+    index: u32,
+    e: &Expr,
+) -> Result<(), Halt>
+    requires bound { machine.old.steps ≤ depth }
+    ensures gives { Gives same result (state_of machine.new (W.seen watcher.new)) (initialised_one (program_view program.now) W.Seen W.after depth at object index (expr_view e.now) (state_of machine.old (W.seen watcher.old))) }
+    ensures spends { machine.new.steps ≤ machine.old.steps }
+{
+    let value = full(program, machine, watcher, depth, at, true, e)?;
+    let ty = type_of_object(program, object);
+    store::<W>(program, machine, Element { object, index }, ty, value);
+    Ok(())
+}
+
+// The values of an initializer, one after another.
+fn initial_values<W: Watcher>(
+    program: &Program,
+    machine: &mut Machine,
+    watcher: &mut W,
+    depth: u64,
+    at: Spot,
+    object: u32,
+    es: &[Expr],
+) -> Result<(), Halt>
+    requires bound { machine.old.steps ≤ depth }
+    ensures gives { Gives same result (state_of machine.new (W.seen watcher.new)) (initialised_by (program_view program.now) W.Seen W.after depth at object 0 (exprs_view es.now) (state_of machine.old (W.seen watcher.old))) }
+    ensures spends { machine.new.steps ≤ machine.old.steps }
+{
+    for (index, e) in es.iter().enumerate() {
+        // cells are numbered by 32 bits
+        if index > u32::MAX as usize {
+            return Err(Halt::NoMemory);
+        }
+        initial_value(
+            program,
+            machine,
+            watcher,
+            depth,
+            at,
+            object,
+            index as u32,
+            e,
+        )?;
+    }
+    Ok(())
+}
+
+// The initializer of a declared name.
+fn initial<W: Watcher>(
+    program: &Program,
+    machine: &mut Machine,
+    watcher: &mut W,
+    depth: u64,
+    at: Spot,
+    spot: Spot,
+    object: u32,
+    init: &Init,
+) -> Result<(), Halt>
+    requires bound { machine.old.steps ≤ depth }
+    ensures gives { Gives same result (state_of machine.new (W.seen watcher.new)) (initialised (program_view program.now) W.Seen W.after depth at spot object (init_view init.now) (state_of machine.old (W.seen watcher.old))) }
+    ensures spends { machine.new.steps ≤ machine.old.steps }
+{
+    match init {
+        Init::Absent => draw_cells::<W>(program, machine, spot, object),
+        Init::One(e) => initial_value(program, machine, watcher, depth, at, object, 0, e),
+        Init::Many(es) => initial_values(
+            program,
+            machine,
+            watcher,
+            depth,
+            at,
+            object,
+            es.as_slice(),
+        ),
+    }
+}
+
+// A declared name: its cells, then its initializer.
+fn introduce<W: Watcher>(
+    program: &Program,
+    machine: &mut Machine,
+    watcher: &mut W,
+    depth: u64,
+    at: Spot,
+    name: &Declared,
+) -> Result<(), Halt>
+    requires bound { machine.old.steps ≤ depth }
+    ensures gives { Gives same result (state_of machine.new (W.seen watcher.new)) (introduced (program_view program.now) W.Seen W.after depth at name.now.spot name.now.object (init_view name.now.init) (state_of machine.old (W.seen watcher.old))) }
+    ensures spends { machine.new.steps ≤ machine.old.steps }
+{
+    let size = size_of_object(program, name.object);
+    ticks::<W>(machine, size)?;
+    room::<W>(machine, size as u64)?;
+    add_cells(&mut machine.memory, name.object, size)?;
+    initial(
+        program,
+        machine,
+        watcher,
+        depth,
+        at,
+        name.spot,
+        name.object,
+        &name.init,
+    )
+}
+
+/// Declared names, one after another.
+pub fn declare<W: Watcher>(
+    program: &Program,
+    machine: &mut Machine,
+    watcher: &mut W,
+    depth: u64,
+    at: Spot,
+    names: &[Declared],
+) -> Result<Flow, Halt>
+    requires bound { machine.old.steps ≤ depth }
+    ensures gives { Gives flow_of result (state_of machine.new (W.seen watcher.new)) (declaring (program_view program.now) W.Seen W.after depth at (names_view names.now) (state_of machine.old (W.seen watcher.old))) }
+    ensures spends { machine.new.steps ≤ machine.old.steps }
+{
+    for name in names {
+        introduce(program, machine, watcher, depth, at, name)?;
+    }
+    Ok(Flow::Next)
+}
+
+/// What comes before the turns of a `for`.
+pub fn begin<W: Watcher>(
+    program: &Program,
+    machine: &mut Machine,
+    watcher: &mut W,
+    depth: u64,
+    at: Spot,
+    first: &First,
+) -> Result<Flow, Halt>
+    requires bound { machine.old.steps ≤ depth }
+    ensures gives { Gives flow_of result (state_of machine.new (W.seen watcher.new)) (begun (program_view program.now) W.Seen W.after depth at (first_view first.now) (state_of machine.old (W.seen watcher.old))) }
+    ensures spends { machine.new.steps ≤ machine.old.steps }
+{
+    match first {
+        First::Absent => Ok(Flow::Next),
+        First::Expr(e) => only(program, machine, watcher, depth, None, at, e),
+        First::Declare(names) => declare(program, machine, watcher, depth, at, names.as_slice()),
+    }
+}

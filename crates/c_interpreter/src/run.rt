@@ -1,0 +1,88 @@
+// Runs of programs.
+ghost use Rattle.std.specs.Prelude.{◌≡◌, ◌≤◌, suc, IfOk};
+ghost use Rattle.c_core.specs.View.{program_view, function_view};
+ghost use Rattle.c_meaning.specs.Run as runs;
+ghost use Rattle.c_meaning.specs.Watching.{seen_after};
+ghost use Rattle.c_interpreter.specs.Interpreting.{Gives, EndsAs, state_of, flow_of, in_main, in_function};
+
+use crate::machine::{Flow, Halt, Machine};
+use crate::start::start;
+use crate::statements::form;
+use crate::steps::tick;
+use c_core::{Function, Program};
+use c_meaning::{Choices, End, Run, Watcher};
+use std::alloc::Global;
+use wv_base::OutOfMemory;
+
+/// Runs a program with choices and at most so many steps; the watcher sees each event, with the memory of that moment.
+pub fn run_plain<W: Watcher>(
+    alloc: Global,
+    program: &Program,
+    choices: &Choices,
+    steps: u64,
+    watcher: &mut W,
+) -> Result<Run, OutOfMemory>
+    ensures run { IfOk result (λ r. r ≡ runs.Run (program_view program.now) choices.now steps) }
+    ensures seen { IfOk result (λ r. W.seen watcher.new ≡ seen_after W.after (W.seen watcher.old) (runs.Moments (program_view program.now) choices.now steps)) }
+{
+    let mut machine = start(alloc, program, choices, steps)?;
+    let end = end_of(run_main(program, &mut machine, watcher, steps))?;
+    Ok(Run {
+        end,
+        steps: steps - machine.steps,
+        draws: machine.draws,
+        unfixed: machine.unfixed,
+    })
+}
+
+// The end of a run that went on to its end, or halted.
+fn end_of(outcome: Result<Flow, Halt>) -> Result<End, OutOfMemory>
+    ensures { IfOk result (EndsAs outcome) }
+{
+    match outcome {
+        Ok(_) => Ok(End::Ended),
+        Err(Halt::Ends(end)) => Ok(end),
+        Err(Halt::NoMemory) => Err(OutOfMemory),
+    }
+}
+
+// The whole of `main`.
+fn run_main<W: Watcher>(
+    program: &Program,
+    machine: &mut Machine,
+    watcher: &mut W,
+    steps: u64,
+) -> Result<Flow, Halt>
+    requires bound { machine.old.steps ≤ steps }
+    ensures gives { Gives flow_of result (state_of machine.new (W.seen watcher.new)) (in_main (program_view program.now) W.Seen W.after (suc steps) (state_of machine.old (W.seen watcher.old))) }
+    ensures spends { machine.new.steps ≤ machine.old.steps }
+{
+    match program.functions.get(program.main as usize) {
+        Some(function) => body(program, machine, watcher, steps, function),
+        None => Ok(Flow::Next),
+    }
+}
+
+// The body of a function, in which calls are at most so many deep.
+fn body<W: Watcher>(
+    program: &Program,
+    machine: &mut Machine,
+    watcher: &mut W,
+    depth: u64,
+    function: &Function,
+) -> Result<Flow, Halt>
+    requires bound { machine.old.steps ≤ suc depth }
+    ensures gives { Gives flow_of result (state_of machine.new (W.seen watcher.new)) (in_function (program_view program.now) W.Seen W.after (suc depth) (function_view function.now) (state_of machine.old (W.seen watcher.old))) }
+    ensures spends { machine.new.steps ≤ machine.old.steps }
+{
+    tick::<W>(machine)?;
+    form(
+        program,
+        machine,
+        watcher,
+        depth,
+        function.result,
+        function.body.spot,
+        &function.body.form,
+    )
+}
