@@ -2,6 +2,7 @@ pub mod Confirmed
 mod ExampleGiven
 mod ExamplePassing
 mod ExampleVerdicts
+pub mod Judged
 pub mod Tested
 pub mod ThinParts
 pub mod TokenSteps
@@ -18,3 +19,4 @@ pub mod ThinInputs
 pub mod ThinGiven
 pub mod ThinReturns
 pub mod AimSteps
+pub mod JudgedTask

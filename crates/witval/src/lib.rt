@@ -1,12 +1,19 @@
-//! The validator's definitions and readers: what waypoints, matching, given values and verdicts are, the laws on them,
-//! and readers of the inputs that the first release takes. The top call joins them once the interpreter is proved.
+//! The validator: it judges a program, a property and a witness, and its one promise is that the
+//! verdict it prints holds of the program's real runs.
 #![tactic(auto)]
 
+mod answer;
 mod examples;
 mod input;
+mod judge;
 mod laws;
 mod refusal;
 mod thin;
+mod top;
 mod words;
 
 pub use laws::{confirmed_violates, confirms_exactly, test_matches};
+pub use top::run;
+
+#[cfg(test)]
+mod tests;

@@ -1,17 +1,23 @@
-// What the first release takes: one property, one shape of witness, and programs of input calls and
-// tests. Readers of these, the values that the witness gives, and the verdict on a run.
+// What this release takes: one property, one shape of witness, and programs of input calls and
+// tests; readers of these, and the judge of what they read.
 mod aims;
 mod characters;
 mod choices;
 mod grammar;
+mod judge;
 mod objects;
 mod program;
 mod property;
 mod statements;
-#[cfg(test)]
-mod tests;
 mod tokens;
 mod tracker;
 mod trees;
-mod verdict;
 mod witness;
+
+pub use judge::judge_violation;
+pub use program::read_program;
+pub use property::is_unreach;
+pub use witness::{ThinWitness, read_witness};
+
+#[cfg(test)]
+mod tests;

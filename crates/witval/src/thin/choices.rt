@@ -156,7 +156,7 @@ fn returns_as_int()
 #[cfg(test)]
 mod tests {
     use super::*;
-    use crate::thin::program::read_program;
+    use crate::thin::read_program;
     use std::test::Fail;
 
     const PROGRAM: &str = "void reach_error() { }

@@ -1,10 +1,11 @@
-use crate::thin::program::read_program;
-use crate::thin::property::is_unreach;
-use crate::thin::witness::{ThinWitness, read_witness};
+use crate::thin::tracker::Tracker;
+use crate::thin::{ThinWitness, is_unreach, read_program, read_witness};
 use c_core::{Form, Init, Node, Program, Spot, Stmt};
+use c_interpreter::run_plain;
+use c_meaning::{Choices, End, Run};
 use std::alloc::{AllocError, Global};
 use std::test::Fail;
-use wv_base::OutOfMemory;
+use wv_base::{OutOfMemory, Seq};
 
 const WITNESS: &str = "- entry_type: \"violation_sequence\"
   metadata:
@@ -329,5 +330,36 @@ fn waypoints_stand_where_they_may(rt: HostRuntime) -> Result<(), Fail> {
     for close in [at(4, 11), at(4, 32), at(6, 17), at(2, 27), at(5, 33)] {
         assert!(rt; !is_placed(alloc, close, at(6, 5))?, "{close:?}");
     }
+    Ok(())
+}
+
+/// The run of the program with the input 5, and so many steps.
+fn run_with(alloc: Global, steps: u64) -> Result<Run, OutOfMemory> {
+    let Some(reading) = read_program(alloc, PROGRAM.as_bytes(), &PLACED)? else {
+        return Err(OutOfMemory);
+    };
+    let mut values = Seq::new(alloc);
+    values.push(5)?;
+    let mut tracker = Tracker::new(PLACED);
+    run_plain(
+        alloc,
+        &reading.program,
+        &Choices::InTurn(values),
+        steps,
+        &mut tracker,
+    )
+}
+
+#[test]
+fn eleven_steps_reach_the_error(rt: HostRuntime) -> Result<(), Fail> {
+    let alloc = rt.alloc();
+    let run = run_with(alloc, 11)?;
+    assert_eq!(rt; run.end, End::Violated(at(6, 5)));
+    assert_eq!(rt; run.steps, 11);
+    assert_eq!(rt; run.draws.len(), 1);
+    assert_eq!(rt; run.unfixed, 0);
+    let run = run_with(alloc, 10)?;
+    assert_eq!(rt; run.end, End::Spent);
+    assert_eq!(rt; run.steps, 10);
     Ok(())
 }

@@ -1,15 +1,8 @@
-ghost use Rattle.std.specs.Prelude.{◌≡◌, List, true};
+ghost use Rattle.std.specs.Prelude.{◌≡◌, List};
 ghost use Rattle.c_core.specs.Tree.{Program};
-ghost use Rattle.c_core.specs.Thin.{is_thin};
 ghost use Rattle.c_core.specs.Types.{fit};
-ghost use Rattle.c_meaning.specs.Run as runs;
-ghost use Rattle.c_meaning.specs.Watching.{seen_after};
-ghost use Rattle.witval.specs.Budget.{steps};
-ghost use Rattle.witval.specs.Given.{given_by, RunGiven};
-ghost use Rattle.witval.specs.Tasks.{IsRightVerdict};
-ghost use Rattle.witval.specs.ThinPlaces.{segments_of};
 ghost use Rattle.witval.specs.Matching.{Seen};
-ghost use Rattle.witval.specs.ThinTracking.{TrackingDecides, after, gives_value, tracking, verdict_by, violates_there};
+ghost use Rattle.witval.specs.ThinTracking.{TrackingDecides, after, gives_value, tracking, violates_there};
 ghost use Rattle.witval.specs.declared.thin.tracker.Tracker.{Tracker};
 ghost use Rattle.witval.specs.declared.thin.witness.ThinWitness.{ThinWitness};
 
@@ -97,11 +90,4 @@ fn violates(witness: &ThinWitness, event: Event) -> bool
 /// What is kept of the events decides where they match.
 fn tracking_decides()
     ensures { (p : Program) (w : ThinWitness) (es : List Seen) → TrackingDecides p w es }
-{}
-
-/// The verdict by the given run, and by what a tracker keeps of its events, is right.
-fn tracked_verdict_is_right()
-    ensures { (p : Program) (w : ThinWitness) → is_thin p ≡ true →
-        IsRightVerdict p (segments_of w) (verdict_by (RunGiven p (segments_of w) steps)
-        (seen_after after (tracking w) (runs.Moments p (given_by p (segments_of w)) steps))) }
 {}

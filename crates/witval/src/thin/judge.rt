@@ -1,7 +1,14 @@
 ghost use Rattle.std.specs.Prelude.{◌≡◌, IfOk};
+ghost use Rattle.c_core.specs.View.{program_view};
+ghost use Rattle.witval.specs.Tasks.{IsRightVerdict};
+ghost use Rattle.witval.specs.ThinPlaces.{segments_of};
 ghost use Rattle.witval.specs.ThinTracking.{positions_if, verdict_by};
 
+use crate::thin::choices::choices;
 use crate::thin::tracker::Tracker;
+use crate::thin::witness::ThinWitness;
+use c_core::Program;
+use c_interpreter::run_plain;
 use c_meaning::{Cause, End, Reason, Run, Verdict};
 use std::alloc::Global;
 use wv_base::{OutOfMemory, Seq};
@@ -9,8 +16,22 @@ use wv_base::{OutOfMemory, Seq};
 /// The default budget.
 const STEPS: u64 = 10_000_000;
 
-/// The verdict by a run, and by what was kept of its events.
-pub fn verdict_on(alloc: Global, run: Run, tracker: &Tracker) -> Result<Verdict, OutOfMemory>
+/// The verdict on the given run of a thin witness.
+pub fn judge_violation(
+    alloc: Global,
+    program: &Program,
+    witness: &ThinWitness,
+) -> Result<Verdict, OutOfMemory>
+    ensures { IfOk result (IsRightVerdict (program_view program.now) (segments_of witness.now)) }
+{
+    let choices = choices(alloc, program, witness)?;
+    let mut tracker = Tracker::new(*witness);
+    let run = run_plain(alloc, program, &choices, STEPS, &mut tracker)?;
+    let verdict = verdict(alloc, run, &tracker)?;
+    Ok(verdict)
+}
+
+fn verdict(alloc: Global, run: Run, tracker: &Tracker) -> Result<Verdict, OutOfMemory>
     ensures { IfOk result (λ verdict. verdict ≡ verdict_by run tracker.now) }
 {
     let unfixed = run.unfixed;
