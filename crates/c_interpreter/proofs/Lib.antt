@@ -7,3 +7,4 @@ pub mod Looping
 pub mod Starting
 pub mod Running
 pub mod Drawing
+pub mod Calling

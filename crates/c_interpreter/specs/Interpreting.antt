@@ -34,7 +34,7 @@ use Rattle.c_meaning.specs.Run.{State, real, cells_of, with_cells}
 use Rattle.c_meaning.specs.Objects.{type_of_object, size_of_object}
 use Rattle.c_meaning.specs.Watching.{seen_by}
 use Rattle.c_meaning.specs.Eval.{eval, node, target, place, tested, convert_to, operate, store, called}
-use Rattle.c_meaning.specs.Exec.{call_of, run_in, run_main, ticks, full, initial, declare, exec, form, otherwise, execs, draw_cells, initials, while_turn, do_turn, for_turn, full_if, control, turn}
+use Rattle.c_meaning.specs.Exec.{call_of, with_params, run_in, run_main, ticks, full, initial, declare, exec, form, otherwise, execs, draw_cells, initials, while_turn, do_turn, for_turn, full_if, control, turn}
 use Rattle.c_meaning.specs.Objects.{type_of}
 use Rattle.c_interpreter.specs.declared.machine.Typed.{Typed}
 use Rattle.c_interpreter.specs.declared.machine.Element.{Element}
@@ -95,6 +95,10 @@ key_of e = record { object = e.object; index = e.index }
 abbrev pub pairs_of : List Typed → List (ℤ × IntType)
 pairs_of [] = []
 pairs_of (v ∷ vs) = (v.value, v.ty) ∷ pairs_of vs
+
+abbrev pub other_pairs : List (ℤ × IntType) → List (ℤ × IntType)
+other_pairs [] = []
+other_pairs (v ∷ vs) = vs
 
 -- what an operator gives over values of two types, converted to those in which it computes
 abbrev pub computed_of : DataModel → BinOp → IntType → ℤ → IntType → ℤ → Done
@@ -323,3 +327,29 @@ module _ (p : Program) (S : Type 0) (after : Event → List Cell → S → S) wh
 
   abbrev pub for_looped : ℕ → Option IntType → Spot → First → Option Loop → State S → Res End (State S) acts.Flow
   for_looped n result at i l s = acts.scoped End (State S) cells_of with_cells (for_parts n result at i l) s
+
+  -- a parameter's cell with the value of its argument
+  abbrev pub parameter_set : ℕ → ℤ → IntType → State S → Res End (State S) (Unit {0})
+  parameter_set o v from s =
+      Go tt (with_cells (put (record { object = o; index = 0 }) (fit p.model (type_of_object p o) v) (s.cells ++ cells_from o 0 1 [])) s)
+
+  -- a parameter's cell with the first of these values, if any
+  abbrev pub next_set : ℕ → List (ℤ × IntType) → State S → Res End (State S) (Unit {0})
+  next_set o [] s = Go tt (with_cells (s.cells ++ cells_from o 0 1 []) s)
+  next_set o (v ∷ vs) s = parameter_set o v.0 v.1 s
+
+  abbrev pub parameters_set : List ℕ → List (ℤ × IntType) → State S → Res End (State S) (Unit {0})
+  parameters_set [] vs s = Go tt s
+  parameters_set (o ∷ os) vs s = bind (next_set o vs s) (λ _. parameters_set os (other_pairs vs))
+
+  abbrev pub with_arguments : ℕ → Function → List (ℤ × IntType) → State S → Res End (State S) acts.Flow
+  with_arguments n f vs s = with_params p watched f.params vs (run_in p watched n f) s
+
+  abbrev pub called_with : ℕ → Site → Function → List (ℤ × IntType) → State S → Res End (State S) ℤ
+  called_with n site f vs s = watched.called site (with_params p watched f.params vs (run_in p watched n f)) s
+
+  abbrev pub function_called : ℕ → Site → Function → List (ℤ × IntType) → State S → Res End (State S) ℤ
+  function_called n site f vs s = call_of p watched (run_in p watched n) site (Some f) vs s
+
+  abbrev pub number_called : ℕ → Site → ℕ → List (ℤ × IntType) → State S → Res End (State S) ℤ
+  number_called n site g vs s = calls n site g vs s

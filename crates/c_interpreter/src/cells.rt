@@ -15,11 +15,10 @@ use c_meaning::{DrawKind, End, Memory, Watcher};
 use wv_base::OutOfMemory;
 
 /// Takes so many steps, or all that are left.
-pub fn ticks<W: Watcher>(machine: &mut Machine, count: u32) -> Result<(), Halt>
+pub fn ticks<W: Watcher>(machine: &mut Machine, count: u64) -> Result<(), Halt>
     ensures gives { (p : Tree) (tick : Tick) (x : W.Seen) → Gives same result (state_of machine.new x) (ticks_of p (watched p W.Seen W.after) tick count (state_of machine.old x)) }
     ensures spends { machine.new.steps ≤ machine.old.steps }
 {
-    let count = count as u64;
     if count <= machine.steps {
         machine.steps -= count;
         Ok(())

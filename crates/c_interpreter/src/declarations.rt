@@ -12,6 +12,7 @@ use c_core::{Declared, Expr, First, Init, Program, Spot};
 use c_meaning::Watcher;
 
 // One value of an initializer.
+#[cycle(run)]
 fn initial_value<W: Watcher>(
     program: &Program,
     machine: &mut Machine,
@@ -33,6 +34,7 @@ fn initial_value<W: Watcher>(
 }
 
 // The values of an initializer, one after another.
+#[cycle(run)]
 fn initial_values<W: Watcher>(
     program: &Program,
     machine: &mut Machine,
@@ -66,6 +68,7 @@ fn initial_values<W: Watcher>(
 }
 
 // The initializer of a declared name.
+#[cycle(run)]
 fn initial<W: Watcher>(
     program: &Program,
     machine: &mut Machine,
@@ -96,6 +99,7 @@ fn initial<W: Watcher>(
 }
 
 // A declared name: its cells, then its initializer.
+#[cycle(run)]
 fn introduce<W: Watcher>(
     program: &Program,
     machine: &mut Machine,
@@ -109,7 +113,7 @@ fn introduce<W: Watcher>(
     ensures spends { machine.new.steps ≤ machine.old.steps }
 {
     let size = size_of_object(program, name.object);
-    ticks::<W>(machine, size)?;
+    ticks::<W>(machine, size as u64)?;
     room::<W>(machine, size as u64)?;
     add_cells(&mut machine.memory, name.object, size)?;
     initial(
@@ -125,6 +129,7 @@ fn introduce<W: Watcher>(
 }
 
 /// Declared names, one after another.
+#[cycle(run)]
 pub fn declare<W: Watcher>(
     program: &Program,
     machine: &mut Machine,
@@ -144,6 +149,7 @@ pub fn declare<W: Watcher>(
 }
 
 /// What comes before the turns of a `for`.
+#[cycle(run)]
 pub fn begin<W: Watcher>(
     program: &Program,
     machine: &mut Machine,

@@ -7,6 +7,7 @@ ghost use Rattle.c_meaning.specs.Meaning.{Used};
 ghost use Rattle.c_interpreter.specs.Interpreting.{Gives, same, state_of, where_of, use_of, key_of, evaluated, noded, targeted, placed, truthed, convertible, listed, callee_gives, pairs_of, site_of};
 
 use crate::callees::{input, is_needed, reach};
+use crate::calls::call_number;
 use crate::machine::{Around, CallSite, Element, Halt, Machine, Typed};
 use crate::steps::{tell, tick};
 use crate::values::{
@@ -602,6 +603,7 @@ fn arguments<W: Watcher>(
 }
 
 // What is called, with the values of its arguments.
+#[cycle(run)]
 fn called<W: Watcher>(
     program: &Program,
     machine: &mut Machine,
@@ -617,7 +619,9 @@ fn called<W: Watcher>(
     ensures spends { machine.new.steps ≤ machine.old.steps }
 {
     match callee {
-        Callee::Defined(_) => Err(Halt::NoMemory),
+        Callee::Defined(number) => {
+            call_number(program, machine, watcher, depth, site, number, values)
+        }
         Callee::Input(ty) => input(program, machine, watcher, site, ty),
         Callee::ReachError => reach(program, machine, watcher, at, site),
         Callee::Abort | Callee::Exit => Err(Halt::Ends(End::Ended)),

@@ -12,6 +12,7 @@ use c_core::{Expr, IntType, Program, Spot};
 use c_meaning::Watcher;
 
 /// A full expression of the statement at a place.
+#[cycle(run)]
 pub fn full<W: Watcher>(
     program: &Program,
     machine: &mut Machine,
@@ -40,6 +41,7 @@ pub fn full<W: Watcher>(
 }
 
 /// The test of the statement at a place, told as a branching.
+#[cycle(run)]
 pub fn decide<W: Watcher>(
     program: &Program,
     machine: &mut Machine,
@@ -57,6 +59,7 @@ pub fn decide<W: Watcher>(
 }
 
 /// An expression for its effects.
+#[cycle(run)]
 pub fn only<W: Watcher>(
     program: &Program,
     machine: &mut Machine,
@@ -75,6 +78,7 @@ pub fn only<W: Watcher>(
 }
 
 /// A value to return, converted to the function's result.
+#[cycle(run)]
 pub fn give<W: Watcher>(
     program: &Program,
     machine: &mut Machine,
@@ -98,6 +102,7 @@ pub fn give<W: Watcher>(
 }
 
 /// The test behind a turn of `do`.
+#[cycle(run)]
 pub fn test_turn<W: Watcher>(
     program: &Program,
     machine: &mut Machine,
@@ -118,6 +123,7 @@ pub fn test_turn<W: Watcher>(
 }
 
 /// Whether a `for` goes on: without a test it does.
+#[cycle(run)]
 pub fn for_goes_on<W: Watcher>(
     program: &Program,
     machine: &mut Machine,
@@ -137,6 +143,7 @@ pub fn for_goes_on<W: Watcher>(
 }
 
 /// The last part of a turn of `for`.
+#[cycle(run)]
 pub fn step_on<W: Watcher>(
     program: &Program,
     machine: &mut Machine,

@@ -2,12 +2,14 @@
 #![tactic(auto)]
 
 mod callees;
+mod calls;
 mod cells;
 mod declarations;
 mod draws;
 mod expressions;
 mod full_expressions;
 mod machine;
+mod parameters;
 mod run;
 mod start;
 mod statements;

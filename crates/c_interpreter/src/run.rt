@@ -1,15 +1,14 @@
 // Runs of programs.
 ghost use Rattle.std.specs.Prelude.{◌≡◌, ◌≤◌, suc, IfOk};
-ghost use Rattle.c_core.specs.View.{program_view, function_view};
+ghost use Rattle.c_core.specs.View.{program_view};
 ghost use Rattle.c_meaning.specs.Run as runs;
 ghost use Rattle.c_meaning.specs.Watching.{seen_after};
-ghost use Rattle.c_interpreter.specs.Interpreting.{Gives, EndsAs, state_of, flow_of, in_main, in_function};
+ghost use Rattle.c_interpreter.specs.Interpreting.{Gives, EndsAs, state_of, flow_of, in_main};
 
+use crate::calls::body;
 use crate::machine::{Flow, Halt, Machine};
 use crate::start::start;
-use crate::statements::form;
-use crate::steps::tick;
-use c_core::{Function, Program};
+use c_core::Program;
 use c_meaning::{Choices, End, Run, Watcher};
 use std::alloc::Global;
 use wv_base::OutOfMemory;
@@ -61,28 +60,4 @@ fn run_main<W: Watcher>(
         Some(function) => body(program, machine, watcher, steps, function),
         None => Ok(Flow::Next),
     }
-}
-
-// The body of a function, in which calls are at most so many deep.
-fn body<W: Watcher>(
-    program: &Program,
-    machine: &mut Machine,
-    watcher: &mut W,
-    depth: u64,
-    function: &Function,
-) -> Result<Flow, Halt>
-    requires bound { machine.old.steps ≤ suc depth }
-    ensures gives { Gives flow_of result (state_of machine.new (W.seen watcher.new)) (in_function (program_view program.now) W.Seen W.after (suc depth) (function_view function.now) (state_of machine.old (W.seen watcher.old))) }
-    ensures spends { machine.new.steps ≤ machine.old.steps }
-{
-    tick::<W>(machine)?;
-    form(
-        program,
-        machine,
-        watcher,
-        depth,
-        function.result,
-        function.body.spot,
-        &function.body.form,
-    )
 }

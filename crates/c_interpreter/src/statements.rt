@@ -12,7 +12,7 @@ use crate::steps::{arrive, tick};
 use c_core::{Expr, First, Form, IntType, Program, Spot, Stmt};
 use c_meaning::Watcher;
 
-#[cycle(exec)]
+#[cycle(run)]
 fn exec<W: Watcher>(
     program: &Program,
     machine: &mut Machine,
@@ -31,7 +31,7 @@ fn exec<W: Watcher>(
     form(program, machine, watcher, depth, wanted, s.spot, &s.form)
 }
 
-#[cycle(exec)]
+#[cycle(run)]
 pub fn form<W: Watcher>(
     program: &Program,
     machine: &mut Machine,
@@ -66,7 +66,7 @@ pub fn form<W: Watcher>(
 }
 
 // Statements in turn, until one is left by a jump.
-#[cycle(exec)]
+#[cycle(run)]
 fn sequence<W: Watcher>(
     program: &Program,
     machine: &mut Machine,
@@ -89,7 +89,7 @@ fn sequence<W: Watcher>(
 }
 
 // A block: what is declared in it ends with it.
-#[cycle(exec)]
+#[cycle(run)]
 fn block<W: Watcher>(
     program: &Program,
     machine: &mut Machine,
@@ -109,7 +109,7 @@ fn block<W: Watcher>(
 }
 
 // A statement that is a block of its own.
-#[cycle(exec)]
+#[cycle(run)]
 fn arm<W: Watcher>(
     program: &Program,
     machine: &mut Machine,
@@ -129,7 +129,7 @@ fn arm<W: Watcher>(
     Ok(flow)
 }
 
-#[cycle(exec)]
+#[cycle(run)]
 fn otherwise<W: Watcher>(
     program: &Program,
     machine: &mut Machine,
@@ -148,7 +148,7 @@ fn otherwise<W: Watcher>(
     }
 }
 
-#[cycle(exec)]
+#[cycle(run)]
 fn choose<W: Watcher>(
     program: &Program,
     machine: &mut Machine,
@@ -182,7 +182,7 @@ fn after_body(flow: Flow) -> Flow
 }
 
 // A loop's body.
-#[cycle(exec)]
+#[cycle(run)]
 fn loop_body<W: Watcher>(
     program: &Program,
     machine: &mut Machine,
@@ -200,7 +200,7 @@ fn loop_body<W: Watcher>(
     Ok(after_body(flow))
 }
 
-#[cycle(exec)]
+#[cycle(run)]
 fn while_turn<W: Watcher>(
     program: &Program,
     machine: &mut Machine,
@@ -223,7 +223,7 @@ fn while_turn<W: Watcher>(
     }
 }
 
-#[cycle(exec)]
+#[cycle(run)]
 fn do_turn<W: Watcher>(
     program: &Program,
     machine: &mut Machine,
@@ -246,7 +246,7 @@ fn do_turn<W: Watcher>(
 }
 
 // The body of a `for` and its last part.
-#[cycle(exec)]
+#[cycle(run)]
 fn for_body<W: Watcher>(
     program: &Program,
     machine: &mut Machine,
@@ -268,7 +268,7 @@ fn for_body<W: Watcher>(
     }
 }
 
-#[cycle(exec)]
+#[cycle(run)]
 fn for_turn<W: Watcher>(
     program: &Program,
     machine: &mut Machine,
@@ -293,7 +293,7 @@ fn for_turn<W: Watcher>(
 }
 
 // One turn of the loop that a form is; any other form is left at once.
-#[cycle(exec)]
+#[cycle(run)]
 fn turn<W: Watcher>(
     program: &Program,
     machine: &mut Machine,
@@ -328,7 +328,7 @@ fn turn<W: Watcher>(
 }
 
 // The turns of the loop that a form is.
-#[cycle(exec)]
+#[cycle(run)]
 fn turns<W: Watcher>(
     program: &Program,
     machine: &mut Machine,
@@ -352,7 +352,7 @@ fn turns<W: Watcher>(
 }
 
 // A loop at its head: what its turns declare ends with it.
-#[cycle(exec)]
+#[cycle(run)]
 fn loop_scope<W: Watcher>(
     program: &Program,
     machine: &mut Machine,
@@ -372,7 +372,7 @@ fn loop_scope<W: Watcher>(
     Ok(flow)
 }
 
-#[cycle(exec)]
+#[cycle(run)]
 fn for_parts<W: Watcher>(
     program: &Program,
     machine: &mut Machine,
@@ -394,7 +394,7 @@ fn for_parts<W: Watcher>(
 }
 
 // A `for`: what its first part declares ends with it.
-#[cycle(exec)]
+#[cycle(run)]
 fn for_scope<W: Watcher>(
     program: &Program,
     machine: &mut Machine,

@@ -1,5 +1,5 @@
 // Steps, room and events.
-ghost use Rattle.std.specs.Prelude.{◌≡◌, ◌≤◌, suc, OnOk, IsOkUnless};
+ghost use Rattle.std.specs.Prelude.{◌≡◌, ◌≤◌, suc, OnOk, IfOk, IsOkUnless};
 ghost use Rattle.c_core.specs.Tree.{Program as Tree};
 ghost use Rattle.c_core.specs.View.{program_view};
 ghost use Rattle.c_meaning.specs.Run as run;
@@ -91,4 +91,15 @@ pub fn branch<W: Watcher>(
     let taken = value != 0;
     tell(machine, watcher, Event::Branch(spot, taken))?;
     Ok(taken)
+}
+
+/// One more, where a u64 counts so far.
+pub fn one_more(count: u64) -> Result<u64, Halt>
+    ensures more { IfOk result (λ n. n ≡ suc count) }
+    ensures refused { IsOkUnless result Halt.NoMemory }
+{
+    match count.checked_add(1) {
+        Some(more) => Ok(more),
+        None => Err(Halt::NoMemory),
+    }
 }

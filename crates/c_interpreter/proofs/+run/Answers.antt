@@ -1,0 +1,446 @@
+use Rattle.std.proofs.Common.{rules, ◌≡◌, ◌∙◌, ◌+◌, suc, ◌∷◌, drop, drop-cons, arith, ap, sym, refl, None, Some, Ok, Err, true, false}
+use mir.Val.{SFits}
+use mir.Syntax.{w128}
+use Rattle.std.proofs.lemmas.Int.{to_z-of_z}
+use Rattle.c_core.specs.Tree.{Index, Unary, Cast, Step, Binary, Logic, Choose, Comma, Assign, Call}
+use Rattle.c_core.proofs.View.{view_of_call, view_of_block}
+use Rattle.c_core.specs.View.{program_view, expr_view, exprs_view, node_view, expr_view_if, stmt_view, first_view, form_view, init_view, function_view}
+use Rattle.c_meaning.specs.Meaning.{Used, ACell, AParameter}
+use Rattle.c_meaning.specs.Objects.{type_of}
+use Rattle.c_interpreter.specs.Interpreting.{same, key_of, use_of, where_of, state_of, pairs_of, flow_of, else_part, loop_in, all_rounds, site_of}
+use Rattle.c_interpreter.proofs.Starting.{function_at, no_function_at}
+use Rattle.c_interpreter.proofs.Calling.{call_few_steps, call_no_room, call_all, number_found, number_missing, parameters_halted, parameters_passed}
+use Rattle.c_interpreter.specs.declared.machine.Typed.{Typed}
+use Rattle.c_interpreter.proofs.Giving.{halted, passed}
+use Rattle.c_interpreter.proofs.Evaluating.{ticked, ticked_target, as_form, as_place, cast_gives, logic_gives, picked_first, picked_second, list_on, list_halted, entered, evals_give}
+use Rattle.c_interpreter.proofs.Executing.{view_of_if, stepped, sequence_halted, sequence_on, sequence_left, chosen, declare_halted, declare_on, initial_stored, introduce_few_steps, introduce_no_room, introduce_all, bodied}
+use Rattle.c_interpreter.proofs.Looping.{while_given, do_given, for_given, while_chosen, for_chosen, rounds_halted, rounds_left, rounds_on, test_done}
+use Rattle.c_core.specs.declared.number.IntType.TheVariants.{Int}
+use Rattle.c_interpreter.proofs.Declaring.{values_halted, values_on}
+use Rattle.c_interpreter.proofs.+run.Goals as goal
+
+pub expressions::eval-returns-in_err-tick-clause-gives : goal.expressions::eval-returns-in_err-tick-clause-gives
+expressions::eval-returns-in_err-tick-clause-gives g t c =
+    let e : c.from_residual.result ≡ Err c.in_err-tick.field-0.0 = search rules in
+    rw e (halted same same c.in_err-tick.field-0.0 _ _ _ (c.in_err-tick.ensures.gives (program_view c.args.program.now) (g.W.Watcher.seen c.args.watcher.now)))
+
+pub expressions::eval-returns-clause-gives : goal.expressions::eval-returns-clause-gives
+expressions::eval-returns-clause-gives g t c =
+    let k = c.in_ok-tick.ensures.gives (program_view c.args.program.now) (g.W.Watcher.seen c.args.watcher.now) in
+    ticked (program_view c.args.program.now) g.W.Watcher.Seen g.W.Watcher.after c.args.depth _ _ _ _ _ _ _ _ c.node.result k c.node.ensures.gives
+
+pub expressions::target-returns-in_err-tick-clause-gives : goal.expressions::target-returns-in_err-tick-clause-gives
+expressions::target-returns-in_err-tick-clause-gives g t c =
+    let e : c.from_residual.result ≡ Err c.in_err-tick.field-0.0 = search rules in
+    rw e (halted same key_of c.in_err-tick.field-0.0 _ _ _ (c.in_err-tick.ensures.gives (program_view c.args.program.now) (g.W.Watcher.seen c.args.watcher.now)))
+
+pub expressions::target-returns-clause-gives : goal.expressions::target-returns-clause-gives
+expressions::target-returns-clause-gives g t c =
+    let k = c.in_ok-tick.ensures.gives (program_view c.args.program.now) (g.W.Watcher.seen c.args.watcher.now) in
+    ticked_target (program_view c.args.program.now) g.W.Watcher.Seen g.W.Watcher.after c.args.depth _ _ c.args.e.now.ty _ _ _ _ c.place.result k c.place.ensures.gives
+
+pub expressions::node-returns-in-Binary-clause-gives : goal.expressions::node-returns-in-Binary-clause-gives
+expressions::node-returns-in-Binary-clause-gives g t c =
+    let e : node_view c.args.e.now.node ≡ Binary c.in-Binary.op (expr_view c.deref.result.now) (expr_view c.deref-in-Binary.result.now) = rw (c.in-Binary.is, c.deref.ensures, c.deref-in-Binary.ensures) refl in
+    as_form (program_view c.args.program.now) g.W.Watcher.Seen g.W.Watcher.after c.args.depth _ _ _ _ _ _ _ _ c.binary.result e c.binary.ensures.gives
+
+pub expressions::node-returns-in-Index-clause-gives : goal.expressions::node-returns-in-Index-clause-gives
+expressions::node-returns-in-Index-clause-gives g t c =
+    let e : node_view c.args.e.now.node ≡ Index c.in-Index.object (expr_view c.deref-in-Index.result.now) = rw (c.in-Index.is, c.deref-in-Index.ensures) refl in
+    as_form (program_view c.args.program.now) g.W.Watcher.Seen g.W.Watcher.after c.args.depth _ _ _ _ _ _ _ _ c.index.result e c.index.ensures.gives
+
+pub expressions::node-returns-in-Unary-clause-gives : goal.expressions::node-returns-in-Unary-clause-gives
+expressions::node-returns-in-Unary-clause-gives g t c =
+    let e : node_view c.args.e.now.node ≡ Unary c.in-Unary.op (expr_view c.deref-in-Unary.result.now) = rw (c.in-Unary.is, c.deref-in-Unary.ensures) refl in
+    as_form (program_view c.args.program.now) g.W.Watcher.Seen g.W.Watcher.after c.args.depth _ _ _ _ _ _ _ _ c.unary.result e c.unary.ensures.gives
+
+pub expressions::node-returns-in-Cast-clause-gives : goal.expressions::node-returns-in-Cast-clause-gives
+expressions::node-returns-in-Cast-clause-gives g t c =
+    let e : node_view c.args.e.now.node ≡ Cast (expr_view c.deref-in-Cast.result.now) = rw (c.in-Cast.is, c.deref-in-Cast.ensures) refl in
+    as_form (program_view c.args.program.now) g.W.Watcher.Seen g.W.Watcher.after c.args.depth _ _ _ _ _ _ _ _ c.cast.result e (cast_gives (program_view c.args.program.now) g.W.Watcher.Seen g.W.Watcher.after c.args.depth
+    (where_of c.args.at) (use_of c.args.used) c.args.e.now.spot c.args.at.full c.args.e.now.ty (expr_view c.deref-in-Cast.result.now)
+    (state_of c.args.machine.now (g.W.Watcher.seen c.args.watcher.now)) (state_of c.cast.new.machine (g.W.Watcher.seen c.cast.new.watcher)) c.cast.result c.cast.ensures.gives)
+
+pub expressions::node-returns-in-Step-clause-gives : goal.expressions::node-returns-in-Step-clause-gives
+expressions::node-returns-in-Step-clause-gives g t c =
+    let e : node_view c.args.e.now.node ≡ Step c.in-Step.op (expr_view c.deref-in-Step.result.now) = rw (c.in-Step.is, c.deref-in-Step.ensures) refl in
+    as_form (program_view c.args.program.now) g.W.Watcher.Seen g.W.Watcher.after c.args.depth _ _ _ _ _ _ _ _ c.step.result e c.step.ensures.gives
+
+pub expressions::node-returns-in-Comma-clause-gives : goal.expressions::node-returns-in-Comma-clause-gives
+expressions::node-returns-in-Comma-clause-gives g t c =
+    let e : node_view c.args.e.now.node ≡ Comma (expr_view c.deref-in-Comma.result.now) (expr_view c.deref-in-Comma-2.result.now) = rw (c.in-Comma.is, c.deref-in-Comma.ensures, c.deref-in-Comma-2.ensures) refl in
+    as_form (program_view c.args.program.now) g.W.Watcher.Seen g.W.Watcher.after c.args.depth _ _ _ _ _ _ _ _ c.comma.result e c.comma.ensures.gives
+
+pub expressions::node-returns-in-Logic-clause-gives : goal.expressions::node-returns-in-Logic-clause-gives
+expressions::node-returns-in-Logic-clause-gives g t c =
+    let e : node_view c.args.e.now.node ≡ Logic c.in-Logic.both (expr_view c.deref-in-Logic.result.now) (expr_view c.deref-in-Logic-2.result.now) = rw (c.in-Logic.is, c.deref-in-Logic.ensures, c.deref-in-Logic-2.ensures) refl in
+    as_form (program_view c.args.program.now) g.W.Watcher.Seen g.W.Watcher.after c.args.depth _ _ _ _ _ _ _ _ c.logic.result e (logic_gives (program_view c.args.program.now) g.W.Watcher.Seen g.W.Watcher.after c.args.depth
+    (where_of c.args.at) (use_of c.args.used) c.args.e.now.spot c.args.at.full c.args.e.now.ty c.in-Logic.both (expr_view c.deref-in-Logic.result.now) (expr_view c.deref-in-Logic-2.result.now)
+    (state_of c.args.machine.now (g.W.Watcher.seen c.args.watcher.now)) (state_of c.logic.new.machine (g.W.Watcher.seen c.logic.new.watcher)) c.logic.result c.logic.ensures.gives)
+
+pub expressions::node-returns-in-Assign-clause-gives : goal.expressions::node-returns-in-Assign-clause-gives
+expressions::node-returns-in-Assign-clause-gives g t c =
+    let e : node_view c.args.e.now.node ≡ Assign c.in-Assign.op (expr_view c.deref-in-Assign.result.now) (expr_view c.deref-in-Assign-2.result.now) = rw (c.in-Assign.is, c.deref-in-Assign.ensures, c.deref-in-Assign-2.ensures) refl in
+    as_form (program_view c.args.program.now) g.W.Watcher.Seen g.W.Watcher.after c.args.depth _ _ _ _ _ _ _ _ c.assign.result e c.assign.ensures.gives
+
+pub expressions::node-returns-in-Choose-clause-gives : goal.expressions::node-returns-in-Choose-clause-gives
+expressions::node-returns-in-Choose-clause-gives g t c =
+    let e : node_view c.args.e.now.node ≡ Choose c.in-Choose.mark (expr_view c.deref-in-Choose.result.now) (expr_view c.deref-in-Choose-2.result.now) (expr_view c.deref-in-Choose-3.result.now) = rw (c.in-Choose.is, c.deref-in-Choose.ensures, c.deref-in-Choose-2.ensures, c.deref-in-Choose-3.ensures) refl in
+    as_form (program_view c.args.program.now) g.W.Watcher.Seen g.W.Watcher.after c.args.depth _ _ _ _ _ _ _ _ c.choose.result e c.choose.ensures.gives
+
+pub expressions::place-returns-in-Index-clause-gives : goal.expressions::place-returns-in-Index-clause-gives
+expressions::place-returns-in-Index-clause-gives g t c =
+    let e : node_view c.args.e.now.node ≡ Index c.in-Index.object (expr_view c.deref.result.now) = rw (c.in-Index.is, c.deref.ensures) refl in
+    as_place (program_view c.args.program.now) g.W.Watcher.Seen g.W.Watcher.after c.args.depth _ _ _ _ _ _ c.element_at.result e c.element_at.ensures.gives
+
+pub expressions::element_at-returns-clause-gives : goal.expressions::element_at-returns-clause-gives
+expressions::element_at-returns-clause-gives g t c =
+    let z : SFits w128 c.in_ok-j.j = search rules in
+    let k = rw (to_z-of_z w128 c.in_ok-j.j z) at (c.element.ensures.gives (state_of c.eval.new.machine (g.W.Watcher.seen c.eval.new.watcher))) in
+    passed same key_of c.in_ok-j.j _ _ _ _ c.element.result c.in_ok-j.ensures.gives k
+
+pub expressions::replace-returns-clause-gives : goal.expressions::replace-returns-clause-gives
+expressions::replace-returns-clause-gives g t c =
+    let z : SFits w128 c.in_ok-value.value = search rules in
+    let y : SFits w128 c.store.result = search rules in
+    let k = rw (to_z-of_z w128 c.in_ok-value.value z, c.type_of.ensures) at (c.store.ensures.gives (type_of (expr_view c.args.from.now)) (g.W.Watcher.seen c.eval.new.watcher)) in
+    let q = passed same same c.in_ok-value.value _ _ _ _ (Ok c.store.result) c.in_ok-value.ensures.gives k in
+    rw (to_z-of_z w128 c.store.result y) (passed key_of same c.in_ok-key.key _ _ _ _ (Ok c.store.result) c.in_ok-key.ensures.gives q)
+
+pub expressions::converted-returns-clause-gives : goal.expressions::converted-returns-clause-gives
+expressions::converted-returns-clause-gives g t c =
+    let z : SFits w128 c.in_ok-value.value = search rules in
+    let y : SFits w128 c.convert_to.result = search rules in
+    let k = rw (to_z-of_z w128 c.in_ok-value.value z) at (c.convert_to.ensures.gives (type_of (expr_view c.args.e.now)) (state_of c.eval.new.machine (g.W.Watcher.seen c.eval.new.watcher))) in
+    rw (to_z-of_z w128 c.convert_to.result y) (passed same same c.in_ok-value.value _ _ _ _ (Ok c.convert_to.result) c.in_ok-value.ensures.gives k)
+
+pub expressions::choose-returns-then-taken-clause-gives : goal.expressions::choose-returns-then-taken-clause-gives
+expressions::choose-returns-then-taken-clause-gives g t c =
+    let z : SFits w128 c.in_ok-value.value = search rules in
+    let h = rw (to_z-of_z w128 c.in_ok-value.value z) at c.holds-taken.ensures in
+    let told = rw c.if-taken.true at c.in_ok-tell.ensures.seen in
+    let q = picked_first (program_view c.args.program.now) g.W.Watcher.Seen g.W.Watcher.after c.args.depth c.args.mark _ _ c.in_ok-value.value
+    (state_of c.eval.new.machine (g.W.Watcher.seen c.eval.new.watcher)) _ _ c.converted.result told (sym h ∙ c.if-taken.true) c.converted.ensures.gives in
+    passed same same c.in_ok-value.value _ _ _ _ c.converted.result c.in_ok-value.ensures.gives q
+
+pub expressions::choose-returns-else-taken-clause-gives : goal.expressions::choose-returns-else-taken-clause-gives
+expressions::choose-returns-else-taken-clause-gives g t c =
+    let z : SFits w128 c.in_ok-value.value = search rules in
+    let h = rw (to_z-of_z w128 c.in_ok-value.value z) at c.holds-taken.ensures in
+    let told = rw c.if-taken.false at c.in_ok-tell.ensures.seen in
+    let q = picked_second (program_view c.args.program.now) g.W.Watcher.Seen g.W.Watcher.after c.args.depth c.args.mark _ _ c.in_ok-value.value
+    (state_of c.eval.new.machine (g.W.Watcher.seen c.eval.new.watcher)) _ _ c.converted-else-taken.result told (sym h ∙ c.if-taken.false) c.converted-else-taken.ensures.gives in
+    passed same same c.in_ok-value.value _ _ _ _ c.converted-else-taken.result c.in_ok-value.ensures.gives q
+
+pub expressions::assign-returns-in-None-clause-gives : goal.expressions::assign-returns-in-None-clause-gives
+expressions::assign-returns-in-None-clause-gives g t c =
+    let e = ap (λ o. Assign o (expr_view c.args.to.now) (expr_view c.args.from.now)) c.in-None.is in
+    as_form (program_view c.args.program.now) g.W.Watcher.Seen g.W.Watcher.after c.args.depth (where_of c.args.at) Used c.args.spot None
+    (Assign c.args.op (expr_view c.args.to.now) (expr_view c.args.from.now)) (Assign None (expr_view c.args.to.now) (expr_view c.args.from.now))
+    (state_of c.args.machine.now (g.W.Watcher.seen c.args.watcher.now)) (state_of c.replace.new.machine (g.W.Watcher.seen c.replace.new.watcher))
+    c.replace.result e c.replace.ensures.gives
+
+pub expressions::assign-returns-in-Some-clause-gives : goal.expressions::assign-returns-in-Some-clause-gives
+expressions::assign-returns-in-Some-clause-gives g t c =
+    let e = ap (λ o. Assign o (expr_view c.args.to.now) (expr_view c.args.from.now)) c.in-Some.is in
+    as_form (program_view c.args.program.now) g.W.Watcher.Seen g.W.Watcher.after c.args.depth (where_of c.args.at) Used c.args.spot None
+    (Assign c.args.op (expr_view c.args.to.now) (expr_view c.args.from.now)) (Assign (Some c.in-Some.op) (expr_view c.args.to.now) (expr_view c.args.from.now))
+    (state_of c.args.machine.now (g.W.Watcher.seen c.args.watcher.now)) (state_of c.update.new.machine (g.W.Watcher.seen c.update.new.watcher))
+    c.update.result e c.update.ensures.gives
+
+pub expressions::node-returns-in-Call-clause-gives : goal.expressions::node-returns-in-Call-clause-gives
+expressions::node-returns-in-Call-clause-gives g t c =
+    let v = ap node_view c.in-Call.is ∙ view_of_call c.in-Call.callee c.in-Call.args c.in-Call.close in
+    let e = v ∙ ap (λ es. Call c.in-Call.callee (exprs_view es) c.in-Call.close) (sym c.as_slice.ensures) in
+    as_form (program_view c.args.program.now) g.W.Watcher.Seen g.W.Watcher.after c.args.depth _ _ _ _ _ _ _ _ c.call.result e c.call.ensures.gives
+
+pub expressions::call-returns-in_err-values-clause-gives : goal.expressions::call-returns-in_err-values-clause-gives
+expressions::call-returns-in_err-values-clause-gives g t c =
+    let e : c.from_residual.result ≡ Err c.in_err-values.field-0.0 = search rules in
+    let q = evals_give (program_view c.args.program.now) g.W.Watcher.Seen g.W.Watcher.after c.args.depth (where_of c.args.at) (exprs_view c.args.args.now)
+    (state_of c.args.machine.now (g.W.Watcher.seen c.args.watcher.now)) (state_of c.arguments.new.machine (g.W.Watcher.seen c.arguments.new.watcher))
+    (Err c.in_err-values.field-0.0) c.in_err-values.ensures.gives in
+    rw e (halted pairs_of same c.in_err-values.field-0.0 _ _ _ q)
+
+pub expressions::call-returns-clause-gives : goal.expressions::call-returns-clause-gives
+expressions::call-returns-clause-gives g t c =
+    let k = rw c.as_slice.ensures at c.called.ensures.gives in
+    entered (program_view c.args.program.now) g.W.Watcher.Seen g.W.Watcher.after c.args.depth (where_of c.args.at) (use_of c.args.used) c.args.spot c.args.close c.args.ty c.args.callee (exprs_view c.args.args.now) c.in_ok-values.values c.is_needed.result
+    (state_of c.args.machine.now (g.W.Watcher.seen c.args.watcher.now)) (state_of c.arguments.new.machine (g.W.Watcher.seen c.arguments.new.watcher)) _ _ c.called.result c.in_ok-values.ensures.gives c.in_ok-tell.ensures.seen c.is_needed.ensures k
+
+pub expressions::arguments-returns-in_err-value-clause-gives : goal.expressions::arguments-returns-in_err-value-clause-gives
+expressions::arguments-returns-in_err-value-clause-gives g t c =
+    let e : c.from_residual.result ≡ Err c.in_err-value.field-0.0 = search rules in
+    let d = drop-cons c.args.args.now c.loop-arg.arg-index c.arg-item.result c.loop-arg-test.true ∙ ap (λ x. x ∷ drop (suc c.loop-arg.arg-index) c.args.args.now) (sym c.arg-item.is) in
+    rw e (list_halted (program_view c.args.program.now) g.W.Watcher.Seen g.W.Watcher.after c.args.depth (where_of c.args.at) c.args.args.now c.loop-arg.arg-index c.arg-item.result c.loop-arg.values _ _ _ c.in_err-value.field-0.0 d c.loop-arg.invariant.value c.in_err-value.ensures.gives)
+
+pub expressions::arguments-loop-arg-preserved : goal.expressions::arguments-loop-arg-preserved
+expressions::arguments-loop-arg-preserved g t c =
+    let d = drop-cons c.args.args.now c.loop-arg.arg-index c.arg-item.result c.loop-arg-test.true ∙ ap (λ x. x ∷ drop (suc c.loop-arg.arg-index) c.args.args.now) (sym c.arg-item.is) in
+    let e : c.loop-arg.arg-index + 1 ≡ suc c.loop-arg.arg-index = omega arith in
+    let z : SFits w128 c.in_ok-value.value = search rules in
+    let y : Typed = record { value = c.in_ok-value.value; ty = c.type_of.result } in
+    let m = rw (to_z-of_z w128 c.in_ok-value.value z) at c.in_ok-push.ensures.ok in
+    record {
+      spends = omega (arith, c.loop-arg.invariant.spends, c.in_ok-value.ensures.spends);
+      value = rw e (list_on (program_view c.args.program.now) g.W.Watcher.Seen g.W.Watcher.after c.args.depth (where_of c.args.at) c.args.args.now c.loop-arg.arg-index c.arg-item.result c.loop-arg.values _ _ _ _ y d c.loop-arg.invariant.value c.in_ok-value.ensures.gives c.type_of.ensures m);
+    }
+
+pub statements::form-returns-in-Block-clause-gives : goal.statements::form-returns-in-Block-clause-gives
+statements::form-returns-in-Block-clause-gives g t c =
+    let e = ap form_view c.in-Block.is ∙ view_of_block c.in-Block.body in
+    rw (e, ← c.as_slice-in-Block.ensures) c.block.ensures.gives
+
+pub statements::form-returns-in-If-clause-gives : goal.statements::form-returns-in-If-clause-gives
+statements::form-returns-in-If-clause-gives g t c =
+    let e = ap form_view c.in-If.is ∙ view_of_if c.in-If.test c.in-If.yes c.in-If.no in
+    rw (e, ← c.deref.ensures) c.choose.ensures.gives
+
+pub statements::form-returns-in-Label-clause-gives : goal.statements::form-returns-in-Label-clause-gives
+statements::form-returns-in-Label-clause-gives g t c = rw (c.in-Label.is, ← c.deref-in-Label.ensures) c.exec.ensures.gives
+
+pub statements::otherwise-returns-in-Some-clause-gives : goal.statements::otherwise-returns-in-Some-clause-gives
+statements::otherwise-returns-in-Some-clause-gives g t c = rw (c.in-Some.is, ← c.deref.ensures) c.arm.ensures.gives
+
+pub statements::sequence-returns-in_err-flow-clause-gives : goal.statements::sequence-returns-in_err-flow-clause-gives
+statements::sequence-returns-in_err-flow-clause-gives g t c =
+    let e : c.from_residual.result ≡ Err c.in_err-flow.field-0.0 = search rules in
+    let d = drop-cons c.args.body.now c.loop-s.s-index c.s-item.result c.loop-s-test.true ∙ ap (λ x. x ∷ drop (suc c.loop-s.s-index) c.args.body.now) (sym c.s-item.is) in
+    rw e (sequence_halted (program_view c.args.program.now) g.W.Watcher.Seen g.W.Watcher.after c.args.depth c.args.wanted c.args.body.now c.loop-s.s-index c.s-item.result _ _ _ c.in_err-flow.field-0.0 d c.loop-s.invariant.value c.in_err-flow.ensures.gives)
+
+pub statements::sequence-returns-in_default-clause-gives : goal.statements::sequence-returns-in_default-clause-gives
+statements::sequence-returns-in_default-clause-gives g t c =
+    let d = drop-cons c.args.body.now c.loop-s.s-index c.s-item.result c.loop-s-test.true ∙ ap (λ x. x ∷ drop (suc c.loop-s.s-index) c.args.body.now) (sym c.s-item.is) in
+    sequence_left (program_view c.args.program.now) g.W.Watcher.Seen g.W.Watcher.after c.args.depth c.args.wanted c.args.body.now c.loop-s.s-index c.s-item.result _ _ _ c.in_ok-flow.flow d c.loop-s.invariant.value c.in_ok-flow.ensures.gives c.in_default.not-Next
+
+pub statements::sequence-loop-s-preserved : goal.statements::sequence-loop-s-preserved
+statements::sequence-loop-s-preserved g t c =
+    let d = drop-cons c.args.body.now c.loop-s.s-index c.s-item.result c.loop-s-test.true ∙ ap (λ x. x ∷ drop (suc c.loop-s.s-index) c.args.body.now) (sym c.s-item.is) in
+    let e : c.loop-s.s-index + 1 ≡ suc c.loop-s.s-index = omega arith in
+    record {
+      spends = omega (arith, c.loop-s.invariant.spends, c.in_ok-flow.ensures.spends);
+      value = rw e (sequence_on (program_view c.args.program.now) g.W.Watcher.Seen g.W.Watcher.after c.args.depth c.args.wanted c.args.body.now c.loop-s.s-index c.s-item.result _ _ _ d c.loop-s.invariant.value (rw c.in-Next.is at c.in_ok-flow.ensures.gives));
+    }
+
+pub statements::choose-returns-then-branch-clause-gives : goal.statements::choose-returns-then-branch-clause-gives
+statements::choose-returns-then-branch-clause-gives g t c =
+    let h = rw c.if-branch.true at c.in_ok-decide.ensures.gives in
+    let k = chosen (program_view c.args.program.now) g.W.Watcher.Seen g.W.Watcher.after c.args.depth c.args.wanted c.args.at (expr_view c.args.test.now) (stmt_view c.args.yes.now) (else_part c.args.no.now) true _ _ h in
+    rw k c.arm.ensures.gives
+
+pub statements::choose-returns-else-branch-clause-gives : goal.statements::choose-returns-else-branch-clause-gives
+statements::choose-returns-else-branch-clause-gives g t c =
+    let h = rw c.if-branch.false at c.in_ok-decide.ensures.gives in
+    let k = chosen (program_view c.args.program.now) g.W.Watcher.Seen g.W.Watcher.after c.args.depth c.args.wanted c.args.at (expr_view c.args.test.now) (stmt_view c.args.yes.now) (else_part c.args.no.now) false _ _ h in
+    rw k c.otherwise.ensures.gives
+
+pub statements::exec-returns-in_err-tick-clause-gives : goal.statements::exec-returns-in_err-tick-clause-gives
+statements::exec-returns-in_err-tick-clause-gives g t c =
+    let e : c.from_residual.result ≡ Err c.in_err-tick.field-0.0 = search rules in
+    rw e (halted same flow_of c.in_err-tick.field-0.0 _ _ _ (c.in_err-tick.ensures.gives (program_view c.args.program.now) (g.W.Watcher.seen c.args.watcher.now)))
+
+pub statements::exec-returns-clause-gives : goal.statements::exec-returns-clause-gives
+statements::exec-returns-clause-gives g t c =
+    let k = c.in_ok-tick.ensures.gives (program_view c.args.program.now) (g.W.Watcher.seen c.args.watcher.now) in
+    stepped (program_view c.args.program.now) g.W.Watcher.Seen g.W.Watcher.after c.args.depth c.args.wanted _ _ _ _ _ _ c.form.result k c.in_ok-arrive.ensures.gives c.form.ensures.gives
+
+pub statements::form-returns-in-While-clause-gives : goal.statements::form-returns-in-While-clause-gives
+statements::form-returns-in-While-clause-gives g t c = while_given (program_view c.args.program.now) g.W.Watcher.Seen g.W.Watcher.after c.args.depth c.args.wanted c.args.at (form_view c.args.f.now) (expr_view c.in-While.test) (stmt_view c.in-While.body.value) (ap form_view c.in-While.is) _ _ _ c.loop_scope.ensures.gives
+
+pub statements::form-returns-in-Do-clause-gives : goal.statements::form-returns-in-Do-clause-gives
+statements::form-returns-in-Do-clause-gives g t c = do_given (program_view c.args.program.now) g.W.Watcher.Seen g.W.Watcher.after c.args.depth c.args.wanted c.args.at (form_view c.args.f.now) (stmt_view c.in-Do.body.value) (expr_view c.in-Do.test) (ap form_view c.in-Do.is) _ _ _ c.loop_scope-in-Do.ensures.gives
+
+pub statements::form-returns-in-For-clause-gives : goal.statements::form-returns-in-For-clause-gives
+statements::form-returns-in-For-clause-gives g t c = for_given (program_view c.args.program.now) g.W.Watcher.Seen g.W.Watcher.after c.args.depth c.args.wanted c.args.at (form_view c.args.f.now) (first_view c.in-For.first) (expr_view_if c.in-For.test) (expr_view_if c.in-For.step) (stmt_view c.in-For.body.value) (ap form_view c.in-For.is) _ _ _ c.for_scope.ensures.gives
+
+pub statements::turn-returns-in-While-clause-gives : goal.statements::turn-returns-in-While-clause-gives
+statements::turn-returns-in-While-clause-gives g t c = rw (c.in-While.is, ← c.deref.ensures) c.while_turn.ensures.gives
+
+pub statements::turn-returns-in-Do-clause-gives : goal.statements::turn-returns-in-Do-clause-gives
+statements::turn-returns-in-Do-clause-gives g t c = rw (c.in-Do.is, ← c.deref-in-Do.ensures) c.do_turn.ensures.gives
+
+pub statements::turn-returns-in-For-clause-gives : goal.statements::turn-returns-in-For-clause-gives
+statements::turn-returns-in-For-clause-gives g t c = rw (c.in-For.is, ← c.deref-in-For.ensures) c.for_turn.ensures.gives
+
+pub statements::while_turn-returns-then-branch-clause-gives : goal.statements::while_turn-returns-then-branch-clause-gives
+statements::while_turn-returns-then-branch-clause-gives g t c =
+    let h = rw c.if-branch.true at c.in_ok-decide.ensures.gives in
+    let k = while_chosen (program_view c.args.program.now) g.W.Watcher.Seen g.W.Watcher.after c.args.depth c.args.wanted c.args.at (expr_view c.args.test.now) (stmt_view c.args.body.now) true _ _ h in
+    rw k c.loop_body.ensures.gives
+
+pub statements::while_turn-returns-else-branch-clause-gives : goal.statements::while_turn-returns-else-branch-clause-gives
+statements::while_turn-returns-else-branch-clause-gives g t c =
+    let h = rw c.if-branch.false at c.in_ok-decide.ensures.gives in
+    while_chosen (program_view c.args.program.now) g.W.Watcher.Seen g.W.Watcher.after c.args.depth c.args.wanted c.args.at (expr_view c.args.test.now) (stmt_view c.args.body.now) false _ _ h
+
+pub statements::for_turn-returns-then-branch-clause-gives : goal.statements::for_turn-returns-then-branch-clause-gives
+statements::for_turn-returns-then-branch-clause-gives g t c =
+    let h = rw c.if-branch.true at c.in_ok-for_goes_on.ensures.gives in
+    let k = for_chosen (program_view c.args.program.now) g.W.Watcher.Seen g.W.Watcher.after c.args.depth c.args.wanted c.args.at (expr_view_if c.args.test.now) (expr_view_if c.args.step.now) (stmt_view c.args.body.now) true _ _ h in
+    rw k c.for_body.ensures.gives
+
+pub statements::turns-returns-in_err-flow-clause-gives : goal.statements::turns-returns-in_err-flow-clause-gives
+statements::turns-returns-in_err-flow-clause-gives g t c =
+    let e : c.from_residual.result ≡ Err c.in_err-flow.field-0.0 = search rules in
+    let i = c.turns.invariant.value in
+    rw e (rounds_halted (program_view c.args.program.now) g.W.Watcher.Seen g.W.Watcher.after c.args.depth c.args.wanted c.args.at (loop_in (form_view c.args.f.now)) (state_of c.turns.machine (g.W.Watcher.seen c.turns.watcher)) (state_of c.turn.new.machine (g.W.Watcher.seen c.turn.new.watcher))
+    (all_rounds (program_view c.args.program.now) g.W.Watcher.Seen g.W.Watcher.after c.args.depth c.args.wanted c.args.at (loop_in (form_view c.args.f.now)) (state_of c.args.machine.now (g.W.Watcher.seen c.args.watcher.now)))
+    i.0 c.in_err-flow.field-0.0 i.1 i.2 c.in_err-flow.ensures.gives)
+
+pub statements::turns-turns-preserved : goal.statements::turns-turns-preserved
+statements::turns-turns-preserved g t c =
+    let i = c.turns.invariant.value in
+    record {
+      spends = omega (arith, c.turns.invariant.spends, c.in_ok-flow.ensures.spends);
+      value = rounds_on (program_view c.args.program.now) g.W.Watcher.Seen g.W.Watcher.after c.args.depth c.args.wanted c.args.at (loop_in (form_view c.args.f.now)) (state_of c.turns.machine (g.W.Watcher.seen c.turns.watcher)) (state_of c.turn.new.machine (g.W.Watcher.seen c.turn.new.watcher))
+          (all_rounds (program_view c.args.program.now) g.W.Watcher.Seen g.W.Watcher.after c.args.depth c.args.wanted c.args.at (loop_in (form_view c.args.f.now)) (state_of c.args.machine.now (g.W.Watcher.seen c.args.watcher.now)))
+          i.0 i.1 i.2 (rw c.in-Next.is at c.in_ok-flow.ensures.gives) (rw c.in-Next.is at c.in_ok-flow.ensures.ends);
+    }
+
+pub statements::turns-returns-in_default-clause-gives : goal.statements::turns-returns-in_default-clause-gives
+statements::turns-returns-in_default-clause-gives g t c =
+    let i = c.turns.invariant.value in
+    rounds_left (program_view c.args.program.now) g.W.Watcher.Seen g.W.Watcher.after c.args.depth c.args.wanted c.args.at (loop_in (form_view c.args.f.now)) (state_of c.turns.machine (g.W.Watcher.seen c.turns.watcher)) (state_of c.turn.new.machine (g.W.Watcher.seen c.turn.new.watcher))
+    (all_rounds (program_view c.args.program.now) g.W.Watcher.Seen g.W.Watcher.after c.args.depth c.args.wanted c.args.at (loop_in (form_view c.args.f.now)) (state_of c.args.machine.now (g.W.Watcher.seen c.args.watcher.now)))
+    i.0 c.in_ok-flow.flow i.1 i.2 c.in_ok-flow.ensures.gives c.in_default.not-Next c.in_default.not-Broken
+
+pub declarations::declare-returns-in_err-introduce-clause-gives : goal.declarations::declare-returns-in_err-introduce-clause-gives
+declarations::declare-returns-in_err-introduce-clause-gives g t c =
+    let e : c.from_residual.result ≡ Err c.in_err-introduce.field-0.0 = search rules in
+    let d = drop-cons c.args.names.now c.loop-name.name-index c.name-item.result c.loop-name-test.true ∙ ap (λ x. x ∷ drop (suc c.loop-name.name-index) c.args.names.now) (sym c.name-item.is) in
+    rw e (declare_halted (program_view c.args.program.now) g.W.Watcher.Seen g.W.Watcher.after c.args.depth c.args.at c.args.names.now c.loop-name.name-index c.name-item.result _ _ _ c.in_err-introduce.field-0.0 d c.loop-name.invariant.value c.in_err-introduce.ensures.gives)
+
+pub declarations::declare-loop-name-preserved : goal.declarations::declare-loop-name-preserved
+declarations::declare-loop-name-preserved g t c =
+    let d = drop-cons c.args.names.now c.loop-name.name-index c.name-item.result c.loop-name-test.true ∙ ap (λ x. x ∷ drop (suc c.loop-name.name-index) c.args.names.now) (sym c.name-item.is) in
+    let e : c.loop-name.name-index + 1 ≡ suc c.loop-name.name-index = omega arith in
+    record {
+      spends = omega (arith, c.loop-name.invariant.spends, c.in_ok-introduce.ensures.spends);
+      value = rw e (declare_on (program_view c.args.program.now) g.W.Watcher.Seen g.W.Watcher.after c.args.depth c.args.at c.args.names.now c.loop-name.name-index c.name-item.result _ _ _ d c.loop-name.invariant.value c.in_ok-introduce.ensures.gives);
+    }
+
+pub declarations::initial-returns-in-Absent-clause-gives : goal.declarations::initial-returns-in-Absent-clause-gives
+declarations::initial-returns-in-Absent-clause-gives g t c = rw c.in-Absent.is (c.draw_cells.ensures.gives c.args.depth (g.W.Watcher.seen c.args.watcher.now))
+
+pub declarations::initial_value-returns-clause-gives : goal.declarations::initial_value-returns-clause-gives
+declarations::initial_value-returns-clause-gives g t c =
+    let z : SFits w128 c.in_ok-value.value = search rules in
+    let h = simp to_z-of_z at c.store.ensures.gives Int (g.W.Watcher.seen c.full.new.watcher) in
+    initial_stored (program_view c.args.program.now) g.W.Watcher.Seen g.W.Watcher.after c.args.depth c.args.at c.args.object c.args.index (expr_view c.args.e.now) Int c.type_of_object-ty.result c.in_ok-value.value _ _ _ _
+    c.in_ok-value.ensures.gives c.type_of_object-ty.ensures h
+
+pub declarations::initial_values-returns-in_err-initial_value-clause-gives : goal.declarations::initial_values-returns-in_err-initial_value-clause-gives
+declarations::initial_values-returns-in_err-initial_value-clause-gives g t c =
+    let e : c.from_residual.result ≡ Err c.in_err-initial_value.field-0.0 = search rules in
+    let d = drop-cons c.args.es.now c.loop-index.index c.index-es-index.result c.loop-index-test.true ∙ ap (λ x. x ∷ drop (suc c.loop-index.index) c.args.es.now) (sym c.index-es-index.is) in
+    rw e (values_halted (program_view c.args.program.now) g.W.Watcher.Seen g.W.Watcher.after c.args.depth c.args.at c.args.object c.args.es.now c.loop-index.index c.index-es-index.result d _ _ _ c.loop-index.invariant.value c.in_err-initial_value.field-0.0 c.in_err-initial_value.ensures.gives)
+
+pub declarations::initial_values-loop-index-preserved : goal.declarations::initial_values-loop-index-preserved
+declarations::initial_values-loop-index-preserved g t c =
+    let d = drop-cons c.args.es.now c.loop-index.index c.index-es-index.result c.loop-index-test.true ∙ ap (λ x. x ∷ drop (suc c.loop-index.index) c.args.es.now) (sym c.index-es-index.is) in
+    let e : c.loop-index.index + 1 ≡ suc c.loop-index.index = omega arith in
+    record {
+      spends = omega (arith, c.loop-index.invariant.spends, c.in_ok-initial_value.ensures.spends);
+      value = rw e (values_on (program_view c.args.program.now) g.W.Watcher.Seen g.W.Watcher.after c.args.depth c.args.at c.args.object c.args.es.now c.loop-index.index c.index-es-index.result d _ _ _ c.loop-index.invariant.value c.in_ok-initial_value.ensures.gives);
+    }
+
+pub declarations::introduce-returns-in_err-ticks-clause-gives : goal.declarations::introduce-returns-in_err-ticks-clause-gives
+declarations::introduce-returns-in_err-ticks-clause-gives g t c =
+    let e : c.from_residual.result ≡ Err c.in_err-ticks.field-0.0 = search rules in
+    let p = program_view c.args.program.now in
+    let x = g.W.Watcher.seen c.args.watcher.now in
+    rw e (introduce_few_steps p g.W.Watcher.Seen g.W.Watcher.after c.args.depth c.args.at c.args.name.now.spot c.args.name.now.object (init_view c.args.name.now.init) c.size_of_object-size.result c.size_of_object-size.ensures _ (state_of c.ticks.new.machine x) c.in_err-ticks.field-0.0 _
+    (c.in_err-ticks.ensures.gives p ACell x))
+
+pub declarations::introduce-returns-in_err-room-clause-gives : goal.declarations::introduce-returns-in_err-room-clause-gives
+declarations::introduce-returns-in_err-room-clause-gives g t c =
+    let e : c.from_residual-in_err-room.result ≡ Err c.in_err-room.field-0.0 = search rules in
+    let p = program_view c.args.program.now in
+    let x = g.W.Watcher.seen c.args.watcher.now in
+    rw e (introduce_no_room p g.W.Watcher.Seen g.W.Watcher.after c.args.depth c.args.at c.args.name.now.spot c.args.name.now.object (init_view c.args.name.now.init) c.size_of_object-size.result c.size_of_object-size.ensures _ _ c.in_err-room.field-0.0 _
+    (c.in_ok-ticks.ensures.gives p ACell x) (c.in_err-room.ensures.gives p x))
+
+pub declarations::introduce-returns-clause-gives : goal.declarations::introduce-returns-clause-gives
+declarations::introduce-returns-clause-gives g t c =
+    let p = program_view c.args.program.now in
+    let x = g.W.Watcher.seen c.args.watcher.now in
+    introduce_all p g.W.Watcher.Seen g.W.Watcher.after c.args.depth c.args.at c.args.name.now.spot c.args.name.now.object (init_view c.args.name.now.init) c.size_of_object-size.result c.size_of_object-size.ensures _ _ c.initial.result _ _
+    (c.in_ok-ticks.ensures.gives p ACell x) (c.in_ok-room.ensures.gives p x) (rw c.in_ok-add_cells.ensures.cells at c.initial.ensures.gives)
+
+pub full_expressions::test_turn-returns-then-branch-clause-gives : goal.full_expressions::test_turn-returns-then-branch-clause-gives
+full_expressions::test_turn-returns-then-branch-clause-gives g t c =
+    let h = rw c.if-branch.true at c.in_ok-decide.ensures.gives in
+    test_done (program_view c.args.program.now) g.W.Watcher.Seen g.W.Watcher.after c.args.depth c.args.at (expr_view c.args.test.now) true _ _ h
+
+pub full_expressions::test_turn-returns-else-branch-clause-gives : goal.full_expressions::test_turn-returns-else-branch-clause-gives
+full_expressions::test_turn-returns-else-branch-clause-gives g t c =
+    let h = rw c.if-branch.false at c.in_ok-decide.ensures.gives in
+    test_done (program_view c.args.program.now) g.W.Watcher.Seen g.W.Watcher.after c.args.depth c.args.at (expr_view c.args.test.now) false _ _ h
+
+pub calls::body-returns-in_err-tick-clause-gives : goal.calls::body-returns-in_err-tick-clause-gives
+calls::body-returns-in_err-tick-clause-gives g t c =
+    let e : c.from_residual.result ≡ Err c.in_err-tick.field-0.0 = search rules in
+    rw e (halted same flow_of c.in_err-tick.field-0.0 _ _ _ (c.in_err-tick.ensures.gives (program_view c.args.program.now) (g.W.Watcher.seen c.args.watcher.now)))
+
+pub calls::body-returns-clause-gives : goal.calls::body-returns-clause-gives
+calls::body-returns-clause-gives g t c =
+    let f = c.args.function.now in
+    let k = c.in_ok-tick.ensures.gives (program_view c.args.program.now) (g.W.Watcher.seen c.args.watcher.now) in
+    bodied (program_view c.args.program.now) g.W.Watcher.Seen g.W.Watcher.after c.args.depth f.result f.params f.body.spot (form_view f.body.form) _ _ _ c.form.result k c.form.ensures.gives
+
+pub calls::call_found-returns-in_err-ticks-clause-gives : goal.calls::call_found-returns-in_err-ticks-clause-gives
+calls::call_found-returns-in_err-ticks-clause-gives g t c =
+    let e : c.from_residual.result ≡ Err c.in_err-ticks.field-0.0 = search rules in
+    let p = program_view c.args.program.now in
+    let x = g.W.Watcher.seen c.args.watcher.now in
+    let h = rw c.len-parameters.ensures at c.in_err-ticks.ensures.gives p AParameter x in
+    rw e (call_few_steps p g.W.Watcher.Seen g.W.Watcher.after c.args.depth (site_of c.args.site) (function_view c.args.function.now) (pairs_of c.args.values.now)
+    (state_of c.args.machine.now x) (state_of c.ticks.new.machine x) c.in_err-ticks.field-0.0 h)
+
+pub calls::call_found-returns-in_err-room-clause-gives : goal.calls::call_found-returns-in_err-room-clause-gives
+calls::call_found-returns-in_err-room-clause-gives g t c =
+    let e : c.from_residual-in_err-room.result ≡ Err c.in_err-room.field-0.0 = search rules in
+    let p = program_view c.args.program.now in
+    let x = g.W.Watcher.seen c.args.watcher.now in
+    let h = rw c.len-parameters.ensures at c.in_ok-ticks.ensures.gives p AParameter x in
+    let k = rw c.len-parameters.ensures at c.in_ok-cells.ensures.more in
+    rw e (call_no_room p g.W.Watcher.Seen g.W.Watcher.after c.args.depth (site_of c.args.site) (function_view c.args.function.now) (pairs_of c.args.values.now) c.in_ok-cells.cells
+    (state_of c.args.machine.now x) (state_of c.ticks.new.machine x) (state_of c.ticks.new.machine x) c.in_err-room.field-0.0 k h (c.in_err-room.ensures.gives p x))
+
+pub calls::call_found-returns-clause-gives : goal.calls::call_found-returns-clause-gives
+calls::call_found-returns-clause-gives g t c =
+    let p = program_view c.args.program.now in
+    let x = g.W.Watcher.seen c.args.watcher.now in
+    let h = rw c.len-parameters.ensures at c.in_ok-ticks.ensures.gives p AParameter x in
+    let k = rw c.len-parameters.ensures at c.in_ok-cells.ensures.more in
+    call_all p g.W.Watcher.Seen g.W.Watcher.after c.args.depth (site_of c.args.site) (function_view c.args.function.now) (pairs_of c.args.values.now) c.in_ok-cells.cells
+    (state_of c.args.machine.now x) (state_of c.ticks.new.machine x) (state_of c.ticks.new.machine x) _ c.run_call.result k h (c.in_ok-room.ensures.gives p x) c.run_call.ensures.gives
+
+pub calls::call_number-returns-in-Some-clause-gives : goal.calls::call_number-returns-in-Some-clause-gives
+calls::call_number-returns-in-Some-clause-gives g t c =
+    let p = program_view c.args.program.now in
+    let f = c.in-Some.function.now in
+    let h = function_at c.args.program.now.functions c.args.number f (sym c.in-Some.ensures.item) in
+    let k = number_found p g.W.Watcher.Seen g.W.Watcher.after c.args.depth (site_of c.args.site) c.args.number (function_view f) (pairs_of c.args.values.now) (state_of c.args.machine.now (g.W.Watcher.seen c.args.watcher.now)) h in
+    rw k c.call_found.ensures.gives
+
+pub calls::call_number-returns-in-None-clause-gives : goal.calls::call_number-returns-in-None-clause-gives
+calls::call_number-returns-in-None-clause-gives g t c =
+    let p = program_view c.args.program.now in
+    number_missing p g.W.Watcher.Seen g.W.Watcher.after c.args.depth (site_of c.args.site) c.args.number (pairs_of c.args.values.now) (state_of c.args.machine.now (g.W.Watcher.seen c.args.watcher.now))
+    (no_function_at c.args.program.now.functions c.args.number (sym c.in-None.ensures.item))
+
+pub calls::enter-returns-in_err-set_parameters-clause-gives : goal.calls::enter-returns-in_err-set_parameters-clause-gives
+calls::enter-returns-in_err-set_parameters-clause-gives g t c =
+    let e : c.from_residual.result ≡ Err c.in_err-set_parameters.field-0.0 = search rules in
+    let x = g.W.Watcher.seen c.args.watcher.now in
+    let h = rw c.as_slice.ensures at c.in_err-set_parameters.ensures.gives x in
+    rw e (parameters_halted (program_view c.args.program.now) g.W.Watcher.Seen g.W.Watcher.after c.args.depth (function_view c.args.function.now) (pairs_of c.args.values.now)
+    (state_of c.args.machine.now x) (state_of c.set_parameters.new.machine x) c.in_err-set_parameters.field-0.0 h)
+
+pub calls::enter-returns-clause-gives : goal.calls::enter-returns-clause-gives
+calls::enter-returns-clause-gives g t c =
+    let x = g.W.Watcher.seen c.args.watcher.now in
+    let h = rw c.as_slice.ensures at c.in_ok-set_parameters.ensures.gives x in
+    parameters_passed (program_view c.args.program.now) g.W.Watcher.Seen g.W.Watcher.after c.args.depth (function_view c.args.function.now) (pairs_of c.args.values.now)
+    (state_of c.args.machine.now x) (state_of c.set_parameters.new.machine x) _ c.body_within.result h c.body_within.ensures.gives
