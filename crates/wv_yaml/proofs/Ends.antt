@@ -1,6 +1,5 @@
 -- Where a text ends without the blanks at its end.
-use Rattle.std.proofs.Common.{◌≡◌, ℕ, ◌+◌, ◌-◌, ◌<◌, ◌≤◌, List, [], ◌∷◌, ◌++◌, length, take, get_or, true, false, refl, sym, ap, ◌∙◌, arith}
-use Rattle.std.proofs.lemmas.List.{take_more}
+use Rattle.std.proofs.Common.{◌≡◌, ℕ, zero, suc, ◌+◌, List, [], ◌∷◌, ◌++◌, take, drop, add-one, true, false, refl, sym, ap, ◌∙◌}
 use Rattle.wv_yaml.specs.Marks.{blank, without_end, unless_blank}
 
 pub end_at_blank : (xs : List ℕ) (b : ℕ) → blank b ≡ true → without_end (xs ++ b ∷ []) ≡ without_end xs
@@ -15,14 +14,19 @@ pub end_at_other : (xs : List ℕ) (b : ℕ) → blank b ≡ false → without_e
 end_at_other [] b e = rw e refl
 end_at_other (x ∷ xs) b e = ap (unless_blank x) (end_at_other xs b e) ∙ unless_more x xs b
 
-pub take_last : (text : List ℕ) (n c : ℕ) → 0 < n → n ≤ length text → c ≡ get_or text (n - 1) c → take n text ≡ take (n - 1) text ++ c ∷ []
-take_last text n c h k is =
-    let lt : n - 1 < length text = omega arith in
-    let same : n - 1 + 1 ≡ n = omega arith in
-    ap (λ i. take i text) (sym same) ∙ take_more text (n - 1) c lt ∙ ap (λ d. take (n - 1) text ++ d ∷ []) (sym is)
+-- the text up to a place, and with the character that stands there
+take_here : (text rest : List ℕ) (at c : ℕ) → drop at text ≡ c ∷ rest → take (suc at) text ≡ take at text ++ c ∷ []
+take_here [] rest zero c e = absurd (cc)
+take_here [] rest (suc at) c e = absurd (cc)
+take_here (x ∷ xs) rest zero c e = let same : x ≡ c = cc in ap (λ y. y ∷ []) same
+take_here (x ∷ xs) rest (suc at) c e = ap (λ ys. x ∷ ys) (take_here xs rest at c e)
 
-pub end_back : (text : List ℕ) (n c : ℕ) → 0 < n → n ≤ length text → c ≡ get_or text (n - 1) c → blank c ≡ true → without_end (take (n - 1) text) ≡ without_end (take n text)
-end_back text n c h k is e = sym (end_at_blank (take (n - 1) text) c e) ∙ ap without_end (sym (take_last text n c h k is))
+pub take_next : (text left rest : List ℕ) (at c : ℕ) → left ≡ drop at text → left ≡ c ∷ rest → take (at + 1) text ≡ take at text ++ c ∷ []
+take_next text left rest at c f e = ap (λ n. take n text) (add-one at) ∙ take_here text rest at c (sym f ∙ e)
 
-pub end_here : (text : List ℕ) (n c : ℕ) → 0 < n → n ≤ length text → c ≡ get_or text (n - 1) c → blank c ≡ false → without_end (take n text) ≡ take n text
-end_here text n c h k is e = ap without_end (take_last text n c h k is) ∙ end_at_other (take (n - 1) text) c e ∙ sym (take_last text n c h k is)
+pub end_blank : (text left rest : List ℕ) (at end c : ℕ) → left ≡ drop at text → left ≡ c ∷ rest → blank c ≡ true → take end text ≡ without_end (take at text) →
+    take end text ≡ without_end (take (at + 1) text)
+end_blank text left rest at end c f e b h = h ∙ sym (ap without_end (take_next text left rest at c f e) ∙ end_at_blank (take at text) c b)
+
+pub end_other : (text left rest : List ℕ) (at c : ℕ) → left ≡ drop at text → left ≡ c ∷ rest → blank c ≡ false → take (at + 1) text ≡ without_end (take (at + 1) text)
+end_other text left rest at c f e b = take_next text left rest at c f e ∙ sym (ap without_end (take_next text left rest at c f e) ∙ end_at_other (take at text) c b)

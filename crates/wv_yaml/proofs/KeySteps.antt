@@ -67,6 +67,12 @@ plain_key_gives text value out rest b s v r o u k =
     ap (λ (x : Bool). named (provided x (colon (without_end (cut stops false text).0) (cut stops false text).1))) s
     ∙ ap (λ xs. named (colon xs (cut stops false text).1)) (sym v) ∙ ap (λ xs. named (colon value xs)) (sym r) ∙ colon_gives value out rest b o u k
 
+pub plain_key_off : (text rest : List ℕ) → plain_start parted text ≡ true → rest ≡ (cut stops false text).1 → is_colon rest ≡ false → named (plain_key text) ≡ None
+plain_key_off text rest s r off =
+    let value = without_end (cut stops false text).0 in
+    ap (λ (x : Bool). named (provided x (colon value (cut stops false text).1))) s
+    ∙ ap (λ xs. named (colon value xs)) (sym r) ∙ ap named (colon_by value rest ∙ ap (λ (b : Bool). provided (b && nat_le (length value) max_key) (Some (value, drop 1 rest))) off)
+
 pub given : {A : Type 0} (b : Bool) (x : A) (o : Option A) → o ≡ provided b (Some x) → b ≡ true → o ≡ Some x
 given b x o e t = e ∙ ap (λ v. provided v (Some x)) t
 

@@ -1,3 +1,6 @@
+pub mod Texts
+pub mod Places
+pub mod Breaks
 pub mod Ends
 pub mod Returns
 pub mod LineLaws
@@ -9,6 +12,7 @@ pub mod TokenSteps
 pub mod FlowSteps
 pub mod TreeRows
 pub mod WriteSteps
+pub mod WriteUtf8
 pub mod KeySteps
 pub mod Entries
 pub mod Heads
@@ -29,3 +33,13 @@ pub mod FlowLaws
 pub mod InlineLaws
 pub mod SpelledLaws
 pub mod QuoteLaws
+pub mod Ranges
+pub mod CanonAscii
+pub mod CanonLines
+pub mod CanonBytes
+pub mod CanonChars
+pub mod CanonLineFacts
+pub mod CanonScalars
+pub mod CanonValues
+pub mod CanonBlocks
+pub mod CanonLaws

@@ -1,5 +1,5 @@
 -- A quoted scalar, step by step.
-use Rattle.std.proofs.Common.{◌≡◌, ℕ, zero, suc, ◌+◌, ◌<◌, ◌≤◌, List, [], ◌∷◌, ◌++◌, length, drop, get_or, Bool, true, false, refl, sym, ap, ◌∙◌, arith, Option, Some, None, append_assoc, append-nil, drop-cons, add-one, ◌==◌}
+use Rattle.std.proofs.Common.{◌≡◌, ℕ, zero, suc, ◌+◌, ◌<◌, ◌≤◌, List, [], ◌∷◌, ◌++◌, length, drop, Bool, true, false, refl, sym, ap, ◌∙◌, arith, Option, Some, None, append_assoc, append-nil, add-one, ◌==◌}
 use Rattle.std.proofs.lemmas.Bool.{cond-true, cond-false}
 use Rattle.std.proofs.lemmas.Bool.Decides.{nat_tests}
 use Rattle.std.proofs.lemmas.List.{drop-drop}
@@ -124,6 +124,3 @@ pub escape_simple : (text cs : List ℕ) (e count : ℕ) → text ≡ e ∷ cs �
 escape_simple text cs e count t h k lt =
     let none : (digits_of e == 0) ≡ true = ap (λ n. n == 0) (sym k) ∙ grind (arith, nat_tests) in
     ap escape t ∙ cond-false (e == 10) _ _ h ∙ cond-true (digits_of e == 0) _ _ none
-
-pub first_is : (text : List ℕ) (c : ℕ) → 0 < length text → c ≡ get_or text 0 c → text ≡ c ∷ drop 1 text
-first_is text c h is = drop-cons text 0 c h ∙ ap (λ x. x ∷ drop 1 text) (sym is)

@@ -111,7 +111,7 @@ none_pushed : (front : List ℕ) (c : ℕ) → NoneOf is_feed_char front → is_
 none_pushed [] c h e = (e, tt)
 none_pushed (x ∷ front) c h e = (h.0, none_pushed front c h.1 e)
 
-not_nil : (front : List ℕ) (c : ℕ) (rest : List ℕ) → (front ++ c ∷ rest) ≢ []
+pub not_nil : (front : List ℕ) (c : ℕ) (rest : List ℕ) → (front ++ c ∷ rest) ≢ []
 not_nil [] c rest e = absurd (cc)
 not_nil (x ∷ front) c rest e = absurd (cc)
 

@@ -75,22 +75,21 @@ tokens_step behind c cs = at_white (white c) refl
     at_white true e = rw e (together_nil _)
     at_white false e = rw e (at_return (c == 13))
 
--- the loop's step: `front` is the text from its place on
-pub tokens_on : (behind next : Bool) (text front : List ℕ) (at more : ℕ) (out new : List Token) → front ≡ drop at text → 0 < length front →
-    advanced out (token_step behind front) ≡ Some ((next, more), new) →
-    together new (tokens next 0 (drop (at + (1 + more)) text)) ≡ together out (tokens behind 0 (drop at text))
-tokens_on behind next text [] at more out new f h e = absurd (omega arith)
-tokens_on behind next text (c ∷ cs) at more out new f h e = at_step (token_step behind (c ∷ cs)) refl e
+-- the loop's step: `left` is what is left of the text
+pub tokens_on : (behind next : Bool) (left : List ℕ) (more : ℕ) (out new : List Token) → 0 < length left →
+    advanced out (token_step behind left) ≡ Some ((next, more), new) → together new (tokens next 0 (drop (1 + more) left)) ≡ together out (tokens behind 0 left)
+tokens_on behind next [] more out new h e = absurd (omega arith)
+tokens_on behind next (c ∷ cs) more out new h e = at_step (token_step behind (c ∷ cs)) refl e
   where
-    further : drop more cs ≡ drop (at + (1 + more)) text
-    further = drop-drop more 1 (c ∷ cs) ∙ ap (drop (1 + more)) f ∙ drop-drop (1 + more) at text
+    further : drop more cs ≡ drop (1 + more) (c ∷ cs)
+    further = drop-drop more 1 (c ∷ cs)
 
     joins : (ys : List Token) (o : Option (List Token)) → together (out ++ ys) o ≡ together out (together ys o)
     joins ys None = refl
     joins ys (Some ts) = ap Some (append_assoc out ys ts)
 
     at_step : (s : Option (List Token × (Bool × ℕ))) → token_step behind (c ∷ cs) ≡ s → advanced out s ≡ Some ((next, more), new) →
-        together new (tokens next 0 (drop (at + (1 + more)) text)) ≡ together out (tokens behind 0 (drop at text))
+        together new (tokens next 0 (drop (1 + more) (c ∷ cs))) ≡ together out (tokens behind 0 (c ∷ cs))
     at_step None k g = absurd (cc)
     at_step (Some (ys, (b, m))) k g =
         let p : ((b, m), out ++ ys) ≡ ((next, more), new) = some_same g in
@@ -99,7 +98,7 @@ tokens_on behind next text (c ∷ cs) at more out new f h e = at_step (token_ste
         let nm : more ≡ m = sym (ap (λ (r : (Bool × ℕ) × List Token). r.0.1) p) in
         ap (λ xs. together new (tokens next 0 xs)) (sym further) ∙ ap (together new) (sym (tokens_skip next more cs))
         ∙ ap (λ xs. together xs (tokens next more cs)) n ∙ ap (λ x. together (out ++ ys) (tokens x more cs)) nb ∙ ap (λ x. together (out ++ ys) (tokens b x cs)) nm
-        ∙ joins ys (tokens b m cs) ∙ ap (together out) (sym (ap (onward cs) k)) ∙ ap (together out) (sym (tokens_step behind c cs) ∙ ap (tokens behind 0) f)
+        ∙ joins ys (tokens b m cs) ∙ ap (together out) (sym (ap (onward cs) k)) ∙ ap (together out) (sym (tokens_step behind c cs))
       where
         some_same : {A : Type 0} {x y : A} → Some x ≡ Some y → x ≡ y
         some_same e = cc
@@ -109,18 +108,16 @@ none_of : (out : List Token) (s : Option (List Token × (Bool × ℕ))) → adva
 none_of out None e = refl
 none_of out (Some s) e = absurd (cc)
 
-pub tokens_none : (behind : Bool) (text front : List ℕ) (at : ℕ) (out : List Token) → front ≡ drop at text → 0 < length front →
-    advanced out (token_step behind front) ≡ None → together out (tokens behind 0 (drop at text)) ≡ None
-tokens_none behind text [] at out f h e = absurd (omega arith)
-tokens_none behind text (c ∷ cs) at out f h e =
-    ap (together out) (ap (tokens behind 0) (sym f) ∙ tokens_step behind c cs ∙ ap (onward cs) (none_of out (token_step behind (c ∷ cs)) e))
+tokens_none : (behind : Bool) (left : List ℕ) (out : List Token) → 0 < length left → advanced out (token_step behind left) ≡ None → together out (tokens behind 0 left) ≡ None
+tokens_none behind [] out h e = absurd (omega arith)
+tokens_none behind (c ∷ cs) out h e = ap (together out) (tokens_step behind c cs ∙ ap (onward cs) (none_of out (token_step behind (c ∷ cs)) e))
 
-pub tokens_fail : (fault : YamlFault) (behind : Bool) (text front : List ℕ) (at : ℕ) (out : List Token) → front ≡ drop at text → 0 < length front →
-    together out (tokens behind 0 (drop at text)) ≡ tokens false 0 text → Fails fault (advanced out (token_step behind front)) → Fails fault (tokens false 0 text)
-tokens_fail Bytes behind text front at out f h s e = e
-tokens_fail Grammar behind text front at out f h s e = sym s ∙ tokens_none behind text front at out f h e
-tokens_fail Duplicate behind text front at out f h s e = e
-tokens_fail OutOfMemory behind text front at out f h s e = tt
+pub tokens_fail : (fault : YamlFault) (behind : Bool) (text left : List ℕ) (out : List Token) → 0 < length left →
+    together out (tokens behind 0 left) ≡ tokens false 0 text → Fails fault (advanced out (token_step behind left)) → Fails fault (tokens false 0 text)
+tokens_fail Bytes behind text left out h s e = e
+tokens_fail Grammar behind text left out h s e = sym s ∙ tokens_none behind left out h e
+tokens_fail Duplicate behind text left out h s e = e
+tokens_fail OutOfMemory behind text left out h s e = tt
 
 pub step_return : (behind : Bool) (c : ℕ) (cs text : List ℕ) (out : List Token) → text ≡ c ∷ cs → c ≡ 13 → begins_with 35 (trimmed cs) ≡ true → advanced out (token_step behind text) ≡ Some ((true, 0), out)
 step_return behind c cs text out t e h =

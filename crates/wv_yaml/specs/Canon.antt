@@ -1,7 +1,7 @@
 -- The canonical text of a tree.
 use Rattle.std.specs.Prelude.{◌≡◌, ℕ, suc, ◌+◌, ◌/◌, ◌%◌, ◌≤◌, List, [], ◌∷◌, ◌++◌, length, Bool, true, false, ◌==◌, ◌&&◌, ◌||◌, not, nat_lt, nat_le, if◌then◌else◌}
 use Rattle.std.specs.List.{flat_map}
-use Rattle.std.specs.Str.{encode_utf8_all, chars}
+use Rattle.std.specs.Str.{encode_utf8_all, chars, IsUtf8}
 use Rattle.wv_yaml.specs.declared.tree.Tree.{Tree, Text, List', Map', Row_of-Tree, end_of-Tree, more_of-Tree, Row_of-Pair, end_of-Pair, more_of-Pair}
 use Rattle.wv_yaml.specs.declared.tree.Pair.{Pair}
 use Rattle.wv_yaml.specs.Marks.{indented}
@@ -144,3 +144,21 @@ abbrev pub IsCollection : Tree → Type 0
 IsCollection (Text v) = ⊥
 IsCollection (List' s row) = Unit {0}
 IsCollection (Map' s row) = Unit {0}
+
+abbrev mutual
+  -- each text and each key is UTF-8, as every `Text` is
+  pub InUtf8 : Tree → Type 0
+  InUtf8 (Text v) = IsUtf8 v
+  InUtf8 (List' s row) = ItemsInUtf8 row
+  InUtf8 (Map' s row) = PairsInUtf8 row
+
+  pub ItemsInUtf8 : {m : _} → Row_of-Tree m → Type 0
+  ItemsInUtf8 end_of-Tree = Unit {0}
+  ItemsInUtf8 (more_of-Tree t rest) = InUtf8 t × ItemsInUtf8 rest
+
+  pub PairsInUtf8 : {m : _} → Row_of-Pair m → Type 0
+  PairsInUtf8 end_of-Pair = Unit {0}
+  PairsInUtf8 (more_of-Pair k v rest) = IsUtf8 k × (InUtf8 v × PairsInUtf8 rest)
+
+abbrev pub PairInUtf8 : Pair → Type 0
+PairInUtf8 p = IsUtf8 p.key × InUtf8 p.value

@@ -1,5 +1,6 @@
 // Block collections.
 ghost use Rattle.std.specs.Prelude.{◌≡◌, ◌≤◌, ◌<◌, ◌+◌, ◌^◌, ◌∷◌, ◌&&◌, Bool, length, drop, take, true, false, Some, All, slice_index_or};
+ghost use Rattle.std.specs.Str.{chars};
 ghost use Rattle.wv_yaml.specs.Line.{Line as SourceLine, IsSmall};
 ghost use Rattle.wv_yaml.specs.declared.tree.Tree.{Tree};
 ghost use Rattle.wv_yaml.specs.declared.tree.Pair.{Pair};
@@ -9,12 +10,11 @@ ghost use Rattle.wv_yaml.specs.Inline.{key_bytes, inline};
 ghost use Rattle.wv_yaml.specs.Block.{is_item, is_pair, ahead, all_spaces, opens, is_under, below, value_of, entry_of, item, pair, sequence, mapping, block};
 ghost use Rattle.wv_yaml.specs.Gives.{Gives};
 
+use crate::characters::{Characters, rest_of, slice_from, without_blanks};
 use crate::fault::YamlFault;
 use crate::inline::{inline_of, key_of};
 use crate::line::Line;
-use crate::scan::{
-    from_place, gap_len, is_dash, is_nothing, is_quiet, lines_from, lines_to, to_place, without_gap,
-};
+use crate::scan::{gap_len, is_dash, is_nothing, is_quiet, lines_from, lines_to};
 use crate::tree::{Pair, Tree};
 use std::alloc::Global;
 use wv_base::{Seq, Text};
@@ -25,19 +25,25 @@ pub fn quiet_len(lines: &[Line<'_>]) -> usize
     ensures rest { drop result lines.now ≡ ahead lines.now }
 {
     let mut at = 0;
-    while at < lines.len() && is_quiet(lines[at].text()) {
+    while at < lines.len() && is_quiet(&lines[at].text()) {
         at += 1;
     }
     at
 }
 
-fn are_spaces(text: &[char]) -> bool
-    ensures { result ≡ all_spaces text.now }
+/// Whether so many characters are spaces.
+fn are_spaces(text: &Characters<'_, '_>, count: usize) -> bool
+    requires { count ≤ length text.now }
+    ensures { result ≡ all_spaces (take count text.now) }
 {
-    for c in text {
-        if *c != ' ' {
+    let mut left = text.again();
+    let mut more = count;
+    while more > 0 {
+        if left.first() != ' ' {
             return false;
         }
+        left = left.rest();
+        more -= 1;
     }
     true
 }
@@ -45,13 +51,13 @@ fn are_spaces(text: &[char]) -> bool
 fn is_item_line(indent: usize, line: &Line<'_>) -> bool
     ensures { result ≡ is_item indent line.now }
 {
-    line.indent() == indent && is_dash(line.text())
+    line.indent() == indent && is_dash(&line.text())
 }
 
 fn is_pair_line(indent: usize, line: &Line<'_>) -> bool
     ensures { result ≡ is_pair indent line.now }
 {
-    line.indent() == indent && !is_dash(line.text()) && !is_quiet(line.text())
+    line.indent() == indent && !is_dash(&line.text()) && !is_quiet(&line.text())
 }
 
 /// Whether the value of an indicator may stand on a line.
@@ -62,7 +68,7 @@ fn is_under_line(is_own: bool, indent: usize, line: &Line<'_>) -> bool
 }
 
 /// Whether a text begins a block collection.
-fn does_open(alloc: Global, text: &[char]) -> Result<bool, YamlFault>
+fn does_open(alloc: Global, text: &Characters<'_, '_>) -> Result<bool, YamlFault>
     ensures { Gives (λ (b : Bool). b) result (Some (opens key_bytes text.now)) }
 {
     if is_dash(text) {
@@ -76,7 +82,11 @@ fn does_open(alloc: Global, text: &[char]) -> Result<bool, YamlFault>
 }
 
 /// Whether a text behind `-` and a gap begins a block collection.
-fn does_open_compact(alloc: Global, is_compact: bool, text: &[char]) -> Result<bool, YamlFault>
+fn does_open_compact(
+    alloc: Global,
+    is_compact: bool,
+    text: &Characters<'_, '_>,
+) -> Result<bool, YamlFault>
     ensures { Gives (λ (b : Bool). b) result (Some (is_compact && opens key_bytes text.now)) }
 {
     if !is_compact {
@@ -129,9 +139,9 @@ pub fn block_of<'a, 'b>(
 {
     if depth == 0 {
         Err(YamlFault::Grammar)
-    } else if is_dash(first.text()) {
+    } else if is_dash(&first.text()) {
         sequence_of(alloc, depth - 1, first.indent(), first, rest)
-    } else if is_quiet(first.text()) {
+    } else if is_quiet(&first.text()) {
         Err(YamlFault::Grammar)
     } else {
         mapping_of(alloc, depth - 1, first.indent(), first, rest)
@@ -216,10 +226,10 @@ fn item_of<'a, 'b>(
     requires columns { All IsSmall body.now }
     ensures { Gives (λ (t : Tree). t) result (item (inline depth) key_bytes (block inline key_bytes depth) indent (head.now, body.now)) }
 {
-    let after = from_place(head.text(), 1);
-    let gap = gap_len(after);
-    let is_compact = are_spaces(to_place(after, gap));
-    let line = Line::new(indent + 1 + gap, from_place(after, gap), head.is_ended());
+    let after = rest_of(head.slice());
+    let gap = gap_len(&Characters::of(after));
+    let is_compact = are_spaces(&Characters::of(after), gap);
+    let line = Line::new(indent + 1 + gap, without_blanks(after), head.is_ended());
     entry_value(alloc, depth, indent, is_compact, &line, &*body)
 }
 
@@ -239,12 +249,12 @@ fn entry_value<'a, 'b>(
     requires columns { All IsSmall body.now }
     ensures { Gives (λ (t : Tree). t) result (entry_of (inline depth) key_bytes (block inline key_bytes depth) indent is_compact line.now body.now) }
 {
-    if is_nothing(line.text()) {
+    if is_nothing(&line.text()) {
         below_of(alloc, depth, false, indent, body)
-    } else if does_open_compact(alloc, is_compact, line.text())? {
+    } else if does_open_compact(alloc, is_compact, &line.text())? {
         block_of(alloc, depth, line, body)
     } else {
-        inline_of(alloc, depth, true, indent, line.text(), body)
+        inline_of(alloc, depth, true, indent, line.slice(), body)
     }
 }
 
@@ -262,8 +272,8 @@ fn pair_of_lines(
     requires columns { All IsSmall body.now }
     ensures { Gives (λ (p : Pair). p) result (pair (inline depth) key_bytes (block inline key_bytes depth) indent (head.now, body.now)) }
 {
-    let (key, at) = key_of(alloc, head.text())?;
-    let text = without_gap(from_place(head.text(), at));
+    let (key, at) = key_of(alloc, &head.text())?;
+    let text = without_blanks(slice_from(head.slice(), at));
     let value = pair_value(alloc, depth, indent, text, body)?;
     Ok(Pair { key, value })
 }
@@ -274,15 +284,15 @@ fn pair_value(
     alloc: Global,
     depth: usize,
     indent: usize,
-    text: &[char],
+    text: &str,
     body: &[Line<'_>],
 ) -> Result<Tree, YamlFault>
     requires depth { depth < 2 ^ 32 }
     requires indent { indent < 2 ^ 63 }
     requires columns { All IsSmall body.now }
-    ensures { Gives (λ (t : Tree). t) result (value_of (inline depth) key_bytes (block inline key_bytes depth) indent text.now body.now) }
+    ensures { Gives (λ (t : Tree). t) result (value_of (inline depth) key_bytes (block inline key_bytes depth) indent (chars text.now) body.now) }
 {
-    if is_nothing(text) {
+    if is_nothing(&Characters::of(text)) {
         below_of(alloc, depth, true, indent, body)
     } else {
         inline_of(alloc, depth, true, indent, text, body)
@@ -312,7 +322,7 @@ fn below_of(
         return Err(YamlFault::Grammar);
     }
     let others = lines_from(lines, 1);
-    if does_open(alloc, first.text())? {
+    if does_open(alloc, &first.text())? {
         block_of(alloc, depth, first, others)
     } else {
         inline_of(
@@ -320,7 +330,7 @@ fn below_of(
             depth,
             false,
             indent,
-            without_gap(first.text()),
+            without_blanks(first.slice()),
             others,
         )
     }

@@ -1,19 +1,20 @@
 // Block scalars.
 ghost use Rattle.std.specs.Prelude.{◌≡◌, ◌≤◌, ◌<◌, ◌+◌, ◌-◌, ◌++◌, [], ◌^◌, length, drop, take, map, OnOk, IfSome, if◌then◌else◌, ℕ, List, All, Bool, string_bytes, Option, Some, None};
-ghost use Rattle.std.specs.Str.{encode_utf8_all};
+ghost use Rattle.std.specs.Str.{encode_utf8_all, chars};
 ghost use Rattle.wv_yaml.specs.Line.{IsSmall};
-ghost use Rattle.wv_yaml.specs.Marks.{indented, is_end};
+ghost use Rattle.wv_yaml.specs.Marks.{indented, is_end as end_of_list};
 ghost use Rattle.wv_yaml.specs.BlockScalar.{header_by, is_digit, is_chomp, chomp_of, after_digit, after_sign, header_of, between, chomped, content, begins_blank, row_in, extra_in, text_in, content_of, is_spaces, belongs, while, past, no_deeper, rows_at, rows_found, rows_of, block_scalar};
 ghost use Rattle.wv_yaml.specs.Gives.{Gives, behind};
 
+use crate::characters::{Characters, first_of, is_blank, is_end};
 use crate::fault::YamlFault;
 use crate::header::{Chomp, Header};
 use crate::line::Line;
-use crate::plain::{push_breaks, push_chars, push_fold};
-use crate::scan::{are_quiet, from_place, is_blank, is_tail_text, lines_from, lines_to, to_place};
+use crate::plain::{push_breaks, push_fold};
+use crate::scan::{are_quiet, is_tail_text, lines_from, lines_to};
 use std::alloc::AllocError;
 
-fn header_with(folds: bool, digit: usize, chomp: Chomp, rest: &[char]) -> Option<Header>
+fn header_with(folds: bool, digit: usize, chomp: Chomp, rest: &Characters<'_, '_>) -> Option<Header>
     ensures value { result ≡ header_by folds digit chomp rest.now }
     ensures digit { IfSome result (λ h. h.digit ≡ digit) }
 {
@@ -46,46 +47,46 @@ fn chomp_with(c: char) -> Chomp
     if c == '+' { Chomp::Keep } else { Chomp::Strip }
 }
 
-fn header_after_digit(folds: bool, digit: usize, text: &[char]) -> Option<Header>
+fn header_after_digit(folds: bool, digit: usize, text: &Characters<'_, '_>) -> Option<Header>
     ensures value { result ≡ after_digit folds digit text.now }
     ensures digit { IfSome result (λ h. h.digit ≡ digit) }
 {
-    if !text.is_empty() && is_sign_char(text[0]) {
-        return header_with(folds, digit, chomp_with(text[0]), from_place(text, 1));
+    if !text.is_empty() && is_sign_char(text.first()) {
+        return header_with(folds, digit, chomp_with(text.first()), &text.rest());
     }
     header_with(folds, digit, Chomp::Clip, text)
 }
 
-fn header_after_sign(folds: bool, chomp: Chomp, text: &[char]) -> Option<Header>
+fn header_after_sign(folds: bool, chomp: Chomp, text: &Characters<'_, '_>) -> Option<Header>
     ensures value { result ≡ after_sign folds chomp text.now }
     ensures digit { IfSome result (λ h. h.digit ≤ 9) }
 {
-    if !text.is_empty() && is_digit_char(text[0]) {
-        let digit = text[0] as usize - 48;
-        return header_with(folds, digit, chomp, from_place(text, 1));
+    if !text.is_empty() && is_digit_char(text.first()) {
+        let digit = text.first() as usize - 48;
+        return header_with(folds, digit, chomp, &text.rest());
     }
     header_with(folds, 0, chomp, text)
 }
 
 /// The header behind `|` or `>`.
-fn header_in(folds: bool, text: &[char]) -> Option<Header>
+fn header_in(folds: bool, text: &Characters<'_, '_>) -> Option<Header>
     ensures value { result ≡ header_of folds text.now }
     ensures digit { IfSome result (λ h. h.digit ≤ 9) }
 {
-    if !text.is_empty() && is_digit_char(text[0]) {
-        let digit = text[0] as usize - 48;
-        return header_after_digit(folds, digit, from_place(text, 1));
+    if !text.is_empty() && is_digit_char(text.first()) {
+        let digit = text.first() as usize - 48;
+        return header_after_digit(folds, digit, &text.rest());
     }
-    if !text.is_empty() && is_sign_char(text[0]) {
-        return header_after_sign(folds, chomp_with(text[0]), from_place(text, 1));
+    if !text.is_empty() && is_sign_char(text.first()) {
+        return header_after_sign(folds, chomp_with(text.first()), &text.rest());
     }
     header_with(folds, 0, Chomp::Clip, text)
 }
 
-fn does_begin_blank(text: &[char]) -> bool
-    ensures { result ≡ begins_blank text.now }
+fn does_begin_blank(text: &str) -> bool
+    ensures { result ≡ begins_blank (chars text.now) }
 {
-    !text.is_empty() && is_blank(text[0])
+    !is_end(text) && is_blank(first_of(text))
 }
 
 fn push_spaces(out: &mut String, count: usize) -> Result<(), AllocError>
@@ -148,23 +149,23 @@ fn extra_spaces(column: Option<usize>, line: &Line<'_>) -> usize
     }
 }
 
-fn row_text<'a>(column: Option<usize>, line: &Line<'a>) -> &'a [char]
-    ensures { result.now ≡ text_in column line.now }
+fn row_text<'a>(column: Option<usize>, line: &Line<'a>) -> &'a str
+    ensures { chars result.now ≡ text_in column line.now }
 {
     match column {
-        None => to_place(line.text(), 0),
-        Some(_) => line.text(),
+        None => "",
+        Some(_) => line.slice(),
     }
 }
 
-fn is_empty_row(extra: usize, text: &[char]) -> bool
-    ensures { result ≡ is_end (indented extra text.now) }
+fn is_empty_row(extra: usize, text: &str) -> bool
+    ensures { result ≡ end_of_list (indented extra (chars text.now)) }
 {
-    extra == 0 && text.is_empty()
+    extra == 0 && is_end(text)
 }
 
-fn does_row_begin_blank(extra: usize, text: &[char]) -> bool
-    ensures { result ≡ begins_blank (indented extra text.now) }
+fn does_row_begin_blank(extra: usize, text: &str) -> bool
+    ensures { result ≡ begins_blank (indented extra (chars text.now)) }
 {
     extra > 0 || does_begin_blank(text)
 }
@@ -177,11 +178,11 @@ fn break_count(line: &Line<'_>) -> usize
 }
 
 /// Appends the text of a row of content: so many spaces, and what follows them.
-fn push_row(out: &mut String, extra: usize, text: &[char]) -> Result<(), AllocError>
-    ensures { OnOk result (string_bytes out.new ≡ string_bytes out.old ++ encode_utf8_all (indented extra text.now)) }
+fn push_row(out: &mut String, extra: usize, text: &str) -> Result<(), AllocError>
+    ensures { OnOk result (string_bytes out.new ≡ string_bytes out.old ++ encode_utf8_all (indented extra (chars text.now))) }
 {
     push_spaces(out, extra)?;
-    push_chars(out, text)?;
+    out.push_str(text)?;
     Ok(())
 }
 
@@ -216,7 +217,7 @@ fn push_content(
 fn does_belong(column: usize, line: &Line<'_>) -> bool
     ensures { result ≡ belongs column line.now }
 {
-    line.text().is_empty() || column <= line.indent()
+    is_end(line.slice()) || column <= line.indent()
 }
 
 /// How many lines of content stand first.
@@ -239,7 +240,7 @@ fn spaces_lines(lines: &[Line<'_>]) -> usize
     ensures rest { drop result lines.now ≡ past is_spaces lines.now }
 {
     let mut at = 0;
-    while at < lines.len() && lines[at].text().is_empty() {
+    while at < lines.len() && is_end(lines[at].slice()) {
         at += 1;
     }
     at
@@ -308,7 +309,7 @@ pub fn push_block(
     out: &mut String,
     folds: bool,
     indent: usize,
-    text: &[char],
+    text: &Characters<'_, '_>,
     body: &[Line<'_>],
 ) -> Result<(), YamlFault>
     requires { indent < 2 ^ 63 }

@@ -10,28 +10,27 @@ ghost use Rattle.wv_yaml.specs.Inline.{is_colon, quoted_key, named, plain_key, k
 ghost use Rattle.wv_yaml.specs.Gives.{Gives, behind};
 
 use crate::block_scalar::push_block;
+use crate::characters::{Characters, first_of, is_end, rest_of};
 use crate::fault::YamlFault;
 use crate::flow::flow_of;
 use crate::line::Line;
 use crate::plain::{cut_len, is_plain_start, push_chars, push_plain};
 use crate::quoted::push_quoted;
-use crate::scan::{
-    does_begin_with, from_place, gap_len, is_empty_line, is_parted, len_without_end, to_place,
-};
+use crate::scan::{does_begin_with, from_place, gap_len, is_parted, len_without_end};
 use crate::tokens::{is_quote_char, is_quoted_start, is_short, read_tokens};
 use crate::tree::Tree;
-use std::alloc::{AllocError, Global};
+use std::alloc::Global;
 use wv_base::Text;
 
-fn is_colon_text(text: &[char]) -> bool
+fn is_colon_text(text: &Characters<'_, '_>) -> bool
     ensures value { result ≡ is_colon text.now }
     ensures some { IsTrue result → 0 < length text.now }
 {
-    !text.is_empty() && text[0] == ':' && is_parted(from_place(text, 1))
+    !text.is_empty() && text.first() == ':' && is_parted(&text.rest())
 }
 
 /// Whether a scalar is a key, by its value and what follows it.
-fn does_end_key(value: &str, rest: &[char]) -> bool
+fn does_end_key(value: &str, rest: &Characters<'_, '_>) -> bool
     ensures value { result ≡ (is_colon rest.now && nat_le (length (chars value.now)) max_key) }
     ensures some { IsTrue result → 0 < length rest.now }
 {
@@ -39,22 +38,26 @@ fn does_end_key(value: &str, rest: &[char]) -> bool
 }
 
 /// The quoted key whose text follows the opening quote, and how many characters stand up to its colon, it included.
-fn quoted_key_of(alloc: Global, is_double: bool, text: &[char]) -> Result<(Text, usize), YamlFault>
+fn quoted_key_of(
+    alloc: Global,
+    is_double: bool,
+    text: &Characters<'_, '_>,
+) -> Result<(Text, usize), YamlFault>
     ensures value { Gives (λ (x : List ℕ × ℕ). (x.0, drop x.1 text.now)) result (named (quoted_key (quoted (step_in is_double) 0) text.now)) }
     ensures within { IfOk result (λ x. x.1 ≤ length text.now) }
 {
     let mut out = String::new(alloc);
     let count = push_quoted(&mut out, is_double, text)?;
     let after = from_place(text, count);
-    let gap = gap_len(after);
-    if !does_end_key(out.as_str(), from_place(after, gap)) {
+    let gap = gap_len(&after);
+    if !does_end_key(out.as_str(), &from_place(&after, gap)) {
         return Err(YamlFault::Grammar);
     }
     let name = Text::of(alloc, out.as_str())?;
     Ok((name, count + gap + 1))
 }
 
-fn plain_key_of(alloc: Global, text: &[char]) -> Result<(Text, usize), YamlFault>
+fn plain_key_of(alloc: Global, text: &Characters<'_, '_>) -> Result<(Text, usize), YamlFault>
     ensures value { Gives (λ (x : List ℕ × ℕ). (x.0, drop x.1 text.now)) result (named (plain_key text.now)) }
     ensures within { IfOk result (λ x. x.1 ≤ length text.now) }
 {
@@ -62,10 +65,13 @@ fn plain_key_of(alloc: Global, text: &[char]) -> Result<(Text, usize), YamlFault
         return Err(YamlFault::Grammar);
     }
     let len = cut_len(false, text);
-    let front = to_place(text, len);
+    let rest = from_place(text, len);
+    if !is_colon_text(&rest) {
+        return Err(YamlFault::Grammar);
+    }
     let mut out = String::new(alloc);
-    push_chars(&mut out, to_place(front, len_without_end(front)))?;
-    if !does_end_key(out.as_str(), from_place(text, len)) {
+    push_chars(&mut out, text, len_without_end(text, len))?;
+    if !does_end_key(out.as_str(), &rest) {
         return Err(YamlFault::Grammar);
     }
     let name = Text::of(alloc, out.as_str())?;
@@ -73,7 +79,7 @@ fn plain_key_of(alloc: Global, text: &[char]) -> Result<(Text, usize), YamlFault
 }
 
 /// The key that a line's text begins with, and how many characters stand up to its colon, it included.
-pub fn key_of(alloc: Global, text: &[char]) -> Result<(Text, usize), YamlFault>
+pub fn key_of(alloc: Global, text: &Characters<'_, '_>) -> Result<(Text, usize), YamlFault>
     ensures value { Gives (λ (x : List ℕ × ℕ). (x.0, drop x.1 text.now)) result (key_bytes text.now) }
     ensures within { IfOk result (λ x. x.1 ≤ length text.now) }
 {
@@ -82,41 +88,14 @@ pub fn key_of(alloc: Global, text: &[char]) -> Result<(Text, usize), YamlFault>
     }
     if is_quoted_start(text) {
         let is_double = does_begin_with(text, '"');
-        let (name, count) = quoted_key_of(alloc, is_double, from_place(text, 1))?;
+        let (name, count) = quoted_key_of(alloc, is_double, &text.rest())?;
         return Ok((name, count + 1));
     }
     plain_key_of(alloc, text)
 }
 
-fn break_char(column: usize, line: &Line<'_>) -> char
-    ensures { result ≡ break_before column line.now }
-{
-    if is_empty_line(line) || column <= line.indent() {
-        '\n'
-    } else {
-        '\r'
-    }
-}
-
-/// The text of a value that may go on over lines which are indented by a column or more.
-pub fn joined_text(
-    alloc: Global,
-    column: usize,
-    text: &[char],
-    body: &[Line<'_>],
-) -> Result<Vec<char>, AllocError>
-    ensures { IfOk result (λ v. v.items ≡ joined column text.now body.now) }
-{
-    let mut all = Vec::from_slice(alloc, text)?;
-    for line in body {
-        all.push(break_char(column, line))?;
-        all.extend_from_slice(line.text())?;
-    }
-    Ok(all)
-}
-
 /// Whether nothing but blanks, line breaks and comments is left.
-fn is_silent_text(alloc: Global, text: &[char]) -> Result<bool, YamlFault>
+fn is_silent_text(alloc: Global, text: &Characters<'_, '_>) -> Result<bool, YamlFault>
     ensures { Gives (λ (b : Bool). b) result (Some (is_silent text.now)) }
 {
     match read_tokens(alloc, text) {
@@ -131,12 +110,12 @@ fn push_quoted_alone(
     alloc: Global,
     out: &mut String,
     is_double: bool,
-    text: &[char],
+    text: &Characters<'_, '_>,
 ) -> Result<(), YamlFault>
     ensures { Gives (λ (_ : Unit {0}). string_bytes out.new) result (behind (string_bytes out.old) (quoted_alone (quoted (step_in is_double) 0) text.now)) }
 {
     let count = push_quoted(out, is_double, text)?;
-    if !is_silent_text(alloc, from_place(text, count))? {
+    if !is_silent_text(alloc, &from_place(text, count))? {
         return Err(YamlFault::Grammar);
     }
     Ok(())
@@ -148,38 +127,44 @@ fn push_scalar(
     out: &mut String,
     is_here: bool,
     indent: usize,
-    text: &[char],
+    text: &str,
     body: &[Line<'_>],
 ) -> Result<(), YamlFault>
     requires { indent < 2 ^ 63 }
-    ensures { Gives (λ (_ : Unit {0}). string_bytes out.new) result (behind (string_bytes out.old) (scalar is_here indent text.now body.now)) }
+    ensures { Gives (λ (_ : Unit {0}). string_bytes out.new) result (behind (string_bytes out.old) (scalar is_here indent (chars text.now) body.now)) }
 {
-    if text.is_empty() {
+    if is_end(text) {
         return Err(YamlFault::Grammar);
     }
-    let first = text[0];
-    let rest = from_place(text, 1);
+    let first = first_of(text);
+    let rest = rest_of(text);
     if is_quote_char(first) {
-        let all = joined_text(alloc, indent + 1, rest, body)?;
-        return push_quoted_alone(alloc, out, first == '"', all.as_slice());
+        let Some(all) = Characters::over(indent + 1, rest, body) else {
+            return Err(YamlFault::OutOfMemory);
+        };
+        return push_quoted_alone(alloc, out, first == '"', &all);
     }
     if first == '|' || first == '>' {
         if !is_here {
             return Err(YamlFault::Grammar);
         }
-        return push_block(out, first == '>', indent, rest, body);
+        return push_block(out, first == '>', indent, &Characters::of(rest), body);
     }
-    push_plain(out, indent, text, body)
+    push_plain(out, indent, &Characters::of(text), body)
 }
 
-pub fn does_begin_flow(text: &[char]) -> bool
-    ensures { result ≡ begins_flow text.now }
+pub fn does_begin_flow(text: &str) -> bool
+    ensures { result ≡ begins_flow (chars text.now) }
 {
-    !text.is_empty() && (text[0] == '[' || text[0] == '{')
+    !is_end(text) && (first_of(text) == '[' || first_of(text) == '{')
 }
 
 /// The flow collection that a text is.
-pub fn flow_text_of(alloc: Global, depth: usize, text: &[char]) -> Result<Tree, YamlFault>
+pub fn flow_text_of(
+    alloc: Global,
+    depth: usize,
+    text: &Characters<'_, '_>,
+) -> Result<Tree, YamlFault>
     requires { depth < 2 ^ 32 }
     ensures { Gives (λ (t : Tree). t) result (flow_text depth text.now) }
 {
@@ -195,16 +180,18 @@ pub fn inline_of(
     depth: usize,
     is_here: bool,
     indent: usize,
-    text: &[char],
+    text: &str,
     body: &[Line<'_>],
 ) -> Result<Tree, YamlFault>
     requires depth { depth < 2 ^ 32 }
     requires indent { indent < 2 ^ 63 }
-    ensures { Gives (λ (t : Tree). t) result (inline depth is_here indent text.now body.now) }
+    ensures { Gives (λ (t : Tree). t) result (inline depth is_here indent (chars text.now) body.now) }
 {
     if does_begin_flow(text) {
-        let all = joined_text(alloc, indent + 1, text, body)?;
-        return flow_text_of(alloc, depth, all.as_slice());
+        let Some(all) = Characters::over(indent + 1, text, body) else {
+            return Err(YamlFault::OutOfMemory);
+        };
+        return flow_text_of(alloc, depth, &all);
     }
     let mut out = String::new(alloc);
     push_scalar(alloc, &mut out, is_here, indent, text, body)?;

@@ -4,6 +4,7 @@
 
 mod block;
 mod block_scalar;
+mod characters;
 mod fault;
 mod flow;
 mod header;
@@ -25,7 +26,7 @@ pub use fault::YamlFault;
 pub use quoting::{quote, quoted_reads_back};
 pub use reading::{one_tree, read, spelled_is_computed};
 pub use tree::{Pair, Tree};
-pub use writing::write;
+pub use writing::{canonical_is_read, canonical_is_spelled, write};
 
 #[cfg(test)]
 mod tests;

@@ -1,29 +1,32 @@
 ghost use Rattle.std.specs.Prelude.{◌≡◌};
+ghost use Rattle.std.specs.Str.{chars};
 ghost use Rattle.wv_yaml.specs.Line.{line_at};
 
+use crate::characters::Characters;
 use std::marker::Model;
 
-/// One line of a document: how many spaces it begins with, the characters behind them, and whether a line break ends it.
+/// One line of a document: how many spaces it begins with, the text behind them, and whether a line break ends it.
 #[derive(Drop)]
 pub struct Line<'a> {
     spaces: usize,
-    rest: &'a [char],
+    rest: &'a str,
     has_break: bool,
 }
 
 impl<'a> Model for Line<'a> {
+    ghost use Rattle.std.specs.Str.{chars};
     ghost use Rattle.wv_yaml.specs.Line.{Line as SourceLine, line_at, coded_line};
 
     ghost Value = { SourceLine };
 
     ghost coded = { coded_line };
 
-    ghost view = { λ l. line_at l.spaces l.rest.now l.has_break };
+    ghost view = { λ l. line_at l.spaces (chars l.rest.now) l.has_break };
 }
 
 impl<'a> Line<'a> {
-    pub fn new(indent: usize, text: &'a [char], ended: bool) -> Line<'a>
-        ensures { result ≡ line_at indent text.now ended }
+    pub fn new(indent: usize, text: &'a str, ended: bool) -> Line<'a>
+        ensures { result ≡ line_at indent (chars text.now) ended }
     {
         Line {
             spaces: indent,
@@ -38,8 +41,15 @@ impl<'a> Line<'a> {
         self.spaces
     }
 
-    pub fn text(&self) -> &'a [char]
-        ensures { result.now ≡ self.now.text }
+    pub fn text<'b>(&self) -> Characters<'a, 'b>
+        ensures { result ≡ self.now.text }
+    {
+        Characters::of(self.rest)
+    }
+
+    /// The text behind its spaces.
+    pub fn slice(&self) -> &'a str
+        ensures { chars result.now ≡ self.now.text }
     {
         self.rest
     }

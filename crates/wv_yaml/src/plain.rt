@@ -6,11 +6,11 @@ ghost use Rattle.wv_yaml.specs.Plain.{flow_sign, is_sign, plain_start, parted_in
 ghost use Rattle.wv_yaml.specs.Line.{Line as SourceLine};
 ghost use Rattle.wv_yaml.specs.Gives.{Gives, behind};
 
+use crate::characters::{Characters, is_blank};
 use crate::fault::YamlFault;
 use crate::line::Line;
 use crate::scan::{
-    are_quiet, from_place, is_blank, is_nothing, is_parted, len_without_end, lines_from, to_place,
-    without_gap,
+    are_quiet, from_place, is_nothing, is_parted, len_without_end, lines_from, without_gap,
 };
 use std::alloc::AllocError;
 
@@ -37,17 +37,17 @@ fn is_sign_char(c: char) -> bool
         || c == '`'
 }
 
-fn is_flow_parted(text: &[char]) -> bool
+fn is_flow_parted(text: &Characters<'_, '_>) -> bool
     ensures { result ≡ flow_parted text.now }
 {
-    text.is_empty()
-        || is_blank(text[0])
-        || text[0] == '\n'
-        || text[0] == '\r'
-        || is_flow_sign(text[0])
+    if text.is_empty() {
+        return true;
+    }
+    let c = text.first();
+    is_blank(c) || c == '\n' || c == '\r' || is_flow_sign(c)
 }
 
-fn is_parted_in(is_flow: bool, text: &[char]) -> bool
+fn is_parted_in(is_flow: bool, text: &Characters<'_, '_>) -> bool
     ensures { result ≡ parted_in is_flow text.now }
 {
     if is_flow {
@@ -58,19 +58,18 @@ fn is_parted_in(is_flow: bool, text: &[char]) -> bool
 }
 
 /// Whether a plain scalar begins with a text, in flow or in block context.
-pub fn is_plain_start(is_flow: bool, text: &[char]) -> bool
+pub fn is_plain_start(is_flow: bool, text: &Characters<'_, '_>) -> bool
     ensures { result ≡ plain_start (parted_in is_flow) text.now }
 {
     if text.is_empty() {
         return false;
     }
-    let c = text[0];
-    let is_indicator = (c == '-' || c == '?' || c == ':')
-        && is_parted_in(is_flow, from_place(text, 1));
+    let c = text.first();
+    let is_indicator = (c == '-' || c == '?' || c == ':') && is_parted_in(is_flow, &text.rest());
     !(is_sign_char(c) || is_blank(c)) && !is_indicator
 }
 
-fn does_stop_flow(is_behind: bool, c: char, rest: &[char]) -> bool
+fn does_stop_flow(is_behind: bool, c: char, rest: &Characters<'_, '_>) -> bool
     ensures { result ≡ stops_in true is_behind c rest.now }
 {
     c == '\n'
@@ -80,7 +79,7 @@ fn does_stop_flow(is_behind: bool, c: char, rest: &[char]) -> bool
         || (c == '#' && is_behind)
 }
 
-fn does_stop(is_flow: bool, is_behind: bool, c: char, rest: &[char]) -> bool
+fn does_stop(is_flow: bool, is_behind: bool, c: char, rest: &Characters<'_, '_>) -> bool
     ensures { result ≡ stops_in is_flow is_behind c rest.now }
 {
     if is_flow {
@@ -91,26 +90,42 @@ fn does_stop(is_flow: bool, is_behind: bool, c: char, rest: &[char]) -> bool
 }
 
 /// How far a plain scalar goes on a line, with the blanks at its end.
-pub fn cut_len(is_flow: bool, text: &[char]) -> usize
+pub fn cut_len(is_flow: bool, text: &Characters<'_, '_>) -> usize
     ensures within { result ≤ length text.now }
     ensures front { take result text.now ≡ (cut (stops_in is_flow) false text.now).0 }
     ensures rest { drop result text.now ≡ (cut (stops_in is_flow) false text.now).1 }
 {
     let mut is_behind = false;
     let mut at = 0;
-    while at < text.len() && !does_stop(is_flow, is_behind, text[at], from_place(text, at + 1)) {
-        is_behind = is_blank(text[at]);
+    let mut left = text.again();
+    while !left.is_empty() {
+        let c = left.first();
+        let rest = left.rest();
+        if does_stop(is_flow, is_behind, c, &rest) {
+            return at;
+        }
+        is_behind = is_blank(c);
+        left = rest;
         at += 1;
     }
     at
 }
 
-/// Appends characters.
-pub fn push_chars(out: &mut String, text: &[char]) -> Result<(), AllocError>
-    ensures { OnOk result (string_bytes out.new ≡ string_bytes out.old ++ encode_utf8_all text.now) }
+/// Appends so many characters.
+pub fn push_chars(
+    out: &mut String,
+    text: &Characters<'_, '_>,
+    count: usize,
+) -> Result<(), AllocError>
+    requires { count ≤ length text.now }
+    ensures { OnOk result (string_bytes out.new ≡ string_bytes out.old ++ encode_utf8_all (take count text.now)) }
 {
-    for c in text {
-        out.push(*c)?;
+    let mut left = text.again();
+    let mut more = count;
+    while more > 0 {
+        out.push(left.first())?;
+        left = left.rest();
+        more -= 1;
     }
     Ok(())
 }
@@ -149,14 +164,14 @@ fn push_continued(out: &mut String, indent: usize, lines: &[Line<'_>]) -> Result
             return Ok(());
         }
         let line = &left[0];
-        let text = without_gap(line.text());
+        let text = without_gap(&line.text());
         let rest = lines_from(left, 1);
         if text.is_empty() {
             empties += 1;
             left = rest;
             continue;
         }
-        if is_nothing(text) {
+        if is_nothing(&text) {
             if !are_quiet(rest) {
                 return Err(YamlFault::Grammar);
             }
@@ -165,14 +180,13 @@ fn push_continued(out: &mut String, indent: usize, lines: &[Line<'_>]) -> Result
         if line.indent() <= indent {
             return Err(YamlFault::Grammar);
         }
-        let len = cut_len(false, text);
-        let tail = from_place(text, len);
-        if !is_nothing(tail) {
+        let len = cut_len(false, &text);
+        let tail = from_place(&text, len);
+        if !is_nothing(&tail) {
             return Err(YamlFault::Grammar);
         }
-        let front = to_place(text, len);
         push_fold(out, empties)?;
-        push_chars(out, to_place(front, len_without_end(front)))?;
+        push_chars(out, &text, len_without_end(&text, len))?;
         if !tail.is_empty() {
             if !are_quiet(rest) {
                 return Err(YamlFault::Grammar);
@@ -188,7 +202,7 @@ fn push_continued(out: &mut String, indent: usize, lines: &[Line<'_>]) -> Result
 pub fn push_plain(
     out: &mut String,
     indent: usize,
-    text: &[char],
+    text: &Characters<'_, '_>,
     body: &[Line<'_>],
 ) -> Result<(), YamlFault>
     ensures { Gives (λ (_ : Unit {0}). string_bytes out.new) result (behind (string_bytes out.old) (plain_lines indent text.now body.now)) }
@@ -198,16 +212,15 @@ pub fn push_plain(
     }
     let len = cut_len(false, text);
     let tail = from_place(text, len);
-    let front = to_place(text, len);
-    let value = to_place(front, len_without_end(front));
+    let count = len_without_end(text, len);
     if tail.is_empty() {
-        push_chars(out, value)?;
+        push_chars(out, text, count)?;
         push_continued(out, indent, body)?;
         return Ok(());
     }
-    if !is_nothing(tail) || !are_quiet(body) {
+    if !is_nothing(&tail) || !are_quiet(body) {
         return Err(YamlFault::Grammar);
     }
-    push_chars(out, value)?;
+    push_chars(out, text, count)?;
     Ok(())
 }

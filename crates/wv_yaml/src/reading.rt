@@ -11,39 +11,44 @@ ghost use Rattle.wv_yaml.specs.Gives.{Gives};
 ghost use Rattle.wv_yaml.specs.Reading.{IsReading, IsAnswer};
 
 use crate::block::{block_of, quiet_len};
+use crate::characters::{Characters, without_blanks};
 use crate::fault::YamlFault;
-use crate::inline::{does_begin_flow, flow_text_of, joined_text};
+use crate::inline::{does_begin_flow, flow_text_of};
 use crate::line::Line;
-use crate::lines::{are_allowed, characters, read_lines, without_mark};
+use crate::lines::{are_allowed, read_lines, without_mark};
 use crate::repeats::does_repeat;
 use crate::scan::{
-    are_quiet, from_place, is_parted, is_tail_text, lines_from, lines_to, without_gap,
+    are_quiet, does_begin_with, from_place, is_parted, is_tail_text, lines_from, lines_to,
 };
 use crate::tree::Tree;
 use std::alloc::Global;
 use std::str;
 
 /// Whether a text begins with three signs, and then a blank or the line's end.
-fn is_triple_text(c: char, text: &[char]) -> bool
+fn is_triple_text(c: char, text: &Characters<'_, '_>) -> bool
     ensures { result ≡ is_triple c text.now }
 {
-    text.len() >= 3
-        && text[0] == c
-        && text[1] == c
-        && text[2] == c
-        && is_parted(from_place(text, 3))
+    if !does_begin_with(text, c) {
+        return false;
+    }
+    let second = text.rest();
+    if !does_begin_with(&second, c) {
+        return false;
+    }
+    let third = second.rest();
+    does_begin_with(&third, c) && is_parted(&third.rest())
 }
 
 fn is_start_line(line: &Line<'_>) -> bool
     ensures { result ≡ is_start line.now }
 {
-    line.indent() == 0 && is_triple_text('-', line.text())
+    line.indent() == 0 && is_triple_text('-', &line.text())
 }
 
 fn is_stop_line(line: &Line<'_>) -> bool
     ensures { result ≡ is_stop line.now }
 {
-    line.indent() == 0 && is_triple_text('.', line.text())
+    line.indent() == 0 && is_triple_text('.', &line.text())
 }
 
 fn is_text_line(line: &Line<'_>) -> bool
@@ -56,8 +61,7 @@ fn is_text_line(line: &Line<'_>) -> bool
 fn is_alone_line(line: &Line<'_>) -> bool
     ensures { result ≡ is_alone line.now }
 {
-    let text = line.text();
-    text.len() <= 3 || is_tail_text(from_place(text, 3))
+    is_tail_text(&from_place(&line.text(), 3))
 }
 
 /// The lines without the first line `---`.
@@ -102,10 +106,12 @@ fn top_of(alloc: Global, lines: &[Line<'_>]) -> Result<Tree, YamlFault>
     }
     let first = &lines[0];
     let rest = lines_from(lines, 1);
-    let text = without_gap(first.text());
+    let text = without_blanks(first.slice());
     if does_begin_flow(text) {
-        let all = joined_text(alloc, 0, text, rest)?;
-        return flow_text_of(alloc, 64, all.as_slice());
+        let Some(all) = Characters::over(0, text, rest) else {
+            return Err(YamlFault::OutOfMemory);
+        };
+        return flow_text_of(alloc, 64, &all);
     }
     block_of(alloc, 64, first, rest)
 }
@@ -123,10 +129,10 @@ fn framed_of(alloc: Global, lines: &[Line<'_>]) -> Result<Tree, YamlFault>
     top_of(alloc, lines_from(inside, quiet_len(inside)))
 }
 
-/// The tree of characters.
+/// The tree of a text, without a mark in front.
 #[tactic(auto, unfolding(crate::specs::Document::document))]
-fn document_of(alloc: Global, text: &[char]) -> Result<Tree, YamlFault>
-    ensures { Gives (λ (t : Tree). t) result (document (lines_in text.now)) }
+fn document_of(alloc: Global, text: &str) -> Result<Tree, YamlFault>
+    ensures { Gives (λ (t : Tree). t) result (document (lines_in (chars text.now))) }
 {
     let lines = read_lines(alloc, text)?;
     let all = lines.as_slice();
@@ -147,12 +153,11 @@ fn without_repeats(alloc: Global, tree: Tree) -> Result<Tree, YamlFault>
 fn read_text(alloc: Global, text: &str) -> Result<Tree, YamlFault>
     ensures { IsReading (allowed (unmarked (chars text.now))) (tree_of text.now) result }
 {
-    let all = characters(alloc, text)?;
-    let chars = without_mark(all.as_slice());
-    if !are_allowed(chars) {
+    let unmarked = without_mark(text);
+    if !are_allowed(unmarked) {
         return Err(YamlFault::Bytes);
     }
-    match document_of(alloc, chars) {
+    match document_of(alloc, unmarked) {
         Ok(tree) => without_repeats(alloc, tree),
         Err(fault) => Err(fault),
     }

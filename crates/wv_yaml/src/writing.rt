@@ -1,11 +1,16 @@
 // The canonical text of a tree.
-ghost use Rattle.std.specs.Prelude.{◌≡◌, ◌≤◌, ◌<◌, ◌+◌, ◌*◌, ◌^◌, ◌++◌, ◌∷◌, [], length, drop, OnOk, IfOk, List, ℕ, string_bytes, true, false};
+ghost use Rattle.std.specs.Prelude.{◌≡◌, ◌≤◌, ◌<◌, ◌+◌, ◌*◌, ◌^◌, ◌++◌, ◌∷◌, [], length, drop, OnOk, IfOk, List, ℕ, string_bytes, true, false, Result, Some};
 ghost use Rattle.std.specs.List.{AllByRecursion};
+ghost use Rattle.std.specs.Str.{IsUtf8};
 ghost use Rattle.wv_yaml.specs.declared.tree.Tree.{Tree};
 ghost use Rattle.wv_yaml.specs.declared.tree.Pair.{Pair};
+ghost use Rattle.wv_yaml.specs.declared.fault.YamlFault.{YamlFault};
 ghost use Rattle.wv_yaml.specs.Marks.{indented};
-ghost use Rattle.wv_yaml.specs.Document.{max_depth};
-ghost use Rattle.wv_yaml.specs.Canon.{is_word_char, is_decimal, is_letter, all_of, is_name, key_text, is_count, bytes_are, is_place, text_form, is_inline, lead, after_colon, form, items_bytes, pairs_bytes, canon, Fits, PairFits, IsCollection};
+ghost use Rattle.wv_yaml.specs.Document.{max_depth, Spelled};
+ghost use Rattle.wv_yaml.specs.Canon.{is_word_char, is_decimal, is_letter, all_of, is_name, key_text, is_count, bytes_are, is_place, text_form, is_inline, lead, after_colon, form, items_bytes, pairs_bytes, canon, Fits, PairFits, IsCollection, InUtf8, PairInUtf8};
+ghost use Rattle.wv_yaml.specs.Repeats.{Repeats};
+ghost use Rattle.wv_yaml.specs.Reading.{IsAnswer};
+ghost use Rattle.wv_yaml.specs.Gives.{Gives};
 
 use crate::quoting::push_quoted_text;
 use crate::tree::{Pair, Tree};
@@ -102,9 +107,11 @@ fn is_place_key(key: &[u8]) -> bool
 }
 
 fn push_text(alloc: Global, out: &mut String, is_bare: bool, text: &str) -> Result<(), AllocError>
-    ensures { OnOk result (string_bytes out.new ≡ string_bytes out.old ++ text_form is_bare text.now) }
+    ensures text { OnOk result (string_bytes out.new ≡ string_bytes out.old ++ text_form is_bare text.now) }
+    ensures utf8 { IsUtf8 text.now }
 {
-    if is_bare && is_bare_count(text.as_bytes()) {
+    let bytes = text.as_bytes();
+    if is_bare && is_bare_count(bytes) {
         out.push_str(text)?;
         return Ok(());
     }
@@ -112,7 +119,8 @@ fn push_text(alloc: Global, out: &mut String, is_bare: bool, text: &str) -> Resu
 }
 
 fn push_key(alloc: Global, out: &mut String, key: &str) -> Result<(), AllocError>
-    ensures { OnOk result (string_bytes out.new ≡ string_bytes out.old ++ key_text key.now) }
+    ensures text { OnOk result (string_bytes out.new ≡ string_bytes out.old ++ key_text key.now) }
+    ensures utf8 { IsUtf8 key.now }
 {
     if is_bare_key(key.as_bytes()) {
         out.push_str(key)?;
@@ -176,7 +184,8 @@ fn write_value(
 ) -> Result<(), AllocError>
     requires fits { Fits depth tree.now }
     requires room { column + 2 * depth < 2 ^ 32 }
-    ensures { OnOk result (string_bytes out.new ≡ string_bytes out.old ++ form column is_bare tree.now) }
+    ensures text { OnOk result (string_bytes out.new ≡ string_bytes out.old ++ form column is_bare tree.now) }
+    ensures utf8 { OnOk result (InUtf8 tree.now) }
 {
     match tree {
         Tree::Text(text) => {
@@ -211,7 +220,8 @@ fn write_items(
 ) -> Result<(), AllocError>
     requires fit { AllByRecursion (λ t. Fits depth t) items.now }
     requires room { column + 2 * depth + 2 < 2 ^ 32 }
-    ensures { OnOk result (string_bytes out.new ≡ string_bytes out.old ++ items_bytes column true items.now) }
+    ensures text { OnOk result (string_bytes out.new ≡ string_bytes out.old ++ items_bytes column true items.now) }
+    ensures utf8 { OnOk result (AllByRecursion (λ t. InUtf8 t) items.now) }
 {
     let mut is_first = true;
     for item in items {
@@ -233,7 +243,8 @@ fn write_pairs(
 ) -> Result<(), AllocError>
     requires fit { AllByRecursion (λ p. PairFits depth p) pairs.now }
     requires room { column + 2 * depth + 2 < 2 ^ 32 }
-    ensures { OnOk result (string_bytes out.new ≡ string_bytes out.old ++ pairs_bytes column true pairs.now) }
+    ensures text { OnOk result (string_bytes out.new ≡ string_bytes out.old ++ pairs_bytes column true pairs.now) }
+    ensures utf8 { OnOk result (AllByRecursion (λ p. PairInUtf8 p) pairs.now) }
 {
     let mut is_first = true;
     for pair in pairs {
@@ -258,9 +269,21 @@ fn write_pairs(
 pub fn write(alloc: Global, tree: &Tree) -> Result<Vec<u8>, OutOfMemory>
     requires collection { IsCollection tree.now }
     requires fits { Fits max_depth tree.now }
-    ensures { IfOk result (λ v. v.items ≡ canon tree.now) }
+    ensures text { IfOk result (λ v. v.items ≡ canon tree.now) }
+    // So `read` gives the tree back.
+    ensures spelled { IfOk result (λ v. Spelled tree.now v.items) }
 {
     let mut out = String::new(alloc);
     write_value(alloc, &mut out, 0, false, 64, tree)?;
     Ok(out.into_bytes())
 }
+
+/// The canonical text of a tree spells that tree.
+pub fn canonical_is_spelled()
+    ensures { (t : Tree) → IsCollection t → Fits max_depth t → InUtf8 t → Spelled t (canon t) }
+{}
+
+/// What `read` answers to the canonical text of a tree without repeated keys: that tree, unless memory runs out.
+pub fn canonical_is_read()
+    ensures { (t : Tree) (r : Result Tree YamlFault) → IsCollection t → Fits max_depth t → InUtf8 t → (Repeats t → ⊥) → IsAnswer (canon t) r → Gives (λ (u : Tree). u) r (Some t) }
+{}

@@ -1,6 +1,12 @@
-use Rattle.std.proofs.Common.{◌≡◌, drop}
+use Rattle.std.proofs.Common.{◌≡◌, ◌≤◌, length, take}
 use Rattle.wv_yaml.specs.Block.{all_spaces}
 use Rattle.wv_yaml.proofs.block.are_spaces.Given as goal
 
-abbrev pub invariant-loop-c : goal.invariant-loop-c
-invariant-loop-c l = all_spaces (drop l.c-index l.text) ≡ all_spaces l.text
+abbrev pub invariant-loop-more : goal.invariant-loop-more
+invariant-loop-more l = record {
+  within : l.more ≤ length l.left;
+  same : all_spaces (take l.more l.left) ≡ all_spaces (take l.count l.text);
+}
+
+abbrev pub decreases-loop-more : goal.decreases-loop-more
+decreases-loop-more l = l.more

@@ -1,6 +1,6 @@
 use Rattle.std.proofs.Common.{arith, ◌≡◌, ◌∷◌, ◌++◌, ◌+◌, ◌∙◌, sym, ap, map, drop, drop-cons, add-one, suc, if◌then◌else◌, Bool, List}
 use Rattle.std.specs.String.{string_bytes}
-use Rattle.std.specs.Str.{encode_utf8_all}
+use Rattle.std.specs.Str.{encode_utf8_all, chars}
 use Rattle.wv_yaml.specs.Line.{Line}
 use Rattle.wv_yaml.specs.Marks.{indented}
 use Rattle.wv_yaml.specs.BlockScalar.{row_in, content, text_in}
@@ -11,7 +11,7 @@ pub loop-line-preserved : goal.loop-line-preserved
 loop-line-preserved c =
     let l = c.line-item.result in
     let column = c.args.column in
-    let text = indented c.extra_spaces-extra.result c.row_text-text.result.now in
+    let text = indented c.extra_spaces-extra.result (chars c.row_text-text.result.now) in
     let rest = drop (c.loop-line.line-index + 1) c.args.lines.now in
     let text_is : (row_in column l).0 ≡ text = row_text column l ∙ ap (λ n. indented n (text_in column l)) (sym c.extra_spaces-extra.ensures) ∙ ap (indented c.extra_spaces-extra.result) (sym c.row_text-text.ensures) in
     let h : c.break_count-has_break.result ≡ (if (row_in column l).1 then 1 else 0) = c.break_count-has_break.ensures.value ∙ ap (λ (b : Bool). if b then 1 else 0) (sym (row_break column l)) in

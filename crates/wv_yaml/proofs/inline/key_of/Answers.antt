@@ -9,5 +9,5 @@ returns-then-is_quoted_start-clause-value c =
     let text = c.args.text.now in
     let count = c.in_ok-name.count in
     let n : 1 + count ≡ count + 1 = omega arith in
-    ap named (key_quote text c.from_place.result.now c.does_begin_with-is_double.result (sym c.is_quoted_start.ensures ∙ c.if-is_quoted_start.true) c.does_begin_with-is_double.ensures c.from_place.ensures)
-    ∙ c.in_ok-name.ensures.value ∙ ap (λ xs. Some (c.in_ok-name.name, xs)) (ap (drop count) c.from_place.ensures ∙ drop-drop count 1 text ∙ ap (λ k. drop k text) n)
+    ap named (key_quote text c.rest.result c.does_begin_with-is_double.result (sym c.is_quoted_start.ensures ∙ c.if-is_quoted_start.true) c.does_begin_with-is_double.ensures c.rest.ensures.value)
+    ∙ c.in_ok-name.ensures.value ∙ ap (λ xs. Some (c.in_ok-name.name, xs)) (ap (drop count) c.rest.ensures.value ∙ drop-drop count 1 text ∙ ap (λ k. drop k text) n)

@@ -1,12 +1,15 @@
-use Rattle.std.proofs.Common.{length, ◌-◌, ◌≡◌, ◌≤◌, drop}
+use Rattle.std.proofs.Common.{length, ◌≡◌}
+use denote.Text.{Utf8}
+use denote.Shadow.{shadow}
+use Rattle.std.specs.Str.{chars}
 use Rattle.wv_yaml.specs.Lines.{allowed}
 use Rattle.wv_yaml.proofs.lines.are_allowed.Given as goal
 
-abbrev pub invariant-loop-at : goal.invariant-loop-at
-invariant-loop-at l = record {
-  within : l.at ≤ length l.text;
-  rest : allowed (drop l.at l.text) ≡ allowed l.text;
+abbrev pub invariant-loop-left : goal.invariant-loop-left
+invariant-loop-left l = record {
+  text : shadow (Utf8 l.left);
+  rest : allowed (chars l.left) ≡ allowed (chars l.text);
 }
 
-abbrev pub decreases-loop-at : goal.decreases-loop-at
-decreases-loop-at l = length l.text - l.at
+abbrev pub decreases-loop-left : goal.decreases-loop-left
+decreases-loop-left l = length (chars l.left)

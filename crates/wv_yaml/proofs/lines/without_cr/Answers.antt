@@ -1,11 +1,13 @@
-use Rattle.std.proofs.Common.{arith}
-use Rattle.std.proofs.lemmas.Bool.Decides.{nat_tests}
-use Rattle.std.proofs.Common.{◌∙◌}
-use Rattle.wv_yaml.proofs.Returns.{return_at_end, other_at_end}
+use Rattle.std.proofs.Common.{lit<, Some, None}
+use Rattle.std.proofs.lemmas.Str.Pattern.{strip_suffix_char}
+use Rattle.wv_yaml.proofs.Breaks.{return_cut, return_kept, return_less}
 use Rattle.wv_yaml.proofs.lines.without_cr.Goals as goal
 
-pub returns-then-text-last-eq13-clause-value : goal.returns-then-text-last-eq13-clause-value
-returns-then-text-last-eq13-clause-value c = c.to_place.ensures ∙ return_at_end c.args.text.now c.index-text-last.result (grind arith) c.index-text-last.is c.if-text-last-eq13.true
+pub returns-in-Some-clause-value : goal.returns-in-Some-clause-value
+returns-in-Some-clause-value c = return_cut c.args.text.now c.in-Some.front.now c.utf8.text (strip_suffix_char 13 c.args.text.now (Some c.in-Some.front) c.in-Some.ensures.cases (lit< tt))
 
-pub returns-clause-value : goal.returns-clause-value
-returns-clause-value c = other_at_end c.args.text.now c.index-text-last.result (grind arith) c.index-text-last.is (grind (arith, nat_tests))
+pub returns-in-Some-clause-within : goal.returns-in-Some-clause-within
+returns-in-Some-clause-within c = return_less c.args.text.now c.in-Some.front.now c.utf8.text (strip_suffix_char 13 c.args.text.now (Some c.in-Some.front) c.in-Some.ensures.cases (lit< tt))
+
+pub returns-in-None-clause-value : goal.returns-in-None-clause-value
+returns-in-None-clause-value c = return_kept c.args.text.now c.utf8.text (strip_suffix_char 13 c.args.text.now None c.in-None.ensures.cases (lit< tt))

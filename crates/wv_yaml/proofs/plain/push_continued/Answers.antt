@@ -1,11 +1,11 @@
-use Rattle.std.proofs.Common.{arith, ◌∙◌, ap, sym, length, length-drop, ◌<◌, ◌∷◌, drop, drop-cons}
+use Rattle.std.proofs.Common.{arith, ◌∙◌, ap, sym, length, length-drop, ◌<◌, ◌∷◌, drop, drop-cons, take}
 use Rattle.std.specs.String.{string_bytes}
 use Rattle.wv_yaml.specs.Marks.{without_end, trimmed}
 use Rattle.wv_yaml.proofs.FoldOut.{GoesOn, some_left, line_on, line_last}
 use Rattle.wv_yaml.proofs.plain.push_continued.Goals as goal
 use Rattle.wv_yaml.proofs.plain.push_continued.Goals.{Else-not-is_empty, Else-not-are_quiet-2}
 
-facts_at_end : (c : Else-not-are_quiet-2) → GoesOn c.args.indent c.index-left-0.result c.loop-left.left.now c.lines_from-rest.result.now c.without_gap-text.result.now c.from_place-tail.result.now c.to_place.result.now
+facts_at_end : (c : Else-not-are_quiet-2) → GoesOn c.args.indent c.index-left-0.result c.loop-left.left.now c.lines_from-rest.result.now c.without_gap-text.result c.from_place-tail.result (take c.len_without_end.result c.without_gap-text.result)
 facts_at_end c =
     let l = c.index-left-0.result in
     let lt : 0 < length c.loop-left.left.now = some_left (length c.loop-left.left.now) (sym c.is_empty.ensures ∙ c.if-is_empty.false) in
@@ -14,11 +14,11 @@ facts_at_end c =
       text_is = c.without_gap-text.ensures ∙ ap trimmed c.text.ensures;
       loud = sym c.is_nothing.ensures ∙ c.if-is_nothing.false;
       under = omega (arith, c.if-indent.false, c.indent.ensures);
-      tail_is = c.from_place-tail.ensures ∙ c.cut_len-len.ensures.rest;
-      value_is = c.to_place.ensures ∙ c.len_without_end.ensures.value ∙ ap without_end (c.to_place-front.ensures ∙ c.cut_len-len.ensures.front);
+      tail_is = c.from_place-tail.ensures.value ∙ c.cut_len-len.ensures.rest;
+      value_is = c.len_without_end.ensures.value ∙ ap without_end c.cut_len-len.ensures.front;
     }
 
-facts_before_next : (c : Else-not-is_empty) → GoesOn c.args.indent c.index-left-0.result c.loop-left.left.now c.lines_from-rest.result.now c.without_gap-text.result.now c.from_place-tail.result.now c.to_place.result.now
+facts_before_next : (c : Else-not-is_empty) → GoesOn c.args.indent c.index-left-0.result c.loop-left.left.now c.lines_from-rest.result.now c.without_gap-text.result c.from_place-tail.result (take c.len_without_end.result c.without_gap-text.result)
 facts_before_next c =
     let l = c.index-left-0.result in
     let lt : 0 < length c.loop-left.left.now = some_left (length c.loop-left.left.now) (sym c.is_empty.ensures ∙ c.if-is_empty.false) in
@@ -27,8 +27,8 @@ facts_before_next c =
       text_is = c.without_gap-text.ensures ∙ ap trimmed c.text.ensures;
       loud = sym c.is_nothing.ensures ∙ c.if-is_nothing.false;
       under = omega (arith, c.if-indent.false, c.indent.ensures);
-      tail_is = c.from_place-tail.ensures ∙ c.cut_len-len.ensures.rest;
-      value_is = c.to_place.ensures ∙ c.len_without_end.ensures.value ∙ ap without_end (c.to_place-front.ensures ∙ c.cut_len-len.ensures.front);
+      tail_is = c.from_place-tail.ensures.value ∙ c.cut_len-len.ensures.rest;
+      value_is = c.len_without_end.ensures.value ∙ ap without_end c.cut_len-len.ensures.front;
     }
 
 pub returns-then-not-is_empty : goal.returns-then-not-is_empty

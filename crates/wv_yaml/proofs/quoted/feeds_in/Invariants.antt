@@ -1,10 +1,14 @@
-use Rattle.std.proofs.Common.{◌≡◌, ◌≤◌, ◌+◌, drop}
+use Rattle.std.proofs.Common.{◌≡◌, ◌≤◌, ◌+◌, length, take}
 use Rattle.wv_yaml.specs.Marks.{count_of}
 use Rattle.wv_yaml.specs.Quoted.{is_feed}
 use Rattle.wv_yaml.proofs.quoted.feeds_in.Given as goal
 
-abbrev pub invariant-loop-c : goal.invariant-loop-c
-invariant-loop-c l = record {
-  sum : l.count + count_of is_feed (drop l.c-index l.text) ≡ count_of is_feed l.text;
-  few : l.count ≤ l.c-index;
+abbrev pub invariant-loop-more : goal.invariant-loop-more
+invariant-loop-more l = record {
+  within : l.more ≤ length l.left;
+  sum : l.count + count_of is_feed (take l.more l.left) ≡ count_of is_feed (take l.len l.text);
+  few : l.count + l.more ≤ l.len;
 }
+
+abbrev pub decreases-loop-more : goal.decreases-loop-more
+decreases-loop-more l = l.more

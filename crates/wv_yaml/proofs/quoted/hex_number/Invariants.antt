@@ -4,6 +4,7 @@ use Rattle.wv_yaml.proofs.quoted.hex_number.Given as goal
 
 abbrev pub invariant-loop-at : goal.invariant-loop-at
 invariant-loop-at l = record {
+  place : l.left ≡ drop l.at l.text;
   within : l.at ≤ length l.text;
   few : l.at ≤ l.count;
   small : l.value < 16 ^ l.at;

@@ -9,11 +9,11 @@ use Rattle.wv_yaml.proofs.reading.read_text.Goals as goal
 
 pub returns-in-Ok : goal.returns-in-Ok
 returns-in-Ok c =
-    let cs : c.without_mark-chars.result.now ≡ unmarked (chars c.args.text.now) = c.without_mark-chars.ensures ∙ ap unmarked (c.as_slice.ensures.value ∙ c.in_ok-all.ensures) in
+    let cs : chars c.without_mark-unmarked.result.now ≡ unmarked (chars c.args.text.now) = c.without_mark-unmarked.ensures in
     reads_on _ _ c.in-Ok.tree _ (sym (ap allowed cs) ∙ (sym c.are_allowed.ensures ∙ c.if-not-are_allowed.false)) (sym (tree_by c.args.text.now _ cs) ∙ c.in-Ok.ensures) c.without_repeats.ensures
 
-pub returns : goal.returns
-returns c =
-    let cs : c.without_mark-chars.result.now ≡ unmarked (chars c.args.text.now) = c.without_mark-chars.ensures ∙ ap unmarked (c.as_slice.ensures.value ∙ c.in_ok-all.ensures) in
+pub returns-in-Err : goal.returns-in-Err
+returns-in-Err c =
+    let cs : chars c.without_mark-unmarked.result.now ≡ unmarked (chars c.args.text.now) = c.without_mark-unmarked.ensures in
     let P : Option Tree → Type 0 = λ o. Fails c.in-Err.fault o in
     reads_not _ (tree_of c.args.text.now) c.in-Err.fault (sym (ap allowed cs) ∙ (sym c.are_allowed.ensures ∙ c.if-not-are_allowed.false)) (subst P (tree_by c.args.text.now _ cs) c.in-Err.ensures)

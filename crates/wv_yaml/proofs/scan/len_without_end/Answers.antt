@@ -1,12 +1,24 @@
-use Rattle.std.proofs.Common.{arith, ◌∙◌, sym}
-use Rattle.wv_yaml.proofs.Ends.{end_back, end_here}
+use Rattle.std.proofs.Common.{◌∙◌, sym, arith, le_refl}
+use Rattle.wv_yaml.proofs.Ends.{end_blank, end_other}
+use Rattle.wv_yaml.proofs.Places.{next_place}
 use Rattle.wv_yaml.proofs.scan.len_without_end.Goals as goal
 
-pub loop-len-preserved : goal.loop-len-preserved
-loop-len-preserved c = record {
-  within = omega arith;
-  same = end_back _ _ _ (omega arith) c.loop-len.invariant.within c.index-text-len.is (sym c.is_blank.ensures ∙ c.if-is_blank.true) ∙ c.loop-len.invariant.same;
-}
+pub loop-at-preserved-then-is_blank : goal.loop-at-preserved-then-is_blank
+loop-at-preserved-then-is_blank c =
+    let i = c.loop-at.invariant in
+    record {
+      place = next_place c.args.text.now c.loop-at.left c.rest-left.result c.loop-at.at i.place c.rest-left.ensures.value;
+      some = omega arith;
+      within = omega (arith, i.within);
+      same = end_blank c.args.text.now c.loop-at.left _ c.loop-at.at c.loop-at.end c.first-c.result i.place c.first-c.ensures (sym c.is_blank.ensures ∙ c.if-is_blank.true) i.same;
+    }
 
-pub returns-else-is_blank-clause-value : goal.returns-else-is_blank-clause-value
-returns-else-is_blank-clause-value c = sym (end_here _ _ _ (omega arith) c.loop-len.invariant.within c.index-text-len.is (sym c.is_blank.ensures ∙ c.if-is_blank.false)) ∙ c.loop-len.invariant.same
+pub loop-at-preserved : goal.loop-at-preserved
+loop-at-preserved c =
+    let i = c.loop-at.invariant in
+    record {
+      place = next_place c.args.text.now c.loop-at.left c.rest-left.result c.loop-at.at i.place c.rest-left.ensures.value;
+      some = omega arith;
+      within = le_refl _;
+      same = end_other c.args.text.now c.loop-at.left _ c.loop-at.at c.first-c.result i.place c.first-c.ensures (sym c.is_blank.ensures ∙ c.if-is_blank.false);
+    }

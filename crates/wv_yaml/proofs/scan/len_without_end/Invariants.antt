@@ -1,12 +1,14 @@
-use Rattle.std.proofs.Common.{length, ◌≡◌, ◌≤◌, take}
+use Rattle.std.proofs.Common.{◌≡◌, ◌≤◌, ◌-◌, take, drop}
 use Rattle.wv_yaml.specs.Marks.{without_end}
 use Rattle.wv_yaml.proofs.scan.len_without_end.Given as goal
 
-abbrev pub invariant-loop-len : goal.invariant-loop-len
-invariant-loop-len l = record {
-  within : l.len ≤ length l.text;
-  same : without_end (take l.len l.text) ≡ without_end l.text;
+abbrev pub invariant-loop-at : goal.invariant-loop-at
+invariant-loop-at l = record {
+  place : l.left ≡ drop l.at l.text;
+  some : l.at ≤ l.len;
+  within : l.end ≤ l.at;
+  same : take l.end l.text ≡ without_end (take l.at l.text);
 }
 
-abbrev pub decreases-loop-len : goal.decreases-loop-len
-decreases-loop-len l = l.len
+abbrev pub decreases-loop-at : goal.decreases-loop-at
+decreases-loop-at l = l.len - l.at

@@ -1,12 +1,13 @@
-use Rattle.std.proofs.Common.{length, ◌-◌, ◌≡◌, ◌≤◌, ◌+◌, drop}
+use Rattle.std.proofs.Common.{length, ◌≡◌, ◌≤◌, ◌+◌, drop}
 use Rattle.wv_yaml.specs.Tokens.{comment_front}
 use Rattle.wv_yaml.proofs.tokens.comment_len.Given as goal
 
-abbrev pub invariant-loop-at : goal.invariant-loop-at
-invariant-loop-at l = record {
+abbrev pub invariant-loop-left : goal.invariant-loop-left
+invariant-loop-left l = record {
+  place : l.left ≡ drop l.at l.text;
   within : l.at ≤ length l.text;
-  count : l.at + length (comment_front (drop l.at l.text)) ≡ length (comment_front l.text);
+  count : l.at + length (comment_front l.left) ≡ length (comment_front l.text);
 }
 
-abbrev pub decreases-loop-at : goal.decreases-loop-at
-decreases-loop-at l = length l.text - l.at
+abbrev pub decreases-loop-left : goal.decreases-loop-left
+decreases-loop-left l = length l.left

@@ -1,18 +1,19 @@
-use Rattle.std.proofs.Common.{arith, ◌∙◌, ap, length, length-drop, ◌≡◌, ◌-◌}
-use Rattle.wv_yaml.proofs.TokenSteps.{tokens_on, tokens_fail}
+use Rattle.std.proofs.Common.{arith, ◌∙◌, ap, sym, length, length-drop, ◌+◌}
+use Rattle.wv_yaml.specs.Tokens.{tokens}
+use Rattle.wv_yaml.proofs.FoldOut.{some_left}
+use Rattle.wv_yaml.proofs.TokenSteps.{together, tokens_on, tokens_fail}
 use Rattle.wv_yaml.proofs.tokens.read_tokens.Goals as goal
 
-pub loop-at-preserved : goal.loop-at-preserved
-loop-at-preserved c =
-    let front = c.from_place.result.now in
-    let size : length front ≡ length c.args.text.now - c.loop-at.at = ap length c.from_place.ensures ∙ length-drop c.loop-at.at c.args.text.now in
+pub loop-left-preserved : goal.loop-left-preserved
+loop-left-preserved c =
+    let left = c.loop-left.left in
     record {
-      within = omega (arith, c.in-Ok.ensures.within, size);
-      same = tokens_on c.loop-at.is_behind c.in-Ok.is_behind_next c.args.text.now front c.loop-at.at c.in-Ok.more c.loop-at.out.items c.push_token.new.out.items c.from_place.ensures (omega (arith, size)) c.in-Ok.ensures.value ∙ c.loop-at.invariant.same;
+      small = omega (arith, c.loop-left.invariant.small, ap length c.from_place-left.ensures.value, length-drop (1 + c.in-Ok.more) left);
+      same = ap (λ xs. together c.push_token.new.out.items (tokens c.in-Ok.is_behind_next 0 xs)) c.from_place-left.ensures.value
+          ∙ tokens_on c.loop-left.is_behind c.in-Ok.is_behind_next left c.in-Ok.more c.loop-left.out.items c.push_token.new.out.items (some_left _ (sym c.is_empty.ensures ∙ c.loop-left-test.true)) c.in-Ok.ensures.value
+          ∙ c.loop-left.invariant.same;
     }
 
 pub returns-in-Err : goal.returns-in-Err
 returns-in-Err c =
-    let front = c.from_place.result.now in
-    let size : length front ≡ length c.args.text.now - c.loop-at.at = ap length c.from_place.ensures ∙ length-drop c.loop-at.at c.args.text.now in
-    tokens_fail c.in-Err.fault c.loop-at.is_behind c.args.text.now front c.loop-at.at c.loop-at.out.items c.from_place.ensures (omega (arith, size)) c.loop-at.invariant.same c.in-Err.ensures.value
+    tokens_fail c.in-Err.fault c.loop-left.is_behind c.args.text.now c.loop-left.left c.loop-left.out.items (some_left _ (sym c.is_empty.ensures ∙ c.loop-left-test.true)) c.loop-left.invariant.same c.in-Err.ensures.value
