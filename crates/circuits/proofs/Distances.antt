@@ -1,5 +1,5 @@
 -- Circuits on signs and distances from 0.
-use Rattle.std.proofs.Common.{◌≡◌, ℕ, ◌+◌, ◌-◌, ◌*◌, ◌%◌, ◌^◌, ◌<◌, ◌≤◌, Bool, true, false, cond, not, ◌&&◌, nat_lt, List, [], ◌∷◌, ◌++◌, length, take, get_or, refl, sym, ◌∙◌, ap, subst, arith}
+use Rattle.std.proofs.Common.{◌≡◌, ℕ, ◌+◌, ◌-◌, ◌*◌, ◌%◌, ◌^◌, ◌<◌, ◌≤◌, Bool, true, false, cond, not, ◌&&◌, nat_lt, List, [], ◌∷◌, ◌++◌, length, get_or, refl, sym, ◌∙◌, ap, arith}
 use Rattle.std.proofs.lemmas.Nat.{pow_pos, mod_below}
 use Rattle.std.proofs.lemmas.List.Elements.{All-cons}
 use Rattle.circuits.specs.declared.net.Bit.{Bit}
@@ -8,7 +8,7 @@ use Rattle.circuits.specs.Net.{holds, Means, IsIn, Grown}
 use Rattle.circuits.specs.Numbers.{number, digit, AreIn, Counts}
 use Rattle.circuits.specs.Gates.{negative, size}
 use Rattle.circuits.proofs.Counting.{in_none, number-one, number_lt, number_stays}
-use Rattle.circuits.proofs.Carrying.{own_counts, counts_by, counts_wide, counts_lt, top_counts, joined_counts}
+use Rattle.circuits.proofs.Carrying.{counts_by, counts_wide, counts_lt, top_counts, joined_counts}
 use Rattle.circuits.proofs.Reading.{is_carry, lt_is}
 use Rattle.circuits.proofs.Sizes.{size_mod}
 

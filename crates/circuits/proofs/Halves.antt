@@ -1,5 +1,5 @@
 -- Quotients and remainders in a type, from the distances from 0.
-use Rattle.std.proofs.Common.{◌≡◌, ℕ, ◌+◌, ◌-◌, ◌*◌, ◌/◌, ◌%◌, ◌^◌, ◌<◌, ◌≤◌, Bool, true, false, cond, not, ◌&&◌, nat_lt, nat_eq, ℤ, pos, negsuc, int_div, int_rem, List, length, refl, sym, ◌∙◌, ap, subst, arith, suc}
+use Rattle.std.proofs.Common.{◌≡◌, ℕ, ◌+◌, ◌-◌, ◌/◌, ◌%◌, ◌^◌, ◌<◌, Bool, true, false, cond, not, ◌&&◌, nat_lt, nat_eq, pos, negsuc, int_div, int_rem, List, length, refl, sym, ◌∙◌, ap, subst, arith, suc}
 use Rattle.std.proofs.lemmas.Nat.{pow_pos}
 use Rattle.std.proofs.Math.Nat.{mod-eq_of_lt}
 use Rattle.std.proofs.lemmas.Bool.{ltb-false, eqb-false, ne_eqb}
@@ -12,7 +12,7 @@ use Rattle.c_core.specs.declared.number.Done.TheVariants.{Undefined}
 use Rattle.circuits.specs.declared.net.Bit.{Bit}
 use Rattle.circuits.specs.declared.net.NetNode.{NetNode}
 use Rattle.circuits.specs.declared.bits.Outcome.{Outcome}
-use Rattle.circuits.specs.Net.{xor, holds, Means}
+use Rattle.circuits.specs.Net.{xor, Means}
 use Rattle.circuits.specs.Numbers.{number, digit, typed, read, AreTyped, Counts}
 use Rattle.circuits.specs.Gates.{negative, size}
 use Rattle.circuits.specs.Division.{Divides}

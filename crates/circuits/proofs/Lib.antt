@@ -13,7 +13,9 @@ pub mod Distances
 pub mod Multiplied
 pub mod Dividing
 pub mod Halves
+pub mod Compared
 pub mod Single
 pub mod Raising
 pub mod Moved
 pub mod Placed
+pub mod Feeding

@@ -1,5 +1,5 @@
 -- Products and quotients in a type, from what the circuits on lists count.
-use Rattle.std.proofs.Common.{◌≡◌, ℕ, ◌+◌, ◌-◌, ◌*◌, ◌%◌, ◌^◌, ◌<◌, ◌≤◌, Bool, true, false, cond, not, ◌&&◌, nat_lt, ℤ, ◌*ℤ◌, List, length, refl, sym, ◌∙◌, ap, subst, arith, lit≤}
+use Rattle.std.proofs.Common.{◌≡◌, ℕ, ◌+◌, ◌-◌, ◌*◌, ◌%◌, ◌^◌, ◌≤◌, Bool, false, cond, not, ◌&&◌, nat_lt, ◌*ℤ◌, List, length, sym, ◌∙◌, ap, subst, arith, lit≤}
 use Rattle.std.proofs.Math.Nat.{pow-succ', pow-zero, mul-le-mul_left}
 use Rattle.c_core.specs.Types.{width_of, width_of_long, is_signed, promote_of, in_range, residue}
 use Rattle.c_core.specs.Operators.{apply_of}
@@ -11,8 +11,8 @@ use Rattle.c_core.specs.declared.number.BinOp.TheVariants.{Mul}
 use Rattle.circuits.specs.declared.net.Bit.{Bit}
 use Rattle.circuits.specs.declared.net.NetNode.{NetNode}
 use Rattle.circuits.specs.declared.bits.Outcome.{Outcome}
-use Rattle.circuits.specs.Net.{holds, xor, Means, Grown}
-use Rattle.circuits.specs.Numbers.{number, digit, typed, read, AreTyped, Counts}
+use Rattle.circuits.specs.Net.{xor, Means, Grown}
+use Rattle.circuits.specs.Numbers.{number, digit, typed, AreTyped, Counts}
 use Rattle.circuits.specs.Gates.{negative, size}
 use Rattle.circuits.specs.Outcome.{Gives}
 use Rattle.circuits.proofs.Nets.{grown_then, means_by}

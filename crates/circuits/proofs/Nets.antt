@@ -197,9 +197,12 @@ pub values_next : {values after : List Bool} (v : ℕ → Bool) (net : List NetN
     → after ≡ values ++ node_in v values (get_or net i d) ∷ [] → after ≡ values_from v [] (take (i + 1) net)
 values_next {values} {after} v net i d e lt h = h ∙ ap (λ l. l ++ node_in v l (get_or net i d) ∷ []) e ∙ sym (values_from-one v (take i net) (get_or net i d)) ∙ ap (values_from v []) (sym (take_more net i d lt))
 
-pub values_end : {values : List Bool} (v : ℕ → Bool) (net : List NetNode) (i : ℕ) (b : Bit) (r : Bool) → values ≡ values_from v [] (take i net) → i ≡ length net → r ≡ bit_in values b → r ≡ holds v net b
+pub values_all : {values : List Bool} (v : ℕ → Bool) (net : List NetNode) (i : ℕ) → values ≡ values_from v [] (take i net) → i ≡ length net → values ≡ values_from v [] net
+values_all {values} v net i e h = e ∙ ap (values_from v []) (take_all i net (omega arith))
+
+pub value_holds : {values : List Bool} {r : Bool} (v : ℕ → Bool) (net : List NetNode) (b : Bit) → values ≡ values_from v [] net → r ≡ bit_in values b → r ≡ holds v net b
 unfolding holds
-values_end {values} v net i b r e h q = q ∙ ap (λ l. bit_in l b) (e ∙ ap (values_from v []) (take_all i net (omega arith)))
+value_holds {values} {r} v net b e q = q ∙ ap (λ l. bit_in l b) e
 
 pub values_step : {values after given : List Bool} {next : Bool} {node : NetNode} (v : ℕ → Bool) (net items : List NetNode) (i : ℕ) (d : NetNode) → values ≡ values_from v [] (take i net) → i < length items → items ≡ net
     → node ≡ get_or items i d → given ≡ values → next ≡ node_in v given node → after ≡ values ++ next ∷ [] → after ≡ values_from v [] (take (i + 1) net)

@@ -1,5 +1,5 @@
 -- Numbers as a sign and a distance from 0.
-use Rattle.std.proofs.Common.{◌≡◌, ℕ, zero, suc, ◌+◌, ◌-◌, ◌*◌, ◌/◌, ◌%◌, ◌^◌, ◌<◌, ◌≤◌, inl, inr, Bool, true, false, cond, not, ◌&&◌, nat_lt, nat_eq, ℤ, pos, negsuc, neg_ℤ, ◌+ℤ◌, ◌*ℤ◌, int_div, int_rem, unsigned_abs, refl, sym, ◌∙◌, ap, arith}
+use Rattle.std.proofs.Common.{◌≡◌, ℕ, zero, suc, ◌+◌, ◌-◌, ◌*◌, ◌/◌, ◌%◌, ◌^◌, ◌<◌, inl, inr, Bool, true, false, cond, not, ◌&&◌, nat_lt, nat_eq, ℤ, pos, negsuc, neg_ℤ, ◌+ℤ◌, ◌*ℤ◌, int_div, int_rem, unsigned_abs, refl, sym, ◌∙◌, ap, arith}
 use Rattle.std.proofs.lemmas.Int.{ints}
 use Rattle.std.proofs.Math.IntN.{negsuc-*ℤ-negsuc, negsuc-*ℤ-pos, pos-*ℤ-negsuc, pos-*ℤ-pos, *ℤ-zero, zero-*ℤ}
 use Rattle.std.proofs.lemmas.Nat.{pow_pos, mod_below}
@@ -9,7 +9,7 @@ use Rattle.c_core.specs.Types.{residue, signed_of, is_zero}
 use Rattle.circuits.specs.Net.{xor}
 use Rattle.circuits.specs.Numbers.{digit, read}
 use Rattle.circuits.specs.Gates.{negative, size}
-use Rattle.circuits.proofs.Reading.{fits, fits_is, residue_is, ranged, half}
+use Rattle.circuits.proofs.Reading.{fits, fits_is, residue_is, ranged}
 
 unfoldable pub signed_number : Bool → ℕ → ℤ
 signed_number true m = neg_ℤ (pos m)

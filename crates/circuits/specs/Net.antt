@@ -50,6 +50,13 @@ pub record Grown (most : ℕ) (old new : List NetNode) : Type 0 where
   pub gates : count_ands more ≡ length more
   pub few : length more ≤ most
 
+-- nothing but inputs was added, behind all others, and at most so many
+pub record Fed (most : ℕ) (old new : List NetNode) : Type 0 where
+  pub more : List NetNode
+  pub is : new ≡ old ++ more
+  pub inputs : count_inputs more ≡ length more
+  pub few : length more ≤ most
+
 -- a bit of the net
 abbrev pub IsIn : List NetNode → Bit → Type 0
 IsIn net b = b.node < length net

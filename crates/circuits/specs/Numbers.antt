@@ -1,5 +1,5 @@
 -- What lists of bits of a net count.
-use Rattle.std.specs.Prelude.{◌≡◌, ℕ, ◌+◌, ◌*◌, Bool, true, false, ℤ, pos, cond, List, [], ◌∷◌, length}
+use Rattle.std.specs.Prelude.{◌≡◌, ℕ, zero, suc, ◌+◌, ◌*◌, ◌^◌, Bool, true, false, ℤ, pos, cond, List, [], ◌∷◌, length}
 use Rattle.std.specs.List.{All}
 use Rattle.c_core.specs.Types.{width_of, is_signed, signed_of}
 use Rattle.c_core.specs.declared.number.DataModel.{DataModel}
@@ -16,6 +16,11 @@ digit false = 0
 unfoldable pub number : (ℕ → Bool) → List NetNode → List Bit → ℕ
 number v net [] = 0
 number v net (b ∷ bs) = digit (holds v net b) + 2 * number v net bs
+
+-- the number whose n binary digits are the inputs from k on
+unfoldable pub drawn : (ℕ → Bool) → ℕ → ℕ → ℕ
+drawn v k zero = 0
+drawn v k (suc n) = drawn v k n + 2 ^ n * digit (v (k + n))
 
 -- bits of the net
 abbrev pub AreIn : List NetNode → List Bit → Type 0

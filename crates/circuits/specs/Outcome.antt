@@ -1,9 +1,12 @@
 -- What the circuit of an operator gives, and how many and-nodes it may add.
-use Rattle.std.specs.Prelude.{◌≡◌, ℕ, ◌*◌, Bool, true, false, ℤ, List}
+use Rattle.std.specs.Prelude.{◌≡◌, ℕ, ◌*◌, ◌^◌, Bool, true, false, ℤ, cond, List}
 use Rattle.c_core.specs.Types.{width_of}
 use Rattle.c_core.specs.declared.number.DataModel.{DataModel}
 use Rattle.c_core.specs.declared.number.IntType.{IntType}
 use Rattle.c_core.specs.declared.number.IntType.TheVariants.{Bool as BoolType, Int}
+use Rattle.c_core.specs.Operators.{is_comparison}
+use Rattle.c_core.specs.declared.number.BinOp.{BinOp}
+use Rattle.c_core.specs.declared.number.BinOp.TheVariants.{Add, Sub, Mul, Div, Rem, Shl, Shr, And, Xor, Or}
 use Rattle.c_core.specs.declared.number.UnOp.{UnOp}
 use Rattle.c_core.specs.declared.number.UnOp.TheVariants.{Plus, Neg, BitNot, Not}
 use Rattle.c_core.specs.declared.number.Done.{Done}
@@ -57,3 +60,21 @@ one_cost m Plus ty = 0
 one_cost m Neg ty = 16 * width_of m ty
 one_cost m BitNot ty = 4 * width_of m ty
 one_cost m Not ty = width_of m ty
+
+-- the type of an operator of two numbers: a comparison gives an `int`
+abbrev pub binary_type : BinOp → IntType → IntType
+binary_type op ty = cond (is_comparison op) Int ty
+
+-- and-nodes of an operator of two numbers; the last line is that of the comparisons
+abbrev pub binary_cost : DataModel → BinOp → IntType → ℕ
+binary_cost m Add ty = 16 * width_of m ty
+binary_cost m Sub ty = 16 * width_of m ty
+binary_cost m Mul ty = 32 * width_of m ty ^ 2
+binary_cost m Div ty = 32 * width_of m ty ^ 2
+binary_cost m Rem ty = 32 * width_of m ty ^ 2
+binary_cost m Shl ty = 64 * width_of m ty
+binary_cost m Shr ty = 64 * width_of m ty
+binary_cost m And ty = 4 * width_of m ty
+binary_cost m Xor ty = 4 * width_of m ty
+binary_cost m Or ty = 4 * width_of m ty
+binary_cost m _ ty = 16 * width_of m ty

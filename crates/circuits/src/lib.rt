@@ -2,9 +2,12 @@
 //! gives the operator's value, overflow and undefined bits, within a stated number of and-nodes.
 #![tactic(auto)]
 
+mod binary;
 mod bits;
+mod comparisons;
 mod conversions;
 mod gates;
+mod inputs;
 mod lists;
 mod logic;
 mod net;
@@ -14,16 +17,14 @@ mod shifts;
 mod signs;
 mod sums;
 #[cfg(test)]
+mod table;
+#[cfg(test)]
 mod tests;
 mod types;
 mod unary;
 
+pub use binary::apply_bits;
 pub use bits::{Bits, Outcome, choose_bits, const_bits, convert_bits};
-pub use gates::Gate;
-pub use logic::{bit_operator, complement, truth_bits};
-pub use net::{Bit, Net, NetNode, not};
-pub use products::multiply;
-pub use quotients::{divide, remainder};
-pub use shifts::{shift_left, shift_right};
-pub use sums::{add, below, differ, subtract};
+pub use inputs::input_bits;
+pub use net::{Bit, Net, NetNode, not, value_of_bit};
 pub use unary::one_bits;

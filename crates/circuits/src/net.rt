@@ -1,7 +1,7 @@
 // Nets of and-nodes.
 ghost use Rattle.std.specs.Prelude.{◌≡◌, ℕ, ◌+◌, ◌<◌, ◌^◌, IfOk, IfErr, MatchOption, true, ◌&&◌, Some, length, false, slice_get, slice_index_or, ◌++◌, ◌∷◌, []};
 ghost use Rattle.circuits.specs.declared.net.NetNode.TheVariants.{Constant, Input};
-ghost use Rattle.circuits.specs.Net.{holds, opposite, Grown, Means, IsIn, IsNet, IsFolded, Folds, Stands, bit_in, node_in, count_ands, count_inputs};
+ghost use Rattle.circuits.specs.Net.{holds, opposite, Grown, Means, IsIn, IsNet, IsFolded, Folds, Stands, bit_in, node_in, values_of, count_ands, count_inputs};
 
 use std::alloc::Global;
 use std::marker::Model;
@@ -160,22 +160,31 @@ impl Net {
         })
     }
 
-    /// The value of a bit where input k has the value `inputs[k]`.
-    pub fn value(&self, alloc: Global, b: Bit, inputs: &[bool]) -> Result<bool, OutOfMemory>
-        requires b_in { IsIn self.now b }
-        requires all { length inputs.now ≡ count_inputs self.now }
-        ensures { IfOk result (λ r. r ≡ holds (λ k. slice_index_or inputs.now k false) self.now b) }
+    /// The values of all nodes where input k has the value `inputs[k]`, and inputs beyond the last are false.
+    pub fn values(&self, alloc: Global, inputs: &[bool]) -> Result<Vec<bool>, OutOfMemory>
+        ensures { IfOk result (λ r. r.items ≡ values_of (λ k. slice_index_or inputs.now k false) self.now) }
     {
         let mut values = Vec::new(alloc);
         for i in 0..self.nodes.len() {
             let next = value_of_node(self.nodes[i], inputs, &values);
             values.push(next)?;
         }
+        Ok(values)
+    }
+
+    /// The value of a bit where input k has the value `inputs[k]`.
+    pub fn value(&self, alloc: Global, b: Bit, inputs: &[bool]) -> Result<bool, OutOfMemory>
+        requires b_in { IsIn self.now b }
+        requires all { length inputs.now ≡ count_inputs self.now }
+        ensures { IfOk result (λ r. r ≡ holds (λ k. slice_index_or inputs.now k false) self.now b) }
+    {
+        let values = self.values(alloc, inputs)?;
         Ok(value_of_bit(&values, b))
     }
 }
 
-fn value_of_bit(values: &[bool], b: Bit) -> bool
+/// The value of a bit, of the values of all nodes.
+pub fn value_of_bit(values: &[bool], b: Bit) -> bool
     ensures { result ≡ bit_in values.now b }
 {
     let on = match values.get(b.node as usize) {

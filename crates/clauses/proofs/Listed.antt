@@ -1,5 +1,5 @@
 -- The clauses of a bit are clauses, over its variables, and few.
-use Rattle.std.proofs.Common.{◌≡◌, ◌≢◌, ℕ, zero, suc, ◌+◌, ◌*◌, ◌^◌, ◌<◌, ◌≤◌, ◌⊎◌, inl, inr, Bool, true, false, cond, not, List, [], ◌∷◌, ◌++◌, length, get_or, ℤ, pos, negsuc, neg_ℤ, ◌<ℤ◌, ◌≤ℤ◌, int_lt, unsigned_abs, refl, sym, ◌∙◌, ap, subst, arith, length-append, add-one}
+use Rattle.std.proofs.Common.{◌≡◌, ◌≢◌, ℕ, zero, suc, ◌+◌, ◌*◌, ◌^◌, ◌<◌, ◌≤◌, inl, inr, Bool, true, false, cond, not, List, [], ◌∷◌, ◌++◌, length, ℤ, pos, negsuc, neg_ℤ, ◌<ℤ◌, ◌≤ℤ◌, int_lt, unsigned_abs, refl, sym, ◌∙◌, ap, arith, length-append}
 use Rattle.std.proofs.lemmas.Int.{ints}
 use Rattle.std.specs.List.{All, Contains}
 use Rattle.std.proofs.lemmas.List.Elements.{All-nil, All-cons, All-append, All-contains}
@@ -8,12 +8,12 @@ use Rattle.circuits.specs.declared.net.Bit.{Bit}
 use Rattle.circuits.specs.declared.net.NetNode.{NetNode}
 use Rattle.circuits.specs.declared.net.NetNode.TheVariants.{Constant, Input, And}
 use Rattle.circuits.specs.Net.{count_inputs, IsNet}
-use Rattle.clauses.specs.Clause.{Rises, IsNumber, IsClause, CanJoin}
+use Rattle.clauses.specs.Clause.{IsNumber, IsClause, CanJoin}
 use Rattle.clauses.specs.Within.{IsOf, AreOf}
 use Rattle.clauses.specs.Marks.{IsClosed}
-use Rattle.clauses.specs.Tseitin.{node_at, flag_at, is_and, variable, number_of, literal, rising_two, gate_clauses, node_clauses, clauses_below, ands_below}
+use Rattle.clauses.specs.Tseitin.{node_at, flag_at, variable, number_of, literal, rising_two, gate_clauses, node_clauses, clauses_below, ands_below}
 use Rattle.circuits.proofs.Nets.{inputs_few}
-use Rattle.clauses.proofs.Nodes.{Arguments, and_arguments}
+use Rattle.clauses.proofs.Nodes.{and_arguments}
 use Rattle.clauses.proofs.Variables.{ands_few, variable_ranged, variable_below, variables_apart}
 use Rattle.clauses.proofs.Truth.{flagged_named, size_of}
 

@@ -1,17 +1,17 @@
 -- The promises of the clauses of a bit.
-use Rattle.std.proofs.Common.{◌≡◌, ℕ, ◌+◌, ◌*◌, ◌^◌, ◌<◌, ◌≤◌, Bool, true, false, ◌&&◌, List, [], ◌∷◌, ◌++◌, length, ℤ, get_or, to_z, of_z, w32, refl, sym, ◌∙◌, ap, subst, arith, length-append}
+use Rattle.std.proofs.Common.{◌≡◌, ℕ, ◌+◌, ◌^◌, ◌<◌, Bool, true, ◌&&◌, List, [], ◌∷◌, ◌++◌, length, ℤ, get_or, to_z, of_z, w32, sym, ◌∙◌, ap, subst, arith, length-append}
 use Rattle.std.specs.List.{Contains}
 use Rattle.std.proofs.lemmas.List.{get_or_default}
 use Rattle.std.proofs.lemmas.List.Elements.{Contains-append_left}
 use Rattle.circuits.specs.declared.net.Bit.{Bit}
 use Rattle.circuits.specs.declared.net.NetNode.{NetNode}
 use Rattle.circuits.specs.Net.{holds, count_inputs, IsNet}
-use Rattle.clauses.specs.Assignment.{number_holds, all_hold}
+use Rattle.clauses.specs.Assignment.{all_hold}
 use Rattle.clauses.specs.Within.{AreOf}
 use Rattle.clauses.specs.Marks.{Numbered}
-use Rattle.clauses.specs.Tseitin.{Flags, ClausesOf, Describes, Fulfils, Propagates, variable, number_of, literal, clauses_below, ands_below, IsNamed, node_holds, inputs_in}
+use Rattle.clauses.specs.Tseitin.{Flags, ClausesOf, Describes, Fulfils, Propagates, number_of, literal, clauses_below, ands_below, inputs_in}
 use Rattle.clauses.proofs.Variables.{named}
-use Rattle.clauses.proofs.Truth.{both_hold, all_hold-append, Agree, literal_is, flagged_named, settled, fulfilled, last_holds, last_only, value_in, assigned, inputs_kept, assignment}
+use Rattle.clauses.proofs.Truth.{both_hold, all_hold-append, Agree, literal_is, flagged_named, settled, fulfilled, last_holds, last_only, value_in, assigned, inputs_kept}
 use Rattle.clauses.proofs.Propagated.{propagated}
 use Rattle.clauses.proofs.Reached.{flags_closed, root_flagged}
 use Rattle.clauses.proofs.Pushed.{literal_passed}

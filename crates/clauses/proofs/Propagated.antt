@@ -1,5 +1,5 @@
 -- Unit propagation from the values of all inputs.
-use Rattle.std.proofs.Common.{◌≡◌, ◌≢◌, ℕ, zero, suc, ◌+◌, ◌<◌, ◌≤◌, ◌⊎◌, inl, inr, Bool, true, false, cond, not, ◌&&◌, List, [], ◌∷◌, ◌++◌, length, ℤ, pos, negsuc, neg_ℤ, int_lt, refl, sym, ◌∙◌, ap, subst, arith}
+use Rattle.std.proofs.Common.{◌≡◌, ℕ, zero, suc, ◌+◌, ◌<◌, ◌⊎◌, inl, inr, Bool, true, false, cond, not, ◌&&◌, List, [], ◌∷◌, ◌++◌, length, ℤ, pos, negsuc, neg_ℤ, int_lt, refl, sym, ◌∙◌, ap, subst, arith}
 use Rattle.std.specs.List.{Contains}
 use Rattle.std.proofs.lemmas.Bool.{cases_lt}
 use Rattle.std.proofs.lemmas.List.Elements.{Contains-append_left, Contains-append_right, Contains-push, Contains-append_cases}
@@ -11,7 +11,7 @@ use Rattle.clauses.specs.Units.{Units, given_one, forced}
 use Rattle.clauses.specs.Marks.{IsClosed}
 use Rattle.clauses.specs.Tseitin.{node_at, flag_at, is_and, variable, number_of, literal, rising_two, gate_clauses, node_clauses, clauses_below, input_numbers, IsNamed, node_holds}
 use Rattle.clauses.proofs.Nodes.{and_arguments, and_value, input_value, constant_value, bit_value}
-use Rattle.clauses.proofs.Variables.{as_input, input_lt, Named, named}
+use Rattle.clauses.proofs.Variables.{as_input, input_lt, Named}
 use Rattle.clauses.proofs.Truth.{flagged_named}
 
 -- the elements of short lists

@@ -1,5 +1,5 @@
 -- From the calls that make clauses to the clauses of a net.
-use Rattle.std.proofs.Common.{◌≡◌, ℕ, zero, suc, ◌+◌, ◌-◌, ◌*◌, ◌^◌, ◌<◌, ◌≤◌, Bool, true, false, cond, not, ◌&&◌, List, [], ◌∷◌, ◌++◌, length, get_or, slice_get, Some, inl, inr, ℤ, pos, negsuc, neg_ℤ, ◌-ℤ◌, ◌<ℤ◌, ◌≤ℤ◌, int_lt, unsigned_abs, to_z, of_z, w32, refl, sym, ◌∙◌, ap, subst, arith, append_assoc, append-nil, add-one, length-append}
+use Rattle.std.proofs.Common.{◌≡◌, ℕ, zero, suc, ◌+◌, ◌*◌, ◌^◌, ◌<◌, ◌≤◌, Bool, true, false, cond, not, ◌&&◌, List, [], ◌∷◌, ◌++◌, length, get_or, slice_get, Some, inl, inr, ℤ, pos, negsuc, neg_ℤ, ◌-ℤ◌, ◌<ℤ◌, ◌≤ℤ◌, int_lt, unsigned_abs, to_z, of_z, w32, refl, sym, ◌∙◌, ap, arith, append_assoc, append-nil, add-one, length-append}
 use Rattle.std.proofs.lemmas.Int.{ints, to_z-of_z, fits_signed_from_abs}
 use Rattle.std.proofs.lemmas.Bool.{ltb-true, ltb-false, cases_lt}
 use Rattle.std.proofs.lemmas.List.{get_or_append_left}
@@ -12,11 +12,9 @@ use Rattle.circuits.specs.Net.{count_inputs, IsNet}
 use Rattle.circuits.specs.Numbers.{digit}
 use Rattle.circuits.proofs.Nets.{inputs_few}
 use Rattle.clauses.specs.Clause.{IsNumber, CanJoin}
-use Rattle.clauses.specs.Marks.{IsClosed, AreNumbers, Numbered, ArgumentsIn}
+use Rattle.clauses.specs.Marks.{IsClosed, AreNumbers, Numbered}
 use Rattle.clauses.specs.Tseitin.{node_at, flag_at, is_and, ands_below, variable, number_of, literal, rising_two, gate_clauses, node_clauses, clauses_below}
-use Rattle.clauses.proofs.Nodes.{Arguments, and_arguments}
-use Rattle.clauses.proofs.Variables.{ands_few, ands_next, as_constant, as_input, as_and, counts_itself, input_lt}
-use Rattle.clauses.proofs.Truth.{size_of}
+use Rattle.clauses.proofs.Variables.{ands_few, ands_next, as_constant, as_input, as_and, counts_itself}
 use Rattle.clauses.proofs.Listed.{size_neg, literal_number, joins}
 
 -- an i32 that passed a call

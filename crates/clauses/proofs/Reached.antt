@@ -1,5 +1,5 @@
 -- The flags of the nodes that a bit reaches.
-use Rattle.std.proofs.Common.{◌≡◌, ◌≢◌, ℕ, zero, suc, ◌+◌, ◌-◌, ◌<◌, ◌≤◌, ◌⊎◌, ◌↔◌, inl, inr, Bool, true, false, List, [], ◌∷◌, length, get_or, slice_get, slice_set, Some, refl, sym, ◌∙◌, ap, subst, arith}
+use Rattle.std.proofs.Common.{◌≡◌, ◌≢◌, ℕ, ◌+◌, ◌<◌, ◌≤◌, ◌⊎◌, inl, inr, Bool, true, false, List, length, get_or, slice_get, slice_set, Some, sym, ◌∙◌, ap, subst, arith}
 use Rattle.std.proofs.lemmas.List.{get_or-set_same, get_or-set_other, length-set, get_or-replicate, length-replicate, get_or_past, get_or_default}
 use Rattle.std.proofs.lemmas.Option.{slice_get-get_or, slice_get_within, get_or_from_slice_get}
 use Rattle.std.proofs.Math.ListN.{replicate}
@@ -11,7 +11,7 @@ use Rattle.circuits.specs.Net.{IsNet}
 use Rattle.circuits.specs.Reach.{Reaches, own, left, right}
 use Rattle.clauses.specs.Tseitin.{node_at, flag_at, Flags}
 use Rattle.clauses.specs.Marks.{marked, IsClosed, ArgumentsIn}
-use Rattle.clauses.proofs.Nodes.{Arguments, and_arguments}
+use Rattle.clauses.proofs.Nodes.{and_arguments}
 
 -- the nodes from `low` on have flagged their arguments; every flag is of a node that is reached
 pub record Marking (net : List NetNode) (b : Bit) (flags : List Bool) (low : ℕ) : Type 0 where

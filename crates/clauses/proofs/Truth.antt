@@ -1,5 +1,5 @@
 -- What the clauses of a bit say: each variable has the value of its node, and the bit is true.
-use Rattle.std.proofs.Common.{◌≡◌, ℕ, zero, suc, ◌+◌, ◌-◌, ◌<◌, ◌≤◌, ◌⊎◌, inl, inr, Bool, true, false, cond, not, ◌&&◌, ◌||◌, nat_eq, List, [], ◌∷◌, ◌++◌, length, ℤ, pos, negsuc, neg_ℤ, int_lt, unsigned_abs, refl, sym, ◌∙◌, ap, subst, arith, add-one}
+use Rattle.std.proofs.Common.{◌≡◌, ℕ, zero, suc, ◌+◌, ◌-◌, ◌<◌, ◌≤◌, inl, inr, Bool, true, false, cond, not, ◌&&◌, ◌||◌, nat_eq, List, [], ◌∷◌, ◌++◌, length, ℤ, pos, negsuc, neg_ℤ, int_lt, unsigned_abs, refl, sym, ◌∙◌, ap, subst, arith, add-one}
 use Rattle.std.proofs.lemmas.Bool.{cases_lt, eqb-true, eq-eqb, ne_eqb}
 use Rattle.circuits.specs.declared.net.Bit.{Bit}
 use Rattle.circuits.specs.declared.net.NetNode.{NetNode}
@@ -9,7 +9,7 @@ use Rattle.clauses.specs.Assignment.{number_holds, clause_holds, all_hold}
 use Rattle.clauses.specs.Marks.{IsClosed}
 use Rattle.clauses.specs.Tseitin.{node_at, flag_at, is_and, variable, number_of, literal, rising_two, gate_clauses, node_clauses, clauses_below, IsNamed, node_holds, inputs_in}
 use Rattle.clauses.proofs.Nodes.{and_arguments, and_value, input_value, constant_value, bit_value}
-use Rattle.clauses.proofs.Variables.{as_constant, as_input, as_and, variable_ranged, variables_apart, input_lt}
+use Rattle.clauses.proofs.Variables.{as_constant, as_input, as_and, variable_ranged, variables_apart}
 
 pub both_hold : (a b : Bool) → (a && b) ≡ true → (a ≡ true) × (b ≡ true)
 both_hold true true e = (refl, refl)

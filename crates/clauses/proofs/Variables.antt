@@ -1,5 +1,5 @@
 -- The variables of nodes: named nodes have different ones, and each variable is that of a named node.
-use Rattle.std.proofs.Common.{◌≡◌, ℕ, zero, suc, ◌+◌, ◌-◌, ◌<◌, ◌≤◌, ◌⊎◌, inl, inr, Bool, true, false, ◌&&◌, List, [], ◌∷◌, length, take, refl, sym, ◌∙◌, ap, subst, arith, add-one}
+use Rattle.std.proofs.Common.{◌≡◌, ℕ, zero, suc, ◌+◌, ◌-◌, ◌<◌, ◌≤◌, inl, inr, Bool, true, false, ◌&&◌, List, [], ◌∷◌, length, take, refl, sym, ◌∙◌, ap, arith, add-one}
 use Rattle.std.proofs.lemmas.Bool.{cases_lt}
 use Rattle.std.proofs.lemmas.List.{take_all}
 use Rattle.circuits.specs.declared.net.Bit.{Bit}
@@ -8,7 +8,7 @@ use Rattle.circuits.specs.declared.net.NetNode.TheVariants.{Constant, Input, And
 use Rattle.circuits.specs.Net.{count_inputs, IsNet}
 use Rattle.circuits.specs.Numbers.{digit}
 use Rattle.clauses.specs.Tseitin.{node_at, flag_at, is_and, ands_below, variable, variable_of, IsNamed}
-use Rattle.clauses.proofs.Nodes.{first_is, and_arguments, input_number, constant_place, inputs_before, inputs_in_all}
+use Rattle.clauses.proofs.Nodes.{first_is, input_number, constant_place, inputs_before, inputs_in_all}
 
 digit_le : (b : Bool) → digit b ≤ 1
 digit_le true = omega arith

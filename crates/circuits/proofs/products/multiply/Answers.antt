@@ -1,7 +1,7 @@
-use Rattle.std.proofs.Common.{◌≡◌, ◌∙◌, ◌+◌, ◌*◌, take, ap, arith, length}
+use Rattle.std.proofs.Common.{◌∙◌, ◌*◌, take, ap, arith, length}
 use Rattle.std.proofs.lemmas.List.{length-take-le}
 use Rattle.c_core.specs.Types.{width_of}
-use Rattle.circuits.proofs.Nets.{kept, opp, grown_then, wider, three}
+use Rattle.circuits.proofs.Nets.{kept, opp, grown_then, three}
 use Rattle.circuits.proofs.Counting.{counts_later}
 use Rattle.circuits.proofs.Composing.{xor_of}
 use Rattle.circuits.proofs.Carrying.{counts_same, low_counts, sign_of}

@@ -1,4 +1,4 @@
-use Rattle.std.proofs.Common.{◌≡◌, ◌+◌, ◌*◌, length, arith, ap}
+use Rattle.std.proofs.Common.{◌≡◌, length, arith}
 use Rattle.circuits.proofs.Multiplying.{multiplied_none, multiplied_next, multiplied_end, row_fits}
 use Rattle.circuits.proofs.Nets.{grown_then, grown_not}
 use Rattle.circuits.proofs.products.product.Goals as goal

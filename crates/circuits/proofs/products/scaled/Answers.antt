@@ -1,5 +1,5 @@
 use Rattle.std.proofs.Common.{◌≡◌, length, arith}
-use Rattle.circuits.proofs.Nets.{grown_then, wider}
+use Rattle.circuits.proofs.Nets.{grown_then}
 use Rattle.circuits.proofs.Multiplying.{scaled_none, scaled_next, scaled_end}
 use Rattle.circuits.proofs.products.scaled.Goals as goal
 

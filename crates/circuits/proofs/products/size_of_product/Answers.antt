@@ -1,4 +1,4 @@
-use Rattle.std.proofs.Common.{◌≡◌, ◌+◌, ◌*◌, sym, ap, arith, length, refl}
+use Rattle.std.proofs.Common.{◌≡◌, ◌*◌, ap, arith, length}
 use Rattle.circuits.proofs.Nets.{grown_then, three}
 use Rattle.circuits.proofs.Counting.{counts_later}
 use Rattle.circuits.proofs.Carrying.{counts_same}

@@ -1,4 +1,4 @@
-use Rattle.std.proofs.Common.{◌≡◌, ◌∙◌, ◌+◌, ◌*◌, take, ap, arith, length}
+use Rattle.std.proofs.Common.{◌≡◌, ◌∙◌, ◌+◌, ◌*◌, ap, arith, length}
 use Rattle.circuits.specs.Net.{holds}
 use Rattle.circuits.specs.Numbers.{number, digit}
 use Rattle.circuits.proofs.Nets.{own, opp, grown_not, grown_then}

@@ -1,4 +1,4 @@
-use Rattle.std.proofs.Common.{◌≡◌, ◌∙◌, ◌++◌, ◌∷◌, [], refl, ap, arith, length}
+use Rattle.std.proofs.Common.{◌∙◌, ◌++◌, ◌∷◌, [], refl, ap, arith}
 use Rattle.circuits.proofs.Nets.{grown_not, grown_then}
 use Rattle.circuits.proofs.Multiplying.{row_fits}
 use Rattle.circuits.proofs.Dividing.{dividing_none, dividing_next, dividing_end, row_rest}

@@ -1,4 +1,4 @@
-use Rattle.std.proofs.Common.{◌≡◌, ◌∙◌, ◌+◌, ◌*◌, ap, arith, length}
+use Rattle.std.proofs.Common.{◌+◌, ◌*◌, ap, arith, length}
 use Rattle.c_core.specs.Types.{width_of}
 use Rattle.circuits.proofs.Nets.{kept, opp, grown_then, three}
 use Rattle.circuits.proofs.Counting.{counts_later}

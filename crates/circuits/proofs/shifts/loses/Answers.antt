@@ -1,4 +1,4 @@
-use Rattle.std.proofs.Common.{◌≡◌, ◌∙◌, ◌+◌, ◌-◌, refl, ap, arith, length}
+use Rattle.std.proofs.Common.{◌-◌, refl, ap, arith, length}
 use Rattle.std.proofs.lemmas.List.{length-drop}
 use Rattle.circuits.proofs.Nets.{kept, and_of, three, grown_then}
 use Rattle.circuits.proofs.Composing.{or_of}
@@ -6,7 +6,6 @@ use Rattle.circuits.proofs.Carrying.{any_of}
 use Rattle.circuits.proofs.Distances.{signed_means}
 use Rattle.circuits.proofs.Multiplying.{rest_is}
 use Rattle.circuits.proofs.Raising.{high_counts}
-use Rattle.circuits.proofs.Moved.{count_is, left_residue, lost_is, right_residue}
 use Rattle.circuits.proofs.shifts.loses.Goals as goal
 
 pub returns-clause-value : goal.returns-clause-value

@@ -1,6 +1,6 @@
-use Rattle.std.proofs.Common.{◌≡◌, ◌∙◌, ◌+◌, ◌-◌, ◌*◌, ◌/◌, ◌^◌, refl, arith, length}
+use Rattle.std.proofs.Common.{◌≡◌, ◌+◌, ◌-◌, ◌^◌, refl, arith, length}
 use Rattle.circuits.specs.Net.{holds}
-use Rattle.circuits.specs.Numbers.{number, digit}
+use Rattle.circuits.specs.Numbers.{number}
 use Rattle.circuits.proofs.Nets.{own, grown_not}
 use Rattle.circuits.proofs.Carrying.{own_counts, counts_by, counts_same, counts_wide, joined_counts, chosen_of}
 use Rattle.circuits.proofs.Multiplying.{rest_is}

@@ -1,5 +1,5 @@
-use Rattle.std.proofs.Common.{◌≡◌, ◌*◌, refl, ap, arith, length}
-use Rattle.circuits.proofs.Nets.{grown_not, grown_then, wider}
+use Rattle.std.proofs.Common.{◌*◌, refl, ap, arith, length}
+use Rattle.circuits.proofs.Nets.{grown_not, grown_then}
 use Rattle.circuits.proofs.Multiplying.{row_fits}
 use Rattle.circuits.proofs.Raising.{lowered_none, lowered_next, lowered_end, pow_up}
 use Rattle.circuits.proofs.shifts.lowered_by.Goals as goal

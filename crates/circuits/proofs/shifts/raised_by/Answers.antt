@@ -1,4 +1,4 @@
-use Rattle.std.proofs.Common.{◌≡◌, ◌+◌, ◌*◌, ◌^◌, refl, ap, arith, length}
+use Rattle.std.proofs.Common.{◌+◌, ◌*◌, ◌^◌, refl, ap, arith, length}
 use Rattle.circuits.proofs.Nets.{grown_not, grown_then, longer}
 use Rattle.circuits.proofs.Multiplying.{row_fits}
 use Rattle.circuits.proofs.Raising.{raised_none, raised_next, raised_end, raised_step}

@@ -1,10 +1,10 @@
-use Rattle.std.proofs.Common.{◌≡◌, ◌∙◌, ◌+◌, ◌-◌, ◌*◌, ◌/◌, ◌^◌, ◌≤◌, not, nat_eq, take, drop, refl, ap, arith, length}
+use Rattle.std.proofs.Common.{◌≡◌, ◌∙◌, ◌*◌, ◌/◌, ◌^◌, ◌≤◌, not, nat_eq, take, refl, ap, arith, length}
 use Rattle.std.proofs.lemmas.List.{length-take-le, length-drop}
 use Rattle.std.proofs.lemmas.List.Elements.{All-take}
 use Rattle.c_core.specs.Types.{width_of}
 use Rattle.circuits.specs.Net.{IsIn}
 use Rattle.circuits.specs.Numbers.{number}
-use Rattle.circuits.proofs.Nets.{kept, opp, grown_then, three, longer, means_by}
+use Rattle.circuits.proofs.Nets.{kept, opp, grown_then, three, means_by}
 use Rattle.circuits.proofs.Counting.{counts_later}
 use Rattle.circuits.proofs.Carrying.{any_of, counts_same, sign_of}
 use Rattle.circuits.proofs.Summed.{width_pos, typed_counts}

@@ -1,5 +1,5 @@
-use Rattle.std.proofs.Common.{◌≡◌, ◌+◌, ◌*◌, length, arith}
-use Rattle.circuits.proofs.Nets.{kept, and_of, own, grown_not, grown_then}
+use Rattle.std.proofs.Common.{length, arith}
+use Rattle.circuits.proofs.Nets.{and_of, grown_not, grown_then}
 use Rattle.circuits.proofs.Carrying.{own_counts, counts_same, difference_of, at_means}
 use Rattle.circuits.proofs.Distances.{exceeds_made, signed_means}
 use Rattle.circuits.proofs.signs.exceeds.Goals as goal

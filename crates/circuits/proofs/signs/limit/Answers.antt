@@ -1,4 +1,4 @@
-use Rattle.std.proofs.Common.{◌∙◌, ap, ◌++◌}
+use Rattle.std.proofs.Common.{◌∙◌}
 use Rattle.circuits.proofs.Nets.{own}
 use Rattle.circuits.proofs.Carrying.{counts_same}
 use Rattle.circuits.proofs.Distances.{limit_made}

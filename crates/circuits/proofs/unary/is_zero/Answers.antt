@@ -1,5 +1,4 @@
-use Rattle.std.proofs.Common.{◌∙◌, arith}
-use Rattle.circuits.proofs.Nets.{opp, wider}
+use Rattle.circuits.proofs.Nets.{opp}
 use Rattle.circuits.proofs.Single.{zero_gives}
 use Rattle.circuits.proofs.unary.is_zero.Goals as goal
 

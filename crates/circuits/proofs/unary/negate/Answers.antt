@@ -1,4 +1,3 @@
-use Rattle.std.proofs.Common.{◌∙◌}
 use Rattle.circuits.proofs.Nets.{grown_not}
 use Rattle.circuits.proofs.Carrying.{counts_same, counts_wide}
 use Rattle.circuits.proofs.Single.{negate_gives, none_typed}

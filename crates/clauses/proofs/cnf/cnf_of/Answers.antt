@@ -1,4 +1,4 @@
-use Rattle.std.proofs.Common.{◌≡◌, ◌∙◌, ap, arith, length}
+use Rattle.std.proofs.Common.{arith}
 use Rattle.clauses.proofs.Listed.{variable_small}
 use Rattle.clauses.proofs.Reached.{flags_closed}
 use Rattle.clauses.proofs.Pushed.{number_passed}

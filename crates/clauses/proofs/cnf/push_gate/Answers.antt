@@ -1,4 +1,4 @@
-use Rattle.std.proofs.Common.{◌≡◌, ◌∙◌, ◌<◌, ◌^◌, ◌++◌, ◌∷◌, [], pos, neg_ℤ, unsigned_abs, to_z, of_z, w32, arith, ap}
+use Rattle.std.proofs.Common.{◌∙◌, ◌++◌, ◌∷◌, [], pos, neg_ℤ, unsigned_abs, to_z, of_z, w32, arith, ap}
 use Rattle.clauses.specs.Tseitin.{rising_two}
 use Rattle.clauses.proofs.Listed.{size_neg, side_clause}
 use Rattle.clauses.proofs.Pushed.{passed, pair_same, gate_pushed}

@@ -1,7 +1,5 @@
-use Rattle.std.proofs.Common.{◌≡◌, ◌∙◌, ◌<◌, not, refl, sym, ap, arith, length}
-use Rattle.circuits.specs.declared.net.NetNode.TheVariants.{Constant, Input, And}
-use Rattle.clauses.specs.Tseitin.{node_at, number_of}
-use Rattle.clauses.proofs.Nodes.{Arguments, and_arguments}
+use Rattle.std.proofs.Common.{◌<◌, not, refl, arith, length}
+use Rattle.clauses.proofs.Nodes.{and_arguments}
 use Rattle.clauses.proofs.Listed.{variable_small}
 use Rattle.clauses.proofs.Pushed.{told, literal_passed, number_passed, joins_at, constant_pushed, input_pushed, unflagged_pushed, flagged_pushed}
 use Rattle.clauses.proofs.cnf.push_node.Goals as goal

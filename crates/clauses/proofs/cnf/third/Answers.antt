@@ -1,4 +1,4 @@
-use Rattle.std.proofs.Common.{◌≡◌, ◌∙◌, ◌<◌, ◌^◌, unsigned_abs, arith, ap}
+use Rattle.std.proofs.Common.{◌∙◌, unsigned_abs, arith, ap}
 use Rattle.clauses.proofs.Listed.{last_clause, turned_clause}
 use Rattle.clauses.proofs.Pushed.{passed, opposite_passed, lt_true, lt_false}
 use Rattle.clauses.proofs.cnf.third.Goals as goal

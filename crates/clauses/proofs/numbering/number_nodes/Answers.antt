@@ -1,4 +1,4 @@
-use Rattle.std.proofs.Common.{◌≡◌, ◌∙◌, ◌+◌, ap, arith, length}
+use Rattle.std.proofs.Common.{◌∙◌, ◌+◌, ap, arith}
 use Rattle.circuits.proofs.Nets.{inputs_few}
 use Rattle.clauses.proofs.Variables.{input_lt}
 use Rattle.clauses.proofs.Pushed.{told, numbered_none, numbered_few, constant_numbered, input_numbered, and_numbered, passed_numbered}

@@ -1,9 +1,8 @@
-use Rattle.std.proofs.Common.{◌≡◌, ◌∙◌, ◌-◌, ◌+◌, ◌<◌, sym, ap, arith, length, get_or, true, false, refl, slice_set}
+use Rattle.std.proofs.Common.{◌≡◌, ◌∙◌, ◌-◌, ◌+◌, sym, ap, arith, length, true, false, refl, slice_set}
 use Rattle.std.proofs.Math.ListN.{replicate}
 use Rattle.std.proofs.lemmas.List.{with_items_is}
-use Rattle.clauses.specs.Tseitin.{flag_at}
 use Rattle.clauses.specs.Marks.{marked}
-use Rattle.clauses.proofs.Reached.{Marking, marking_none, marking_skip, marking_step, marking_end, marking_at, marking_of, flag_read, arguments_in}
+use Rattle.clauses.proofs.Reached.{marking_none, marking_skip, marking_step, marking_end, marking_at, marking_of, flag_read, arguments_in}
 use Rattle.clauses.proofs.Pushed.{told}
 use Rattle.clauses.proofs.reach.reached.Goals as goal
 use Rattle.clauses.proofs.reach.reached.Goals.{then-index, else-index}
