@@ -1,8 +1,7 @@
 -- The program `int main() { return 0; }`, built.
-use Rattle.std.proofs.Common.{◌≡◌, List, [], ◌∷◌, ◌++◌, refl, sym, ap, ◌∙◌, subst, Some, true}
+use Rattle.std.proofs.Common.{◌≡◌, List, [], ◌∷◌, ◌++◌, refl, sym, ap, ◌∙◌, subst, Some}
 use Rattle.c_core.specs.Tree as t
 use Rattle.c_core.specs.TreeView.{program_of, form_view, stmt_view, functions_view}
-use Rattle.c_core.specs.Thin.{is_thin}
 use Rattle.c_core.specs.Program.{IsProgram}
 use Rattle.c_core.proofs.View.{view_of_block}
 use Rattle.c_core.specs.declared.number.DataModel.TheVariants.{Ilp32}
@@ -34,9 +33,6 @@ view_of_built os starts fs f ss s at objects none one result params body only =
 
 pub along : (p q : t.Program) → p ≡ q → IsProgram q → IsProgram p
 along p q e h = subst IsProgram (sym e) h
-
-pub thin_along : (p q : t.Program) → p ≡ q → is_thin q ≡ true → is_thin p ≡ true
-thin_along p q e h = ap is_thin e ∙ h
 
 pub only_one : {A : Type 0} (old new : List A) (x : A) → new ≡ old ++ x ∷ [] → old ≡ [] → new ≡ x ∷ []
 only_one old new x pushed empty = pushed ∙ ap (λ xs. xs ++ x ∷ []) empty

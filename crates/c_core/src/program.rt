@@ -1,7 +1,5 @@
-ghost use Rattle.std.specs.Prelude.{IsTrue};
 ghost use Rattle.c_core.specs.TreeView.{program_of};
 ghost use Rattle.c_core.specs.Program.{IsProgram};
-ghost use Rattle.c_core.specs.Thin.{is_thin};
 
 use crate::number::{DataModel, Property};
 use crate::tree::{Function, Object, Start};
@@ -17,5 +15,4 @@ pub struct Program {
     pub functions: Seq<Function>,
     pub main: u32,
     pub ghost checked: { IsProgram (program_of model property objects starts functions main) },
-    pub ghost thin: { IsTrue (is_thin (program_of model property objects starts functions main)) },
 }

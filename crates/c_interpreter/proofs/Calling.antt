@@ -1,5 +1,5 @@
 -- Calls of functions, part by part.
-use Rattle.std.proofs.Common.{◌≡◌, ℕ, zero, suc, ℤ, pos, List, [], ◌∷◌, ◌++◌, length, drop, take, ◌-◌, slice_get, Option, Some, None, Result, Ok, Err, refl, sym, ap, subst, ◌∙◌}
+use Rattle.std.proofs.Common.{◌≡◌, ℕ, zero, suc, ℤ, List, [], ◌∷◌, ◌++◌, length, drop, slice_get, Some, None, Result, Ok, Err, refl, sym, ap, subst, ◌∙◌}
 use Rattle.c_core.specs.Tree.{Program, Function}
 use Rattle.c_core.specs.declared.number.IntType.{IntType}
 use Rattle.c_meaning.specs.declared.run.End.{End}
@@ -13,32 +13,13 @@ use Rattle.c_meaning.specs.Acts.{Res, Go, Stop, bind}
 use Rattle.c_meaning.specs.Eval.{store}
 use Rattle.c_meaning.specs.Exec.{ticks, with_params, run_in, call_of}
 use Rattle.c_meaning.specs.Run as run
-use Rattle.c_meaning.specs.Run.{State, with_cells, cells_of}
+use Rattle.c_meaning.specs.Run.{State, with_cells}
 use Rattle.c_meaning.specs.Watching.{seen_by}
 use Rattle.c_interpreter.specs.Interpreting.{Gives, same, flow_of, pairs_of, other_pairs, watched, parameter_set, next_set, parameters_set, in_function, with_arguments, called_with, function_called, number_called}
 use Rattle.c_interpreter.specs.declared.machine.Typed.{Typed}
 use Rattle.c_interpreter.specs.declared.machine.Flow.{Flow}
 use Rattle.c_interpreter.specs.declared.machine.Halt.{Halt}
-use Rattle.c_interpreter.specs.declared.machine.Halt.TheVariants.{Ends, NoMemory}
 use Rattle.c_interpreter.proofs.Giving.{halted, passed}
-
-pub pairs_at : (vs : List Typed) (i : ℕ) (v : Typed) → slice_get vs i ≡ Some v → pairs_of (drop i vs) ≡ (v.value, v.ty) ∷ pairs_of (drop (suc i) vs)
-pairs_at [] i v h = cc
-pairs_at (w ∷ vs) zero v h = ap (λ (x : Typed). (x.value, x.ty) ∷ pairs_of vs) (some_is h)
-  where
-    value_in : Option Typed → Typed
-    value_in None = w
-    value_in (Some x) = x
-
-    some_is : Some w ≡ Some v → w ≡ v
-    some_is e = ap value_in e
-pairs_at (w ∷ vs) (suc i) v h = pairs_at vs i v h
-
-pub no_pair_at : (vs : List Typed) (i : ℕ) → slice_get vs i ≡ None → pairs_of (drop i vs) ≡ []
-no_pair_at [] zero h = refl
-no_pair_at [] (suc i) h = refl
-no_pair_at (w ∷ vs) zero h = cc
-no_pair_at (w ∷ vs) (suc i) h = no_pair_at vs i h
 
 others_at : (vs : List Typed) (i : ℕ) → other_pairs (pairs_of (drop i vs)) ≡ pairs_of (drop (suc i) vs)
 others_at [] zero = refl
@@ -66,9 +47,6 @@ module _ (p : Program) (S : Type 0) (after : Event → List Cell → S → S) wh
         ap (λ ps. bind (next_set p S after o (pairs_of (drop i vs)) s) (λ _. parameters_set p S after (drop (suc i) os) ps)) (sym (others_at vs i))
         ∙ ap (λ xs. parameters_set p S after xs (pairs_of (drop i vs)) s) (sym d) ∙ l
 
-    pub set_halted : (h : Halt) → behind → left_to_set → Gives same (Err h) u (next_set p S after o (pairs_of (drop i vs)) s) → Gives same (Err h) u whole
-    set_halted h d l g = subst (Gives same (Err h) u) (next_parameter d l) (halted same same h u (next_set p S after o (pairs_of (drop i vs)) s) _ g)
-
     pub set_on : behind → left_to_set → next_set p S after o (pairs_of (drop i vs)) s ≡ Go tt u → parameters_set p S after (drop (suc i) os) (pairs_of (drop (suc i) vs)) u ≡ whole
     set_on d l g = ap (λ q. bind q (λ _. parameters_set p S after (drop (suc i) os) (pairs_of (drop (suc i) vs)))) (sym g) ∙ next_parameter d l
 
@@ -93,32 +71,6 @@ module _ (p : Program) (S : Type 0) (after : Event → List Cell → S → S) wh
         → Gives same (Ok tt) t (parameters_set p S after f.params vs s) → Gives flow_of r u (in_function p S after n f t) → Gives flow_of r u (with_arguments p S after n f vs s)
     parameters_passed f vs s t u r g h =
         subst (Gives flow_of r u) (sym (with_params_is f.params vs (run_in p (watched p S after) n f) s)) (passed same flow_of tt t u (parameters_set p S after f.params vs s) _ r g h)
-
-    -- a call: one deeper, what is done in it, and back
-    abbrev entered : Site → Function → List (ℤ × IntType) → State S → Res End (State S) acts.Flow
-    entered site f vs s = with_arguments p S after n f vs (record s { active = suc s.active })
-
-    pub call_halted : (site : Site) (f : Function) (vs : List (ℤ × IntType)) (s u : State S) (h : Halt)
-        → Gives flow_of (Err h) u (entered site f vs s) → Gives same (Err h) u (called_with p S after n site f vs s)
-    call_halted site f vs s u h g = cut_halted (entered site f vs s) h g
-      where
-        stopped : Res End (State S) acts.Flow → Res End (State S) ℤ
-        stopped (Go f v) = Go (pos 0) v
-        stopped (Stop d v) = Stop d v
-
-        cut_halted : (r : Res End (State S) acts.Flow) (h : Halt) → Gives flow_of (Err h) u r
-            → Gives same (Err h) u (bind (acts.cut End (State S) cells_of with_cells (length s.cells) r) (λ f v. bind (run.shallower p S (seen_by after) v) (λ _. run.returned p S (seen_by after) site (acts.given f))))
-        cut_halted (Go f v) (Ends e) g = cc
-        cut_halted (Go f v) NoMemory g = tt
-        cut_halted (Stop d v) (Ends e) g = ap stopped g
-        cut_halted (Stop d v) NoMemory g = tt
-
-    pub call_back : (site : Site) (f : Function) (vs : List (ℤ × IntType)) (s t u : State S) (flow : Flow) (r : Result ℤ Halt)
-        → entered site f vs s ≡ Go (flow_of flow) t
-        → Gives same r u (run.returned p S (seen_by after) site (acts.given (flow_of flow)) (record (with_cells (take (length s.cells) t.cells) t) { active = t.active - 1 }))
-        → Gives same r u (called_with p S after n site f vs s)
-    call_back site f vs s t u flow r e g =
-        subst (λ q. Gives same r u (bind (acts.cut End (State S) cells_of with_cells (length s.cells) q) (λ f v. bind (run.shallower p S (seen_by after) v) (λ _. run.returned p S (seen_by after) site (acts.given f))))) (sym e) g
 
     -- steps for parameters, room, then the call
     pub call_few_steps : (site : Site) (f : Function) (vs : List (ℤ × IntType)) (s u : State S) (h : Halt)

@@ -16,10 +16,12 @@ use Rattle.c_meaning.specs.Eval.{evals, is_used}
 use Rattle.c_meaning.specs.Cells.{Cell}
 use Rattle.c_meaning.specs.Meaning.{Use, Used, Where, Site}
 use Rattle.c_meaning.specs.Acts.{Res, Go, Stop, bind}
-use Rattle.c_meaning.specs.Run.{State, tick_from, branched, draw, violated, reached}
+use Rattle.c_meaning.specs.Run.{State, tick_from, branched, draw, violated, overflowed, answered, reached}
 use Rattle.c_meaning.specs.declared.run.DrawKind.TheVariants.{Input}
 use Rattle.c_core.specs.declared.number.Property.{Property}
-use Rattle.c_core.specs.declared.number.Property.TheVariants.{UnreachCall}
+use Rattle.c_core.specs.declared.number.Property.TheVariants.{UnreachCall, NoOverflow}
+use Rattle.c_core.specs.declared.number.Done.{Done}
+use Rattle.c_core.specs.declared.number.Done.TheVariants.{Overflow}
 use Rattle.c_meaning.specs.Watching.{seen_by}
 use Rattle.c_interpreter.specs.Interpreting.{Gives, same, key_of, evaluated, noded, targeted, placed, listed, callee_gives, pairs_of, watched, calls, input_of, handed_back}
 use Rattle.c_interpreter.specs.declared.machine.Typed.{Typed}
@@ -143,3 +145,9 @@ module _ (p : Program) (S : Type 0) (after : Event → List Cell → S → S) (n
   pub error_reached : (q : Property) (at : Where) (site : Site) (s u : State S) (r : Result ℤ Halt)
       → q ≡ UnreachCall → Gives same r u (violated p S (seen_by after) at site.spot (Some site.spot) s) → Gives same r u (reached p S (seen_by after) q at site s)
   error_reached q at site s u r e g = subst (λ k. Gives same r u (reached p S (seen_by after) k at site s)) (sym e) g
+
+  -- an overflow, where it is the violation
+  pub overflow_violates : (at : Where) (spot : Spot) (v : ℤ) (done : Done) (s u : State S) (r : Result ℤ Halt) → p.property ≡ NoOverflow → done ≡ Overflow v
+      → Gives same r u (violated p S (seen_by after) at spot None s) → Gives same r u (answered p S (seen_by after) at spot done s)
+  overflow_violates at spot v done s u r q e g =
+      subst (λ d. Gives same r u (answered p S (seen_by after) at spot d s)) (sym e) (subst (λ k. Gives same r u (overflowed p S (seen_by after) k at spot v s)) (sym q) g)

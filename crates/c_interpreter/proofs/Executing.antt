@@ -26,6 +26,7 @@ use Rattle.c_meaning.specs.Run.{State, tick_from, with_cells, branched}
 use Rattle.c_meaning.specs.Watching.{seen_by}
 use Rattle.c_interpreter.specs.Interpreting.{Gives, same, flow_of, else_part, watched, arrived, branching, fulled, decided, executed, formed, sequenced, armed, otherwised, declaring, introduced, initialised, initialised_one, in_function, in_main, goes_on}
 use Rattle.c_interpreter.specs.declared.machine.Halt.{Halt}
+use Rattle.c_interpreter.specs.declared.machine.Halt.TheVariants.{Ends, NoMemory}
 use Rattle.c_interpreter.specs.declared.machine.Flow.{Flow}
 use Rattle.c_interpreter.specs.declared.machine.Flow.TheVariants.{Next, Broken, Again, Gave}
 use Rattle.c_interpreter.proofs.Giving.{halted, bind_on}
@@ -99,6 +100,17 @@ module _ (p : Program) (S : Type 0) (after : Event → List Cell → S → S) (n
   control_goes spot (Go v s) a b c u e = taken (not (is_zero v)) c _ u (λ x y. cond x a b y) e
   control_goes spot (Stop e s) a b c u h = cc
 
+  -- where the test halts, the whole halts
+  pub control_halts : (spot : Spot) (r : Res End (State S) ℤ) (a b : State S → Res End (State S) acts.Flow) (h : Halt) (u : State S)
+      → Gives same (Err h) u (bind r (branching p S after spot)) → Gives flow_of (Err h) u (bind r (λ v. branched p S (seen_by after) spot (not (is_zero v)) a b))
+  control_halts spot r a b NoMemory u g = tt
+  control_halts spot (Go v s) a b (Ends e) u g = cc
+  control_halts spot (Stop d s) a b (Ends e) u g = ap stopped g
+    where
+      stopped : Res End (State S) Bool → Res End (State S) acts.Flow
+      stopped (Go c v) = Go acts.Next v
+      stopped (Stop d v) = Stop d v
+
   -- without a test, as where it holds
   pub untested : (at : Spot) (c : Bool) (s u : State S) (f : Bool → State S → Res End (State S) acts.Flow) → goes_on p S after n at None s ≡ Go c u → f true s ≡ f c u
   unfolding outcome
@@ -107,6 +119,10 @@ module _ (p : Program) (S : Type 0) (after : Event → List Cell → S → S) (n
   pub chosen : (w : Option IntType) (at : Spot) (e : Exp) (a : t.Stm) (b : t.Else) (c : Bool) (s u : State S)
       → decided p S after n at e s ≡ Go c u → formed p S after n w at (t.If e a b) s ≡ cond c (armed p S after n w a) (otherwised p S after n w b) u
   chosen w at e a b c s u h = control_goes at (fulled p S after n at Used e s) (armed p S after n w a) (otherwised p S after n w b) c u h
+
+  pub choice_halts : (w : Option IntType) (at : Spot) (e : Exp) (a : t.Stm) (b : t.Else) (s u : State S) (h : Halt)
+      → Gives same (Err h) u (decided p S after n at e s) → Gives flow_of (Err h) u (formed p S after n w at (t.If e a b) s)
+  choice_halts w at e a b s u h g = control_halts at (fulled p S after n at Used e s) (armed p S after n w a) (otherwised p S after n w b) h u g
 
   -- a declared name
   module _ (at spot : Spot) (o : ℕ) (i : t.Init) (k : ℕ) (sized : k ≡ size_of_object p o) (s u : State S) where

@@ -12,12 +12,7 @@ pub halted : {A B C D T : Type 0} (view : A → B) (view' : C → D) (h : Halt) 
 halted view view' (Ends e) s r k g = ap (λ q. bind q k) g
 halted view view' NoMemory s r k g = tt
 
--- where it gives a value, the rest goes on from there
-pub gone : {A B D T : Type 0} (view : A → B) (a : A) (s : T) (r : Res End T B) (k : B → T → Res End T D)
-    → Gives view (Ok a) s r → bind r k ≡ k (view a) s
-gone view a s r k g = ap (λ q. bind q k) g
-
--- and gives what the rest gives
+-- where it gives a value, the whole gives what the rest gives
 pub passed : {A B C D T : Type 0} (view : A → B) (view' : C → D) (a : A) (s u : T) (r : Res End T B) (k : B → T → Res End T D) (q : Result C Halt)
     → Gives view (Ok a) s r → Gives view' q u (k (view a) s) → Gives view' q u (bind r k)
 passed view view' a s u r k q g h = subst (λ x. Gives view' q u (bind x k)) (sym g) h

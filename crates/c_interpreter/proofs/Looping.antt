@@ -12,14 +12,14 @@ use Rattle.c_meaning.specs.Acts as acts
 use Rattle.c_meaning.specs.Acts.{Res, Go, Stop, bind, go_on, turned, cut}
 use Rattle.c_meaning.specs.Exec.{first}
 use Rattle.c_meaning.specs.Run as run
-use Rattle.c_meaning.specs.Run.{State, branched, cells_of, with_cells}
+use Rattle.c_meaning.specs.Run.{State, cells_of, with_cells}
 use Rattle.c_meaning.specs.Watching.{seen_by}
-use Rattle.c_interpreter.specs.Interpreting.{Gives, flow_of, watched, calls, fulled, decided, formed, declaring, loop_in, bodied, test_turned, goes_on, for_rest, while_turned, for_turned, turning, rounds, looped, begun, for_looped}
+use Rattle.c_interpreter.specs.Interpreting.{Gives, same, flow_of, watched, calls, fulled, decided, formed, declaring, loop_in, bodied, test_turned, goes_on, for_rest, while_turned, for_turned, turning, rounds, looped, begun, for_looped}
 use Rattle.c_interpreter.specs.declared.machine.Halt.{Halt}
 use Rattle.c_interpreter.specs.declared.machine.Flow.{Flow}
 use Rattle.c_interpreter.specs.declared.machine.Flow.TheVariants.{Next, Broken, Again, Gave}
 use Rattle.c_interpreter.proofs.Giving.{halted}
-use Rattle.c_interpreter.proofs.Executing.{control_goes, untested}
+use Rattle.c_interpreter.proofs.Executing.{control_goes, control_halts, untested}
 
 -- parts alike behind a part
 same_turns : {E T : Type 0} (r : Res E T acts.Flow) (k l : T → Res E T acts.Flow) → ((u : T) → k u ≡ l u) → bind r (turned k) ≡ bind r (turned l)
@@ -46,10 +46,16 @@ module _ (p : Program) (S : Type 0) (after : Event → List Cell → S → S) (n
   test_done at e true s u h = control_goes p S after n at (fulled p S after n at Used e s) (λ v. Go acts.Next v) (λ v. Go acts.Broken v) true u h
   test_done at e false s u h = control_goes p S after n at (fulled p S after n at Used e s) (λ v. Go acts.Next v) (λ v. Go acts.Broken v) false u h
 
+  pub test_halts : (at : Spot) (e : Exp) (s u : State S) (h : Halt) → Gives same (Err h) u (decided p S after n at e s) → Gives flow_of (Err h) u (test_turned p S after n at e s)
+  test_halts at e s u h g = control_halts p S after n at (fulled p S after n at Used e s) (λ v. Go acts.Next v) (λ v. Go acts.Broken v) h u g
+
   module _ (w : Option IntType) (at : Spot) where
     pub while_chosen : (e : Exp) (x : t.Stm) (c : Bool) (s u : State S) → decided p S after n at e s ≡ Go c u
         → while_turned p S after n w at e x s ≡ cond c (bodied p S after n w x) (λ v. Go acts.Broken v) u
     while_chosen e x c s u h = control_goes p S after n at (fulled p S after n at Used e s) (bodied p S after n w x) (λ v. Go acts.Broken v) c u h
+
+    pub while_halts : (e : Exp) (x : t.Stm) (s u : State S) (h : Halt) → Gives same (Err h) u (decided p S after n at e s) → Gives flow_of (Err h) u (while_turned p S after n w at e x s)
+    while_halts e x s u h g = control_halts p S after n at (fulled p S after n at Used e s) (bodied p S after n w x) (λ v. Go acts.Broken v) h u g
 
     pub for_chosen : (e step : Option Exp) (x : t.Stm) (c : Bool) (s u : State S) → goes_on p S after n at e s ≡ Go c u
         → for_turned p S after n w at e step x s ≡ cond c (for_rest p S after n w at step x) (λ v. Go acts.Broken v) u

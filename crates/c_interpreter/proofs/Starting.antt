@@ -37,11 +37,6 @@ module _ (starts : List Start) where
       ∙ append_assoc held (cond x.fixed (cells_from i 0 x.cells (start_values i starts)) []) (static_cells starts (suc i) (drop (suc i) objects))
       ∙ ap (λ os. held ++ static_cells starts i os) (sym d) ∙ e
 
-  -- the values of an object are those of the first start that names it
-  pub values_left : (o : ℕ) (ss : List Start) (i : ℕ) (x : Start) (whole : List ℤ) → drop i ss ≡ x ∷ drop (suc i) ss → start_values o (drop i ss) ≡ whole
-      → cond (nat_eq x.object o) x.values (start_values o (drop (suc i) ss)) ≡ whole
-  values_left o ss i x whole d e = ap (start_values o) (sym d) ∙ e
-
 one_cell : (b : Bool) (n : ℕ) → IsTrue (cond b (nat_le 1 n) (nat_eq n 1)) → 1 ≤ n
 one_cell true n h = grind (arith, nat_tests)
 one_cell false n h = grind (arith, nat_tests)

@@ -136,10 +136,7 @@ fn finish<W: Watcher>(
         Done::Undefined => Err(Halt::Ends(End::Undefined(spot))),
         Done::Overflow(value) => match program.property {
             Property::UnreachCall => Ok(value),
-            Property::NoOverflow => {
-                let value = violate(machine, watcher, at, spot, None)?;
-                Ok(value)
-            }
+            Property::NoOverflow => violate(machine, watcher, at, spot, None),
         },
     }
 }

@@ -9,6 +9,7 @@ example_runs = record {
   five_violates = refl;
   ten_steps_are_spent = refl;
   six_ends = refl;
+  six_ends_in_ten = refl;
   given_five_violates = refl;
   no_value_draws_zero = refl;
   greatest_overflows = refl;

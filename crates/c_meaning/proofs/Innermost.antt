@@ -1,6 +1,5 @@
 -- The innermost of a list's live cells of one name.
-use Rattle.std.proofs.Common.{◌≡◌, ℕ, zero, suc, ◌+◌, ◌<◌, ◌≤◌, ℤ, pos, List, [], ◌∷◌, ◌++◌, length, take, drop, get_or, Bool, true, false, ◌||◌, Option, Some, None, cond, refl, sym, ap, ◌∙◌, arith, slice_set, nat_eq}
-use Rattle.std.proofs.lemmas.Bool.Decides.{nat_tests}
+use Rattle.std.proofs.Common.{◌≡◌, ℕ, zero, suc, ◌<◌, ◌≤◌, ℤ, pos, List, [], ◌∷◌, ◌++◌, length, take, drop, get_or, Bool, true, false, ◌||◌, Some, None, cond, refl, sym, ap, ◌∙◌, arith, slice_set}
 use Rattle.std.specs.Prelude.{slice_index_or, unwrap_or}
 use Rattle.c_meaning.specs.Cells.{Key, Cell, same_key, live, read, put, found}
 use Rattle.c_meaning.specs.Memory.{cell_of, cells_of, no_cell}
@@ -32,13 +31,6 @@ cells_set (x ∷ ls) (suc i) l = ap (λ cs. cell_of x ∷ cs) (cells_set ls i l)
 or_true : (b : Bool) → (b || true) ≡ true
 or_true true = refl
 or_true false = refl
-
--- none from an index on, where it isn't there and none is behind it
-pub none_from : (k : Key) (cs : List Cell) (i : ℕ) → i < length cs → same_key (slice_index_or cs i no_cell).key k ≡ false →
-    live k (drop (suc i) cs) ≡ false → live k (drop i cs) ≡ false
-none_from k [] i h differs none = absurd (omega arith)
-none_from k (c ∷ cs) zero h differs none = rw (differs, none) refl
-none_from k (c ∷ cs) (suc i) h differs none = let j : i < length cs = omega arith in none_from k cs i j differs none
 
 pub live_at : (k : Key) (cs : List Cell) (i : ℕ) → i < length cs → same_key (slice_index_or cs i no_cell).key k ≡ true → live k cs ≡ true
 live_at k [] i h same = absurd (omega arith)

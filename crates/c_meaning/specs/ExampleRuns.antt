@@ -50,6 +50,8 @@ pub record ExampleRuns : Type 0 where
     (At (at 4 3) ∷ Enter (at 4 33) ∷ Return (at 4 33) (Some (pos 6)) ∷
         At (at 5 3) ∷ Branch (at 5 3) false ∷ At (at 8 3) ∷ []),
   )
+  -- the ten steps that it takes are enough
+  pub six_ends_in_ten : Outcome (branch_on_input 5) (InTurn (pos 6 ∷ [])) 10 ≡ Outcome (branch_on_input 5) (InTurn (pos 6 ∷ [])) 50
   -- five as a given value of its place
   pub given_five_violates : Outcome (branch_on_input 5) (Given (record { spot = (at 4 11); values = pos 5 ∷ [] } ∷ [])) 11 ≡ (
     ended (Violated (at 6 5)) 11 (drawn (at 4 11) Int (pos 5) ∷ []) 0,

@@ -1,10 +1,28 @@
 // What holds of every run.
-ghost use Rattle.std.specs.Prelude.{ℕ};
+ghost use Rattle.std.specs.Prelude.{◌≡◌, ◌≤◌, ℕ};
 ghost use Rattle.c_core.specs.Tree.{Program};
 ghost use Rattle.c_meaning.specs.declared.run.Choices.{Choices};
+ghost use Rattle.c_meaning.specs.declared.run.End.TheVariants.{Spent};
+ghost use Rattle.c_meaning.specs.Run.{Run};
 ghost use Rattle.c_meaning.specs.Replay.{IsReplayed};
+ghost use Rattle.c_meaning.specs.Budget.{Continues, HasFewEvents, Stays};
 
 /// The draws of a run, taken in turn, give the same run.
 pub fn replay()
     ensures { (p : Program) (c : Choices) (N : ℕ) → IsReplayed p c N }
+{}
+
+/// The events and draws of a run begin with those of the run with a smaller budget.
+pub fn larger_budget_continues()
+    ensures { (p : Program) (c : Choices) (n m : ℕ) → n ≤ m → Continues p c n m }
+{}
+
+/// A run that doesn't end spent is the run with each larger budget.
+pub fn ended_runs_stay()
+    ensures { (p : Program) (c : Choices) (n m : ℕ) → n ≤ m → ((Run p c n).end ≡ Spent → ⊥) → Stays p c n m }
+{}
+
+/// A run of n steps has at most 3n + 1 events.
+pub fn few_events()
+    ensures { (p : Program) (c : Choices) (N : ℕ) → HasFewEvents p c N }
 {}

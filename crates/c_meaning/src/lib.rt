@@ -4,17 +4,23 @@
 mod examples;
 mod laws;
 mod memory;
+mod numbers;
 mod run;
+mod slots;
 #[cfg(test)]
 mod tests;
+mod value;
+#[cfg(test)]
+mod value_tests;
 mod verdict;
 mod watcher;
 
-pub use laws::replay;
+pub use laws::{ended_runs_stay, few_events, larger_budget_continues, replay};
 pub use memory::Memory;
 pub use run::{
     Choices, Draw, DrawKind, Duty, DutyKind, End, Event, Given, HavocEnd, HavocRun,
     PlacedInvariant, Run,
 };
+pub use value::value_in;
 pub use verdict::{Cause, Reason, Verdict};
 pub use watcher::Watcher;

@@ -1,38 +1,39 @@
-ghost use Rattle.std.specs.Prelude.{◌≡◌, ◌≤◌, ◌<◌, ◌++◌, ◌∷◌, [], length, take, drop, false, true, slice_set, slice_index_or, pos, IsOk, OnOk, OnErr, MatchOption};
+ghost use Rattle.std.specs.Prelude.{◌≡◌, ◌≤◌, ◌<◌, ◌++◌, ◌∷◌, ◌/◌, ◌*◌, ◌-◌, [], length, take, drop, false, true, slice_set, slice_index_or, pos, IsOk, OnOk, OnErr, MatchOption};
 ghost use Rattle.c_meaning.specs.Cells.{Key, Cell, same_key, live, found, put};
 ghost use Rattle.c_meaning.specs.Memory.{cells_of, IsInnermost};
 
+use crate::slots::{Entry, place_in, seek, slot_of, table};
 use std::alloc::Global;
 use std::marker::Model;
 use wv_base::OutOfMemory;
 
-/// A live cell of an object.
+/// A live cell of an object, and the place of the cell of its name that it hides.
 #[derive(Clone, Copy, Debug, PartialEq, Eq)]
-struct Live {
-    object: u32,
-    index: u32,
-    value: i128,
+pub struct Live {
+    pub object: u32,
+    pub index: u32,
+    pub value: i128,
+    pub hides: Option<usize>,
 }
 
-/// The live cells of objects, the innermost last.
+/// The live cells of objects, the innermost last, and a table from names to the places of the innermost cells.
 #[derive(Debug, Drop)]
 pub struct Memory {
+    alloc: Global,
     cells: Vec<Live>,
+    slots: Vec<Option<Entry>>,
 }
 
 impl Model for Memory {
-    ghost use Rattle.std.specs.Prelude.{vec_capacity};
+    ghost use Rattle.std.specs.Prelude.{vec_capacity, length, ◌/◌, ◌≤◌};
     ghost use Rattle.c_meaning.specs.Memory.{Held, cells_of};
+    ghost use Rattle.c_meaning.specs.Slots.{IsKept, names_of};
 
     ghost Value = { Held };
 
-    ghost view = { λ m. record { cells = cells_of m.cells.items; room = vec_capacity m.cells } };
-}
+    ghost view = { λ m. record { cells = cells_of m.cells.items; room = length m.slots.items / 2 } };
 
-fn is_at(live: &Live, object: u32, index: u32) -> bool
-    ensures { result ≡ same_key (record { object = live.now.object; index = live.now.index }) (record { object = object; index = index }) }
-{
-    live.object == object && live.index == index
+    ghost invariant = { λ m. IsKept (names_of m.cells.items) m.slots.items × (length m.slots.items / 2 ≤ vec_capacity m.cells) };
 }
 
 impl Memory {
@@ -41,7 +42,9 @@ impl Memory {
         ensures { result.cells ≡ [] }
     {
         Memory {
+            alloc,
             cells: Vec::new(alloc),
+            slots: Vec::new(alloc),
         }
     }
 
@@ -51,9 +54,11 @@ impl Memory {
         ensures kept { self.old.room ≤ self.new.room }
         ensures room { OnOk result (cells ≤ self.new.room) }
     {
-        let more = (cells as usize).saturating_sub(self.cells.len());
-        self.cells.reserve(more)?;
-        Ok(())
+        let size = cells as usize * 2;
+        if size <= self.slots.len() {
+            return Ok(());
+        }
+        self.grow(size)
     }
 
     /// Appends a cell.
@@ -63,12 +68,8 @@ impl Memory {
         ensures kept { self.old.room ≤ self.new.room }
         ensures within { length self.old.cells < self.old.room → IsOk result }
     {
-        self.cells.push(Live {
-            object,
-            index,
-            value,
-        })?;
-        Ok(())
+        self.make_room()?;
+        self.append(object, index, value)
     }
 
     /// The number of live cells.
@@ -83,7 +84,9 @@ impl Memory {
         ensures cells { self.new.cells ≡ take cells self.old.cells }
         ensures kept { self.old.room ≤ self.new.room }
     {
-        self.cells.truncate(cells);
+        while self.count() > cells {
+            self.remove();
+        }
     }
 
     /// The innermost such cell's value, where one is live.
@@ -110,13 +113,66 @@ impl Memory {
     fn find(&self, object: u32, index: u32) -> Option<usize>
         ensures { MatchOption result (live (record { object = object; index = index }) self.now.cells ≡ false) (IsInnermost (record { object = object; index = index }) self.now.cells) }
     {
-        let mut from = self.cells.len();
-        while from > 0 {
-            from -= 1;
-            if is_at(&self.cells[from], object, index) {
-                return Some(from);
-            }
+        if self.cells.len() == 0 {
+            return None;
         }
-        None
+        let at = seek(self.slots.as_slice(), object, index);
+        place_in(self.slots[at])
+    }
+
+    // Makes room for one cell more; where there is none, for twice as many.
+    fn make_room(&mut self) -> Result<(), OutOfMemory>
+        ensures cells { self.new.cells ≡ self.old.cells }
+        ensures kept { self.old.room ≤ self.new.room }
+        ensures room { OnOk result (length self.new.cells < self.new.room) }
+        ensures within { length self.old.cells < self.old.room → IsOk result }
+    {
+        let size = self.slots.len();
+        if self.cells.len() < size / 2 {
+            return Ok(());
+        }
+        self.grow(size.saturating_mul(2).saturating_add(16))
+    }
+
+    // Appends a cell where there is room.
+    fn append(&mut self, object: u32, index: u32, value: i128) -> Result<(), OutOfMemory>
+        requires { length self.old.cells < self.old.room }
+        ensures cells { self.new.cells ≡ self.old.cells ++ record { key = record { object = object; index = index }; value = value } ∷ [] }
+        ensures room { self.new.room ≡ self.old.room }
+        ensures ok { IsOk result }
+    {
+        let place = self.cells.len();
+        let at = seek(self.slots.as_slice(), object, index);
+        self.cells.push(Live {
+            object,
+            index,
+            value,
+            hides: place_in(self.slots[at]),
+        })?;
+        self.slots[at] = slot_of(object, index, Some(place));
+        Ok(())
+    }
+
+    // Drops the last cell; the one that it hid, if any, is seen again.
+    fn remove(&mut self)
+        ensures cells { self.new.cells ≡ take (length self.old.cells - 1) self.old.cells }
+        ensures room { self.new.room ≡ self.old.room }
+    {
+        if let Some(last) = self.cells.pop() {
+            let at = seek(self.slots.as_slice(), last.object, last.index);
+            self.slots[at] = slot_of(last.object, last.index, last.hides);
+        }
+    }
+
+    // Makes a larger table, and room for half as many cells.
+    fn grow(&mut self, size: usize) -> Result<(), OutOfMemory>
+        requires { self.old.room * 2 < size }
+        ensures cells { self.new.cells ≡ self.old.cells }
+        ensures kept { self.old.room ≤ self.new.room }
+        ensures room { OnOk result (self.new.room ≡ size / 2) }
+    {
+        self.cells.reserve(size / 2 - self.cells.len())?;
+        self.slots = table(self.alloc, self.cells.as_slice(), size)?;
+        Ok(())
     }
 }

@@ -4,7 +4,6 @@ mod ExamplePassing
 mod ExampleVerdicts
 pub mod Judged
 pub mod Tested
-pub mod ThinParts
 pub mod TokenSteps
 pub mod GrammarSteps
 pub mod NameSteps
@@ -20,3 +19,4 @@ pub mod ThinGiven
 pub mod ThinReturns
 pub mod AimSteps
 pub mod JudgedTask
+mod ThinNumbers

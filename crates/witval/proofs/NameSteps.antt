@@ -7,8 +7,7 @@ use Rattle.std.proofs.Math.Bool.{and-false}
 use Rattle.std.proofs.lemmas.Bool.Decides.{nat_tests}
 use Rattle.std.proofs.lemmas.Slice.Eq.{bytes_eq-Decides}
 use Rattle.std.proofs.lemmas.Str.{IsUtf8-from_ascii}
-use Rattle.witval.specs.declared.thin.characters.Class.TheVariants.{Word}
-use Rattle.witval.specs.ThinCharacters.{in_class, is_digit}
+use Rattle.witval.specs.ThinCharacters.{is_word_part, is_digit}
 use Rattle.witval.specs.ThinObjects.{object_at, objects_of}
 use Rattle.witval.proofs.GrammarSteps.{both_left, both_right}
 use Rattle.std.proofs.lemmas.List.FromFn.{length-map-range_with_len, map-range_with_len_more}
@@ -117,13 +116,13 @@ pub some-where : (o : Option ℕ) → is_some o ≡ true → is_none o ≡ false
 some-where None some = cc
 some-where (Some n) some = refl
 
-word_small : (c : ℕ) → in_class Word c ≡ true → c < 128
+word_small : (c : ℕ) → is_word_part c ≡ true → c < 128
 word_small c word = grind (arith, nat_tests)
 
-list_all-ascii : (w : List ℕ) → list_all (in_class Word) w ≡ true → IsAscii w
+list_all-ascii : (w : List ℕ) → list_all is_word_part w ≡ true → IsAscii w
 list_all-ascii [] all i = omega arith
-list_all-ascii (c ∷ w) all zero = word_small c (both_left (in_class Word c) (list_all (in_class Word) w) all)
-list_all-ascii (c ∷ w) all (suc i) = list_all-ascii w (both_right (in_class Word c) (list_all (in_class Word) w) all) i
+list_all-ascii (c ∷ w) all zero = word_small c (both_left (is_word_part c) (list_all is_word_part w) all)
+list_all-ascii (c ∷ w) all (suc i) = list_all-ascii w (both_right (is_word_part c) (list_all is_word_part w) all) i
 
 pub is_word-utf8 : (w : List ℕ) → is_word w ≡ true → IsUtf8 w
-is_word-utf8 w word = IsUtf8-from_ascii w (list_all-ascii w (both_right (not (nat_eq (length w) 0) && not (is_digit (slice_index w 0))) (list_all (in_class Word) w) word))
+is_word-utf8 w word = IsUtf8-from_ascii w (list_all-ascii w (both_right (not (nat_eq (length w) 0) && not (is_digit (slice_index w 0))) (list_all is_word_part w) word))

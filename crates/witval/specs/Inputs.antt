@@ -31,29 +31,39 @@ limit_of Program = 1048576
 limit_of Property = 4096
 limit_of Witness = 1048576
 
+-- a witness that is longer than its limit
+abbrev pub too_long_alone : List ℕ → Option File
+too_long_alone witness = if nat_lt (limit_of Witness) (length witness) then Some Witness else None
+
 -- the first of three files that is longer than its limit
 abbrev pub first_too_long : List ℕ → List ℕ → List ℕ → Option File
 first_too_long program property witness =
     if nat_lt (limit_of Program) (length program) then Some Program
     else (if nat_lt (limit_of Property) (length property) then Some Property
-    else (if nat_lt (limit_of Witness) (length witness) then Some Witness
-    else None))
+    else too_long_alone witness)
 
--- the calls of begin grew by the file's number, and its name was asked for last
-pub record Reached (command : Command) (file : File) (old new : ShelfState) : Type 0 where
-  pub begins : new.begins ≡ min (old.begins + number_of file) (2 ^ 64 - 1)
-  pub asked : new.asked ≡ name_of command file
+-- so many files were begun, and this name was asked for last
+pub record Reached (count : ℕ) (name : List ℕ) (old new : ShelfState) : Type 0 where
+  pub begins : new.begins ≡ min (old.begins + count) (2 ^ 64 - 1)
+  pub asked : new.asked ≡ name
 
--- reading the file failed: the count of faults rose in this call and is above its mark
-pub record Faulted (command : Command) (file : File) (old new : ShelfState) : Type 0 where
-  pub reached : Reached command file old new
+-- reading that file failed: the count of faults rose in this call and is above its mark
+pub record Faulted (count : ℕ) (name : List ℕ) (old new : ShelfState) : Type 0 where
+  pub reached : Reached count name old new
   pub rose : Rose old.faults new.faults
   pub above_mark : Rose new.mark new.faults
 
 -- one byte more than the file's limit was taken
-pub record TookTooMuch (command : Command) (file : File) (old new : ShelfState) : Type 0 where
-  pub reached : Reached command file old new
-  pub taken : new.taken ≡ limit_of file + 1
+pub record TookTooMuch (count : ℕ) (name : List ℕ) (limit : ℕ) (old new : ShelfState) : Type 0 where
+  pub reached : Reached count name old new
+  pub taken : new.taken ≡ limit + 1
+
+-- the same of a file of a command
+abbrev pub FaultedAt : Command → File → ShelfState → ShelfState → Type 0
+FaultedAt command file old new = Faulted (number_of file) (name_of command file) old new
+
+abbrev pub TookTooMuchOf : Command → File → ShelfState → ShelfState → Type 0
+TookTooMuchOf command file old new = TookTooMuch (number_of file) (name_of command file) (limit_of file) old new
 
 -- what holds of the three files that a command names
 abbrev pub OfFiles : Command → Files → (List ℕ → List ℕ → List ℕ → Type 0) → Type 0
@@ -63,11 +73,26 @@ OfFiles command files P = P (file_of files command.program) (file_of files comma
 abbrev pub Told : Command → ShelfState → (List ℕ → List ℕ → List ℕ → Type 0) → Type 0
 Told command shelf P = IfSome shelf.files (λ files. OfFiles command files P)
 
+-- where the files are told, this holds of the one with the name
+abbrev pub ToldOne : List ℕ → ShelfState → (List ℕ → Type 0) → Type 0
+ToldOne name shelf P = IfSome shelf.files (λ files. P (file_of files name))
+
 -- why reading stopped
 abbrev pub RightStop : Command → ShelfState → ShelfState → Stop → Type 0
-RightStop command old new (Fault file) = Faulted command file old new
-RightStop command old new (TooLong file) = TookTooMuch command file old new × Told command old (λ program property witness. first_too_long program property witness ≡ Some file)
+RightStop command old new (Fault file) = FaultedAt command file old new
+RightStop command old new (TooLong file) = TookTooMuchOf command file old new × Told command old (λ program property witness. first_too_long program property witness ≡ Some file)
 RightStop command old new OutOfMemory = Unit {0}
+
+-- why reading a witness alone stopped
+abbrev pub RightStopAlone : List ℕ → ShelfState → ShelfState → Stop → Type 0
+RightStopAlone name old new (Fault file) = (file ≡ Witness) × Faulted 1 name old new
+RightStopAlone name old new (TooLong file) = (file ≡ Witness) × (TookTooMuch 1 name (limit_of Witness) old new × ToldOne name old (λ witness. too_long_alone witness ≡ Some Witness))
+RightStopAlone name old new OutOfMemory = Unit {0}
+
+-- the bytes of a witness that isn't too long
+pub record IsWitness (bytes witness : List ℕ) : Type 0 where
+  pub read : bytes ≡ witness
+  pub not_long : too_long_alone witness ≡ None
 
 -- none of them is longer than its limit
 pub record AreWithin (inputs : Inputs) : Type 0 where

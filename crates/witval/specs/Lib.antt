@@ -14,6 +14,7 @@ pub mod ThinPlaces
 pub mod Words
 pub mod Names
 pub mod Inputs
+pub mod Readings
 pub mod Tasks
 pub mod Replies
 pub mod Running

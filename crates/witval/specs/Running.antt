@@ -1,25 +1,35 @@
 -- What the program does with its words, a shelf and a sink.
 use Rattle.std.specs.Prelude.{◌≡◌, ◌≢◌, ◌<◌, ◌-◌, ◌^◌, ℕ, List, take, Some}
 use Rattle.wv_base.specs.Causes.{Rose}
-use Rattle.wv_base.specs.Shelf.{ShelfState, Files}
+use Rattle.wv_base.specs.Shelf.{ShelfState, Files, file_of}
 use Rattle.wv_base.specs.Sink.{SinkState, Gained}
 use Rattle.wv_report.specs.Report.{status_of, text_of}
-use Rattle.wv_report.specs.declared.reply.Reply.{Reply}
-use Rattle.witval.specs.Words.{Command, command_of}
+use Rattle.witval.specs.Words.{Wanted, Validate, Normalise, wanted_by}
 use Rattle.witval.specs.Inputs.{OfFiles}
-use Rattle.witval.specs.Replies.{Right, RightOnBytes}
+use Rattle.witval.specs.Replies.{Right, RightOnBytes, CanonicalOn}
+use Rattle.witval.specs.declared.output.Output.{Output}
+use Rattle.witval.specs.declared.output.Output.TheVariants.{Report, Canonical}
 
--- a right reply, its status, and its whole report
+-- the status and the bytes of an output
+abbrev pub status_by : Output → ℕ
+status_by (Report reply) = status_of reply
+status_by (Canonical text) = 0
+
+abbrev pub bytes_by : Output → List ℕ
+bytes_by (Report reply) = text_of reply
+bytes_by (Canonical text) = text
+
+-- a right output, its status, and all of its bytes
 abbrev pub Replied : List (List ℕ) → ShelfState → ShelfState → SinkState → SinkState → ℕ → Type 0
 Replied words old new before after status =
-    (reply : Reply) × Right (command_of words) old new reply × (status ≡ status_of reply) × Gained before.written after.written (text_of reply)
+    (output : Output) × Right (wanted_by words) old new output × (status ≡ status_by output) × Gained before.written after.written (bytes_by output)
 
--- a right reply, and the first bytes of its report
+-- a right output, and its first bytes
 abbrev pub CutShort : List (List ℕ) → ShelfState → ShelfState → SinkState → SinkState → Type 0
 CutShort words old new before after =
-    (reply : Reply) × (n : ℕ) × Right (command_of words) old new reply × Gained before.written after.written (take n (text_of reply))
+    (output : Output) × (n : ℕ) × Right (wanted_by words) old new output × Gained before.written after.written (take n (bytes_by output))
 
--- status 6 is want of memory, 5 a write fault; each other status is that of a right reply
+-- status 6 is want of memory, 5 a write fault; each other status is that of a right output
 pub record Runs (words : List (List ℕ)) (old new : ShelfState) (before after : SinkState) (status : ℕ) : Type 0 where
   pub same_files : new.files ≡ old.files
   pub memory : status ≡ 6 → after ≡ before
@@ -34,13 +44,19 @@ pub record Undisturbed (old new : ShelfState) (before after : SinkState) : Type 
   pub sink : after.faults ≡ before.faults
   pub sink_below : before.faults < 2 ^ 64 - 1
 
--- what the files call for is answered, with its status and its whole report
-abbrev pub Answered : Command → Files → SinkState → SinkState → ℕ → Type 0
-Answered command files before after status =
-    (reply : Reply) × OfFiles command files (RightOnBytes reply) × (status ≡ status_of reply) × Gained before.written after.written (text_of reply)
+-- what is wanted of files
+abbrev pub CallsFor : Wanted → Files → Output → Type 0
+CallsFor (Validate command) files (Report reply) = OfFiles command files (RightOnBytes reply)
+CallsFor (Validate command) files (Canonical text) = ⊥
+CallsFor (Normalise name) files output = CanonicalOn output (file_of files name)
+
+-- what the files call for is written, with its status
+abbrev pub Answered : Wanted → Files → SinkState → SinkState → ℕ → Type 0
+Answered wanted files before after status =
+    (output : Output) × CallsFor wanted files output × (status ≡ status_by output) × Gained before.written after.written (bytes_by output)
 
 -- over told files, without a fault and with memory, what they call for is answered
 abbrev pub Complete : List (List ℕ) → ShelfState → ShelfState → SinkState → SinkState → ℕ → Type 0
 Complete words old new before after status =
-    (command : Command) (files : Files) → command_of words ≡ Some command → old.files ≡ Some files → Undisturbed old new before after → status ≢ 6
-    → Answered command files before after status
+    (wanted : Wanted) (files : Files) → wanted_by words ≡ Some wanted → old.files ≡ Some files → Undisturbed old new before after → status ≢ 6
+    → Answered wanted files before after status

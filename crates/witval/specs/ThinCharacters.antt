@@ -1,8 +1,6 @@
 -- Classes of characters, and decimal numbers.
 use Rattle.std.specs.Prelude.{ℕ, ◌+◌, ◌-◌, ◌*◌, List, length, slice_index, fold, Bool, ◌&&◌, ◌||◌, not, nat_eq, nat_le, Option, Some, None, if◌then◌else◌}
 use Rattle.std.specs.List.{list_all}
-use Rattle.witval.specs.declared.thin.characters.Class.{Class}
-use Rattle.witval.specs.declared.thin.characters.Class.TheVariants.{Plain, Digit, Signed, Word}
 
 -- the number lies between two others, both included
 abbrev pub between : ℕ → ℕ → ℕ → Bool
@@ -14,12 +12,9 @@ is_digit c = between 48 57 c
 abbrev pub is_letter : ℕ → Bool
 is_letter c = between 65 90 c || between 97 122 c
 
-abbrev pub in_class : Class → ℕ → Bool
--- not `"` nor `\`
-in_class Plain c = between 32 126 c && not (nat_eq c 34) && not (nat_eq c 92)
-in_class Digit c = is_digit c
-in_class Signed c = is_digit c || nat_eq c 45
-in_class Word c = (is_letter c || is_digit c) || nat_eq c 95
+-- letters, digits and `_`
+abbrev pub is_word_part : ℕ → Bool
+is_word_part c = (is_letter c || is_digit c) || nat_eq c 95
 
 -- the value of decimal digits
 abbrev pub decimal : List ℕ → ℕ
@@ -32,3 +27,10 @@ is_decimal text = not (nat_eq (length text) 0) && list_all is_digit text && (nat
 -- the value of a decimal number, where it is one of `int`
 abbrev pub number_of : List ℕ → Option ℕ
 number_of digits = if is_decimal digits && nat_le (decimal digits) 2147483647 then Some (decimal digits) else None
+
+-- a line or column: 1 to 7 digits, and not 0
+abbrev pub is_location : List ℕ → Bool
+is_location text = not (nat_eq (length text) 0) && (nat_le (length text) 7 && (list_all is_digit text && not (nat_eq (decimal text) 0)))
+
+abbrev pub location_of : List ℕ → Option ℕ
+location_of text = if is_location text then Some (decimal text) else None

@@ -4,11 +4,10 @@ use Rattle.std.specs.List.{list_all, list_any, range_with_len}
 use Rattle.std.specs.Bool.{then_some}
 use Rattle.std.specs.Str.{bytes_eq}
 use Rattle.c_core.specs.declared.number.Spot.{Spot}
-use Rattle.witval.specs.declared.thin.characters.Class.TheVariants.{Word}
 use Rattle.witval.specs.declared.thin.grammar.Layout.{Layout}
 use Rattle.witval.specs.declared.thin.grammar.Phrase.{Phrase}
 use Rattle.witval.specs.declared.thin.grammar.Phrase.TheVariants.{Opening, Declaration, Test, Closing, Reserved}
-use Rattle.witval.specs.ThinCharacters.{in_class, is_digit, number_of}
+use Rattle.witval.specs.ThinCharacters.{is_word_part, is_digit, number_of}
 use Rattle.witval.specs.ThinTokens.{TokenAt, tokens_of}
 
 -- phrases of the grammar; `$` stands for a word or number
@@ -91,7 +90,7 @@ names_of ts declarations = map (λ k. text_at ts (declaration_start k + 1)) (ran
 
 -- letters, digits and `_`, the first no digit
 abbrev pub is_word : List ℕ → Bool
-is_word text = not (nat_eq (length text) 0) && not (is_digit (slice_index text 0)) && list_all (in_class Word) text
+is_word text = not (nat_eq (length text) 0) && not (is_digit (slice_index text 0)) && list_all is_word_part text
 
 -- a word that may be declared: no keyword, and no name of a function
 abbrev pub is_name : List ℕ → Bool

@@ -4,8 +4,7 @@ use Rattle.std.specs.List.{prefix_len}
 use Rattle.std.specs.Str.{bytes_eq}
 use Rattle.std.specs.Coded.{Coded, code_by, coded×, coded_ℕ, coded_list}
 use Rattle.c_core.specs.declared.number.Spot.{Spot}
-use Rattle.witval.specs.declared.thin.characters.Class.TheVariants.{Word}
-use Rattle.witval.specs.ThinCharacters.{in_class}
+use Rattle.witval.specs.ThinCharacters.{is_word_part}
 
 -- a token: its text and the place where it begins
 pub record TokenAt : Type 0 where
@@ -24,7 +23,7 @@ is_blank c = nat_eq c 32 || nat_eq c 10
 -- the length of a run of letters, digits and `_`, of the sign `==`, or of one character
 abbrev pub token_length : List ℕ → ℕ
 token_length bytes =
-    let run = prefix_len (in_class Word) bytes in
+    let run = prefix_len is_word_part bytes in
     if nat_lt 0 run then run else if bytes_eq (take 2 bytes) (61 ∷ 61 ∷ []) then 2 else 1
 
 -- the token that begins here, unless it is a blank

@@ -1,5 +1,5 @@
 ghost use Rattle.std.specs.Prelude.{◌≡◌, IfOk, IfErr};
-ghost use Rattle.witval.specs.Inputs.{AreInputs, AreWithin, RightStop, Told};
+ghost use Rattle.witval.specs.Inputs.{AreInputs, AreWithin, IsWitness, RightStop, RightStopAlone, Told, ToldOne};
 ghost use Rattle.witval.specs.Names.{command_in};
 
 use crate::words::Names;
@@ -65,4 +65,18 @@ pub fn read_three<S: Shelf>(alloc: Global, names: &Names<'_>, shelf: &mut S) -> 
         property,
         witness,
     })
+}
+
+/// Reads a witness alone.
+pub fn read_one<S: Shelf>(alloc: Global, name: &str, shelf: &mut S) -> Result<Vec<u8>, Stop>
+    ensures witness { IfOk result (λ bytes. ToldOne name.now (S.state shelf.old) (IsWitness bytes.items)) }
+    ensures stop { IfErr result (RightStopAlone name.now (S.state shelf.old) (S.state shelf.new)) }
+    ensures same_files { (S.state shelf.new).files ≡ (S.state shelf.old).files }
+{
+    match read_all(alloc, shelf, name, LONG) {
+        Ok(bytes) => Ok(bytes),
+        Err(ReadFault::Fault) => Err(Stop::Fault(File::Witness)),
+        Err(ReadFault::TooLong) => Err(Stop::TooLong(File::Witness)),
+        Err(ReadFault::OutOfMemory) => Err(Stop::OutOfMemory),
+    }
 }

@@ -3,10 +3,12 @@
 #![tactic(auto)]
 
 mod answer;
+mod canonical;
 mod examples;
 mod input;
 mod judge;
 mod laws;
+mod output;
 mod refusal;
 mod thin;
 mod top;

@@ -1,6 +1,7 @@
 // The replies other than verdicts.
 ghost use Rattle.std.specs.Prelude.{◌≡◌, IfOk};
 ghost use Rattle.witval.specs.Inputs.{word_of};
+ghost use Rattle.witval.specs.Readings.{IsRefusal};
 ghost use Rattle.witval.specs.Replies.{too_long};
 ghost use Rattle.witval.specs.Tasks.{unbuilt};
 
@@ -8,6 +9,7 @@ use crate::input::File;
 use std::alloc::Global;
 use wv_base::{OutOfMemory, Text};
 use wv_report::Reply;
+use wv_yaml::YamlFault;
 
 fn name(file: File) -> &'static str
     ensures { result.now ≡ word_of file }
@@ -33,6 +35,18 @@ pub fn refuse_unbuilt(alloc: Global, detail: &str) -> Result<Reply, OutOfMemory>
     ensures { IfOk result (λ reply. reply ≡ Reply.Refused unbuilt detail.now) }
 {
     refuse(alloc, "unbuilt", detail)
+}
+
+/// A witness whose bytes are no tree.
+pub fn refuse_yaml(alloc: Global, fault: YamlFault) -> Result<Reply, OutOfMemory>
+    ensures { IfOk result (IsRefusal fault) }
+{
+    match fault {
+        YamlFault::Bytes => refuse(alloc, "yaml-bytes", ""),
+        YamlFault::Grammar => refuse(alloc, "yaml-grammar", ""),
+        YamlFault::Duplicate => refuse(alloc, "yaml-duplicate", ""),
+        YamlFault::OutOfMemory => Err(OutOfMemory),
+    }
 }
 
 /// A file longer than its limit.

@@ -196,6 +196,20 @@ fn what_is_not_served_is_refused_by_name(rt: HostRuntime) -> Result<(), Fail> {
             "- entry_type: 1\n",
             "refused unbuilt witness\n",
         ),
+        (PROGRAM, PROPERTY, "\u{1}", "refused yaml-bytes\n"),
+        (PROGRAM, PROPERTY, "a: [1, 2\n", "refused yaml-grammar\n"),
+        (
+            PROGRAM,
+            PROPERTY,
+            "a: 1\na: 2\n",
+            "refused yaml-duplicate\n",
+        ),
+        (
+            PROGRAM,
+            "CHECK( init(main()), LTL(G ! overflow) )",
+            "a: [1, 2\n",
+            "refused unbuilt property\n",
+        ),
         (
             "int main() { return 0; }\n",
             PROPERTY,
@@ -237,5 +251,79 @@ fn a_long_file_is_refused_by_name(rt: HostRuntime) -> Result<(), Fail> {
     let mut out = MemorySink::new(alloc, 1000, 100)?;
     assert_eq!(rt; run(alloc, &words(alloc)?, &mut shelf, &mut out), 3);
     assert_eq!(rt; out.bytes(), b"refused too-long property\n".as_slice());
+    Ok(())
+}
+
+/// The status and the output of `normalise` for a witness.
+fn normalised(alloc: Global, witness: &str) -> Result<(u8, MemorySink), OutOfMemory> {
+    let mut words = Vec::new(alloc);
+    for word in ["witval", "normalise", "--witness", "w"] {
+        words.push(String::from_str(alloc, word)?)?;
+    }
+    let mut shelf = MemoryShelf::new(alloc, 4096);
+    shelf.put("w", witness.as_bytes())?;
+    let mut out = MemorySink::new(alloc, 1000, 7)?;
+    let status = run(alloc, &words, &mut shelf, &mut out);
+    Ok((status, out))
+}
+
+#[test]
+fn the_canonical_form_is_written(rt: HostRuntime) -> Result<(), Fail> {
+    let alloc = rt.alloc();
+    let cases = [
+        (
+            "---\nk:\n- \"a \\\n   b\"\n- 'it''s'\n- plain\n  text\n",
+            "k:\n  - \"a b\"\n  - \"it's\"\n  - \"plain text\"\n",
+            0,
+        ),
+        (
+            "a: >-\n  x\n  y\n\n  z\nb: |\n  u\nc: [1, {d: 2}]\n",
+            "a: \"x y\\nz\"\nb: \"u\\n\"\nc:\n  - \"1\"\n  - d: \"2\"\n",
+            0,
+        ),
+        ("a: 1\na: 2\n", "refused yaml-duplicate\n", 3),
+        ("a: [1, 2\n", "refused yaml-grammar\n", 3),
+        ("\u{1}", "refused yaml-bytes\n", 3),
+    ];
+    for (witness, written, status) in cases {
+        let (ended, out) = normalised(alloc, witness)?;
+        assert_eq!(rt; ended, status, "{witness}");
+        assert_eq!(rt; out.bytes(), written.as_bytes(), "{witness}");
+    }
+    Ok(())
+}
+
+#[test]
+fn lists_nest_sixty_four_deep(rt: HostRuntime) -> Result<(), Fail> {
+    let alloc = rt.alloc();
+    let open = "[".repeat(alloc, 64)?;
+    let close = "]".repeat(alloc, 64)?;
+    let dashes = "- ".repeat(alloc, 63)?;
+    let (status, out) = normalised(alloc, &format!(in alloc; "{open}{close}")?)?;
+    assert_eq!(rt; status, 0);
+    assert_eq!(rt; out.bytes(), format!(in alloc; "{dashes}[]\n")?.as_bytes());
+    let (status, out) = normalised(alloc, &format!(in alloc; "[{open}{close}]")?)?;
+    assert_eq!(rt; status, 3);
+    assert_eq!(rt; out.bytes(), b"refused yaml-grammar\n".as_slice());
+    Ok(())
+}
+
+#[test]
+fn reading_alone_fails_by_name(rt: HostRuntime) -> Result<(), Fail> {
+    let alloc = rt.alloc();
+    let long = "#".repeat(alloc, 1048577)?;
+    let (status, out) = normalised(alloc, &long)?;
+    assert_eq!(rt; status, 3);
+    assert_eq!(rt; out.bytes(), b"refused too-long witness\n".as_slice());
+    let mut words = Vec::new(alloc);
+    for word in ["witval", "normalise", "--witness", "absent"] {
+        words.push(String::from_str(alloc, word)?)?;
+    }
+    let mut out = MemorySink::new(alloc, 1000, 7)?;
+    assert_eq!(rt;
+        run(alloc, &words, &mut MemoryShelf::new(alloc, 1), &mut out),
+        4
+    );
+    assert_eq!(rt; out.bytes(), b"fault read witness\n".as_slice());
     Ok(())
 }

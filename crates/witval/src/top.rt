@@ -2,26 +2,27 @@ ghost use Rattle.std.specs.Prelude.{map, string_bytes};
 ghost use Rattle.witval.specs.Running.{Complete, Runs};
 
 use crate::answer::answer;
+use crate::output::{bytes_of, status_of};
 use std::alloc::Global;
 use wv_base::{Shelf, Sink, write_all};
-use wv_report::{status, text};
 
-/// All that the program does: it reads the files that the words name, judges, and writes a report.
+/// All that the program does: it reads the files that the words name, judges or brings into canonical form, and writes.
 ///
-/// The status is the reply's, 5 where a write failed, 6 where memory was wanted. The whole report stands in memory
-/// before its first byte is written.
+/// The status is the output's, 5 where a write failed, 6 where memory was wanted. All bytes stand in memory before the
+/// first of them is written.
 pub fn run<S: Shelf, O: Sink>(alloc: Global, words: &Vec<String>, shelf: &mut S, out: &mut O) -> u8
     ensures runs { Runs (map string_bytes words.now.items) (S.state shelf.old) (S.state shelf.new) (O.state out.old) (O.state out.new) result }
     ensures complete { Complete (map string_bytes words.now.items) (S.state shelf.old) (S.state shelf.new) (O.state out.old) (O.state out.new) result }
 {
-    let Ok(reply) = answer(alloc, words, shelf) else {
+    let Ok(output) = answer(alloc, words, shelf) else {
         return 6;
     };
-    let Ok(report) = text(alloc, &reply) else {
+    let status = status_of(&output);
+    let Ok(bytes) = bytes_of(alloc, output) else {
         return 6;
     };
-    match write_all(out, &report) {
-        Ok(()) => status(&reply),
+    match write_all(out, bytes.as_slice()) {
+        Ok(()) => status,
         Err(_) => 5,
     }
 }

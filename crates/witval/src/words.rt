@@ -1,6 +1,6 @@
 ghost use Rattle.std.specs.Prelude.{◌≡◌, ◌<◌, length, map, string_bytes, MatchOption, Some, None};
-ghost use Rattle.witval.specs.Names.{command_in};
-ghost use Rattle.witval.specs.Words.{command_of, word_at};
+ghost use Rattle.witval.specs.Names.{wanted_in};
+ghost use Rattle.witval.specs.Words.{wanted_by, word_at};
 
 /// The names of the input files.
 #[derive(Clone, Copy)]
@@ -10,6 +10,13 @@ pub struct Names<'a> {
     pub witness: &'a str,
 }
 
+/// What the words ask for: a verdict, or the canonical form of a witness.
+#[derive(Clone, Copy)]
+pub enum Request<'a> {
+    Validate(Names<'a>),
+    Normalise(&'a str),
+}
+
 fn word(words: &[String], at: usize) -> &str
     requires { at < length words.now }
     ensures { result.now ≡ word_at (map string_bytes words.now) at }
@@ -17,10 +24,10 @@ fn word(words: &[String], at: usize) -> &str
     words[at].as_str()
 }
 
-/// The names in the words, the first of which is the program's own name.
-pub fn names_of(words: &[String]) -> Option<Names<'_>>
-    ensures { MatchOption result (command_of (map string_bytes words.now) ≡ None)
-        (λ names. command_of (map string_bytes words.now) ≡ Some (command_in names)) }
+/// The request that the words make, the first of which is the program's own name.
+pub fn request_of(words: &[String]) -> Option<Request<'_>>
+    ensures { MatchOption result (wanted_by (map string_bytes words.now) ≡ None)
+        (λ request. wanted_by (map string_bytes words.now) ≡ Some (wanted_in request)) }
 {
     if words.len() == 8
         && word(words, 1) == "validate"
@@ -28,11 +35,14 @@ pub fn names_of(words: &[String]) -> Option<Names<'_>>
         && word(words, 4) == "--property"
         && word(words, 6) == "--witness"
     {
-        return Some(Names {
+        return Some(Request::Validate(Names {
             program: word(words, 3),
             property: word(words, 5),
             witness: word(words, 7),
-        });
+        }));
+    }
+    if words.len() == 4 && word(words, 1) == "normalise" && word(words, 2) == "--witness" {
+        return Some(Request::Normalise(word(words, 3)));
     }
     None
 }

@@ -13,8 +13,8 @@ use Rattle.c_interpreter.proofs.Calling.{call_few_steps, call_no_room, call_all,
 use Rattle.c_interpreter.specs.declared.machine.Typed.{Typed}
 use Rattle.c_interpreter.proofs.Giving.{halted, passed}
 use Rattle.c_interpreter.proofs.Evaluating.{ticked, ticked_target, as_form, as_place, cast_gives, logic_gives, picked_first, picked_second, list_on, list_halted, entered, evals_give}
-use Rattle.c_interpreter.proofs.Executing.{view_of_if, stepped, sequence_halted, sequence_on, sequence_left, chosen, declare_halted, declare_on, initial_stored, introduce_few_steps, introduce_no_room, introduce_all, bodied}
-use Rattle.c_interpreter.proofs.Looping.{while_given, do_given, for_given, while_chosen, for_chosen, rounds_halted, rounds_left, rounds_on, test_done}
+use Rattle.c_interpreter.proofs.Executing.{view_of_if, stepped, sequence_halted, sequence_on, sequence_left, chosen, choice_halts, declare_halted, declare_on, initial_stored, introduce_few_steps, introduce_no_room, introduce_all, bodied}
+use Rattle.c_interpreter.proofs.Looping.{while_given, do_given, for_given, while_chosen, while_halts, for_chosen, rounds_halted, rounds_left, rounds_on, test_done, test_halts}
 use Rattle.c_core.specs.declared.number.IntType.TheVariants.{Int}
 use Rattle.c_interpreter.proofs.Declaring.{values_halted, values_on}
 use Rattle.c_interpreter.proofs.+run.Goals as goal
@@ -106,6 +106,14 @@ expressions::replace-returns-clause-gives g t c =
     let k = rw (to_z-of_z w128 c.in_ok-value.value z, c.type_of.ensures) at (c.store.ensures.gives (type_of (expr_view c.args.from.now)) (g.W.Watcher.seen c.eval.new.watcher)) in
     let q = passed same same c.in_ok-value.value _ _ _ _ (Ok c.store.result) c.in_ok-value.ensures.gives k in
     rw (to_z-of_z w128 c.store.result y) (passed key_of same c.in_ok-key.key _ _ _ _ (Ok c.store.result) c.in_ok-key.ensures.gives q)
+
+pub expressions::update-returns-clause-gives : goal.expressions::update-returns-clause-gives
+expressions::update-returns-clause-gives g t c =
+    let z : SFits w128 c.in_ok-value.value = search rules in
+    let y : SFits w128 c.look-old.result = search rules in
+    let k = rw (to_z-of_z w128 c.in_ok-value.value z, to_z-of_z w128 c.look-old.result y, c.look-old.ensures, c.type_of.ensures, c.type_of-2.ensures) at c.change.ensures.gives in
+    let q = passed same same c.in_ok-value.value _ _ _ _ c.change.result c.in_ok-value.ensures.gives k in
+    passed key_of same c.in_ok-key.key _ _ _ _ c.change.result c.in_ok-key.ensures.gives q
 
 pub expressions::converted-returns-clause-gives : goal.expressions::converted-returns-clause-gives
 expressions::converted-returns-clause-gives g t c =
@@ -222,6 +230,12 @@ statements::sequence-loop-s-preserved g t c =
       value = rw e (sequence_on (program_view c.args.program.now) g.W.Watcher.Seen g.W.Watcher.after c.args.depth c.args.wanted c.args.body.now c.loop-s.s-index c.s-item.result _ _ _ d c.loop-s.invariant.value (rw c.in-Next.is at c.in_ok-flow.ensures.gives));
     }
 
+pub statements::choose-returns-in_err-decide-clause-gives : goal.statements::choose-returns-in_err-decide-clause-gives
+statements::choose-returns-in_err-decide-clause-gives g t c =
+    let e : c.from_residual.result ≡ Err c.in_err-decide.field-0.0 = search rules in
+    rw e (choice_halts (program_view c.args.program.now) g.W.Watcher.Seen g.W.Watcher.after c.args.depth c.args.wanted c.args.at (expr_view c.args.test.now) (stmt_view c.args.yes.now) (else_part c.args.no.now)
+    (state_of c.args.machine.now (g.W.Watcher.seen c.args.watcher.now)) (state_of c.decide.new.machine (g.W.Watcher.seen c.decide.new.watcher)) c.in_err-decide.field-0.0 c.in_err-decide.ensures.gives)
+
 pub statements::choose-returns-then-branch-clause-gives : goal.statements::choose-returns-then-branch-clause-gives
 statements::choose-returns-then-branch-clause-gives g t c =
     let h = rw c.if-branch.true at c.in_ok-decide.ensures.gives in
@@ -261,6 +275,12 @@ statements::turn-returns-in-Do-clause-gives g t c = rw (c.in-Do.is, ← c.deref-
 
 pub statements::turn-returns-in-For-clause-gives : goal.statements::turn-returns-in-For-clause-gives
 statements::turn-returns-in-For-clause-gives g t c = rw (c.in-For.is, ← c.deref-in-For.ensures) c.for_turn.ensures.gives
+
+pub statements::while_turn-returns-in_err-decide-clause-gives : goal.statements::while_turn-returns-in_err-decide-clause-gives
+statements::while_turn-returns-in_err-decide-clause-gives g t c =
+    let e : c.from_residual.result ≡ Err c.in_err-decide.field-0.0 = search rules in
+    rw e (while_halts (program_view c.args.program.now) g.W.Watcher.Seen g.W.Watcher.after c.args.depth c.args.wanted c.args.at (expr_view c.args.test.now) (stmt_view c.args.body.now)
+    (state_of c.args.machine.now (g.W.Watcher.seen c.args.watcher.now)) (state_of c.decide.new.machine (g.W.Watcher.seen c.decide.new.watcher)) c.in_err-decide.field-0.0 c.in_err-decide.ensures.gives)
 
 pub statements::while_turn-returns-then-branch-clause-gives : goal.statements::while_turn-returns-then-branch-clause-gives
 statements::while_turn-returns-then-branch-clause-gives g t c =
@@ -366,6 +386,12 @@ declarations::introduce-returns-clause-gives g t c =
     let x = g.W.Watcher.seen c.args.watcher.now in
     introduce_all p g.W.Watcher.Seen g.W.Watcher.after c.args.depth c.args.at c.args.name.now.spot c.args.name.now.object (init_view c.args.name.now.init) c.size_of_object-size.result c.size_of_object-size.ensures _ _ c.initial.result _ _
     (c.in_ok-ticks.ensures.gives p ACell x) (c.in_ok-room.ensures.gives p x) (rw c.in_ok-add_cells.ensures.cells at c.initial.ensures.gives)
+
+pub full_expressions::test_turn-returns-in_err-decide-clause-gives : goal.full_expressions::test_turn-returns-in_err-decide-clause-gives
+full_expressions::test_turn-returns-in_err-decide-clause-gives g t c =
+    let e : c.from_residual.result ≡ Err c.in_err-decide.field-0.0 = search rules in
+    rw e (test_halts (program_view c.args.program.now) g.W.Watcher.Seen g.W.Watcher.after c.args.depth c.args.at (expr_view c.args.test.now)
+    (state_of c.args.machine.now (g.W.Watcher.seen c.args.watcher.now)) (state_of c.decide.new.machine (g.W.Watcher.seen c.decide.new.watcher)) c.in_err-decide.field-0.0 c.in_err-decide.ensures.gives)
 
 pub full_expressions::test_turn-returns-then-branch-clause-gives : goal.full_expressions::test_turn-returns-then-branch-clause-gives
 full_expressions::test_turn-returns-then-branch-clause-gives g t c =

@@ -1,37 +1,19 @@
 ghost use Rattle.std.specs.Prelude.{◌≡◌, min};
 ghost use Rattle.std.specs.List.{list_all, prefix_len};
-ghost use Rattle.witval.specs.ThinCharacters.{in_class, is_digit, decimal, is_decimal, number_of};
+ghost use Rattle.witval.specs.ThinCharacters.{is_word_part, is_digit, decimal, is_decimal, is_location, location_of, number_of};
 
-/// Classes of characters.
-#[derive(Clone, Copy)]
-pub enum Class {
-    /// U+0020 to U+007E, other than `"` and `\`.
-    Plain,
-    Digit,
-    /// Digits and `-`.
-    Signed,
-    /// Letters, digits and `_`.
-    Word,
-}
-
-impl Class {
-    pub fn has(self, byte: u8) -> bool
-        ensures { result ≡ in_class self byte }
-    {
-        match self {
-            Class::Plain => matches!(byte, b' '..=b'~') && byte != b'"' && byte != b'\\',
-            Class::Digit => byte.is_ascii_digit(),
-            Class::Signed => byte.is_ascii_digit() || byte == b'-',
-            Class::Word => byte.is_ascii_alphanumeric() || byte == b'_',
-        }
-    }
-}
-
-/// How many characters at the front are of the class.
-pub fn run_length(bytes: &[u8], class: Class) -> usize
-    ensures { result ≡ prefix_len (in_class class) bytes.now }
+/// Letters, digits and `_`.
+pub fn is_word_byte(byte: u8) -> bool
+    ensures { result ≡ is_word_part byte }
 {
-    bytes.iter().take_while(|byte| class.has(**byte)).count()
+    byte.is_ascii_alphanumeric() || byte == b'_'
+}
+
+/// How many characters at the front may stand in a word.
+pub fn word_length(bytes: &[u8]) -> usize
+    ensures { result ≡ prefix_len is_word_part bytes.now }
+{
+    bytes.iter().take_while(|byte| is_word_byte(**byte)).count()
 }
 
 fn is_digits(text: &[u8]) -> bool
@@ -74,4 +56,20 @@ pub fn number(text: &[u8]) -> Option<u32>
     } else {
         Some(value as u32)
     }
+}
+
+fn is_line_or_column(text: &[u8]) -> bool
+    ensures { result ≡ is_location text.now }
+{
+    !text.is_empty() && text.len() <= 7 && is_digits(text) && capped_value(text) != 0
+}
+
+/// A line or column: 1 to 7 digits, and not 0.
+pub fn location(text: &[u8]) -> Option<u32>
+    ensures { result ≡ location_of text.now }
+{
+    if !is_line_or_column(text) {
+        return None;
+    }
+    Some(capped_value(text) as u32)
 }

@@ -1,4 +1,4 @@
-ghost use Rattle.std.specs.Prelude.{◌≡◌, IfOk, true};
+ghost use Rattle.std.specs.Prelude.{◌≡◌, IfOk, IsTrue, true};
 ghost use Rattle.c_core.specs.Tree as tree;
 ghost use Rattle.c_core.specs.Thin.{is_thin};
 ghost use Rattle.c_core.specs.View.{program_view, expr_view, names_view, stmt_view, stmts_view};
@@ -130,13 +130,14 @@ fn given_to_all(
     Ok(given)
 }
 
-/// The values that a witness gives to the input calls of a program: its value to the call that ends
+/// The values that a witness gives to the input calls of a thin program: its value to the call that ends
 /// where the witness says.
 pub fn choices(
     alloc: Global,
     program: &Program,
     witness: &ThinWitness,
 ) -> Result<Choices, OutOfMemory>
+    requires { IsTrue (is_thin (program_view program.now)) }
     ensures { IfOk result (λ choices. choices ≡ given_by (program_view program.now) (segments_of witness.now)) }
 {
     let statements = main_statements(program);

@@ -1,4 +1,5 @@
-ghost use Rattle.std.specs.Prelude.{◌≡◌, IfOk};
+ghost use Rattle.std.specs.Prelude.{◌≡◌, IfOk, IsTrue};
+ghost use Rattle.c_core.specs.Thin.{is_thin};
 ghost use Rattle.c_core.specs.View.{program_view};
 ghost use Rattle.witval.specs.Tasks.{IsRightVerdict};
 ghost use Rattle.witval.specs.ThinPlaces.{segments_of};
@@ -16,12 +17,13 @@ use wv_base::{OutOfMemory, Seq};
 /// The default budget.
 const STEPS: u64 = 10_000_000;
 
-/// The verdict on the given run of a thin witness.
+/// The verdict on the given run of a thin program and witness.
 pub fn judge_violation(
     alloc: Global,
     program: &Program,
     witness: &ThinWitness,
 ) -> Result<Verdict, OutOfMemory>
+    requires { IsTrue (is_thin (program_view program.now)) }
     ensures { IfOk result (IsRightVerdict (program_view program.now) (segments_of witness.now)) }
 {
     let choices = choices(alloc, program, witness)?;

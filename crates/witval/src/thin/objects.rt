@@ -2,11 +2,11 @@ ghost use Rattle.std.specs.Prelude.{◌≡◌, ℕ, List, [], ◌^◌, ◌<◌, 
 ghost use Rattle.std.specs.List.{list_all, list_any};
 ghost use Rattle.std.specs.Map.{update};
 ghost use Rattle.std.specs.Str.{bytes_eq};
-ghost use Rattle.witval.specs.ThinCharacters.{in_class};
+ghost use Rattle.witval.specs.ThinCharacters.{is_word_part};
 ghost use Rattle.witval.specs.ThinGrammar.{is_name, is_word, names_fit, names_of, tokens_in};
 ghost use Rattle.witval.specs.ThinObjects.{AreObjects, int_object, number_in};
 
-use crate::thin::characters::Class;
+use crate::thin::characters::is_word_byte;
 use crate::thin::grammar::{Phrase, declaration_at, spot, text};
 use crate::thin::tokens::Token;
 use c_core::{IntType, Object, Spot};
@@ -22,9 +22,9 @@ pub struct Objects<'a> {
 }
 
 fn is_word_run(text: &[u8]) -> bool
-    ensures { result ≡ list_all (in_class Class.Word) text.now }
+    ensures { result ≡ list_all is_word_part text.now }
 {
-    text.iter().all(|byte| Class::Word.has(*byte))
+    text.iter().all(|byte| is_word_byte(*byte))
 }
 
 /// Letters, digits and `_`, the first no digit.

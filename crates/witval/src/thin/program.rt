@@ -1,5 +1,6 @@
 ghost use Rattle.std.specs.Prelude.{◌≡◌, ◌^◌, ◌<◌, ◌≤◌, length, map, IfOk, IfSome, IsTrue, MatchOption, None, Some};
 ghost use Rattle.c_core.specs.TextOrder.{rises};
+ghost use Rattle.c_core.specs.Thin.{is_thin};
 ghost use Rattle.c_core.specs.View.{function_view, program_view, stmt_view};
 ghost use Rattle.witval.specs.ThinGrammar.{is_consistent, layout_of};
 ghost use Rattle.witval.specs.ThinObjects.{AreObjects};
@@ -62,7 +63,8 @@ fn build(
     requires consistent { IsTrue (is_consistent tokens.now layout) }
     requires declarations { layout.declarations < 2 ^ 20 }
     requires tests { layout.tests < 2 ^ 20 }
-    ensures { IfOk result (λ program. program_view program ≡ program_tree tokens.now layout) }
+    ensures tree { IfOk result (λ program. program_view program ≡ program_tree tokens.now layout) }
+    ensures thin { IfOk result (λ program. IsTrue (is_thin (program_view program))) }
 {
     let Objects { objects, numbers } = found;
     let statements = main_statements(alloc, tokens, layout, &numbers)?;
@@ -86,6 +88,7 @@ pub fn read_program(
 ) -> Result<Option<Reading>, OutOfMemory>
     requires { length bytes.now ≤ 1048576 }
     ensures program { IfOk result (λ r. MatchOption r (thin_program bytes.now ≡ None) (λ r. thin_program bytes.now ≡ Some (program_view r.program))) }
+    ensures thin { IfOk result (λ r. IfSome r (λ r. IsTrue (is_thin (program_view r.program)))) }
     ensures placed { IfOk result (λ r. IfSome r (λ r. r.placed ≡ is_placed (program_view r.program) witness.now)) }
 {
     let tokens = read_tokens(alloc, bytes)?;

@@ -1,7 +1,7 @@
 ghost use Rattle.std.specs.Prelude.{◌≡◌, ◌≤◌, ◌<◌, length, IfOk};
 ghost use Rattle.witval.specs.ThinTokens.{token_length, tokens_of};
 
-use crate::thin::characters::{Class, run_length};
+use crate::thin::characters::word_length;
 use c_core::Spot;
 use std::alloc::Global;
 use std::marker::Model;
@@ -45,7 +45,7 @@ fn length_at_front(bytes: &[u8]) -> usize
     ensures some { 0 < result }
     ensures within { result ≤ length bytes.now }
 {
-    let run = run_length(bytes, Class::Word);
+    let run = word_length(bytes);
     if run > 0 {
         return run;
     }

@@ -1,10 +1,9 @@
-ghost use Rattle.std.specs.Prelude.{◌≡◌, IfOk};
-ghost use Rattle.witval.specs.ThinWitness.{class_of, constant_of, fits, free_of, front_of, location_of, parts_of, spot_of, template, text_at, thin_witness, witness_of};
+ghost use Rattle.std.specs.Prelude.{◌≡◌, None, Some, MatchOption};
+ghost use Rattle.witval.specs.ThinWitness.{are_files, are_metadata_fields, are_producer_fields, are_task_fields, call_in, constant_of, constraint_in, content_in, entry_in, followed_at, has_key, has_text, has_this, is_identity, is_metadata, is_one_file, is_producer, is_setting, is_task, is_text, is_this, items_of, location_at, only_item, only_value, pairs_of, returned_in, spot_in, target_in, text_of, thin_witness, waypoint_in};
 
-use crate::thin::characters::{Class, number, run_length};
+use crate::thin::characters::{location, number};
 use c_core::Spot;
-use std::alloc::Global;
-use wv_base::{OutOfMemory, Seq};
+use wv_yaml::{Pair, Tree};
 
 /// What the thin witness says: which value the call that ends at a place returned, and where the
 /// target stands.
@@ -15,102 +14,109 @@ pub struct ThinWitness {
     pub target: Spot,
 }
 
-/// The kinds of free parts, by their mark in the template.
-#[derive(Clone, Copy)]
-pub enum Free {
-    /// `$`: text of any length.
-    Text,
-    /// `#`: a line or column of 1 to 7 digits.
-    Location,
-    /// `%`: an optional `-` and an `int`.
-    Constant,
+/// The items of a list; of anything else none.
+fn items_of(tree: &Tree) -> &[Tree]
+    ensures { result.now ≡ items_of tree.now }
+{
+    match tree {
+        Tree::List(items) => items.as_slice(),
+        _ => &[],
+    }
 }
 
-/// The text of a thin witness; a mark stands for each free part.
-const TEMPLATE: &str = r#"- entry_type: "violation_sequence"
-  metadata:
-    format_version: "2.0"
-    uuid: "$"
-    creation_time: "$"
-    producer:
-      name: "$"
-      version: "$"
-    task:
-      input_files:
-        - "$"
-      input_file_hashes:
-        "$": "$"
-      specification: "G ! call(reach_error())"
-      data_model: "ILP32"
-      language: "C"
-  content:
-    - segment:
-        - waypoint:
-            type: "function_return"
-            action: "follow"
-            location:
-              line: #
-              column: #
-            constraint:
-              value: "\\result == %"
-              format: "c_expression"
-    - segment:
-        - waypoint:
-            type: "target"
-            action: "follow"
-            location:
-              line: #
-              column: #
-"#;
-
-fn template_text() -> &'static [u8]
-    ensures { result.now ≡ template }
+/// The pairs of a map; of anything else none.
+fn pairs_of(tree: &Tree) -> &[Pair]
+    ensures { result.now ≡ pairs_of tree.now }
 {
-    TEMPLATE.as_bytes()
+    match tree {
+        Tree::Map(pairs) => pairs.as_slice(),
+        _ => &[],
+    }
 }
 
-/// The free part that a character of the template stands for.
-fn free_part(mark: u8) -> Option<Free>
-    ensures { result ≡ free_of mark }
+fn text_of(tree: &Tree) -> Option<&str>
+    ensures { MatchOption result (text_of tree.now ≡ None) (λ text. text_of tree.now ≡ Some text.now) }
 {
-    match mark {
-        b'$' => Some(Free::Text),
-        b'#' => Some(Free::Location),
-        b'%' => Some(Free::Constant),
+    match tree {
+        Tree::Text(text) => Some(text.as_str()),
         _ => None,
     }
 }
 
-impl Free {
-    fn class(self) -> Class
-        ensures { result ≡ class_of self }
-    {
-        match self {
-            Free::Text => Class::Plain,
-            Free::Location => Class::Digit,
-            Free::Constant => Class::Signed,
-        }
-    }
+fn is_text(tree: &Tree) -> bool
+    ensures { result ≡ is_text tree.now }
+{
+    text_of(tree).is_some()
+}
 
-    fn is_met(self, text: &[u8]) -> bool
-        ensures { result ≡ fits self text.now }
-    {
-        match self {
-            Free::Text => true,
-            Free::Location => location(text).is_some(),
-            Free::Constant => constant(text).is_some(),
-        }
+fn is_this(word: &str, tree: &Tree) -> bool
+    ensures { result ≡ is_this word.now tree.now }
+{
+    match tree {
+        Tree::Text(text) => text.as_str() == word,
+        _ => false,
     }
 }
 
-/// A line or column.
-fn location(text: &[u8]) -> Option<u32>
-    ensures { result ≡ location_of text.now }
+fn has_key(key: &str, pair: &Pair) -> bool
+    ensures { result ≡ has_key key.now pair.now }
 {
-    if text.len() > 7 || text == b"0".as_slice() {
+    pair.key.as_str() == key
+}
+
+fn has_text(key: &str, pair: &Pair) -> bool
+    ensures { result ≡ has_text key.now pair.now }
+{
+    has_key(key, pair) && is_text(&pair.value)
+}
+
+fn has_this(key: &str, word: &str, pair: &Pair) -> bool
+    ensures { result ≡ has_this key.now word.now pair.now }
+{
+    has_key(key, pair) && is_this(word, &pair.value)
+}
+
+fn only_item(items: &[Tree]) -> Option<&Tree>
+    ensures { MatchOption result (only_item items.now ≡ None) (λ item. only_item items.now ≡ Some item.now) }
+{
+    match items {
+        [item] => Some(item),
+        _ => None,
+    }
+}
+
+fn only_value<'a>(key: &str, pairs: &'a [Pair]) -> Option<&'a Tree>
+    ensures { MatchOption result (only_value key.now pairs.now ≡ None) (λ value. only_value key.now pairs.now ≡ Some value.now) }
+{
+    match pairs {
+        [pair] if has_key(key, pair) => Some(&pair.value),
+        _ => None,
+    }
+}
+
+/// The line or column behind a key.
+fn location_at(key: &str, pair: &Pair) -> Option<u32>
+    ensures { result ≡ location_at key.now pair.now }
+{
+    if !has_key(key, pair) {
         return None;
     }
-    number(text)
+    match text_of(&pair.value) {
+        Some(text) => location(text.as_bytes()),
+        None => None,
+    }
+}
+
+fn spot_in(pairs: &[Pair]) -> Option<Spot>
+    ensures { result ≡ spot_in pairs.now }
+{
+    match pairs {
+        [line, column] => Some(Spot {
+            line: location_at("line", line)?,
+            column: location_at("column", column)?,
+        }),
+        _ => None,
+    }
 }
 
 /// A signed constant.
@@ -123,80 +129,196 @@ fn constant(text: &[u8]) -> Option<i32>
     }
 }
 
-/// The characters of a free part at the front, as far as they go.
-fn front(free: Free, bytes: &[u8]) -> &[u8]
-    ensures { result.now ≡ front_of free bytes.now }
-{
-    &bytes[..run_length(bytes, free.class())]
-}
+/// What stands before the constant.
+const RESULT_IS: &[u8] = b"\\result == ";
 
-/// The free parts, in order, of bytes that fill a template.
-fn free_parts(
-    alloc: Global,
-    template: &[u8],
-    bytes: &[u8],
-) -> Result<Option<Seq<Seq<u8>>>, OutOfMemory>
-    ensures { IfOk result (λ parts. parts ≡ parts_of template.now bytes.now) }
+fn returned_in(text: &[u8]) -> Option<i32>
+    ensures { result ≡ returned_in text.now }
 {
-    let mut parts = Seq::new(alloc);
-    let mut rest = bytes;
-    for mark in template {
-        let Some(free) = free_part(*mark) else {
-            if !rest.is_empty() && rest[0] == *mark {
-                rest = &rest[1..];
-                continue;
-            }
-            return Ok(None);
-        };
-        let text = front(free, rest);
-        if !free.is_met(text) {
-            return Ok(None);
-        }
-        parts.push(Seq::from_vec(text.to_vec(alloc)?))?;
-        rest = &rest[text.len()..];
-    }
-    Ok(rest.is_empty().then_some(parts))
-}
-
-fn part(parts: &Seq<Seq<u8>>, at: usize) -> &[u8]
-    ensures { result.now ≡ text_at parts.now at }
-{
-    match parts.get(at) {
-        Some(text) => text.as_slice(),
-        None => &[],
-    }
-}
-
-fn spot(parts: &Seq<Seq<u8>>, line: usize, column: usize) -> Spot
-    ensures { result ≡ spot_of parts.now line column }
-{
-    Spot {
-        line: location(part(parts, line)).unwrap_or(0),
-        column: location(part(parts, column)).unwrap_or(0),
-    }
-}
-
-fn from_parts(parts: &Seq<Seq<u8>>) -> Option<ThinWitness>
-    ensures { result ≡ witness_of parts.now }
-{
-    let file = part(parts, 4);
-    if file != part(parts, 5) || file.len() > 1024 {
+    if text.len() < 11 || &text[..11] != RESULT_IS {
         return None;
     }
-    Some(ThinWitness {
-        close: spot(parts, 7, 8),
-        value: constant(part(parts, 9)).unwrap_or(0),
-        target: spot(parts, 10, 11),
-    })
+    constant(&text[11..])
 }
 
-/// Reads a thin witness; `None` where the bytes are none.
-pub fn read_witness(alloc: Global, bytes: &[u8]) -> Result<Option<ThinWitness>, OutOfMemory>
-    ensures { IfOk result (λ witness. witness ≡ thin_witness bytes.now) }
+fn constraint_in(pairs: &[Pair]) -> Option<i32>
+    ensures { result ≡ constraint_in pairs.now }
 {
-    let parts = free_parts(alloc, template_text(), bytes)?;
-    Ok(match parts {
-        Some(parts) => from_parts(&parts),
-        None => None,
-    })
+    match pairs {
+        [value, format] if has_key("value", value) && has_this("format", "c_expression", format) =>
+            {
+                match text_of(&value.value) {
+                    Some(text) => returned_in(text.as_bytes()),
+                    None => None,
+                }
+            }
+        _ => None,
+    }
+}
+
+/// The place of a waypoint of this type that is followed.
+fn followed_at(word: &str, kind: &Pair, action: &Pair, location: &Pair) -> Option<Spot>
+    ensures { result ≡ followed_at word.now kind.now action.now location.now }
+{
+    if !(has_this("type", word, kind)
+        && has_this("action", "follow", action)
+        && has_key("location", location))
+    {
+        return None;
+    }
+    spot_in(pairs_of(&location.value))
+}
+
+/// Where a call ends, and what it returns.
+fn call_in(pairs: &[Pair]) -> Option<(Spot, i32)>
+    ensures { result ≡ call_in pairs.now }
+{
+    match pairs {
+        [kind, action, location, constraint] if has_key("constraint", constraint) => {
+            let close = followed_at("function_return", kind, action, location)?;
+            let value = constraint_in(pairs_of(&constraint.value))?;
+            Some((close, value))
+        }
+        _ => None,
+    }
+}
+
+fn target_in(pairs: &[Pair]) -> Option<Spot>
+    ensures { result ≡ target_in pairs.now }
+{
+    match pairs {
+        [kind, action, location] => followed_at("target", kind, action, location),
+        _ => None,
+    }
+}
+
+/// The waypoint of a segment that has one.
+fn waypoint_in(item: &Tree) -> Option<&Tree>
+    ensures { MatchOption result (waypoint_in item.now ≡ None) (λ waypoint. waypoint_in item.now ≡ Some waypoint.now) }
+{
+    let segment = only_value("segment", pairs_of(item))?;
+    let step = only_item(items_of(segment))?;
+    only_value("waypoint", pairs_of(step))
+}
+
+fn content_in(items: &[Tree]) -> Option<ThinWitness>
+    ensures { result ≡ content_in items.now }
+{
+    match items {
+        [first, second] => {
+            let (close, value) = call_in(pairs_of(waypoint_in(first)?))?;
+            let target = target_in(pairs_of(waypoint_in(second)?))?;
+            Some(ThinWitness {
+                close,
+                value,
+                target,
+            })
+        }
+        _ => None,
+    }
+}
+
+fn are_producer_fields(pairs: &[Pair]) -> bool
+    ensures { result ≡ are_producer_fields pairs.now }
+{
+    match pairs {
+        [name, version] => has_text("name", name) && has_text("version", version),
+        _ => false,
+    }
+}
+
+fn is_producer(pair: &Pair) -> bool
+    ensures { result ≡ is_producer pair.now }
+{
+    has_key("producer", pair) && are_producer_fields(pairs_of(&pair.value))
+}
+
+/// Whether there is one file, and its hash.
+fn is_one_file(files: &[Tree], hashes: &[Pair]) -> bool
+    ensures { result ≡ is_one_file files.now hashes.now }
+{
+    match (files, hashes) {
+        ([file], [hash]) => is_this(hash.key.as_str(), file) && is_text(&hash.value),
+        _ => false,
+    }
+}
+
+fn are_files(files: &Pair, hashes: &Pair) -> bool
+    ensures { result ≡ are_files files.now hashes.now }
+{
+    has_key("input_files", files)
+        && has_key("input_file_hashes", hashes)
+        && is_one_file(items_of(&files.value), pairs_of(&hashes.value))
+}
+
+/// Whether the witness is about unreach-call, 32 bits and C.
+fn is_setting(specification: &Pair, model: &Pair, language: &Pair) -> bool
+    ensures { result ≡ is_setting specification.now model.now language.now }
+{
+    has_this("specification", "G ! call(reach_error())", specification)
+        && has_this("data_model", "ILP32", model)
+        && has_this("language", "C", language)
+}
+
+fn are_task_fields(pairs: &[Pair]) -> bool
+    ensures { result ≡ are_task_fields pairs.now }
+{
+    match pairs {
+        [files, hashes, specification, model, language] => {
+            are_files(files, hashes) && is_setting(specification, model, language)
+        }
+        _ => false,
+    }
+}
+
+fn is_task(pair: &Pair) -> bool
+    ensures { result ≡ is_task pair.now }
+{
+    has_key("task", pair) && are_task_fields(pairs_of(&pair.value))
+}
+
+/// Whether the format, the identifier and the creation time are there.
+fn is_identity(version: &Pair, identifier: &Pair, time: &Pair) -> bool
+    ensures { result ≡ is_identity version.now identifier.now time.now }
+{
+    has_this("format_version", "2.0", version)
+        && has_text("uuid", identifier)
+        && has_text("creation_time", time)
+}
+
+fn are_metadata_fields(pairs: &[Pair]) -> bool
+    ensures { result ≡ are_metadata_fields pairs.now }
+{
+    match pairs {
+        [version, identifier, time, producer, task] => {
+            is_identity(version, identifier, time) && is_producer(producer) && is_task(task)
+        }
+        _ => false,
+    }
+}
+
+fn is_metadata(pair: &Pair) -> bool
+    ensures { result ≡ is_metadata pair.now }
+{
+    has_key("metadata", pair) && are_metadata_fields(pairs_of(&pair.value))
+}
+
+fn entry_in(pairs: &[Pair]) -> Option<ThinWitness>
+    ensures { result ≡ entry_in pairs.now }
+{
+    match pairs {
+        [kind, metadata, content]
+            if has_this("entry_type", "violation_sequence", kind)
+                && is_metadata(metadata)
+                && has_key("content", content) => { content_in(items_of(&content.value)) }
+        _ => None,
+    }
+}
+
+/// What a thin witness says; `None` where the tree is none.
+pub fn read_witness(tree: &Tree) -> Option<ThinWitness>
+    ensures { result ≡ thin_witness tree.now }
+{
+    let entry = only_item(items_of(tree))?;
+    entry_in(pairs_of(entry))
 }

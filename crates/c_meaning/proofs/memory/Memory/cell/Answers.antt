@@ -3,7 +3,7 @@ use mir.Val.{SFits}
 use mir.Syntax.{w128}
 use Rattle.std.proofs.lemmas.Int.{to_z-of_z}
 use Rattle.c_meaning.specs.Cells.{Key}
-use Rattle.c_meaning.specs.Memory.{cell_of, cells_of, IsInnermost}
+use Rattle.c_meaning.specs.Memory.{cell_of, cells_of}
 use Rattle.c_meaning.proofs.Innermost.{cell_at, found_at, found_none, length_cells}
 use Rattle.c_meaning.proofs.memory.Memory.cell.Goals as goal
 

@@ -1,48 +1,22 @@
-use Rattle.std.proofs.Common.{◌≡◌, ◌<◌, ◌-◌, suc, false, length, drop, sym, ◌∙◌, ap, rules, arith, get_or}
-use Rattle.c_meaning.specs.Cells.{Key, same_key, live}
-use Rattle.c_meaning.specs.Memory.{cell_of, cells_of, IsInnermost, no_cell}
-use Rattle.c_meaning.proofs.Innermost.{cell_at, none_from, none_past, length_cells}
+use Rattle.std.proofs.Common.{◌≡◌, length, vec_len, None, ap, subst, ◌∙◌, rules, arith}
+use Rattle.std.proofs.lemmas.List.{get_or_read}
+use Rattle.c_meaning.specs.Cells.{Key}
+use Rattle.c_meaning.specs.Slots.{names_of, place_of, place_in, slot, Ends}
+use Rattle.c_meaning.proofs.Tables.{kept_free, kept_found, names_length, located}
 use Rattle.c_meaning.proofs.memory.Memory.find.Goals as goal
 
-pub loop-from-init : goal.loop-from-init
-loop-from-init c =
-    let e : c.len-from.result ≡ length c.self.inside.cells.items = search rules in
-    record {
-      within = omega arith;
-      none = none_past _ (cells_of c.self.inside.cells.items) c.len-from.result (omega (arith, length_cells c.self.inside.cells.items));
-    }
-
-pub loop-from-preserved : goal.loop-from-preserved
-loop-from-preserved c =
-    let k : Key = record { object = c.args.object; index = c.args.index } in
-    let items = c.self.inside.cells.items in
-    let i = c.loop-from.from - 1 in
-    let e : suc i ≡ c.loop-from.from = omega arith in
-    let below : i < length items = omega (arith, c.loop-from.invariant.within) in
-    let there = cell_at items i c.index.result.now below in
-    record {
-      within = omega (arith, c.loop-from.invariant.within);
-      none = none_from k (cells_of items) i (omega (arith, length_cells items))
-          (ap (λ (d : _). same_key d.key k) (there ∙ ap cell_of (sym c.index.ensures)) ∙ sym c.is_at.ensures ∙ c.if-is_at.false)
-          (ap (λ n. live k (drop n (cells_of items))) e ∙ c.loop-from.invariant.none);
-    }
-
-pub returns-then-is_at : goal.returns-then-is_at
-returns-then-is_at c =
-    let k : Key = record { object = c.args.object; index = c.args.index } in
-    let items = c.self.inside.cells.items in
-    let i = c.loop-from.from - 1 in
-    let e : suc i ≡ c.loop-from.from = omega arith in
-    let below : i < length items = omega (arith, c.loop-from.invariant.within) in
-    let there = cell_at items i c.index.result.now below in
-    rw (← c.self.view_is) (record {
-      within = omega (arith, length_cells items);
-      here = ap (λ (d : _). same_key d.key k) (there ∙ ap cell_of (sym c.index.ensures)) ∙ sym c.is_at.ensures ∙ c.if-is_at.true;
-      none_behind = ap (λ n. live k (drop n (cells_of items))) e ∙ c.loop-from.invariant.none;
-    })
+pub seek-at-requires : goal.seek-at-requires
+seek-at-requires c =
+    let cells = c.self.inside.cells.items in
+    let e : vec_len c.self.inside.cells ≡ length cells = search rules in
+    rw c.as_slice.ensures.value (kept_free (names_of cells) c.self.inside.slots.items c.self.invariant.0 (omega (arith, c.self.invariant.0.half, names_length cells, e, c.len.ensures)))
 
 pub returns : goal.returns
 returns c =
-    let e : c.loop-from.from ≡ 0 = omega arith in
     let k : Key = record { object = c.args.object; index = c.args.index } in
-    rw (← c.self.view_is) (ap (λ n. live k (drop n (cells_of c.self.inside.cells.items))) (sym e) ∙ c.loop-from.invariant.none)
+    let cells = c.self.inside.cells.items in
+    let slots = c.self.inside.slots.items in
+    let ends : Ends k (length slots) slots c.seek-at.result = subst (λ t. Ends k (length t) t c.seek-at.result) c.as_slice.ensures.value c.seek-at.ensures in
+    let there : c.index.result.now ≡ slot slots c.seek-at.result = get_or_read slots c.seek-at.result c.index.result.now ends.within c.index.ensures None in
+    let place : c.place_in.result ≡ place_of k (names_of cells) = c.place_in.ensures ∙ ap place_in there ∙ kept_found (names_of cells) slots k c.seek-at.result c.self.invariant.0 ends in
+    rw (place, ← c.self.view_is) (located k cells)

@@ -8,5 +8,5 @@ pub returns : goal.returns
 returns c =
     let p = program_view c.args.program.now in
     judged_by p c.args.witness.now c.in_ok-choices.choices c.in_ok-run.run' c.new-tracker.result c.run_plain.new.watcher c.in_ok-verdict.verdict
-    (returns_as_int p c.args.witness.now c.args.program.now.thin)
+    (returns_as_int p c.args.witness.now c.requires)
     c.in_ok-choices.ensures c.in_ok-run.ensures.run c.new-tracker.ensures c.in_ok-run.ensures.seen c.in_ok-verdict.ensures

@@ -26,11 +26,11 @@ returns-clause-program c =
     let names : names_fit [] (names_of c.deref-2.result.now c.in-Some.layout.declarations) ≡ true = told.names in
     let tests : tests_fit (names_of c.deref-3.result.now c.in-Some.layout.declarations) c.deref-3.result.now c.in-Some.layout ≡ true = search rules in
     let fits = consistent-from ts c.deref-2.result.now c.deref-3.result.now c.in-Some.layout objects_in tests_in few names tests in
-    program-found c.args.bytes.now ts c.in-Some.layout c.in_ok-layout.field-0 _ read laid is fits c.in_ok-program.ensures
+    program-found c.args.bytes.now ts c.in-Some.layout c.in_ok-layout.field-0 _ read laid is fits c.in_ok-program.ensures.tree
 
 pub returns-clause-placed : goal.returns-clause-placed
 returns-clause-placed c =
     let same : c.deref-4.result.now ≡ c.deref-5.result.now = search rules in
     let stands_there : c.stands_in_program-placed.result ≡ stands c.deref-5.result.now c.in-Some.layout c.args.witness.now =
     c.stands_in_program-placed.ensures ∙ ap (λ ts. stands ts c.in-Some.layout c.args.witness.now) same in
-    placed-built c.deref-5.result.now c.in-Some.layout c.args.witness.now _ c.stands_in_program-placed.result stands_there c.in_ok-program.ensures
+    placed-built c.deref-5.result.now c.in-Some.layout c.args.witness.now _ c.stands_in_program-placed.result stands_there c.in_ok-program.ensures.tree
