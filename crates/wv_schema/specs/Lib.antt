@@ -1,0 +1,9 @@
+pub mod Paths
+pub mod Table
+pub mod Judging
+pub mod Values
+pub mod Shapes
+pub mod Schema
+pub mod Canonical
+pub mod Rules
+pub mod Examples
