@@ -1,0 +1,12 @@
+mod SignLaws
+mod WordLaws
+mod Complete
+mod BracketLaws
+mod DeclarationLaws
+mod Begins
+mod StatementLaws
+mod StatementKnot
+mod ItemLaws
+mod ClosedLaws
+mod SourceLaws
+mod SpelledExamples
