@@ -1,0 +1,79 @@
+-- The witness of a tree, or the first rule of the schema that isn't met.
+use Rattle.std.specs.Prelude.{◌≡◌, ℕ, List, [], ◌∷◌, ◌++◌, Bool, true, false, map, Option, Some, None, Result, Ok, Err, codes}
+use Rattle.std.specs.Option.{option_or}
+use Rattle.wv_yaml.specs.declared.tree.Tree.{Tree}
+use Rattle.wv_yaml.specs.declared.tree.Pair.{Pair}
+use Rattle.wv_schema.specs.declared.fault.SchemaFault.{SchemaFault}
+use Rattle.wv_schema.specs.declared.fault.SchemaFault.TheVariants.{Missing, WrongKind, BadValue, Version, Shape, Entries, OutOfMemory}
+use Rattle.wv_schema.specs.declared.witness.WayKind.{WayKind}
+use Rattle.wv_schema.specs.declared.witness.Witness.{Witness}
+use Rattle.wv_schema.specs.Paths.{items_in, pairs_in, key_place}
+use Rattle.wv_schema.specs.Table.{Row, AMap, needs, within, entry_rows, segment_rows, waypoint_rows, constraint_rows, invariant_rows}
+use Rattle.wv_schema.specs.Judging.{first_fault, rows_fault, items_fault}
+use Rattle.wv_schema.specs.Values.{list_at, map_at, all_pairs, kind_at, steps_in, is_violation, entry_in, witness_in}
+use Rattle.wv_schema.specs.Shapes.{shape_fault, entries_fault}
+
+-- the rows of a waypoint's map, and of an item of a segment that holds it
+unfoldable pub way_rows : List Pair → List Row
+way_rows ps = waypoint_rows ++ constraint_rows (kind_at ps)
+
+unfoldable pub step_rows : List Pair → List Row
+step_rows ps = needs (codes "waypoint") AMap ∷ within (codes "waypoint") (way_rows (map_at (codes "waypoint") ps))
+
+unfoldable pub claim_rows : List Pair → List Row
+claim_rows ps = needs (codes "invariant") AMap ∷ within (codes "invariant") invariant_rows
+
+unfoldable pub step_fault : List ℕ → Tree → Option SchemaFault
+step_fault at t = rows_fault at step_rows (pairs_in t)
+
+unfoldable pub segment_fault : List ℕ → Tree → Option SchemaFault
+segment_fault at t =
+    option_or (rows_fault at (λ ps. segment_rows) (pairs_in t)) (items_fault step_fault (key_place at (codes "segment")) 0 (steps_in t))
+
+unfoldable pub claim_fault : List ℕ → Tree → Option SchemaFault
+claim_fault at t = rows_fault at claim_rows (pairs_in t)
+
+-- the fields of the content's items, and then the form of the segments
+unfoldable pub content_fault : List ℕ → Bool → List Tree → Option SchemaFault
+content_fault at true ts = option_or (items_fault segment_fault at 0 ts) (shape_fault ts)
+content_fault at false ts = items_fault claim_fault at 0 ts
+
+unfoldable pub entry_fault : List ℕ → Tree → Option SchemaFault
+entry_fault at t =
+    option_or (rows_fault at (λ ps. entry_rows) (pairs_in t))
+    (content_fault (key_place at (codes "content")) (is_violation (all_pairs t)) (list_at (codes "content") (all_pairs t)))
+
+-- entry by entry, and then the form of the whole
+abbrev pub fault_of_items : Option (List Tree) → Option SchemaFault
+fault_of_items None = Some (WrongKind (codes "witness"))
+fault_of_items (Some ts) = option_or (items_fault entry_fault [] 0 ts) (entries_fault (map entry_in ts))
+
+unfoldable pub schema_fault : Tree → Option SchemaFault
+schema_fault t = fault_of_items (items_in t)
+
+-- A refusal says what isn't met; want of memory is free.
+abbrev pub Fails : SchemaFault → Option SchemaFault → Type 0
+Fails (Missing path) fault = fault ≡ Some (Missing path)
+Fails (WrongKind path) fault = fault ≡ Some (WrongKind path)
+Fails (BadValue path) fault = fault ≡ Some (BadValue path)
+Fails Version fault = fault ≡ Some Version
+Fails (Shape segment) fault = fault ≡ Some (Shape segment)
+Fails Entries fault = fault ≡ Some Entries
+Fails OutOfMemory fault = Unit {0}
+
+-- a value where all is met, and otherwise the first fault
+abbrev pub Gives : {X Y : Type 0} → (X → Y) → Result X SchemaFault → Option SchemaFault → Y → Type 0
+Gives view (Ok x) fault y = (fault ≡ None) × (view x ≡ y)
+Gives view (Err e) fault y = Fails e fault
+
+-- the answer to a tree: its witness, or the first rule that isn't met
+abbrev pub IsAnswer : Tree → Result Witness SchemaFault → Type 0
+IsAnswer t result = Gives (λ (w : Witness). w) result (schema_fault t) (witness_in t)
+
+abbrev pub judged : Option SchemaFault → Witness → Result Witness SchemaFault
+judged None witness = Ok witness
+judged (Some fault) witness = Err fault
+
+-- the same, as a value
+unfoldable pub witness_of : Tree → Result Witness SchemaFault
+witness_of t = judged (schema_fault t) (witness_in t)

@@ -1,0 +1,138 @@
+-- The table of the schema: a row for each field, in the order in which fields are judged. Keys that no row names are passed
+-- over. Witness format 2.0; that a file name may be absent, and which words and numbers stand, is this project's profile.
+use Rattle.std.specs.Prelude.{ℕ, List, [], ◌∷◌, ◌++◌, Bool, true, false, map, codes}
+use Rattle.wv_schema.specs.declared.witness.WayKind.{WayKind}
+use Rattle.wv_schema.specs.declared.witness.WayKind.TheVariants.{Assumption, Target, FunctionEnter, FunctionReturn, Branching}
+
+-- what a text has to be
+pub data Rule : Type 0 where
+  AnyText : Rule
+  OneOf : List (List ℕ) → Rule
+  -- the text `2.0`; another is a fault of its own
+  TwoZero : Rule
+  -- 1 to 7 digits, a number of at least 1
+  Count : Rule
+
+-- what stands at a path
+pub data Kind : Type 0 where
+  AText : Rule → Kind
+  AList : Kind
+  AMap : Kind
+  -- a list, each item a text; a map, each value a text
+  Texts : Kind
+  TextMap : Kind
+
+-- a row: the keys of the maps above, the field's key, its kind, and whether it is needed
+pub record Row : Type 0 where
+  pub above : List (List ℕ)
+  pub key : List ℕ
+  pub kind : Kind
+  pub is_needed : Bool
+
+abbrev pub needs : List ℕ → Kind → Row
+needs key kind = record { above = []; key = key; kind = kind; is_needed = true }
+
+abbrev pub may_have : List ℕ → Kind → Row
+may_have key kind = record { above = []; key = key; kind = kind; is_needed = false }
+
+-- the same rows, below a key
+abbrev pub below : List ℕ → Row → Row
+below key row = record row { above = key ∷ row.above }
+
+abbrev pub within : List ℕ → List Row → List Row
+within key [] = []
+within key (row ∷ rows) = below key row ∷ within key rows
+
+abbrev pub entry_types : List (List ℕ)
+entry_types = codes "violation_sequence" ∷ codes "invariant_set" ∷ []
+
+abbrev pub waypoint_types : List (List ℕ)
+waypoint_types =
+    codes "assumption" ∷ codes "target" ∷ codes "function_enter" ∷ codes "function_return" ∷ codes "branching" ∷ []
+
+abbrev pub actions : List (List ℕ)
+actions = codes "follow" ∷ codes "avoid" ∷ []
+
+abbrev pub invariant_types : List (List ℕ)
+invariant_types = codes "loop_invariant" ∷ codes "location_invariant" ∷ []
+
+abbrev pub formats : List (List ℕ)
+formats = codes "c_expression" ∷ codes "acsl_expression" ∷ codes "ext_c_expression" ∷ []
+
+abbrev pub ways : List (List ℕ)
+ways = codes "true" ∷ codes "false" ∷ []
+
+unfoldable pub producer_rows : List Row
+producer_rows =
+    needs (codes "name") (AText AnyText)
+    ∷ needs (codes "version") (AText AnyText)
+    ∷ []
+
+unfoldable pub task_rows : List Row
+task_rows =
+    needs (codes "input_files") Texts
+    ∷ needs (codes "input_file_hashes") TextMap
+    ∷ needs (codes "specification") (AText AnyText)
+    ∷ needs (codes "data_model") (AText AnyText)
+    ∷ needs (codes "language") (AText AnyText)
+    ∷ []
+
+unfoldable pub metadata_rows : List Row
+metadata_rows =
+    needs (codes "format_version") (AText TwoZero)
+    ∷ needs (codes "uuid") (AText AnyText)
+    ∷ needs (codes "creation_time") (AText AnyText)
+    ∷ needs (codes "producer") AMap
+    ∷ (within (codes "producer") producer_rows
+      ++ (needs (codes "task") AMap ∷ within (codes "task") task_rows))
+
+-- of an entry
+unfoldable pub entry_rows : List Row
+entry_rows =
+    needs (codes "entry_type") (AText (OneOf entry_types))
+    ∷ needs (codes "metadata") AMap
+    ∷ (within (codes "metadata") metadata_rows ++ (needs (codes "content") AList ∷ []))
+
+-- of an item of the content of a violation sequence
+unfoldable pub segment_rows : List Row
+segment_rows = needs (codes "segment") AList ∷ []
+
+unfoldable pub location_rows : List Row
+location_rows =
+    may_have (codes "file_name") (AText AnyText)
+    ∷ needs (codes "line") (AText Count)
+    ∷ may_have (codes "column") (AText Count)
+    ∷ may_have (codes "function") (AText AnyText)
+    ∷ []
+
+unfoldable pub expression_rows : List Row
+expression_rows =
+    needs (codes "value") (AText AnyText)
+    ∷ may_have (codes "format") (AText (OneOf formats))
+    ∷ []
+
+-- of a waypoint, whatever its type
+unfoldable pub waypoint_rows : List Row
+waypoint_rows =
+    needs (codes "type") (AText (OneOf waypoint_types))
+    ∷ needs (codes "action") (AText (OneOf actions))
+    ∷ needs (codes "location") AMap
+    ∷ within (codes "location") location_rows
+
+-- of a waypoint of this type: a constraint is needed for assumptions and branchings, may be absent for returns, and isn't
+-- read for the others; at a branching the value is a way, and no format is read
+unfoldable pub constraint_rows : WayKind → List Row
+constraint_rows Assumption = needs (codes "constraint") AMap ∷ within (codes "constraint") expression_rows
+constraint_rows Target = []
+constraint_rows FunctionEnter = []
+constraint_rows FunctionReturn = may_have (codes "constraint") AMap ∷ within (codes "constraint") expression_rows
+constraint_rows Branching =
+    needs (codes "constraint") AMap
+    ∷ within (codes "constraint") (needs (codes "value") (AText (OneOf ways)) ∷ [])
+
+-- of an invariant
+unfoldable pub invariant_rows : List Row
+invariant_rows =
+    needs (codes "type") (AText (OneOf invariant_types))
+    ∷ needs (codes "location") AMap
+    ∷ (within (codes "location") location_rows ++ expression_rows)
