@@ -38,7 +38,7 @@ unfoldable pub location_pairs : Location → List Pair
 location_pairs v =
     texts_if (codes "file_name") v.file_name
     ++ (text_pair (codes "line") (decimal v.line)
-      ∷ (counts_if (codes "column") v.column ++ texts_if (codes "function") v.function))
+    ∷ (counts_if (codes "column") v.column ++ texts_if (codes "function") v.function))
 
 abbrev pub way_word : WayKind → List ℕ
 way_word Assumption = codes "assumption"
@@ -58,17 +58,17 @@ constraints_if (Some v) = pair (codes "constraint") (Map (constraint_pairs v)) �
 unfoldable pub step_tree : List ℕ → Waypoint → Tree
 step_tree action v =
     Map (pair (codes "waypoint")
-      (Map (text_pair (codes "type") (way_word v.kind)
-        ∷ text_pair (codes "action") action
-        ∷ pair (codes "location") (Map (location_pairs v.location))
-        ∷ constraints_if v.constraint))
-      ∷ [])
+    (Map (text_pair (codes "type") (way_word v.kind)
+    ∷ text_pair (codes "action") action
+    ∷ pair (codes "location") (Map (location_pairs v.location))
+    ∷ constraints_if v.constraint))
+    ∷ [])
 
 unfoldable pub segment_tree : Segment → Tree
 segment_tree v =
     Map (pair (codes "segment")
-      (AList (map (step_tree (codes "avoid")) v.avoids ++ (step_tree (codes "follow") v.follow ∷ [])))
-      ∷ [])
+    (AList (map (step_tree (codes "avoid")) v.avoids ++ (step_tree (codes "follow") v.follow ∷ [])))
+    ∷ [])
 
 abbrev pub invariant_word : InvariantKind → List ℕ
 invariant_word Loop = codes "loop_invariant"
@@ -77,11 +77,11 @@ invariant_word LocationInvariant = codes "location_invariant"
 unfoldable pub invariant_tree : Invariant → Tree
 invariant_tree v =
     Map (pair (codes "invariant")
-      (Map (text_pair (codes "type") (invariant_word v.kind)
-        ∷ pair (codes "location") (Map (location_pairs v.location))
-        ∷ text_pair (codes "value") v.value
-        ∷ texts_if (codes "format") v.format))
-      ∷ [])
+    (Map (text_pair (codes "type") (invariant_word v.kind)
+    ∷ pair (codes "location") (Map (location_pairs v.location))
+    ∷ text_pair (codes "value") v.value
+    ∷ texts_if (codes "format") v.format))
+    ∷ [])
 
 abbrev pub hash_pair : FileHash → Pair
 hash_pair v = text_pair v.file v.hash
@@ -92,20 +92,20 @@ producer_tree v = Map (text_pair (codes "name") v.producer_name ∷ text_pair (c
 unfoldable pub task_tree : Metadata → Tree
 task_tree v =
     Map (pair (codes "input_files") (AList (map Text v.input_files))
-      ∷ pair (codes "input_file_hashes") (Map (map hash_pair v.input_hashes))
-      ∷ text_pair (codes "specification") v.specification
-      ∷ text_pair (codes "data_model") v.data_model
-      ∷ text_pair (codes "language") v.language
-      ∷ [])
+    ∷ pair (codes "input_file_hashes") (Map (map hash_pair v.input_hashes))
+    ∷ text_pair (codes "specification") v.specification
+    ∷ text_pair (codes "data_model") v.data_model
+    ∷ text_pair (codes "language") v.language
+    ∷ [])
 
 unfoldable pub metadata_tree : Metadata → Tree
 metadata_tree v =
     Map (text_pair (codes "format_version") v.format_version
-      ∷ text_pair (codes "uuid") v.uuid
-      ∷ text_pair (codes "creation_time") v.creation_time
-      ∷ pair (codes "producer") (producer_tree v)
-      ∷ pair (codes "task") (task_tree v)
-      ∷ [])
+    ∷ text_pair (codes "uuid") v.uuid
+    ∷ text_pair (codes "creation_time") v.creation_time
+    ∷ pair (codes "producer") (producer_tree v)
+    ∷ pair (codes "task") (task_tree v)
+    ∷ [])
 
 abbrev pub content_word : Content → List ℕ
 content_word (Violation segments) = codes "violation_sequence"
@@ -118,9 +118,9 @@ content_tree (Invariants invariants) = AList (map invariant_tree invariants)
 unfoldable pub entry_tree : Entry → Tree
 entry_tree v =
     Map (text_pair (codes "entry_type") (content_word v.content)
-      ∷ pair (codes "metadata") (metadata_tree v.metadata)
-      ∷ pair (codes "content") (content_tree v.content)
-      ∷ [])
+    ∷ pair (codes "metadata") (metadata_tree v.metadata)
+    ∷ pair (codes "content") (content_tree v.content)
+    ∷ [])
 
 unfoldable pub tree_of : Witness → Tree
 tree_of v = AList (map entry_tree v.entries)

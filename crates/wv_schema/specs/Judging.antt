@@ -39,10 +39,13 @@ abbrev pub text_fault : Rule → List ℕ → Option (List ℕ) → Option Schem
 text_fault rule path None = Some (WrongKind path)
 text_fault rule path (Some text) = when_not (meets rule text) (broken rule path)
 
--- the first item that is no text
-abbrev pub texts_fault : List ℕ → ℕ → List Tree → Option SchemaFault
-texts_fault path n [] = None
-texts_fault path n (t ∷ ts) = option_or (when_not (is_some (text_in t)) (WrongKind (item_place path n))) (texts_fault path (n + 1) ts)
+-- the first fault of the items of a list, numbered from this number on
+abbrev pub items_fault : (List ℕ → Tree → Option SchemaFault) → List ℕ → ℕ → List Tree → Option SchemaFault
+items_fault fault at n [] = None
+items_fault fault at n (t ∷ ts) = option_or (fault (item_place at n) t) (items_fault fault at (n + 1) ts)
+
+abbrev pub no_text_fault : List ℕ → Tree → Option SchemaFault
+no_text_fault path t = when_not (is_some (text_in t)) (WrongKind path)
 
 abbrev pub are_texts : List Pair → Bool
 are_texts [] = true
@@ -50,7 +53,7 @@ are_texts (p ∷ ps) = is_some (text_in p.value) && are_texts ps
 
 abbrev pub list_fault : List ℕ → Option (List Tree) → Option SchemaFault
 list_fault path None = Some (WrongKind path)
-list_fault path (Some ts) = texts_fault path 0 ts
+list_fault path (Some ts) = items_fault no_text_fault path 0 ts
 
 abbrev pub map_fault : List ℕ → Option (List Pair) → Option SchemaFault
 map_fault path None = Some (WrongKind path)
@@ -82,8 +85,3 @@ first_fault at ps (row ∷ rows) = option_or (row_fault at ps row) (first_fault 
 abbrev pub rows_fault : List ℕ → (List Pair → List Row) → Option (List Pair) → Option SchemaFault
 rows_fault at rows None = Some (WrongKind at)
 rows_fault at rows (Some ps) = first_fault at ps (rows ps)
-
--- the first fault of the items of a list, numbered from this number on
-abbrev pub items_fault : (List ℕ → Tree → Option SchemaFault) → List ℕ → ℕ → List Tree → Option SchemaFault
-items_fault fault at n [] = None
-items_fault fault at n (t ∷ ts) = option_or (fault (item_place at n) t) (items_fault fault at (n + 1) ts)

@@ -8,30 +8,24 @@ use Rattle.wv_schema.specs.declared.fault.SchemaFault.TheVariants.{Missing, Wron
 use Rattle.wv_schema.specs.declared.witness.WayKind.{WayKind}
 use Rattle.wv_schema.specs.declared.witness.Witness.{Witness}
 use Rattle.wv_schema.specs.Paths.{items_in, pairs_in, key_place}
-use Rattle.wv_schema.specs.Table.{Row, AMap, needs, within, entry_rows, segment_rows, waypoint_rows, constraint_rows, invariant_rows}
+use Rattle.wv_schema.specs.Table.{Row, in_map, entry_fields, segment_fields, waypoint_fields, invariant_fields}
 use Rattle.wv_schema.specs.Judging.{first_fault, rows_fault, items_fault}
 use Rattle.wv_schema.specs.Values.{list_at, map_at, all_pairs, kind_at, steps_in, is_violation, entry_in, witness_in}
 use Rattle.wv_schema.specs.Shapes.{shape_fault, entries_fault}
 
--- the rows of a waypoint's map, and of an item of a segment that holds it
-unfoldable pub way_rows : List Pair → List Row
-way_rows ps = waypoint_rows ++ constraint_rows (kind_at ps)
-
+-- an item of a segment; the type of its waypoint says which constraint is read
 unfoldable pub step_rows : List Pair → List Row
-step_rows ps = needs (codes "waypoint") AMap ∷ within (codes "waypoint") (way_rows (map_at (codes "waypoint") ps))
-
-unfoldable pub claim_rows : List Pair → List Row
-claim_rows ps = needs (codes "invariant") AMap ∷ within (codes "invariant") invariant_rows
+step_rows ps = in_map (codes "waypoint") (waypoint_fields (kind_at (map_at (codes "waypoint") ps)))
 
 unfoldable pub step_fault : List ℕ → Tree → Option SchemaFault
 step_fault at t = rows_fault at step_rows (pairs_in t)
 
 unfoldable pub segment_fault : List ℕ → Tree → Option SchemaFault
 segment_fault at t =
-    option_or (rows_fault at (λ ps. segment_rows) (pairs_in t)) (items_fault step_fault (key_place at (codes "segment")) 0 (steps_in t))
+    option_or (rows_fault at (λ ps. segment_fields) (pairs_in t)) (items_fault step_fault (key_place at (codes "segment")) 0 (steps_in t))
 
 unfoldable pub claim_fault : List ℕ → Tree → Option SchemaFault
-claim_fault at t = rows_fault at claim_rows (pairs_in t)
+claim_fault at t = rows_fault at (λ ps. in_map (codes "invariant") invariant_fields) (pairs_in t)
 
 -- the fields of the content's items, and then the form of the segments
 unfoldable pub content_fault : List ℕ → Bool → List Tree → Option SchemaFault
@@ -40,7 +34,7 @@ content_fault at false ts = items_fault claim_fault at 0 ts
 
 unfoldable pub entry_fault : List ℕ → Tree → Option SchemaFault
 entry_fault at t =
-    option_or (rows_fault at (λ ps. entry_rows) (pairs_in t))
+    option_or (rows_fault at (λ ps. entry_fields) (pairs_in t))
     (content_fault (key_place at (codes "content")) (is_violation (all_pairs t)) (list_at (codes "content") (all_pairs t)))
 
 -- entry by entry, and then the form of the whole

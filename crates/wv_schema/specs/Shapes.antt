@@ -5,43 +5,50 @@ use Rattle.std.specs.Str.{bytes_eq}
 use Rattle.wv_yaml.specs.declared.tree.Tree.{Tree}
 use Rattle.wv_schema.specs.declared.fault.SchemaFault.{SchemaFault}
 use Rattle.wv_schema.specs.declared.fault.SchemaFault.TheVariants.{Shape, Entries}
+use Rattle.wv_schema.specs.declared.witness.WayKind.{WayKind}
+use Rattle.wv_schema.specs.declared.witness.WayKind.TheVariants.{Assumption, Target, FunctionEnter, FunctionReturn, Branching}
 use Rattle.wv_schema.specs.declared.witness.Content.{Content}
 use Rattle.wv_schema.specs.declared.witness.Content.TheVariants.{Violation, Invariants}
 use Rattle.wv_schema.specs.declared.witness.Entry.{Entry}
 use Rattle.wv_schema.specs.Judging.{when_not}
-use Rattle.wv_schema.specs.Values.{text_at, waypoint_pairs, front, last_or, steps_in}
+use Rattle.wv_schema.specs.Values.{text_at, kind_at, waypoint_pairs, front, last, steps_in}
 
 unfoldable pub is_follow : Tree → Bool
 is_follow t = bytes_eq (text_at (codes "action") (waypoint_pairs t)) (codes "follow")
 
+abbrev pub is_target_kind : WayKind → Bool
+is_target_kind Assumption = false
+is_target_kind Target = true
+is_target_kind FunctionEnter = false
+is_target_kind FunctionReturn = false
+is_target_kind Branching = false
+
 unfoldable pub is_target : Tree → Bool
-is_target t = bytes_eq (text_at (codes "type") (waypoint_pairs t)) (codes "target")
+is_target t = is_target_kind (kind_at (waypoint_pairs t))
 
 abbrev pub is_end : {X : Type 0} → List X → Bool
 is_end [] = true
 is_end (x ∷ xs) = false
 
--- What is wrong with a segment, whose waypoints stand in these trees: it holds no waypoint; its last waypoint isn't follow; a
--- waypoint before its last is follow; it holds a target elsewhere than as the follow of the final segment; it is the final
--- segment and doesn't end with a target.
-abbrev pub ends_avoiding : Tree → List Tree → Bool
-ends_avoiding t ts = not (is_follow (last_or t ts))
+-- What may be wrong with a segment, by the trees of its waypoints: its last waypoint isn't follow; a waypoint before its last
+-- is follow; it holds a target elsewhere than as the follow of the final segment; it is the final segment and doesn't end with
+-- a target.
+abbrev pub ends_avoiding : List Tree → Bool
+ends_avoiding ts = not (is_follow (last ts))
 
 abbrev pub follows_early : List Tree → Bool
 follows_early ts = list_any is_follow (front ts)
 
-abbrev pub has_stray_target : Bool → Tree → List Tree → Bool
-has_stray_target is_final t ts =
-    list_any is_target (front ts) || (is_target (last_or t ts) && not (is_final && is_follow (last_or t ts)))
+abbrev pub has_stray_target : Bool → List Tree → Bool
+has_stray_target is_final ts = list_any is_target (front ts) || (is_target (last ts) && not (is_final && is_follow (last ts)))
 
-abbrev pub lacks_target : Bool → Tree → List Tree → Bool
-lacks_target is_final t ts = is_final && not (is_target (last_or t ts))
+abbrev pub lacks_target : Bool → List Tree → Bool
+lacks_target is_final ts = is_final && not (is_target (last ts))
 
-abbrev pub is_misshapen : Bool → List Tree → Bool
-is_misshapen is_final [] = true
-is_misshapen is_final (t ∷ ts) =
-    ends_avoiding t (t ∷ ts)
-    || (follows_early (t ∷ ts) || (has_stray_target is_final t (t ∷ ts) || lacks_target is_final t (t ∷ ts)))
+-- it holds no waypoint, or one of these
+unfoldable pub is_misshapen : Bool → List Tree → Bool
+is_misshapen is_final ts =
+    is_end ts || (ends_avoiding ts || (follows_early ts || (has_stray_target is_final ts || lacks_target is_final ts)))
 
 -- the least misshapen segment, the first having this number
 abbrev pub misshapen_from : ℕ → List Tree → Option ℕ

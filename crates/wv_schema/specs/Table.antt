@@ -62,14 +62,22 @@ formats = codes "c_expression" ∷ codes "acsl_expression" ∷ codes "ext_c_expr
 abbrev pub ways : List (List ℕ)
 ways = codes "true" ∷ codes "false" ∷ []
 
-unfoldable pub producer_rows : List Row
-producer_rows =
+-- a map that is needed, and the rows below it
+abbrev pub in_map : List ℕ → List Row → List Row
+in_map key rows = needs key AMap ∷ within key rows
+
+-- a map that may be absent, and the rows below it
+abbrev pub in_map_if : List ℕ → List Row → List Row
+in_map_if key rows = may_have key AMap ∷ within key rows
+
+unfoldable pub producer_fields : List Row
+producer_fields =
     needs (codes "name") (AText AnyText)
     ∷ needs (codes "version") (AText AnyText)
     ∷ []
 
-unfoldable pub task_rows : List Row
-task_rows =
+unfoldable pub task_fields : List Row
+task_fields =
     needs (codes "input_files") Texts
     ∷ needs (codes "input_file_hashes") TextMap
     ∷ needs (codes "specification") (AText AnyText)
@@ -77,62 +85,58 @@ task_rows =
     ∷ needs (codes "language") (AText AnyText)
     ∷ []
 
-unfoldable pub metadata_rows : List Row
-metadata_rows =
+unfoldable pub metadata_fields : List Row
+metadata_fields =
     needs (codes "format_version") (AText TwoZero)
     ∷ needs (codes "uuid") (AText AnyText)
     ∷ needs (codes "creation_time") (AText AnyText)
-    ∷ needs (codes "producer") AMap
-    ∷ (within (codes "producer") producer_rows
-      ++ (needs (codes "task") AMap ∷ within (codes "task") task_rows))
+    ∷ (in_map (codes "producer") producer_fields ++ in_map (codes "task") task_fields)
 
 -- of an entry
-unfoldable pub entry_rows : List Row
-entry_rows =
+unfoldable pub entry_fields : List Row
+entry_fields =
     needs (codes "entry_type") (AText (OneOf entry_types))
-    ∷ needs (codes "metadata") AMap
-    ∷ (within (codes "metadata") metadata_rows ++ (needs (codes "content") AList ∷ []))
+    ∷ (in_map (codes "metadata") metadata_fields ++ (needs (codes "content") AList ∷ []))
 
 -- of an item of the content of a violation sequence
-unfoldable pub segment_rows : List Row
-segment_rows = needs (codes "segment") AList ∷ []
+unfoldable pub segment_fields : List Row
+segment_fields = needs (codes "segment") AList ∷ []
 
-unfoldable pub location_rows : List Row
-location_rows =
+unfoldable pub location_fields : List Row
+location_fields =
     may_have (codes "file_name") (AText AnyText)
     ∷ needs (codes "line") (AText Count)
     ∷ may_have (codes "column") (AText Count)
     ∷ may_have (codes "function") (AText AnyText)
     ∷ []
 
-unfoldable pub expression_rows : List Row
-expression_rows =
+unfoldable pub expression_fields : List Row
+expression_fields =
     needs (codes "value") (AText AnyText)
     ∷ may_have (codes "format") (AText (OneOf formats))
     ∷ []
 
--- of a waypoint, whatever its type
-unfoldable pub waypoint_rows : List Row
-waypoint_rows =
-    needs (codes "type") (AText (OneOf waypoint_types))
-    ∷ needs (codes "action") (AText (OneOf actions))
-    ∷ needs (codes "location") AMap
-    ∷ within (codes "location") location_rows
+unfoldable pub way_fields : List Row
+way_fields = needs (codes "value") (AText (OneOf ways)) ∷ []
 
--- of a waypoint of this type: a constraint is needed for assumptions and branchings, may be absent for returns, and isn't
--- read for the others; at a branching the value is a way, and no format is read
+-- A constraint is needed for assumptions and branchings, may be absent for returns, and isn't read for the others. At a
+-- branching its value is a way, and no format is read.
 unfoldable pub constraint_rows : WayKind → List Row
-constraint_rows Assumption = needs (codes "constraint") AMap ∷ within (codes "constraint") expression_rows
+constraint_rows Assumption = in_map (codes "constraint") expression_fields
 constraint_rows Target = []
 constraint_rows FunctionEnter = []
-constraint_rows FunctionReturn = may_have (codes "constraint") AMap ∷ within (codes "constraint") expression_rows
-constraint_rows Branching =
-    needs (codes "constraint") AMap
-    ∷ within (codes "constraint") (needs (codes "value") (AText (OneOf ways)) ∷ [])
+constraint_rows FunctionReturn = in_map_if (codes "constraint") expression_fields
+constraint_rows Branching = in_map (codes "constraint") way_fields
+
+-- of a waypoint of this type
+unfoldable pub waypoint_fields : WayKind → List Row
+waypoint_fields kind =
+    needs (codes "type") (AText (OneOf waypoint_types))
+    ∷ needs (codes "action") (AText (OneOf actions))
+    ∷ (in_map (codes "location") location_fields ++ constraint_rows kind)
 
 -- of an invariant
-unfoldable pub invariant_rows : List Row
-invariant_rows =
+unfoldable pub invariant_fields : List Row
+invariant_fields =
     needs (codes "type") (AText (OneOf invariant_types))
-    ∷ needs (codes "location") AMap
-    ∷ (within (codes "location") location_rows ++ expression_rows)
+    ∷ (in_map (codes "location") location_fields ++ expression_fields)

@@ -3,6 +3,7 @@ use Rattle.std.specs.Prelude.{◌≡◌, ℕ, ◌-◌, List, [], ◌∷◌, leng
 use Rattle.std.specs.Str.{bytes_eq}
 use Rattle.std.specs.Str.Parse.{digits_value}
 use Rattle.wv_yaml.specs.declared.tree.Tree.{Tree}
+use Rattle.wv_yaml.specs.declared.tree.Tree.TheVariants.{Text}
 use Rattle.wv_yaml.specs.declared.tree.Pair.{Pair}
 use Rattle.wv_schema.specs.declared.witness.WayKind.{WayKind}
 use Rattle.wv_schema.specs.declared.witness.WayKind.TheVariants.{Assumption, Target, FunctionEnter, FunctionReturn, Branching}
@@ -64,21 +65,18 @@ abbrev pub hash_in : Pair → FileHash
 hash_in p = record { file = p.key; hash = text_or_empty p.value }
 
 unfoldable pub metadata_in : List Pair → Metadata
-metadata_in ps =
-    let producer = map_at (codes "producer") ps in
-    let task = map_at (codes "task") ps in
-    record {
-      format_version = text_at (codes "format_version") ps;
-      uuid = text_at (codes "uuid") ps;
-      creation_time = text_at (codes "creation_time") ps;
-      producer_name = text_at (codes "name") producer;
-      producer_version = text_at (codes "version") producer;
-      input_files = map text_or_empty (list_at (codes "input_files") task);
-      input_hashes = map hash_in (map_at (codes "input_file_hashes") task);
-      specification = text_at (codes "specification") task;
-      data_model = text_at (codes "data_model") task;
-      language = text_at (codes "language") task
-    }
+metadata_in ps = record {
+  format_version = text_at (codes "format_version") ps;
+  uuid = text_at (codes "uuid") ps;
+  creation_time = text_at (codes "creation_time") ps;
+  producer_name = text_at (codes "name") (map_at (codes "producer") ps);
+  producer_version = text_at (codes "version") (map_at (codes "producer") ps);
+  input_files = map text_or_empty (list_at (codes "input_files") (map_at (codes "task") ps));
+  input_hashes = map hash_in (map_at (codes "input_file_hashes") (map_at (codes "task") ps));
+  specification = text_at (codes "specification") (map_at (codes "task") ps);
+  data_model = text_at (codes "data_model") (map_at (codes "task") ps);
+  language = text_at (codes "language") (map_at (codes "task") ps);
+}
 
 -- the number that digits spell
 unfoldable pub count_of : List ℕ → ℕ
@@ -89,7 +87,7 @@ location_in ps = record {
   file_name = text_if (codes "file_name") ps;
   line = count_of (text_at (codes "line") ps);
   column = option_map count_of (text_if (codes "column") ps);
-  function = text_if (codes "function") ps
+  function = text_if (codes "function") ps;
 }
 
 unfoldable pub way_kind : List ℕ → WayKind
@@ -120,7 +118,7 @@ unfoldable pub waypoint_in : List Pair → Waypoint
 waypoint_in ps = record {
   kind = kind_at ps;
   location = location_in (map_at (codes "location") ps);
-  constraint = constraint_of (kind_at ps) ps
+  constraint = constraint_of (kind_at ps) ps;
 }
 
 -- an item of a segment
@@ -130,20 +128,23 @@ waypoint_pairs t = map_at (codes "waypoint") (all_pairs t)
 unfoldable pub step_in : Tree → Waypoint
 step_in t = waypoint_in (waypoint_pairs t)
 
--- all but the last, and the last
-abbrev pub front : {X : Type 0} → List X → List X
-front xs = take (length xs - 1) xs
+-- all trees but the last, and the last
+abbrev pub front : List Tree → List Tree
+front ts = take (length ts - 1) ts
 
-abbrev pub last_or : {X : Type 0} → X → List X → X
-last_or x xs = slice_index_or xs (length xs - 1) x
+abbrev pub last : List Tree → Tree
+last ts = slice_index_or ts (length ts - 1) (Text [])
 
 -- an item of the content of a violation sequence
 unfoldable pub steps_in : Tree → List Tree
 steps_in t = list_at (codes "segment") (all_pairs t)
 
 -- a segment has a waypoint, else its shape is refused
+unfoldable pub segment_of : List Tree → Segment
+segment_of ts = record { avoids = map step_in (front ts); follow = step_in (last ts) }
+
 unfoldable pub segment_in : Tree → Segment
-segment_in t = record { avoids = map step_in (front (steps_in t)); follow = step_in (last_or t (steps_in t)) }
+segment_in t = segment_of (steps_in t)
 
 unfoldable pub invariant_kind : List ℕ → InvariantKind
 invariant_kind text = if bytes_eq text (codes "loop_invariant") then Loop else LocationInvariant
@@ -153,7 +154,7 @@ invariant_in ps = record {
   kind = invariant_kind (text_at (codes "type") ps);
   location = location_in (map_at (codes "location") ps);
   value = text_at (codes "value") ps;
-  format = text_if (codes "format") ps
+  format = text_if (codes "format") ps;
 }
 
 -- an item of the content of an invariant set
@@ -170,7 +171,7 @@ content_by false ts = Invariants (map claim_in ts)
 unfoldable pub entry_by : List Pair → Entry
 entry_by ps = record {
   metadata = metadata_in (map_at (codes "metadata") ps);
-  content = content_by (is_violation ps) (list_at (codes "content") ps)
+  content = content_by (is_violation ps) (list_at (codes "content") ps);
 }
 
 unfoldable pub entry_in : Tree → Entry

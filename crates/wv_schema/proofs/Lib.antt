@@ -1,0 +1,4 @@
+pub mod Finding
+pub mod Chains
+pub mod Items
+pub mod Segments
