@@ -24,7 +24,7 @@ fn does_violate(entry: &Entry) -> bool
 fn are_fit(entries: &[Entry]) -> bool
     ensures { result ≡ is_none (entries_fault entries.now) }
 {
-    let mut sequences = 0;
+    let mut sequences: usize = 0;
     for entry in entries {
         if does_violate(entry) {
             sequences += 1;

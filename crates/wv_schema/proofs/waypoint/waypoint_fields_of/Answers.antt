@@ -37,11 +37,11 @@ returns-in_err-location c = rw (chain c.args.at.now c.args.pairs.now (kind_at c.
 
 pub returns-in_err-constraint : goal.returns-in_err-constraint
 returns-in_err-constraint c =
-    let k = kind_is c.args.pairs.now _ _ c.kind_of.ensures c.in_ok-word.ensures.field.1 in
+    let k = kind_is c.args.pairs.now _ _ c.kind_of-kind.ensures c.in_ok-word.ensures.field.1 in
     rw (chain c.args.at.now c.args.pairs.now (kind_at c.args.pairs.now)) (rw (← k) (search (rules, later, stops)))
 
 pub returns : goal.returns
 unfolding step_by waypoint_in
 returns c =
-    let k = kind_is c.args.pairs.now _ _ c.kind_of.ensures c.in_ok-word.ensures.field.1 in
+    let k = kind_is c.args.pairs.now _ _ c.kind_of-kind.ensures c.in_ok-word.ensures.field.1 in
     rw (chain c.args.at.now c.args.pairs.now (kind_at c.args.pairs.now)) (rw (← k) (search (rules, both)))
