@@ -1,16 +1,16 @@
 // The rules of the task, entry by entry.
-ghost use Rattle.std.specs.Prelude.{◌≡◌, ◌<◌, IfOk, length};
+ghost use Rattle.std.specs.Prelude.{◌≡◌, ◌<◌, ◌&&◌, IfOk, bytes_eq, codes, is_some, length};
 ghost use Rattle.hex.specs.Hex.{encode_lower};
 ghost use Rattle.sha2.specs.Sha256.{sha256};
 ghost use Rattle.wv_task.specs.PropertyText.{specification_of};
 ghost use Rattle.wv_task.specs.Task as spec;
 
+use crate::readings::is_identifier;
 use crate::{TaskFault, specification};
 use c_core::{DataModel, Property};
 use sha2::{Digest, Sha256};
 use std::alloc::Global;
-use uuid::Uuid;
-use wv_base::{Seq, Text};
+use wv_base::{OutOfMemory, Text};
 use wv_schema::{FileHash, Metadata, Witness};
 
 /// The data model of a witness about this program and property. Otherwise the first rule that an entry doesn't meet:
@@ -54,14 +54,13 @@ fn judge_entry(
     if !states(property, metadata.specification.as_str()) {
         return Err(TaskFault::Specification);
     }
-    if metadata.language.as_str() != "C" {
+    if !is_c(metadata.language.as_str()) {
         return Err(TaskFault::Language);
     }
-    let data_model = metadata.data_model.as_str();
-    if model(data_model).is_none() || data_model != first_model {
+    if !names_model(metadata.data_model.as_str(), first_model) {
         return Err(TaskFault::Model);
     }
-    if Uuid::parse_str(metadata.uuid.as_str()).is_err() {
+    if !is_identifier(metadata.uuid.as_str()) {
         return Err(TaskFault::Uuid);
     }
     Ok(())
@@ -96,7 +95,7 @@ fn spells(digest: &[u8; 32], text: &str) -> bool
     }
 }
 
-fn wrong_hash(alloc: Global, stated: &str, digest: &[u8; 32]) -> Result<TaskFault, TaskFault>
+fn wrong_hash(alloc: Global, stated: &str, digest: &[u8; 32]) -> Result<TaskFault, OutOfMemory>
     ensures { IfOk result (λ fault. fault ≡ TaskFault.Hash stated.now (encode_lower digest.now)) }
 {
     let stated = Text::of(alloc, stated)?;
@@ -112,6 +111,19 @@ fn states(property: Property, text: &str) -> bool
         Ok(stated) => stated == property,
         Err(_) => false,
     }
+}
+
+fn is_c(language: &str) -> bool
+    ensures { result ≡ bytes_eq language.now (codes "C") }
+{
+    language == "C"
+}
+
+/// Whether the text names a data model, and the first entry names the same.
+fn names_model(text: &str, first_model: &str) -> bool
+    ensures { result ≡ (is_some (spec.model_of text.now) && bytes_eq text.now first_model.now) }
+{
+    model(text).is_some() && text == first_model
 }
 
 fn model(text: &str) -> Option<DataModel>

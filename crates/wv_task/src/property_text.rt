@@ -72,12 +72,12 @@ fn next_token(text: &[u8]) -> Option<(&[u8], &[u8])>
     ensures token { MatchOption result (spec.tokens text.now ≡ []) (λ next. spec.tokens text.now ≡ next.0.now ∷ spec.tokens next.1.now) }
     ensures shorter { IfSome result (λ next. length next.1.now < length text.now) }
 {
-    let text = &text[blank_run(text)..];
+    let (_, text) = text.split_at(blank_run(text));
     let length = token_length(text);
     if length == 0 {
         None
     } else {
-        Some((&text[..length], &text[length..]))
+        Some(text.split_at(length))
     }
 }
 

@@ -1,5 +1,6 @@
 // Identifiers and creation times of entries.
-ghost use Rattle.std.specs.Prelude.{◌≡◌, IfOk};
+ghost use Rattle.std.specs.Prelude.{◌≡◌, IfOk, is_some};
+ghost use Rattle.uuid.specs.Text.{parsed};
 ghost use Rattle.wv_task.specs.Readings.{created_of, identifier_of};
 
 use jiff::Timestamp;
@@ -22,10 +23,18 @@ pub fn created(_alloc: Global, time: &Text) -> Result<Option<i128>, OutOfMemory>
 pub fn identifier(alloc: Global, uuid: &Text) -> Result<Option<Text>, OutOfMemory>
     ensures { IfOk result (λ found. found ≡ identifier_of uuid.now) }
 {
-    let Ok(id) = Uuid::parse_str(uuid.as_str()) else {
-        return Ok(None);
-    };
-    let mut buffer = Uuid::encode_buffer();
-    let text = Text::of(alloc, id.hyphenated().encode_lower(&mut buffer))?;
-    Ok(Some(text))
+    match Uuid::parse_str(uuid.as_str()) {
+        Ok(id) => {
+            let mut buffer = Uuid::encode_buffer();
+            let text = Text::of(alloc, id.hyphenated().encode_lower(&mut buffer))?;
+            Ok(Some(text))
+        }
+        Err(_) => Ok(None),
+    }
+}
+
+pub fn is_identifier(text: &str) -> bool
+    ensures { result ≡ is_some (parsed text.now) }
+{
+    Uuid::parse_str(text).is_ok()
 }
