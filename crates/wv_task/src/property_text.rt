@@ -12,8 +12,11 @@ use c_core::Property;
 pub struct NotProperty;
 
 const UNREACH_CALL: &[u8] = b"CHECK( init(main()), LTL(G ! call(reach_error())) )";
+
 const UNREACH_CALL_FORMULA: &[u8] = b"G ! call(reach_error())";
+
 const NO_OVERFLOW: &[u8] = b"CHECK( init(main()), LTL(G ! overflow) )";
+
 const NO_OVERFLOW_FORMULA: &[u8] = b"G ! overflow";
 
 /// The property of a property file.

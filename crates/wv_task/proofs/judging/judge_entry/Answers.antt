@@ -14,5 +14,5 @@ returns c =
     let language : bytes_eq m.language (codes "C") ≡ true = (cc) in
     let model : (is_some (model_of m.data_model) && bytes_eq m.data_model c.args.first_model.now) ≡ true = (cc) in
     let identifier : is_some (parsed m.uuid) ≡ true =
-        sym (c.is_identifier.ensures ∙ ap (λ text. is_some (parsed text)) c.as_str-4.ensures) ∙ c.if-not-is_identifier.false in
+    sym (c.is_identifier.ensures ∙ ap (λ text. is_some (parsed text)) c.as_str-4.ensures) ∙ c.if-not-is_identifier.false in
     rw (one_file, hash, property, language, model, identifier) refl
