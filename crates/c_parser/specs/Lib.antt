@@ -1,0 +1,15 @@
+pub mod Tree
+pub mod Heights
+pub mod Signs
+pub mod Words
+pub mod Expressions
+pub mod ReadExpressions
+pub mod Brackets
+pub mod Declarations
+pub mod Statements
+pub mod ReadStatements
+pub mod Items
+pub mod ReadItems
+pub mod Sources
+pub mod Shown
+pub mod Examples
