@@ -12,4 +12,6 @@ pub mod Items
 pub mod ReadItems
 pub mod Sources
 pub mod Shown
-pub mod Examples
+pub mod ExpressionExamples
+pub mod StatementExamples
+pub mod ItemExamples

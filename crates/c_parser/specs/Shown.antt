@@ -1,5 +1,5 @@
 -- Trees as text with parentheses round each operation and brackets round each statement that is a part, for examples.
-use Rattle.std.specs.Prelude.{ℕ, zero, suc, ◌+◌, ℤ, Bool, true, false, take, drop, nat_abs, is_some, length, List, [], ◌∷◌, ◌++◌, Option, Some, None, if◌then◌else◌, codes}
+use Rattle.std.specs.Prelude.{ℕ, zero, suc, ◌+◌, ◌/◌, ◌%◌, ℤ, Bool, true, false, take, drop, nat_abs, is_some, length, List, [], ◌∷◌, ◌++◌, Option, Some, None, if◌then◌else◌, codes}
 use Rattle.c_core.specs.declared.number.IntType.{IntType}
 use Rattle.c_core.specs.declared.number.IntType.TheVariants as ty
 use Rattle.c_core.specs.declared.number.Spot.{Spot}
@@ -205,7 +205,7 @@ shown text = shown_within 9 9 text
 -- the items of a source, or the column of the first that fits no form
 abbrev pub text_of_outcome : Outcome → List ℕ
 text_of_outcome (Source xs) = text_of_items xs
-text_of_outcome (Syntax p) = codes "syntax " ++ ((48 + p.column) ∷ [])
+text_of_outcome (Syntax p) = codes "syntax " ++ ((48 + p.column / 10) ∷ (48 + p.column % 10) ∷ [])
 
 abbrev pub items_within : ℕ → ℕ → List ℕ → List ℕ
 unfolding level within header_within statement_level braced_within
