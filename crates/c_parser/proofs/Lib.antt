@@ -1,0 +1,3 @@
+mod SignLaws
+mod WordLaws
+mod Complete

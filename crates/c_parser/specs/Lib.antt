@@ -11,6 +11,7 @@ pub mod ReadStatements
 pub mod Items
 pub mod ReadItems
 pub mod Sources
+pub mod Witness
 pub mod Shown
 pub mod ExpressionExamples
 pub mod StatementExamples
