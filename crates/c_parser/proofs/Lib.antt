@@ -1,3 +1,5 @@
 mod SignLaws
 mod WordLaws
 mod Complete
+mod BracketLaws
+mod DeclarationLaws

@@ -26,17 +26,27 @@ gnu_keywords =
 abbrev pub is_name : List ℕ → Bool
 is_name w = not (is_among keywords w || is_among gnu_keywords w)
 
-abbrev pub is_attribute : List ℕ → Bool
-is_attribute w = is_among (codes "__attribute__" ∷ codes "__asm__" ∷ []) w
+abbrev pub attribute_words : List (List ℕ)
+attribute_words = codes "__attribute__" ∷ codes "__asm__" ∷ []
 
--- words beside the type words of a declaration: those that stand anywhere, and those at file scope alone
+abbrev pub is_attribute : List ℕ → Bool
+is_attribute w = is_among attribute_words w
+
+-- words beside the type words of a declaration
+abbrev pub specifiers : List (List ℕ)
+specifiers =
+    codes "const" ∷ codes "__const" ∷ codes "inline" ∷ codes "__inline" ∷ codes "__inline__" ∷ codes "_Noreturn" ∷
+    codes "register" ∷ codes "auto" ∷ codes "__extension__" ∷ []
+
 abbrev pub is_specifier : List ℕ → Bool
-is_specifier w =
-    is_among (codes "const" ∷ codes "__const" ∷ codes "inline" ∷ codes "__inline" ∷ codes "__inline__" ∷ codes "_Noreturn" ∷
-      codes "register" ∷ codes "auto" ∷ codes "__extension__" ∷ []) w
+is_specifier w = is_among specifiers w
+
+-- those that stand outside of functions alone
+abbrev pub storage_words : List (List ℕ)
+storage_words = codes "extern" ∷ codes "static" ∷ []
 
 abbrev pub is_storage : List ℕ → Bool
-is_storage w = is_among (codes "extern" ∷ codes "static" ∷ []) w
+is_storage w = is_among storage_words w
 
 -- `outside`: outside of functions
 abbrev pub may_specify : Bool → List ℕ → Bool
