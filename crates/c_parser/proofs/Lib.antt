@@ -3,3 +3,7 @@ mod WordLaws
 mod Complete
 mod BracketLaws
 mod DeclarationLaws
+mod Begins
+mod StatementLaws
+mod StatementKnot
+mod ItemLaws
