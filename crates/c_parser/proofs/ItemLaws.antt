@@ -46,18 +46,22 @@ void_taken ts e =
     let c = taken sign.ParenClose (drop 1 ts) h.1 in
     (w.0, c.0, w.1 ∙ ap (λ (us : List Token). word_token (codes "void") w.0 ∷ us) c.1)
 
+-- the type that was read
+type_in : Read (Option IntType) → Option IntType
+type_in None = None
+type_in (Some r) = r.0
+
+none_some : (ty : IntType) → None ≡ Some ty → ⊥
+none_some ty e = cc
+
 -- neither a closing parenthesis nor `void` alone is the type of a parameter
 no_empty : (b : ℕ) (ts : List Token) (ty : IntType) (rest : List Token) → read_type b true ts ≡ Some (Some ty, rest) → is_sign sign.ParenClose ts ≡ false
-no_empty b ts ty rest e = false_from_ne_true _ (λ f. let t = taken sign.ParenClose ts f in none (sym (ap (read_type b true) t.1) ∙ e))
-  where
-    none : None ≡ Some (Some ty, rest) → ⊥
-    none g = cc
+unfolding type_in
+no_empty b ts ty rest e = false_from_ne_true _ (λ f. let t = taken sign.ParenClose ts f in none_some ty (sym (ap (λ (us : List Token). type_in (read_type b true us)) t.1) ∙ ap type_in e))
 
 no_void : (b : ℕ) (ts : List Token) (ty : IntType) (rest : List Token) → read_type b true ts ≡ Some (Some ty, rest) → is_void ts ≡ false
-no_void b ts ty rest e = false_from_ne_true _ (λ f. let t = void_taken ts f in other (drop 1 (drop 1 ts)) t.1 (sym (ap (read_type b true) t.2) ∙ e))
-  where
-    other : (us : List Token) (q : Spot) → Some (None, sign_token sign.ParenClose q ∷ us) ≡ Some (Some ty, rest) → ⊥
-    other us q g = cc
+unfolding type_in
+no_void b ts ty rest e = false_from_ne_true _ (λ f. let t = void_taken ts f in none_some ty (sym (ap (λ (us : List Token). type_in (read_type b true us)) t.2) ∙ ap type_in e))
 
 module _ (b : ℕ) where
   parameter_read : (ts : List Token) (x : Param) (rest : List Token) → Parameter (PassedWithin b) ts x rest → read_parameter b ts ≡ Some (x, rest)
