@@ -8,7 +8,7 @@ use Rattle.c_tokens.specs.declared.token.Punct.TheVariants as sign
 use Rattle.c_parser.specs.Signs.{◌>>=◌, sign_of, same_sign, sign_token, number_of_sign}
 use Rattle.c_parser.specs.Brackets.{Bracket, NoBracket, Opening, Closing, bracket_of, bracket, Passed, NothingPassed, OnePassed, PairPassed, PassedWithin, stacked, skipped, behind}
 
-closes_of : (o : Option Punct) (c : Punct) → bracket_of o ≡ Opening c → bracket_of (Some c) ≡ Closing c
+pub closes_of : (o : Option Punct) (c : Punct) → bracket_of o ≡ Opening c → bracket_of (Some c) ≡ Closing c
 closes_of (Some sign.ParenOpen) c e = let f : sign.ParenClose ≡ c = cc in subst (λ (x : Punct). bracket_of (Some x) ≡ Closing x) f refl
 closes_of (Some sign.BracketOpen) c e = let f : sign.BracketClose ≡ c = cc in subst (λ (x : Punct). bracket_of (Some x) ≡ Closing x) f refl
 closes_of (Some sign.BraceOpen) c e = let f : sign.BraceClose ≡ c = cc in subst (λ (x : Punct). bracket_of (Some x) ≡ Closing x) f refl
@@ -33,7 +33,7 @@ module _ (B r : ℕ) (Inner : List Token → List Token → Type 0)
       ∙ close_read B c d (c ∷ stack) q mid (closes_of (sign_of t.kind) d e)
       ∙ skip_passed mid rest p c stack le
 
-within_room : (r : ℕ) (ts rest : List Token) → PassedWithin r ts rest → 1 ≤ r
+pub within_room : (r : ℕ) (ts rest : List Token) → PassedWithin r ts rest → 1 ≤ r
 unfolding PassedWithin
 within_room zero ts rest p = absurd p
 within_room (suc r) ts rest p = omega arith

@@ -7,3 +7,4 @@ mod Begins
 mod StatementLaws
 mod StatementKnot
 mod ItemLaws
+mod ClosedLaws

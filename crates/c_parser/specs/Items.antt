@@ -95,7 +95,7 @@ depth_behind n (Opening c) = suc n
 depth_behind zero (Closing c) = zero
 depth_behind (suc n) (Closing c) = n
 
--- the tokens that stand outside brackets, with the outermost brackets
+-- the tokens that stand outside brackets, with the brackets that open where none is open
 abbrev pub outside : ℕ → List Token → List Token
 outside n [] = []
 outside zero (t ∷ ts) = t ∷ outside (depth_behind zero (bracket t)) ts
