@@ -8,3 +8,4 @@ mod StatementLaws
 mod StatementKnot
 mod ItemLaws
 mod ClosedLaws
+mod SourceLaws

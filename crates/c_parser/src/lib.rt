@@ -3,10 +3,12 @@
 
 mod fault;
 mod item;
+mod laws;
 mod tree;
 
 pub use fault::{ExprFault, ParseFault};
 pub use item::{Item, RawParam};
+pub use laws::{one_expression, one_item, one_source, one_syntax, source_or_syntax};
 pub use tree::{
     RawDeclared, RawExpr, RawFirst, RawForm, RawInit, RawNode, RawStmt, ResultTest,
 };
