@@ -1,7 +1,6 @@
 -- How expressions begin.
-use Rattle.std.proofs.Common.{◌≡◌, ℕ, zero, suc, ◌≤◌, List, [], ◌∷◌, drop, Bool, true, false, refl, sym, ap, ◌∙◌, subst, Option, Some, None, rules, arith, ◌&&◌, ◌||◌, true≢false}
+use Rattle.std.proofs.Common.{◌≡◌, ℕ, zero, suc, List, [], ◌∷◌, Bool, true, false, refl, sym, ap, ◌∙◌, Some, true≢false}
 use Rattle.std.proofs.lemmas.Bool.{false_from_ne_true}
-use Rattle.std.specs.Prelude.{is_some}
 use Rattle.c_core.specs.declared.number.Spot.{Spot}
 use Rattle.c_core.specs.declared.number.StepOp.{StepOp}
 use Rattle.c_core.specs.declared.number.UnOp.{UnOp}
@@ -11,7 +10,7 @@ use Rattle.c_tokens.specs.declared.token.TokenKind.TheVariants as kind
 use Rattle.c_tokens.specs.declared.token.Punct.{Punct}
 use Rattle.c_tokens.specs.declared.token.Punct.TheVariants as sign
 use Rattle.c_parser.specs.Tree.{Exp}
-use Rattle.c_parser.specs.Signs.{sign_token, is_sign, is_word, same_sign, is_this, steps_before, signs}
+use Rattle.c_parser.specs.Signs.{is_sign, is_word, steps_before, signs}
 use Rattle.c_parser.specs.Words.{is_name}
 use Rattle.c_parser.specs.Expressions.{Expression, Stronger, Joined, Assigned, Chosen, SteppedBefore, Signed, Converted, SteppedBehind, AName, AnElement, ABareCall, ACall, ANumber, ACharacter, AGroup, Within, has_room}
 use Rattle.c_parser.specs.Declarations.{begins_declaration, is_part}

@@ -1,16 +1,15 @@
 -- Each closed item that tokens spell is read from them.
-use Rattle.std.proofs.Common.{◌≡◌, ℕ, zero, suc, ◌+◌, ◌≤◌, ◌<◌, List, [], ◌∷◌, ◌++◌, length, drop, Bool, true, false, not, refl, sym, ap, ◌∙◌, subst, cond, Option, Some, None, rules, arith, ◌&&◌, ◌||◌, append_assoc, append-nil}
-use Rattle.std.proofs.lemmas.Bool.{cond-true, cond-false, lt-ltb, or_parts, and_from, not_from_false}
-use Rattle.std.specs.Prelude.{codes}
+use Rattle.std.proofs.Common.{◌≡◌, ℕ, zero, suc, ◌+◌, ◌≤◌, List, [], ◌∷◌, ◌++◌, length, true, false, refl, sym, ap, ◌∙◌, Option, Some, None, arith, ◌&&◌, append_assoc, append-nil}
+use Rattle.std.proofs.lemmas.Bool.{cond-true, lt-ltb, or_parts, and_from, not_from_false}
 use Rattle.c_core.specs.declared.number.Spot.{Spot}
 use Rattle.c_tokens.specs.declared.token.Token.{Token}
 use Rattle.c_tokens.specs.declared.token.Punct.{Punct}
 use Rattle.c_tokens.specs.declared.token.Punct.TheVariants as sign
 use Rattle.c_parser.specs.Tree.{Item}
-use Rattle.c_parser.specs.Signs.{◌>>=◌, sign_of, is_this, is_sign, is_word, sign_token, same_sign}
-use Rattle.c_parser.specs.Brackets.{Bracket, NoBracket, Opening, Closing, bracket_of, bracket, Passed, NothingPassed, OnePassed, PairPassed, PassedWithin, stacked}
+use Rattle.c_parser.specs.Signs.{◌>>=◌, sign_of, is_sign, sign_token}
+use Rattle.c_parser.specs.Brackets.{Bracket, Opening, Closing, bracket_of, bracket, Passed, NothingPassed, OnePassed, PairPassed, PassedWithin, stacked}
 use Rattle.c_parser.specs.ReadExpressions.{Read}
-use Rattle.c_parser.specs.Items.{outside, depth_behind, has_semicolon, closed_name, Closed, AClosed}
+use Rattle.c_parser.specs.Items.{outside, depth_behind, has_semicolon, Closed, AClosed}
 use Rattle.c_parser.specs.ReadItems.{is_end, to_semicolon, is_closed, read_closed}
 use Rattle.c_parser.proofs.BracketLaws.{closes_of, same_self, within_room}
 
@@ -58,7 +57,7 @@ module _ (b r : ℕ) (Inner : List Token → List Token → Type 0)
       ap (λ (x : List Token). to_semicolon b stack (t ∷ x)) (append_assoc n.taken (sign_token d q ∷ []) vs)
       ∙ pushed b stack t (d ∷ stack) (n.taken ++ sign_token d q ∷ vs) end opens
       ∙ ap (λ (o : Read (List Token)). o >>= λ x. Some (t ∷ x.0, x.1))
-        (n.scanned (sign_token d q ∷ vs) ∙ ap (put n.taken) (pushed b (d ∷ stack) (sign_token d q) stack vs refl shuts) ∙ put_both n.taken (sign_token d q ∷ []) (to_semicolon b stack vs))
+      (n.scanned (sign_token d q ∷ vs) ∙ ap (put n.taken) (pushed b (d ∷ stack) (sign_token d q) stack vs refl shuts) ∙ put_both n.taken (sign_token d q ∷ []) (to_semicolon b stack vs))
       ∙ put_one t (n.taken ++ sign_token d q ∷ []) (to_semicolon b stack vs)
 
   inside_pair : (k : ℕ) (d : Punct) (f : List Token) (q : Spot) (us : List Token) → bracket_of (Some d) ≡ Closing d → ((vs : List Token) → outside (suc (suc k)) (f ++ vs) ≡ outside (suc (suc k)) vs) →
@@ -84,10 +83,10 @@ module _ (b r : ℕ) (Inner : List Token → List Token → Type 0)
         taken = (t ∷ f) ++ n.taken;
         whole = ap (λ (x : List Token). t ∷ x) (m.whole ∙ sym (append_assoc m.taken (sign_token d q ∷ []) mid) ∙ ap (λ (x : List Token). f ++ x) n.whole ∙ sym (append_assoc f n.taken rest));
         scanned = λ vs. ap (λ (x : List Token). to_semicolon b (c ∷ stack) (t ∷ x)) (append_assoc f n.taken vs) ∙ pair_taken (c ∷ stack) t d us mid q refl e i (omega arith) m (n.taken ++ vs)
-          ∙ ap (put (t ∷ f)) (n.scanned vs) ∙ put_both (t ∷ f) n.taken (to_semicolon b (c ∷ stack) vs);
+            ∙ ap (put (t ∷ f)) (n.scanned vs) ∙ put_both (t ∷ f) n.taken (to_semicolon b (c ∷ stack) vs);
         inside = λ vs. ap (λ (x : Bracket). outside (depth_behind (suc (length stack)) x) ((f ++ n.taken) ++ vs)) e
-          ∙ ap (outside (suc (suc (length stack)))) (append_assoc f n.taken vs)
-          ∙ inside_pair (length stack) d m.taken q (n.taken ++ vs) (closes_of (sign_of t.kind) d e) m.inside ∙ n.inside vs;
+            ∙ ap (outside (suc (suc (length stack)))) (append_assoc f n.taken vs)
+            ∙ inside_pair (length stack) d m.taken q (n.taken ++ vs) (closes_of (sign_of t.kind) d e) m.inside ∙ n.inside vs;
       }
 
 within_taken : (b r : ℕ) (ts rest : List Token) → PassedWithin r ts rest → (c : Punct) (stack : List Punct) → length stack + r ≤ b → Taken b c stack ts rest
@@ -121,6 +120,6 @@ front_scanned b ts (PairPassed {t = t} {ts = vs} {mid = mid} {c = d} {q = q} e i
 pub closed_read : (h b : ℕ) (ts : List Token) (x : Option Item) (rest : List Token) → Closed h b ts x rest → read_closed h b ts ≡ Some (x, rest)
 closed_read h b ts x rest (AClosed {front = front} {name = name} last q p no_end no_typedef all called) =
     let found : to_semicolon b [] (front ++ sign_token sign.Semicolon q ∷ last) ≡ Some (front, last) =
-        front_scanned b front p no_end (sign_token sign.Semicolon q ∷ last) ∙ ap (λ (f : List Token). Some (f, last)) (append-nil front) in
+    front_scanned b front p no_end (sign_token sign.Semicolon q ∷ last) ∙ ap (λ (f : List Token). Some (f, last)) (append-nil front) in
     let closed : is_closed front ≡ true = and_from _ _ (not_from_false _ no_typedef) all in
     rw (found, called, closed) refl

@@ -1,10 +1,9 @@
 -- Each expression that tokens spell is read from them.
-use Rattle.std.proofs.Common.{◌≡◌, ℕ, zero, suc, ◌+◌, ◌≤◌, ◌<◌, max, List, [], ◌∷◌, length, drop, Bool, true, false, refl, sym, ap, ◌∙◌, subst, cond, inl, inr, ◌⊎◌, Option, Some, None, rules, arith, nat_lt, ◌&&◌, not}
-use Rattle.std.proofs.lemmas.Bool.{cond-true, cond-false, le-ltb, lt-ltb, le-leb, lt-leb, and_left, and_right, and_from}
+use Rattle.std.proofs.Common.{◌≡◌, ℕ, zero, suc, ◌+◌, ◌≤◌, ◌<◌, max, List, ◌∷◌, length, Bool, true, false, refl, ap, ◌∙◌, subst, cond, inl, inr, Option, Some, None, arith, ◌&&◌, not}
+use Rattle.std.proofs.lemmas.Bool.{cond-false, le-ltb, le-leb, lt-leb, and_left, and_right, and_from}
 use Rattle.std.specs.Prelude.{nat_le}
 use Rattle.c_core.specs.declared.number.IntType.{IntType}
 use Rattle.c_core.specs.declared.number.Spot.{Spot}
-use Rattle.c_core.specs.declared.number.BinOp.{BinOp}
 use Rattle.c_core.specs.declared.number.StepOp.{StepOp}
 use Rattle.c_tokens.specs.declared.token.Token.{Token}
 use Rattle.c_tokens.specs.declared.token.Punct.{Punct}
@@ -12,11 +11,11 @@ use Rattle.c_tokens.specs.declared.token.Punct.TheVariants as sign
 use Rattle.c_parser.specs.Tree.{Exp, Expr, Node, exps, moved}
 use Rattle.c_parser.specs.Tree as node
 use Rattle.c_parser.specs.Heights.{height, height_in, heights}
-use Rattle.c_parser.specs.Signs.{◌>>=◌, sign_token, word_token, place, sign_at, is_sign, expr, assignment, conditional, binary, cast, unary, postfix, primary, Joint, Sequence, Both, Either, Plain, joined, joins, assigns, signs, steps_before, steps_behind, same_sign}
+use Rattle.c_parser.specs.Signs.{◌>>=◌, sign_token, place, sign_at, is_sign, expr, assignment, conditional, cast, unary, postfix, Joint, Sequence, Both, Either, Plain, joined, joins, assigns, signs, steps_before, steps_behind, same_sign}
 use Rattle.c_parser.specs.Words.{TypeWord, type_of}
 use Rattle.c_parser.specs.Expressions.{NameWords, NoMoreWords, AConst, ATypeWord, Arguments, LastArgument, MoreArguments, Expression, Stronger, Joined, Assigned, Chosen, SteppedBefore, Signed, Converted, SteppedBehind, AName, AnElement, ABareCall, ACall, ANumber, ACharacter, AGroup, Within, has_room, Spells}
-use Rattle.c_parser.specs.ReadExpressions.{Read, closing, grown, begins_type, name_words, is_cast, joint_at, listed, arguments, called, named, stepped, stepped_by, with_steps, grouped, converted, in_parens, signed, prefixed, opened, operand, operand_at, joined_by, tail, choice, stored, assign_at, full, level, within, read}
-use Rattle.c_parser.proofs.SignLaws.{grip, grip_of, JoinFacts, join_facts, step_grip, assign_grip, PrefixFacts, step_before_facts, signed_facts, no_step, no_assign, no_joint, loose, grip_gap}
+use Rattle.c_parser.specs.ReadExpressions.{Read, grown, begins_type, name_words, is_cast, joint_at, listed, arguments, called, named, stepped, with_steps, grouped, converted, in_parens, prefixed, opened, operand, tail, choice, stored, assign_at, full, level, within, read}
+use Rattle.c_parser.proofs.SignLaws.{grip, grip_of, join_facts, step_grip, assign_grip, step_before_facts, signed_facts, no_step, no_assign, no_joint, loose, grip_gap}
 use Rattle.c_parser.proofs.WordLaws.{no_part_of_name, type_part}
 
 -- the front of the tokens is something, and no closing parenthesis or type word
@@ -75,7 +74,6 @@ unfolding Within
 within_front zero k ts e rest h = absurd h
 within_front (suc b) k ts e rest h = expression_front (has_room b) (Within b) (within_front b) k ts e rest h
 
-
 words_read : (ts : List Token) (words : List TypeWord) (q : Spot) (mid : List Token) → NameWords ts words (sign_token sign.ParenClose q ∷ mid) → name_words ts ≡ (words, sign_token sign.ParenClose q ∷ mid)
 words_read ts words q mid NoMoreWords = refl
 words_read ts words q mid (AConst n) = rw (words_read _ _ _ _ n) refl
@@ -91,7 +89,6 @@ module _ (room : Bool) (Inner : ℕ → List Token → Exp → List Token → Ty
     (paren : ℕ → ℕ → List Token → Read Exp) (below : ℕ → List Token → Read Exp) (h : ℕ)
     (paren_complete : (g k : ℕ) (ts : List Token) (e : Exp) (rest : List Token) → 1 ≤ k → k ≤ 15 → Inner k ts e rest → height e ≤ g → grip rest < k → paren g k ts ≡ Some (e, rest))
     (below_complete : (k : ℕ) (ts : List Token) (e : Exp) (rest : List Token) → 1 ≤ k → k ≤ 15 → Expression room Inner k ts e rest → height e ≤ h → grip rest < k → below k ts ≡ Some (e, rest)) where
-
   grown_low : (p : Spot) (n : Node) (m : List Token) → height_in n ≤ h → grown h p n m ≡ Some (Expr p n, m)
   grown_low p n m low = cond-false _ _ _ (le-ltb h (height_in n) low)
 
@@ -284,7 +281,7 @@ module _ (room : Bool) (Inner : ℕ → List Token → Exp → List Token → Ty
   conditional_phase j k ts e rest few lo (Chosen {first = m1} {second = m2} {e = c} {a = a} {b = b} {q = q} {r = r} x y z) hi g plain =
       let m : max j 4 ≡ 4 = omega arith in
       let f = follows j ts c (sign_token sign.Question q ∷ m1) (climb j (max j 4) 4 ts c (sign_token sign.Question q ∷ m1) x (omega arith) (omega arith) (omega (arith, m)) (omega arith) (omega arith) (omega arith) (omega arith)
-        (no_assign_at ts j (sign_token sign.Question q ∷ m1) refl)) (omega (arith, m)) in
+      (no_assign_at ts j (sign_token sign.Question q ∷ m1) refl)) (omega (arith, m)) in
       let h1 = below_complete 1 m1 a (sign_token sign.Colon r ∷ m2) (omega arith) (omega arith) y (omega arith) (omega arith) in
       let h2 = below_complete 3 m2 b rest (omega arith) (omega arith) z (omega arith) g in
       f ∙ chosen_one h1 h2
@@ -348,12 +345,12 @@ module _ (room : Bool) (Inner : ℕ → List Token → Exp → List Token → Ty
   whole_begun k ts e rest lo (Joined {mid = mid} {a = a} {b = b} {s = s} {j = o} {q = q} x l r) hi g =
       elim ((join_facts s (k, o) x).apart) [
         | inl f ↦
-          let held : grip (sign_token s q ∷ mid) ≡ k = (join_facts s (k, o) x).held in
-          let t : height_in (joined o a b) ≡ max (height a) (height b) = joined_height o a b in
-          let ha : height a ≤ h = omega (arith, t, hi) in
-          let hb : height b ≤ h = omega (arith, t, hi) in
-          let c = whole_begun k ts a (sign_token s q ∷ mid) lo l (omega arith) (omega (arith, held, f)) in
-          append k ts a b s o q mid rest x lo (below_complete (suc k) mid b rest (omega arith) (omega (arith, f)) r hb (omega (arith, f, g))) ha hb c.n c.first c.mid c.starts c.same c.enough
+            let held : grip (sign_token s q ∷ mid) ≡ k = (join_facts s (k, o) x).held in
+            let t : height_in (joined o a b) ≡ max (height a) (height b) = joined_height o a b in
+            let ha : height a ≤ h = omega (arith, t, hi) in
+            let hb : height b ≤ h = omega (arith, t, hi) in
+            let c = whole_begun k ts a (sign_token s q ∷ mid) lo l (omega arith) (omega (arith, held, f)) in
+            append k ts a b s o q mid rest x lo (below_complete (suc k) mid b rest (omega arith) (omega (arith, f)) r hb (omega (arith, f, g))) ha hb c.n c.first c.mid c.starts c.same c.enough
         | inr f ↦ begin ts e rest (assigned_phase 1 k ts e rest (omega arith) (omega (arith, f)) (Joined x l r) hi g)
       ]
   whole_begun k ts e rest lo d hi g = begin ts e rest (assigned_phase 1 k ts e rest (omega arith) (omega arith) d hi g)

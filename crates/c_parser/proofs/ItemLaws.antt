@@ -1,6 +1,6 @@
 -- Each item that tokens spell is read from them.
-use Rattle.std.proofs.Common.{◌≡◌, ℕ, zero, suc, ◌+◌, ◌≤◌, ◌<◌, max, List, [], ◌∷◌, length, drop, Bool, true, false, refl, sym, ap, ◌∙◌, subst, cond, inl, inr, ◌⊎◌, Option, Some, None, rules, arith, ◌&&◌, true≢false}
-use Rattle.std.proofs.lemmas.Bool.{cond-true, cond-false, false_from_ne_true, le-leb, and_from}
+use Rattle.std.proofs.Common.{◌≡◌, ℕ, zero, suc, ◌≤◌, ◌<◌, List, [], ◌∷◌, length, drop, true, false, refl, sym, ap, ◌∙◌, Option, Some, None, arith}
+use Rattle.std.proofs.lemmas.Bool.{false_from_ne_true, le-leb, and_from}
 use Rattle.std.specs.Prelude.{codes}
 use Rattle.c_core.specs.declared.number.IntType.{IntType}
 use Rattle.c_core.specs.declared.number.Spot.{Spot}
@@ -10,22 +10,19 @@ use Rattle.c_tokens.specs.declared.token.TokenKind.TheVariants as kind
 use Rattle.c_tokens.specs.declared.token.Punct.{Punct}
 use Rattle.c_tokens.specs.declared.token.Punct.TheVariants as sign
 use Rattle.c_parser.specs.Tree.{Declared, Stm, Stmt, Block, stms, Param, Item}
-use Rattle.c_parser.specs.Tree as item
-use Rattle.c_parser.specs.Heights.{height_of, height_of_block, height_of_declared, height_if, height_of_init}
-use Rattle.c_parser.specs.Signs.{◌>>=◌, token, sign_token, word_token, is_sign, is_word}
-use Rattle.c_parser.specs.Words.{is_name}
-use Rattle.c_parser.specs.Brackets.{PassedWithin, behind}
-use Rattle.c_parser.specs.ReadExpressions.{Read, closing}
-use Rattle.c_parser.specs.Declarations.{Typed, Attributes, name_at, read_type, behind_attributes}
-use Rattle.c_parser.specs.Statements.{Declares, BracedWithin}
-use Rattle.c_parser.specs.ReadStatements.{declares, braced_within}
+use Rattle.c_parser.specs.Heights.{height_of_block, height_of_declared, height_if, height_of_init}
+use Rattle.c_parser.specs.Signs.{token, sign_token, word_token, is_sign, is_word}
+use Rattle.c_parser.specs.Brackets.{PassedWithin}
+use Rattle.c_parser.specs.ReadExpressions.{Read}
+use Rattle.c_parser.specs.Declarations.{read_type}
+use Rattle.c_parser.specs.Statements.{BracedWithin}
 use Rattle.c_parser.specs.Items.{reach_error, Parameter, AParameter, ParameterList, LastParameter, MoreParameters, Parameters, NoParameters, VoidParameters, SomeParameters, ParameterType, Unnamed, Named, TypeList, LastType, MoreTypes, ParameterTypes, Unstated, VoidTypes, StatedTypes, ParametersWithin, TypesWithin, AreLow, Reach, AReach, Function, AFunction, Prototype, APrototype, Global, AGlobal, Nothing, ASemicolon}
-use Rattle.c_parser.specs.ReadItems.{past, is_void, read_parameter, read_parameter_list, read_parameters, read_parameter_type, read_type_list, read_parameter_types, parameters_within, types_within, is_low, read_reach, read_body, read_function, read_prototype, read_global, read_nothing}
+use Rattle.c_parser.specs.ReadItems.{is_void, read_parameter, read_parameter_list, read_parameters, read_parameter_type, read_type_list, read_parameter_types, parameters_within, types_within, is_low, read_reach, read_body, read_function, read_prototype, read_global, read_nothing}
 use Rattle.c_parser.proofs.SignLaws.{taken}
 use Rattle.c_parser.proofs.WordLaws.{both_true, spelled_same}
 use Rattle.c_parser.proofs.BracketLaws.{behind_passed}
 use Rattle.c_parser.proofs.DeclarationLaws.{name_is_no_part, attributes_read, type_read, specifiers_shorter}
-use Rattle.c_parser.proofs.StatementKnot.{once, declares_read, braced_read}
+use Rattle.c_parser.proofs.StatementKnot.{declares_read, braced_read}
 
 word_kind : (v : List ℕ) (k : TokenKind) (p : Spot) (ts : List Token) → is_word v (token k p ∷ ts) ≡ true → token k p ∷ ts ≡ word_token v p ∷ ts
 word_kind v (kind.Word w) p ts e = ap (λ (x : List ℕ). word_token x p ∷ ts) (spelled_same v w e)
@@ -145,20 +142,31 @@ low_true h (d ∷ ds) l = and_from _ _ (le-leb (height_if d.size) h l.0) (and_fr
 module _ (h b : ℕ) where
   pub reach_read : (ts : List Token) (x : Option Item) (rest : List Token) → Reach h b ts x rest → read_reach h b ts ≡ Some (x, rest)
   reach_read ts x rest (AReach {first = first} {second = second} {third = third} {result = result} {p = p} {q = q} {u = u} r z t i a k) =
-      rw (type_read b true ts result (word_token reach_error p ∷ sign_token sign.ParenOpen q ∷ first) t (name_is_no_part true reach_error refl),
-        behind_passed b sign.ParenClose first r second refl i, attributes_read b (length second) second (sign_token sign.BraceOpen u ∷ third) (omega arith) a refl,
-        behind_passed b sign.BraceClose third z rest refl k) refl
+      rw (
+        type_read b true ts result (word_token reach_error p ∷ sign_token sign.ParenOpen q ∷ first) t (name_is_no_part true reach_error refl),
+        behind_passed b sign.ParenClose first r second refl i,
+        attributes_read b (length second) second (sign_token sign.BraceOpen u ∷ third) (omega arith) a refl,
+        behind_passed b sign.BraceClose third z rest refl k,
+      ) refl
 
   pub function_read : (ts : List Token) (x : Option Item) (rest : List Token) → Function h b ts x rest → read_function h b ts ≡ Some (x, rest)
   function_read ts x rest (AFunction {first = first} {second = second} {third = third} {result = result} {w = w} {xs = xs} {p = p} {q = q} {u = u} ss r z t n ps a d hi) =
-      rw (type_read b true ts result (word_token w p ∷ sign_token sign.ParenOpen q ∷ first) t (name_is_no_part true w n), n,
-        parameters_in b first xs r second ps, attributes_read b (length second) second (sign_token sign.BraceOpen u ∷ third) (omega arith) a refl,
-        body_read h b u z third ss rest d hi) refl
+      rw (
+        type_read b true ts result (word_token w p ∷ sign_token sign.ParenOpen q ∷ first) t (name_is_no_part true w n),
+        n,
+        parameters_in b first xs r second ps,
+        attributes_read b (length second) second (sign_token sign.BraceOpen u ∷ third) (omega arith) a refl,
+        body_read h b u z third ss rest d hi,
+      ) refl
 
   pub prototype_read : (ts : List Token) (x : Option Item) (rest : List Token) → Prototype h b ts x rest → read_prototype h b ts ≡ Some (x, rest)
   prototype_read ts x rest (APrototype {first = first} {second = second} {result = result} {w = w} {p = p} {q = q} {z = z} tys r t n ps a) =
-      rw (type_read b true ts result (word_token w p ∷ sign_token sign.ParenOpen q ∷ first) t (name_is_no_part true w n), n,
-        types_in b first tys r second ps, attributes_read b (length second) second (sign_token sign.Semicolon z ∷ rest) (omega arith) a refl) refl
+      rw (
+        type_read b true ts result (word_token w p ∷ sign_token sign.ParenOpen q ∷ first) t (name_is_no_part true w n),
+        n,
+        types_in b first tys r second ps,
+        attributes_read b (length second) second (sign_token sign.Semicolon z ∷ rest) (omega arith) a refl,
+      ) refl
 
   pub global_read : (ts : List Token) (x : Option Item) (rest : List Token) → Global h b ts x rest → read_global h b ts ≡ Some (x, rest)
   global_read ts x rest (AGlobal {ds = ds} d l) = rw (declares_read b h true ts ds rest d (low_height h ds l), low_true h ds l) refl

@@ -1,5 +1,5 @@
 -- Facts of the tables of signs, and how strongly what stands first holds to an operand before it.
-use Rattle.std.proofs.Common.{◌≡◌, ℕ, zero, suc, ◌≤◌, ◌<◌, List, [], ◌∷◌, drop, Bool, true, false, refl, sym, ap, ◌∙◌, subst, cond, inl, inr, ◌⊎◌, Option, Some, None, rules, arith, nat_lt, ◌&&◌}
+use Rattle.std.proofs.Common.{◌≡◌, ℕ, zero, suc, ◌≤◌, ◌<◌, List, [], ◌∷◌, drop, true, false, refl, sym, ap, ◌∙◌, subst, inl, inr, ◌⊎◌, Option, Some, None, arith}
 use Rattle.std.proofs.lemmas.Bool.{eqb-true, false_from_ne_true, lt-ltb, cond-true}
 use Rattle.c_core.specs.declared.number.Spot.{Spot}
 use Rattle.c_core.specs.declared.number.BinOp.{BinOp}
@@ -10,7 +10,7 @@ use Rattle.c_tokens.specs.declared.token.TokenKind.{TokenKind}
 use Rattle.c_tokens.specs.declared.token.TokenKind.TheVariants as kind
 use Rattle.c_tokens.specs.declared.token.Punct.{Punct}
 use Rattle.c_tokens.specs.declared.token.Punct.TheVariants as sign
-use Rattle.c_parser.specs.Signs.{◌>>=◌, token, sign_token, sign_of, sign_at, number_of_sign, same_sign, is_this, is_sign, Joint, joins, signs, steps_before, steps_behind, assigns}
+use Rattle.c_parser.specs.Signs.{◌>>=◌, token, sign_token, sign_at, number_of_sign, same_sign, is_sign, Joint, joins, signs, steps_before, steps_behind, assigns}
 use Rattle.c_parser.specs.ReadExpressions.{at_least, joint_at}
 
 pub some_same : {A : Type 0} {x y : A} → Some x ≡ Some y → x ≡ y

@@ -1,28 +1,27 @@
 -- Statements within limits of brackets and height are read.
-use Rattle.std.proofs.Common.{◌≡◌, ℕ, zero, suc, ◌+◌, ◌≤◌, ◌<◌, max, List, [], ◌∷◌, length, drop, Bool, true, false, refl, sym, ap, ◌∙◌, subst, cond, inl, inr, ◌⊎◌, Option, Some, None, rules, arith, ◌&&◌, true≢false}
-use Rattle.std.proofs.lemmas.Bool.{cond-true, cond-false, and_left, and_right, false_from_ne_true, and_parts}
-use Rattle.std.specs.Prelude.{codes, is_some}
+use Rattle.std.proofs.Common.{◌≡◌, ℕ, zero, suc, ◌+◌, ◌≤◌, ◌<◌, max, List, [], ◌∷◌, length, drop, Bool, true, false, refl, sym, ap, ◌∙◌, subst, cond, Option, Some, None, arith, ◌&&◌, true≢false}
+use Rattle.std.proofs.lemmas.Bool.{and_right, false_from_ne_true}
+use Rattle.std.specs.Prelude.{is_some}
 use Rattle.c_core.specs.declared.number.Spot.{Spot}
 use Rattle.c_tokens.specs.declared.token.Token.{Token}
 use Rattle.c_tokens.specs.declared.token.TokenKind.{TokenKind}
 use Rattle.c_tokens.specs.declared.token.TokenKind.TheVariants as kind
-use Rattle.c_tokens.specs.declared.token.Punct.{Punct}
 use Rattle.c_tokens.specs.declared.token.Punct.TheVariants as sign
 use Rattle.c_parser.specs.Tree.{Exp, Expr, Declared, First, Stm, Stmt, stms}
 use Rattle.c_parser.specs.Tree as form
 use Rattle.c_parser.specs.Heights.{height, height_if, height_of, height_of_declared, height_of_first, height_of_block}
-use Rattle.c_parser.specs.Signs.{◌>>=◌, token, sign_token, word_token, place, is_sign, expr}
+use Rattle.c_parser.specs.Signs.{token, sign_token, word_token, is_sign, expr}
 use Rattle.c_parser.specs.Words.{is_name, TypeWord, type_of}
 use Rattle.c_parser.specs.Brackets.{PassedWithin}
-use Rattle.c_parser.specs.Expressions.{Expression, Stronger, AName, Within, Spells, has_room}
-use Rattle.c_parser.specs.ReadExpressions.{Read, read, within}
-use Rattle.c_parser.specs.Declarations.{begins_declaration, name_of, name_at, part_at, part_of, is_part, Typed, Specifiers, NoMoreSpecifiers, ATypeWord, ASpecifier, AnAttributeBefore, Declaration, ADeclaration, Declarators, LastDeclarator, MoreDeclarators, ADeclarator}
-use Rattle.c_parser.specs.Statements.{Parts, Optional, NoExpression, AnExpression, FirstPart, DeclaredFirst, ExpressionFirst, NothingFirst, ForParts, AllParts, Statement, AnEmpty, AnExpressionStatement, ABlock, ABreak, AContinue, AReturn, AReturnOf, ALabel, AnIf, AnIfElse, AWhile, ADo, AFor, Element, ADeclarationStatement, AStatement, Elements, NoMoreElements, MoreElements, Declares, HeaderWithin, BracedWithin}
-use Rattle.c_parser.specs.ReadStatements.{elements, declares, header_within, statement_level, braced_within, statement_from, start}
-use Rattle.c_parser.proofs.SignLaws.{grip, taken}
+use Rattle.c_parser.specs.Expressions.{Stronger, AName, Within, Spells, has_room}
+use Rattle.c_parser.specs.ReadExpressions.{read, within}
+use Rattle.c_parser.specs.Declarations.{begins_declaration, name_of, name_at, is_part, Specifiers, NoMoreSpecifiers, ATypeWord, ASpecifier, AnAttributeBefore, ADeclaration}
+use Rattle.c_parser.specs.Statements.{Parts, Optional, NoExpression, AnExpression, FirstPart, DeclaredFirst, ExpressionFirst, NothingFirst, AllParts, Statement, AnEmpty, AnExpressionStatement, ABlock, ABreak, AContinue, AReturn, AReturnOf, ALabel, AnIf, AnIfElse, AWhile, ADo, AFor, Element, ADeclarationStatement, AStatement, Elements, NoMoreElements, MoreElements, Declares, HeaderWithin, BracedWithin}
+use Rattle.c_parser.specs.ReadStatements.{elements, declares, header_within, statement_level, braced_within}
+use Rattle.c_parser.proofs.SignLaws.{taken}
 use Rattle.c_parser.proofs.WordLaws.{both_true}
 use Rattle.c_parser.proofs.Complete.{Front, read_complete, within_complete, expression_front, within_front}
-use Rattle.c_parser.proofs.Begins.{may_begin, no_sign, no_word, no_declaration, expression_begins, within_begins}
+use Rattle.c_parser.proofs.Begins.{may_begin, no_sign, no_declaration, expression_begins, within_begins}
 use Rattle.c_parser.proofs.DeclarationLaws.{type_is_part, specifier_is_part, attribute_is_part, name_is_no_part, declaration_read, declaration_shorter}
 use Rattle.c_parser.proofs.StatementLaws.{parts_read, statement_read}
 
@@ -93,21 +92,21 @@ declares_begin b ts ds rest (ADeclaration {mid = mid} {ty = ty} t s) = specifier
 pub declares_read : (b h : ℕ) (outside : Bool) (ts : List Token) (ds : List Declared) (rest : List Token) → Declares b outside ts ds rest → height_of_declared ds ≤ h → declares b h outside ts ≡ Some (ds, rest)
 declares_read b h outside ts ds rest d hi =
     declaration_read b (Spells b) (Within b) (read b h) (within b h) h (λ k us e last s. (within_front b k us e last s).some) (λ k us e last s. no_sign sign.BraceClose us (within_begins b k us e last s) refl)
-      (λ k us e last s. (no_sign sign.BraceOpen us (spells_begins b k us e last s) refl, (spells_front b k us e last s).some))
-      (λ k us e last lo up s low g. read_complete b h k us e last lo up s low g) (λ k us e last lo up s low g. within_complete b h k us e last lo up s low g) outside ts ds rest d hi
+    (λ k us e last s. (no_sign sign.BraceOpen us (spells_begins b k us e last s) refl, (spells_front b k us e last s).some))
+    (λ k us e last lo up s low g. read_complete b h k us e last lo up s low g) (λ k us e last lo up s low g. within_complete b h k us e last lo up s low g) outside ts ds rest d hi
 
 declares_shorter : (b : ℕ) (outside : Bool) (ts : List Token) (ds : List Declared) (rest : List Token) → Declares b outside ts ds rest → length rest < length ts
 declares_shorter b outside ts ds rest d =
     declaration_shorter b (Spells b) (Within b) (read b 0) (within b 0) 0 (λ k us e last s. (within_front b k us e last s).some) (λ k us e last s. no_sign sign.BraceClose us (within_begins b k us e last s) refl)
-      (λ k us e last s. (no_sign sign.BraceOpen us (spells_begins b k us e last s) refl, (spells_front b k us e last s).some))
-      (λ k us e last lo up s low g. read_complete b 0 k us e last lo up s low g) (λ k us e last lo up s low g. within_complete b 0 k us e last lo up s low g) outside ts ds rest d
+    (λ k us e last s. (no_sign sign.BraceOpen us (spells_begins b k us e last s) refl, (spells_front b k us e last s).some))
+    (λ k us e last lo up s low g. read_complete b 0 k us e last lo up s low g) (λ k us e last lo up s low g. within_complete b 0 k us e last lo up s low g) outside ts ds rest d
 
 header_read : (b h : ℕ) (ts : List Token) (f : First) (test step : Option Exp) (rest : List Token) → HeaderWithin b ts (f, test, step) rest → height_of_first f ≤ h → height_if test ≤ h → height_if step ≤ h → header_within b h ts ≡ Some ((f, test, step), rest)
 unfolding HeaderWithin header_within
 header_read zero h ts f test step rest d hf ht hs = absurd d
 header_read (suc b) h ts f test step rest d hf ht hs =
     parts_read (Spells b expr) (Declares b false) (read b h expr) (declares b h false) h (spells_begins b expr) (λ us e last s low g. read_complete b h 1 us e last (omega arith) (omega arith) s low g)
-      (declares_begin b) (declares_read b h false) ts f test step rest d hf ht hs
+    (declares_begin b) (declares_read b h false) ts f test step rest d hf ht hs
 
 module _ (Whole Paren : List Token → Exp → List Token → Type 0) (Declares' : List Token → List Declared → List Token → Type 0)
     (Header : List Token → Parts → List Token → Type 0) (Braced : List Token → List Stm → List Token → Type 0)
@@ -172,7 +171,7 @@ unfolding BracedWithin
 braced_shorter_at zero ts ss rest d = absurd d
 braced_shorter_at (suc b) ts ss rest d =
     elements_shorter (Spells b expr) (Within b expr) (Declares b false) (HeaderWithin b) (BracedWithin b) (spells_begins b expr) (λ us e last s. (spells_front b expr us e last s).some) (λ us e last s. (within_front b expr us e last s).some)
-      (header_shorter_at b) (braced_shorter_at b) (declares_shorter b false) ts ss rest d
+    (header_shorter_at b) (braced_shorter_at b) (declares_shorter b false) ts ss rest d
 
 abbrev StatementAt : ℕ → List Token → Stm → List Token → Type 0
 StatementAt b = Statement (Spells b expr) (Within b expr) (Declares b false) (HeaderWithin b) (BracedWithin b)
@@ -181,7 +180,7 @@ begun_at : (b : ℕ) (ts : List Token) (s : Stm) (rest : List Token) → Stateme
     (is_sign sign.BraceClose ts ≡ false) × (begins_declaration ts ≡ false) × (length rest < length ts)
 begun_at b ts s rest d =
     let x = statement_begun (Spells b expr) (Within b expr) (Declares b false) (HeaderWithin b) (BracedWithin b) (spells_begins b expr) (λ us e last s. (spells_front b expr us e last s).some) (λ us e last s. (within_front b expr us e last s).some)
-      (header_shorter_at b) (braced_shorter_at b) (declares_shorter b false) ts s rest d in
+    (header_shorter_at b) (braced_shorter_at b) (declares_shorter b false) ts s rest d in
     (x.no_close, x.no_declaration, x.shorter)
 
 module _ (b : ℕ) (braced_read : (h : ℕ) (ts : List Token) (ss : List Stm) (rest : List Token) → BracedWithin b ts ss rest → height_of_block (stms ss) ≤ h → braced_within b h ts ≡ Some (ss, rest)) where
@@ -195,8 +194,8 @@ module _ (b : ℕ) (braced_read : (h : ℕ) (ts : List Token) (ss : List Stm) (r
   level_read (suc h) declared ts s rest d hi =
       let none : (declared && begins_declaration ts) ≡ false = and_right declared _ (begun_at b ts s rest d).1 in
       rw (statement_level, none) (statement_read (Spells b expr) (Within b expr) (Declares b false) (HeaderWithin b) (BracedWithin b) (read b h expr) (within b h expr) (header_within b h) (braced_within b h) (statement_level b (braced_within b) h false) h
-        (spells_begins b expr) (no_label b) (λ us e last a low g. read_complete b h 1 us e last (omega arith) (omega arith) a low g) (λ us e last a low g. within_complete b h 1 us e last (omega arith) (omega arith) a low g)
-        (header_read b h) (braced_read h) (level_read h false) ts s rest d hi)
+      (spells_begins b expr) (no_label b) (λ us e last a low g. read_complete b h 1 us e last (omega arith) (omega arith) a low g) (λ us e last a low g. within_complete b h 1 us e last (omega arith) (omega arith) a low g)
+      (header_read b h) (braced_read h) (level_read h false) ts s rest d hi)
 
   element_read : (h : ℕ) (ts : List Token) (s : Stm) (rest : List Token) → Element (Spells b expr) (Within b expr) (Declares b false) (HeaderWithin b) (BracedWithin b) ts s rest → height_of s ≤ h →
       statement_level b (braced_within b) h true ts ≡ Some (s, rest)

@@ -1,21 +1,20 @@
 -- Each statement that tokens spell is read from them.
-use Rattle.std.proofs.Common.{◌≡◌, ℕ, zero, suc, ◌+◌, ◌≤◌, ◌<◌, max, List, [], ◌∷◌, length, drop, Bool, true, false, refl, sym, ap, ◌∙◌, subst, cond, inl, inr, ◌⊎◌, Option, Some, None, rules, arith, ◌&&◌}
-use Rattle.std.proofs.lemmas.Bool.{cond-true, cond-false, and_left, and_right}
+use Rattle.std.proofs.Common.{◌≡◌, ℕ, suc, ◌≤◌, ◌<◌, List, ◌∷◌, drop, true, false, refl, ap, ◌∙◌, cond, Option, Some, None, arith, ◌&&◌}
+use Rattle.std.proofs.lemmas.Bool.{cond-true, cond-false}
 use Rattle.std.specs.Prelude.{codes, is_some}
 use Rattle.c_core.specs.declared.number.Spot.{Spot}
 use Rattle.c_tokens.specs.Numbers.{is_spelled}
 use Rattle.c_tokens.specs.declared.token.Token.{Token}
 use Rattle.c_tokens.specs.declared.token.Punct.{Punct}
 use Rattle.c_tokens.specs.declared.token.Punct.TheVariants as sign
-use Rattle.c_parser.specs.Tree.{Exp, Declared, First, NoFirst, FirstExp, FirstDeclared, Stm, Stmt, Else, NoElse, OrElse, stms}
-use Rattle.c_parser.specs.Tree as form
+use Rattle.c_parser.specs.Tree.{Exp, Declared, First, Stm, NoElse, stms}
 use Rattle.c_parser.specs.Heights.{height, height_if, height_of, height_of_declared, height_of_first, height_of_block}
-use Rattle.c_parser.specs.Signs.{◌>>=◌, sign_token, word_token, place, is_sign, is_word, expr}
+use Rattle.c_parser.specs.Signs.{sign_token, word_token, is_sign, is_word}
 use Rattle.c_parser.specs.Words.{is_name}
-use Rattle.c_parser.specs.ReadExpressions.{Read, closing}
+use Rattle.c_parser.specs.ReadExpressions.{Read}
 use Rattle.c_parser.specs.Declarations.{begins_declaration, name_at}
-use Rattle.c_parser.specs.Statements.{Parts, Optional, NoExpression, AnExpression, FirstPart, DeclaredFirst, ExpressionFirst, NothingFirst, ForParts, AllParts, Statement, AnEmpty, AnExpressionStatement, ABlock, ABreak, AContinue, AReturn, AReturnOf, ALabel, AnIf, AnIfElse, AWhile, ADo, AFor, Element, ADeclarationStatement, AStatement, Elements, NoMoreElements, MoreElements}
-use Rattle.c_parser.specs.ReadStatements.{Start, AtSemicolon, AtBrace, AtBreak, AtContinue, AtReturn, AtIf, AtWhile, AtDo, AtFor, AtLabel, AtExpression, start, optional, first_of, first_part, for_parts, in_parens, else_part, returned, do_test, header_in_parens, statement_from, elements}
+use Rattle.c_parser.specs.Statements.{Parts, Optional, NoExpression, AnExpression, FirstPart, DeclaredFirst, ExpressionFirst, NothingFirst, ForParts, AllParts, Statement, AnEmpty, AnExpressionStatement, ABlock, ABreak, AContinue, AReturn, AReturnOf, ALabel, AnIf, AnIfElse, AWhile, ADo, AFor}
+use Rattle.c_parser.specs.ReadStatements.{Start, AtLabel, AtExpression, start, optional, first_part, for_parts, in_parens, else_part, returned, header_in_parens, statement_from}
 use Rattle.c_parser.proofs.SignLaws.{grip}
 use Rattle.c_parser.proofs.WordLaws.{not_spelled}
 use Rattle.c_parser.proofs.Begins.{may_begin, no_sign, no_word, no_declaration}
@@ -47,8 +46,12 @@ module _ (Whole : List Token → Exp → List Token → Type 0) (Declares : List
   pub parts_read : (ts : List Token) (f : First) (test step : Option Exp) (rest : List Token) → ForParts Whole Declares ts (f, test, step) rest →
       height_of_first f ≤ h → height_if test ≤ h → height_if step ≤ h → for_parts whole declaration ts ≡ Some ((f, test, step), rest)
   parts_read ts f test step rest (AllParts {second = second} {third = third} {q = q} {r = r} a b c) hf ht hs =
-      rw (for_parts, first_read ts f second a hf, optional_read sign.Semicolon q second test third refl (omega arith) semicolon_apart b ht,
-        optional_read sign.ParenClose r third step _ refl (omega arith) close_apart c hs) refl
+      rw (
+        for_parts,
+        first_read ts f second a hf,
+        optional_read sign.Semicolon q second test third refl (omega arith) semicolon_apart b ht,
+        optional_read sign.ParenClose r third step _ refl (omega arith) close_apart c hs,
+      ) refl
 
 -- a name is no word that begins another statement
 label_start : (w : List ℕ) (p q : Spot) (ts : List Token) → is_name w ≡ true → start (word_token w p ∷ sign_token sign.Colon q ∷ ts) ≡ AtLabel
@@ -61,8 +64,18 @@ label_start w p q ts n =
 
 expression_start : (ts : List Token) → may_begin ts ≡ true → (is_some (name_at ts) && is_sign sign.Colon (drop 1 ts)) ≡ false → start ts ≡ AtExpression
 expression_start ts b f =
-    rw (no_sign sign.Semicolon ts b refl, no_sign sign.BraceOpen ts b refl, no_word (codes "break") ts refl b, no_word (codes "continue") ts refl b, no_word (codes "return") ts refl b,
-      no_word (codes "if") ts refl b, no_word (codes "while") ts refl b, no_word (codes "do") ts refl b, no_word (codes "for") ts refl b, f) refl
+    rw (
+      no_sign sign.Semicolon ts b refl,
+      no_sign sign.BraceOpen ts b refl,
+      no_word (codes "break") ts refl b,
+      no_word (codes "continue") ts refl b,
+      no_word (codes "return") ts refl b,
+      no_word (codes "if") ts refl b,
+      no_word (codes "while") ts refl b,
+      no_word (codes "do") ts refl b,
+      no_word (codes "for") ts refl b,
+      f,
+    ) refl
 
 module _ (Whole Paren : List Token → Exp → List Token → Type 0) (Declares : List Token → List Declared → List Token → Type 0)
     (Header : List Token → Parts → List Token → Type 0) (Braced : List Token → List Stm → List Token → Type 0)

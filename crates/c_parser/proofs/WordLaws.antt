@@ -1,5 +1,5 @@
 -- Names are no other words.
-use Rattle.std.proofs.Common.{◌≡◌, ℕ, List, [], ◌∷◌, Bool, true, false, refl, sym, ap, ◌∙◌, subst, Option, Some, None, rules, arith, ◌&&◌, ◌||◌, true≢false, inl, inr, ◌⊎◌}
+use Rattle.std.proofs.Common.{◌≡◌, ℕ, List, [], ◌∷◌, Bool, true, false, refl, sym, ap, ◌∙◌, subst, Some, None, ◌&&◌, ◌||◌, true≢false, inl, inr, ◌⊎◌}
 use Rattle.std.proofs.lemmas.Bool.{eqb-true, false_from_ne_true}
 use Rattle.std.specs.Prelude.{codes, ◌==◌, is_some}
 use Rattle.c_tokens.specs.Numbers.{is_spelled}
@@ -24,8 +24,16 @@ not_spelled v w f t = false_from_ne_true _ (λ e. true≢false (sym t ∙ ap is_
 
 pub no_type_word : (w : List ℕ) → is_name w ≡ true → type_word w ≡ None
 no_type_word w t =
-    rw (not_spelled (codes "void") w refl t, not_spelled (codes "_Bool") w refl t, not_spelled (codes "char") w refl t, not_spelled (codes "short") w refl t,
-      not_spelled (codes "int") w refl t, not_spelled (codes "long") w refl t, not_spelled (codes "signed") w refl t, not_spelled (codes "unsigned") w refl t) refl
+    rw (
+      not_spelled (codes "void") w refl t,
+      not_spelled (codes "_Bool") w refl t,
+      not_spelled (codes "char") w refl t,
+      not_spelled (codes "short") w refl t,
+      not_spelled (codes "int") w refl t,
+      not_spelled (codes "long") w refl t,
+      not_spelled (codes "signed") w refl t,
+      not_spelled (codes "unsigned") w refl t,
+    ) refl
 
 pub no_part_of_name : (w : List ℕ) → is_name w ≡ true → is_some (part_of_name (Some w)) ≡ false
 no_part_of_name w t = rw (not_spelled (codes "const") w refl t, no_type_word w t) refl
@@ -94,10 +102,18 @@ attribute_no_specifier outside w e = let n : NoSpecifier w = among NoSpecifier a
 pub name_no_specifier : (outside : Bool) (w : List ℕ) → is_name w ≡ true → may_specify outside w ≡ false
 name_no_specifier outside w t =
     apart outside w
-      (rw (not_spelled (codes "const") w refl t, not_spelled (codes "__const") w refl t, not_spelled (codes "inline") w refl t, not_spelled (codes "__inline") w refl t,
-        not_spelled (codes "__inline__") w refl t, not_spelled (codes "_Noreturn") w refl t, not_spelled (codes "register") w refl t, not_spelled (codes "auto") w refl t,
-        not_spelled (codes "__extension__") w refl t) refl)
-      (rw (not_spelled (codes "extern") w refl t, not_spelled (codes "static") w refl t) refl)
+    (rw (
+      not_spelled (codes "const") w refl t,
+      not_spelled (codes "__const") w refl t,
+      not_spelled (codes "inline") w refl t,
+      not_spelled (codes "__inline") w refl t,
+      not_spelled (codes "__inline__") w refl t,
+      not_spelled (codes "_Noreturn") w refl t,
+      not_spelled (codes "register") w refl t,
+      not_spelled (codes "auto") w refl t,
+      not_spelled (codes "__extension__") w refl t,
+    ) refl)
+    (rw (not_spelled (codes "extern") w refl t, not_spelled (codes "static") w refl t) refl)
 
 pub name_no_attribute : (w : List ℕ) → is_name w ≡ true → is_attribute w ≡ false
 name_no_attribute w t = rw (not_spelled (codes "__attribute__") w refl t, not_spelled (codes "__asm__") w refl t) refl

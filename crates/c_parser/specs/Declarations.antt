@@ -1,5 +1,5 @@
 -- Which declarations tokens spell (C11 6.7).
-use Rattle.std.specs.Prelude.{◌≡◌, ℕ, zero, suc, Bool, true, false, is_some, ◌||◌, length, drop, List, [], ◌∷◌, Option, Some, None, if◌then◌else◌}
+use Rattle.std.specs.Prelude.{◌≡◌, ℕ, zero, suc, Bool, true, false, length, drop, List, [], ◌∷◌, Option, Some, None, if◌then◌else◌}
 use Rattle.c_core.specs.declared.number.IntType.{IntType}
 use Rattle.c_core.specs.declared.number.Spot.{Spot}
 use Rattle.c_tokens.specs.declared.token.Token.{Token}

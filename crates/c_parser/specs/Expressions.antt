@@ -1,6 +1,6 @@
 -- Which expressions tokens spell (C11 6.5): `Expression .. k ts e rest` says that the front of ts up to rest spells e,
 -- whose parts hold together with the strength k at least.
-use Rattle.std.specs.Prelude.{◌≡◌, ℕ, ℤ, zero, suc, Bool, true, nat_lt, List, [], ◌∷◌, Option, Some, None, codes}
+use Rattle.std.specs.Prelude.{◌≡◌, ℕ, ℤ, zero, suc, Bool, true, nat_lt, List, [], ◌∷◌, Option, Some, codes}
 use Rattle.c_core.specs.declared.number.IntType.{IntType}
 use Rattle.c_core.specs.declared.number.Spot.{Spot}
 use Rattle.c_core.specs.declared.number.BinOp.{BinOp}

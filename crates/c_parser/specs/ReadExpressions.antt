@@ -1,6 +1,5 @@
 -- Reading expressions by strength: a function of the tokens, which gives what `Expressions` says.
-use Rattle.std.specs.Prelude.{ℕ, ℤ, zero, suc, max, Bool, true, false, not, ◌&&◌, nat_lt, nat_le, is_some, length, drop, List, [], ◌∷◌, Option, Some, None, if◌then◌else◌, codes}
-use Rattle.c_core.specs.declared.number.IntType.{IntType}
+use Rattle.std.specs.Prelude.{ℕ, zero, suc, max, Bool, true, false, not, ◌&&◌, nat_lt, nat_le, is_some, length, drop, List, [], ◌∷◌, Option, Some, None, if◌then◌else◌, codes}
 use Rattle.c_core.specs.declared.number.Spot.{Spot}
 use Rattle.c_core.specs.declared.number.BinOp.{BinOp}
 use Rattle.c_core.specs.declared.number.UnOp.{UnOp}

@@ -1,5 +1,5 @@
 -- Reading items: functions of the tokens, which give what `Items` says.
-use Rattle.std.specs.Prelude.{ℕ, zero, suc, Bool, true, false, not, ◌&&◌, is_some, nat_lt, nat_le, length, drop, List, [], ◌∷◌, Option, Some, None, if◌then◌else◌, codes}
+use Rattle.std.specs.Prelude.{ℕ, zero, suc, Bool, true, false, not, ◌&&◌, nat_le, length, drop, List, [], ◌∷◌, Option, Some, None, if◌then◌else◌, codes}
 use Rattle.std.specs.List.{list_all}
 use Rattle.c_core.specs.declared.number.IntType.{IntType}
 use Rattle.c_core.specs.declared.number.Spot.{Spot}
@@ -10,12 +10,12 @@ use Rattle.c_tokens.specs.declared.token.Punct.TheVariants as sign
 use Rattle.c_parser.specs.Tree.{Declared, Stm, Stmt, Block, stms, Param, Item}
 use Rattle.c_parser.specs.Tree as item
 use Rattle.c_parser.specs.Heights.{height_if, height_of_init}
-use Rattle.c_parser.specs.Signs.{◌>>=◌, place, is_sign, is_word, word_at}
+use Rattle.c_parser.specs.Signs.{◌>>=◌, place, is_sign, is_word}
 use Rattle.c_parser.specs.Brackets.{bracket, stacked, behind}
 use Rattle.c_parser.specs.ReadExpressions.{Read, closing}
 use Rattle.c_parser.specs.Declarations.{name_at, read_type, behind_attributes}
 use Rattle.c_parser.specs.ReadStatements.{declares, braced_within}
-use Rattle.c_parser.specs.Items.{reach_error, unless_reach, may_be_closed, outside, has_semicolon, closed_name}
+use Rattle.c_parser.specs.Items.{reach_error, unless_reach, may_be_closed, outside, closed_name}
 
 -- this sign stands next, and is passed
 abbrev pub past : Punct → List Token → Option (List Token)

@@ -1,8 +1,7 @@
 -- Trees as text with parentheses round each operation and brackets round each statement that is a part, for examples.
-use Rattle.std.specs.Prelude.{ℕ, zero, suc, ◌+◌, ◌/◌, ◌%◌, ℤ, Bool, true, false, take, drop, nat_abs, is_some, length, List, [], ◌∷◌, ◌++◌, Option, Some, None, if◌then◌else◌, codes}
+use Rattle.std.specs.Prelude.{ℕ, zero, suc, ◌+◌, ◌/◌, ◌%◌, true, false, take, drop, length, List, [], ◌∷◌, ◌++◌, Option, Some, None, codes}
 use Rattle.c_core.specs.declared.number.IntType.{IntType}
 use Rattle.c_core.specs.declared.number.IntType.TheVariants as ty
-use Rattle.c_core.specs.declared.number.Spot.{Spot}
 use Rattle.c_core.specs.declared.number.BinOp.{BinOp}
 use Rattle.c_core.specs.declared.number.BinOp.TheVariants as op
 use Rattle.c_core.specs.declared.number.UnOp.{UnOp}
@@ -10,7 +9,6 @@ use Rattle.c_core.specs.declared.number.UnOp.TheVariants as one
 use Rattle.c_core.specs.declared.number.StepOp.{StepOp}
 use Rattle.c_core.specs.declared.number.StepOp.TheVariants as step
 use Rattle.c_tokens.specs.declared.token.Token.{Token}
-use Rattle.c_tokens.specs.declared.token.TokenKind.{TokenKind}
 use Rattle.c_tokens.specs.declared.gap.Gap.TheVariants.{Space, Refused, Unclosed, Absent}
 use Rattle.c_tokens.specs.declared.place.Place.{Place}
 use Rattle.c_tokens.specs.Gaps.{gap}

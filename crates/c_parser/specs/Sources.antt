@@ -1,9 +1,8 @@
 -- Whole sources: of the item forms the first that spells a front of the tokens left is taken.
-use Rattle.std.specs.Prelude.{ℕ, List, [], ◌∷◌, Option, Some, None, ◌⊎◌}
+use Rattle.std.specs.Prelude.{ℕ, List, [], ◌∷◌, Option, Some, None}
 use Rattle.c_core.specs.declared.number.Spot.{Spot}
 use Rattle.c_tokens.specs.declared.token.Token.{Token}
 use Rattle.c_parser.specs.Tree.{Item}
-use Rattle.c_parser.specs.Signs.{place}
 use Rattle.c_parser.specs.Items.{ItemForm, Reach, Function, Prototype, Global, Closed, Nothing}
 
 -- the form spells no front of the tokens

@@ -8,7 +8,7 @@ use Rattle.c_tokens.specs.declared.token.Token.{Token}
 use Rattle.c_tokens.specs.declared.token.Punct.{Punct}
 use Rattle.c_tokens.specs.declared.token.Punct.TheVariants as sign
 use Rattle.c_tokens.specs.Reading.{Tokens, Whole}
-use Rattle.c_parser.specs.Tree.{Exp, Expr, Node, Number, Char, Var, Index, Unary, Cast, Step, Binary, Logic, Choose, Comma, Assign, Call, Exps, NoExp, MoreExp}
+use Rattle.c_parser.specs.Tree.{Exp, Expr, Node, Number, Char, Var, Index, Unary, Cast, Step, Binary, Logic, Choose, Comma, Assign, Call}
 use Rattle.c_parser.specs.Heights.{height}
 use Rattle.c_parser.specs.Signs.{sign_token, word_token, sign_of, is_this, conditional}
 use Rattle.c_parser.specs.Expressions.{Spells}
