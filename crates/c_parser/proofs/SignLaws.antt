@@ -89,10 +89,6 @@ pub taken : (s : Punct) (ts : List Token) → is_sign s ts ≡ true → (p : Spo
 taken s [] e = absurd (cc)
 taken s (t ∷ ts) e = (t.spot, taken_kind s t.kind t.spot ts e)
 
-pub strength_of : Option (ℕ × Joint) → ℕ
-strength_of None = 0
-strength_of (Some j) = j.0
-
 -- 18: an index or a call, 17: a step, 4 to 13: a binary operator, 3: a choice, 2: an assignment, 1: a comma
 abbrev pub grip_of : Option Punct → ℕ
 grip_of None = 0

@@ -144,6 +144,10 @@ example_31 : items (codes "int f(int *); int g()") ≡ codes "syntax 15"
 unfolding level within header_within statement_level braced_within
 example_31 = refl
 
+example_named_twice : items (codes "int f(), g();") ≡ codes "closed f|"
+unfolding level within header_within statement_level braced_within
+example_named_twice = refl
+
 -- the first item that fits no form
 
 example_32 : items (codes "int a; int b int c;") ≡ codes "syntax 08"

@@ -16,3 +16,4 @@ pub mod Shown
 pub mod ExpressionExamples
 pub mod StatementExamples
 pub mod ItemExamples
+pub mod PlaceExamples
