@@ -9,4 +9,8 @@ mod StatementKnot
 mod ItemLaws
 mod ClosedLaws
 mod SourceLaws
+mod ReadLaws
+mod SoundOperands
+mod SoundExpressions
+mod WitnessLaws
 mod SpelledExamples
