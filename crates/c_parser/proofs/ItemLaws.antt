@@ -5,13 +5,11 @@ use Rattle.std.specs.Prelude.{codes}
 use Rattle.c_core.specs.declared.number.IntType.{IntType}
 use Rattle.c_core.specs.declared.number.Spot.{Spot}
 use Rattle.c_tokens.specs.declared.token.Token.{Token}
-use Rattle.c_tokens.specs.declared.token.TokenKind.{TokenKind}
-use Rattle.c_tokens.specs.declared.token.TokenKind.TheVariants as kind
 use Rattle.c_tokens.specs.declared.token.Punct.{Punct}
 use Rattle.c_tokens.specs.declared.token.Punct.TheVariants as sign
 use Rattle.c_parser.specs.Tree.{Declared, Stm, Stmt, Block, stms, Param, Item}
 use Rattle.c_parser.specs.Heights.{height_of_block, height_of_declared, height_if, height_of_init}
-use Rattle.c_parser.specs.Signs.{token, sign_token, word_token, is_sign, is_word}
+use Rattle.c_parser.specs.Signs.{sign_token, word_token, is_sign, is_word}
 use Rattle.c_parser.specs.Brackets.{PassedWithin}
 use Rattle.c_parser.specs.ReadExpressions.{Read}
 use Rattle.c_parser.specs.Declarations.{read_type}
@@ -19,22 +17,11 @@ use Rattle.c_parser.specs.Statements.{BracedWithin}
 use Rattle.c_parser.specs.Items.{reach_error, Parameter, AParameter, ParameterList, LastParameter, MoreParameters, Parameters, NoParameters, VoidParameters, SomeParameters, ParameterType, Unnamed, Named, TypeList, LastType, MoreTypes, ParameterTypes, Unstated, VoidTypes, StatedTypes, ParametersWithin, TypesWithin, AreLow, Reach, AReach, Function, AFunction, Prototype, APrototype, Global, AGlobal, Nothing, ASemicolon}
 use Rattle.c_parser.specs.ReadItems.{is_void, read_parameter, read_parameter_list, read_parameters, read_parameter_type, read_type_list, read_parameter_types, parameters_within, types_within, is_low, read_reach, read_body, read_function, read_prototype, read_global, read_nothing}
 use Rattle.c_parser.proofs.SignLaws.{taken}
-use Rattle.c_parser.proofs.WordLaws.{both_true, spelled_same}
+use Rattle.c_parser.proofs.WordLaws.{both_true}
+use Rattle.c_parser.proofs.ReadLaws.{word_taken}
 use Rattle.c_parser.proofs.BracketLaws.{behind_passed}
 use Rattle.c_parser.proofs.DeclarationLaws.{name_is_no_part, attributes_read, type_read, specifiers_shorter}
 use Rattle.c_parser.proofs.StatementKnot.{declares_read, braced_read}
-
-word_kind : (v : List ℕ) (k : TokenKind) (p : Spot) (ts : List Token) → is_word v (token k p ∷ ts) ≡ true → token k p ∷ ts ≡ word_token v p ∷ ts
-word_kind v (kind.Word w) p ts e = ap (λ (x : List ℕ). word_token x p ∷ ts) (spelled_same v w e)
-word_kind v (kind.Number x d u l) p ts e = absurd (cc)
-word_kind v (kind.Char x) p ts e = absurd (cc)
-word_kind v kind.Str p ts e = absurd (cc)
-word_kind v (kind.Punct s) p ts e = absurd (cc)
-
--- the word stands there
-word_taken : (v : List ℕ) (ts : List Token) → is_word v ts ≡ true → (p : Spot) × (ts ≡ word_token v p ∷ drop 1 ts)
-word_taken v [] e = absurd (cc)
-word_taken v (t ∷ ts) e = (t.spot, word_kind v t.kind t.spot ts e)
 
 void_taken : (ts : List Token) → is_void ts ≡ true → (p : Spot) × (q : Spot) × (ts ≡ word_token (codes "void") p ∷ sign_token sign.ParenClose q ∷ drop 1 (drop 1 ts))
 void_taken ts e =

@@ -13,4 +13,8 @@ mod ReadLaws
 mod SoundOperands
 mod SoundExpressions
 mod WitnessLaws
+mod SoundBrackets
+mod SoundDeclarations
+mod SoundStatements
+mod SoundBlocks
 mod SpelledExamples
