@@ -17,4 +17,8 @@ mod SoundBrackets
 mod SoundDeclarations
 mod SoundStatements
 mod SoundBlocks
+mod SoundItems
+mod SoundClosed
+mod ItemLengths
+mod SoundSources
 mod SpelledExamples

@@ -95,7 +95,7 @@ declares_read b h outside ts ds rest d hi =
     (λ k us e last s. (no_sign sign.BraceOpen us (spells_begins b k us e last s) refl, (spells_front b k us e last s).some))
     (λ k us e last lo up s low g. read_complete b h k us e last lo up s low g) (λ k us e last lo up s low g. within_complete b h k us e last lo up s low g) outside ts ds rest d hi
 
-declares_shorter : (b : ℕ) (outside : Bool) (ts : List Token) (ds : List Declared) (rest : List Token) → Declares b outside ts ds rest → length rest < length ts
+pub declares_shorter : (b : ℕ) (outside : Bool) (ts : List Token) (ds : List Declared) (rest : List Token) → Declares b outside ts ds rest → length rest < length ts
 declares_shorter b outside ts ds rest d =
     declaration_shorter b (Spells b) (Within b) (read b 0) (within b 0) 0 (λ k us e last s. (within_front b k us e last s).some) (λ k us e last s. no_sign sign.BraceClose us (within_begins b k us e last s) refl)
     (λ k us e last s. (no_sign sign.BraceOpen us (spells_begins b k us e last s) refl, (spells_front b k us e last s).some))
@@ -166,7 +166,7 @@ unfolding HeaderWithin
 header_shorter_at zero ts f rest d = absurd d
 header_shorter_at (suc b) ts f rest (AllParts x y z) = let u = first_shorter b _ _ _ x in let v = optional_shorter b _ _ _ y in let w = optional_shorter b _ _ _ z in omega arith
 
-braced_shorter_at : (b : ℕ) (ts : List Token) (ss : List Stm) (rest : List Token) → BracedWithin b ts ss rest → length rest ≤ length ts
+pub braced_shorter_at : (b : ℕ) (ts : List Token) (ss : List Stm) (rest : List Token) → BracedWithin b ts ss rest → length rest ≤ length ts
 unfolding BracedWithin
 braced_shorter_at zero ts ss rest d = absurd d
 braced_shorter_at (suc b) ts ss rest d =
