@@ -1,10 +1,15 @@
 // Laws of the grammar, each the contract of a function without a body.
-ghost use Rattle.std.specs.Prelude.{◌≡◌, ◌≤◌, ℕ, List, [], Option};
+ghost use Rattle.std.specs.Prelude.{◌≡◌, ◌≤◌, ◌⊎◌, ℕ, List, [], Option};
 ghost use Rattle.c_core.specs.declared.number.Spot.{Spot};
 ghost use Rattle.c_tokens.specs.declared.token.Token.{Token};
 ghost use Rattle.c_parser.specs.Tree.{Exp, Item};
 ghost use Rattle.c_parser.specs.Expressions.{Spells};
 ghost use Rattle.c_parser.specs.Sources.{Takes, IsSource, IsSyntax, max_height, max_brackets};
+
+/// Each list of tokens spells a source, or has a first item that fits no form.
+pub fn some_outcome()
+    ensures { (ts : List Token) → ((xs : List Item) × IsSource ts xs) ⊎ ((p : Spot) × IsSyntax ts p) }
+{}
 
 /// Tokens spell at most one source.
 pub fn one_source()

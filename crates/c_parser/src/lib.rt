@@ -8,5 +8,5 @@ mod tree;
 
 pub use fault::{ExprFault, ParseFault};
 pub use item::{Item, RawParam};
-pub use laws::{one_expression, one_item, one_source, one_syntax, source_or_syntax};
+pub use laws::{one_expression, one_item, one_source, one_syntax, some_outcome, source_or_syntax};
 pub use tree::{RawDeclared, RawExpr, RawFirst, RawForm, RawInit, RawNode, RawStmt, ResultTest};
