@@ -70,10 +70,7 @@ module _ (room : Bool) (Inner : ℕ → List Token → Exp → List Token → Ty
   low_sound : (k : ℕ) (ts : List Token) (r : Exp × List Token) → 1 ≤ k → k ≤ 15 → below k ts ≡ Some r → Expression room Inner k ts r.0 r.1 × (height r.0 ≤ h)
   low_sound k ts r lo up e = let x = below_sound k ts r lo up e in (x.0, x.1)
 
-  abbrev Fits : ℕ → List Token → Exp × List Token → Type 0
-  Fits k ts r = Expression room Inner k ts r.0 r.1 × (height r.0 ≤ suc h)
-
-  -- and the next sign joins less strongly
+  -- spelled with this strength, of a height at most one more than h, and the next sign joins less strongly
   abbrev Stopped : ℕ → List Token → Exp × List Token → Type 0
   Stopped k ts r = Expression room Inner k ts r.0 r.1 × (height r.0 ≤ suc h) × (strength r.1 < k)
 

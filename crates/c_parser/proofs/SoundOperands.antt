@@ -117,12 +117,12 @@ module _ (room : Bool) (Inner : ℕ → List Token → Exp → List Token → Ty
       (AnElement n (subst (λ (y : List Token). Inner expr (drop 1 ts) o.0.0 y) c.1 i.0), omega (arith, low))))
       (λ x y. subst (Good primary (word_token w p ∷ ts)) (some_same y) (AName n, omega arith)))
 
-  mutual_step : (ts : List Token) (again : Exp → List Token → Read Exp) →
+  step_sound : (ts : List Token) (again : Exp → List Token → Read Exp) →
       ((e : Exp) (us : List Token) (r : Exp × List Token) → Expression room Inner postfix ts e us → height e ≤ suc h → again e us ≡ Some r → Good postfix ts r) →
       (e : Exp) (us : List Token) (r : Exp × List Token) → Expression room Inner postfix ts e us → height e ≤ suc h → (o : Option StepOp) → (sign_at us >>= steps_behind) ≡ o →
       stepped_by room paren below h again (place ts) e us o ≡ Some r → Good postfix ts r
-  mutual_step ts again onward e us r d hi None is f = subst (Good postfix ts) (some_same f) (d, hi)
-  mutual_step ts again onward e us r d hi (Some op) is f =
+  step_sound ts again onward e us r d hi None is f = subst (Good postfix ts) (some_same f) (d, hi)
+  step_sound ts again onward e us r d hi (Some op) is f =
       let s = sign_in steps_behind us op is in
       let a = bind_some (grown h (place ts) (node.Step op e) (drop 1 us)) _ r f in
       let g = grown_is h (place ts) (node.Step op e) (drop 1 us) a.0 a.1 in
@@ -131,8 +131,8 @@ module _ (room : Bool) (Inner : ℕ → List Token → Exp → List Token → Ty
       onward a.0.0 a.0.1 r one.0 one.1 a.2
 
   stepped_sound : (n : ℕ) (ts : List Token) (e : Exp) (us : List Token) (r : Exp × List Token) → Expression room Inner postfix ts e us → height e ≤ suc h → stepped room paren below h n (place ts) e us ≡ Some r → Good postfix ts r
-  stepped_sound zero ts e us r d hi f = mutual_step ts (λ x y. None) (λ x y q a b g. none_some q g) e us r d hi (sign_at us >>= steps_behind) refl f
-  stepped_sound (suc n) ts e us r d hi f = mutual_step ts (stepped room paren below h n (place ts)) (stepped_sound n ts) e us r d hi (sign_at us >>= steps_behind) refl f
+  stepped_sound zero ts e us r d hi f = step_sound ts (λ x y. None) (λ x y q a b g. none_some q g) e us r d hi (sign_at us >>= steps_behind) refl f
+  stepped_sound (suc n) ts e us r d hi f = step_sound ts (stepped room paren below h n (place ts)) (stepped_sound n ts) e us r d hi (sign_at us >>= steps_behind) refl f
 
   steps_sound : (ts : List Token) (o : Read Exp) (r : Exp × List Token) → ((q : Exp × List Token) → o ≡ Some q → Good primary ts q) → with_steps room paren below h (place ts) o ≡ Some r → Good unary ts r
   steps_sound ts o r good e =

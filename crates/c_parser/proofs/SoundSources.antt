@@ -63,12 +63,12 @@ module _ (h b : ℕ) where
   -- the item that is read is taken
   pub item_sound : (ts : List Token) (r : Option Item × List Token) → read_item h b ts ≡ Some r → Takes h b ts r.0 r.1
   item_sound ts r e =
-      tried (read_reach h b) function_on ts r e (λ x. TakesReach (reach_sound h b ts r x)) (λ n1 e.
-      tried (read_function h b) prototype_on ts r e (λ x. TakesFunction (no_reach ts n1) (function_sound h b ts r x)) (λ n2 e.
-      tried (read_prototype h b) global_on ts r e (λ x. TakesPrototype (no_reach ts n1) (no_function ts n2) (prototype_sound h b ts r x)) (λ n3 e.
-      tried (read_global h b) closed_on ts r e (λ x. TakesGlobal (no_reach ts n1) (no_function ts n2) (no_prototype ts n3) (global_sound h b ts r x)) (λ n4 e.
-      tried (read_closed h b) (read_nothing h b ∷ []) ts r e (λ x. TakesClosed (no_reach ts n1) (no_function ts n2) (no_prototype ts n3) (no_global ts n4) (closed_sound h b ts r x)) (λ n5 e.
-      tried (read_nothing h b) [] ts r e (λ x. TakesNothing (no_reach ts n1) (no_function ts n2) (no_prototype ts n3) (no_global ts n4) (no_closed ts n5) (nothing_sound h b ts r x)) (λ n6 e. none_some r e))))))
+      tried (read_reach h b) function_on ts r e (λ x. TakesReach (reach_sound h b ts r x)) (λ not_reach e.
+      tried (read_function h b) prototype_on ts r e (λ x. TakesFunction (no_reach ts not_reach) (function_sound h b ts r x)) (λ not_function e.
+      tried (read_prototype h b) global_on ts r e (λ x. TakesPrototype (no_reach ts not_reach) (no_function ts not_function) (prototype_sound h b ts r x)) (λ not_prototype e.
+      tried (read_global h b) closed_on ts r e (λ x. TakesGlobal (no_reach ts not_reach) (no_function ts not_function) (no_prototype ts not_prototype) (global_sound h b ts r x)) (λ not_global e.
+      tried (read_closed h b) (read_nothing h b ∷ []) ts r e (λ x. TakesClosed (no_reach ts not_reach) (no_function ts not_function) (no_prototype ts not_prototype) (no_global ts not_global) (closed_sound h b ts r x)) (λ not_closed e.
+      tried (read_nothing h b) [] ts r e (λ x. TakesNothing (no_reach ts not_reach) (no_function ts not_function) (no_prototype ts not_prototype) (no_global ts not_global) (no_closed ts not_closed) (nothing_sound h b ts r x)) (λ not_nothing e. none_some r e))))))
 
   untried_by : (o : Read (Option Item)) (forms : List Reader) (ts : List Token) → ◌≡◌ {A = Read (Option Item)} (elim o [ None ↦ first_form h b forms ts | Some x ↦ Some x ]) None → (o ≡ None) × (first_form h b forms ts ≡ None)
   untried_by None forms ts e = (refl, e)
