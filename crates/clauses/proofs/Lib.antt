@@ -6,3 +6,15 @@ pub mod Reached
 pub mod Listed
 pub mod Pushed
 pub mod Made
+pub mod Members
+pub mod Count
+pub mod Integers
+pub mod Without
+pub mod Loops
+pub mod Tables
+pub mod Resolving
+pub mod Matching
+pub mod Chains
+pub mod Accepting
+pub mod Soundness
+pub mod Ordered

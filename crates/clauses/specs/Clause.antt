@@ -15,11 +15,15 @@ Rises (x ∷ xs) = RisesFrom x xs
 abbrev pub IsNumber : ℤ → Type 0
 IsNumber x = (0 < unsigned_abs x) × (unsigned_abs x < 2 ^ 31)
 
+-- no number together with its opposite
+abbrev pub IsConsistent : List ℤ → Type 0
+IsConsistent numbers = (x : ℤ) → Contains numbers x → Contains numbers (neg_ℤ x) → ⊥
+
 -- a set of numbers, in rising order, without a number and its opposite
 pub record IsClause (numbers : List ℤ) : Type 0 where
   pub rising : Rises numbers
   pub real : All IsNumber numbers
-  pub apart : (x : ℤ) → Contains numbers x → Contains numbers (neg_ℤ x) → ⊥
+  pub apart : IsConsistent numbers
 
 -- v may be the variable of the conjunction of a and b: those are numbers of two earlier variables
 pub record CanJoin (v : ℕ) (a b : ℤ) : Type 0 where

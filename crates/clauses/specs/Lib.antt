@@ -4,3 +4,7 @@ pub mod Assignment
 pub mod Units
 pub mod Tseitin
 pub mod Marks
+pub mod Log
+pub mod Spent
+pub mod Table
+pub mod Cnf

@@ -1,8 +1,9 @@
 // Clauses, and those of an and-node.
-ghost use Rattle.std.specs.Prelude.{◌≡◌, ℕ, ◌<◌, ◌^◌, [], ◌∷◌, IfOk, pos, neg_ℤ};
+ghost use Rattle.std.specs.Prelude.{◌≡◌, ℕ, ◌<◌, ◌^◌, [], ◌∷◌, IfOk, SomeIff, pos, neg_ℤ};
 ghost use Rattle.clauses.specs.Clause.{IsClause, IsNumber};
 ghost use Rattle.clauses.specs.Tseitin.{number_of, rising_two, gate_clauses};
 
+use crate::numbers::are_clause;
 use std::alloc::Global;
 use std::marker::Model;
 use wv_base::{OutOfMemory, Seq};
@@ -31,6 +32,24 @@ impl Clause {
         ensures fine { IsClause self.now }
     {
         &self.numbers
+    }
+
+    /// The clause of these numbers.
+    pub fn from_numbers(numbers: Seq<i32>) -> Clause
+        requires { IsClause numbers }
+        ensures { result ≡ numbers }
+    {
+        Clause { numbers }
+    }
+
+    /// The clause of these numbers, or `None` where they are not those of a clause.
+    pub fn new(numbers: Seq<i32>) -> Option<Clause>
+        ensures { SomeIff result (IsClause numbers) numbers }
+    {
+        if are_clause(numbers.as_slice()) {
+            return Some(Clause { numbers });
+        }
+        None
     }
 }
 

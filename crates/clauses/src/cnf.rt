@@ -1,7 +1,8 @@
 // The clause form of a bit.
-ghost use Rattle.std.specs.Prelude.{◌≡◌, ◌<◌, ◌^◌, [], ◌∷◌, ◌++◌, length, IfOk, OnOk, pos, neg_ℤ};
+ghost use Rattle.std.specs.Prelude.{◌≡◌, ◌<◌, ◌^◌, ◌↔◌, [], ◌∷◌, ◌++◌, length, IfOk, OnOk, IsTrue, MatchOption, pos, neg_ℤ};
+ghost use Rattle.std.specs.List.{All};
 ghost use Rattle.circuits.specs.Net.{IsIn};
-ghost use Rattle.clauses.specs.Within.{AreOf};
+ghost use Rattle.clauses.specs.Within.{AreOf, IsOf};
 ghost use Rattle.clauses.specs.Clause.{CanJoin};
 ghost use Rattle.clauses.specs.Marks.{IsClosed, AreNumbers};
 ghost use Rattle.clauses.specs.Tseitin.{ClausesOf, Describes, Fulfils, Propagates, gate_clauses, clauses_below, node_at, node_clauses, rising_two};
@@ -20,6 +21,44 @@ pub struct Cnf {
     pub variables: u32,
     pub clauses: Seq<Clause>,
     ghost within: { AreOf variables clauses },
+}
+
+// whether all numbers of a clause are those of the first variables
+fn is_of(variables: u32, clause: &Clause) -> bool
+    ensures { IsTrue result ↔ All (IsOf variables) clause.now }
+{
+    for x in clause.numbers().as_slice() {
+        if x.unsigned_abs() > variables {
+            return false;
+        }
+    }
+    true
+}
+
+// whether those of all clauses are
+fn are_of(variables: u32, clauses: &[Clause]) -> bool
+    ensures { IsTrue result ↔ AreOf variables clauses.now }
+{
+    for clause in clauses {
+        if !is_of(variables, clause) {
+            return false;
+        }
+    }
+    true
+}
+
+impl Cnf {
+    ghost use Rattle.clauses.specs.Cnf.{IsCnf};
+
+    /// These clauses over these variables, or `None` where they speak of another one.
+    pub fn new(variables: u32, clauses: Seq<Clause>) -> Option<Cnf>
+        ensures { MatchOption result (AreOf variables clauses → ⊥) (λ c. IsCnf c variables clauses) }
+    {
+        if are_of(variables, clauses.as_slice()) {
+            return Some(Cnf { variables, clauses });
+        }
+        None
+    }
 }
 
 // the clause of v and of the opposites of a and b

@@ -2,12 +2,20 @@
 //! of its node and the bit is true, so they can be satisfied exactly where some inputs make the bit true.
 #![tactic(auto)]
 
+mod accept;
 mod clause;
 mod cnf;
+mod log;
+#[cfg(test)]
+mod log_tests;
 mod numbering;
+mod numbers;
 mod reach;
+mod table;
 #[cfg(test)]
 mod tests;
 
+pub use accept::{accepts, accepts_log};
 pub use clause::Clause;
 pub use cnf::{Cnf, cnf_of};
+pub use log::{Chain, Refutation, Resolve, SpentAt};
