@@ -22,3 +22,9 @@ mod SoundClosed
 mod ItemLengths
 mod SoundSources
 mod SpelledExamples
+mod Views
+mod ReadSteps
+mod TypeCountLaws
+mod NameLaws
+mod WitnessAnswers
+mod ResultAnswers

@@ -4,6 +4,9 @@ pub mod Signs
 pub mod Words
 pub mod Expressions
 pub mod ReadExpressions
+pub mod TypeCounts
+pub mod View
+pub mod Gives
 pub mod Brackets
 pub mod Declarations
 pub mod Statements

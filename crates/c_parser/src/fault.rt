@@ -39,3 +39,22 @@ impl From<OutOfMemory> for ExprFault {
         ExprFault::OutOfMemory
     }
 }
+
+/// Why nothing was read from the front of tokens.
+#[derive(Clone, Copy, Debug, PartialEq, Eq)]
+pub enum Unread {
+    /// They spell no such thing within the limits.
+    Unspelled,
+    OutOfMemory,
+}
+
+impl From<OutOfMemory> for Unread {
+    ghost use Rattle.std.specs.Prelude.{◌≡◌};
+    ghost use Rattle.c_parser.specs.declared.fault.Unread.TheVariants.{OutOfMemory as NoMemory};
+
+    ghost from_gives = { λ _ fault. fault ≡ NoMemory };
+
+    fn from(_: OutOfMemory) -> Self {
+        Unread::OutOfMemory
+    }
+}

@@ -1,12 +1,25 @@
 //! The C grammar: which trees the tokens of a source text, of a witness expression and of a `\result` constraint spell.
 #![tactic(auto)]
 
+mod cursor;
+#[cfg(test)]
+mod expression_tests;
+mod expressions;
 mod fault;
 mod item;
+mod kinds;
 mod laws;
+mod look;
+mod measured;
+mod strength;
 mod tree;
+mod type_name;
+mod type_words;
+mod witness;
+mod words;
 
 pub use fault::{ExprFault, ParseFault};
 pub use item::{Item, RawParam};
 pub use laws::{one_expression, one_item, one_source, one_syntax, some_outcome, source_or_syntax};
 pub use tree::{RawDeclared, RawExpr, RawFirst, RawForm, RawInit, RawNode, RawStmt, ResultTest};
+pub use witness::{parse_expr, parse_result};

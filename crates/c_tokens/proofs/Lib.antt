@@ -9,3 +9,4 @@ pub mod Scanned
 pub mod Outcomes
 pub mod Stepping
 pub mod Total
+pub mod LeadLaws

@@ -56,7 +56,7 @@ gap_takes fresh (b ∷ text) g e =
 
 -- some tokens and some ending
 Some_reading : Place → List ℕ → Type 0
-Some_reading at text = (ts : List Token) × ((end : Ending) × Reads at text ts end)
+Some_reading at text = (ts : List Token) × ((end : Ending) × Reads true at text ts end)
 
 reading_case : (fuel : ℕ) → ((at : Place) (text : List ℕ) → length text ≤ fuel → Some_reading at text) → (at : Place) (b : ℕ) (text : List ℕ) → length (b ∷ text) ≤ suc fuel →
     (g : Gap) → gap at.fresh (b ∷ text) ≡ g → (found : Option (ℕ × Option TokenKind)) → scan (b ∷ text) ≡ found → Some_reading at (b ∷ text)

@@ -1,5 +1,5 @@
 -- The tokens of a text, each with its place, and where the text stops being tokens.
-use Rattle.std.specs.Prelude.{◌≡◌, ◌+◌, ◌-◌, ◌^◌, min, ℕ, true, ◌&&◌, ◌==◌, List, [], ◌∷◌, Some, None, Result, Ok, Err, take, drop, if◌then◌else◌}
+use Rattle.std.specs.Prelude.{◌≡◌, ◌+◌, ◌-◌, ◌^◌, min, ℕ, suc, Bool, true, false, ◌&&◌, ◌==◌, List, [], ◌∷◌, Some, None, Result, Ok, Err, take, drop, if◌then◌else◌}
 use Rattle.std.specs.List.{fold}
 use Rattle.c_core.specs.declared.number.Spot.{Spot}
 use Rattle.c_tokens.specs.declared.token.Token.{Token}
@@ -42,28 +42,45 @@ pub data Ending : Type 0 where
 abbrev pub token : TokenKind → Place → Token
 token kind at = record { kind = kind; spot = at.spot }
 
--- the tokens of the text from this place on, each the longest that stands at its place, and where the text stops
-pub data Reads : Place → List ℕ → List Token → Ending → Type 0 where
-  AtEnd : {at : Place} → Reads at [] [] Whole
+abbrev pub paren_open : ℕ
+paren_open = 40
+
+-- the tokens of the text from this place on, each the longest that stands at its place, and where the text stops; a `#` begins
+-- no directive where none may stand
+pub data Reads (directives : Bool) : Place → List ℕ → List Token → Ending → Type 0 where
+  AtEnd : {at : Place} → Reads directives at [] [] Whole
   Between : {at : Place} {text : List ℕ} {n : ℕ} {ts : List Token} {end : Ending} →
-      gap at.fresh text ≡ Space n → Reads (past at (take n text)) (drop n text) ts end → Reads at text ts end
+      gap (directives && at.fresh) text ≡ Space n → Reads directives (past at (take n text)) (drop n text) ts end → Reads directives at text ts end
   AToken : {at : Place} {w text rest : List ℕ} {kind : TokenKind} {ts : List Token} {end : Ending} →
-      gap at.fresh text ≡ Absent → Longest w (Some kind) text rest → Reads (past at w) rest ts end → Reads at text (token kind at ∷ ts) end
-  RefusedDirective : {at : Place} {text : List ℕ} → gap at.fresh text ≡ Refused → Reads at text [] (BadDirective at.spot.line)
-  UnclosedComment : {at : Place} {text : List ℕ} → gap at.fresh text ≡ Unclosed → Reads at text [] (NoToken at.spot)
-  BadNumber : {at : Place} {w text rest : List ℕ} → gap at.fresh text ≡ Absent → Longest w None text rest → Reads at text [] (NoToken at.spot)
-  BadByte : {at : Place} {b : ℕ} {text : List ℕ} → gap at.fresh (b ∷ text) ≡ Absent → NoPiece (b ∷ text) → Reads at (b ∷ text) [] (NoToken at.spot)
+      gap (directives && at.fresh) text ≡ Absent → Longest w (Some kind) text rest → Reads directives (past at w) rest ts end → Reads directives at text (token kind at ∷ ts) end
+  RefusedDirective : {at : Place} {text : List ℕ} → gap (directives && at.fresh) text ≡ Refused → Reads directives at text [] (BadDirective at.spot.line)
+  UnclosedComment : {at : Place} {text : List ℕ} → gap (directives && at.fresh) text ≡ Unclosed → Reads directives at text [] (NoToken at.spot)
+  BadNumber : {at : Place} {w text rest : List ℕ} → gap (directives && at.fresh) text ≡ Absent → Longest w None text rest → Reads directives at text [] (NoToken at.spot)
+  BadByte : {at : Place} {b : ℕ} {text : List ℕ} → gap (directives && at.fresh) (b ∷ text) ≡ Absent → NoPiece (b ∷ text) → Reads directives at (b ∷ text) [] (NoToken at.spot)
 
--- the whole text is these tokens, or stops after them there
+-- the whole text is these tokens, or stops after them there; directives may stand in it or not
+abbrev pub TokensBy : Bool → List ℕ → List Token → Ending → Type 0
+TokensBy directives text ts end = Reads directives start text ts end
+
 abbrev pub Tokens : List ℕ → List Token → Ending → Type 0
-Tokens text ts end = Reads start text ts end
+Tokens = TokensBy true
 
--- an answer that the text bears out
+-- the text is these tokens, and no line of it is a directive
+abbrev pub PlainTokens : List ℕ → List Token → Type 0
+PlainTokens text ts = TokensBy false text ts Whole
+
+-- an answer that the text from this place on bears out
+abbrev pub AnswersFrom : Bool → Place → List ℕ → Result (List Token) TokenFault → Type 0
+AnswersFrom directives at text (Ok ts) = Reads directives at text ts Whole
+AnswersFrom directives at text (Err (TokenAt line column)) = (ts : List Token) × Reads directives at text ts (NoToken (record { line = line; column = column }))
+AnswersFrom directives at text (Err (Directive line)) = (ts : List Token) × Reads directives at text ts (BadDirective line)
+AnswersFrom directives at text (Err OutOfMemory) = Unit {0}
+
+abbrev pub AnswersBy : Bool → List ℕ → Result (List Token) TokenFault → Type 0
+AnswersBy directives = AnswersFrom directives start
+
 abbrev pub Answers : List ℕ → Result (List Token) TokenFault → Type 0
-Answers text (Ok ts) = Tokens text ts Whole
-Answers text (Err (TokenAt line column)) = (ts : List Token) × Tokens text ts (NoToken (record { line = line; column = column }))
-Answers text (Err (Directive line)) = (ts : List Token) × Tokens text ts (BadDirective line)
-Answers text (Err OutOfMemory) = Unit {0}
+Answers = AnswersBy true
 
 -- the answer is these tokens and this ending; want of memory alone may stand in their place
 abbrev pub IsOutcome : Result (List Token) TokenFault → List Token → Ending → Type 0
@@ -71,3 +88,16 @@ IsOutcome (Ok found) ts end = (found ≡ ts) × (end ≡ Whole)
 IsOutcome (Err (TokenAt line column)) ts end = end ≡ NoToken (record { line = line; column = column })
 IsOutcome (Err (Directive line)) ts end = end ≡ BadDirective line
 IsOutcome (Err OutOfMemory) ts end = Unit {0}
+
+-- blanks, comments and so many opening parentheses stand before the rest of the text
+pub data Leads : Place → List ℕ → ℕ → Place → List ℕ → Type 0 where
+  NoLead : {at : Place} {text : List ℕ} → Leads at text 0 at text
+  GapLeads : {at there : Place} {text rest : List ℕ} {n k : ℕ} →
+      gap false text ≡ Space n → Leads (past at (take n text)) (drop n text) k there rest → Leads at text k there rest
+  ParenLeads : {at there : Place} {text rest : List ℕ} {k : ℕ} →
+      Leads (past at (paren_open ∷ [])) text k there rest → Leads at (paren_open ∷ text) (suc k) there rest
+
+-- neither a gap nor an opening parenthesis stands here
+pub record LeadEnds (text : List ℕ) : Type 0 where
+  pub no_gap : (n : ℕ) → gap false text ≡ Space n → ⊥
+  pub no_paren : (rest : List ℕ) → text ≡ paren_open ∷ rest → ⊥

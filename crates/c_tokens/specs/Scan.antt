@@ -1,5 +1,5 @@
 -- How far the scanner reads: functions of the text, proved to find the longest piece.
-use Rattle.std.specs.Prelude.{◌≡◌, ◌≤◌, ◌⊎◌, Result, Ok, Err, ◌+◌, ℕ, Bool, true, false, not, List, [], ◌∷◌, ◌==◌, ◌&&◌, Option, Some, None, take, drop, length, nat_le, nat_lt, if◌then◌else◌}
+use Rattle.std.specs.Prelude.{◌≡◌, ◌≤◌, ◌⊎◌, Result, Ok, Err, ◌+◌, ℕ, zero, suc, Bool, true, false, not, List, [], ◌∷◌, ◌==◌, ◌&&◌, Option, Some, None, take, drop, length, nat_le, nat_lt, if◌then◌else◌}
 use Rattle.std.specs.Option.{option_map}
 use Rattle.std.specs.List.{prefix_len}
 use Rattle.c_core.specs.Types.{signed_of}
@@ -17,6 +17,7 @@ use Rattle.c_tokens.specs.Signs.{signs}
 use Rattle.c_tokens.specs.Numbers.{constant, number_in}
 use Rattle.c_tokens.specs.Characters.{simple_escapes}
 use Rattle.c_tokens.specs.Gaps.{begins_with, gap}
+use Rattle.c_tokens.specs.Reading.{LeadEnds, paren_open}
 
 -- the bytes of a string behind its first quote, the closing quote included; the byte before passes this one or not
 abbrev pub string_end : Bool → List ℕ → Option ℕ
@@ -117,6 +118,10 @@ Within Refused size = Unit {0}
 Within Unclosed size = Unit {0}
 Within Absent size = Unit {0}
 
+-- a place at which no directive may stand, unless directives may at all
+abbrev pub seen : Bool → Place → Place
+seen directives at = record { spot = at.spot; fresh = directives && at.fresh }
+
 -- one step of the scanner at a place
 abbrev pub Steps : Place → List ℕ → Result (ℕ × Option Token) TokenFault → Type 0
 Steps at text (Ok (n, None)) = (gap at.fresh text ≡ Space n) × ((1 ≤ n) × (n ≤ length text))
@@ -125,3 +130,9 @@ Steps at text (Err (TokenAt line column)) =
     (line ≡ at.spot.line) × ((column ≡ at.spot.column) × ((gap at.fresh text ≡ Unclosed) ⊎ ((gap at.fresh text ≡ Absent) × (good (scan text) ≡ None))))
 Steps at text (Err (Directive line)) = (line ≡ at.spot.line) × (gap at.fresh text ≡ Refused)
 Steps at text (Err OutOfMemory) = Unit {0}
+
+-- one step over what leads a text, a gap or a parenthesis
+abbrev pub LeadSteps : List ℕ → Option (ℕ × ℕ) → Type 0
+LeadSteps text None = LeadEnds text
+LeadSteps text (Some (n, zero)) = (gap false text ≡ Space n) × (1 ≤ n) × (n ≤ length text)
+LeadSteps text (Some (n, suc m)) = (n ≡ 1) × (m ≡ 0) × (text ≡ paren_open ∷ drop 1 text)

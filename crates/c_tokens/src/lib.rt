@@ -5,6 +5,7 @@
 mod bytes;
 mod gap;
 mod laws;
+mod leading;
 mod number;
 mod piece;
 mod place;
@@ -16,5 +17,7 @@ mod tests;
 mod token;
 
 pub use laws::{one_outcome, some_outcome};
-pub use reading::tokens;
+pub use leading::lead;
+pub use place::{Place, first_place, place_past};
+pub use reading::{plain_tokens, plain_tokens_from, tokens};
 pub use token::{Punct, Token, TokenFault, TokenKind};

@@ -1,6 +1,7 @@
-use super::{Token, TokenFault, TokenKind, tokens};
+use super::{Token, TokenFault, TokenKind, plain_tokens, tokens};
 use std::alloc::{AllocError, Global};
 use std::test::Fail;
+use wv_base::Seq;
 
 /// A token in one line: its place, then a word as it is, a number as `#` with `d` where it is decimal and its suffix,
 /// a character as `'` and its value, a string as `"`, a sign by its name.
@@ -35,7 +36,14 @@ fn shown_token(alloc: Global, token: &Token) -> Result<String, AllocError> {
 
 /// The tokens of a text, or the fault.
 fn shown(alloc: Global, text: &[u8]) -> Result<String, AllocError> {
-    match tokens(alloc, text) {
+    shown_answer(alloc, tokens(alloc, text))
+}
+
+fn shown_answer(
+    alloc: Global,
+    answer: Result<Seq<Token>, TokenFault>,
+) -> Result<String, AllocError> {
+    match answer {
         Ok(found) => {
             let mut all = String::new(alloc);
             for token in found.as_slice() {
@@ -261,6 +269,24 @@ fn comments_and_directives(rt: HostRuntime) -> Result<(), Fail> {
     ];
     for (text, want) in rows {
         assert_eq!(rt; shown(alloc, text.as_bytes())?.as_str(), want);
+    }
+    Ok(())
+}
+
+#[test]
+fn no_directive_stands_in_a_plain_text(rt: HostRuntime) -> Result<(), Fail> {
+    let alloc = rt.alloc();
+    let rows = [
+        ("x /* # */ // #\n'#'", "1:1 x\n2:1 '35\n"),
+        ("#pragma x\n", "token 1:1\n"),
+        ("a\n #line 2\nb", "token 2:2\n"),
+        ("#define x", "token 1:1\n"),
+    ];
+    for (text, want) in rows {
+        assert_eq!(rt;
+            shown_answer(alloc, plain_tokens(alloc, text.as_bytes()))?.as_str(),
+            want
+        );
     }
     Ok(())
 }
