@@ -1,13 +1,14 @@
-//! What the validator answers, as a value, as a text and as a status: `text` writes exactly the lines that
-//! `specs/Report.antt` defines, and `status` tells the exit status.
+//! What the validator answers, as a value, as a report and as a status: `text` writes exactly the lines that
+//! `specs/Report.antt` defines, `json` exactly the object of `specs/Json.antt`, and `status` tells the exit status.
 #![tactic(auto)]
 
 mod lines;
 mod reply;
 mod report;
+mod values;
 
 pub use reply::{Reply, status};
-pub use report::text;
+pub use report::{json, text};
 
 #[cfg(test)]
 mod tests;

@@ -1,12 +1,13 @@
 // The lines that several reports have in common.
 ghost use Rattle.std.specs.Prelude.{◌≡◌, ◌++◌, OnOk, codes, string_bytes};
-ghost use Rattle.wv_report.specs.Report.{cause_text, kind_name, line, obligation_line, placed_kind, reason_line, refusal_line, segment_line, segment_lines, type_name, value_line, value_lines};
+ghost use Rattle.wv_report.specs.Report.{cause_text, kind_name, line, obligation_line, placed_kind, reason_line, reason_text, refusal_line, segment_line, segment_lines, type_name, value_line, value_lines};
 
 use c_core::IntType;
 use c_meaning::{Cause, Draw, Duty, DutyKind, Reason};
 use wv_base::OutOfMemory;
 
-fn name_of_type(ty: IntType) -> &'static str
+/// The type in one spelling.
+pub fn name_of_type(ty: IntType) -> &'static str
     ensures { result.now ≡ type_name ty }
 {
     match ty {
@@ -25,7 +26,8 @@ fn name_of_type(ty: IntType) -> &'static str
     }
 }
 
-fn name_of_kind(kind: DutyKind) -> &'static str
+/// What an obligation is about.
+pub fn name_of_kind(kind: DutyKind) -> &'static str
     ensures { result.now ≡ kind_name kind }
 {
     match kind {
@@ -76,17 +78,27 @@ pub fn add_segments(out: &mut String, events: &[u64]) -> Result<(), OutOfMemory>
 
 /// Why a violation wasn't confirmed.
 pub fn add_reason(out: &mut String, reason: Reason) -> Result<(), OutOfMemory>
-    ensures { OnOk result (string_bytes out.new ≡ string_bytes out.old ++ reason_line reason) }
+    ensures { OnOk result (string_bytes out.new ≡ string_bytes out.old ++ reason_text reason) }
 {
     match reason {
-        Reason::Ended => out.push_str("reason ended\n")?,
+        Reason::Ended => out.push_str("ended")?,
         Reason::Undefined(spot) => {
             let line = spot.line;
             let column = spot.column;
-            write!(out, "reason undefined {line}:{column}\n")?;
+            write!(out, "undefined {line}:{column}")?;
         }
-        Reason::Unmatched => out.push_str("reason unmatched\n")?,
+        Reason::Unmatched => out.push_str("unmatched")?,
     }
+    Ok(())
+}
+
+/// The line that says why a violation wasn't confirmed.
+pub fn add_reason_line(out: &mut String, reason: Reason) -> Result<(), OutOfMemory>
+    ensures { OnOk result (string_bytes out.new ≡ string_bytes out.old ++ reason_line reason) }
+{
+    out.push_str("reason ")?;
+    add_reason(out, reason)?;
+    out.push_str("\n")?;
     Ok(())
 }
 
@@ -110,17 +122,24 @@ pub fn add_obligation(out: &mut String, index: u32, duty: Duty) -> Result<(), Ou
 }
 
 /// Why a verdict is undecided.
+pub fn add_cause(out: &mut String, cause: Cause) -> Result<(), OutOfMemory>
+    ensures { OnOk result (string_bytes out.new ≡ string_bytes out.old ++ cause_text cause) }
+{
+    match cause {
+        Cause::Steps(count) => write!(out, "steps {count}")?,
+        Cause::Cells => out.push_str("cells")?,
+        Cause::Conflicts { index, count } => write!(out, "conflicts {count} obligation {index}")?,
+    }
+    Ok(())
+}
+
+/// The line of an undecided verdict.
 pub fn add_undecided(out: &mut String, cause: Cause) -> Result<(), OutOfMemory>
     ensures { OnOk result (string_bytes out.new ≡ string_bytes out.old ++ line (codes "undecided " ++ cause_text cause)) }
 {
-    match cause {
-        Cause::Steps(count) => write!(out, "undecided steps {count}\n")?,
-        Cause::Cells => out.push_str("undecided cells\n")?,
-        Cause::Conflicts { index, count } => write!(
-            out,
-            "undecided conflicts {count} obligation {index}\n"
-        )?,
-    }
+    out.push_str("undecided ")?;
+    add_cause(out, cause)?;
+    out.push_str("\n")?;
     Ok(())
 }
 

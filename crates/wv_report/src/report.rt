@@ -1,10 +1,12 @@
 ghost use Rattle.std.specs.Prelude.{◌≡◌, ◌++◌, IfOk, OnOk, string_bytes};
+ghost use Rattle.wv_report.specs.Json.{HasJsonIntegers, json_of};
 ghost use Rattle.wv_report.specs.Report.{text_of, verdict_lines};
 
 use crate::Reply;
 use crate::lines::{
-    add_obligation, add_reason, add_refusal, add_segments, add_undecided, add_values,
+    add_obligation, add_reason_line, add_refusal, add_segments, add_undecided, add_values,
 };
+use crate::values::reply_value;
 use c_meaning::Verdict;
 use std::alloc::Global;
 use wv_base::OutOfMemory;
@@ -25,6 +27,17 @@ pub fn text(alloc: Global, reply: &Reply) -> Result<Vec<u8>, OutOfMemory>
     Ok(out.into_bytes())
 }
 
+/// The whole JSON report of a reply.
+pub fn json(alloc: Global, reply: &Reply) -> Result<Vec<u8>, OutOfMemory>
+    requires { HasJsonIntegers reply.now }
+    ensures { IfOk result (λ bytes. bytes.items ≡ json_of reply.now) }
+{
+    let value = reply_value(alloc, reply)?;
+    let mut out = value.to_string(alloc)?;
+    out.push_str("\n")?;
+    Ok(out.into_bytes())
+}
+
 fn add_verdict(out: &mut String, verdict: &Verdict) -> Result<(), OutOfMemory>
     ensures { OnOk result (string_bytes out.new ≡ string_bytes out.old ++ verdict_lines verdict.now) }
 {
@@ -36,7 +49,7 @@ fn add_verdict(out: &mut String, verdict: &Verdict) -> Result<(), OutOfMemory>
         }
         Verdict::ViolationNot { reason, unfixed } => {
             out.push_str("violation not confirmed\n")?;
-            add_reason(out, *reason)?;
+            add_reason_line(out, *reason)?;
             write!(out, "unfixed {unfixed}\n")?;
         }
         Verdict::CorrectnessConfirmed { count } => {
