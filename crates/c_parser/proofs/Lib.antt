@@ -21,6 +21,11 @@ mod SoundItems
 mod SoundClosed
 mod ItemLengths
 mod SoundSources
+mod SpotLaws
+mod Along
+mod OrderedExpressions
+mod OrderedStatements
+mod OrderedItems
 mod SpelledExamples
 mod Views
 mod ReadSteps

@@ -14,6 +14,7 @@ pub mod ReadStatements
 pub mod Items
 pub mod ReadItems
 pub mod Sources
+pub mod TextOrder
 pub mod Witness
 pub mod Shown
 pub mod ExpressionExamples

@@ -1,10 +1,12 @@
 // Laws of the grammar, each the contract of a function without a body.
-ghost use Rattle.std.specs.Prelude.{◌≡◌, ◌≤◌, ◌⊎◌, ℕ, List, [], Option};
+ghost use Rattle.std.specs.Prelude.{◌≡◌, ◌≤◌, ◌⊎◌, ℕ, true, List, [], Option};
+ghost use Rattle.c_core.specs.TextOrder.{rises};
 ghost use Rattle.c_core.specs.declared.number.Spot.{Spot};
 ghost use Rattle.c_tokens.specs.declared.token.Token.{Token};
 ghost use Rattle.c_parser.specs.Tree.{Exp, Item};
 ghost use Rattle.c_parser.specs.Expressions.{Spells};
 ghost use Rattle.c_parser.specs.Sources.{Takes, IsSource, IsSyntax, max_height, max_brackets};
+ghost use Rattle.c_parser.specs.TextOrder.{spots_of_items, tokens_rise};
 
 /// Each list of tokens spells a source, or has a first item that fits no form.
 pub fn some_outcome()
@@ -34,4 +36,10 @@ pub fn one_item()
 /// Tokens spell at most one expression, whichever strength it has to have (1 is a whole expression, 15 a unary one).
 pub fn one_expression()
     ensures { (brackets strength : ℕ) (ts : List Token) (e u : Exp) → 1 ≤ strength → strength ≤ 15 → Spells brackets strength ts e [] → Spells brackets strength ts u [] → e ≡ u }
+{}
+
+/// The places of the parts of a source rise, as those of its tokens do: names, statements, expressions, the marks of choices and
+/// the closing parentheses of calls follow the order of the text.
+pub fn text_order()
+    ensures { (ts : List Token) (xs : List Item) → IsSource ts xs → tokens_rise ts ≡ true → rises (spots_of_items xs) ≡ true }
 {}

@@ -20,6 +20,8 @@ mod words;
 
 pub use fault::{ExprFault, ParseFault};
 pub use item::{Item, RawParam};
-pub use laws::{one_expression, one_item, one_source, one_syntax, some_outcome, source_or_syntax};
+pub use laws::{
+    one_expression, one_item, one_source, one_syntax, some_outcome, source_or_syntax, text_order,
+};
 pub use tree::{RawDeclared, RawExpr, RawFirst, RawForm, RawInit, RawNode, RawStmt, ResultTest};
 pub use witness::{parse_expr, parse_result};
