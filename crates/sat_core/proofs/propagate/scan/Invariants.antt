@@ -1,0 +1,8 @@
+use Rattle.std.proofs.Common.{length}
+use Rattle.sat_core.specs.Trail.{clauses_of}
+use Rattle.sat_core.specs.Values.{open_variables}
+use Rattle.sat_core.specs.Found.{AreScanned}
+use Rattle.sat_core.proofs.propagate.scan.Given as goal
+
+abbrev pub invariant-loop-at : goal.invariant-loop-at
+invariant-loop-at l = AreScanned (clauses_of l.given l.chains) (length l.initial.trail.values.items) (open_variables l.initial.trail.values.items) l.at l.quiet l.trail.values.items l.trail.entries.items

@@ -1,0 +1,13 @@
+//! A solver for clauses. Its one promise: it gives values that satisfy every clause, or a log of resolution down to the
+//! empty clause, or a log of as many new clauses as the budget allows.
+#![tactic(auto)]
+
+mod analyze;
+mod database;
+mod propagate;
+mod solver;
+#[cfg(test)]
+mod tests;
+mod trail;
+
+pub use solver::{Answer, solve};

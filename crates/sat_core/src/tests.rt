@@ -1,0 +1,178 @@
+// Small clause sets, beside a search through all assignments.
+use crate::{Answer, solve};
+use clauses::{Clause, Cnf, accepts, accepts_log};
+use std::alloc::Global;
+use std::test::Fail;
+use wv_base::{OutOfMemory, Seq};
+
+fn list(alloc: Global, numbers: &[i32]) -> Result<Seq<i32>, OutOfMemory> {
+    let mut list = Seq::new(alloc);
+    for number in numbers {
+        list.push(*number)?;
+    }
+    Ok(list)
+}
+
+fn cnf(alloc: Global, variables: u32, lists: &[&[i32]]) -> Result<Cnf, Fail> {
+    let mut clauses = Seq::new(alloc);
+    for numbers in lists {
+        let clause = Clause::new(list(alloc, numbers)?).ok_or("no clause")?;
+        clauses.push(clause)?;
+    }
+    let cnf = Cnf::new(variables, clauses).ok_or("another variable")?;
+    Ok(cnf)
+}
+
+#[test]
+fn a_budget_of_one_is_spent_on_one_new_clause(rt: HostRuntime) -> Result<(), Fail> {
+    let cnf = cnf(rt.alloc(), 2, &[&[1, 2], &[-2, 1], &[-1, 2], &[-2, -1]])?;
+    assert!(rt; cnf.clauses.len() < 100);
+    let Answer::Spent(log) = solve(rt.alloc(), &cnf, 1)? else {
+        return Err("not spent".into());
+    };
+    assert_eq!(rt; log.chains.len(), 1);
+    assert!(rt; accepts_log(rt.alloc(), &cnf, &log)?);
+    assert!(rt; !accepts(rt.alloc(), &cnf, &log)?);
+    Ok(())
+}
+
+#[test]
+fn a_budget_of_two_refutes(rt: HostRuntime) -> Result<(), Fail> {
+    let cnf = cnf(rt.alloc(), 2, &[&[1, 2], &[-2, 1], &[-1, 2], &[-2, -1]])?;
+    assert!(rt; cnf.clauses.len() < 100);
+    let Answer::Refuted(log) = solve(rt.alloc(), &cnf, 2)? else {
+        return Err("not refuted".into());
+    };
+    assert_eq!(rt; log.chains.len(), 2);
+    assert!(rt; accepts(rt.alloc(), &cnf, &log)?);
+    Ok(())
+}
+
+#[test]
+fn a_number_and_its_opposite(rt: HostRuntime) -> Result<(), Fail> {
+    let cnf = cnf(rt.alloc(), 1, &[&[1], &[-1]])?;
+    assert!(rt; cnf.clauses.len() < 100);
+    let Answer::Refuted(log) = solve(rt.alloc(), &cnf, 1)? else {
+        return Err("not refuted".into());
+    };
+    assert_eq!(rt; log.chains.len(), 1);
+    assert!(rt; accepts_log(rt.alloc(), &cnf, &log)?);
+    assert!(rt; accepts(rt.alloc(), &cnf, &log)?);
+    Ok(())
+}
+
+#[test]
+fn one_number(rt: HostRuntime) -> Result<(), Fail> {
+    let cnf = cnf(rt.alloc(), 1, &[&[1]])?;
+    assert!(rt; cnf.clauses.len() < 100);
+    let Answer::Model(values) = solve(rt.alloc(), &cnf, 1)? else {
+        return Err("no model".into());
+    };
+    assert!(rt; values.as_slice() == [true].as_slice());
+    Ok(())
+}
+
+// which sign a variable has in the clause of a code: 0 for none
+fn sign(code: u32, variable: u32) -> u32 {
+    match variable {
+        1 => code % 3,
+        2 => code / 3 % 3,
+        3 => code / 9 % 3,
+        _ => code / 27 % 3,
+    }
+}
+
+// one of the 81 clauses over four variables
+fn coded(alloc: Global, code: u32) -> Result<Clause, Fail> {
+    let mut numbers = Seq::new(alloc);
+    for number in [-4, -3, -2, -1] {
+        if sign(code, i32::unsigned_abs(number)) == 2 {
+            numbers.push(number)?;
+        }
+    }
+    for number in [1, 2, 3, 4] {
+        if sign(code, i32::unsigned_abs(number)) == 1 {
+            numbers.push(number)?;
+        }
+    }
+    let clause = Clause::new(numbers).ok_or("no clause")?;
+    Ok(clause)
+}
+
+fn is_true(assignment: u32, variable: u32) -> bool {
+    match variable {
+        1 => assignment % 2 == 1,
+        2 => assignment / 2 % 2 == 1,
+        3 => assignment / 4 % 2 == 1,
+        _ => assignment / 8 % 2 == 1,
+    }
+}
+
+fn holds(clause: &Clause, assignment: u32) -> bool {
+    for number in clause.numbers().as_slice() {
+        if is_true(assignment, number.unsigned_abs()) == (*number > 0) {
+            return true;
+        }
+    }
+    false
+}
+
+fn satisfies(cnf: &Cnf, assignment: u32) -> bool {
+    for clause in cnf.clauses.as_slice() {
+        if !holds(clause, assignment) {
+            return false;
+        }
+    }
+    true
+}
+
+fn is_satisfiable(cnf: &Cnf) -> bool {
+    for assignment in 0..16 {
+        if satisfies(cnf, assignment) {
+            return true;
+        }
+    }
+    false
+}
+
+// the assignment of a model of four values
+fn assignment(values: &Seq<bool>) -> u32 {
+    let mut place = 1u32;
+    let mut sum = 0u32;
+    for value in values.as_slice() {
+        if *value {
+            sum = sum.wrapping_add(place);
+        }
+        place = place.wrapping_mul(2);
+    }
+    sum
+}
+
+#[test]
+fn verdicts_are_those_of_all_assignments(rt: HostRuntime) -> Result<(), Fail> {
+    let mut seed = 1u32;
+    let mut refuted = 0u32;
+    for count in 0..200u32 {
+        let mut clauses = Seq::new(rt.alloc());
+        for _ in 0..4 + count % 17 {
+            seed = seed.wrapping_mul(1664525).wrapping_add(1013904223);
+            clauses.push(coded(rt.alloc(), seed / 256 % 81)?)?;
+        }
+        let cnf = Cnf::new(4, clauses).ok_or("another variable")?;
+        assert!(rt; cnf.clauses.len() < 100);
+        match solve(rt.alloc(), &cnf, 30)? {
+            Answer::Model(values) => {
+                assert!(rt; satisfies(&cnf, assignment(&values)));
+            }
+            Answer::Refuted(log) => {
+                assert!(rt; !is_satisfiable(&cnf));
+                assert!(rt; accepts(rt.alloc(), &cnf, &log)?);
+                refuted = refuted.wrapping_add(1);
+            }
+            Answer::Spent(_) => return Err("spent".into()),
+        }
+    }
+    assert!(rt; refuted > 50);
+    assert!(rt; refuted < 190);
+    Ok(())
+}
