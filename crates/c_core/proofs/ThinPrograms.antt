@@ -7,7 +7,7 @@ use Rattle.std.proofs.Math.Bool.{or-true}
 use Rattle.std.specs.List.{list_all, range_with_len, sum_by}
 use Rattle.c_core.specs.Tree.{Exp, One, Stm, Stmt, Form, Block, Stms, Function, Program}
 use Rattle.c_core.specs.Parts.{is_empty, same_spot, every_statement_of, names_in_block, spots_of_names, objects_of}
-use Rattle.c_core.specs.Thin.{is_int, has_type_int, is_thin_object, is_thin_objects, is_ilp32, is_unreach_call, is_thin_body, is_body_form, is_thin_main, is_thin_functions, is_thin, IsPlaced}
+use Rattle.c_core.specs.Thin.{is_int, has_type_int, is_thin_object, is_thin_objects, is_unreach_call, is_thin_body, is_body_form, is_thin_main, is_thin_functions, is_thin, IsPlaced}
 use Rattle.c_core.specs.Typing.{same_type, is_scalar, has_value, init_fits, statement_fits}
 use Rattle.c_core.specs.Scope.{is_in, times_in, is_fixed_object, is_fixed, is_reached, is_object, is_owned_once, block_reaches, statement_nests, block_jumps}
 use Rattle.c_core.specs.Program.{IsProgram, stands_at, object_fits}
@@ -281,12 +281,12 @@ checked_functions : (m : DataModel) (property : Property) (os : List Object) (st
     → is_thin (with_functions m property os starts fs main) ≡ true
     → IsPlaced (with_functions m property os starts fs main) → IsProgram (with_functions m property os starts fs main)
 checked_functions m property os starts [] main h =
-    absurd (false≢true (right (is_thin_objects os && is_empty starts) _ (right (is_ilp32 m && is_unreach_call property) _ h)))
+    absurd (false≢true (right (is_thin_objects os && is_empty starts) _ (right (is_unreach_call property) _ h)))
 checked_functions m property os starts (f ∷ g ∷ fs) main h =
-    let rest = right (is_thin_objects os && is_empty starts) _ (right (is_ilp32 m && is_unreach_call property) _ h) in
+    let rest = right (is_thin_objects os && is_empty starts) _ (right (is_unreach_call property) _ h) in
     absurd (false≢true (right (is_thin_main (length os) f) _ (left _ _ rest)))
 checked_functions m property os starts (f ∷ []) main h =
-    let parts = right (is_ilp32 m && is_unreach_call property) _ h in
+    let parts = right (is_unreach_call property) _ h in
     let objects = left _ _ parts in
     let rest = right (is_thin_objects os && is_empty starts) _ parts in
     let whole = left _ _ (left _ _ rest) in

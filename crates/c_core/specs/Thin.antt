@@ -7,8 +7,6 @@ use Rattle.c_core.specs.TextOrder.{spots_of_objects}
 use Rattle.c_core.specs.Tree.{Exp, Expr, Node, Const, Var, Binary, Call, Exps, NoExp, MoreExp, Init, One, Names, NoName, MoreName, Stm, Stmt, Form, Do, Declare, Block, If, Return, Else, NoElse, OrElse, Stms, NoStm, MoreStm, Function, Program}
 use Rattle.c_core.specs.declared.number.IntType.{IntType}
 use Rattle.c_core.specs.declared.number.IntType.TheVariants.{Int}
-use Rattle.c_core.specs.declared.number.DataModel.{DataModel}
-use Rattle.c_core.specs.declared.number.DataModel.TheVariants.{Ilp32, Lp64}
 use Rattle.c_core.specs.declared.number.Property.{Property}
 use Rattle.c_core.specs.declared.number.Property.TheVariants.{UnreachCall, NoOverflow}
 use Rattle.c_core.specs.declared.number.BinOp.{BinOp}
@@ -201,17 +199,14 @@ abbrev pub is_thin_objects : List Object → Bool
 is_thin_objects [] = true
 is_thin_objects (o ∷ os) = is_thin_object o && is_thin_objects os
 
-abbrev pub is_ilp32 : DataModel → Bool
-is_ilp32 Ilp32 = true
-is_ilp32 Lp64 = false
-
 abbrev pub is_unreach_call : Property → Bool
 is_unreach_call UnreachCall = true
 is_unreach_call NoOverflow = false
 
+-- in either data model, since all its types are `int`
 abbrev pub is_thin : Program → Bool
 is_thin p =
-    (is_ilp32 p.model && is_unreach_call p.property)
+    is_unreach_call p.property
     && ((is_thin_objects p.objects && is_empty p.starts) && (is_thin_functions (length p.objects) p.functions && nat_eq p.main 0))
 
 -- its places follow the order of the text, its objects stand where their names do, and it has no more cells than a program may have

@@ -1,5 +1,5 @@
 -- Where the waypoints of a thin witness may stand in the tree of a thin program.
-use Rattle.std.proofs.Common.{◌≡◌, ℕ, ◌+◌, zero, suc, List, [], ◌∷◌, ◌++◌, map, Bool, true, false, cond, ◌&&◌, ◌||◌, Option, Some, is_some, refl, sym, ◌∙◌, ap, append_assoc, append-nil}
+use Rattle.std.proofs.Common.{◌≡◌, ℕ, ◌+◌, zero, suc, List, [], ◌∷◌, ◌++◌, map, Bool, true, false, cond, ◌&&◌, ◌||◌, Option, Some, None, is_some, refl, sym, ◌∙◌, ap, append_assoc, append-nil}
 use Rattle.std.proofs.Math.Bool.{or-false, or-true, or_assoc}
 use Rattle.std.proofs.lemmas.List.Folds.{list_any-append}
 use Rattle.std.specs.List.{filter, find, flat_map, list_any, range_with_len}
@@ -9,11 +9,12 @@ use Rattle.c_core.specs.Places.{aim_fits, calls_reach_error, ends_at, input_at, 
 use Rattle.c_core.specs.declared.number.Spot.{Spot}
 use Rattle.c_core.specs.declared.place.Place.{Place}
 use Rattle.c_core.specs.declared.place.PlaceKind.TheVariants.{Statement}
+use Rattle.c_core.specs.declared.number.DataModel.{DataModel}
 use Rattle.witval.specs.declared.thin.grammar.Layout.{Layout}
 use Rattle.witval.specs.declared.thin.witness.ThinWitness.{ThinWitness}
-use Rattle.witval.specs.ThinAims.{is_in_declaration, is_in_declarations, is_in_return, is_in_test, is_input_close, is_target, stands}
+use Rattle.witval.specs.ThinAims.{is_in_declaration, is_in_declarations, is_in_return, is_in_test, is_input_close, is_target, stands, stands_if}
 use Rattle.witval.specs.ThinGrammar.{declaration_start, spot_at, test_start}
-use Rattle.witval.specs.ThinPlaces.{is_placed}
+use Rattle.witval.specs.ThinPlaces.{is_placed, is_placed_if}
 use Rattle.witval.specs.ThinProgram.{block_of, body_tree, declaration_of, program_tree, return_tree, statements_of, test_of}
 use Rattle.witval.specs.ThinTokens.{TokenAt}
 
@@ -94,11 +95,11 @@ aims_split q places fulls exps places' fulls' exps' is fs es =
     ∙ ap (λ xs. list_any q (of_kind Statement places') || (list_any q (map spot_of fulls') || list_any q (map spot_of (filter calls_reach_error xs)))) es
 
 -- the waypoints stand in the tree where they stand among the tokens
-pub placed-stands : (ts : List TokenAt) (layout : Layout) (w : ThinWitness) → is_placed (program_tree ts layout) w ≡ stands ts layout w
-placed-stands ts layout w =
+placed-stands : (model : DataModel) (ts : List TokenAt) (layout : Layout) (w : ThinWitness) → is_placed (program_tree model ts layout) w ≡ stands ts layout w
+placed-stands model ts layout w =
     let d = layout.declarations in
     let e = layout.tests in
-    let p = program_tree ts layout in
+    let p = program_tree model ts layout in
     let end = return_tree ts (test_start d e) ∷ [] in
     let tests = map (test_of ts d) (range_with_len 0 e) ++ end in
     let whole = block_of (statements_of ts layout) in
@@ -119,6 +120,11 @@ placed-stands ts layout w =
     ap (λ b. b && aim_fits p w.target.line (Some w.target.column)) input ∙ ap (λ b. is_input_close ts layout w.close && b) aim
 
 -- what is read of the tokens holds of the program that is built of them
-pub placed-built : (ts : List TokenAt) (layout : Layout) (w : ThinWitness) (program : t.Program) (placed : Bool) → placed ≡ stands ts layout w → program ≡ program_tree ts layout →
+placed-built : (model : DataModel) (ts : List TokenAt) (layout : Layout) (w : ThinWitness) (program : t.Program) (placed : Bool) → placed ≡ stands ts layout w → program ≡ program_tree model ts layout →
     placed ≡ is_placed program w
-placed-built ts layout w program placed read built = read ∙ sym (placed-stands ts layout w) ∙ ap (λ p. is_placed p w) (sym built)
+placed-built model ts layout w program placed read built = read ∙ sym (placed-stands model ts layout w) ∙ ap (λ p. is_placed p w) (sym built)
+
+pub placed-if-built : (model : DataModel) (ts : List TokenAt) (layout : Layout) (o : Option ThinWitness) (program : t.Program) (placed : Bool) → placed ≡ stands_if ts layout o → program ≡ program_tree model ts layout →
+    placed ≡ is_placed_if program o
+placed-if-built model ts layout None program placed read built = read
+placed-if-built model ts layout (Some w) program placed read built = placed-built model ts layout w program placed read built

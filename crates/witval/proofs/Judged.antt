@@ -1,23 +1,34 @@
 -- The reply to the bytes read is the reply that the files call for.
 use Rattle.std.proofs.Common.{◌≡◌, Result, Ok, Err, IfOk, ℕ, List, [], Bool, true, false, Option, Some, None, IfSome, refl, sym, subst, inl}
 use Rattle.std.specs.Str.{bytes_eq}
+use Rattle.c_core.specs.declared.number.DataModel.{DataModel}
+use Rattle.c_core.specs.declared.number.Property.{Property}
+use Rattle.c_core.specs.declared.number.Property.TheVariants.{UnreachCall, NoOverflow}
+use Rattle.sha2.specs.Sha256.{sha256}
 use Rattle.wv_base.specs.Shelf.{ShelfState, Files, file_of}
 use Rattle.wv_report.specs.declared.reply.Reply.{Reply}
 use Rattle.wv_report.specs.declared.reply.Reply.TheVariants.{Verdict as Judged, Refused, ReadFault}
+use Rattle.wv_schema.specs.Schema.{witness_of}
+use Rattle.wv_schema.specs.declared.fault.SchemaFault.{SchemaFault}
+use Rattle.wv_schema.specs.declared.fault.SchemaFault.TheVariants as schema
+use Rattle.wv_schema.specs.declared.witness.Witness.{Witness}
+use Rattle.wv_task.specs.PropertyText.{property_of}
+use Rattle.wv_task.specs.Task.{judged as task_judged}
+use Rattle.wv_task.specs.declared.fault.TaskFault.{TaskFault}
+use Rattle.wv_task.specs.declared.fault.TaskFault.TheVariants as task
+use Rattle.wv_words.specs.Words.{Command}
 use Rattle.wv_yaml.specs.declared.tree.Tree.{Tree}
 use Rattle.wv_yaml.specs.declared.fault.YamlFault.{YamlFault}
 use Rattle.wv_yaml.specs.declared.fault.YamlFault.TheVariants.{Bytes, Grammar, Duplicate, OutOfMemory}
-use Rattle.wv_yaml.specs.Reading.{IsAnswer}
-use Rattle.witval.specs.Words.{Command}
 use Rattle.witval.specs.Inputs.{OfFiles, AreInputs, IsWitness, ToldOne}
-use Rattle.witval.specs.Readings.{IsRefusal, RightAfterAnswer, RightAfterReading}
-use Rattle.witval.specs.Tasks.{Task, Unbuilt, Violation, RightOn, RightAfterProperty, RightOnInputs, RightOnTree, task_of}
-use Rattle.witval.specs.Replies.{CanonicalIn, CanonicalOn, NoReply, RightCanonical, RightOnBytes, RightFor, too_long}
-use Rattle.witval.specs.ThinProperty.{is_unreach_text}
+use Rattle.witval.specs.Readings.{IsRefusal, IsSchemaRefusal, IsTaskRefusal, RightAfterAnswer, RightAfterProperty, RightAfterReading, RightAfterSchema, RightAfterTask}
+use Rattle.witval.specs.Tasks.{Task, Unbuilt, Violation, RightOn, RightOnInputs, RightOnProgram, RightOnTree, RightOnWitness, task_of}
+use Rattle.witval.specs.Replies.{CanonicalIn, NoReply, NoTreeReply, NoWitnessReply, OnWitness, SummaryIn, RightAlone, RightOnBytes, RightFor, too_long}
+use Rattle.witval.specs.ThinProgram.{thin_program}
 use Rattle.witval.specs.ThinWitness.{thin_witness}
 use Rattle.witval.specs.declared.input.Inputs.{Inputs}
 use Rattle.witval.specs.declared.output.Output.{Output}
-use Rattle.witval.specs.declared.output.Output.TheVariants.{Report, Canonical}
+use Rattle.witval.specs.declared.output.Output.TheVariants.{Report, Canonical, Summary}
 
 -- a reply that is neither a read fault nor the refusal of a long file
 NotOfLength : Reply → Type 0
@@ -32,57 +43,90 @@ refusals Grammar reply e = subst NotOfLength (sym e) refl
 refusals Duplicate reply e = subst NotOfLength (sym e) refl
 refusals OutOfMemory reply e = absurd e
 
-tasks : (task : Task) (reply : Reply) → RightOn task reply → NotOfLength reply
+schema_refusals : (fault : SchemaFault) (reply : Reply) → IsSchemaRefusal fault reply → NotOfLength reply
 unfolding NotOfLength
-tasks (Unbuilt d) reply e = subst NotOfLength (sym e) refl
-tasks (Violation p ss) (Judged verdict) e = tt
-tasks (Violation p ss) (Refused code detail) e = absurd e
-tasks (Violation p ss) (ReadFault file) e = absurd e
+schema_refusals (schema.Missing path) reply e = subst NotOfLength (sym e) refl
+schema_refusals (schema.WrongKind path) reply e = subst NotOfLength (sym e) refl
+schema_refusals (schema.BadValue path) reply e = subst NotOfLength (sym e) refl
+schema_refusals schema.Version reply e = subst NotOfLength (sym e) refl
+schema_refusals (schema.Shape segment) reply e = subst NotOfLength (sym e) refl
+schema_refusals schema.Entries reply e = subst NotOfLength (sym e) refl
+schema_refusals schema.OutOfMemory reply e = absurd e
+
+task_refusals : (fault : TaskFault) (reply : Reply) → IsTaskRefusal fault reply → NotOfLength reply
+unfolding NotOfLength
+task_refusals task.Files reply e = subst NotOfLength (sym e) refl
+task_refusals (task.Hash stated found) reply e = subst NotOfLength (sym e) refl
+task_refusals task.Specification reply e = subst NotOfLength (sym e) refl
+task_refusals task.Language reply e = subst NotOfLength (sym e) refl
+task_refusals task.Model reply e = subst NotOfLength (sym e) refl
+task_refusals task.Uuid reply e = subst NotOfLength (sym e) refl
+task_refusals task.OutOfMemory reply e = absurd e
+
+tasks : (steps : ℕ) (asked : Task) (reply : Reply) → RightOn steps asked reply → NotOfLength reply
+unfolding NotOfLength
+tasks steps (Unbuilt d) reply e = subst NotOfLength (sym e) refl
+tasks steps (Violation p ss) (Judged verdict) e = tt
+tasks steps (Violation p ss) (Refused code detail) e = absurd e
+tasks steps (Violation p ss) (ReadFault file) e = absurd e
+
+after_task : (answer : Result DataModel TaskFault) (within : DataModel → Reply → Type 0) → ((model : DataModel) (reply : Reply) → within model reply → NotOfLength reply)
+    → (reply : Reply) → RightAfterTask answer within reply → NotOfLength reply
+after_task (Ok model) within good reply right = good model reply right
+after_task (Err fault) within good reply right = task_refusals fault reply right
+
+after_schema : (answer : Result Witness SchemaFault) (within : Witness → Reply → Type 0) → ((witness : Witness) (reply : Reply) → within witness reply → NotOfLength reply)
+    → (reply : Reply) → RightAfterSchema answer within reply → NotOfLength reply
+after_schema (Ok witness) within good reply right = good witness reply right
+after_schema (Err fault) within good reply right = schema_refusals fault reply right
 
 after_answer : (answer : Result Tree YamlFault) (within : Tree → Reply → Type 0) → ((tree : Tree) (reply : Reply) → within tree reply → NotOfLength reply)
     → (reply : Reply) → RightAfterAnswer answer within reply → NotOfLength reply
 after_answer (Ok tree) within good reply right = good tree reply right
 after_answer (Err fault) within good reply right = refusals fault reply right
 
-after_property : (b : Bool) (within : Reply → Type 0) → ((reply : Reply) → within reply → NotOfLength reply) → (reply : Reply) → RightAfterProperty b within reply → NotOfLength reply
+after_property : (o : Option Property) (within : Reply → Type 0) → ((reply : Reply) → within reply → NotOfLength reply) → (reply : Reply) → RightAfterProperty o within reply → NotOfLength reply
 unfolding NotOfLength
-after_property true within good reply right = good reply right
-after_property false within good reply right = subst NotOfLength (sym right) refl
+after_property (Some UnreachCall) within good reply right = good reply right
+after_property (Some NoOverflow) within good reply right = subst NotOfLength (sym right) refl
+after_property None within good reply right = subst NotOfLength (sym right) refl
 
-inputs_not_of_length : (program property witness : List ℕ) (reply : Reply) → RightOnInputs program property witness reply → NotOfLength reply
-inputs_not_of_length program property witness reply right =
-    after_property (is_unreach_text property) (RightAfterReading witness (RightOnTree program))
-    (λ reply r. after_answer r.0 (RightOnTree program) (λ tree reply r. tasks (task_of program (thin_witness tree)) reply r) reply r.2) reply right
+witness_not_of_length : (steps : ℕ) (program : List ℕ) (witness : Witness) (reply : Reply) → RightOnWitness steps program witness reply → NotOfLength reply
+witness_not_of_length steps program witness reply right =
+    after_task (task_judged (sha256 program) UnreachCall witness.entries) (RightOnProgram steps program witness)
+    (λ model reply r. tasks steps (task_of (thin_program model program) (thin_witness witness)) reply r) reply right
+
+tree_not_of_length : (steps : ℕ) (program : List ℕ) (tree : Tree) (reply : Reply) → RightOnTree steps program tree reply → NotOfLength reply
+tree_not_of_length steps program tree reply right = after_schema (witness_of tree) (RightOnWitness steps program) (witness_not_of_length steps program) reply right
+
+inputs_not_of_length : (steps : ℕ) (program property witness : List ℕ) (reply : Reply) → RightOnInputs steps program property witness reply → NotOfLength reply
+inputs_not_of_length steps program property witness reply right =
+    after_property (property_of property) (RightAfterReading witness (RightOnTree steps program))
+    (λ reply r. after_answer r.0 (RightOnTree steps program) (tree_not_of_length steps program) reply r.2) reply right
 
 -- the files hold the bytes that were read
-on_files : (program property witness : List ℕ) (inputs : Inputs) (reply : Reply) → AreInputs inputs program property witness
-    → RightOnInputs inputs.program.items inputs.property.items inputs.witness.items reply → RightOnBytes reply program property witness
-on_files program property witness inputs reply a right =
+on_files : (steps : ℕ) (program property witness : List ℕ) (inputs : Inputs) (reply : Reply) → AreInputs inputs program property witness
+    → RightOnInputs steps inputs.program.items inputs.property.items inputs.witness.items reply → RightOnBytes steps reply program property witness
+on_files steps program property witness inputs reply a right =
     rw (a.lengths, ← a.program_read, ← a.property_read, ← a.witness_read) right
 
-told : (command : Command) (files : Option Files) (inputs : Inputs) (reply : Reply) → IfSome files (λ files. OfFiles command files (AreInputs inputs))
-    → RightOnInputs inputs.program.items inputs.property.items inputs.witness.items reply → IfSome files (λ files. OfFiles command files (RightOnBytes reply))
-told command None inputs reply a right = tt
-told command (Some files) inputs reply a right = on_files _ _ _ inputs reply a right
+told : (command : Command) (steps : ℕ) (files : Option Files) (inputs : Inputs) (reply : Reply) → IfSome files (λ files. OfFiles command files (AreInputs inputs))
+    → RightOnInputs steps inputs.program.items inputs.property.items inputs.witness.items reply → IfSome files (λ files. OfFiles command files (RightOnBytes steps reply))
+told command steps None inputs reply a right = tt
+told command steps (Some files) inputs reply a right = on_files steps _ _ _ inputs reply a right
 
-judged : (command : Command) (old new : ShelfState) (inputs : Inputs) (reply : Reply) → IfSome old.files (λ files. OfFiles command files (AreInputs inputs))
-    → RightOnInputs inputs.program.items inputs.property.items inputs.witness.items reply → NotOfLength reply → RightFor command old new reply
+judged : (command : Command) (steps : ℕ) (old new : ShelfState) (inputs : Inputs) (reply : Reply) → IfSome old.files (λ files. OfFiles command files (AreInputs inputs))
+    → RightOnInputs steps inputs.program.items inputs.property.items inputs.witness.items reply → NotOfLength reply → RightFor command steps old new reply
 unfolding NotOfLength
-judged command old new inputs (Refused code detail) a right other = (told command old.files inputs (Refused code detail) a right, inl other)
-judged command old new inputs (Judged verdict) a right other = told command old.files inputs (Judged verdict) a right
-judged command old new inputs (ReadFault file) a right other = absurd other
+judged command steps old new inputs (Refused code detail) a right other = (told command steps old.files inputs (Refused code detail) a right, inl other)
+judged command steps old new inputs (Judged verdict) a right other = told command steps old.files inputs (Judged verdict) a right
+judged command steps old new inputs (ReadFault file) a right other = absurd other
 
 -- the answer of the judge, for the files that the command names
-pub judged_if : {E : Type 0} (command : Command) (old new : ShelfState) (inputs : Inputs) (result : Result Reply E) → IfSome old.files (λ files. OfFiles command files (AreInputs inputs))
-    → IfOk result (RightOnInputs inputs.program.items inputs.property.items inputs.witness.items) → IfOk result (RightFor command old new)
-judged_if command old new inputs (Ok reply) a right = judged command old new inputs reply a right (inputs_not_of_length inputs.program.items inputs.property.items inputs.witness.items reply right)
-judged_if command old new inputs (Err e) a right = tt
-
--- the reply after the reader's answer is one to the bytes
-pub answered_if : {E : Type 0} (program property witness : List ℕ) (answer : Result Tree YamlFault) (result : Result Reply E) → is_unreach_text property ≡ true → IsAnswer witness answer
-    → IfOk result (RightAfterAnswer answer (RightOnTree program)) → IfOk result (RightOnInputs program property witness)
-answered_if program property witness answer (Ok reply) unreach read right = rw unreach (answer, read, right)
-answered_if program property witness answer (Err e) unreach read right = tt
+pub judged_if : {E : Type 0} (command : Command) (steps : ℕ) (old new : ShelfState) (inputs : Inputs) (result : Result Reply E) → IfSome old.files (λ files. OfFiles command files (AreInputs inputs))
+    → IfOk result (RightOnInputs steps inputs.program.items inputs.property.items inputs.witness.items) → IfOk result (RightFor command steps old new)
+judged_if command steps old new inputs (Ok reply) a right = judged command steps old new inputs reply a right (inputs_not_of_length steps inputs.program.items inputs.property.items inputs.witness.items reply right)
+judged_if command steps old new inputs (Err e) a right = tt
 
 -- a refusal is no verdict
 IsRefused : Reply → Type 0
@@ -101,23 +145,52 @@ no_tree : (answer : Result Tree YamlFault) (reply : Reply) → RightAfterAnswer 
 no_tree (Ok tree) reply right = absurd right
 no_tree (Err fault) reply right = (refused fault reply right, refusals fault reply right)
 
+schema_refused : (fault : SchemaFault) (reply : Reply) → IsSchemaRefusal fault reply → IsRefused reply
+unfolding IsRefused
+schema_refused (schema.Missing path) reply e = subst IsRefused (sym e) tt
+schema_refused (schema.WrongKind path) reply e = subst IsRefused (sym e) tt
+schema_refused (schema.BadValue path) reply e = subst IsRefused (sym e) tt
+schema_refused schema.Version reply e = subst IsRefused (sym e) tt
+schema_refused (schema.Shape segment) reply e = subst IsRefused (sym e) tt
+schema_refused schema.Entries reply e = subst IsRefused (sym e) tt
+schema_refused schema.OutOfMemory reply e = absurd e
+
+no_witness : (answer : Result Witness SchemaFault) (reply : Reply) → RightAfterSchema answer NoWitnessReply reply → IsRefused reply × NotOfLength reply
+no_witness (Ok witness) reply right = absurd right
+no_witness (Err fault) reply right = (schema_refused fault reply right, schema_refusals fault reply right)
+
+no_summary : (answer : Result Tree YamlFault) (reply : Reply) → RightAfterAnswer answer NoTreeReply reply → IsRefused reply × NotOfLength reply
+no_summary (Ok tree) reply right = no_witness (witness_of tree) reply right
+no_summary (Err fault) reply right = (refused fault reply right, refusals fault reply right)
+
+-- what each reply among the outputs is
+abbrev RefusesOnly : (Output → List ℕ → Type 0) → List ℕ → Type 0
+RefusesOnly Within bytes = (reply : Reply) → Within (Report reply) bytes → IsRefused reply × NotOfLength reply
+
 -- the file holds the bytes that were read
-on_file : (witness bytes : List ℕ) (output : Output) → IsWitness bytes witness → CanonicalIn output bytes → CanonicalOn output witness
-on_file witness bytes output a right = rw (a.not_long, ← a.read) right
+on_file : (Within : Output → List ℕ → Type 0) (witness bytes : List ℕ) (output : Output) → IsWitness bytes witness → Within output bytes → OnWitness Within output witness
+on_file Within witness bytes output a right = rw (a.not_long, ← a.read) right
 
-told_one : (name : List ℕ) (files : Option Files) (bytes : List ℕ) (output : Output) → IfSome files (λ files. IsWitness bytes (file_of files name))
-    → CanonicalIn output bytes → IfSome files (λ files. CanonicalOn output (file_of files name))
-told_one name None bytes output a right = tt
-told_one name (Some files) bytes output a right = on_file _ bytes output a right
+told_one : (Within : Output → List ℕ → Type 0) (name : List ℕ) (files : Option Files) (bytes : List ℕ) (output : Output) → IfSome files (λ files. IsWitness bytes (file_of files name))
+    → Within output bytes → IfSome files (λ files. OnWitness Within output (file_of files name))
+told_one Within name None bytes output a right = tt
+told_one Within name (Some files) bytes output a right = on_file Within _ bytes output a right
 
-canonical : (name : List ℕ) (old new : ShelfState) (bytes : List ℕ) (output : Output) → ToldOne name old (IsWitness bytes) → CanonicalIn output bytes → RightCanonical name old new output
+alone : (Within : Output → List ℕ → Type 0) (name : List ℕ) (old new : ShelfState) (bytes : List ℕ) (output : Output) → RefusesOnly Within bytes
+    → ToldOne name old (IsWitness bytes) → Within output bytes → RightAlone Within name old new output
 unfolding IsRefused NotOfLength
-canonical name old new bytes (Report (Refused code detail)) a right = (told_one name old.files bytes _ a right, inl (no_tree right.0 _ right.2).1)
-canonical name old new bytes (Report (ReadFault file)) a right = absurd (no_tree right.0 _ right.2).0
-canonical name old new bytes (Report (Judged verdict)) a right = absurd (no_tree right.0 _ right.2).0
-canonical name old new bytes (Canonical text) a right = told_one name old.files bytes _ a right
+alone Within name old new bytes (Report (Refused code detail)) only a right = (told_one Within name old.files bytes _ a right, inl (only _ right).1)
+alone Within name old new bytes (Report (ReadFault file)) only a right = absurd (only _ right).0
+alone Within name old new bytes (Report (Judged verdict)) only a right = absurd (only _ right).0
+alone Within name old new bytes (Canonical text) only a right = told_one Within name old.files bytes _ a right
+alone Within name old new bytes (Summary text) only a right = told_one Within name old.files bytes _ a right
 
 pub canonical_if : {E : Type 0} (name : List ℕ) (old new : ShelfState) (bytes : List ℕ) (result : Result Output E) → ToldOne name old (IsWitness bytes)
-    → IfOk result (λ output. CanonicalIn output bytes) → IfOk result (RightCanonical name old new)
-canonical_if name old new bytes (Ok output) a right = canonical name old new bytes output a right
+    → IfOk result (λ output. CanonicalIn output bytes) → IfOk result (RightAlone CanonicalIn name old new)
+canonical_if name old new bytes (Ok output) a right = alone CanonicalIn name old new bytes output (λ reply r. no_tree r.0 reply r.2) a right
 canonical_if name old new bytes (Err e) a right = tt
+
+pub shown_if : {E : Type 0} (name : List ℕ) (old new : ShelfState) (bytes : List ℕ) (result : Result Output E) → ToldOne name old (IsWitness bytes)
+    → IfOk result (λ output. SummaryIn output bytes) → IfOk result (RightAlone SummaryIn name old new)
+shown_if name old new bytes (Ok output) a right = alone SummaryIn name old new bytes output (λ reply r. no_summary r.0 reply r.2) a right
+shown_if name old new bytes (Err e) a right = tt

@@ -19,4 +19,3 @@ pub mod ThinGiven
 pub mod ThinReturns
 pub mod AimSteps
 pub mod JudgedTask
-mod ThinNumbers

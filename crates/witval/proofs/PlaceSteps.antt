@@ -11,6 +11,7 @@ use Rattle.c_core.specs.Thin.{IsPlaced}
 use Rattle.c_core.specs.TextOrder.{is_before, is_before_first, rises, spots_of_block, spots_of_functions, spots_of_objects}
 use Rattle.c_core.proofs.TextOrderLaws.{IsPart, skips, takes, part_none, is_before-then, rises-part, whole-same}
 use Rattle.c_core.specs.declared.number.Spot.{Spot}
+use Rattle.c_core.specs.declared.number.DataModel.{DataModel}
 use Rattle.witval.specs.declared.thin.grammar.Layout.{Layout}
 use Rattle.witval.specs.declared.thin.grammar.Phrase.TheVariants.{Opening, Declaration, Test, Closing}
 use Rattle.witval.specs.ThinTokens.{TokenAt, behind, is_blank, right, token_length, tokens_from, tokens_of}
@@ -168,8 +169,8 @@ few_of ts layout fits =
     omega (arith, few, many)
 
 -- the places of the tree are as a program's should be
-pub tree_placed : (ts : List TokenAt) (layout : Layout) → rises (spots ts) ≡ true → layout_of ts ≡ Some layout → is_consistent ts layout ≡ true → IsPlaced (program_tree ts layout)
-tree_placed ts layout rising found fits =
+pub tree_placed : (model : DataModel) (ts : List TokenAt) (layout : Layout) → rises (spots ts) ≡ true → layout_of ts ≡ Some layout → is_consistent ts layout ≡ true → IsPlaced (program_tree model ts layout)
+tree_placed model ts layout rising found fits =
     let d = layout.declarations in
     let e = layout.tests in
     let tests = map (test_of ts d) (range_with_len 0 e) ++ return_tree ts (test_start d e) ∷ [] in
@@ -184,9 +185,9 @@ tree_placed ts layout rising found fits =
     let body = spots_of_block (block_of (map (declaration_of ts) (range_with_len 0 d) ++ tests)) in
     let all : Places ts 15 (spot_at ts 15 ∷ body) = opening_places ts body opened (declarations_placed ts 0 d tests count placed) in
     let assoc = append_assoc (map (declaration_of ts) (range_with_len 0 d)) (map (test_of ts d) (range_with_len 0 e)) (return_tree ts (test_start d e) ∷ []) in
-    let all_spots : spots_of_functions (program_tree ts layout).functions ≡ spot_at ts 15 ∷ body =
+    let all_spots : spots_of_functions (program_tree model ts layout).functions ≡ spot_at ts 15 ∷ body =
     append-nil (spot_at ts 15 ∷ spots_of_block (block_of (statements_of ts layout))) ∙ ap (λ ss. spot_at ts 15 ∷ spots_of_block (block_of ss)) assoc in
-    let all_names : names_of_program (program_tree ts layout) ≡ names_in_block (block_of (map (declaration_of ts) (range_with_len 0 d) ++ tests)) =
+    let all_names : names_of_program (program_tree model ts layout) ≡ names_in_block (block_of (map (declaration_of ts) (range_with_len 0 d) ++ tests)) =
     append-nil (names_in_block (block_of (statements_of ts layout))) ∙ ap (λ ss. names_in_block (block_of ss)) assoc in
     record {
       in_order = ap rises all_spots ∙ part_from ts 15 (spot_at ts 15 ∷ body) all rising;

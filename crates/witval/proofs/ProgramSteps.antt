@@ -6,7 +6,7 @@ use Rattle.c_core.specs.Tree as t
 use Rattle.c_core.specs.TreeView.{form_view, functions_view, program_of, stmt_view, stmts_view}
 use Rattle.c_core.proofs.View.{view_of_block}
 use Rattle.c_core.specs.declared.number.IntType.TheVariants.{Int}
-use Rattle.c_core.specs.declared.number.DataModel.TheVariants.{Ilp32}
+use Rattle.c_core.specs.declared.number.DataModel.{DataModel}
 use Rattle.c_core.specs.declared.number.Property.TheVariants.{UnreachCall}
 use Rattle.c_core.specs.declared.number.Spot.{Spot}
 use Rattle.c_core.specs.declared.tree.Form.TheVariants.{Block}
@@ -37,8 +37,8 @@ stmts_view-map (s ∷ ss) = ap (t.MoreStm (stmt_view s)) (stmts_view-map ss)
 abbrev pub main_with : List ℕ → t.Stm → t.Function
 main_with params body = record { result = Some Int; params = params; body = body }
 
-abbrev program_with : List Object → List Start → List t.Function → t.Program
-program_with objects starts functions = record { model = Ilp32; property = UnreachCall; objects = objects; starts = starts; functions = functions; main = 0 }
+abbrev program_with : DataModel → List Object → List Start → List t.Function → t.Program
+program_with model objects starts functions = record { model = model; property = UnreachCall; objects = objects; starts = starts; functions = functions; main = 0 }
 
 pub main-is : (ts : List TokenAt) (layout : Layout) (statements : List Stmt) (spot : Spot) (params : List ℕ) → map stmt_view statements ≡ statements_of ts layout →
     spot ≡ spot_at ts 15 → params ≡ [] →
@@ -48,16 +48,16 @@ main-is ts layout statements spot params are at none =
     ∙ ap (λ s. main_with [] (t.Stmt s (form_view (Block statements)))) at
     ∙ ap (λ f. main_with [] (t.Stmt (spot_at ts 15) f)) (view_of_block statements ∙ ap t.Block (stmts_view-map statements ∙ ap block_of are))
 
-pub program-is : (ts : List TokenAt) (layout : Layout) (objects : List Object) (starts : List Start) (functions : List Function) → objects ≡ objects_of ts layout.declarations → starts ≡ [] →
-    functions_view functions ≡ main_tree ts layout ∷ [] → program_of Ilp32 UnreachCall objects starts functions 0 ≡ program_tree ts layout
-program-is ts layout objects starts functions os none fs =
-    ap (λ o. program_with o starts (functions_view functions)) os ∙ ap (λ s. program_with (objects_of ts layout.declarations) s (functions_view functions)) none
-    ∙ ap (λ f. program_with (objects_of ts layout.declarations) [] f) fs
+pub program-is : (model : DataModel) (ts : List TokenAt) (layout : Layout) (objects : List Object) (starts : List Start) (functions : List Function) → objects ≡ objects_of ts layout.declarations → starts ≡ [] →
+    functions_view functions ≡ main_tree ts layout ∷ [] → program_of model UnreachCall objects starts functions 0 ≡ program_tree model ts layout
+program-is model ts layout objects starts functions os none fs =
+    ap (λ o. program_with model o starts (functions_view functions)) os ∙ ap (λ s. program_with model (objects_of ts layout.declarations) s (functions_view functions)) none
+    ∙ ap (λ f. program_with model (objects_of ts layout.declarations) [] f) fs
 
-pub program-found : (bytes : List ℕ) (ts : List TokenAt) (layout : Layout) (found : Option Layout) (program : t.Program) → ts ≡ tokens_of bytes → found ≡ layout_of ts → found ≡ Some layout →
-    is_consistent ts layout ≡ true → program ≡ program_tree ts layout → thin_program bytes ≡ Some program
-program-found bytes ts layout found program read laid is fits built =
-    ap (λ xs. program_if xs (layout_of xs)) (sym read) ∙ ap (program_if ts) (sym laid ∙ is) ∙ rw fits (ap Some (sym built))
+pub program-found : (model : DataModel) (bytes : List ℕ) (ts : List TokenAt) (layout : Layout) (found : Option Layout) (program : t.Program) → ts ≡ tokens_of bytes → found ≡ layout_of ts → found ≡ Some layout →
+    is_consistent ts layout ≡ true → program ≡ program_tree model ts layout → thin_program model bytes ≡ Some program
+program-found model bytes ts layout found program read laid is fits built =
+    ap (λ xs. program_if model xs (layout_of xs)) (sym read) ∙ ap (program_if model ts) (sym laid ∙ is) ∙ rw fits (ap Some (sym built))
 
 pub consistent-from : (ts objects_in tests_in : List TokenAt) (layout : Layout) → objects_in ≡ ts → tests_in ≡ ts → layout.declarations ≤ 100000 →
     names_fit [] (names_of objects_in layout.declarations) ≡ true → tests_fit (names_of tests_in layout.declarations) tests_in layout ≡ true → is_consistent ts layout ≡ true

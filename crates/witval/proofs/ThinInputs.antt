@@ -7,7 +7,7 @@ use Rattle.std.specs.Option.{option_map}
 use Rattle.c_core.specs.Tree.{Exp, Expr, Call, NoExp, Stm, Stmt, Form, Block, Stms, Function, Program}
 use Rattle.c_core.specs.Parts.{is_empty, statements_of, statements_of_block, own_fulls_of, exps_of, exps_of_program}
 use Rattle.c_core.specs.Places.{InputCall, input_of, input_if, ends_at}
-use Rattle.c_core.specs.Thin.{is_body_form, is_thin_body, is_thin_main, is_thin_functions, is_thin_objects, has_type_int, is_ilp32, is_unreach_call, is_thin}
+use Rattle.c_core.specs.Thin.{is_body_form, is_thin_body, is_thin_main, is_thin_functions, is_thin_objects, has_type_int, is_unreach_call, is_thin}
 use Rattle.c_core.specs.declared.number.IntType.TheVariants.{Int}
 use Rattle.c_core.specs.declared.number.Spot.{Spot}
 use Rattle.c_core.specs.declared.tree.Callee.TheVariants.{Input, ReachError}
@@ -97,6 +97,6 @@ functions_calls count (f ∷ []) h =
 
 pub program_calls : (p : Program) → is_thin p ≡ true → AreCalls (exps_of_program p) (spots_of_declarations (main_block p))
 program_calls p thin =
-    let parts = right (is_thin_objects p.objects && is_empty p.starts) _ (right (is_ilp32 p.model && is_unreach_call p.property) _ thin) in
+    let parts = right (is_thin_objects p.objects && is_empty p.starts) _ (right (is_unreach_call p.property) _ thin) in
     let main = eqb-true p.main 0 (right (is_thin_functions (length p.objects) p.functions) _ parts) in
     subst (λ n. OfFunctions p.functions n) (sym main) (functions_calls (length p.objects) p.functions (left _ _ parts))

@@ -5,6 +5,7 @@ use Rattle.std.specs.Str.{bytes_eq}
 use Rattle.std.proofs.lemmas.List.FromFn.{length-map-range_with_len}
 use Rattle.c_core.specs.Tree as t
 use Rattle.c_core.specs.Thin.{is_thin, is_thin_block, is_thin_end, is_thin_objects}
+use Rattle.c_core.specs.declared.number.DataModel.{DataModel}
 use Rattle.witval.specs.declared.thin.grammar.Layout.{Layout}
 use Rattle.witval.specs.ThinCharacters.{decimal, is_decimal, number_of}
 use Rattle.witval.specs.ThinTokens.{TokenAt}
@@ -69,8 +70,8 @@ tests_thin ts d k (suc n) at fit =
     let rest = both_right (test_fits (names_of ts d) ts d k) (list_all (test_fits (names_of ts d) ts d) (range_with_len (k + 1) n)) fit in
     rw (test_below ts d k first, test_small ts d k first) (tests_thin ts d (k + 1) n at rest)
 
-pub tree_thin : (ts : List TokenAt) (layout : Layout) → is_consistent ts layout ≡ true → is_thin (program_tree ts layout) ≡ true
-tree_thin ts layout fits =
+pub tree_thin : (model : DataModel) (ts : List TokenAt) (layout : Layout) → is_consistent ts layout ≡ true → is_thin (program_tree model ts layout) ≡ true
+tree_thin model ts layout fits =
     let d = layout.declarations in
     let names = names_of ts layout.declarations in
     let many : length (objects_of ts layout.declarations) ≡ layout.declarations = length-map-range_with_len (object_at ts) 0 layout.declarations in

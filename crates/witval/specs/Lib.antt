@@ -6,13 +6,10 @@ pub mod Verdicts
 pub mod ExampleVerdicts
 pub mod ExampleGiven
 pub mod ExamplePassing
-pub mod ThinProperty
 pub mod ThinCharacters
 pub mod ThinWitness
 pub mod ThinProgram
 pub mod ThinPlaces
-pub mod Words
-pub mod Names
 pub mod Inputs
 pub mod Readings
 pub mod Tasks
@@ -22,6 +19,5 @@ pub mod ThinTokens
 pub mod ThinGrammar
 pub mod ThinObjects
 pub mod ThinTracking
-pub mod Budget
 pub mod ThinChoices
 pub mod ThinAims

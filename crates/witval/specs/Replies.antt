@@ -4,17 +4,20 @@ use Rattle.std.specs.Str.{bytes_eq}
 use Rattle.wv_base.specs.Shelf.{ShelfState}
 use Rattle.wv_report.specs.declared.reply.Reply.{Reply}
 use Rattle.wv_report.specs.declared.reply.Reply.TheVariants.{Verdict as Judged, Refused, ReadFault}
+use Rattle.wv_schema.specs.Schema.{witness_of}
+use Rattle.wv_schema.specs.declared.witness.Witness.{Witness}
+use Rattle.wv_show.specs.Show.{summary_of}
+use Rattle.wv_words.specs.Words.{Command, Wanted, Validate, Show, Normalise, Demo}
 use Rattle.wv_yaml.specs.declared.tree.Tree.{Tree}
 use Rattle.wv_yaml.specs.Canon.{canon}
 use Rattle.wv_yaml.specs.Reading.{IsAnswer}
-use Rattle.witval.specs.Words.{Command, Wanted, Validate, Normalise}
 use Rattle.witval.specs.Inputs.{Told, ToldOne, Faulted, FaultedAt, TookTooMuch, TookTooMuchOf, word_of, limit_of, first_too_long, too_long_alone}
-use Rattle.witval.specs.Readings.{RightAfterReading}
-use Rattle.witval.specs.Tasks.{RightOnInputs, unbuilt}
+use Rattle.witval.specs.Readings.{RightAfterReading, RightAfterSchema, plain, unbuilt}
+use Rattle.witval.specs.Tasks.{RightOnInputs}
 use Rattle.witval.specs.declared.input.File.{File}
-use Rattle.witval.specs.declared.input.File.TheVariants.{Witness}
+use Rattle.witval.specs.declared.input.File.TheVariants.{Witness as WitnessFile}
 use Rattle.witval.specs.declared.output.Output.{Output}
-use Rattle.witval.specs.declared.output.Output.TheVariants.{Report, Canonical}
+use Rattle.witval.specs.declared.output.Output.TheVariants.{Report, Canonical, Summary}
 
 abbrev pub too_long : List ℕ
 too_long = codes "too-long"
@@ -25,18 +28,23 @@ RightAfter (Some file) within reply = reply ≡ Refused too_long (word_of file)
 RightAfter None within reply = within reply
 
 -- the reply that three files call for
-abbrev pub RightOnBytes : Reply → List ℕ → List ℕ → List ℕ → Type 0
-RightOnBytes reply program property witness = RightAfter (first_too_long program property witness) (RightOnInputs program property witness) reply
+abbrev pub RightOnBytes : ℕ → Reply → List ℕ → List ℕ → List ℕ → Type 0
+RightOnBytes steps reply program property witness = RightAfter (first_too_long program property witness) (RightOnInputs steps program property witness) reply
 
 -- `too-long` comes only where one byte more than the limit of the file was taken
 abbrev pub TooLongBy : Command → ShelfState → ShelfState → List ℕ → List ℕ → Type 0
 TooLongBy command old new code detail = (bytes_eq code too_long ≡ false) ⊎ ((file : File) × (detail ≡ word_of file) × TookTooMuchOf command file old new)
 
 -- the reply to a command: a read fault by the shelf's counts, or else what the files call for, where they are told
-abbrev pub RightFor : Command → ShelfState → ShelfState → Reply → Type 0
-RightFor command old new (ReadFault text) = (file : File) × (text ≡ word_of file) × FaultedAt command file old new
-RightFor command old new (Refused code detail) = Told command old (RightOnBytes (Refused code detail)) × TooLongBy command old new code detail
-RightFor command old new (Judged verdict) = Told command old (RightOnBytes (Judged verdict))
+abbrev pub RightFor : Command → ℕ → ShelfState → ShelfState → Reply → Type 0
+RightFor command steps old new (ReadFault text) = (file : File) × (text ≡ word_of file) × FaultedAt command file old new
+RightFor command steps old new (Refused code detail) = Told command old (RightOnBytes steps (Refused code detail)) × TooLongBy command old new code detail
+RightFor command steps old new (Judged verdict) = Told command old (RightOnBytes steps (Judged verdict))
+
+abbrev pub RightVerdict : Command → ℕ → ShelfState → ShelfState → Output → Type 0
+RightVerdict command steps old new (Report reply) = RightFor command steps old new reply
+RightVerdict command steps old new (Canonical text) = ⊥
+RightVerdict command steps old new (Summary text) = ⊥
 
 -- no tree has a reply where its canonical form is asked for
 abbrev pub NoReply : Tree → Reply → Type 0
@@ -46,31 +54,57 @@ NoReply tree reply = ⊥
 abbrev pub CanonicalIn : Output → List ℕ → Type 0
 CanonicalIn (Report reply) witness = RightAfterReading witness NoReply reply
 CanonicalIn (Canonical text) witness = (tree : Tree) × IsAnswer witness (Ok tree) × (text ≡ canon tree)
+CanonicalIn (Summary text) witness = ⊥
 
--- the same after the length is looked at
-abbrev pub CanonicalAfter : Option File → Output → List ℕ → Type 0
-CanonicalAfter (Some file) output witness = output ≡ Report (Refused too_long (word_of file))
-CanonicalAfter None output witness = CanonicalIn output witness
+-- no witness has a reply where its summary is asked for
+abbrev pub NoWitnessReply : Witness → Reply → Type 0
+NoWitnessReply witness reply = ⊥
 
-abbrev pub CanonicalOn : Output → List ℕ → Type 0
-CanonicalOn output witness = CanonicalAfter (too_long_alone witness) output witness
+abbrev pub NoTreeReply : Tree → Reply → Type 0
+NoTreeReply tree reply = RightAfterSchema (witness_of tree) NoWitnessReply reply
+
+-- what a tree calls for, where the summary of its witness is asked for
+abbrev pub SummaryOf : Output → Tree → Type 0
+SummaryOf (Report reply) tree = NoTreeReply tree reply
+SummaryOf (Canonical text) tree = ⊥
+SummaryOf (Summary text) tree = (witness : Witness) × (witness_of tree ≡ Ok witness) × (text ≡ summary_of witness)
+
+-- the same of the bytes of a witness of allowed length
+abbrev pub SummaryIn : Output → List ℕ → Type 0
+SummaryIn (Report reply) witness = RightAfterReading witness NoTreeReply reply
+SummaryIn (Canonical text) witness = ⊥
+SummaryIn (Summary text) witness = (tree : Tree) × IsAnswer witness (Ok tree) × SummaryOf (Summary text) tree
+
+-- what the bytes of a witness call for: the refusal of a long file, or what those of allowed length do
+abbrev pub AfterLength : Option File → (Output → List ℕ → Type 0) → Output → List ℕ → Type 0
+AfterLength (Some file) Within output witness = output ≡ Report (Refused too_long (word_of file))
+AfterLength None Within output witness = Within output witness
+
+abbrev pub OnWitness : (Output → List ℕ → Type 0) → Output → List ℕ → Type 0
+OnWitness Within output witness = AfterLength (too_long_alone witness) Within output witness
 
 abbrev pub TooLongAlone : List ℕ → ShelfState → ShelfState → List ℕ → List ℕ → Type 0
-TooLongAlone name old new code detail = (bytes_eq code too_long ≡ false) ⊎ ((detail ≡ word_of Witness) × TookTooMuch 1 name (limit_of Witness) old new)
+TooLongAlone name old new code detail = (bytes_eq code too_long ≡ false) ⊎ ((detail ≡ word_of WitnessFile) × TookTooMuch 1 name (limit_of WitnessFile) old new)
 
 -- the output for a witness's name: a read fault by the shelf's counts, or else what the file calls for, where it is told
-abbrev pub RightCanonical : List ℕ → ShelfState → ShelfState → Output → Type 0
-RightCanonical name old new (Report (ReadFault text)) = (text ≡ word_of Witness) × Faulted 1 name old new
-RightCanonical name old new (Report (Refused code detail)) = ToldOne name old (CanonicalOn (Report (Refused code detail))) × TooLongAlone name old new code detail
-RightCanonical name old new (Report (Judged verdict)) = ⊥
-RightCanonical name old new (Canonical text) = ToldOne name old (CanonicalOn (Canonical text))
+abbrev pub RightAlone : (Output → List ℕ → Type 0) → List ℕ → ShelfState → ShelfState → Output → Type 0
+RightAlone Within name old new (Report (ReadFault text)) = (text ≡ word_of WitnessFile) × Faulted 1 name old new
+RightAlone Within name old new (Report (Refused code detail)) = ToldOne name old (OnWitness Within (Report (Refused code detail))) × TooLongAlone name old new code detail
+RightAlone Within name old new (Report (Judged verdict)) = ⊥
+RightAlone Within name old new (Canonical text) = ToldOne name old (OnWitness Within (Canonical text))
+RightAlone Within name old new (Summary text) = ToldOne name old (OnWitness Within (Summary text))
 
-abbrev pub RightVerdict : Command → ShelfState → ShelfState → Output → Type 0
-RightVerdict command old new (Report reply) = RightFor command old new reply
-RightVerdict command old new (Canonical text) = ⊥
+-- words that ask for nothing, and for what isn't served yet
+abbrev pub usage : Output
+usage = Report (plain (codes "usage"))
 
--- the output that the words and the shelf call for
+abbrev pub unbuilt_words : Output
+unbuilt_words = Report (unbuilt (codes "words"))
+
+-- the output that is owed to what the words ask for
 abbrev pub Right : Option Wanted → ShelfState → ShelfState → Output → Type 0
-Right None old new output = output ≡ Report (Refused unbuilt (codes "words"))
-Right (Some (Validate command)) old new output = RightVerdict command old new output
-Right (Some (Normalise name)) old new output = RightCanonical name old new output
+Right None old new output = output ≡ usage
+Right (Some (Validate command budgets)) old new output = RightVerdict command budgets.steps old new output
+Right (Some (Show name)) old new output = RightAlone SummaryIn name old new output
+Right (Some (Normalise name)) old new output = RightAlone CanonicalIn name old new output
+Right (Some (Demo number budgets)) old new output = output ≡ unbuilt_words

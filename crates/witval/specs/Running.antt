@@ -1,33 +1,42 @@
 -- What the program does with its words, a shelf and a sink.
-use Rattle.std.specs.Prelude.{◌≡◌, ◌≢◌, ◌<◌, ◌-◌, ◌^◌, ℕ, List, take, Some}
+use Rattle.std.specs.Prelude.{◌≡◌, ◌≢◌, ◌<◌, ◌-◌, ◌^◌, ℕ, List, take, Bool, true, false, Some}
 use Rattle.wv_base.specs.Causes.{Rose}
 use Rattle.wv_base.specs.Shelf.{ShelfState, Files, file_of}
 use Rattle.wv_base.specs.Sink.{SinkState, Gained}
+use Rattle.wv_report.specs.Json.{json_of}
 use Rattle.wv_report.specs.Report.{status_of, text_of}
-use Rattle.witval.specs.Words.{Wanted, Validate, Normalise, wanted_by}
+use Rattle.wv_report.specs.declared.reply.Reply.{Reply}
+use Rattle.wv_words.specs.Words.{Wanted, Validate, Show, Normalise, Demo, asked_by}
 use Rattle.witval.specs.Inputs.{OfFiles}
-use Rattle.witval.specs.Replies.{Right, RightOnBytes, CanonicalOn}
+use Rattle.witval.specs.Replies.{Right, RightOnBytes, CanonicalIn, SummaryIn, OnWitness, unbuilt_words}
 use Rattle.witval.specs.declared.output.Output.{Output}
-use Rattle.witval.specs.declared.output.Output.TheVariants.{Report, Canonical}
+use Rattle.witval.specs.declared.output.Output.TheVariants.{Report, Canonical, Summary}
 
 -- the status and the bytes of an output
 abbrev pub status_by : Output → ℕ
 status_by (Report reply) = status_of reply
 status_by (Canonical text) = 0
+status_by (Summary text) = 0
 
-abbrev pub bytes_by : Output → List ℕ
-bytes_by (Report reply) = text_of reply
-bytes_by (Canonical text) = text
+-- JSON where that is asked for
+abbrev pub report_by : Bool → Reply → List ℕ
+report_by true reply = json_of reply
+report_by false reply = text_of reply
+
+abbrev pub bytes_by : Bool → Output → List ℕ
+bytes_by json (Report reply) = report_by json reply
+bytes_by json (Canonical text) = text
+bytes_by json (Summary text) = text
 
 -- a right output, its status, and all of its bytes
 abbrev pub Replied : List (List ℕ) → ShelfState → ShelfState → SinkState → SinkState → ℕ → Type 0
 Replied words old new before after status =
-    (output : Output) × Right (wanted_by words) old new output × (status ≡ status_by output) × Gained before.written after.written (bytes_by output)
+    (output : Output) × Right (asked_by words).wanted old new output × (status ≡ status_by output) × Gained before.written after.written (bytes_by (asked_by words).json output)
 
 -- a right output, and its first bytes
 abbrev pub CutShort : List (List ℕ) → ShelfState → ShelfState → SinkState → SinkState → Type 0
 CutShort words old new before after =
-    (output : Output) × (n : ℕ) × Right (wanted_by words) old new output × Gained before.written after.written (take n (bytes_by output))
+    (output : Output) × (n : ℕ) × Right (asked_by words).wanted old new output × Gained before.written after.written (take n (bytes_by (asked_by words).json output))
 
 -- status 6 is want of memory, 5 a write fault; each other status is that of a right output
 pub record Runs (words : List (List ℕ)) (old new : ShelfState) (before after : SinkState) (status : ℕ) : Type 0 where
@@ -46,17 +55,20 @@ pub record Undisturbed (old new : ShelfState) (before after : SinkState) : Type 
 
 -- what is wanted of files
 abbrev pub CallsFor : Wanted → Files → Output → Type 0
-CallsFor (Validate command) files (Report reply) = OfFiles command files (RightOnBytes reply)
-CallsFor (Validate command) files (Canonical text) = ⊥
-CallsFor (Normalise name) files output = CanonicalOn output (file_of files name)
+CallsFor (Validate command budgets) files (Report reply) = OfFiles command files (RightOnBytes budgets.steps reply)
+CallsFor (Validate command budgets) files (Canonical text) = ⊥
+CallsFor (Validate command budgets) files (Summary text) = ⊥
+CallsFor (Show name) files output = OnWitness SummaryIn output (file_of files name)
+CallsFor (Normalise name) files output = OnWitness CanonicalIn output (file_of files name)
+CallsFor (Demo number budgets) files output = output ≡ unbuilt_words
 
 -- what the files call for is written, with its status
-abbrev pub Answered : Wanted → Files → SinkState → SinkState → ℕ → Type 0
-Answered wanted files before after status =
-    (output : Output) × CallsFor wanted files output × (status ≡ status_by output) × Gained before.written after.written (bytes_by output)
+abbrev pub Answered : Bool → Wanted → Files → SinkState → SinkState → ℕ → Type 0
+Answered json wanted files before after status =
+    (output : Output) × CallsFor wanted files output × (status ≡ status_by output) × Gained before.written after.written (bytes_by json output)
 
 -- over told files, without a fault and with memory, what they call for is answered
 abbrev pub Complete : List (List ℕ) → ShelfState → ShelfState → SinkState → SinkState → ℕ → Type 0
 Complete words old new before after status =
-    (wanted : Wanted) (files : Files) → wanted_by words ≡ Some wanted → old.files ≡ Some files → Undisturbed old new before after → status ≢ 6
-    → Answered wanted files before after status
+    (wanted : Wanted) (files : Files) → (asked_by words).wanted ≡ Some wanted → old.files ≡ Some files → Undisturbed old new before after → status ≢ 6
+    → Answered (asked_by words).json wanted files before after status

@@ -1,18 +1,23 @@
 -- What three files of allowed length ask for, and the reply that they are owed.
 use Rattle.std.specs.Prelude.{◌≡◌, ℕ, List, Bool, true, false, Option, Some, None, if◌then◌else◌, codes}
+use Rattle.sha2.specs.Sha256.{sha256}
 use Rattle.c_core.specs.Tree as tree
+use Rattle.c_core.specs.declared.number.DataModel.{DataModel}
+use Rattle.c_core.specs.declared.number.Property.TheVariants.{UnreachCall}
 use Rattle.c_meaning.specs.declared.verdict.Verdict.{Verdict}
 use Rattle.wv_report.specs.declared.reply.Reply.{Reply}
 use Rattle.wv_report.specs.declared.reply.Reply.TheVariants.{Verdict as Judged, Refused, ReadFault}
+use Rattle.wv_schema.specs.Schema.{witness_of}
+use Rattle.wv_schema.specs.declared.witness.Witness.{Witness}
+use Rattle.wv_task.specs.PropertyText.{property_of}
+use Rattle.wv_task.specs.Task.{judged}
 use Rattle.wv_yaml.specs.declared.tree.Tree.{Tree}
 use Rattle.witval.specs.Points.{BoundSegment}
 use Rattle.witval.specs.Verdicts.{IsRightOnViolation, IsConfirmed}
-use Rattle.witval.specs.Budget.{steps}
-use Rattle.witval.specs.ThinProperty.{is_unreach_text}
 use Rattle.witval.specs.ThinProgram.{thin_program}
 use Rattle.witval.specs.ThinWitness.{thin_witness}
 use Rattle.witval.specs.ThinPlaces.{is_placed, segments_of}
-use Rattle.witval.specs.Readings.{RightAfterReading}
+use Rattle.witval.specs.Readings.{RightAfterProperty, RightAfterReading, RightAfterSchema, RightAfterTask, unbuilt}
 use Rattle.witval.specs.declared.thin.witness.ThinWitness.{ThinWitness}
 
 -- an input of a form that isn't served yet, or a program and the segments of a violation sequence
@@ -20,38 +25,38 @@ pub data Task : Type 0 where
   Unbuilt : List ℕ → Task
   Violation : tree.Program → List BoundSegment → Task
 
-abbrev pub task_placed : ThinWitness → Option tree.Program → Task
-task_placed w None = Unbuilt (codes "program")
-task_placed w (Some p) = if is_placed p w then Violation p (segments_of w) else Unbuilt (codes "waypoint")
+abbrev pub task_placed : tree.Program → Option ThinWitness → Task
+task_placed p None = Unbuilt (codes "witness")
+task_placed p (Some w) = if is_placed p w then Violation p (segments_of w) else Unbuilt (codes "waypoint")
 
--- the witness is looked at first, then the program, and the places of the waypoints
-abbrev pub task_of : List ℕ → Option ThinWitness → Task
-task_of program None = Unbuilt (codes "witness")
-task_of program (Some w) = task_placed w (thin_program program)
+-- the program is looked at first, then the witness, and the places of the waypoints
+abbrev pub task_of : Option tree.Program → Option ThinWitness → Task
+task_of None w = Unbuilt (codes "program")
+task_of (Some p) w = task_placed p w
 
-abbrev pub unbuilt : List ℕ
-unbuilt = codes "unbuilt"
-
--- a verdict that is right on the given run, and that shows such values where it confirms
-pub record IsRightVerdict (p : tree.Program) (ss : List BoundSegment) (verdict : Verdict) : Type 0 where
+-- a verdict that is right on the given run with so many steps, and that shows such values where it confirms
+pub record IsRightVerdict (steps : ℕ) (p : tree.Program) (ss : List BoundSegment) (verdict : Verdict) : Type 0 where
   pub right : IsRightOnViolation p ss steps verdict
   pub confirmed : IsConfirmed p ss steps verdict
 
-abbrev pub RightOn : Task → Reply → Type 0
-RightOn (Unbuilt detail) reply = reply ≡ Refused unbuilt detail
-RightOn (Violation p ss) (Judged verdict) = IsRightVerdict p ss verdict
-RightOn (Violation p ss) (Refused code detail) = ⊥
-RightOn (Violation p ss) (ReadFault file) = ⊥
+abbrev pub RightOn : ℕ → Task → Reply → Type 0
+RightOn steps (Unbuilt detail) reply = reply ≡ unbuilt detail
+RightOn steps (Violation p ss) (Judged verdict) = IsRightVerdict steps p ss verdict
+RightOn steps (Violation p ss) (Refused code detail) = ⊥
+RightOn steps (Violation p ss) (ReadFault file) = ⊥
 
--- the property is looked at before the witness is read
-abbrev pub RightAfterProperty : Bool → (Reply → Type 0) → Reply → Type 0
-RightAfterProperty true within reply = within reply
-RightAfterProperty false within reply = reply ≡ Refused unbuilt (codes "property")
+-- the reply to a program in a data model, and a witness about it
+abbrev pub RightOnProgram : ℕ → List ℕ → Witness → DataModel → Reply → Type 0
+RightOnProgram steps program witness model reply = RightOn steps (task_of (thin_program model program) (thin_witness witness)) reply
+
+-- the reply to a witness, whose task is judged first
+abbrev pub RightOnWitness : ℕ → List ℕ → Witness → Reply → Type 0
+RightOnWitness steps program witness reply = RightAfterTask (judged (sha256 program) UnreachCall witness.entries) (RightOnProgram steps program witness) reply
 
 -- the reply to the tree of a witness
-abbrev pub RightOnTree : List ℕ → Tree → Reply → Type 0
-RightOnTree program tree reply = RightOn (task_of program (thin_witness tree)) reply
+abbrev pub RightOnTree : ℕ → List ℕ → Tree → Reply → Type 0
+RightOnTree steps program tree reply = RightAfterSchema (witness_of tree) (RightOnWitness steps program) reply
 
 -- the reply to three files of allowed length
-abbrev pub RightOnInputs : List ℕ → List ℕ → List ℕ → Reply → Type 0
-RightOnInputs program property witness reply = RightAfterProperty (is_unreach_text property) (RightAfterReading witness (RightOnTree program)) reply
+abbrev pub RightOnInputs : ℕ → List ℕ → List ℕ → List ℕ → Reply → Type 0
+RightOnInputs steps program property witness reply = RightAfterProperty (property_of property) (RightAfterReading witness (RightOnTree steps program)) reply

@@ -1,5 +1,5 @@
 -- Where the waypoints of a thin witness may stand, over the tokens of a thin program.
-use Rattle.std.specs.Prelude.{ℕ, ◌+◌, List, Bool, ◌&&◌, ◌||◌}
+use Rattle.std.specs.Prelude.{ℕ, ◌+◌, List, Bool, ◌&&◌, ◌||◌, false, Option, Some, None}
 use Rattle.std.specs.List.{list_any, range_with_len}
 use Rattle.c_core.specs.Parts.{same_spot}
 use Rattle.c_core.specs.declared.number.Spot.{Spot}
@@ -38,3 +38,8 @@ is_input_close ts layout close = list_any (λ k. same_spot (spot_at ts (declarat
 
 abbrev pub stands : List TokenAt → Layout → ThinWitness → Bool
 stands ts layout w = is_input_close ts layout w.close && is_target ts layout w.target
+
+-- a witness that isn't thin stands nowhere
+abbrev pub stands_if : List TokenAt → Layout → Option ThinWitness → Bool
+stands_if ts layout None = false
+stands_if ts layout (Some w) = stands ts layout w

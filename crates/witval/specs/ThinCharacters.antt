@@ -27,10 +27,3 @@ is_decimal text = not (nat_eq (length text) 0) && list_all is_digit text && (nat
 -- the value of a decimal number, where it is one of `int`
 abbrev pub number_of : List ℕ → Option ℕ
 number_of digits = if is_decimal digits && nat_le (decimal digits) 2147483647 then Some (decimal digits) else None
-
--- a line or column: 1 to 7 digits, and not 0
-abbrev pub is_location : List ℕ → Bool
-is_location text = not (nat_eq (length text) 0) && (nat_le (length text) 7 && (list_all is_digit text && not (nat_eq (decimal text) 0)))
-
-abbrev pub location_of : List ℕ → Option ℕ
-location_of text = if is_location text then Some (decimal text) else None

@@ -3,7 +3,7 @@ use Rattle.std.specs.Prelude.{ℕ, pos, ◌+◌, List, [], ◌∷◌, ◌++◌, 
 use Rattle.std.specs.List.{range_with_len}
 use Rattle.c_core.specs.Tree as t
 use Rattle.c_core.specs.declared.number.IntType.TheVariants.{Int}
-use Rattle.c_core.specs.declared.number.DataModel.TheVariants.{Ilp32}
+use Rattle.c_core.specs.declared.number.DataModel.{DataModel}
 use Rattle.c_core.specs.declared.number.Property.TheVariants.{UnreachCall}
 use Rattle.c_core.specs.declared.number.BinOp.TheVariants.{Eq}
 use Rattle.c_core.specs.declared.tree.Callee.TheVariants.{Input, ReachError}
@@ -76,9 +76,9 @@ body_tree ts layout = t.Stmt (spot_at ts 15) (t.Block (block_of (statements_of t
 abbrev pub main_tree : List TokenAt → Layout → t.Function
 main_tree ts layout = record { result = Some Int; params = []; body = body_tree ts layout }
 
-abbrev pub program_tree : List TokenAt → Layout → t.Program
-program_tree ts layout = record {
-  model = Ilp32;
+abbrev pub program_tree : DataModel → List TokenAt → Layout → t.Program
+program_tree model ts layout = record {
+  model = model;
   property = UnreachCall;
   objects = objects_of ts layout.declarations;
   starts = [];
@@ -86,10 +86,10 @@ program_tree ts layout = record {
   main = 0;
 }
 
-abbrev pub program_if : List TokenAt → Option Layout → Option t.Program
-program_if ts None = None
-program_if ts (Some layout) = if is_consistent ts layout then Some (program_tree ts layout) else None
+abbrev pub program_if : DataModel → List TokenAt → Option Layout → Option t.Program
+program_if model ts None = None
+program_if model ts (Some layout) = if is_consistent ts layout then Some (program_tree model ts layout) else None
 
--- the program that a text spells, where it is thin
-abbrev pub thin_program : List ℕ → Option t.Program
-thin_program bytes = let ts = tokens_of bytes in program_if ts (layout_of ts)
+-- the program that a text spells in a data model, where it is thin
+abbrev pub thin_program : DataModel → List ℕ → Option t.Program
+thin_program model bytes = let ts = tokens_of bytes in program_if model ts (layout_of ts)

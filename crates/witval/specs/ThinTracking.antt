@@ -20,7 +20,6 @@ use Rattle.witval.specs.Points.{Point, Return, Target, At}
 use Rattle.witval.specs.Passing.{passes, aims_if}
 use Rattle.witval.specs.Matching.{Seen, Finds}
 use Rattle.witval.specs.Verdicts.{verdict_at}
-use Rattle.witval.specs.Budget.{steps}
 use Rattle.witval.specs.ThinPlaces.{segments_of, returns_value}
 use Rattle.witval.specs.declared.thin.tracker.Tracker.{Tracker}
 use Rattle.witval.specs.declared.thin.witness.ThinWitness.{ThinWitness}
@@ -68,16 +67,16 @@ positions_if true (Some first) count = Some (first ∷ (count - 1) ∷ [])
 abbrev pub positions_of : Tracker → Option (List ℕ)
 positions_of t = positions_if t.violated t.returned t.count
 
--- the verdict by a run and what was kept of its events
-abbrev pub verdict_by_end : End → GivenRun → Tracker → Verdict
-verdict_by_end (end.Violated spot) r t = verdict_at r (positions_of t)
-verdict_by_end end.Ended r t = ViolationNot Ended r.unfixed
-verdict_by_end (end.Undefined spot) r t = ViolationNot (Undefined spot) r.unfixed
-verdict_by_end end.Spent r t = Undecided (Steps steps)
-verdict_by_end end.Deep r t = Undecided Cells
+-- the verdict by a run with so many steps, and what was kept of its events
+abbrev pub verdict_by_end : ℕ → End → GivenRun → Tracker → Verdict
+verdict_by_end steps (end.Violated spot) r t = verdict_at r (positions_of t)
+verdict_by_end steps end.Ended r t = ViolationNot Ended r.unfixed
+verdict_by_end steps (end.Undefined spot) r t = ViolationNot (Undefined spot) r.unfixed
+verdict_by_end steps end.Spent r t = Undecided (Steps steps)
+verdict_by_end steps end.Deep r t = Undecided Cells
 
-abbrev pub verdict_by : GivenRun → Tracker → Verdict
-verdict_by r t = verdict_by_end r.end r t
+abbrev pub verdict_by : ℕ → GivenRun → Tracker → Verdict
+verdict_by steps r t = verdict_by_end steps r.end r t
 
 -- an event passes the first waypoint where the call came back with the value
 abbrev pub ReturnsAsInt : Program → ThinWitness → Type 0

@@ -1,25 +1,30 @@
-ghost use Rattle.std.specs.Prelude.{◌≡◌, IfOk, Some, map, string_bytes};
-ghost use Rattle.witval.specs.Names.{command_in};
-ghost use Rattle.witval.specs.Replies.{Right, RightCanonical, RightFor};
-ghost use Rattle.witval.specs.Words.{wanted_by};
+ghost use Rattle.std.specs.Prelude.{◌≡◌, IfOk};
+ghost use Rattle.witval.specs.Replies.{CanonicalIn, Right, RightAlone, RightFor, SummaryIn};
+ghost use Rattle.wv_words.specs.Requests.{named, stated};
 
 use crate::canonical::canonical;
 use crate::input::{Stop, read_one, read_three};
 use crate::judge::judge;
 use crate::output::Output;
-use crate::refusal::{read_fault, refuse_too_long, refuse_unbuilt};
-use crate::words::{Names, Request, request_of};
+use crate::refusal::{read_fault, refuse_plainly, refuse_too_long, refuse_unbuilt};
+use crate::shown::shown;
 use std::alloc::Global;
 use wv_base::{OutOfMemory, Shelf};
 use wv_report::Reply;
+use wv_words::{Asked, Names, Request};
 
 /// The reply to a program, a property and a witness.
-fn validate<S: Shelf>(alloc: Global, names: &Names<'_>, shelf: &mut S) -> Result<Reply, OutOfMemory>
-    ensures right { IfOk result (RightFor (command_in names.now) (S.state shelf.old) (S.state shelf.new)) }
+fn validate<S: Shelf>(
+    alloc: Global,
+    names: &Names<'_>,
+    steps: u64,
+    shelf: &mut S,
+) -> Result<Reply, OutOfMemory>
+    ensures right { IfOk result (RightFor (named names.now) steps (S.state shelf.old) (S.state shelf.new)) }
     ensures same_files { (S.state shelf.new).files ≡ (S.state shelf.old).files }
 {
     match read_three(alloc, names, shelf) {
-        Ok(inputs) => judge(alloc, &inputs),
+        Ok(inputs) => judge(alloc, &inputs, steps),
         Err(Stop::Fault(file)) => read_fault(alloc, file),
         Err(Stop::TooLong(file)) => refuse_too_long(alloc, file),
         Err(Stop::OutOfMemory) => Err(OutOfMemory),
@@ -28,7 +33,7 @@ fn validate<S: Shelf>(alloc: Global, names: &Names<'_>, shelf: &mut S) -> Result
 
 /// The canonical form of a witness, or why there is none.
 fn normalise<S: Shelf>(alloc: Global, name: &str, shelf: &mut S) -> Result<Output, OutOfMemory>
-    ensures right { IfOk result (RightCanonical name.now (S.state shelf.old) (S.state shelf.new)) }
+    ensures right { IfOk result (RightAlone CanonicalIn name.now (S.state shelf.old) (S.state shelf.new)) }
     ensures same_files { (S.state shelf.new).files ≡ (S.state shelf.old).files }
 {
     match read_one(alloc, name, shelf) {
@@ -39,18 +44,38 @@ fn normalise<S: Shelf>(alloc: Global, name: &str, shelf: &mut S) -> Result<Outpu
     }
 }
 
-/// The output for the words, over the files of the shelf.
-pub fn answer<S: Shelf>(
-    alloc: Global,
-    words: &[String],
-    shelf: &mut S,
-) -> Result<Output, OutOfMemory>
-    ensures right { IfOk result (Right (wanted_by (map string_bytes words.now)) (S.state shelf.old) (S.state shelf.new)) }
+/// The summary of a witness, or why there is none.
+fn show<S: Shelf>(alloc: Global, name: &str, shelf: &mut S) -> Result<Output, OutOfMemory>
+    ensures right { IfOk result (RightAlone SummaryIn name.now (S.state shelf.old) (S.state shelf.new)) }
     ensures same_files { (S.state shelf.new).files ≡ (S.state shelf.old).files }
 {
-    match request_of(words) {
-        Some(Request::Validate(names)) => Ok(Output::Report(validate(alloc, &names, shelf)?)),
+    match read_one(alloc, name, shelf) {
+        Ok(bytes) => shown(alloc, &bytes),
+        Err(Stop::Fault(file)) => Ok(Output::Report(read_fault(alloc, file)?)),
+        Err(Stop::TooLong(file)) => Ok(Output::Report(refuse_too_long(alloc, file)?)),
+        Err(Stop::OutOfMemory) => Err(OutOfMemory),
+    }
+}
+
+/// The output for what is asked, over the files of the shelf.
+pub fn answer<S: Shelf>(
+    alloc: Global,
+    asked: &Asked<'_>,
+    shelf: &mut S,
+) -> Result<Output, OutOfMemory>
+    ensures right { IfOk result (Right (stated asked.now).wanted (S.state shelf.old) (S.state shelf.new)) }
+    ensures same_files { (S.state shelf.new).files ≡ (S.state shelf.old).files }
+{
+    match asked.request {
+        Some(Request::Validate { names, budgets }) => Ok(Output::Report(validate(
+            alloc,
+            &names,
+            budgets.steps,
+            shelf,
+        )?)),
         Some(Request::Normalise(name)) => normalise(alloc, name, shelf),
-        None => Ok(Output::Report(refuse_unbuilt(alloc, "words")?)),
+        Some(Request::Show(name)) => show(alloc, name, shelf),
+        Some(Request::Demo { .. }) => Ok(Output::Report(refuse_unbuilt(alloc, "words")?)),
+        None => Ok(Output::Report(refuse_plainly(alloc, "usage")?)),
     }
 }

@@ -1,10 +1,10 @@
 ghost use Rattle.std.specs.Prelude.{◌≡◌, IfOk, IfErr};
 ghost use Rattle.witval.specs.Inputs.{AreInputs, AreWithin, IsWitness, RightStop, RightStopAlone, Told, ToldOne};
-ghost use Rattle.witval.specs.Names.{command_in};
+ghost use Rattle.wv_words.specs.Requests.{named};
 
-use crate::words::Names;
 use std::alloc::Global;
 use wv_base::{ReadFault, Shelf, read_all};
+use wv_words::Names;
 
 /// The input files, in the order in which they are read.
 #[derive(Clone, Copy, Debug, PartialEq, Eq)]
@@ -37,9 +37,9 @@ const SHORT: usize = 4096;
 
 /// Reads the three files in their order.
 pub fn read_three<S: Shelf>(alloc: Global, names: &Names<'_>, shelf: &mut S) -> Result<Inputs, Stop>
-    ensures inputs { IfOk result (λ inputs. Told (command_in names.now) (S.state shelf.old) (AreInputs inputs)) }
+    ensures inputs { IfOk result (λ inputs. Told (named names.now) (S.state shelf.old) (AreInputs inputs)) }
     ensures within { IfOk result AreWithin }
-    ensures stop { IfErr result (RightStop (command_in names.now) (S.state shelf.old) (S.state shelf.new)) }
+    ensures stop { IfErr result (RightStop (named names.now) (S.state shelf.old) (S.state shelf.new)) }
     ensures same_files { (S.state shelf.new).files ≡ (S.state shelf.old).files }
 {
     let program = match read_all(alloc, shelf, names.program, LONG) {

@@ -1,43 +1,97 @@
-ghost use Rattle.std.specs.Prelude.{IfOk, ◌≤◌, length};
+// The reply to a program, a property and a witness: the refusals of the task in their order, and then the verdict.
+ghost use Rattle.std.specs.Prelude.{IfOk, ◌<◌, ◌≤◌, length};
 ghost use Rattle.witval.specs.Inputs.{AreWithin};
-ghost use Rattle.witval.specs.Tasks.{RightOnInputs, RightOnTree};
+ghost use Rattle.witval.specs.Readings.{RightAfterReading};
+ghost use Rattle.witval.specs.Tasks.{RightOnInputs, RightOnProgram, RightOnTree, RightOnWitness};
 
 use crate::input::Inputs;
-use crate::refusal::{refuse_unbuilt, refuse_yaml};
-use crate::thin::{is_unreach, judge_violation, read_program, read_witness};
+use crate::refusal::{refuse_plainly, refuse_schema, refuse_task, refuse_unbuilt, refuse_yaml};
+use crate::thin::{judge_violation, read_program, read_witness};
+use c_core::{DataModel, Property};
 use std::alloc::Global;
 use wv_base::OutOfMemory;
 use wv_report::Reply;
+use wv_schema::{Witness, witness_of};
+use wv_task::{judge_task, property};
 use wv_yaml::{Tree, read};
 
-/// The reply to three files of allowed length.
-pub fn judge(alloc: Global, inputs: &Inputs) -> Result<Reply, OutOfMemory>
+/// The reply to three files of allowed length, with a budget of steps.
+pub fn judge(alloc: Global, inputs: &Inputs, steps: u64) -> Result<Reply, OutOfMemory>
     requires { AreWithin inputs.now }
-    ensures { IfOk result (RightOnInputs inputs.now.program.items inputs.now.property.items inputs.now.witness.items) }
+    ensures { IfOk result (RightOnInputs steps inputs.now.program.items inputs.now.property.items inputs.now.witness.items) }
 {
-    if !is_unreach(&inputs.property) {
-        return refuse_unbuilt(alloc, "property");
+    match property(&inputs.property) {
+        Ok(Property::UnreachCall) => judge_bytes(alloc, &inputs.program, &inputs.witness, steps),
+        Ok(Property::NoOverflow) => refuse_unbuilt(alloc, "property"),
+        Err(_) => refuse_plainly(alloc, "property"),
     }
-    match read(alloc, &inputs.witness) {
-        Ok(tree) => judge_tree(alloc, &inputs.program, &tree),
+}
+
+/// The reply to a program and the bytes of a witness.
+fn judge_bytes(
+    alloc: Global,
+    program: &[u8],
+    witness: &[u8],
+    steps: u64,
+) -> Result<Reply, OutOfMemory>
+    requires { length program.now ≤ 1048576 }
+    ensures { IfOk result (RightAfterReading witness.now (RightOnTree steps program.now)) }
+{
+    match read(alloc, witness) {
+        Ok(tree) => judge_tree(alloc, program, &tree, steps),
         Err(fault) => refuse_yaml(alloc, fault),
     }
 }
 
 /// The reply to a program and the tree of its witness.
-fn judge_tree(alloc: Global, program: &[u8], tree: &Tree) -> Result<Reply, OutOfMemory>
+fn judge_tree(alloc: Global, program: &[u8], tree: &Tree, steps: u64) -> Result<Reply, OutOfMemory>
     requires { length program.now ≤ 1048576 }
-    ensures { IfOk result (RightOnTree program.now tree.now) }
+    ensures { IfOk result (RightOnTree steps program.now tree.now) }
 {
-    let Some(witness) = read_witness(tree) else {
-        return refuse_unbuilt(alloc, "witness");
-    };
-    let Some(reading) = read_program(alloc, program, &witness)? else {
+    match witness_of(alloc, tree) {
+        Ok(witness) => judge_witness(alloc, program, &witness, steps),
+        Err(fault) => refuse_schema(alloc, fault),
+    }
+}
+
+/// The reply to a program and its witness.
+fn judge_witness(
+    alloc: Global,
+    program: &[u8],
+    witness: &Witness,
+    steps: u64,
+) -> Result<Reply, OutOfMemory>
+    requires program { length program.now ≤ 1048576 }
+    requires entries { 0 < length witness.now.entries }
+    ensures { IfOk result (RightOnWitness steps program.now witness.now) }
+{
+    match judge_task(alloc, witness, program, Property::UnreachCall) {
+        Ok(model) => judge_program(alloc, program, model, witness, steps),
+        Err(fault) => refuse_task(alloc, fault),
+    }
+}
+
+/// The reply to a program in a data model, and a witness about it.
+fn judge_program(
+    alloc: Global,
+    program: &[u8],
+    model: DataModel,
+    witness: &Witness,
+    steps: u64,
+) -> Result<Reply, OutOfMemory>
+    requires { length program.now ≤ 1048576 }
+    ensures { IfOk result (RightOnProgram steps program.now witness.now model) }
+{
+    let found = read_witness(witness);
+    let Some(reading) = read_program(alloc, model, program, found)? else {
         return refuse_unbuilt(alloc, "program");
+    };
+    let Some(thin) = found else {
+        return refuse_unbuilt(alloc, "witness");
     };
     if !reading.placed {
         return refuse_unbuilt(alloc, "waypoint");
     }
-    let verdict = judge_violation(alloc, &reading.program, &witness)?;
+    let verdict = judge_violation(alloc, &reading.program, &thin, steps)?;
     Ok(Reply::Verdict(verdict))
 }

@@ -10,9 +10,9 @@ mod judge;
 mod laws;
 mod output;
 mod refusal;
+mod shown;
 mod thin;
 mod top;
-mod words;
 
 pub use laws::{confirmed_violates, confirms_exactly, test_matches};
 pub use top::run;

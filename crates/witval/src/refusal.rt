@@ -1,15 +1,17 @@
 // The replies other than verdicts.
-ghost use Rattle.std.specs.Prelude.{◌≡◌, IfOk};
+ghost use Rattle.std.specs.Prelude.{◌≡◌, ◌++◌, ◌∷◌, [], IfOk, codes};
+ghost use Rattle.wv_report.specs.declared.reply.Reply.TheVariants as replies;
 ghost use Rattle.witval.specs.Inputs.{word_of};
-ghost use Rattle.witval.specs.Readings.{IsRefusal};
+ghost use Rattle.witval.specs.Readings.{IsRefusal, IsSchemaRefusal, IsTaskRefusal, both_hashes, plain, unbuilt};
 ghost use Rattle.witval.specs.Replies.{too_long};
-ghost use Rattle.witval.specs.Tasks.{unbuilt};
 
 use crate::input::File;
 use std::alloc::Global;
 use wv_base::{OutOfMemory, Text};
 use wv_report::Reply;
-use wv_yaml::YamlFault;
+use wv_schema::SchemaFault;
+use wv_task::TaskFault;
+use wv_yaml::{YamlFault, quote};
 
 fn name(file: File) -> &'static str
     ensures { result.now ≡ word_of file }
@@ -21,19 +23,28 @@ fn name(file: File) -> &'static str
     }
 }
 
-fn refuse(alloc: Global, code: &str, detail: &str) -> Result<Reply, OutOfMemory>
-    ensures { IfOk result (λ reply. reply ≡ Reply.Refused code.now detail.now) }
+fn refuse(alloc: Global, code: &str, detail: Text) -> Result<Reply, OutOfMemory>
+    ensures { IfOk result (λ reply. reply ≡ replies.Refused code.now detail) }
 {
     Ok(Reply::Refused {
         code: Text::of(alloc, code)?,
-        detail: Text::of(alloc, detail)?,
+        detail,
     })
+}
+
+/// A refusal by its code alone.
+pub fn refuse_plainly(alloc: Global, code: &str) -> Result<Reply, OutOfMemory>
+    ensures { IfOk result (λ reply. reply ≡ plain code.now) }
+{
+    let detail = Text::of(alloc, "")?;
+    refuse(alloc, code, detail)
 }
 
 /// Input of a form that isn't served yet.
 pub fn refuse_unbuilt(alloc: Global, detail: &str) -> Result<Reply, OutOfMemory>
-    ensures { IfOk result (λ reply. reply ≡ Reply.Refused unbuilt detail.now) }
+    ensures { IfOk result (λ reply. reply ≡ unbuilt detail.now) }
 {
+    let detail = Text::of(alloc, detail)?;
     refuse(alloc, "unbuilt", detail)
 }
 
@@ -42,23 +53,73 @@ pub fn refuse_yaml(alloc: Global, fault: YamlFault) -> Result<Reply, OutOfMemory
     ensures { IfOk result (IsRefusal fault) }
 {
     match fault {
-        YamlFault::Bytes => refuse(alloc, "yaml-bytes", ""),
-        YamlFault::Grammar => refuse(alloc, "yaml-grammar", ""),
-        YamlFault::Duplicate => refuse(alloc, "yaml-duplicate", ""),
+        YamlFault::Bytes => refuse_plainly(alloc, "yaml-bytes"),
+        YamlFault::Grammar => refuse_plainly(alloc, "yaml-grammar"),
+        YamlFault::Duplicate => refuse_plainly(alloc, "yaml-duplicate"),
         YamlFault::OutOfMemory => Err(OutOfMemory),
+    }
+}
+
+/// A tree that is no witness.
+pub fn refuse_schema(alloc: Global, fault: SchemaFault) -> Result<Reply, OutOfMemory>
+    ensures { IfOk result (IsSchemaRefusal fault) }
+{
+    match fault {
+        SchemaFault::Missing(path) => refuse(alloc, "schema-missing", path),
+        SchemaFault::WrongKind(path) => refuse(alloc, "schema-kind", path),
+        SchemaFault::BadValue(path) => refuse(alloc, "schema-value", path),
+        SchemaFault::Version => refuse_plainly(alloc, "schema-version"),
+        SchemaFault::Shape(segment) => {
+            let digits = format!(in alloc; "{segment}")?;
+            let detail = Text::of(alloc, digits.as_str())?;
+            refuse(alloc, "schema-shape", detail)
+        }
+        SchemaFault::Entries => refuse_plainly(alloc, "schema-entries"),
+        SchemaFault::OutOfMemory => Err(OutOfMemory),
+    }
+}
+
+/// The hash that was stated, quoted, and the one that was found.
+fn both_hashes(alloc: Global, stated: &Text, found: &Text) -> Result<Text, OutOfMemory>
+    ensures { IfOk result (λ text. text ≡ both_hashes stated.now found.now) }
+{
+    let quoted = quote(alloc, stated)?;
+    let mut both = String::from_str(alloc, quoted.as_str())?;
+    both.push_str(" ")?;
+    both.push_str(found.as_str())?;
+    let text = Text::of(alloc, both.as_str())?;
+    Ok(text)
+}
+
+/// A witness that isn't about this task.
+pub fn refuse_task(alloc: Global, fault: TaskFault) -> Result<Reply, OutOfMemory>
+    ensures { IfOk result (IsTaskRefusal fault) }
+{
+    match fault {
+        TaskFault::Files => refuse_plainly(alloc, "files"),
+        TaskFault::Hash { stated, found } => {
+            let detail = both_hashes(alloc, &stated, &found)?;
+            refuse(alloc, "hash", detail)
+        }
+        TaskFault::Specification => refuse_plainly(alloc, "specification"),
+        TaskFault::Language => refuse_plainly(alloc, "language"),
+        TaskFault::Model => refuse_plainly(alloc, "model"),
+        TaskFault::Uuid => refuse_plainly(alloc, "uuid"),
+        TaskFault::OutOfMemory => Err(OutOfMemory),
     }
 }
 
 /// A file longer than its limit.
 pub fn refuse_too_long(alloc: Global, file: File) -> Result<Reply, OutOfMemory>
-    ensures { IfOk result (λ reply. reply ≡ Reply.Refused too_long (word_of file)) }
+    ensures { IfOk result (λ reply. reply ≡ replies.Refused too_long (word_of file)) }
 {
-    refuse(alloc, "too-long", name(file))
+    let detail = Text::of(alloc, name(file))?;
+    refuse(alloc, "too-long", detail)
 }
 
 /// A file that couldn't be read.
 pub fn read_fault(alloc: Global, file: File) -> Result<Reply, OutOfMemory>
-    ensures { IfOk result (λ reply. reply ≡ Reply.ReadFault (word_of file)) }
+    ensures { IfOk result (λ reply. reply ≡ replies.ReadFault (word_of file)) }
 {
     Ok(Reply::ReadFault(Text::of(alloc, name(file))?))
 }

@@ -7,7 +7,6 @@ mod grammar;
 mod judge;
 mod objects;
 mod program;
-mod property;
 mod statements;
 mod tokens;
 mod tracker;
@@ -16,7 +15,6 @@ mod witness;
 
 pub use judge::judge_violation;
 pub use program::read_program;
-pub use property::is_unreach;
 pub use witness::{ThinWitness, read_witness};
 
 #[cfg(test)]

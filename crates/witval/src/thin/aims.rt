@@ -1,6 +1,6 @@
 ghost use Rattle.std.specs.Prelude.{◌≡◌, ◌+◌, ◌^◌, ◌<◌};
 ghost use Rattle.c_core.specs.Parts.{same_spot};
-ghost use Rattle.witval.specs.ThinAims.{is_in_declaration, is_in_declarations, is_in_return, is_in_test, is_in_tests, is_input_close, is_target, stands};
+ghost use Rattle.witval.specs.ThinAims.{is_in_declaration, is_in_declarations, is_in_return, is_in_test, is_in_tests, is_input_close, is_target, stands, stands_if};
 ghost use Rattle.witval.specs.ThinGrammar.{spot_at};
 
 use crate::thin::grammar::{Layout, declaration_at, spot, test_at};
@@ -90,10 +90,22 @@ fn may_be_target(tokens: &[Token], layout: Layout, target: Spot) -> bool
 }
 
 /// Whether the waypoints of a witness stand where theirs may.
-pub fn stands_in_program(tokens: &[Token], layout: Layout, witness: &ThinWitness) -> bool
+fn stands_in_program(tokens: &[Token], layout: Layout, witness: &ThinWitness) -> bool
     requires declarations { layout.declarations < 2 ^ 32 }
     requires tests { layout.tests < 2 ^ 32 }
     ensures { result ≡ stands tokens.now layout witness.now }
 {
     closes_input(tokens, layout, witness.close) && may_be_target(tokens, layout, witness.target)
+}
+
+/// The same where there is a thin witness.
+pub fn stands_if_there(tokens: &[Token], layout: Layout, witness: Option<ThinWitness>) -> bool
+    requires declarations { layout.declarations < 2 ^ 32 }
+    requires tests { layout.tests < 2 ^ 32 }
+    ensures { result ≡ stands_if tokens.now layout witness }
+{
+    match witness {
+        Some(witness) => stands_in_program(tokens, layout, &witness),
+        None => false,
+    }
 }

@@ -1,6 +1,6 @@
 ghost use Rattle.std.specs.Prelude.{◌≡◌, min};
 ghost use Rattle.std.specs.List.{list_all, prefix_len};
-ghost use Rattle.witval.specs.ThinCharacters.{is_word_part, is_digit, decimal, is_decimal, is_location, location_of, number_of};
+ghost use Rattle.witval.specs.ThinCharacters.{is_word_part, is_digit, decimal, is_decimal, number_of};
 
 /// Letters, digits and `_`.
 pub fn is_word_byte(byte: u8) -> bool
@@ -56,20 +56,4 @@ pub fn number(text: &[u8]) -> Option<u32>
     } else {
         Some(value as u32)
     }
-}
-
-fn is_line_or_column(text: &[u8]) -> bool
-    ensures { result ≡ is_location text.now }
-{
-    !text.is_empty() && text.len() <= 7 && is_digits(text) && capped_value(text) != 0
-}
-
-/// A line or column: 1 to 7 digits, and not 0.
-pub fn location(text: &[u8]) -> Option<u32>
-    ensures { result ≡ location_of text.now }
-{
-    if !is_line_or_column(text) {
-        return None;
-    }
-    Some(capped_value(text) as u32)
 }

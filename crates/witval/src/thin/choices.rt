@@ -184,7 +184,12 @@ int main() {
             value: -5,
             target: Spot { line: 7, column: 5 },
         };
-        let reading = read_program(alloc, PROGRAM.as_bytes(), &witness)?.ok_or("no thin program")?;
+        let reading = read_program(
+            alloc,
+            DataModel::Lp64,
+            PROGRAM.as_bytes(),
+            Some(witness),
+        )?.ok_or("no thin program")?;
         let Choices::Given(given) = choices(alloc, &reading.program, &witness)? else {
             return Err("in turn".into());
         };

@@ -14,27 +14,25 @@ use c_meaning::{Cause, End, Reason, Run, Verdict};
 use std::alloc::Global;
 use wv_base::{OutOfMemory, Seq};
 
-/// The default budget.
-const STEPS: u64 = 10_000_000;
-
-/// The verdict on the given run of a thin program and witness.
+/// The verdict on the given run of a thin program and witness, with a budget of steps.
 pub fn judge_violation(
     alloc: Global,
     program: &Program,
     witness: &ThinWitness,
+    steps: u64,
 ) -> Result<Verdict, OutOfMemory>
     requires { IsTrue (is_thin (program_view program.now)) }
-    ensures { IfOk result (IsRightVerdict (program_view program.now) (segments_of witness.now)) }
+    ensures { IfOk result (IsRightVerdict steps (program_view program.now) (segments_of witness.now)) }
 {
     let choices = choices(alloc, program, witness)?;
     let mut tracker = Tracker::new(*witness);
-    let run = run_plain(alloc, program, &choices, STEPS, &mut tracker)?;
-    let verdict = verdict(alloc, run, &tracker)?;
+    let run = run_plain(alloc, program, &choices, steps, &mut tracker)?;
+    let verdict = verdict(alloc, run, &tracker, steps)?;
     Ok(verdict)
 }
 
-fn verdict(alloc: Global, run: Run, tracker: &Tracker) -> Result<Verdict, OutOfMemory>
-    ensures { IfOk result (λ verdict. verdict ≡ verdict_by run tracker.now) }
+fn verdict(alloc: Global, run: Run, tracker: &Tracker, steps: u64) -> Result<Verdict, OutOfMemory>
+    ensures { IfOk result (λ verdict. verdict ≡ verdict_by steps run tracker.now) }
 {
     let unfixed = run.unfixed;
     match run.end {
@@ -56,7 +54,7 @@ fn verdict(alloc: Global, run: Run, tracker: &Tracker) -> Result<Verdict, OutOfM
             reason: Reason::Undefined(spot),
             unfixed,
         }),
-        End::Spent => Ok(Verdict::Undecided(Cause::Steps(STEPS))),
+        End::Spent => Ok(Verdict::Undecided(Cause::Steps(steps))),
         End::Deep => Ok(Verdict::Undecided(Cause::Cells)),
     }
 }

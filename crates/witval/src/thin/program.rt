@@ -4,10 +4,10 @@ ghost use Rattle.c_core.specs.Thin.{is_thin};
 ghost use Rattle.c_core.specs.View.{function_view, program_view, stmt_view};
 ghost use Rattle.witval.specs.ThinGrammar.{is_consistent, layout_of};
 ghost use Rattle.witval.specs.ThinObjects.{AreObjects};
-ghost use Rattle.witval.specs.ThinPlaces.{is_placed};
+ghost use Rattle.witval.specs.ThinPlaces.{is_placed_if};
 ghost use Rattle.witval.specs.ThinProgram.{main_tree, program_tree, statements_of, thin_program};
 
-use crate::thin::aims::stands_in_program;
+use crate::thin::aims::stands_if_there;
 use crate::thin::grammar::{Layout, find_layout, spot};
 use crate::thin::objects::{Objects, declare_objects};
 use crate::thin::statements::{do_tests_fit, main_statements};
@@ -53,6 +53,7 @@ fn main_function(
 /// The program of consistent tokens.
 fn build(
     alloc: Global,
+    model: DataModel,
     tokens: &[Token],
     layout: Layout,
     found: Objects,
@@ -63,7 +64,7 @@ fn build(
     requires consistent { IsTrue (is_consistent tokens.now layout) }
     requires declarations { layout.declarations < 2 ^ 20 }
     requires tests { layout.tests < 2 ^ 20 }
-    ensures tree { IfOk result (λ program. program_view program ≡ program_tree tokens.now layout) }
+    ensures tree { IfOk result (λ program. program_view program ≡ program_tree model tokens.now layout) }
     ensures thin { IfOk result (λ program. IsTrue (is_thin (program_view program))) }
 {
     let Objects { objects, numbers } = found;
@@ -71,7 +72,7 @@ fn build(
     let main = main_function(alloc, tokens, layout, statements)?;
     let functions = one(alloc, main)?;
     Ok(Program {
-        model: DataModel::Ilp32,
+        model,
         property: Property::UnreachCall,
         objects,
         starts: Seq::new(alloc),
@@ -80,16 +81,17 @@ fn build(
     })
 }
 
-/// Reads a thin program, and whether a witness is placed in it; `None` where the bytes are none.
+/// Reads a thin program in a data model, and whether a witness is placed in it; `None` where the bytes are none.
 pub fn read_program(
     alloc: Global,
+    model: DataModel,
     bytes: &[u8],
-    witness: &ThinWitness,
+    witness: Option<ThinWitness>,
 ) -> Result<Option<Reading>, OutOfMemory>
     requires { length bytes.now ≤ 1048576 }
-    ensures program { IfOk result (λ r. MatchOption r (thin_program bytes.now ≡ None) (λ r. thin_program bytes.now ≡ Some (program_view r.program))) }
+    ensures program { IfOk result (λ r. MatchOption r (thin_program model bytes.now ≡ None) (λ r. thin_program model bytes.now ≡ Some (program_view r.program))) }
     ensures thin { IfOk result (λ r. IfSome r (λ r. IsTrue (is_thin (program_view r.program)))) }
-    ensures placed { IfOk result (λ r. IfSome r (λ r. r.placed ≡ is_placed (program_view r.program) witness.now)) }
+    ensures placed { IfOk result (λ r. IfSome r (λ r. r.placed ≡ is_placed_if (program_view r.program) witness)) }
 {
     let tokens = read_tokens(alloc, bytes)?;
     let Some(layout) = find_layout(alloc, &tokens)? else {
@@ -104,7 +106,7 @@ pub fn read_program(
     if !do_tests_fit(&tokens, layout, &objects.numbers) {
         return Ok(None);
     }
-    let placed = stands_in_program(&tokens, layout, witness);
-    let program = build(alloc, &tokens, layout, objects)?;
+    let placed = stands_if_there(&tokens, layout, witness);
+    let program = build(alloc, model, &tokens, layout, objects)?;
     Ok(Some(Reading { program, placed }))
 }

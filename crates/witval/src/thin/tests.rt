@@ -1,11 +1,12 @@
 use crate::thin::tracker::Tracker;
-use crate::thin::{ThinWitness, is_unreach, read_program, read_witness};
-use c_core::{Form, Init, Node, Program, Spot, Stmt};
+use crate::thin::{ThinWitness, read_program, read_witness};
+use c_core::{DataModel, Form, Init, Node, Program, Spot, Stmt};
 use c_interpreter::run_plain;
 use c_meaning::{Choices, End, Run};
 use std::alloc::{AllocError, Global};
 use std::test::Fail;
 use wv_base::{OutOfMemory, Seq};
+use wv_schema::{SchemaFault, witness_of};
 use wv_yaml::{YamlFault, read};
 
 const WITNESS: &str = "- entry_type: \"violation_sequence\"
@@ -80,7 +81,11 @@ fn replaced(alloc: Global, text: &str, old: &str, new: &str) -> Result<String, A
 /// What the witness says whose bytes are a text.
 fn witness_in(alloc: Global, text: &str) -> Result<Option<ThinWitness>, OutOfMemory> {
     match read(alloc, text.as_bytes()) {
-        Ok(tree) => Ok(read_witness(&tree)),
+        Ok(tree) => match witness_of(alloc, &tree) {
+            Ok(witness) => Ok(read_witness(&witness)),
+            Err(SchemaFault::OutOfMemory) => Err(OutOfMemory),
+            Err(_) => Ok(None),
+        },
         Err(YamlFault::OutOfMemory) => Err(OutOfMemory),
         Err(_) => Ok(None),
     }
@@ -96,18 +101,13 @@ fn is_thin_with(alloc: Global, old: &str, new: &str) -> Result<bool, OutOfMemory
     if text.len() > 1048576 {
         return Ok(false);
     }
-    Ok(read_program(alloc, text.as_str().as_bytes(), &PLACED)?.is_some())
-}
-
-#[test]
-fn property_with_or_without_a_line_feed(rt: HostRuntime) -> Result<(), Fail> {
-    let text = b"CHECK( init(main()), LTL(G ! call(reach_error())) )";
-    assert!(rt; is_unreach(text.as_slice()));
-    assert!(rt; is_unreach(b"CHECK( init(main()), LTL(G ! call(reach_error())) )\n".as_slice()));
-    assert!(rt; !is_unreach(b"CHECK( init(main()), LTL(G ! call(reach_error())) )\n\n".as_slice()));
-    assert!(rt; !is_unreach(b"CHECK( init(main()), LTL(G ! overflow) )".as_slice()));
-    assert!(rt; !is_unreach(b"".as_slice()));
-    Ok(())
+    Ok(read_program(
+        alloc,
+        DataModel::Ilp32,
+        text.as_str().as_bytes(),
+        Some(PLACED),
+    )?
+    .is_some())
 }
 
 #[test]
@@ -119,17 +119,12 @@ fn witness_is_read(rt: HostRuntime) -> Result<(), Fail> {
         ("== 5", "== -0", 0),
         ("== 5", "== 2147483647", 2147483647),
         ("== 5", "== -2147483647", -2147483647),
-        ("\"hand\"", "\"\"", 5),
-        ("\"1\"", "\" ~!\"", 5),
-        ("hand", "ha\\nd", 5),
-        ("hand", "h\u{e9}nd", 5),
-        ("\"2.0\"", "2.0 # the format", 5),
+        ("\\\\result == 5", " \\t\\\\result==- 5\\t ", -5),
+        ("\"c_expression\"", "acsl_expression", 5),
+        ("              format: \"c_expression\"\n", "", 5),
         ("line: 4", "line: 04", 5),
-        ("line: 4", "line: \"4\"", 5),
-        ("column: 5\n", "column: 5", 5),
-        ("- \"p.c\"", "- p.c", 5),
-        ("\n", "\r\n", 5),
-        ("absent", "# end\n", 5),
+        ("hand", "h\u{e9}nd", 5),
+        ("column: 33\n", "column: 33\n              function: f\n", 5),
     ] {
         let read = witness_with(alloc, old, new)?;
         assert_eq!(rt; read.map(|witness| witness.value), Some(value), "{new}");
@@ -140,19 +135,9 @@ fn witness_is_read(rt: HostRuntime) -> Result<(), Fail> {
 }
 
 #[test]
-fn other_witnesses_are_refused(rt: HostRuntime) -> Result<(), Fail> {
+fn other_witnesses_are_not_thin(rt: HostRuntime) -> Result<(), Fail> {
     let alloc = rt.alloc();
     for (old, new) in [
-        ("\"2.0\"", "\"2.1\""),
-        ("violation_sequence", "invariant_set"),
-        ("ILP32", "LP64"),
-        ("line: 4", "line: 0"),
-        ("line: 4", "line: 12345678"),
-        ("line: 4", "line: "),
-        ("line: 4", "line: -4"),
-        ("column: 33", "column: 3 3"),
-        ("hand", "ha\"nd"),
-        ("- \"p.c\"", "- \"q.c\""),
         ("== 5", "== 05"),
         ("== 5", "== 2147483648"),
         ("== 5", "== -2147483648"),
@@ -160,19 +145,26 @@ fn other_witnesses_are_refused(rt: HostRuntime) -> Result<(), Fail> {
         ("== 5", "== +5"),
         ("== 5", "== -"),
         ("== 5", "== "),
+        ("== 5", "== 5 5"),
+        ("== 5", "= = 5"),
         ("== 5", "!= 5"),
+        ("\\\\result", "\\\\ result"),
+        ("\\\\result", "result"),
+        ("              column: 33\n", ""),
         ("              column: 5\n", ""),
-        ("  metadata", "\tmetadata"),
-        ("line: 4", "line: 00"),
-        ("action", "actions"),
-        ("\"follow\"", "[\"follow\"]"),
-        ("uuid: \"01234567-89ab-4cde-8f01-23456789abcd\"", "uuid: []"),
-        ("  content:", "  more: 1\n  content:"),
+        ("function_return", "function_enter"),
+        (
+            "    - segment:\n        - waypoint:\n            type: \"target\"",
+            "        - waypoint:\n            type: \"target\"",
+        ),
+        (
+            "            type: \"target\"\n            action: \"follow\"",
+            "            type: \"branching\"\n            action: \"avoid\"\n            location: {line: 1}\n            constraint: {value: true}\n        - waypoint:\n            type: \"target\"\n            action: \"follow\"",
+        ),
     ] {
         let read = witness_with(alloc, old, new)?;
         assert_eq!(rt; read, None, "{old} {new}");
     }
-    assert_eq!(rt; witness_in(alloc, "[]")?, None);
     Ok(())
 }
 
@@ -225,7 +217,7 @@ fn program_is_read_with_its_places(rt: HostRuntime) -> Result<(), Fail> {
     if bytes.len() > 1048576 {
         return Ok(());
     }
-    let Some(reading) = read_program(alloc, bytes, &PLACED)? else {
+    let Some(reading) = read_program(alloc, DataModel::Lp64, bytes, Some(PLACED))? else {
         panic!(rt; "a thin program is read");
     };
     let program = reading.program;
@@ -313,7 +305,9 @@ fn is_placed(alloc: Global, close: Spot, target: Spot) -> Result<bool, OutOfMemo
         value: 5,
         target,
     };
-    Ok(read_program(alloc, bytes, &witness)?.is_some_and(|reading| reading.placed))
+    Ok(read_program(alloc, DataModel::Ilp32, bytes, Some(witness))?.is_some_and(
+        |reading| reading.placed,
+    ))
 }
 
 #[test]
@@ -351,7 +345,8 @@ fn waypoints_stand_where_they_may(rt: HostRuntime) -> Result<(), Fail> {
 
 /// The run of the program with the input 5, and so many steps.
 fn run_with(alloc: Global, steps: u64) -> Result<Run, OutOfMemory> {
-    let Some(reading) = read_program(alloc, PROGRAM.as_bytes(), &PLACED)? else {
+    let Some(reading) = read_program(alloc, DataModel::Ilp32, PROGRAM.as_bytes(), Some(PLACED))?
+    else {
         return Err(OutOfMemory);
     };
     let mut values = Seq::new(alloc);

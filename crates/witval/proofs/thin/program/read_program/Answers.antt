@@ -2,8 +2,8 @@ use Rattle.std.proofs.Common.{rules, ◌≡◌, ◌∙◌, ap, Some, true, [], �
 use Rattle.witval.specs.ThinGrammar.{layout_of, names_fit, names_of, tests_fit}
 use Rattle.witval.specs.ThinTokens.{tokens_of}
 use Rattle.witval.proofs.PlaceSteps.{tokens_rise-given}
-use Rattle.witval.proofs.AimSteps.{placed-built}
-use Rattle.witval.specs.ThinAims.{stands}
+use Rattle.witval.proofs.AimSteps.{placed-if-built}
+use Rattle.witval.specs.ThinAims.{stands_if}
 use Rattle.witval.proofs.ProgramSteps.{consistent-from, program-found}
 use Rattle.witval.proofs.thin.program.read_program.Goals as goal
 
@@ -26,11 +26,11 @@ returns-clause-program c =
     let names : names_fit [] (names_of c.deref-2.result.now c.in-Some.layout.declarations) ≡ true = told.names in
     let tests : tests_fit (names_of c.deref-3.result.now c.in-Some.layout.declarations) c.deref-3.result.now c.in-Some.layout ≡ true = search rules in
     let fits = consistent-from ts c.deref-2.result.now c.deref-3.result.now c.in-Some.layout objects_in tests_in few names tests in
-    program-found c.args.bytes.now ts c.in-Some.layout c.in_ok-layout.field-0 _ read laid is fits c.in_ok-program.ensures.tree
+    program-found c.args.model c.args.bytes.now ts c.in-Some.layout c.in_ok-layout.field-0 _ read laid is fits c.in_ok-program.ensures.tree
 
 pub returns-clause-placed : goal.returns-clause-placed
 returns-clause-placed c =
     let same : c.deref-4.result.now ≡ c.deref-5.result.now = search rules in
-    let stands_there : c.stands_in_program-placed.result ≡ stands c.deref-5.result.now c.in-Some.layout c.args.witness.now =
-    c.stands_in_program-placed.ensures ∙ ap (λ ts. stands ts c.in-Some.layout c.args.witness.now) same in
-    placed-built c.deref-5.result.now c.in-Some.layout c.args.witness.now _ c.stands_in_program-placed.result stands_there c.in_ok-program.ensures.tree
+    let stands_there : c.stands_if_there-placed.result ≡ stands_if c.deref-5.result.now c.in-Some.layout c.args.witness =
+    c.stands_if_there-placed.ensures ∙ ap (λ ts. stands_if ts c.in-Some.layout c.args.witness) same in
+    placed-if-built c.args.model c.deref-5.result.now c.in-Some.layout c.args.witness _ c.stands_if_there-placed.result stands_there c.in_ok-program.ensures.tree

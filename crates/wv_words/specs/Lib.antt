@@ -1,0 +1,4 @@
+pub mod Arguments
+pub mod Words
+pub mod Requests
+pub mod Examples

@@ -1,0 +1,13 @@
+//! The words of the command line. `read_words` tells what they ask for, as the crate `clap` reads them.
+#![tactic(auto)]
+
+mod command;
+mod examples;
+mod reading;
+mod request;
+
+pub use reading::read_words;
+pub use request::{Asked, Budgets, Names, Request};
+
+#[cfg(test)]
+mod tests;

@@ -1,0 +1,30 @@
+/// The names of the files that are judged.
+#[derive(Clone, Copy, Debug, PartialEq, Eq)]
+pub struct Names<'a> {
+    pub program: &'a str,
+    pub property: &'a str,
+    pub witness: &'a str,
+}
+
+/// The most steps of a run, and the most clauses that the solver derives for one obligation.
+#[derive(Clone, Copy, Debug, PartialEq, Eq)]
+pub struct Budgets {
+    pub steps: u64,
+    pub conflicts: u64,
+}
+
+/// A verdict; a summary of a witness, by its file's name; its canonical form; a made program with its verdicts, by a number.
+#[derive(Clone, Copy, Debug, PartialEq, Eq)]
+pub enum Request<'a> {
+    Validate { names: Names<'a>, budgets: Budgets },
+    Show(&'a str),
+    Normalise(&'a str),
+    Demo { number: u64, budgets: Budgets },
+}
+
+/// What the words ask for, `None` where they are misused, and whether reports are JSON.
+#[derive(Clone, Copy, Debug, PartialEq, Eq)]
+pub struct Asked<'a> {
+    pub request: Option<Request<'a>>,
+    pub json: bool,
+}
