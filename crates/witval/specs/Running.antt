@@ -6,7 +6,7 @@ use Rattle.wv_base.specs.Sink.{SinkState, Gained}
 use Rattle.wv_report.specs.Json.{json_of}
 use Rattle.wv_report.specs.Report.{status_of, text_of}
 use Rattle.wv_report.specs.declared.reply.Reply.{Reply}
-use Rattle.wv_words.specs.Words.{Wanted, Validate, Show, Normalise, Demo, asked_by}
+use Rattle.wv_words.specs.Words.{Asked, Wanted, Validate, Show, Normalise, Demo, asked_by}
 use Rattle.witval.specs.Inputs.{OfFiles}
 use Rattle.witval.specs.Replies.{Right, RightOnBytes, CanonicalIn, SummaryIn, OnWitness, unbuilt_words}
 use Rattle.witval.specs.declared.output.Output.{Output}
@@ -29,22 +29,25 @@ bytes_by json (Canonical text) = text
 bytes_by json (Summary text) = text
 
 -- a right output, its status, and all of its bytes
-abbrev pub Replied : List (List ℕ) → ShelfState → ShelfState → SinkState → SinkState → ℕ → Type 0
-Replied words old new before after status =
-    (output : Output) × Right (asked_by words).wanted old new output × (status ≡ status_by output) × Gained before.written after.written (bytes_by (asked_by words).json output)
+abbrev pub Replied : Asked → ShelfState → ShelfState → SinkState → SinkState → ℕ → Type 0
+Replied asked old new before after status =
+    (output : Output) × Right asked.wanted old new output × (status ≡ status_by output) × Gained before.written after.written (bytes_by asked.json output)
 
 -- a right output, and its first bytes
-abbrev pub CutShort : List (List ℕ) → ShelfState → ShelfState → SinkState → SinkState → Type 0
-CutShort words old new before after =
-    (output : Output) × (n : ℕ) × Right (asked_by words).wanted old new output × Gained before.written after.written (take n (bytes_by (asked_by words).json output))
+abbrev pub CutShort : Asked → ShelfState → ShelfState → SinkState → SinkState → Type 0
+CutShort asked old new before after =
+    (output : Output) × (n : ℕ) × Right asked.wanted old new output × Gained before.written after.written (take n (bytes_by asked.json output))
 
--- status 6 is want of memory, 5 a write fault; each other status is that of a right output
-pub record Runs (words : List (List ℕ)) (old new : ShelfState) (before after : SinkState) (status : ℕ) : Type 0 where
+-- for what is asked: status 6 is want of memory, 5 a write fault; each other status is that of a right output
+pub record RunsFor (asked : Asked) (old new : ShelfState) (before after : SinkState) (status : ℕ) : Type 0 where
   pub same_files : new.files ≡ old.files
   pub memory : status ≡ 6 → after ≡ before
   pub write_fault : status ≡ 5 → Rose before.faults after.faults
-  pub prefix : status ≡ 5 → CutShort words old new before after
-  pub replied : status ≢ 5 → status ≢ 6 → Replied words old new before after status
+  pub prefix : status ≡ 5 → CutShort asked old new before after
+  pub replied : status ≢ 5 → status ≢ 6 → Replied asked old new before after status
+
+abbrev pub Runs : List (List ℕ) → ShelfState → ShelfState → SinkState → SinkState → ℕ → Type 0
+Runs words old new before after status = RunsFor (asked_by words) old new before after status
 
 -- neither count of faults rose, and both are below their last value
 pub record Undisturbed (old new : ShelfState) (before after : SinkState) : Type 0 where
@@ -68,7 +71,10 @@ Answered json wanted files before after status =
     (output : Output) × CallsFor wanted files output × (status ≡ status_by output) × Gained before.written after.written (bytes_by json output)
 
 -- over told files, without a fault and with memory, what they call for is answered
+abbrev pub CompleteFor : Asked → ShelfState → ShelfState → SinkState → SinkState → ℕ → Type 0
+CompleteFor asked old new before after status =
+    (wanted : Wanted) (files : Files) → asked.wanted ≡ Some wanted → old.files ≡ Some files → Undisturbed old new before after → status ≢ 6
+    → Answered asked.json wanted files before after status
+
 abbrev pub Complete : List (List ℕ) → ShelfState → ShelfState → SinkState → SinkState → ℕ → Type 0
-Complete words old new before after status =
-    (wanted : Wanted) (files : Files) → (asked_by words).wanted ≡ Some wanted → old.files ≡ Some files → Undisturbed old new before after → status ≢ 6
-    → Answered (asked_by words).json wanted files before after status
+Complete words old new before after status = CompleteFor (asked_by words) old new before after status

@@ -1,24 +1,19 @@
 ghost use Rattle.std.specs.Prelude.{map, string_bytes};
-ghost use Rattle.witval.specs.Running.{Complete, Runs};
+ghost use Rattle.witval.specs.Running.{Complete, CompleteFor, Runs, RunsFor};
+ghost use Rattle.wv_words.specs.Requests.{stated};
 
 use crate::answer::answer;
 use crate::output::{bytes_of, status_of};
 use std::alloc::Global;
 use wv_base::{Shelf, Sink, write_all};
-use wv_words::read_words;
+use wv_words::{Asked, read_words};
 
-/// All that the program does: it reads the files that the words name, judges, shows or brings into canonical form, and writes.
-///
-/// The status is the output's, 5 where a write failed, 6 where memory was wanted. All bytes stand in memory before the
-/// first of them is written.
-pub fn run<S: Shelf, O: Sink>(alloc: Global, words: &Vec<String>, shelf: &mut S, out: &mut O) -> u8
-    ensures runs { Runs (map string_bytes words.now.items) (S.state shelf.old) (S.state shelf.new) (O.state out.old) (O.state out.new) result }
-    ensures complete { Complete (map string_bytes words.now.items) (S.state shelf.old) (S.state shelf.new) (O.state out.old) (O.state out.new) result }
+/// What is asked for is read, judged, shown or brought into canonical form, and written.
+fn run_asked<S: Shelf, O: Sink>(alloc: Global, asked: &Asked<'_>, shelf: &mut S, out: &mut O) -> u8
+    ensures runs { RunsFor (stated asked.now) (S.state shelf.old) (S.state shelf.new) (O.state out.old) (O.state out.new) result }
+    ensures complete { CompleteFor (stated asked.now) (S.state shelf.old) (S.state shelf.new) (O.state out.old) (O.state out.new) result }
 {
-    let Ok(asked) = read_words(alloc, words) else {
-        return 6;
-    };
-    let Ok(output) = answer(alloc, &asked, shelf) else {
+    let Ok(output) = answer(alloc, asked, shelf) else {
         return 6;
     };
     let status = status_of(&output);
@@ -29,4 +24,26 @@ pub fn run<S: Shelf, O: Sink>(alloc: Global, words: &Vec<String>, shelf: &mut S,
         Ok(()) => status,
         Err(_) => 5,
     }
+}
+
+/// The same for the words of a command line.
+fn run_words<S: Shelf, O: Sink>(alloc: Global, words: &[String], shelf: &mut S, out: &mut O) -> u8
+    ensures runs { Runs (map string_bytes words.now) (S.state shelf.old) (S.state shelf.new) (O.state out.old) (O.state out.new) result }
+    ensures complete { Complete (map string_bytes words.now) (S.state shelf.old) (S.state shelf.new) (O.state out.old) (O.state out.new) result }
+{
+    match read_words(alloc, words) {
+        Ok(asked) => run_asked(alloc, &asked, shelf, out),
+        Err(_) => 6,
+    }
+}
+
+/// All that the program does: it reads the files that the words name, judges, shows or brings into canonical form, and writes.
+///
+/// The status is the output's, 5 where a write failed, 6 where memory was wanted. All bytes stand in memory before the
+/// first of them is written.
+pub fn run<S: Shelf, O: Sink>(alloc: Global, words: &Vec<String>, shelf: &mut S, out: &mut O) -> u8
+    ensures runs { Runs (map string_bytes words.now.items) (S.state shelf.old) (S.state shelf.new) (O.state out.old) (O.state out.new) result }
+    ensures complete { Complete (map string_bytes words.now.items) (S.state shelf.old) (S.state shelf.new) (O.state out.old) (O.state out.new) result }
+{
+    run_words(alloc, words, shelf, out)
 }
