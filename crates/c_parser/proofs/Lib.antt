@@ -33,3 +33,10 @@ mod TypeCountLaws
 mod NameLaws
 mod WitnessAnswers
 mod ResultAnswers
+pub mod PassingLaws
+pub mod ListLaws
+pub mod ParsingLaws
+pub mod ClosedSteps
+pub mod LowLaws
+pub mod SourceViews
+pub mod StatementSteps

@@ -2,9 +2,9 @@ pub mod Tree
 pub mod Heights
 pub mod Signs
 pub mod Words
+pub mod TypeCounts
 pub mod Expressions
 pub mod ReadExpressions
-pub mod TypeCounts
 pub mod View
 pub mod Gives
 pub mod Brackets
@@ -13,8 +13,12 @@ pub mod Statements
 pub mod ReadStatements
 pub mod Items
 pub mod ReadItems
+pub mod Passes
+pub mod SourceView
+pub mod StatementParts
 pub mod Sources
 pub mod TextOrder
+pub mod Parsing
 pub mod Witness
 pub mod Shown
 pub mod ExpressionExamples

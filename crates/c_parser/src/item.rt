@@ -34,3 +34,9 @@ pub struct RawParam {
     pub name: Text,
     pub ty: IntType,
 }
+
+/// What a source text spells, item by item; items that nothing later reads are left out.
+#[derive(Drop)]
+pub struct Source {
+    pub items: Seq<Item>,
+}

@@ -1,16 +1,27 @@
 //! The C grammar: which trees the tokens of a source text, of a witness expression and of a `\result` constraint spell.
 #![tactic(auto)]
 
+mod brackets;
+mod closed;
 mod cursor;
-#[cfg(test)]
-mod expression_tests;
+mod declarations;
 mod expressions;
 mod fault;
+mod headers;
 mod item;
+mod items;
 mod kinds;
 mod laws;
 mod look;
 mod measured;
+mod parameters;
+mod source;
+#[cfg(test)]
+mod source_tests;
+#[cfg(test)]
+mod source_text;
+mod specifiers;
+mod statements;
 mod strength;
 mod tree;
 mod type_name;
@@ -19,9 +30,10 @@ mod witness;
 mod words;
 
 pub use fault::{ExprFault, ParseFault};
-pub use item::{Item, RawParam};
+pub use item::{Item, RawParam, Source};
 pub use laws::{
     one_expression, one_item, one_source, one_syntax, some_outcome, source_or_syntax, text_order,
 };
+pub use source::parse;
 pub use tree::{RawDeclared, RawExpr, RawFirst, RawForm, RawInit, RawNode, RawStmt, ResultTest};
 pub use witness::{parse_expr, parse_result};

@@ -1,0 +1,22 @@
+use Rattle.std.proofs.Common.{◌∙◌, sym, subst, [], ◌∷◌, Option}
+use Rattle.c_parser.specs.Tree.{Item}
+use Rattle.c_parser.specs.ReadExpressions.{Read}
+use Rattle.c_parser.specs.Gives.{Reads}
+use Rattle.c_parser.specs.SourceView.{item_if}
+use Rattle.c_parser.specs.ReadItems.{read_closed, read_nothing}
+use Rattle.c_parser.proofs.ParsingLaws.{unspelled, first_taken, first_passed, last_form}
+use Rattle.c_parser.proofs.items.closed_or_nothing_at.Goals as goal
+
+pub returns-in-Ok : goal.returns-in-Ok
+returns-in-Ok c =
+    let h = c.args.height in
+    let b = c.args.brackets in
+    first_taken h b (read_closed h b) (read_nothing h b ∷ []) c.args.tokens.now _ (c.in-Ok.ensures h)
+
+pub returns-in-Err-Unspelled : goal.returns-in-Err-Unspelled
+returns-in-Err-Unspelled c =
+    let h = c.args.height in
+    let b = c.args.brackets in
+    let ts = c.args.tokens.now in
+    subst (λ (o : Read (Option Item)). Reads item_if c.nothing_at.result o) (sym (first_passed h b (read_closed h b) (read_nothing h b ∷ []) ts (unspelled c.in-Err-Unspelled.field-0 (read_closed h b c.args.tokens.now) c.in-Err-Unspelled.field-0-is (c.in-Err-Unspelled.ensures h)) ∙ last_form h b (read_nothing h b) ts))
+    (c.nothing_at.ensures h b)

@@ -1,0 +1,29 @@
+use Rattle.std.proofs.Common.{◌≡◌, ◌-◌, ◌<◌, ◌≤◌, ◌∙◌, ◌++◌, suc, sym, ap, subst, map, List, Option, Some, None, Err, length, rules, arith}
+use Rattle.std.specs.Option.{option_map, option_to_list}
+use Rattle.c_core.specs.declared.number.Spot.{Spot}
+use Rattle.c_parser.specs.Tree.{Item}
+use Rattle.c_parser.specs.Signs.{place}
+use Rattle.c_parser.specs.Sources.{max_height, max_brackets}
+use Rattle.c_parser.specs.ReadItems.{read_item, read_items}
+use Rattle.c_parser.specs.SourceView.{item_view}
+use Rattle.c_parser.proofs.ParsingLaws.{unspelled, found_before, items_more, items_refused, items_push}
+use Rattle.c_parser.specs.declared.fault.ParseFault.{ParseFault}
+use Rattle.c_parser.specs.Parsing.{Outcomes}
+use Rattle.c_parser.proofs.source.source_at.Goals as goal
+
+pub loop-rest-preserved : goal.loop-rest-preserved
+loop-rest-preserved c =
+    let one : c.loop-rest.more ≡ suc (c.loop-rest.more - 1) = omega (arith, c.if-more-eq0.false) in
+    let some : 0 < length c.loop-rest.rest.now = search rules in
+    let pushed : map item_view c.add.new.items ≡ map item_view c.loop-rest.items ++ option_to_list (option_map item_view c.in-Ok.item) = ap (map item_view) c.in_ok-add-in-Ok.ensures ∙ items_push c.loop-rest.items c.in-Ok.item in
+    ap (λ (xs : List Item). found_before xs (read_items max_height max_brackets (c.loop-rest.more - 1) c.in-Ok.end.now)) pushed
+    ∙ sym (items_more max_height max_brackets c.loop-rest.more (c.loop-rest.more - 1) c.loop-rest.rest.now one some (map item_view c.loop-rest.items) (option_map item_view c.in-Ok.item) c.in-Ok.end.now c.in-Ok.ensures)
+    ∙ c.loop-rest.invariant
+
+pub returns-in-Err-Unspelled : goal.returns-in-Err-Unspelled
+returns-in-Err-Unspelled c =
+    let one : c.loop-rest.more ≡ suc (c.loop-rest.more - 1) = omega (arith, c.if-more-eq0.false) in
+    let some : 0 < length c.loop-rest.rest.now = search rules in
+    subst (λ (f : ParseFault). Outcomes (Err f) (read_items max_height max_brackets (length c.args.tokens.now) c.args.tokens.now)) (sym c.syntax_at-in-Err-Unspelled.ensures)
+    (sym c.loop-rest.invariant ∙ items_refused max_height max_brackets c.loop-rest.more (c.loop-rest.more - 1) c.loop-rest.rest.now one some (map item_view c.loop-rest.items)
+    (unspelled c.in-Err-Unspelled.field-0 (read_item max_height max_brackets c.loop-rest.rest.now) c.in-Err-Unspelled.field-0-is c.in-Err-Unspelled.ensures))
