@@ -25,9 +25,17 @@ waypoint 2 follow target 6:5
 fn what_is_no_witness_is_not_shown(rt: HostRuntime) -> Result<(), Fail> {
     let alloc = rt.alloc();
     let cases = [
-        ("violation_sequence", "violation", "refused schema-value [0].entry_type\n"),
+        (
+            "violation_sequence",
+            "violation",
+            "refused schema-value [0].entry_type\n",
+        ),
         ("  metadata", "\tmetadata", "refused yaml-grammar\n"),
-        ("language: \"C\"", "language: C\n      language: C", "refused yaml-duplicate\n"),
+        (
+            "language: \"C\"",
+            "language: C\n      language: C",
+            "refused yaml-duplicate\n",
+        ),
     ];
     for (old, new, report) in cases {
         let witness = replaced(alloc, WITNESS, old, new)?;
