@@ -5,6 +5,8 @@ mod brackets;
 mod closed;
 mod cursor;
 mod declarations;
+#[cfg(test)]
+mod expression_tests;
 mod expressions;
 mod fault;
 mod headers;
