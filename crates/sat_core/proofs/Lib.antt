@@ -10,3 +10,4 @@ pub mod Flags
 pub mod Logged
 pub mod Models
 pub mod Learns
+mod Deciding

@@ -4,10 +4,12 @@
 
 mod analyze;
 mod database;
+mod laws;
 mod propagate;
 mod solver;
 #[cfg(test)]
 mod tests;
 mod trail;
 
+pub use laws::all_variables_decide;
 pub use solver::{Answer, solve};
