@@ -1,8 +1,11 @@
 pub mod Paths
 pub mod Table
 pub mod Judging
+pub mod RuleNames
 pub mod Values
+pub mod Parts
 pub mod Shapes
+pub mod Steps
 pub mod Schema
 pub mod Canonical
 pub mod Rules
