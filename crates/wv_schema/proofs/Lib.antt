@@ -3,3 +3,15 @@ pub mod Finding
 pub mod Chains
 pub mod Items
 pub mod Segments
+pub mod FieldChains
+pub mod FieldRules
+pub mod WrittenParts
+pub mod WrittenMetadata
+pub mod WrittenWaypoints
+pub mod WrittenSegments
+pub mod WrittenClaims
+pub mod WrittenWitness
+pub mod MetRules
+pub mod MetParts
+pub mod MetSegments
+pub mod MetWitness

@@ -1,6 +1,6 @@
 -- The waypoints and segments that the reader has so far.
 use Rattle.std.specs.Prelude.{ℕ, List, [], ◌∷◌, ◌++◌, Bool, true, false, not, ◌&&◌, Option, Some, None, map, if◌then◌else◌, codes}
-use Rattle.std.specs.Option.{option_to_list}
+use Rattle.std.specs.Option.{option_or, option_to_list}
 use Rattle.std.specs.Str.{bytes_eq}
 use Rattle.wv_yaml.specs.declared.tree.Tree.{Tree}
 use Rattle.wv_yaml.specs.declared.tree.Pair.{Pair}
@@ -33,6 +33,11 @@ avoids_in ts = record { waypoints = map step_in ts; are_fit = are_avoids ts }
 -- the segment, unless it is misshapen
 unfoldable pub segment_by : Bool → List Tree → Option Segment
 segment_by is_final ts = if is_misshapen is_final ts then None else Some (segment_of ts)
+
+-- one segment more, or the number of the first that is misshapen
+abbrev pub kept : Drafts → Option Segment → ℕ → Drafts
+kept drafts None number = record drafts { misshapen = option_or drafts.misshapen (Some number) }
+kept drafts (Some segment) number = record drafts { segments = drafts.segments ++ segment ∷ [] }
 
 -- the segments that aren't misshapen
 abbrev pub shapely : List Tree → List Segment

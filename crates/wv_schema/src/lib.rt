@@ -7,6 +7,7 @@ mod claim;
 mod entry;
 mod fault;
 mod field;
+mod laws;
 mod location;
 mod metadata;
 mod place;
@@ -19,11 +20,14 @@ mod witness;
 
 pub use canonical::tree_of;
 pub use fault::SchemaFault;
+pub use laws::written_witnesses_are_read;
 pub use schema::witness_of;
 pub use witness::{
     Constraint, Content, Entry, FileHash, Invariant, InvariantKind, Location, Metadata, Segment,
     WayKind, Waypoint, Witness,
 };
 
+#[cfg(test)]
+mod schema_tests;
 #[cfg(test)]
 mod tests;

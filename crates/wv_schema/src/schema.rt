@@ -1,5 +1,5 @@
 // The witness of a tree.
-ghost use Rattle.std.specs.Prelude.{◌≡◌, is_none};
+ghost use Rattle.std.specs.Prelude.{◌≡◌, ◌<◌, IfOk, is_none, length};
 ghost use Rattle.wv_schema.specs.Shapes.{is_sequence, entries_fault};
 ghost use Rattle.wv_schema.specs.Schema.{IsAnswer};
 
@@ -36,6 +36,7 @@ fn are_fit(entries: &[Entry]) -> bool
 /// The witness of a tree, or the first rule of the schema that isn't met, with its path.
 pub fn witness_of(alloc: Global, tree: &Tree) -> Result<Witness, SchemaFault>
     ensures answer { IsAnswer tree.now result }
+    ensures some { IfOk result (λ w. 0 < length w.entries) }
 {
     match items_of(tree) {
         None => Err(wrong_kind(alloc, "witness")),

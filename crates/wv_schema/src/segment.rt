@@ -1,5 +1,5 @@
 // The segments of a violation sequence.
-ghost use Rattle.std.specs.Prelude.{◌≡◌, ◌-◌, ◌^◌, ◌&&◌, List, Option, map, min, true, codes};
+ghost use Rattle.std.specs.Prelude.{◌≡◌, ◌-◌, ◌^◌, ◌&&◌, List, Option, map, min, true, codes, OnOk};
 ghost use Rattle.wv_schema.specs.declared.witness.Segment.{Segment};
 ghost use Rattle.wv_schema.specs.declared.segment.Drafts.{Drafts};
 ghost use Rattle.std.specs.Option.{option_or};
@@ -7,7 +7,7 @@ ghost use Rattle.wv_schema.specs.Paths.{key_place};
 ghost use Rattle.wv_schema.specs.Table.{segment_fields};
 ghost use Rattle.wv_schema.specs.Judging.{first_fault, items_fault};
 ghost use Rattle.wv_schema.specs.Values.{list_at, steps_in, segment_in};
-ghost use Rattle.wv_schema.specs.Steps.{fits_end, segment_by, drafts_in};
+ghost use Rattle.wv_schema.specs.Steps.{fits_end, segment_by, kept, drafts_in};
 ghost use Rattle.wv_schema.specs.Schema.{Gives, step_fault, segment_fault, content_fault};
 
 use crate::fault::SchemaFault;
@@ -17,7 +17,7 @@ use crate::reach::pairs_of;
 use crate::waypoint::{Avoids, Step, avoids_of, step_of};
 use crate::witness::{Segment, WayKind};
 use std::alloc::Global;
-use wv_base::Seq;
+use wv_base::{OutOfMemory, Seq};
 use wv_yaml::{Pair, Tree};
 
 /// The segments of the right form, and the number of the first that isn't, from 1.
@@ -100,22 +100,31 @@ fn segment_of(
     }
 }
 
+/// Keeps a segment, or the number of the first that is misshapen.
+fn keep(drafts: &mut Drafts, segment: Option<Segment>, number: usize) -> Result<(), OutOfMemory>
+    ensures { OnOk result (drafts.new ≡ kept drafts.old segment number) }
+{
+    match segment {
+        Some(segment) => drafts.segments.push(segment)?,
+        None => drafts.misshapen = drafts.misshapen.or(Some(number)),
+    }
+    Ok(())
+}
+
 fn drafts_of(alloc: Global, at: &str, items: &[Tree]) -> Result<Drafts, SchemaFault>
     ensures { Gives (λ (d : Drafts). d) result (items_fault segment_fault at.now 0 items.now) (drafts_in items.now) }
 {
-    let mut segments = Seq::new(alloc);
-    let mut misshapen = None;
+    let mut drafts = Drafts {
+        segments: Seq::new(alloc),
+        misshapen: None,
+    };
     for (index, item) in items.iter().enumerate() {
         let place = place_of_item(alloc, at, index)?;
-        match segment_of(alloc, place.as_str(), item, index + 1 == items.len())? {
-            Some(segment) => segments.push(segment)?,
-            None => misshapen = misshapen.or(Some(index + 1)),
-        }
+        let number = index + 1;
+        let segment = segment_of(alloc, place.as_str(), item, number == items.len())?;
+        keep(&mut drafts, segment, number)?;
     }
-    Ok(Drafts {
-        segments,
-        misshapen,
-    })
+    Ok(drafts)
 }
 
 /// A segment's number, as it is reported.

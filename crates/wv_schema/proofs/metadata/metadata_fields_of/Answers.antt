@@ -5,39 +5,25 @@ use Rattle.wv_schema.specs.Table.{AText, AnyText, TwoZero, needs, in_map, produc
 use Rattle.wv_schema.specs.Judging.{row_fault, first_fault}
 use Rattle.wv_schema.specs.Parts.{producer_in, task_in}
 use Rattle.wv_schema.specs.Values.{metadata_in}
-use Rattle.wv_schema.proofs.Chains.{stops, later, both, first_more, first_append}
+use Rattle.wv_schema.proofs.Chains.{stops, later, both}
+use Rattle.wv_schema.proofs.FieldChains.{metadata_chain}
 use Rattle.wv_schema.proofs.metadata.metadata_fields_of.Goals as goal
 
-chain : (at : List ℕ) (ps : List Pair) → first_fault at ps metadata_fields ≡
-    option_or (row_fault at ps (needs (codes "format_version") (AText TwoZero)))
-    (option_or (row_fault at ps (needs (codes "uuid") (AText AnyText)))
-    (option_or (row_fault at ps (needs (codes "creation_time") (AText AnyText)))
-    (option_or (first_fault at ps (in_map (codes "producer") producer_fields)) (first_fault at ps (in_map (codes "task") task_fields)))))
-unfolding metadata_fields
-chain at ps =
-    first_more at ps (needs (codes "format_version") (AText TwoZero)) _
-    ∙ ap (option_or (row_fault at ps (needs (codes "format_version") (AText TwoZero))))
-    (first_more at ps (needs (codes "uuid") (AText AnyText)) _
-    ∙ ap (option_or (row_fault at ps (needs (codes "uuid") (AText AnyText))))
-    (first_more at ps (needs (codes "creation_time") (AText AnyText)) _
-    ∙ ap (option_or (row_fault at ps (needs (codes "creation_time") (AText AnyText))))
-    (first_append at ps (in_map (codes "producer") producer_fields) (in_map (codes "task") task_fields))))
-
 pub returns-in_err-format_version : goal.returns-in_err-format_version
-returns-in_err-format_version c = rw (chain c.args.at.now c.args.pairs.now) (search (rules, later, stops))
+returns-in_err-format_version c = rw (metadata_chain c.args.at.now c.args.pairs.now) (search (rules, later, stops))
 
 pub returns-in_err-uuid : goal.returns-in_err-uuid
-returns-in_err-uuid c = rw (chain c.args.at.now c.args.pairs.now) (search (rules, later, stops))
+returns-in_err-uuid c = rw (metadata_chain c.args.at.now c.args.pairs.now) (search (rules, later, stops))
 
 pub returns-in_err-creation_time : goal.returns-in_err-creation_time
-returns-in_err-creation_time c = rw (chain c.args.at.now c.args.pairs.now) (search (rules, later, stops))
+returns-in_err-creation_time c = rw (metadata_chain c.args.at.now c.args.pairs.now) (search (rules, later, stops))
 
 pub returns-in_err-producer : goal.returns-in_err-producer
-returns-in_err-producer c = rw (chain c.args.at.now c.args.pairs.now) (search (rules, later, stops))
+returns-in_err-producer c = rw (metadata_chain c.args.at.now c.args.pairs.now) (search (rules, later, stops))
 
 pub returns-in_err-task : goal.returns-in_err-task
-returns-in_err-task c = rw (chain c.args.at.now c.args.pairs.now) (search (rules, later, stops))
+returns-in_err-task c = rw (metadata_chain c.args.at.now c.args.pairs.now) (search (rules, later, stops))
 
 pub returns : goal.returns
 unfolding producer_in task_in metadata_in
-returns c = rw (chain c.args.at.now c.args.pairs.now) (search (rules, both))
+returns c = rw (metadata_chain c.args.at.now c.args.pairs.now) (search (rules, both))
