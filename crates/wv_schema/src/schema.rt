@@ -1,6 +1,7 @@
 // The witness of a tree.
 ghost use Rattle.std.specs.Prelude.{◌≡◌, ◌<◌, IfOk, is_none, length};
 ghost use Rattle.wv_schema.specs.Shapes.{is_sequence, entries_fault};
+ghost use Rattle.wv_schema.specs.Rules.{MeetsSchema};
 ghost use Rattle.wv_schema.specs.Schema.{IsAnswer};
 
 use crate::entry::entries_of;
@@ -36,6 +37,8 @@ fn are_fit(entries: &[Entry]) -> bool
 /// The witness of a tree, or the first rule of the schema that isn't met, with its path.
 pub fn witness_of(alloc: Global, tree: &Tree) -> Result<Witness, SchemaFault>
     ensures answer { IsAnswer tree.now result }
+    // So `tree_of` may write it again.
+    ensures meets { IfOk result MeetsSchema }
     ensures some { IfOk result (λ w. 0 < length w.entries) }
 {
     match items_of(tree) {

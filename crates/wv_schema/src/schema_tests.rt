@@ -29,8 +29,7 @@ const VIOLATION: &str = "- entry_type: \"violation_sequence\"";
 
 const INVARIANTS: &str = "- entry_type: \"invariant_set\"";
 
-const RETURN_AND_TARGET: &str = "\
-    - segment:
+const RETURN_AND_TARGET: &str = "    - segment:
         - waypoint:
             type: \"function_return\"
             action: \"follow\"
@@ -49,8 +48,7 @@ const RETURN_AND_TARGET: &str = "\
               column: 5
 ";
 
-const ONE_INVARIANT: &str = "\
-    - invariant:
+const ONE_INVARIANT: &str = "    - invariant:
         type: \"loop_invariant\"
         location:
           file_name: \"p.c\"
