@@ -15,3 +15,5 @@ pub mod MetRules
 pub mod MetParts
 pub mod MetSegments
 pub mod MetWitness
+pub mod Entries
+pub mod Drafts

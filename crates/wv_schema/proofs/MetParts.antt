@@ -44,9 +44,10 @@ pub location_meets : (at : List ℕ) (ps : List Pair) → first_fault at ps loca
 unfolding first_fault location_fields location_in
 location_meets at ps e =
     let e2 = rest_none (row_fault at ps (may_have (codes "file_name") (AText AnyText))) _ e in
-    let e3 = rest_none (row_fault at ps (needs (codes "line") (AText Count))) _ e2 in
-    ( count_meets _ (text_meets at (codes "line") ps Count (first_none _ _ e2))
-    , count_if_meets _ (text_if_meets at (codes "column") ps Count (first_none _ _ e3)))
+    let e3 = rest_none (row_fault at ps (needs (codes "line") (AText Count))) _ e2 in (
+      count_meets _ (text_meets at (codes "line") ps Count (first_none _ _ e2)),
+      count_if_meets _ (text_if_meets at (codes "column") ps Count (first_none _ _ e3)),
+    )
 
 format_meets : (o : Option (List ℕ)) → MeetsIf (OneOf formats) o → IsFormat o
 unfolding meets

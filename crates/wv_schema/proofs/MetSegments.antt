@@ -22,9 +22,10 @@ waypoint_meets : (at : List ℕ) (ps : List Pair) → first_fault at ps (waypoin
 unfolding waypoint_in
 waypoint_meets at ps e =
     let e2 = rest_none (row_fault at ps (needs (codes "type") (AText (OneOf waypoint_types)))) _ (sym (waypoint_chain at ps (kind_at ps)) ∙ e) in
-    let e3 = rest_none (row_fault at ps (needs (codes "action") (AText (OneOf actions)))) _ e2 in
-    ( location_meets _ _ (below_meets at (codes "location") ps location_fields (first_none _ _ e3))
-    , constrained_meets at ps (kind_at ps) (rest_none (first_fault at ps (in_map (codes "location") location_fields)) _ e3))
+    let e3 = rest_none (row_fault at ps (needs (codes "action") (AText (OneOf actions)))) _ e2 in (
+      location_meets _ _ (below_meets at (codes "location") ps location_fields (first_none _ _ e3)),
+      constrained_meets at ps (kind_at ps) (rest_none (first_fault at ps (in_map (codes "location") location_fields)) _ e3),
+    )
 
 step_meets : (at : List ℕ) (t : Tree) → step_fault at t ≡ None → IsWaypoint (step_in t)
 unfolding step_fault step_rows step_in waypoint_pairs
@@ -56,9 +57,10 @@ kind_of_step t = refl
 
 avoids_meet : (at : List ℕ) (n : ℕ) (ts : List Tree) → items_fault step_fault at n ts ≡ None → list_any is_target ts ≡ false → AreAvoids (map step_in ts)
 avoids_meet at n [] e h = tt
-avoids_meet at n (t ∷ ts) e h =
-    ( (step_meets (item_place at n) t (first_none _ _ e), not_target (step_in t).kind (sym (kind_of_step t) ∙ or_first (is_target t) _ h))
-    , avoids_meet at (n + 1) ts (rest_none (step_fault (item_place at n) t) _ e) (or_rest (is_target t) _ h))
+avoids_meet at n (t ∷ ts) e h = (
+  (step_meets (item_place at n) t (first_none _ _ e), not_target (step_in t).kind (sym (kind_of_step t) ∙ or_first (is_target t) _ h)),
+  avoids_meet at (n + 1) ts (rest_none (step_fault (item_place at n) t) _ e) (or_rest (is_target t) _ h),
+)
 
 abbrev shape_by : Bool → Bool → Bool → Bool → Bool → Bool → Bool
 shape_by final end follows early stray hits = end || (not follows || (early || ((stray || (hits && not (final && follows))) || (final && not hits))))
@@ -89,20 +91,21 @@ steps_meet : (at : List ℕ) (final : Bool) (ts : List Tree) → items_fault ste
 unfolding segment_of
 steps_meet at final ts e m =
     let p = shape_parts final ts m in
-    let d = sym (items_append step_fault at 0 (front ts) (last ts ∷ [])) ∙ ap (items_fault step_fault at 0) (sym (parted ts (some ts p.0))) ∙ e in
-    ( avoids_meet at 0 (front ts) (first_none _ _ d) p.1
-    , step_meets _ (last ts) (first_none _ _ (rest_none (items_fault step_fault at 0 (front ts)) _ d))
-    , sym (kind_of_step (last ts)) ∙ p.2)
+    let d = sym (items_append step_fault at 0 (front ts) (last ts ∷ [])) ∙ ap (items_fault step_fault at 0) (sym (parted ts (some ts p.0))) ∙ e in (
+      avoids_meet at 0 (front ts) (first_none _ _ d) p.1,
+      step_meets _ (last ts) (first_none _ _ (rest_none (items_fault step_fault at 0 (front ts)) _ d)),
+      sym (kind_of_step (last ts)) ∙ p.2,
+    )
 
 segment_meets : (at : List ℕ) (final : Bool) (t : Tree) → segment_fault at t ≡ None → is_misshapen final (steps_in t) ≡ false → Formed final (segment_in t)
 unfolding segment_fault segment_in
 segment_meets at final t e m = steps_meet (key_place at (codes "segment")) final (steps_in t) (rest_none (rows_fault at (λ ps. segment_fields) _) _ e) m
 
-pass_first : (b : Bool) (n : ℕ) (rest : Option ℕ) → cond b (Some n) rest ≡ None → b ≡ false
+pub pass_first : (b : Bool) (n : ℕ) (rest : Option ℕ) → cond b (Some n) rest ≡ None → b ≡ false
 pass_first true n rest e = absurd (cc e)
 pass_first false n rest e = refl
 
-pass_rest : (b : Bool) (n : ℕ) (rest : Option ℕ) → cond b (Some n) rest ≡ None → rest ≡ None
+pub pass_rest : (b : Bool) (n : ℕ) (rest : Option ℕ) → cond b (Some n) rest ≡ None → rest ≡ None
 pass_rest true n rest e = absurd (cc e)
 pass_rest false n rest e = e
 
@@ -112,6 +115,7 @@ segments_meet at n m (t ∷ []) e h k =
     let s = segment_meets (item_place at n) true t (first_none _ _ e) (pass_first (is_misshapen true (steps_in t)) m None h) in
     (s.0, s.1, a_target (segment_in t).follow.kind s.2)
 segments_meet at n m (t ∷ u ∷ ts) e h k =
-    let s = segment_meets (item_place at n) false t (first_none _ _ e) (pass_first (is_misshapen false (steps_in t)) m (misshapen_from (m + 1) (u ∷ ts)) h) in
-    ( (s.0, s.1, not_target (segment_in t).follow.kind s.2)
-    , segments_meet at (n + 1) (m + 1) (u ∷ ts) (rest_none (segment_fault (item_place at n) t) _ e) (pass_rest (is_misshapen false (steps_in t)) m (misshapen_from (m + 1) (u ∷ ts)) h) refl)
+    let s = segment_meets (item_place at n) false t (first_none _ _ e) (pass_first (is_misshapen false (steps_in t)) m (misshapen_from (m + 1) (u ∷ ts)) h) in (
+      (s.0, s.1, not_target (segment_in t).follow.kind s.2),
+      segments_meet at (n + 1) (m + 1) (u ∷ ts) (rest_none (segment_fault (item_place at n) t) _ e) (pass_rest (is_misshapen false (steps_in t)) m (misshapen_from (m + 1) (u ∷ ts)) h) refl,
+    )

@@ -10,7 +10,7 @@ use Rattle.wv_schema.specs.Table.{AText, OneOf, TwoZero, AnyText, entry_types, i
 use Rattle.wv_schema.specs.Judging.{meets, row_fault, first_fault, rows_fault, items_fault}
 use Rattle.wv_schema.specs.Values.{text_at, list_at, map_at, all_pairs, metadata_in, constraint_in, invariant_in, claim_in, is_violation, content_by, entry_by, entry_in, witness_in}
 use Rattle.wv_schema.specs.Shapes.{misshapen, shape_fault, entries_fault}
-use Rattle.wv_schema.specs.Schema.{claim_fault, content_fault, entry_fault, fault_of_items, schema_fault}
+use Rattle.wv_schema.specs.Schema.{segment_fault, claim_fault, content_fault, entry_fault, fault_of_items, schema_fault}
 use Rattle.wv_schema.specs.Rules.{IsLocation, IsFormat, AreInvariants, IsContent, AreEntries, MeetsSchema}
 use Rattle.wv_schema.proofs.FieldChains.{metadata_chain, entry_chain, invariant_chain}
 use Rattle.wv_schema.proofs.MetRules.{first_none, rest_none, text_meets, below_meets, item_meets}
@@ -20,9 +20,10 @@ use Rattle.wv_schema.proofs.MetSegments.{segments_meet}
 invariant_meets : (at : List ℕ) (ps : List Pair) → first_fault at ps invariant_fields ≡ None → IsLocation (invariant_in ps).location × IsFormat (invariant_in ps).format
 unfolding invariant_in
 invariant_meets at ps e =
-    let e2 = rest_none (row_fault at ps (needs (codes "type") (AText (OneOf invariant_types)))) _ (sym (invariant_chain at ps) ∙ e) in
-    ( location_meets _ _ (below_meets at (codes "location") ps location_fields (first_none _ _ e2))
-    , expression_meets at ps (rest_none (first_fault at ps (in_map (codes "location") location_fields)) _ e2))
+    let e2 = rest_none (row_fault at ps (needs (codes "type") (AText (OneOf invariant_types)))) _ (sym (invariant_chain at ps) ∙ e) in (
+      location_meets _ _ (below_meets at (codes "location") ps location_fields (first_none _ _ e2)),
+      expression_meets at ps (rest_none (first_fault at ps (in_map (codes "location") location_fields)) _ e2),
+    )
 
 claim_meets : (at : List ℕ) (t : Tree) → claim_fault at t ≡ None → IsLocation (claim_in t).location × IsFormat (claim_in t).format
 unfolding claim_fault claim_in
@@ -44,7 +45,7 @@ some_shape ts e = none_inside _ (misshapen ts) e
 content_meets : (at : List ℕ) (is_sequence : Bool) (ts : List Tree) → content_fault at is_sequence ts ≡ None → IsContent (content_by is_sequence ts)
 unfolding content_fault
 content_meets at true [] e = absurd (cc (some_shape [] e))
-content_meets at true (t ∷ ts) e = segments_meet at 0 1 (t ∷ ts) (first_none _ _ e) (some_shape (t ∷ ts) (rest_none (items_fault _ at 0 (t ∷ ts)) _ e)) refl
+content_meets at true (t ∷ ts) e = segments_meet at 0 1 (t ∷ ts) (first_none _ _ e) (some_shape (t ∷ ts) (rest_none (items_fault segment_fault at 0 (t ∷ ts)) _ e)) refl
 content_meets at false ts e = claims_meet at 0 ts e
 
 version_is : (at : List ℕ) (ps : List Pair) → first_fault at ps metadata_fields ≡ None → text_at (codes "format_version") ps ≡ codes "2.0"
@@ -58,9 +59,10 @@ entry_meets : (at : List ℕ) (t : Tree) → entry_fault at t ≡ None → ((ent
 unfolding entry_fault entry_in entry_by metadata_in
 entry_meets at t e =
     let f = sym (entry_chain at (all_pairs t)) ∙ item_meets at t (λ ps. entry_fields) (first_none _ _ e) in
-    let g = rest_none (row_fault at (all_pairs t) (needs (codes "entry_type") (AText (OneOf entry_types)))) _ f in
-    ( version_is _ _ (below_meets at (codes "metadata") (all_pairs t) metadata_fields (first_none _ _ g))
-    , content_meets _ (is_violation (all_pairs t)) (list_at (codes "content") (all_pairs t)) (rest_none (rows_fault at (λ ps. entry_fields) (pairs_in t)) _ e))
+    let g = rest_none (row_fault at (all_pairs t) (needs (codes "entry_type") (AText (OneOf entry_types)))) _ f in (
+      version_is _ _ (below_meets at (codes "metadata") (all_pairs t) metadata_fields (first_none _ _ g)),
+      content_meets _ (is_violation (all_pairs t)) (list_at (codes "content") (all_pairs t)) (rest_none (rows_fault at (λ ps. entry_fields) (pairs_in t)) _ e),
+    )
 
 entries_meet : (n : ℕ) (ts : List Tree) → items_fault entry_fault [] n ts ≡ None → AreEntries (map entry_in ts)
 entries_meet n [] e = tt

@@ -110,8 +110,8 @@ metadata_back v =
     (ap (text_at (codes "version")) p ∙ text_is (codes "version") (producer_pairs v) v.producer_version refl)
     (ap (λ ps. map text_or_empty (list_at (codes "input_files") ps)) t ∙ ap (map text_or_empty) (list_is (codes "input_files") (task_pairs v) _ refl) ∙ files_back v.input_files)
     (ap (λ ps. map hash_in (map_at (codes "input_file_hashes") ps)) t
-      ∙ ap (map hash_in) (map_at_there (codes "input_file_hashes") (task_pairs v) (map hash_pair v.input_hashes) (map_is _ (task_pairs v) _ refl))
-      ∙ hashes_back v.input_hashes)
+    ∙ ap (map hash_in) (map_at_there (codes "input_file_hashes") (task_pairs v) (map hash_pair v.input_hashes) (map_is _ (task_pairs v) _ refl))
+    ∙ hashes_back v.input_hashes)
     (ap (text_at (codes "specification")) t ∙ text_is (codes "specification") (task_pairs v) v.specification refl)
     (ap (text_at (codes "data_model")) t ∙ text_is (codes "data_model") (task_pairs v) v.data_model refl)
     (ap (text_at (codes "language")) t ∙ text_is (codes "language") (task_pairs v) v.language refl)

@@ -92,8 +92,8 @@ unfolding step_fault step_rows step_tree
 step_met at action v a h =
     rows_of_map at (one action v) step_rows
     (ap (λ k. first_fault at (one action v) (in_map (codes "waypoint") (waypoint_fields k))) (ap kind_at (inner action v) ∙ kind_there action v)
-      ∙ inside at (codes "waypoint") (one action v) (wrote action v) (waypoint_fields v.kind) (map_row at _ (one action v) _ refl) (map_is _ (one action v) _ refl)
-      ∙ waypoint_met _ action v a h)
+    ∙ inside at (codes "waypoint") (one action v) (wrote action v) (waypoint_fields v.kind) (map_row at _ (one action v) _ refl) (map_is _ (one action v) _ refl)
+    ∙ waypoint_met _ action v a h)
 
 pub step_back : (action : List ℕ) (v : Waypoint) → IsWaypoint v → step_in (step_tree action v) ≡ v
 unfolding step_in

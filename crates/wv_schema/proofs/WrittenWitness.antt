@@ -72,16 +72,16 @@ fields_met at v h =
     (both _ _
     (inside at (codes "metadata") (wrote v) (metadata_pairs v.metadata) metadata_fields (map_row at _ (wrote v) _ refl) (map_is _ (wrote v) _ refl) ∙ metadata_met _ v.metadata h)
     (first_more at (wrote v) (needs (codes "content") AList) []
-      ∙ both _ _ (list_row at (codes "content") (wrote v) (items v.content) (content_is v.content)) (first_end at (wrote v))))
+    ∙ both _ _ (list_row at (codes "content") (wrote v) (items v.content) (content_is v.content)) (first_end at (wrote v))))
 
 entry_met : (at : List ℕ) (v : Entry) → v.metadata.format_version ≡ codes "2.0" → IsContent v.content → entry_fault at (entry_tree v) ≡ None
 unfolding entry_fault entry_tree metadata_tree producer_tree task_tree
 entry_met at v h k =
     both _ _ (rows_of_map at (wrote v) (λ ps. entry_fields) (fields_met at v h))
     (ap (λ ps. content_fault (key_place at (codes "content")) (is_violation ps) (list_at (codes "content") ps)) (all_pairs_of_map (wrote v))
-      ∙ ap (λ b. content_fault (key_place at (codes "content")) b (list_at (codes "content") (wrote v))) (violation_there v)
-      ∙ ap (content_fault (key_place at (codes "content")) (violates v.content)) (content_there v)
-      ∙ content_met _ v.content k)
+    ∙ ap (λ b. content_fault (key_place at (codes "content")) b (list_at (codes "content") (wrote v))) (violation_there v)
+    ∙ ap (content_fault (key_place at (codes "content")) (violates v.content)) (content_there v)
+    ∙ content_met _ v.content k)
 
 abbrev entered : Metadata → Content → Entry
 entered m c = record { metadata = m; content = c }

@@ -1,6 +1,7 @@
 // The witness of a tree.
-ghost use Rattle.std.specs.Prelude.{◌≡◌, ◌<◌, IfOk, is_none, length};
-ghost use Rattle.wv_schema.specs.Shapes.{is_sequence, entries_fault};
+ghost use Rattle.std.specs.Prelude.{◌≡◌, ◌<◌, IfOk, count_by, is_none, length};
+ghost use Rattle.std.specs.List.{list_any};
+ghost use Rattle.wv_schema.specs.Shapes.{is_sequence, is_set, are_mixed, has_two_sequences, entries_fault};
 ghost use Rattle.wv_schema.specs.Rules.{MeetsSchema};
 ghost use Rattle.wv_schema.specs.Schema.{IsAnswer};
 
@@ -21,9 +22,30 @@ fn does_violate(entry: &Entry) -> bool
     }
 }
 
-/// Whether there is one violation sequence alone, or invariant sets alone.
-fn are_fit(entries: &[Entry]) -> bool
-    ensures { result ≡ is_none (entries_fault entries.now) }
+fn has_sequence(entries: &[Entry]) -> bool
+    ensures { result ≡ list_any is_sequence entries.now }
+{
+    for entry in entries {
+        if does_violate(entry) {
+            return true;
+        }
+    }
+    false
+}
+
+fn has_set(entries: &[Entry]) -> bool
+    ensures { result ≡ list_any is_set entries.now }
+{
+    for entry in entries {
+        if !does_violate(entry) {
+            return true;
+        }
+    }
+    false
+}
+
+fn count_sequences(entries: &[Entry]) -> usize
+    ensures { result ≡ count_by is_sequence entries.now }
 {
     let mut sequences: usize = 0;
     for entry in entries {
@@ -31,7 +53,32 @@ fn are_fit(entries: &[Entry]) -> bool
             sequences += 1;
         }
     }
-    sequences == 0 && !entries.is_empty() || sequences == 1 && entries.len() == 1
+    sequences
+}
+
+fn are_of_both_types(entries: &[Entry]) -> bool
+    ensures { result ≡ are_mixed entries.now }
+{
+    has_sequence(entries) && has_set(entries)
+}
+
+fn has_two(entries: &[Entry]) -> bool
+    ensures { result ≡ has_two_sequences entries.now }
+{
+    2 <= count_sequences(entries)
+}
+
+/// Whether there is one violation sequence alone, or invariant sets alone.
+fn are_fit(entries: &[Entry]) -> bool
+    ensures { result ≡ is_none (entries_fault entries.now) }
+{
+    if entries.is_empty() {
+        return false;
+    }
+    if are_of_both_types(entries) {
+        return false;
+    }
+    !has_two(entries)
 }
 
 /// The witness of a tree, or the first rule of the schema that isn't met, with its path.

@@ -132,8 +132,22 @@ fn missing_and_wrong(
 #[test]
 fn each_needed_field_is_missed_and_of_a_kind(rt: HostRuntime) -> Result<(), Fail> {
     let alloc = rt.alloc();
-    let violation = joined(alloc, &["-\n  entry_type: \"violation_sequence\"", METADATA, RETURN_AND_TARGET])?;
-    let invariants = joined(alloc, &["-\n  entry_type: \"invariant_set\"", METADATA, ONE_INVARIANT])?;
+    let violation = joined(
+        alloc,
+        &[
+            "-\n  entry_type: \"violation_sequence\"",
+            METADATA,
+            RETURN_AND_TARGET,
+        ],
+    )?;
+    let invariants = joined(
+        alloc,
+        &[
+            "-\n  entry_type: \"invariant_set\"",
+            METADATA,
+            ONE_INVARIANT,
+        ],
+    )?;
     let first = violation.as_str();
     let second = invariants.as_str();
     let list = "[]";
@@ -141,28 +155,136 @@ fn each_needed_field_is_missed_and_of_a_kind(rt: HostRuntime) -> Result<(), Fail
     for (text, start, key, other, path) in [
         (first, "\n  ", "entry_type", list, "[0].entry_type"),
         (first, "\n  ", "metadata", list, "[0].metadata"),
-        (first, "\n    ", "format_version", list, "[0].metadata.format_version"),
+        (
+            first,
+            "\n    ",
+            "format_version",
+            list,
+            "[0].metadata.format_version",
+        ),
         (first, "\n    ", "uuid", map, "[0].metadata.uuid"),
-        (first, "\n    ", "creation_time", list, "[0].metadata.creation_time"),
+        (
+            first,
+            "\n    ",
+            "creation_time",
+            list,
+            "[0].metadata.creation_time",
+        ),
         (first, "\n    ", "producer", list, "[0].metadata.producer"),
-        (first, "\n      ", "name", list, "[0].metadata.producer.name"),
-        (first, "\n      ", "version", list, "[0].metadata.producer.version"),
+        (
+            first,
+            "\n      ",
+            "name",
+            list,
+            "[0].metadata.producer.name",
+        ),
+        (
+            first,
+            "\n      ",
+            "version",
+            list,
+            "[0].metadata.producer.version",
+        ),
         (first, "\n    ", "task", "\"\"", "[0].metadata.task"),
-        (first, "\n      ", "input_files", map, "[0].metadata.task.input_files"),
-        (first, "\n      ", "input_file_hashes", list, "[0].metadata.task.input_file_hashes"),
-        (first, "\n      ", "specification", list, "[0].metadata.task.specification"),
-        (first, "\n      ", "data_model", list, "[0].metadata.task.data_model"),
-        (first, "\n      ", "language", list, "[0].metadata.task.language"),
+        (
+            first,
+            "\n      ",
+            "input_files",
+            map,
+            "[0].metadata.task.input_files",
+        ),
+        (
+            first,
+            "\n      ",
+            "input_file_hashes",
+            list,
+            "[0].metadata.task.input_file_hashes",
+        ),
+        (
+            first,
+            "\n      ",
+            "specification",
+            list,
+            "[0].metadata.task.specification",
+        ),
+        (
+            first,
+            "\n      ",
+            "data_model",
+            list,
+            "[0].metadata.task.data_model",
+        ),
+        (
+            first,
+            "\n      ",
+            "language",
+            list,
+            "[0].metadata.task.language",
+        ),
         (first, "\n  ", "content", map, "[0].content"),
-        (first, "\n            ", "type", list, "[0].content[0].segment[0].waypoint.type"),
-        (first, "\n            ", "action", list, "[0].content[0].segment[0].waypoint.action"),
-        (first, "\n            ", "location", list, "[0].content[0].segment[0].waypoint.location"),
-        (first, "\n              ", "line", list, "[0].content[0].segment[0].waypoint.location.line"),
-        (first, "\n              ", "value", list, "[0].content[0].segment[0].waypoint.constraint.value"),
-        (second, "\n        ", "type", list, "[0].content[0].invariant.type"),
-        (second, "\n        ", "location", list, "[0].content[0].invariant.location"),
-        (second, "\n          ", "line", map, "[0].content[0].invariant.location.line"),
-        (second, "\n        ", "value", list, "[0].content[0].invariant.value"),
+        (
+            first,
+            "\n            ",
+            "type",
+            list,
+            "[0].content[0].segment[0].waypoint.type",
+        ),
+        (
+            first,
+            "\n            ",
+            "action",
+            list,
+            "[0].content[0].segment[0].waypoint.action",
+        ),
+        (
+            first,
+            "\n            ",
+            "location",
+            list,
+            "[0].content[0].segment[0].waypoint.location",
+        ),
+        (
+            first,
+            "\n              ",
+            "line",
+            list,
+            "[0].content[0].segment[0].waypoint.location.line",
+        ),
+        (
+            first,
+            "\n              ",
+            "value",
+            list,
+            "[0].content[0].segment[0].waypoint.constraint.value",
+        ),
+        (
+            second,
+            "\n        ",
+            "type",
+            list,
+            "[0].content[0].invariant.type",
+        ),
+        (
+            second,
+            "\n        ",
+            "location",
+            list,
+            "[0].content[0].invariant.location",
+        ),
+        (
+            second,
+            "\n          ",
+            "line",
+            map,
+            "[0].content[0].invariant.location.line",
+        ),
+        (
+            second,
+            "\n        ",
+            "value",
+            list,
+            "[0].content[0].invariant.value",
+        ),
     ] {
         let (missing, wrong) = missing_and_wrong(alloc, text, start, key, other)?;
         let expected = format!(in alloc; "missing {path}")?;
@@ -183,42 +305,182 @@ fn each_rule_of_a_text_or_a_part_is_told(rt: HostRuntime) -> Result<(), Fail> {
     for (text, old, new, wanted) in [
         (first, "", "", "met"),
         (second, "", "", "met"),
-        (first, "violation_sequence", "violation", "value [0].entry_type"),
+        (
+            first,
+            "violation_sequence",
+            "violation",
+            "value [0].entry_type",
+        ),
         (first, "\"2.0\"", "\"2.1\"", "version"),
-        (first, "- \"p.c\"", "- []", "kind [0].metadata.task.input_files[0]"),
-        (first, "- \"p.c\"", "- q\n        - {}", "kind [0].metadata.task.input_files[1]"),
-        (first, ": \"HASH\"", ": []", "kind [0].metadata.task.input_file_hashes"),
-        (first, "- segment:", "- []\n    - segment:", "kind [0].content[0]"),
+        (
+            first,
+            "- \"p.c\"",
+            "- []",
+            "kind [0].metadata.task.input_files[0]",
+        ),
+        (
+            first,
+            "- \"p.c\"",
+            "- q\n        - {}",
+            "kind [0].metadata.task.input_files[1]",
+        ),
+        (
+            first,
+            ": \"HASH\"",
+            ": []",
+            "kind [0].metadata.task.input_file_hashes",
+        ),
+        (
+            first,
+            "- segment:",
+            "- []\n    - segment:",
+            "kind [0].content[0]",
+        ),
         (first, "segment:", "part:", "missing [0].content[0].segment"),
-        (first, "segment:", "segment: {}\n      x:", "kind [0].content[0].segment"),
-        (first, "- waypoint:", "- \"\"\n        - waypoint:", "kind [0].content[0].segment[0]"),
-        (first, "waypoint:", "x:", "missing [0].content[0].segment[0].waypoint"),
-        (first, "waypoint:", "waypoint: []\n          x:", "kind [0].content[0].segment[0].waypoint"),
-        (first, "function_return", "return", "value [0].content[0].segment[0].waypoint.type"),
-        (first, "follow", "Follow", "value [0].content[0].segment[0].waypoint.action"),
-        (first, "line: 4", "line: 0", "value [0].content[0].segment[0].waypoint.location.line"),
-        (first, "line: 4", "line: +4", "value [0].content[0].segment[0].waypoint.location.line"),
+        (
+            first,
+            "segment:",
+            "segment: {}\n      x:",
+            "kind [0].content[0].segment",
+        ),
+        (
+            first,
+            "- waypoint:",
+            "- \"\"\n        - waypoint:",
+            "kind [0].content[0].segment[0]",
+        ),
+        (
+            first,
+            "waypoint:",
+            "x:",
+            "missing [0].content[0].segment[0].waypoint",
+        ),
+        (
+            first,
+            "waypoint:",
+            "waypoint: []\n          x:",
+            "kind [0].content[0].segment[0].waypoint",
+        ),
+        (
+            first,
+            "function_return",
+            "return",
+            "value [0].content[0].segment[0].waypoint.type",
+        ),
+        (
+            first,
+            "follow",
+            "Follow",
+            "value [0].content[0].segment[0].waypoint.action",
+        ),
+        (
+            first,
+            "line: 4",
+            "line: 0",
+            "value [0].content[0].segment[0].waypoint.location.line",
+        ),
+        (
+            first,
+            "line: 4",
+            "line: +4",
+            "value [0].content[0].segment[0].waypoint.location.line",
+        ),
         (first, "line: 4", "line: 0000004", "met"),
-        (first, "line: 4", "line: 00000004", "value [0].content[0].segment[0].waypoint.location.line"),
-        (first, "line: 4", "line: 12345678", "value [0].content[0].segment[0].waypoint.location.line"),
+        (
+            first,
+            "line: 4",
+            "line: 00000004",
+            "value [0].content[0].segment[0].waypoint.location.line",
+        ),
+        (
+            first,
+            "line: 4",
+            "line: 12345678",
+            "value [0].content[0].segment[0].waypoint.location.line",
+        ),
         (first, "column: 33", "x: 33", "met"),
-        (first, "column: 33", "column: x", "value [0].content[0].segment[0].waypoint.location.column"),
-        (first, "column: 33", "column: []", "kind [0].content[0].segment[0].waypoint.location.column"),
-        (first, "column: 33", "file_name: []", "kind [0].content[0].segment[0].waypoint.location.file_name"),
-        (first, "column: 33", "function: {}", "kind [0].content[0].segment[0].waypoint.location.function"),
+        (
+            first,
+            "column: 33",
+            "column: x",
+            "value [0].content[0].segment[0].waypoint.location.column",
+        ),
+        (
+            first,
+            "column: 33",
+            "column: []",
+            "kind [0].content[0].segment[0].waypoint.location.column",
+        ),
+        (
+            first,
+            "column: 33",
+            "file_name: []",
+            "kind [0].content[0].segment[0].waypoint.location.file_name",
+        ),
+        (
+            first,
+            "column: 33",
+            "function: {}",
+            "kind [0].content[0].segment[0].waypoint.location.function",
+        ),
         (first, "constraint:", "x:", "met"),
-        (first, "constraint:", "constraint: []\n            x:", "kind [0].content[0].segment[0].waypoint.constraint"),
-        (first, "c_expression", "expression", "value [0].content[0].segment[0].waypoint.constraint.format"),
-        (first, "\"c_expression\"", "[]", "kind [0].content[0].segment[0].waypoint.constraint.format"),
-        (second, "- invariant:", "- []\n    - invariant:", "kind [0].content[0]"),
-        (second, "invariant:", "x:", "missing [0].content[0].invariant"),
-        (second, "invariant:", "invariant: []\n      x:", "kind [0].content[0].invariant"),
-        (second, "loop_invariant", "loop", "value [0].content[0].invariant.type"),
+        (
+            first,
+            "constraint:",
+            "constraint: []\n            x:",
+            "kind [0].content[0].segment[0].waypoint.constraint",
+        ),
+        (
+            first,
+            "c_expression",
+            "expression",
+            "value [0].content[0].segment[0].waypoint.constraint.format",
+        ),
+        (
+            first,
+            "\"c_expression\"",
+            "[]",
+            "kind [0].content[0].segment[0].waypoint.constraint.format",
+        ),
+        (
+            second,
+            "- invariant:",
+            "- []\n    - invariant:",
+            "kind [0].content[0]",
+        ),
+        (
+            second,
+            "invariant:",
+            "x:",
+            "missing [0].content[0].invariant",
+        ),
+        (
+            second,
+            "invariant:",
+            "invariant: []\n      x:",
+            "kind [0].content[0].invariant",
+        ),
+        (
+            second,
+            "loop_invariant",
+            "loop",
+            "value [0].content[0].invariant.type",
+        ),
         (second, "loop_invariant", "location_invariant", "met"),
-        (second, "column: 12", "column: 0", "value [0].content[0].invariant.location.column"),
+        (
+            second,
+            "column: 12",
+            "column: 0",
+            "value [0].content[0].invariant.location.column",
+        ),
         (second, "c_expression", "acsl_expression", "met"),
         (second, "c_expression", "ext_c_expression", "met"),
-        (second, "c_expression", "expression", "value [0].content[0].invariant.format"),
+        (
+            second,
+            "c_expression",
+            "expression",
+            "value [0].content[0].invariant.format",
+        ),
     ] {
         let edited = replaced(alloc, text, old, new)?;
         let told = answer(alloc, edited.as_str())?;
@@ -290,7 +552,12 @@ fn segments_have_a_form(rt: HostRuntime) -> Result<(), Fail> {
     let avoid = waypoint(alloc, "function_enter", "avoid", "")?;
     let target = waypoint(alloc, "target", "follow", "")?;
     let stray = waypoint(alloc, "target", "avoid", "")?;
-    let (f, a, t, s) = (enter.as_str(), avoid.as_str(), target.as_str(), stray.as_str());
+    let (f, a, t, s) = (
+        enter.as_str(),
+        avoid.as_str(),
+        target.as_str(),
+        stray.as_str(),
+    );
     let next = "    - segment:\n";
     let none = "    - segment: []\n";
     for (parts, wanted) in [

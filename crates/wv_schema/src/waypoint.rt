@@ -1,5 +1,5 @@
 // The waypoints of a segment.
-ghost use Rattle.std.specs.Prelude.{◌≡◌, codes};
+ghost use Rattle.std.specs.Prelude.{◌≡◌, ◌&&◌, codes};
 ghost use Rattle.wv_schema.specs.declared.waypoint.Step.{Step};
 ghost use Rattle.wv_schema.specs.declared.waypoint.Avoids.{Avoids};
 ghost use Rattle.wv_schema.specs.Table.{in_map, waypoint_fields};
@@ -96,6 +96,12 @@ fn is_avoid(step: &Step) -> bool
     !step.is_follow && step.waypoint.kind != WayKind::Target
 }
 
+fn stay_fit(are_fit: bool, step: &Step) -> bool
+    ensures { result ≡ (are_fit && is_avoid_step step.now) }
+{
+    are_fit && is_avoid(step)
+}
+
 /// The waypoints before a segment's last.
 pub fn avoids_of(alloc: Global, at: &str, items: &[Tree]) -> Result<Avoids, SchemaFault>
     ensures { Gives (λ (a : Avoids). a) result (items_fault step_fault at.now 0 items.now) (avoids_in items.now) }
@@ -105,7 +111,7 @@ pub fn avoids_of(alloc: Global, at: &str, items: &[Tree]) -> Result<Avoids, Sche
     for (index, item) in items.iter().enumerate() {
         let place = place_of_item(alloc, at, index)?;
         let step = step_of(alloc, place.as_str(), item)?;
-        are_fit = are_fit && is_avoid(&step);
+        are_fit = stay_fit(are_fit, &step);
         waypoints.push(step.waypoint)?;
     }
     Ok(Avoids { waypoints, are_fit })

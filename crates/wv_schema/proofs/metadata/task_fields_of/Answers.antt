@@ -42,5 +42,5 @@ unfolding first_fault task_fields
 returns c = (
   both _ _ c.in_ok-input_files.ensures.0 (both _ _ c.in_ok-input_hashes.ensures.0
       (both _ _ c.in_ok-specification.ensures.0 (both _ _ c.in_ok-data_model.ensures.0 (both _ _ c.in_ok-language.ensures.0 refl)))),
-  task_is c.args.pairs.now _ _ _ _ _ c.in_ok-input_files.ensures.1 c.in_ok-input_hashes.ensures.1 c.in_ok-specification.ensures.1 c.in_ok-data_model.ensures.1 c.in_ok-language.ensures.1
+  task_is c.args.pairs.now _ _ _ _ _ c.in_ok-input_files.ensures.1 c.in_ok-input_hashes.ensures.1 c.in_ok-specification.ensures.1 c.in_ok-data_model.ensures.1 c.in_ok-language.ensures.1,
 )

@@ -17,6 +17,6 @@ pub returns-in-Some : goal.returns-in-Some
 unfolding segment_fault steps_in all_pairs
 returns-in-Some c =
     subst (λ o. Gives (λ x. x) c.segment_in_map.result
-      (option_or (rows_fault c.args.at.now (λ ps. segment_fields) o)
-        (items_fault step_fault (key_place c.args.at.now (codes "segment")) 0 (list_at (codes "segment") (unwrap_or o []))))
-      (segment_by c.args.is_final (list_at (codes "segment") (unwrap_or o [])))) c.in-Some.ensures c.segment_in_map.ensures
+    (option_or (rows_fault c.args.at.now (λ ps. segment_fields) o)
+    (items_fault step_fault (key_place c.args.at.now (codes "segment")) 0 (list_at (codes "segment") (unwrap_or o []))))
+    (segment_by c.args.is_final (list_at (codes "segment") (unwrap_or o [])))) c.in-Some.ensures c.segment_in_map.ensures

@@ -1,0 +1,7 @@
+use Rattle.std.proofs.Common.{◌≡◌, drop}
+use Rattle.std.specs.List.{list_any}
+use Rattle.wv_schema.specs.Shapes.{is_set}
+use Rattle.wv_schema.proofs.schema.has_set.Given as goal
+
+abbrev pub invariant-loop-entry : goal.invariant-loop-entry
+invariant-loop-entry l = list_any is_set (drop l.entry-index l.entries) ≡ list_any is_set l.entries
