@@ -28,6 +28,8 @@ pub use witness::{
 };
 
 #[cfg(test)]
-mod schema_tests;
+mod field_tests;
+#[cfg(test)]
+mod rule_tests;
 #[cfg(test)]
 mod tests;
