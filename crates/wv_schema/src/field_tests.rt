@@ -2,7 +2,7 @@
 use crate::{SchemaFault, tree_of, witness_of};
 use std::alloc::Global;
 use std::test::Fail;
-use wv_base::{OutOfMemory, Text};
+use wv_base::OutOfMemory;
 use wv_yaml::{read, write};
 
 /// Everything before the entries' content.
@@ -74,20 +74,25 @@ pub(crate) fn joined(alloc: Global, parts: &[&str]) -> Result<String, OutOfMemor
     Ok(text)
 }
 
+fn told(alloc: Global, fault: &SchemaFault) -> Result<String, OutOfMemory> {
+    match fault {
+        SchemaFault::Missing(path) => Ok(format!(in alloc; "missing {}", path.as_str())?),
+        SchemaFault::WrongKind(path) => Ok(format!(in alloc; "kind {}", path.as_str())?),
+        SchemaFault::BadValue(path) => Ok(format!(in alloc; "value {}", path.as_str())?),
+        SchemaFault::Version => Ok(String::from_str(alloc, "version ")?),
+        SchemaFault::Shape(number) => Ok(format!(in alloc; "shape {number}")?),
+        SchemaFault::Entries => Ok(String::from_str(alloc, "entries ")?),
+        SchemaFault::OutOfMemory => Ok(String::from_str(alloc, "memory ")?),
+    }
+}
+
 /// What is said of a text: the fault, and behind a blank its path or number.
 pub(crate) fn answer(alloc: Global, text: &str) -> Result<String, Fail> {
     let tree = read(alloc, text.as_bytes())?;
-    let (fault, path) = match witness_of(alloc, &tree) {
-        Ok(_) => ("met", Text::new(alloc)),
-        Err(SchemaFault::Missing(path)) => ("missing", path),
-        Err(SchemaFault::WrongKind(path)) => ("kind", path),
-        Err(SchemaFault::BadValue(path)) => ("value", path),
-        Err(SchemaFault::Version) => ("version", Text::new(alloc)),
-        Err(SchemaFault::Shape(number)) => return Ok(format!(in alloc; "shape {number}")?),
-        Err(SchemaFault::Entries) => ("entries", Text::new(alloc)),
-        Err(SchemaFault::OutOfMemory) => ("memory", Text::new(alloc)),
-    };
-    Ok(format!(in alloc; "{fault} {}", path.as_str())?)
+    match witness_of(alloc, &tree) {
+        Ok(_) => Ok(String::from_str(alloc, "met ")?),
+        Err(fault) => Ok(told(alloc, &fault)?),
+    }
 }
 
 /// The text with the first occurrence of a part replaced.
