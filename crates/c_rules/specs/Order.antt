@@ -6,12 +6,11 @@ use Rattle.c_core.specs.declared.tree.Callee.{Callee}
 use Rattle.c_core.specs.declared.tree.Callee.TheVariants as callee
 use Rattle.c_parser.specs.Tree as raw
 use Rattle.c_parser.specs.Tree.{Exp, Expr, Node, Number, Char, Var, Index, Unary, Cast, Step, Binary, Logic, Choose, Comma, Assign, Call, Exps, NoExp, MoreExp}
-use Rattle.c_check.specs.Names as kind
-use Rattle.c_check.specs.Names.{Kind, Entry, named}
-use Rattle.c_check.specs.Typed.{callee_of}
-use Rattle.c_check.specs.Codes.{is_function}
-use Rattle.c_check.specs.Scopes.{Scope, seen, after_item, outermost}
-use Rattle.c_check.specs.Parts.{Value, Target, Part, Expression, Initializing, parts, parts_in, parts_of_body, bodies_of}
+use Rattle.c_rules.specs.Names as kind
+use Rattle.c_rules.specs.Names.{Kind, Entry, named, is_function}
+use Rattle.c_rules.specs.Typed.{callee_of}
+use Rattle.c_rules.specs.Scopes.{Scope, seen, after_item, outermost}
+use Rattle.c_rules.specs.Parts.{Value, Target, Part, Expression, Initializing, parts, parts_in, parts_of_body, bodies_of}
 
 abbrev pub is_object : ℕ → Option Kind → Bool
 is_object o (Some (kind.Object n ty array fixed)) = nat_eq n o

@@ -10,14 +10,16 @@ use Rattle.c_parser.specs.ReadItems.{Outcome, Source, Syntax, read_items}
 use Rattle.c_parser.specs.ReadExpressions.{level, within}
 use Rattle.c_parser.specs.ReadStatements.{header_within, statement_level, braced_within}
 use Rattle.c_parser.specs.Shown.{tokens_of}
-use Rattle.c_check.specs.declared.fault.CheckCode.{CheckCode}
-use Rattle.c_check.specs.declared.fault.CheckCode.TheVariants as code
-use Rattle.c_check.specs.Names.{Entry}
-use Rattle.c_check.specs.Scopes.{seen, outermost, after_items}
-use Rattle.c_check.specs.Parts.{Value, Part, Expression, Initializing, parts, parts_of_source, bodies_of}
-use Rattle.c_check.specs.Codes.{nameless, doubled, mistyped, missized, bodiless, crowded}
-use Rattle.c_check.specs.Order.{is_object, is_static, object_named, reads, changes, calls_function, parts_of_bodies, operands, parts_below}
-use Rattle.c_check.specs.First.{Refusal, refusal, comes_first, place, wrong_main}
+use Rattle.c_rules.specs.declared.fault.CheckCode.{CheckCode}
+use Rattle.c_rules.specs.declared.fault.CheckCode.TheVariants as code
+use Rattle.c_rules.specs.declared.fault.Refusal.{Refusal}
+use Rattle.c_rules.specs.Names.{Entry}
+use Rattle.c_rules.specs.Scopes.{seen, outermost, after_items}
+use Rattle.c_rules.specs.Parts.{Value, Part, Expression, Initializing, parts, parts_of_source, bodies_of}
+use Rattle.c_rules.specs.Codes.{nameless, doubled, mistyped, missized, bodiless, crowded}
+use Rattle.c_rules.specs.Order.{is_object, is_static, object_named, reads, changes, calls_function, parts_of_bodies, operands, parts_below}
+use Rattle.c_rules.specs.Noting.{noted}
+use Rattle.c_rules.specs.First.{refusal, comes_first, place, wrong_main}
 
 abbrev pub body_at : List (List Part) → ℕ → List Part
 body_at bodies k = cond (nat_lt k (length bodies)) (or_none (slice_get bodies k)) []
@@ -86,11 +88,6 @@ module _ (m : DataModel) (items : List raw.Item) (bodies : List (List Part)) (ob
   holds code.Body part = bodiless m items part
   holds code.Main part = false
   holds code.Cells part = crowded m items part
-
-  abbrev pub noted : Option Refusal → Bool → Refusal → Option Refusal
-  noted best false r = best
-  noted None true r = Some r
-  noted (Some f) true r = cond (comes_first r f) (Some r) (Some f)
 
   abbrev pub judged_by : List CheckCode → Part → Option Refusal → Option Refusal
   judged_by [] part best = best

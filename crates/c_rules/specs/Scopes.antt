@@ -4,10 +4,10 @@ use Rattle.c_core.specs.declared.number.IntType.{IntType}
 use Rattle.c_core.specs.declared.number.DataModel.{DataModel}
 use Rattle.c_core.specs.declared.tree.Object.{Object}
 use Rattle.c_parser.specs.Tree as raw
-use Rattle.c_check.specs.Names as kind
-use Rattle.c_check.specs.Names.{Kind, Entry, entry, built_in, is_input}
-use Rattle.c_check.specs.Constants.{constant}
-use Rattle.c_check.specs.Typed.{typed}
+use Rattle.c_rules.specs.Names as kind
+use Rattle.c_rules.specs.Names.{Kind, Entry, entry, built_in, is_input}
+use Rattle.c_rules.specs.Constants.{constant}
+use Rattle.c_rules.specs.Typed.{typed}
 
 -- the names of the scopes around, those of the innermost scope, and the objects of the source so far
 pub record Scope : Type 0 where

@@ -5,8 +5,8 @@ use Rattle.c_core.specs.declared.number.DataModel.{DataModel}
 use Rattle.c_core.specs.declared.number.Spot.{Spot}
 use Rattle.c_parser.specs.Tree as raw
 use Rattle.c_parser.specs.Tree.{Exp, Expr, Node, Number, Char, Var, Index, Unary, Cast, Step, Binary, Logic, Choose, Comma, Assign, Call, Exps, NoExp, MoreExp}
-use Rattle.c_check.specs.Names.{Entry}
-use Rattle.c_check.specs.Scopes.{Scope, seen, opened, closed, with_object, after_name, after_first, after_statement, after_item, after_parameters, inside, parameter, statements_of, entry_of_function, entry_of_prototype, outermost}
+use Rattle.c_rules.specs.Names.{Entry}
+use Rattle.c_rules.specs.Scopes.{Scope, seen, opened, closed, with_object, after_name, after_first, after_statement, after_item, after_parameters, inside, parameter, statements_of, entry_of_function, entry_of_prototype, outermost}
 
 -- what an expression is there for: its value, what is stored to it, or its effect, where it may be void
 pub data Role : Type 0 where

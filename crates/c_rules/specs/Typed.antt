@@ -1,6 +1,6 @@
 -- The typed tree of an expression, with the numbers of its objects (C11 6.5). It is there for refused sources too: an unknown
 -- name counts as an `int`, and so does void where a value is needed.
-use Rattle.std.specs.Prelude.{ℕ, List, pos, Option, Some, None}
+use Rattle.std.specs.Prelude.{ℕ, Bool, true, false, List, length, pos, Option, Some, None}
 use Rattle.std.specs.List.{position_or_len}
 use Rattle.std.specs.Str.{bytes_eq}
 use Rattle.c_core.specs.Types.{promote_of, common_of}
@@ -16,8 +16,8 @@ use Rattle.c_core.specs.declared.number.UnOp.TheVariants.{Plus, Neg, BitNot, Not
 use Rattle.c_core.specs.declared.tree.Callee.{Callee}
 use Rattle.c_core.specs.declared.tree.Callee.TheVariants.{Defined}
 use Rattle.c_parser.specs.Tree.{Exp, Expr, Node, Number, Char, Var, Index, Unary, Cast, Step, Binary, Logic, Choose, Comma, Assign, Call, Exps, NoExp, MoreExp}
-use Rattle.c_check.specs.Names.{Kind, Object, Function, Closed, Entry, named, built_in}
-use Rattle.c_check.specs.Constants.{constant_type, valued}
+use Rattle.c_rules.specs.Names.{Kind, Object, Function, Closed, Entry, named, is_function, built_in}
+use Rattle.c_rules.specs.Constants.{constant_type, valued}
 
 -- the number of no object
 abbrev pub no_object : ℕ
@@ -63,6 +63,11 @@ callee_or (Some callee) f = callee
 abbrev pub callee_of : List (List ℕ) → List ℕ → Callee
 callee_of bodies x = callee_or (built_in x) (position_or_len (bytes_eq x) bodies)
 
+-- what isn't declared as a function is none of those with a body
+abbrev pub callee_for : Bool → List (List ℕ) → List ℕ → Callee
+callee_for true bodies x = callee_of bodies x
+callee_for false bodies x = Defined (length bodies)
+
 -- the names of the functions with a body; the names in scope
 module _ (m : DataModel) (bodies : List (List ℕ)) (es : List Entry) where
   abbrev mutual
@@ -82,7 +87,7 @@ module _ (m : DataModel) (bodies : List (List ℕ)) (es : List Entry) where
     typed_node p (Choose mark e a b) = t.Expr p (choice_type m (type_of (typed a)) (type_of (typed b))) (t.Choose mark (typed e) (typed a) (typed b))
     typed_node p (Comma a b) = t.Expr p (type_of (typed b)) (t.Comma (typed a) (typed b))
     typed_node p (Assign op a b) = t.Expr p (Some (valued (type_of (typed a)))) (t.Assign op (typed a) (typed b))
-    typed_node p (Call f w gs close) = t.Expr p (result_named (named es f)) (t.Call (callee_of bodies f) (typed_all gs) close)
+    typed_node p (Call f w gs close) = t.Expr p (result_named (named es f)) (t.Call (callee_for (is_function (named es f)) bodies f) (typed_all gs) close)
 
     pub typed_all : Exps → t.Exps
     typed_all NoExp = t.NoExp

@@ -22,6 +22,13 @@ pub enum CheckCode {
     Cells,
 }
 
+/// A code with the place where it is told.
+#[derive(Clone, Copy, Debug, PartialEq, Eq)]
+pub struct Refusal {
+    pub code: CheckCode,
+    pub spot: Spot,
+}
+
 /// Why there is no program.
 #[derive(Clone, Copy, Debug, PartialEq, Eq)]
 pub enum CheckFault {
@@ -31,7 +38,7 @@ pub enum CheckFault {
 
 impl From<OutOfMemory> for CheckFault {
     ghost use Rattle.std.specs.Prelude.{◌≡◌};
-    ghost use Rattle.c_check.specs.declared.fault.CheckFault.TheVariants.{OutOfMemory as NoMemory};
+    ghost use Rattle.c_rules.specs.declared.fault.CheckFault.TheVariants.{OutOfMemory as NoMemory};
 
     ghost from_gives = { λ _ fault. fault ≡ NoMemory };
 

@@ -6,6 +6,7 @@ pub mod Parts
 pub mod Codes
 pub mod Order
 pub mod First
+pub mod Noting
 pub mod Checked
 pub mod Deciding
 pub mod NameExamples

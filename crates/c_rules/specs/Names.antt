@@ -93,3 +93,9 @@ or_built_in o None = o
 -- what a word stands for
 abbrev pub named : List Entry → List ℕ → Option Kind
 named es x = or_built_in (declared_as es x) (built_in x)
+
+abbrev pub is_function : Option Kind → Bool
+is_function None = false
+is_function (Some (Object n ty array fixed)) = false
+is_function (Some (Function result stated has_body)) = true
+is_function (Some Closed) = true

@@ -13,12 +13,12 @@ use Rattle.c_core.specs.declared.tree.Callee.{Callee}
 use Rattle.c_core.specs.declared.tree.Callee.TheVariants as callee
 use Rattle.c_parser.specs.Tree as raw
 use Rattle.c_parser.specs.Tree.{Exp, Expr, Node, Number, Char, Var, Index, Unary, Cast, Step, Binary, Logic, Choose, Comma, Assign, Call, Exps, NoExp, MoreExp}
-use Rattle.c_check.specs.Names as kind
-use Rattle.c_check.specs.Names.{Kind, Entry, entry, built_in, named, result_of_callee, parameters_of_callee}
-use Rattle.c_check.specs.Constants.{constant, constant_type}
-use Rattle.c_check.specs.Typed.{typed}
-use Rattle.c_check.specs.Scopes.{Scope, seen, object_of, size_of}
-use Rattle.c_check.specs.Parts.{Role, Value, Target, Effect, Part, Expression, Declaring, Naming, Initializing, Returning, Leaving, Labelling, bodies_of}
+use Rattle.c_rules.specs.Names as kind
+use Rattle.c_rules.specs.Names.{Kind, Entry, entry, built_in, named, is_function, result_of_callee, parameters_of_callee}
+use Rattle.c_rules.specs.Constants.{constant, constant_type}
+use Rattle.c_rules.specs.Typed.{typed}
+use Rattle.c_rules.specs.Scopes.{Scope, seen, object_of, size_of}
+use Rattle.c_rules.specs.Parts.{Role, Value, Target, Effect, Part, Expression, Declaring, Naming, Initializing, Returning, Leaving, Labelling, bodies_of}
 
 abbrev pub is_among : List (List ℕ) → List ℕ → Bool
 is_among names x = list_any (bytes_eq x) names
@@ -170,12 +170,6 @@ abbrev pub closed_names : List raw.Item → List (List ℕ)
 closed_names [] = []
 closed_names (raw.Closed p name ∷ rest) = name ∷ closed_names rest
 closed_names (item ∷ rest) = closed_names rest
-
-abbrev pub is_function : Option Kind → Bool
-is_function None = false
-is_function (Some (kind.Object n ty array fixed)) = false
-is_function (Some (kind.Function result stated has_body)) = true
-is_function (Some kind.Closed) = true
 
 abbrev pub cells_in : List Object → ℕ
 cells_in objects = sum_by (λ o. o.cells) objects

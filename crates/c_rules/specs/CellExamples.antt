@@ -4,9 +4,9 @@ use Rattle.c_core.specs.declared.number.DataModel.TheVariants.{Ilp32}
 use Rattle.c_core.specs.declared.number.IntType.TheVariants.{Int}
 use Rattle.c_core.specs.declared.tree.Object.{Object}
 use Rattle.c_parser.specs.Tree.{Param}
-use Rattle.c_check.specs.Scopes.{scope}
-use Rattle.c_check.specs.Parts.{parts_of_parameters}
-use Rattle.c_check.specs.Codes.{crowded}
+use Rattle.c_rules.specs.Scopes.{scope}
+use Rattle.c_rules.specs.Parts.{parts_of_parameters}
+use Rattle.c_rules.specs.Codes.{crowded}
 
 abbrev many : Object
 many = record { name = codes "a"; ty = Int; cells = 99999; array = true; fixed = true; spot = record { line = 1; column = 5 } }

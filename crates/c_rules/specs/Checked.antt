@@ -10,12 +10,12 @@ use Rattle.c_core.specs.declared.number.Property.{Property}
 use Rattle.c_core.specs.declared.number.Spot.{Spot}
 use Rattle.c_core.specs.declared.tree.Start.{Start}
 use Rattle.c_parser.specs.Tree as raw
-use Rattle.c_check.specs.Names.{Entry}
-use Rattle.c_check.specs.Constants.{constant}
-use Rattle.c_check.specs.Typed.{typed, typed_all}
-use Rattle.c_check.specs.Scopes.{Scope, seen, opened, closed, after_name, after_first, after_statement, after_item, after_items, after_parameters, inside, statements_of, outermost}
-use Rattle.c_check.specs.Parts.{bodies_of}
-use Rattle.c_check.specs.First.{IsUnrefused, wrong_main}
+use Rattle.c_rules.specs.Names.{Entry}
+use Rattle.c_rules.specs.Constants.{constant}
+use Rattle.c_rules.specs.Typed.{typed, typed_all}
+use Rattle.c_rules.specs.Scopes.{Scope, seen, opened, closed, after_name, after_first, after_statement, after_item, after_items, after_parameters, inside, statements_of, outermost}
+use Rattle.c_rules.specs.Parts.{bodies_of}
+use Rattle.c_rules.specs.First.{IsUnrefused, wrong_main}
 
 module _ (m : DataModel) (bodies : List (List ℕ)) where
   abbrev pub typed_if : List Entry → Option raw.Exp → Option t.Exp

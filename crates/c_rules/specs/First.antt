@@ -9,15 +9,12 @@ use Rattle.c_core.specs.declared.number.IntType.TheVariants as ty
 use Rattle.c_core.specs.declared.number.DataModel.{DataModel}
 use Rattle.c_core.specs.declared.number.Spot.{Spot}
 use Rattle.c_parser.specs.Tree as raw
-use Rattle.c_check.specs.declared.fault.CheckCode.{CheckCode}
-use Rattle.c_check.specs.declared.fault.CheckCode.TheVariants as code
-use Rattle.c_check.specs.Parts.{Part, parts_of_source}
-use Rattle.c_check.specs.Codes.{nameless, doubled, mistyped, missized, bodiless, crowded, place_of, place_of_name}
-use Rattle.c_check.specs.Order.{IsUnordered}
-
-pub record Refusal : Type 0 where
-  pub code : CheckCode
-  pub spot : Spot
+use Rattle.c_rules.specs.declared.fault.CheckCode.{CheckCode}
+use Rattle.c_rules.specs.declared.fault.CheckCode.TheVariants as code
+use Rattle.c_rules.specs.declared.fault.Refusal.{Refusal}
+use Rattle.c_rules.specs.Parts.{Part, parts_of_source}
+use Rattle.c_rules.specs.Codes.{nameless, doubled, mistyped, missized, bodiless, crowded, place_of, place_of_name}
+use Rattle.c_rules.specs.Order.{IsUnordered}
 
 abbrev pub refusal : CheckCode → Spot → Refusal
 refusal c p = record { code = c; spot = p }

@@ -1,0 +1,7 @@
+//! The rules of names, types and order of operands in C sources, as definitions: which parts of a source are refused, by which code
+//! and where; which refusal is the first; the program of a source that isn't refused.
+#![tactic(auto)]
+
+mod fault;
+
+pub use fault::{CheckCode, CheckFault, Refusal};
