@@ -31,6 +31,7 @@ mod FormedExpressions
 mod FormedStatements
 mod NestedStatements
 mod FormedItems
+mod OrderlyTokens
 mod SpelledExamples
 mod Views
 mod ReadSteps

@@ -1,7 +1,8 @@
 // Laws of the grammar, each the contract of a function without a body.
-ghost use Rattle.std.specs.Prelude.{◌≡◌, ◌≤◌, ◌⊎◌, ℕ, true, List, [], Option};
+ghost use Rattle.std.specs.Prelude.{◌≡◌, ◌<◌, ◌≤◌, ◌^◌, ◌⊎◌, ℕ, true, List, [], Option, length};
 ghost use Rattle.c_core.specs.TextOrder.{rises};
 ghost use Rattle.c_core.specs.declared.number.Spot.{Spot};
+ghost use Rattle.c_tokens.specs.Reading.{Ending, Tokens};
 ghost use Rattle.c_tokens.specs.declared.token.Token.{Token};
 ghost use Rattle.c_parser.specs.Tree.{Exp, Item};
 ghost use Rattle.c_parser.specs.Expressions.{Spells};
@@ -48,4 +49,9 @@ pub fn text_order()
 /// What orderly tokens spell meets the invariant of a source.
 pub fn sources_are_formed()
     ensures { (ts : List Token) (xs : List Item) → AreOrderly ts → IsSource ts xs → IsFormed xs }
+{}
+
+/// The tokens of a text are orderly.
+pub fn tokens_are_orderly()
+    ensures { (text : List ℕ) (ts : List Token) (end : Ending) → length text < 2 ^ 30 → Tokens text ts end → AreOrderly ts }
 {}
