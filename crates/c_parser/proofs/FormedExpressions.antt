@@ -1,6 +1,7 @@
 -- Every node of an expression that tokens spell passes each test that the nodes of the grammar pass by themselves.
-use Rattle.std.proofs.Common.{◌≡◌, ℕ, zero, suc, List, [], ◌∷◌, Bool, true, false, ◌&&◌, refl, sym, subst, nat_le, Some}
+use Rattle.std.proofs.Common.{◌≡◌, ℕ, zero, suc, ℤ, List, [], ◌∷◌, Bool, true, false, ◌&&◌, refl, sym, subst, nat_le, Some}
 use Rattle.c_core.proofs.TextOrderLaws.{left}
+use Rattle.c_core.specs.Types.{fits_signed}
 use Rattle.c_core.specs.declared.number.Spot.{Spot}
 use Rattle.c_core.specs.declared.number.BinOp.{BinOp}
 use Rattle.c_tokens.specs.declared.token.Token.{Token}
@@ -8,7 +9,7 @@ use Rattle.c_tokens.specs.declared.token.TokenKind.TheVariants as kind
 use Rattle.c_tokens.specs.declared.token.Punct.{Punct}
 use Rattle.c_parser.specs.Tree.{Exp, Expr, Node, exps, moved}
 use Rattle.c_parser.specs.Tree as node
-use Rattle.c_parser.specs.Formed.{every_node, every_part, every_argument, kind_fits, numbers_fit}
+use Rattle.c_parser.specs.Formed.{every_node, every_part, every_argument, kind_fits, constants_fit}
 use Rattle.c_parser.specs.Signs.{token, Joint, Sequence, Both, Either, Plain, joined, assigns}
 use Rattle.c_parser.specs.Expressions.{Arguments, LastArgument, MoreArguments, Expression, Stronger, Joined, Assigned, Chosen, SteppedBefore, Signed, Converted, SteppedBehind, AName, AnElement, ABareCall, ACall, ANumber, ACharacter, AGroup, Within, has_room, Spells}
 use Rattle.c_parser.proofs.OrderedExpressions.{names_passed}
@@ -17,6 +18,7 @@ use Rattle.c_parser.proofs.Passing.{Passing, and_true, nothing_passed, past, bot
 -- what the grammar says of a node by itself
 abbrev pub IsSpelled : Node → Type 0
 IsSpelled (node.Number v decimal unsigned longs) = nat_le longs 2 ≡ true
+IsSpelled (node.Char v) = fits_signed 32 v ≡ true
 IsSpelled (node.Assign op a b) = (s : Punct) × (assigns s ≡ Some op)
 IsSpelled _ = Unit {0}
 
@@ -35,6 +37,12 @@ module _ (q : Node → Bool) (passes : (n : Node) → IsSpelled n → q n ≡ tr
   of_number v decimal unsigned longs p rest = record {
     holds = λ f. and_true (q (node.Number v decimal unsigned longs)) true (passes (node.Number v decimal unsigned longs) (left (nat_le longs 2) _ f)) refl;
     behind = λ f. (past {t = token (kind.Number v decimal unsigned longs) p} (nothing_passed {rest = rest})).behind f;
+  }
+
+  of_character : (v : ℤ) (p : Spot) (rest : List Token) → Passing (every_node q (Expr p (node.Char v))) (token (kind.Char v) p ∷ rest) rest
+  of_character v p rest = record {
+    holds = λ f. and_true (q (node.Char v)) true (passes (node.Char v) (left (fits_signed 32 v) _ f)) refl;
+    behind = λ f. (past {t = token (kind.Char v) p} (nothing_passed {rest = rest})).behind f;
   }
 
   of_moved : {ts rest : List Token} (p : Spot) (e : Exp) → Passing (every_node q e) ts rest → Passing (every_node q (moved p e)) ts rest
@@ -61,7 +69,7 @@ module _ (q : Node → Bool) (passes : (n : Node) → IsSpelled n → q n ≡ tr
     expression_pass k ts e rest (ABareCall {w = w} {p} {r = z} n f) = of_node (node.Call w p (exps []) z) tt (past (past (past nothing_passed)))
     expression_pass k ts e rest (ACall {w = w} {es} {p} {r = z} n x) = of_node (node.Call w p (exps es) z) tt (past (past (up_to (arguments_pass _ _ _ x) (past nothing_passed))))
     expression_pass k ts e rest (ANumber {v = v} {decimal} {unsigned} {longs} {p}) = of_number v decimal unsigned longs p _
-    expression_pass k ts e rest (ACharacter {v = v} {p}) = of_node (node.Char v) tt (past nothing_passed)
+    expression_pass k ts e rest (ACharacter {v = v} {p}) = of_character v p _
     expression_pass k ts e rest (AGroup {e = a} {p} x) = of_moved p a (past (up_to (inner _ _ _ _ x) (past nothing_passed)))
 
   pub within_pass : (b k : ℕ) (ts : List Token) (e : Exp) (rest : List Token) → Within b k ts e rest → Passing (every_node q e) ts rest

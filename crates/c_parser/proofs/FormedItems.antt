@@ -11,7 +11,7 @@ use Rattle.c_tokens.specs.declared.token.Punct.{Punct}
 use Rattle.c_tokens.specs.declared.token.Punct.TheVariants as sign
 use Rattle.c_parser.specs.Tree.{Node, Stm, Item}
 use Rattle.c_parser.specs.Tree as item
-use Rattle.c_parser.specs.Formed.{every_in_item, has_block, item_nests, number_fits, assignment_fits, IsFormed, AreOrderly, numbers_fit}
+use Rattle.c_parser.specs.Formed.{every_in_item, has_block, item_nests, constant_fits, assignment_fits, IsFormed, AreOrderly, constants_fit}
 use Rattle.c_parser.specs.Signs.{sign_token, assigns}
 use Rattle.c_parser.specs.Brackets.{PassedWithin}
 use Rattle.c_parser.specs.Items.{Parameters, ParametersWithin, ParameterTypes, TypesWithin, Reach, AReach, Function, AFunction, Prototype, APrototype, Global, AGlobal, Closed, AClosed, Nothing, ASemicolon, reach_error, unless_reach, closed_name, outside}
@@ -99,26 +99,26 @@ module _ (q : Node → Bool) (passes : (n : Node) → IsSpelled n → q n ≡ tr
   takes_pass ts x rest (TakesClosed r f p g d) = no_nodes x ts rest (TakesClosed r f p g d) (closed_nodes _ _ _ d)
   takes_pass ts x rest (TakesNothing r f p g c d) = no_nodes x ts rest (TakesNothing r f p g c d) (nothing_nodes _ _ _ d)
 
-  items_pass : (ts : List Token) (xs : List Item) → Items h b ts xs → numbers_fit ts ≡ true → list_all (every_in_item q) xs ≡ true
+  items_pass : (ts : List Token) (xs : List Item) → Items h b ts xs → constants_fit ts ≡ true → list_all (every_in_item q) xs ≡ true
   items_pass ts xs NoMoreItems f = refl
   items_pass ts xs (MoreItems {rest = rest} {x = x} {xs = others} d ds) f =
       let p = takes_pass _ _ _ d in
       and_others (every_in_item q) x others (p.holds f) (items_pass rest others ds (p.behind f))
 
-number_passes : (n : Node) → IsSpelled n → number_fits n ≡ true
-number_passes (item.Number v decimal unsigned longs) s = s
-number_passes (item.Char v) s = refl
-number_passes (item.Var x p) s = refl
-number_passes (item.Index x p i) s = refl
-number_passes (item.Unary op a) s = refl
-number_passes (item.Cast to a) s = refl
-number_passes (item.Step op a) s = refl
-number_passes (item.Binary op a b) s = refl
-number_passes (item.Logic both a b) s = refl
-number_passes (item.Choose mark e a b) s = refl
-number_passes (item.Comma a b) s = refl
-number_passes (item.Assign op a b) s = refl
-number_passes (item.Call f p es close) s = refl
+constant_passes : (n : Node) → IsSpelled n → constant_fits n ≡ true
+constant_passes (item.Number v decimal unsigned longs) s = s
+constant_passes (item.Char v) s = s
+constant_passes (item.Var x p) s = refl
+constant_passes (item.Index x p i) s = refl
+constant_passes (item.Unary op a) s = refl
+constant_passes (item.Cast to a) s = refl
+constant_passes (item.Step op a) s = refl
+constant_passes (item.Binary op a b) s = refl
+constant_passes (item.Logic both a b) s = refl
+constant_passes (item.Choose mark e a b) s = refl
+constant_passes (item.Comma a b) s = refl
+constant_passes (item.Assign op a b) s = refl
+constant_passes (item.Call f p es close) s = refl
 
 assigned : (s : Punct) (op : Option BinOp) → assigns s ≡ Some op → is_assignment op ≡ true
 assigned sign.Assign op e = ap is_assignment (sym (some_same e))
@@ -154,7 +154,7 @@ pub source_formed : (ts : List Token) (xs : List Item) → AreOrderly ts → IsS
 source_formed ts xs o d = record {
   bodies = items_blocks max_height max_brackets ts xs d;
   nested = items_nest max_height max_brackets ts xs d;
-  numbers = items_pass number_fits number_passes max_height max_brackets ts xs d o.numbers;
-  assignments = items_pass assignment_fits assignment_passes max_height max_brackets ts xs d o.numbers;
+  constants = items_pass constant_fits constant_passes max_height max_brackets ts xs d o.constants;
+  assignments = items_pass assignment_fits assignment_passes max_height max_brackets ts xs d o.constants;
   in_order = source_rises ts xs d o.rise;
 }

@@ -1,8 +1,10 @@
--- The tokens of a text stand in its order, and their numbers have at most two letters `l`.
-use Rattle.std.proofs.Common.{◌≡◌, ◌<◌, ◌≤◌, ◌+◌, ◌^◌, ◌-◌, ◌⊎◌, inl, inr, ℕ, zero, suc, min, nat_lt, nat_eq, nat_le, ltb-true, lt-ltb, eq-eqb, List, [], ◌∷◌, ◌++◌, length, take, drop, map, Bool, true, false, cond, ◌&&◌, ◌||◌, ◌==◌, if◌then◌else◌, refl, sym, ap, ◌∙◌, subst, Option, Some, None, arith, length-append}
+-- The tokens of a text stand in its order, and their constants fit.
+use Rattle.std.proofs.Common.{◌≡◌, ◌<◌, ◌≤◌, ◌+◌, ◌^◌, ◌-◌, ◌⊎◌, inl, inr, ℕ, zero, suc, pos, negsuc, min, nat_lt, nat_eq, nat_le, ltb-true, lt-ltb, eq-eqb, List, [], ◌∷◌, ◌++◌, length, take, drop, map, Bool, true, false, cond, ◌&&◌, ◌||◌, ◌==◌, if◌then◌else◌, refl, sym, ap, ◌∙◌, subst, Option, Some, None, arith, length-append}
 use Rattle.std.proofs.Math.Bool.{or-true}
 use Rattle.std.proofs.lemmas.List.{take-append-drop}
+use Rattle.std.proofs.lemmas.Bool.Decides.{nat_tests}
 use Rattle.std.specs.List.{list_all, prefix_len, take_while}
+use Rattle.c_core.specs.Types.{fits_signed, signed_of}
 use Rattle.c_core.specs.TextOrder.{is_before, is_before_first, rises}
 use Rattle.c_core.proofs.TextOrderLaws.{left, right, is_before-then}
 use Rattle.c_core.specs.declared.number.Spot.{Spot}
@@ -15,7 +17,7 @@ use Rattle.c_tokens.specs.declared.token.Token.{Token}
 use Rattle.c_tokens.specs.declared.token.TokenKind.{TokenKind}
 use Rattle.c_tokens.proofs.Scanned.{found_longest, found_within}
 use Rattle.c_parser.specs.TextOrder.{tokens_rise}
-use Rattle.c_parser.specs.Formed.{kind_fits, numbers_fit, AreOrderly}
+use Rattle.c_parser.specs.Formed.{kind_fits, constants_fit, AreOrderly}
 use Rattle.c_parser.proofs.Passing.{and_true}
 
 -- ---- places
@@ -112,21 +114,30 @@ radix_fits decimal radix is w = by (nat_lt 0 (prefix_len is w)) refl
     by true e = rw e (with_fits decimal radix (take_while is w) (suffix_of (drop (prefix_len is w) w)) (suffix_fits (drop (prefix_len is w) w)))
     by false e = rw e refl
 
-constant_fits : (w : List ℕ) → kind_if_fits (constant w) ≡ true
+number_fits : (w : List ℕ) → kind_if_fits (constant w) ≡ true
 unfolding kind_if_fits
-constant_fits [] = refl
-constant_fits (b ∷ w) = by (b == 48) (begins_hexadecimal w) refl refl
+number_fits [] = refl
+number_fits (b ∷ w) = by (b == 48) (begins_hexadecimal w) refl refl
   where
     by : (x y : Bool) → (b == 48) ≡ x → begins_hexadecimal w ≡ y → kind_if_fits (constant (b ∷ w)) ≡ true
     by true true e f = rw e (rw f (radix_fits false 16 is_hexadecimal_digit (drop 1 w)))
     by true false e f = rw e (rw f (radix_fits false 8 is_octal_digit (b ∷ w)))
     by false y e f = rw e (radix_fits true 10 is_digit (b ∷ w))
 
+-- a byte read in two's complement
+byte_fits : (n : ℕ) → fits_signed 32 (signed_of 8 n) ≡ true
+unfolding signed_of
+byte_fits n = by (nat_lt n 128) refl
+  where
+    by : (x : Bool) → nat_lt n 128 ≡ x → fits_signed 32 (cond x (pos n) (negsuc (256 - suc n))) ≡ true
+    by true e = grind (arith, nat_tests)
+    by false e = grind (arith, nat_tests)
+
 piece_fits : {w : List ℕ} {o : Option TokenKind} → Piece w o → kind_if_fits o ≡ true
 unfolding kind_if_fits
 piece_fits (AWord l ws) = refl
-piece_fits (ANumber {b} {w} l ws) = constant_fits (b ∷ w)
-piece_fits (ACharacter c) = refl
+piece_fits (ANumber {b} {w} l ws) = number_fits (b ∷ w)
+piece_fits (ACharacter {value = value} c) = byte_fits value
 piece_fits (AString s) = refl
 piece_fits (ASign p) = refl
 
@@ -147,11 +158,11 @@ FromOn p (q ∷ qs) = (p ≡ q) ⊎ (is_before p q ≡ true)
 record Orderly (p : Spot) (ts : List Token) : Type 0 where
   first : FromOn p (spots ts)
   rise : tokens_rise ts ≡ true
-  numbers : numbers_fit ts ≡ true
+  constants : constants_fit ts ≡ true
 
 no_tokens : (p : Spot) → Orderly p []
 unfolding FromOn spots
-no_tokens p = record { first = tt; rise = refl; numbers = refl }
+no_tokens p = record { first = tt; rise = refl; constants = refl }
 
 -- from a place before
 from_before : (p q : Spot) (qs : List Spot) → is_before p q ≡ true → FromOn q qs → is_before_first p qs ≡ true
@@ -171,7 +182,7 @@ further [] at ts line column o = o
 further (b ∷ w) at ts line column o = record {
   first = first_before at.spot (spots ts) (from_before at.spot (past at (b ∷ w)).spot (spots ts) (text_before b w at line column) o.first);
   rise = o.rise;
-  numbers = o.numbers;
+  constants = o.constants;
 }
 
 -- behind a token
@@ -182,7 +193,7 @@ one_more [] at kind ts some p line column o = absurd (omega (arith, some))
 one_more (b ∷ w) at kind ts some p line column o = record {
   first = inl refl;
   rise = and_true _ _ (from_before at.spot (past at (b ∷ w)).spot (spots ts) (text_before b w at line column) o.first) o.rise;
-  numbers = and_true (kind_fits kind) _ (one_fits kind p) o.numbers;
+  constants = and_true (kind_fits kind) _ (one_fits kind p) o.constants;
 }
 
 parts_length : (n : ℕ) (text : List ℕ) → length (take n text) + length (drop n text) ≡ length text
@@ -215,4 +226,4 @@ read_orderly directives at text ts end (BadByte g n) line column = no_tokens at.
 pub text_orderly : (text : List ℕ) (ts : List Token) (end : Ending) → length text < 2 ^ 30 → Tokens text ts end → AreOrderly ts
 text_orderly text ts end short d =
     let o = read_orderly true start text ts end d (omega (arith, short)) (omega (arith, short)) in
-    record { rise = o.rise; numbers = o.numbers }
+    record { rise = o.rise; constants = o.constants }

@@ -3,7 +3,7 @@ use Rattle.std.proofs.Common.{◌≡◌, List, [], ◌∷◌, Bool, true, ◌&&�
 use Rattle.c_core.proofs.TextOrderLaws.{right}
 use Rattle.c_core.specs.declared.number.Spot.{Spot}
 use Rattle.c_tokens.specs.declared.token.Token.{Token}
-use Rattle.c_parser.specs.Formed.{kind_fits, numbers_fit}
+use Rattle.c_parser.specs.Formed.{kind_fits, constants_fit}
 use Rattle.c_parser.proofs.Along.{Along, AtEnd, Past, Met}
 
 pub and_true : (a b : Bool) → a ≡ true → b ≡ true → (a && b) ≡ true
@@ -11,13 +11,13 @@ and_true a b x y = rw x y
 
 -- the numbers among the tokens behind them fit too
 pub record Passing (x : Bool) (ts rest : List Token) : Type 0 where
-  pub holds : numbers_fit ts ≡ true → x ≡ true
-  pub behind : numbers_fit ts ≡ true → numbers_fit rest ≡ true
+  pub holds : constants_fit ts ≡ true → x ≡ true
+  pub behind : constants_fit ts ≡ true → constants_fit rest ≡ true
 
 pub nothing_passed : {rest : List Token} → Passing true rest rest
 nothing_passed = record { holds = λ f. refl; behind = λ f. f }
 
-one_fewer : (t : Token) (ts : List Token) → numbers_fit (t ∷ ts) ≡ true → numbers_fit ts ≡ true
+one_fewer : (t : Token) (ts : List Token) → constants_fit (t ∷ ts) ≡ true → constants_fit ts ≡ true
 one_fewer t ts f = right (kind_fits t.kind) _ f
 
 pub past : {x : Bool} {ts rest : List Token} {t : Token} → Passing x ts rest → Passing x (t ∷ ts) rest

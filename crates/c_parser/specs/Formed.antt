@@ -1,6 +1,7 @@
 -- What holds of each source.
 use Rattle.std.specs.Prelude.{nat_le, Bool, true, false, ◌&&◌, List, [], ◌∷◌, Option, Some, None, IsTrue}
 use Rattle.std.specs.List.{list_all}
+use Rattle.c_core.specs.Types.{fits_signed}
 use Rattle.c_core.specs.Typing.{is_assignment}
 use Rattle.c_core.specs.TextOrder.{rises}
 use Rattle.c_tokens.specs.declared.token.Token.{Token}
@@ -130,12 +131,13 @@ item_nests (Prototype p w result types) = true
 item_nests (Global ds) = true
 item_nests (Closed p w) = true
 
--- ---- numbers and assignments
+-- ---- constants and assignments
 
--- a suffix has at most two letters `l` (C11 6.4.4.1)
-abbrev pub number_fits : Node → Bool
-number_fits (Number v decimal unsigned longs) = nat_le longs 2
-number_fits _ = true
+-- a suffix has at most two letters `l` (C11 6.4.4.1), and a character a value of `int` (C11 6.4.4.4)
+abbrev pub constant_fits : Node → Bool
+constant_fits (Number v decimal unsigned longs) = nat_le longs 2
+constant_fits (Char v) = fits_signed 32 v
+constant_fits _ = true
 
 -- an assignment is `=`, or computes with an operator that is no comparison (C11 6.5.16)
 abbrev pub assignment_fits : Node → Bool
@@ -148,7 +150,7 @@ pub record IsFormed (xs : List Item) : Type 0 where
   pub bodies : IsTrue (list_all has_block xs)
   -- each declaration in it stands directly in a block
   pub nested : IsTrue (list_all item_nests xs)
-  pub numbers : IsTrue (list_all (every_in_item number_fits) xs)
+  pub constants : IsTrue (list_all (every_in_item constant_fits) xs)
   pub assignments : IsTrue (list_all (every_in_item assignment_fits) xs)
   -- the places of its parts follow the order of the text
   pub in_order : IsTrue (rises (spots_of_items xs))
@@ -157,12 +159,13 @@ pub record IsFormed (xs : List Item) : Type 0 where
 
 abbrev pub kind_fits : TokenKind → Bool
 kind_fits (kind.Number v decimal unsigned longs) = nat_le longs 2
+kind_fits (kind.Char v) = fits_signed 32 v
 kind_fits _ = true
 
-abbrev pub numbers_fit : List Token → Bool
-numbers_fit ts = list_all (λ (t : Token). kind_fits t.kind) ts
+abbrev pub constants_fit : List Token → Bool
+constants_fit ts = list_all (λ (t : Token). kind_fits t.kind) ts
 
--- tokens in the order of their text, with at most two letters `l` in each number's suffix
+-- tokens in the order of their text, whose constants fit
 pub record AreOrderly (ts : List Token) : Type 0 where
   pub rise : IsTrue (tokens_rise ts)
-  pub numbers : IsTrue (numbers_fit ts)
+  pub constants : IsTrue (constants_fit ts)
