@@ -77,13 +77,7 @@ impl Circuit {
     }
 
     /// What an operator gives. The test holds of all that `ask` makes.
-    fn apply(
-        &mut self,
-        alloc: Global,
-        op: BinOp,
-        a: &Bits,
-        b: &Bits,
-    ) -> Result<Bits, OutOfMemory> {
+    fn apply(&mut self, alloc: Global, op: BinOp, a: &Bits, b: &Bits) -> Result<Bits, OutOfMemory> {
         let net = &mut self.net;
         if net.nodes() < 1 << 28 && are_typed(net, a) && are_typed(net, b) {
             let (model, ty) = (DataModel::Lp64, IntType::UInt);
