@@ -6,6 +6,7 @@ ghost use Rattle.c_meaning.specs.declared.run.End.TheVariants.{Spent};
 ghost use Rattle.c_meaning.specs.Run.{Run};
 ghost use Rattle.c_meaning.specs.Replay.{IsReplayed};
 ghost use Rattle.c_meaning.specs.Budget.{Continues, HasFewEvents, Stays};
+ghost use Rattle.c_meaning.specs.Drawn.{HasFittingDraws};
 
 /// The draws of a run, taken in turn, give the same run.
 pub fn replay()
@@ -25,4 +26,9 @@ pub fn ended_runs_stay()
 /// A run of n steps has at most 3n + 1 events.
 pub fn few_events()
     ensures { (p : Program) (c : Choices) (N : ℕ) → HasFewEvents p c N }
+{}
+
+/// Each value that a run draws is one of its type, and so a number from -2^63 to 2^64 - 1.
+pub fn draws_fit()
+    ensures { (p : Program) (c : Choices) (N : ℕ) → HasFittingDraws p c N }
 {}

@@ -1,0 +1,5 @@
+use Rattle.c_meaning.proofs.DrawsFit.{draws_fit}
+use Rattle.c_meaning.proofs.laws.draws_fit.Goals as goal
+
+pub returns : goal.returns
+returns c = draws_fit
