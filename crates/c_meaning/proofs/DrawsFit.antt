@@ -1,7 +1,7 @@
 -- The values of a run's draws are values of their types.
 use Rattle.std.proofs.Common.{◌+◌, ℕ, zero, suc, ℤ, pos, Bool, true, false, cond, List, [], ◌∷◌, length, Option, Some, None, nat_le, slice_get}
 use Rattle.std.specs.List.{All}
-use Rattle.std.proofs.lemmas.List.Elements.{All-nil, All-push, All-weaker}
+use Rattle.std.proofs.lemmas.List.Elements.{All-nil, All-push}
 use Rattle.c_core.specs.Operators.{apply_of, apply_one_of}
 use Rattle.c_core.specs.Tree.{Program, Function}
 use Rattle.c_core.specs.declared.number.IntType.{IntType}
@@ -25,9 +25,11 @@ use Rattle.c_meaning.specs.Run as run
 use Rattle.c_meaning.specs.Run.{Run, State, Moment, Told, Here, Head, real, index_below, cells_of, with_cells, state_of, chosen, or_zero}
 use Rattle.c_meaning.specs.Exec.{run_in, run_if, call_of}
 use Rattle.c_meaning.specs.Related.{Units, Relation, Preserves}
-use Rattle.c_meaning.specs.Drawn.{IsFitting, IsIn64Bits, HasFittingDraws}
+use Rattle.c_meaning.specs.Drawn.{IsFitting, AreFitting}
 use Rattle.c_meaning.proofs.Fundamental.{related_body, related_call, all_fit}
-use Rattle.c_meaning.proofs.Widths.{in_64_bits}
+use Rattle.c_meaning.proofs.Keeps as parts
+use Rattle.c_meaning.proofs.Keeps.{Any}
+use Rattle.c_meaning.proofs.Widths.{are_fitting}
 
 -- a run is related to itself: what begins with fitting draws ends with fitting draws
 module _ (p : Program) (S : Type 0) (see : Moment → S → S) where
@@ -40,30 +42,26 @@ module _ (p : Program) (S : Type 0) (see : Moment → S → S) where
   abbrev Fit : State S → Type 0
   Fit s = All (IsFitting p.model) s.draws
 
-  -- no value matters
-  abbrev Any : {A : Type 0} → A → A → Type 0
-  Any a b = Unit {0}
-
   abbrev Kept : {A B : Type 0} → (A → B → Type 0) → Result A → Type 0
-  Kept {B = B} R (Go a s) = Fit s × ((b : B) × R a b)
-  Kept R (Stop e s) = Fit s
+  Kept R r = parts.Kept End (State S) Fit R r
 
-  pub record Keeps {A B : Type 0} (R : A → B → Type 0) (m : Act A) : Type 0 where
-    pub at : (s : State S) → Fit s → Kept R (m s)
+  abbrev Keeps : {A B : Type 0} → (A → B → Type 0) → Act A → Type 0
+  Keeps R m = parts.Keeps End (State S) Fit R m
 
-  -- one part after the other
-  kept_then : {A B C D : Type 0} (R : A → B → Type 0) (Q : C → D → Type 0) (k : A → Act C) → ((a : A) (b : B) → R a b → Keeps Q (k a)) → (r : Result A) → Kept R r → Kept Q (bind r k)
-  kept_then R Q k f (Go a s) o = (f a o.1.0 o.1.1).at s o.0
-  kept_then R Q k f (Stop e s) o = o
+  abbrev KeepsFlow : Act Flow → Type 0
+  KeepsFlow m = Keeps {B = Flow} Any m
 
   keeps_then : {A B C D : Type 0} (R : A → B → Type 0) (Q : C → D → Type 0) (m : Act A) (k : A → Act C) → Keeps R m → ((a : A) (b : B) → R a b → Keeps Q (k a)) → Keeps Q (λ s. bind (m s) k)
-  keeps_then R Q m k g f = record { at = λ s h. kept_then R Q k f (m s) (g.at s h) }
+  keeps_then R Q m k g f = parts.keeps_then End (State S) Fit R Q m k g f
 
   keeps_ret : {A B : Type 0} (R : A → B → Type 0) (a : A) (b : B) → R a b → Keeps R (run.ret p S see a)
-  keeps_ret R a b q = record { at = λ s h. (h, (b, q)) }
+  keeps_ret R a b q = parts.keeps_ret End (State S) Fit R a b q
 
   keeps_stop : {A B : Type 0} (R : A → B → Type 0) (e : End) → Keeps R (run.stop p S see {A = A} e)
-  keeps_stop R e = record { at = λ s h. h }
+  keeps_stop R e = parts.keeps_stop End (State S) Fit R e
+
+  keeps_cond : {A B : Type 0} (R : A → B → Type 0) (t : Bool) (a b : Act A) → Keeps R a → Keeps R b → Keeps R (λ s. cond t a b s)
+  keeps_cond R t a b f g = parts.keeps_cond End (State S) Fit R t a b f g
 
   keeps_tell : (e : Event) → Keeps Units (run.tell p S see e)
   keeps_tell e = record { at = λ s h. (h, (tt, tt)) }
@@ -73,10 +71,6 @@ module _ (p : Program) (S : Type 0) (see : Moment → S → S) where
 
   keeps_after : {A B : Type 0} (R : A → B → Type 0) (e : Event) (k : Act A) → Keeps R k → Keeps R (λ s. bind (run.tell p S see e s) (λ _. k))
   keeps_after R e k g = keeps_then Units R (run.tell p S see e) (λ _. k) (keeps_tell e) (λ _ _ _. g)
-
-  keeps_cond : {A B : Type 0} (R : A → B → Type 0) (t : Bool) (a b : Act A) → Keeps R a → Keeps R b → Keeps R (λ s. cond t a b s)
-  keeps_cond R true a b f g = record { at = λ s. f.at s }
-  keeps_cond R false a b f g = record { at = λ s. g.at s }
 
   tick_kept : (n : ℕ) (s : State S) → Fit s → Kept Units (run.tick_from p S see n s)
   tick_kept zero s h = h
@@ -122,35 +116,16 @@ module _ (p : Program) (S : Type 0) (see : Moment → S → S) where
       keeps_after Any (Return site.close None) (λ s. cond site.needed (run.stop p S see (Undefined site.spot)) (run.ret p S see (pos 0)) s)
       (keeps_cond Any site.needed _ _ (keeps_stop Any (Undefined site.spot)) (keeps_ret Any (pos 0) (pos 0) tt))
 
-  cut_kept : {A B : Type 0} (R : A → B → Type 0) (n : ℕ) (r : Result A) → Kept R r → Kept R (acts.cut End (State S) cells_of with_cells n r)
-  cut_kept R n (Go a s) o = o
-  cut_kept R n (Stop e s) o = o
-
   keeps_scoped : {A B : Type 0} (R : A → B → Type 0) (m : Act A) → Keeps R m → Keeps R (acts.scoped End (State S) cells_of with_cells m)
-  keeps_scoped R m f = record { at = λ s h. cut_kept R (length s.cells) (m s) (f.at s h) }
+  keeps_scoped R m f = parts.keeps_scoped End (State S) Fit cells_of with_cells (λ cs s h. h) R m f
 
-  abbrev Flows : Flow → Flow → Type 0
-  Flows = Any
-
-  keeps_go_on : (k : Act Flow) → Keeps Flows k → (f : Flow) → Keeps Flows (go_on k f)
-  keeps_go_on k g Next = record { at = λ s. g.at s }
-  keeps_go_on k g Broken = keeps_ret Flows Broken Broken tt
-  keeps_go_on k g Again = keeps_ret Flows Again Again tt
-  keeps_go_on k g (Gave v) = keeps_ret Flows (Gave v) (Gave v) tt
-
-  keeps_turned : (k : Act Flow) → Keeps Flows k → (f : Flow) → Keeps Flows (turned k f)
-  keeps_turned k g Next = record { at = λ s. g.at s }
-  keeps_turned k g Broken = keeps_ret Flows Next Next tt
-  keeps_turned k g Again = keeps_ret Flows Again Again tt
-  keeps_turned k g (Gave v) = keeps_ret Flows (Gave v) (Gave v) tt
-
-  keeps_turns : (n : ℕ) (at : Spot) (l : Loop) (arrived : List Cell) (m : Act Flow) → Keeps Flows m → Keeps Flows (run.turns p S see n at l arrived m)
+  keeps_turns : (n : ℕ) (at : Spot) (l : Loop) (arrived : List Cell) (m : Act Flow) → KeepsFlow m → KeepsFlow (run.turns p S see n at l arrived m)
   keeps_turns zero at l arrived m f = keeps_stop _ _
   keeps_turns (suc n) at l arrived m f =
-      keeps_noted Flows (Head at l arrived) (λ s. bind (m s) (turned (run.turns p S see n at l arrived m)))
-      (keeps_then Flows Flows m (turned (run.turns p S see n at l arrived m)) f (λ g _ _. keeps_turned _ (keeps_turns n at l arrived m f) g))
+      keeps_noted Any (Head at l arrived) (λ s. bind (m s) (turned (run.turns p S see n at l arrived m)))
+      (keeps_then Any Any m (turned (run.turns p S see n at l arrived m)) f (λ g _ _. parts.keeps_turned End (State S) Fit _ (keeps_turns n at l arrived m f) g))
 
-  keeps_loop : (at : Spot) (l : Loop) (m : Act Flow) → Keeps Flows m → Keeps Flows (run.loop p S see at l m)
+  keeps_loop : (at : Spot) (l : Loop) (m : Act Flow) → KeepsFlow m → KeepsFlow (run.loop p S see at l m)
   keeps_loop at l m f = record { at = λ s. (keeps_turns (suc s.steps) at l s.cells m f).at s }
 
   drawn_parts : Relation (real p S see) (real p S see)
@@ -162,7 +137,7 @@ module _ (p : Program) (S : Type 0) (see : Moment → S → S) where
     Truths = λ t u. Unit {0};
     Targets = λ o x y. Unit {0};
     Acts = λ L R m n. Keeps R m;
-    Dones = λ L M a b. Keeps Flows a;
+    Dones = λ L M a b. KeepsFlow a;
     MayWrite = λ L o. Unit {0};
     MayCall = λ f. Unit {0};
     MayLoop = λ L at l. Unit {0};
@@ -173,7 +148,7 @@ module _ (p : Program) (S : Type 0) (see : Moment → S → S) where
   drawn_keeps = record {
     ret = λ L R a b q. keeps_ret R a b q;
     bind = λ L R Q m n k l g f. keeps_then R Q m k g f;
-    using = λ L M R m n k l g f. keeps_then R Flows m k g f;
+    using = λ L M R m n k l g f. keeps_then R Any m k g f;
     tick = λ L t. record { at = λ s. tick_kept s.steps s };
     room = λ L n. keeps_room n;
     const = λ ty v. tt;
@@ -193,24 +168,24 @@ module _ (p : Program) (S : Type 0) (see : Moment → S → S) where
     came_back = λ L site v w q. keeps_tell (Return site.close (Some v));
     reach = λ L at site. keeps_reached p.property at site;
     ending = λ L. keeps_stop _ _;
-    called = λ L site a b end f. keeps_then Units Any (run.deeper p S see) _ (record { at = λ s h. (h, (tt, tt)) }) (λ _ _ _. keeps_then Flows Any _ _ (keeps_scoped Flows a (f tt tt)) (λ g _ _.
+    called = λ L site a b end f. keeps_then Units Any (run.deeper p S see) _ (record { at = λ s h. (h, (tt, tt)) }) (λ _ _ _. keeps_then Any Any _ _ (keeps_scoped Any a (f tt tt)) (λ g _ _.
         keeps_then Units Any (run.shallower p S see) _ (record { at = λ s h. (h, (tt, tt)) }) (λ _ _ _. keeps_returned site (given g))));
     missing = λ L. keeps_stop _ _;
     here = λ L at. keeps_noted Units (Here at) (run.tell p S see (At at)) (keeps_tell (At at));
     declare = λ L o n. record { at = λ s h. (h, (Next, tt)) };
     own = λ L o. tt;
-    branch = λ L M at t u a a' b b' q f g. keeps_branched Flows at t a b f g;
+    branch = λ L M at t u a a' b b' q f g. keeps_branched Any at t a b f g;
     next = λ L. keeps_ret _ _ Next tt;
     leave = λ L. keeps_ret _ _ Next tt;
     again = λ L. keeps_ret _ _ Next tt;
     give = λ L v w q. keeps_ret _ _ Next tt;
-    seq = λ L M N a a' b b' f g. keeps_then Flows Flows a (go_on b) f (λ x _ _. keeps_go_on b g x);
-    scoped = λ L M a b f. keeps_scoped Flows a f;
-    continued = λ L M a b f. keeps_then Flows Flows _ _ (keeps_scoped Flows a f) (λ x _ _. keeps_ret Flows (continuing x) Next tt);
+    seq = λ L M N a a' b b' f g. keeps_then Any Any a (go_on b) f (λ x _ _. parts.keeps_go_on End (State S) Fit b g x);
+    scoped = λ L M a b f. keeps_scoped Any a f;
+    continued = λ L M a b f. parts.keeps_continued End (State S) Fit cells_of with_cells (λ cs s h. h) a f;
   }
 
   -- calls at most n deep
-  keeps_run : (n : ℕ) (f : Function) → Keeps Flows (run_in p (real p S see) n f)
+  keeps_run : (n : ℕ) (f : Function) → KeepsFlow (run_in p (real p S see) n f)
   unfolding drawn_parts
   keeps_run zero f = keeps_stop _ _
   keeps_run (suc n) f =
@@ -218,14 +193,14 @@ module _ (p : Program) (S : Type 0) (see : Moment → S → S) where
       (λ site g vs. call_of p (real p S see) (run_in p (real p S see) n) site (slice_get p.functions g) vs)
       (λ site g vs. call_of p (real p S see) (run_in p (real p S see) n) site (slice_get p.functions g) vs)
       (λ L site g vs ws m q. related_call p drawn_parts drawn_keeps (run_in p (real p S see) n) (run_in p (real p S see) n) site (slice_get p.functions g) (λ fn e E z. keeps_run n fn) L vs ws q)
-      (λ L at result l m g. keeps_scoped Flows _ (keeps_loop at l _ g))
+      (λ L at result l m g. keeps_scoped Any _ (keeps_loop at l _ g))
       f.result tt f.body (all_fit drawn_parts (λ L o. tt) (λ g. tt) (λ L at l. tt) tt f.body)
 
-  keeps_if : (n : ℕ) (f : Option Function) → Keeps Flows (run_if p (real p S see) n f)
+  keeps_if : (n : ℕ) (f : Option Function) → KeepsFlow (run_if p (real p S see) n f)
   keeps_if n None = keeps_ret _ _ Next tt
   keeps_if n (Some f) = keeps_run n f
 
-  fit_at_end : (r : Result Flow) → Kept Flows r → Fit (state_of r)
+  fit_at_end : (r : Result Flow) → Kept Any r → Fit (state_of r)
   fit_at_end (Go a s) o = o.0
   fit_at_end (Stop e s) o = o
 
@@ -233,7 +208,5 @@ module _ (p : Program) (S : Type 0) (see : Moment → S → S) where
   seen_fits : (x : S) (c : Choices) (N : ℕ) → Fit (state_of (run.Seen p S see x c N))
   seen_fits x c N = fit_at_end (run.Seen p S see x c N) ((keeps_if (suc N) (slice_get p.functions p.main)).at (run.first_state p S x c N) (All-nil (IsFitting p.model)))
 
-pub draws_fit : (p : Program) (c : Choices) (N : ℕ) → HasFittingDraws p c N
-draws_fit p c N =
-    let fits = seen_fits p (List Moment) (λ x xs. x ∷ xs) [] c N in
-    record { in_types = fits; in_64_bits = All-weaker (IsFitting p.model) IsIn64Bits (in_64_bits p.model) (Run p c N).draws fits }
+pub draws_fit : (p : Program) (c : Choices) (N : ℕ) → AreFitting p.model (Run p c N).draws
+draws_fit p c N = are_fitting p.model (Run p c N).draws (seen_fits p (List Moment) (λ x xs. x ∷ xs) [] c N)
