@@ -1,11 +1,13 @@
 -- The reply to the bytes read is the reply that the files call for.
-use Rattle.std.proofs.Common.{◌≡◌, Result, Ok, Err, IfOk, ℕ, List, [], Bool, true, false, Option, Some, None, IfSome, refl, sym, subst, inl}
+use Rattle.std.proofs.Common.{◌≡◌, Result, Ok, Err, IfOk, ℕ, List, false, Option, Some, None, IfSome, refl, sym, subst, inl}
+use Rattle.std.proofs.lemmas.List.Elements.{All-nil}
 use Rattle.std.specs.Str.{bytes_eq}
 use Rattle.c_core.specs.declared.number.DataModel.{DataModel}
 use Rattle.c_core.specs.declared.number.Property.{Property}
 use Rattle.c_core.specs.declared.number.Property.TheVariants.{UnreachCall, NoOverflow}
 use Rattle.sha2.specs.Sha256.{sha256}
 use Rattle.wv_base.specs.Shelf.{ShelfState, Files, file_of}
+use Rattle.wv_report.specs.Json.{HasJsonIntegers, IsJsonInteger}
 use Rattle.wv_report.specs.declared.reply.Reply.{Reply}
 use Rattle.wv_report.specs.declared.reply.Reply.TheVariants.{Verdict as Judged, Refused, ReadFault}
 use Rattle.wv_schema.specs.Schema.{witness_of}
@@ -29,12 +31,13 @@ use Rattle.witval.specs.ThinWitness.{thin_witness}
 use Rattle.witval.specs.declared.input.Inputs.{Inputs}
 use Rattle.witval.specs.declared.output.Output.{Output}
 use Rattle.witval.specs.declared.output.Output.TheVariants.{Report, Canonical, Summary}
+use Rattle.witval.proofs.ShownValues.{shows_integers}
 
--- a reply that is neither a read fault nor the refusal of a long file
+-- a reply that is neither a read fault nor the refusal of a long file; a verdict shows no number beyond 64 bits
 NotOfLength : Reply → Type 0
 NotOfLength (Refused code detail) = bytes_eq code too_long ≡ false
 NotOfLength (ReadFault file) = ⊥
-NotOfLength (Judged verdict) = Unit {0}
+NotOfLength (Judged verdict) = HasJsonIntegers (Judged verdict)
 
 refusals : (fault : YamlFault) (reply : Reply) → IsRefusal fault reply → NotOfLength reply
 unfolding NotOfLength
@@ -66,7 +69,7 @@ task_refusals task.OutOfMemory reply e = absurd e
 tasks : (steps : ℕ) (asked : Task) (reply : Reply) → RightOn steps asked reply → NotOfLength reply
 unfolding NotOfLength
 tasks steps (Unbuilt d) reply e = subst NotOfLength (sym e) refl
-tasks steps (Violation p ss) (Judged verdict) e = tt
+tasks steps (Violation p ss) (Judged verdict) e = shows_integers p ss steps verdict e.right
 tasks steps (Violation p ss) (Refused code detail) e = absurd e
 tasks steps (Violation p ss) (ReadFault file) e = absurd e
 
@@ -127,6 +130,17 @@ pub judged_if : {E : Type 0} (command : Command) (steps : ℕ) (old new : ShelfS
     → IfOk result (RightOnInputs steps inputs.program.items inputs.property.items inputs.witness.items) → IfOk result (RightFor command steps old new)
 judged_if command steps old new inputs (Ok reply) a right = judged command steps old new inputs reply a right (inputs_not_of_length steps inputs.program.items inputs.property.items inputs.witness.items reply right)
 judged_if command steps old new inputs (Err e) a right = tt
+
+-- it shows no number beyond 64 bits
+integers : (reply : Reply) → NotOfLength reply → HasJsonIntegers reply
+unfolding NotOfLength
+integers (Refused code detail) other = All-nil (λ draw. IsJsonInteger draw.value)
+integers (Judged verdict) other = other
+integers (ReadFault file) other = absurd other
+
+pub integers_if : {E : Type 0} (steps : ℕ) (program property witness : List ℕ) (result : Result Reply E) → IfOk result (RightOnInputs steps program property witness) → IfOk result HasJsonIntegers
+integers_if steps program property witness (Ok reply) right = integers reply (inputs_not_of_length steps program property witness reply right)
+integers_if steps program property witness (Err e) right = tt
 
 -- a refusal is no verdict
 IsRefused : Reply → Type 0

@@ -2,6 +2,7 @@ pub mod Confirmed
 mod ExampleGiven
 mod ExamplePassing
 mod ExampleVerdicts
+pub mod ShownValues
 pub mod Judged
 pub mod Tested
 pub mod TokenSteps
