@@ -1,20 +1,17 @@
 -- What holds of each source.
-use Rattle.std.proofs.Common.{◌≡◌, ◌≤◌, ℕ, zero, suc, List, [], ◌∷◌, Bool, true, false, cond, ◌&&◌, refl, sym, ap, ◌∙◌, nat_le, Option, Some, None}
+use Rattle.std.proofs.Common.{◌≡◌, ℕ, List, Bool, true, false, cond, refl, sym, ap, Option, Some, None}
 use Rattle.std.specs.List.{list_all}
 use Rattle.c_core.specs.Typing.{is_assignment}
 use Rattle.c_core.specs.declared.number.BinOp.{BinOp}
-use Rattle.c_core.specs.declared.number.IntType.{IntType}
-use Rattle.c_core.specs.declared.number.Spot.{Spot}
 use Rattle.c_tokens.specs.Numbers.{is_spelled}
 use Rattle.c_tokens.specs.declared.token.Token.{Token}
 use Rattle.c_tokens.specs.declared.token.Punct.{Punct}
 use Rattle.c_tokens.specs.declared.token.Punct.TheVariants as sign
-use Rattle.c_parser.specs.Tree.{Node, Stm, Item}
+use Rattle.c_parser.specs.Tree.{Node, Item}
 use Rattle.c_parser.specs.Tree as item
 use Rattle.c_parser.specs.Formed.{every_in_item, has_block, item_nests, number_fits, assignment_fits, IsFormed, AreOrderly, numbers_fit}
-use Rattle.c_parser.specs.Signs.{sign_token, assigns}
-use Rattle.c_parser.specs.Brackets.{PassedWithin}
-use Rattle.c_parser.specs.Items.{Parameters, ParametersWithin, ParameterTypes, TypesWithin, Reach, AReach, Function, AFunction, Prototype, APrototype, Global, AGlobal, Closed, AClosed, Nothing, ASemicolon, reach_error, unless_reach, closed_name, outside}
+use Rattle.c_parser.specs.Signs.{assigns}
+use Rattle.c_parser.specs.Items.{Reach, AReach, Function, AFunction, Prototype, APrototype, Global, AGlobal, Closed, AClosed, Nothing, ASemicolon, reach_error}
 use Rattle.c_parser.specs.Sources.{Takes, TakesReach, TakesFunction, TakesPrototype, TakesGlobal, TakesClosed, TakesNothing, with_item, Items, NoMoreItems, MoreItems, IsSource, max_height, max_brackets}
 use Rattle.c_parser.proofs.SignLaws.{some_same}
 use Rattle.c_parser.proofs.Passing.{Passing, and_true, nothing_passed, past, up_to, from, along_passing}

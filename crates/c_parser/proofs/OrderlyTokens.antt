@@ -1,15 +1,15 @@
 -- The tokens of a text stand in its order, and their numbers have at most two letters `l`.
-use Rattle.std.proofs.Common.{◌≡◌, ◌<◌, ◌≤◌, ◌+◌, ◌^◌, ◌-◌, ◌⊎◌, inl, inr, ℕ, zero, suc, min, nat_lt, nat_eq, nat_le, ltb-true, lt-ltb, eq-eqb, List, [], ◌∷◌, ◌++◌, length, take, drop, map, Bool, true, false, cond, ◌&&◌, ◌||◌, ◌==◌, if◌then◌else◌, refl, sym, ap, ◌∙◌, subst, Option, Some, None, arith, length-append}
+use Rattle.std.proofs.Common.{◌≡◌, ◌<◌, ◌≤◌, ◌+◌, ◌^◌, ◌-◌, ◌⊎◌, inl, inr, ℕ, suc, nat_lt, nat_le, lt-ltb, eq-eqb, List, [], ◌∷◌, length, take, drop, map, Bool, true, false, ◌==◌, if◌then◌else◌, refl, sym, ap, ◌∙◌, subst, Option, Some, None, arith, length-append}
 use Rattle.std.proofs.Math.Bool.{or-true}
 use Rattle.std.proofs.lemmas.List.{take-append-drop}
 use Rattle.std.specs.List.{list_all, prefix_len, take_while}
-use Rattle.c_core.specs.TextOrder.{is_before, is_before_first, rises}
+use Rattle.c_core.specs.TextOrder.{is_before, is_before_first}
 use Rattle.c_core.proofs.TextOrderLaws.{left, right, is_before-then}
 use Rattle.c_core.specs.declared.number.Spot.{Spot}
 use Rattle.c_tokens.specs.Bytes.{line_feed, is_digit, is_octal_digit, is_hexadecimal_digit}
 use Rattle.c_tokens.specs.Numbers.{Suffix, suffixes, suffix_among, suffix_of, with_suffix, in_radix, constant, begins_hexadecimal, is_spelled, number_in}
-use Rattle.c_tokens.specs.Pieces.{Piece, AWord, ANumber, ACharacter, AString, ASign, Longest}
-use Rattle.c_tokens.specs.Reading.{next, after, past, start, Ending, Whole, Reads, AtEnd, Between, AToken, RefusedDirective, UnclosedComment, BadNumber, BadByte, Tokens}
+use Rattle.c_tokens.specs.Pieces.{Piece, AWord, ANumber, ACharacter, AString, ASign}
+use Rattle.c_tokens.specs.Reading.{next, after, past, start, Ending, Reads, AtEnd, Between, AToken, RefusedDirective, UnclosedComment, BadNumber, BadByte, Tokens}
 use Rattle.c_tokens.specs.declared.place.Place.{Place}
 use Rattle.c_tokens.specs.declared.token.Token.{Token}
 use Rattle.c_tokens.specs.declared.token.TokenKind.{TokenKind}
