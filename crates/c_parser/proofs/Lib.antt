@@ -26,6 +26,12 @@ mod Along
 mod OrderedExpressions
 mod OrderedStatements
 mod OrderedItems
+mod Passing
+mod FormedExpressions
+mod FormedStatements
+mod NestedStatements
+mod FormedItems
+mod OrderlyTokens
 mod SpelledExamples
 mod Views
 mod ReadSteps

@@ -31,7 +31,7 @@ joined_spots p Both a b = refl
 joined_spots p Either a b = refl
 joined_spots p (Plain op) a b = refl
 
-names_passed : (ts : List Token) (words : List TypeWord) (rest : List Token) → NameWords ts words rest → Along [] ts rest
+pub names_passed : (ts : List Token) (words : List TypeWord) (rest : List Token) → NameWords ts words rest → Along [] ts rest
 names_passed ts words rest NoMoreWords = AtEnd
 names_passed ts words rest (AConst d) = Past (names_passed _ _ _ d)
 names_passed ts words rest (ATypeWord t d) = Past (names_passed _ _ _ d)

@@ -44,7 +44,7 @@ module _ (b : ℕ) where
   parameter_types_along ts tys rest VoidTypes = Past AtEnd
   parameter_types_along ts tys rest (StatedTypes d) = types_along _ _ _ d
 
-parameters_within_along : (b : ℕ) (ts : List Token) (xs : List Param) (rest : List Token) → ParametersWithin b ts xs rest → Along (spots_of_params xs) ts rest
+pub parameters_within_along : (b : ℕ) (ts : List Token) (xs : List Param) (rest : List Token) → ParametersWithin b ts xs rest → Along (spots_of_params xs) ts rest
 parameters_within_along zero ts xs rest d = absurd d
 parameters_within_along (suc b) ts xs rest d = parameters_along b ts xs rest d
 
@@ -120,7 +120,7 @@ module _ (h b : ℕ) where
   nothing_along : (ts : List Token) (x : Option Item) (rest : List Token) → Nothing h b ts x rest → Along (spots_if_item x) ts rest
   nothing_along ts x rest ASemicolon = Past AtEnd
 
-  takes_along : (ts : List Token) (x : Option Item) (rest : List Token) → Takes h b ts x rest → Along (spots_if_item x) ts rest
+  pub takes_along : (ts : List Token) (x : Option Item) (rest : List Token) → Takes h b ts x rest → Along (spots_if_item x) ts rest
   takes_along ts x rest (TakesReach d) = reach_along _ _ _ d
   takes_along ts x rest (TakesFunction r d) = function_along _ _ _ d
   takes_along ts x rest (TakesPrototype r f d) = prototype_along _ _ _ d

@@ -79,6 +79,11 @@ pub items_push : (xs : List Raw) (x : Option Raw) → map item_view (xs ++ optio
 items_push xs None = ap (map item_view) (append-nil xs) ∙ sym (append-nil (map item_view xs))
 items_push xs (Some x) = map_push item_view xs x
 
+-- where no token is left, what was found is the source
+pub all_found : (xs : List Item) (n : ℕ) (ts rest : List Token) → length rest ≡ 0 → found_before xs (read_items max_height max_brackets n rest) ≡ read_items max_height max_brackets (length ts) ts → IsSource ts xs
+all_found xs n ts [] e h = source_sound ts xs (sym h ∙ ap Source (append-nil xs))
+all_found xs n ts (t ∷ rest) e h = absurd (omega (arith, e))
+
 pub outcome_answers : (ts : List Token) (result : Result Parsed ParseFault) → Outcomes result (read_items max_height max_brackets (length ts) ts) → Answers ts result
 outcome_answers ts (Ok s) e = source_sound ts (source_view s) e
 outcome_answers ts (Err (Refused line column)) e = syntax_sound ts (record { line = line; column = column }) e

@@ -18,6 +18,7 @@ pub mod SourceView
 pub mod StatementParts
 pub mod Sources
 pub mod TextOrder
+pub mod Formed
 pub mod Parsing
 pub mod Witness
 pub mod Shown

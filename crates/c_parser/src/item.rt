@@ -1,3 +1,7 @@
+ghost use Rattle.std.specs.Prelude.{map};
+ghost use Rattle.c_parser.specs.SourceView.{item_view};
+ghost use Rattle.c_parser.specs.Formed.{IsFormed};
+
 use crate::tree::{RawDeclared, RawStmt};
 use c_core::{IntType, Spot};
 use wv_base::{Seq, Text};
@@ -39,4 +43,5 @@ pub struct RawParam {
 #[derive(Drop)]
 pub struct Source {
     pub items: Seq<Item>,
+    pub ghost formed: { IsFormed (map item_view items) },
 }

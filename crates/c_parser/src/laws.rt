@@ -1,12 +1,14 @@
 // Laws of the grammar, each the contract of a function without a body.
-ghost use Rattle.std.specs.Prelude.{◌≡◌, ◌≤◌, ◌⊎◌, ℕ, true, List, [], Option};
+ghost use Rattle.std.specs.Prelude.{◌≡◌, ◌<◌, ◌≤◌, ◌^◌, ◌⊎◌, ℕ, true, List, [], Option, length};
 ghost use Rattle.c_core.specs.TextOrder.{rises};
 ghost use Rattle.c_core.specs.declared.number.Spot.{Spot};
+ghost use Rattle.c_tokens.specs.Reading.{Ending, Tokens};
 ghost use Rattle.c_tokens.specs.declared.token.Token.{Token};
 ghost use Rattle.c_parser.specs.Tree.{Exp, Item};
 ghost use Rattle.c_parser.specs.Expressions.{Spells};
 ghost use Rattle.c_parser.specs.Sources.{Takes, IsSource, IsSyntax, max_height, max_brackets};
 ghost use Rattle.c_parser.specs.TextOrder.{spots_of_items, tokens_rise};
+ghost use Rattle.c_parser.specs.Formed.{AreOrderly, IsFormed};
 
 /// Each list of tokens spells a source, or has a first item that fits no form.
 pub fn some_outcome()
@@ -42,4 +44,14 @@ pub fn one_expression()
 /// the closing parentheses of calls follow the order of the text.
 pub fn text_order()
     ensures { (ts : List Token) (xs : List Item) → IsSource ts xs → tokens_rise ts ≡ true → rises (spots_of_items xs) ≡ true }
+{}
+
+/// What orderly tokens spell meets the invariant of a source.
+pub fn sources_are_formed()
+    ensures { (ts : List Token) (xs : List Item) → AreOrderly ts → IsSource ts xs → IsFormed xs }
+{}
+
+/// The tokens of a text are orderly.
+pub fn tokens_are_orderly()
+    ensures { (text : List ℕ) (ts : List Token) (end : Ending) → length text < 2 ^ 30 → Tokens text ts end → AreOrderly ts }
 {}

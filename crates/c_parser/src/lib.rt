@@ -34,7 +34,8 @@ mod words;
 pub use fault::{ExprFault, ParseFault};
 pub use item::{Item, RawParam, Source};
 pub use laws::{
-    one_expression, one_item, one_source, one_syntax, some_outcome, source_or_syntax, text_order,
+    one_expression, one_item, one_source, one_syntax, some_outcome, source_or_syntax,
+    sources_are_formed, text_order, tokens_are_orderly,
 };
 pub use source::parse;
 pub use tree::{RawDeclared, RawExpr, RawFirst, RawForm, RawInit, RawNode, RawStmt, ResultTest};

@@ -4,6 +4,7 @@ ghost use Rattle.c_core.specs.declared.number.Spot.{Spot};
 ghost use Rattle.c_parser.specs.Tree as t;
 ghost use Rattle.c_parser.specs.Signs.{place};
 ghost use Rattle.c_parser.specs.Sources.{IsSource, IsSyntax, max_height, max_brackets};
+ghost use Rattle.c_parser.specs.Formed.{AreOrderly};
 ghost use Rattle.c_parser.specs.ReadItems.{read_items};
 ghost use Rattle.c_parser.specs.Parsing.{Answers, IsFound, IsRefused, Outcomes};
 ghost use Rattle.c_parser.specs.declared.fault.ParseFault;
@@ -24,6 +25,7 @@ const MAX_HEIGHT: usize = 200;
 
 /// The source that tokens spell (C11 6.9), or the first token of the first item that fits no form.
 pub fn parse(alloc: Global, tokens: &Seq<Token>) -> Result<Source, ParseFault>
+    requires { AreOrderly tokens.now }
     ensures found { Answers tokens.now result }
     ensures source { (xs : List t.Item) → IsSource tokens.now xs → IsFound result xs }
     ensures syntax { (p : Spot) → IsSyntax tokens.now p → IsRefused result p }
@@ -33,6 +35,7 @@ pub fn parse(alloc: Global, tokens: &Seq<Token>) -> Result<Source, ParseFault>
 
 /// Item by item; each takes a token at least.
 fn source_at(alloc: Global, tokens: &[Token]) -> Result<Source, ParseFault>
+    requires { AreOrderly tokens.now }
     ensures { Outcomes result (read_items max_height max_brackets (length tokens.now) tokens.now) }
 {
     let mut items = Seq::new(alloc);

@@ -1,5 +1,5 @@
 // Whole sources: what they spell, and where they are refused.
-use crate::source_text::shown;
+use crate::source_text::{MAX_LENGTH, shown};
 use crate::{ParseFault, parse};
 use c_tokens::tokens;
 use std::alloc::{AllocError, Global};
@@ -356,6 +356,9 @@ fn nested(
 
 /// Whether so deep a text is a source; if not, its first item is refused.
 fn is_source(alloc: Global, text: &str) -> Result<bool, Fail> {
+    if text.len() > MAX_LENGTH {
+        return Ok(false);
+    }
     let Ok(found) = tokens(alloc, text.as_bytes()) else {
         return Ok(false);
     };

@@ -362,8 +362,14 @@ fn show_source(text: &mut String, source: &Source) -> Result<(), AllocError> {
     Ok(())
 }
 
+/// Each text of a test is shorter.
+pub const MAX_LENGTH: usize = 1 << 20;
+
 /// The items of a source text, or the line and column of the first that fits no form.
 pub fn shown(alloc: Global, text: &[u8]) -> Result<String, AllocError> {
+    if text.len() > MAX_LENGTH {
+        return String::from_str(alloc, "too long");
+    }
     let Ok(found) = tokens(alloc, text) else {
         return String::from_str(alloc, "no tokens");
     };

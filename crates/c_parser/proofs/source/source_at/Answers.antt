@@ -6,7 +6,8 @@ use Rattle.c_parser.specs.Signs.{place}
 use Rattle.c_parser.specs.Sources.{max_height, max_brackets}
 use Rattle.c_parser.specs.ReadItems.{read_item, read_items}
 use Rattle.c_parser.specs.SourceView.{item_view}
-use Rattle.c_parser.proofs.ParsingLaws.{unspelled, found_before, items_more, items_refused, items_push}
+use Rattle.c_parser.proofs.FormedItems.{source_formed}
+use Rattle.c_parser.proofs.ParsingLaws.{unspelled, found_before, items_more, items_refused, items_push, all_found}
 use Rattle.c_parser.specs.declared.fault.ParseFault.{ParseFault}
 use Rattle.c_parser.specs.Parsing.{Outcomes}
 use Rattle.c_parser.proofs.source.source_at.Goals as goal
@@ -27,3 +28,9 @@ returns-in-Err-Unspelled c =
     subst (λ (f : ParseFault). Outcomes (Err f) (read_items max_height max_brackets (length c.args.tokens.now) c.args.tokens.now)) (sym c.syntax_at-in-Err-Unspelled.ensures)
     (sym c.loop-rest.invariant ∙ items_refused max_height max_brackets c.loop-rest.more (c.loop-rest.more - 1) c.loop-rest.rest.now one some (map item_view c.loop-rest.items)
     (unspelled c.in-Err-Unspelled.field-0 (read_item max_height max_brackets c.loop-rest.rest.now) c.in-Err-Unspelled.field-0-is c.in-Err-Unspelled.ensures))
+
+pub invariant_of-result : goal.invariant_of-result
+invariant_of-result c =
+    let none : length c.loop-rest.rest.now ≡ 0 = search rules in
+    let items = map item_view c.loop-rest.items in
+    record { formed = source_formed c.args.tokens.now items c.requires (all_found items c.loop-rest.more c.args.tokens.now c.loop-rest.rest.now none c.loop-rest.invariant) }

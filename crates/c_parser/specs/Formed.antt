@@ -1,0 +1,168 @@
+-- What holds of each source.
+use Rattle.std.specs.Prelude.{nat_le, Bool, true, false, ◌&&◌, List, [], ◌∷◌, Option, Some, None, IsTrue}
+use Rattle.std.specs.List.{list_all}
+use Rattle.c_core.specs.Typing.{is_assignment}
+use Rattle.c_core.specs.TextOrder.{rises}
+use Rattle.c_tokens.specs.declared.token.Token.{Token}
+use Rattle.c_tokens.specs.declared.token.TokenKind.{TokenKind}
+use Rattle.c_tokens.specs.declared.token.TokenKind.TheVariants as kind
+use Rattle.c_parser.specs.Tree.{Exp, Expr, Node, Number, Char, Var, Index, Unary, Cast, Step, Binary, Logic, Choose, Comma, Assign, Call, Exps, NoExp, MoreExp, Init, Absent, One, Many, Declared, First, NoFirst, FirstExp, FirstDeclared, Stm, Stmt, Form, Empty, Do, Declare, Block, If, While, DoWhile, For, Break, Continue, Return, Label, Else, NoElse, OrElse, Stms, NoStm, MoreStm, Item, Function, Prototype, Global, Closed}
+use Rattle.c_parser.specs.TextOrder.{spots_of_items, tokens_rise}
+
+-- ---- every node of every expression
+
+abbrev mutual
+  pub every_node : (Node → Bool) → Exp → Bool
+  every_node q (Expr p n) = q n && every_part q n
+
+  pub every_part : (Node → Bool) → Node → Bool
+  every_part q (Number v decimal unsigned longs) = true
+  every_part q (Char v) = true
+  every_part q (Var x p) = true
+  every_part q (Index x p i) = every_node q i
+  every_part q (Unary op a) = every_node q a
+  every_part q (Cast to a) = every_node q a
+  every_part q (Step op a) = every_node q a
+  every_part q (Binary op a b) = every_node q a && every_node q b
+  every_part q (Logic both a b) = every_node q a && every_node q b
+  every_part q (Choose mark e a b) = every_node q e && (every_node q a && every_node q b)
+  every_part q (Comma a b) = every_node q a && every_node q b
+  every_part q (Assign op a b) = every_node q a && every_node q b
+  every_part q (Call f p es close) = every_argument q es
+
+  pub every_argument : (Node → Bool) → Exps → Bool
+  every_argument q NoExp = true
+  every_argument q (MoreExp e es) = every_node q e && every_argument q es
+
+abbrev pub every_if : (Node → Bool) → Option Exp → Bool
+every_if q None = true
+every_if q (Some e) = every_node q e
+
+abbrev pub every_in_init : (Node → Bool) → Init → Bool
+every_in_init q Absent = true
+every_in_init q (One e) = every_node q e
+every_in_init q (Many es) = every_argument q es
+
+abbrev pub every_in_declared : (Node → Bool) → List Declared → Bool
+every_in_declared q [] = true
+every_in_declared q (d ∷ ds) = every_if q d.size && (every_in_init q d.init && every_in_declared q ds)
+
+abbrev pub every_in_first : (Node → Bool) → First → Bool
+every_in_first q NoFirst = true
+every_in_first q (FirstExp e) = every_node q e
+every_in_first q (FirstDeclared ds) = every_in_declared q ds
+
+abbrev mutual
+  pub every_in_statement : (Node → Bool) → Stm → Bool
+  every_in_statement q (Stmt p f) = every_in_form q f
+
+  pub every_in_form : (Node → Bool) → Form → Bool
+  every_in_form q Empty = true
+  every_in_form q (Do e) = every_node q e
+  every_in_form q (Declare ds) = every_in_declared q ds
+  every_in_form q (Block b) = every_in_block q b
+  every_in_form q (If e s o) = every_node q e && (every_in_statement q s && every_in_else q o)
+  every_in_form q (While e s) = every_node q e && every_in_statement q s
+  every_in_form q (DoWhile s e) = every_in_statement q s && every_node q e
+  every_in_form q (For i e u s) = every_in_first q i && (every_if q e && (every_if q u && every_in_statement q s))
+  every_in_form q Break = true
+  every_in_form q Continue = true
+  every_in_form q (Return e) = every_if q e
+  every_in_form q (Label w s) = every_in_statement q s
+
+  pub every_in_else : (Node → Bool) → Else → Bool
+  every_in_else q NoElse = true
+  every_in_else q (OrElse s) = every_in_statement q s
+
+  pub every_in_block : (Node → Bool) → Stms → Bool
+  every_in_block q NoStm = true
+  every_in_block q (MoreStm s b) = every_in_statement q s && every_in_block q b
+
+abbrev pub every_in_item : (Node → Bool) → Item → Bool
+every_in_item q (Function p w result xs s) = every_in_statement q s
+every_in_item q (Prototype p w result types) = true
+every_in_item q (Global ds) = every_in_declared q ds
+every_in_item q (Closed p w) = true
+
+-- ---- where declarations stand
+
+-- each declaration in it stands directly in a block (C11 6.8.2p1); `in_block`: so does the statement itself
+abbrev mutual
+  pub nests : Bool → Stm → Bool
+  nests in_block (Stmt p f) = form_nests in_block f
+
+  pub form_nests : Bool → Form → Bool
+  form_nests in_block Empty = true
+  form_nests in_block (Do e) = true
+  form_nests in_block (Declare ds) = in_block
+  form_nests in_block (Block b) = block_nests b
+  form_nests in_block (If e s o) = nests false s && else_nests o
+  form_nests in_block (While e s) = nests false s
+  form_nests in_block (DoWhile s e) = nests false s
+  form_nests in_block (For i e u s) = nests false s
+  form_nests in_block Break = true
+  form_nests in_block Continue = true
+  form_nests in_block (Return e) = true
+  form_nests in_block (Label w s) = nests false s
+
+  pub else_nests : Else → Bool
+  else_nests NoElse = true
+  else_nests (OrElse s) = nests false s
+
+  pub block_nests : Stms → Bool
+  block_nests NoStm = true
+  block_nests (MoreStm s b) = nests true s && block_nests b
+
+-- a body is a block (C11 6.9.1p1)
+abbrev pub is_block : Stm → Bool
+is_block (Stmt p (Block b)) = true
+is_block (Stmt p f) = false
+
+abbrev pub has_block : Item → Bool
+has_block (Function p w result xs s) = is_block s
+has_block (Prototype p w result types) = true
+has_block (Global ds) = true
+has_block (Closed p w) = true
+
+abbrev pub item_nests : Item → Bool
+item_nests (Function p w result xs s) = nests false s
+item_nests (Prototype p w result types) = true
+item_nests (Global ds) = true
+item_nests (Closed p w) = true
+
+-- ---- numbers and assignments
+
+-- a suffix has at most two letters `l` (C11 6.4.4.1)
+abbrev pub number_fits : Node → Bool
+number_fits (Number v decimal unsigned longs) = nat_le longs 2
+number_fits _ = true
+
+-- an assignment is `=`, or computes with an operator that is no comparison (C11 6.5.16)
+abbrev pub assignment_fits : Node → Bool
+assignment_fits (Assign op a b) = is_assignment op
+assignment_fits _ = true
+
+-- the invariant of a source
+pub record IsFormed (xs : List Item) : Type 0 where
+  -- each function's body is a block
+  pub bodies : IsTrue (list_all has_block xs)
+  -- each declaration in it stands directly in a block
+  pub nested : IsTrue (list_all item_nests xs)
+  pub numbers : IsTrue (list_all (every_in_item number_fits) xs)
+  pub assignments : IsTrue (list_all (every_in_item assignment_fits) xs)
+  -- the places of its parts follow the order of the text
+  pub in_order : IsTrue (rises (spots_of_items xs))
+
+-- ---- the tokens of a source
+
+abbrev pub kind_fits : TokenKind → Bool
+kind_fits (kind.Number v decimal unsigned longs) = nat_le longs 2
+kind_fits _ = true
+
+abbrev pub numbers_fit : List Token → Bool
+numbers_fit ts = list_all (λ (t : Token). kind_fits t.kind) ts
+
+-- tokens in the order of their text, with at most two letters `l` in each number's suffix
+pub record AreOrderly (ts : List Token) : Type 0 where
+  pub rise : IsTrue (tokens_rise ts)
+  pub numbers : IsTrue (numbers_fit ts)
