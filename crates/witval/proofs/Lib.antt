@@ -4,7 +4,6 @@ mod ExamplePassing
 mod ExampleVerdicts
 pub mod Judged
 pub mod Tested
-pub mod TokenSteps
 pub mod GrammarSteps
 pub mod NameSteps
 pub mod TreeSteps
@@ -19,3 +18,4 @@ pub mod ThinGiven
 pub mod ThinReturns
 pub mod AimSteps
 pub mod JudgedTask
+pub mod RisingTokens
