@@ -1,11 +1,14 @@
 // What holds of every run.
-ghost use Rattle.std.specs.Prelude.{◌≡◌, ◌≤◌, ℕ};
+ghost use Rattle.std.specs.Prelude.{◌≡◌, ◌≤◌, ℕ, ℤ, List};
 ghost use Rattle.c_core.specs.Tree.{Program};
 ghost use Rattle.c_meaning.specs.declared.run.Choices.{Choices};
 ghost use Rattle.c_meaning.specs.declared.run.End.TheVariants.{Spent};
 ghost use Rattle.c_meaning.specs.Run.{Run};
 ghost use Rattle.c_meaning.specs.Replay.{IsReplayed};
 ghost use Rattle.c_meaning.specs.Budget.{Continues, HasFewEvents, Stays};
+ghost use Rattle.c_meaning.specs.Drawn.{AreFitting};
+ghost use Rattle.c_meaning.specs.Duties.{Placed};
+ghost use Rattle.c_meaning.specs.Havoc.{Havoc};
 
 /// The draws of a run, taken in turn, give the same run.
 pub fn replay()
@@ -25,4 +28,10 @@ pub fn ended_runs_stay()
 /// A run of n steps has at most 3n + 1 events.
 pub fn few_events()
     ensures { (p : Program) (c : Choices) (N : ℕ) → HasFewEvents p c N }
+{}
+
+/// Each value that a run or a havoc run draws is one of its type, and so a number from -2^63 to 2^64 - 1.
+pub fn draws_fit()
+    ensures run { (p : Program) (c : Choices) (N : ℕ) → AreFitting p.model (Run p c N).draws }
+    ensures havoc_run { (p : Program) (invariants : List Placed) (values : List ℤ) → AreFitting p.model (Havoc p invariants values).draws }
 {}

@@ -15,7 +15,7 @@ mod value_tests;
 mod verdict;
 mod watcher;
 
-pub use laws::{ended_runs_stay, few_events, larger_budget_continues, replay};
+pub use laws::{draws_fit, ended_runs_stay, few_events, larger_budget_continues, replay};
 pub use memory::Memory;
 pub use run::{
     Choices, Draw, DrawKind, Duty, DutyKind, End, Event, Given, HavocEnd, HavocRun,

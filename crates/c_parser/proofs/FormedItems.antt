@@ -1,15 +1,13 @@
 -- What holds of each source.
-use Rattle.std.proofs.Common.{◌≡◌, ◌≤◌, ℕ, zero, suc, List, [], ◌∷◌, Bool, true, false, cond, ◌&&◌, refl, sym, ap, ◌∙◌, nat_le, Option, Some, None}
+use Rattle.std.proofs.Common.{◌≡◌, ℕ, List, Bool, true, false, cond, refl, sym, ap, Option, Some, None}
 use Rattle.std.specs.List.{list_all}
 use Rattle.c_core.specs.Typing.{is_assignment}
 use Rattle.c_core.specs.declared.number.BinOp.{BinOp}
-use Rattle.c_core.specs.declared.number.IntType.{IntType}
-use Rattle.c_core.specs.declared.number.Spot.{Spot}
 use Rattle.c_tokens.specs.Numbers.{is_spelled}
 use Rattle.c_tokens.specs.declared.token.Token.{Token}
 use Rattle.c_tokens.specs.declared.token.Punct.{Punct}
 use Rattle.c_tokens.specs.declared.token.Punct.TheVariants as sign
-use Rattle.c_parser.specs.Tree.{Node, Stm, Item}
+use Rattle.c_parser.specs.Tree.{Node, Item}
 use Rattle.c_parser.specs.Tree as item
 use Rattle.c_parser.specs.Formed.{every_in_item, has_block, item_nests, constant_fits, assignment_fits, IsFormed, AreOrderly, constants_fit}
 use Rattle.c_parser.specs.Signs.{sign_token, assigns}

@@ -31,7 +31,7 @@ mod FormedExpressions
 mod FormedStatements
 mod NestedStatements
 mod FormedItems
-mod OrderlyTokens
+pub mod OrderlyTokens
 mod SpelledExamples
 mod Views
 mod ReadSteps

@@ -1,5 +1,5 @@
 -- In what tokens spell each declaration stands directly in a block.
-use Rattle.std.proofs.Common.{◌≡◌, ℕ, zero, suc, List, [], ◌∷◌, Bool, true, false, refl}
+use Rattle.std.proofs.Common.{◌≡◌, ℕ, zero, suc, List, true, false, refl}
 use Rattle.c_tokens.specs.declared.token.Token.{Token}
 use Rattle.c_parser.specs.Tree.{Exp, Declared, Stm, Stmt, Form, stms}
 use Rattle.c_parser.specs.Tree as form

@@ -10,8 +10,8 @@ use Rattle.c_core.proofs.TextOrderLaws.{left, right, is_before-then}
 use Rattle.c_core.specs.declared.number.Spot.{Spot}
 use Rattle.c_tokens.specs.Bytes.{line_feed, is_digit, is_octal_digit, is_hexadecimal_digit}
 use Rattle.c_tokens.specs.Numbers.{Suffix, suffixes, suffix_among, suffix_of, with_suffix, in_radix, constant, begins_hexadecimal, is_spelled, number_in}
-use Rattle.c_tokens.specs.Pieces.{Piece, AWord, ANumber, ACharacter, AString, ASign, Longest}
-use Rattle.c_tokens.specs.Reading.{next, after, past, start, Ending, Whole, Reads, AtEnd, Between, AToken, RefusedDirective, UnclosedComment, BadNumber, BadByte, Tokens}
+use Rattle.c_tokens.specs.Pieces.{Piece, AWord, ANumber, ACharacter, AString, ASign}
+use Rattle.c_tokens.specs.Reading.{next, after, past, start, Ending, Reads, AtEnd, Between, AToken, RefusedDirective, UnclosedComment, BadNumber, BadByte, Tokens}
 use Rattle.c_tokens.specs.declared.place.Place.{Place}
 use Rattle.c_tokens.specs.declared.token.Token.{Token}
 use Rattle.c_tokens.specs.declared.token.TokenKind.{TokenKind}

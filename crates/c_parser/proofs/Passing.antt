@@ -1,5 +1,5 @@
 -- A test of what some tokens spell holds where the numbers among these tokens fit.
-use Rattle.std.proofs.Common.{◌≡◌, List, [], ◌∷◌, Bool, true, ◌&&◌, refl}
+use Rattle.std.proofs.Common.{◌≡◌, List, ◌∷◌, Bool, true, ◌&&◌, refl}
 use Rattle.c_core.proofs.TextOrderLaws.{right}
 use Rattle.c_core.specs.declared.number.Spot.{Spot}
 use Rattle.c_tokens.specs.declared.token.Token.{Token}

@@ -1,7 +1,6 @@
 // Whole sources: what they spell, and where they are refused.
-use crate::source_text::{MAX_LENGTH, shown};
-use crate::{ParseFault, parse};
-use c_tokens::tokens;
+use crate::ParseFault;
+use crate::source_text::{parsed, shown};
 use std::alloc::{AllocError, Global};
 use std::test::Fail;
 
@@ -355,17 +354,12 @@ fn nested(
 }
 
 /// Whether so deep a text is a source; if not, its first item is refused.
-fn is_source(alloc: Global, text: &str) -> Result<bool, Fail> {
-    if text.len() > MAX_LENGTH {
-        return Ok(false);
-    }
-    let Ok(found) = tokens(alloc, text.as_bytes()) else {
-        return Ok(false);
-    };
-    match parse(alloc, &found) {
-        Ok(_) => Ok(true),
-        Err(ParseFault::Syntax { line, column }) => Ok(line != 1 || column != 1),
-        Err(ParseFault::OutOfMemory) => Ok(true),
+fn is_source(alloc: Global, text: &str) -> bool {
+    match parsed(alloc, text.as_bytes()) {
+        None => false,
+        Some(Ok(_)) => true,
+        Some(Err(ParseFault::Syntax { line, column })) => line != 1 || column != 1,
+        Some(Err(ParseFault::OutOfMemory)) => true,
     }
 }
 
@@ -393,7 +387,7 @@ fn limits_of_brackets_and_height(rt: HostRuntime) -> Result<(), Fail> {
     ];
     for (front, open, middle, close, back, times, want) in rows {
         let text = nested(alloc, front, open, middle, close, back, times)?;
-        assert_eq!(rt; is_source(alloc, text.as_str())?, want);
+        assert_eq!(rt; is_source(alloc, text.as_str()), want);
     }
     Ok(())
 }

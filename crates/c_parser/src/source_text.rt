@@ -363,23 +363,31 @@ fn show_source(text: &mut String, source: &Source) -> Result<(), AllocError> {
 }
 
 /// Each text of a test is shorter.
-pub const MAX_LENGTH: usize = 1 << 20;
+const MAX_LENGTH: usize = 1 << 20;
+
+/// What a text spells, if it is one of tokens.
+pub fn parsed(alloc: Global, text: &[u8]) -> Option<Result<Source, ParseFault>> {
+    if text.len() > MAX_LENGTH {
+        return None;
+    }
+    let Ok(found) = tokens(alloc, text) else {
+        return None;
+    };
+    Some(parse(alloc, &found))
+}
 
 /// The items of a source text, or the line and column of the first that fits no form.
 pub fn shown(alloc: Global, text: &[u8]) -> Result<String, AllocError> {
-    if text.len() > MAX_LENGTH {
-        return String::from_str(alloc, "too long");
-    }
-    let Ok(found) = tokens(alloc, text) else {
-        return String::from_str(alloc, "no tokens");
-    };
-    match parse(alloc, &found) {
-        Ok(source) => {
+    match parsed(alloc, text) {
+        None => String::from_str(alloc, "no tokens"),
+        Some(Ok(source)) => {
             let mut shown = String::new(alloc);
             show_source(&mut shown, &source)?;
             Ok(shown)
         }
-        Err(ParseFault::Syntax { line, column }) => format!(in alloc; "syntax {line}:{column}"),
-        Err(ParseFault::OutOfMemory) => String::from_str(alloc, "out of memory"),
+        Some(Err(ParseFault::Syntax { line, column })) => {
+            format!(in alloc; "syntax {line}:{column}")
+        }
+        Some(Err(ParseFault::OutOfMemory)) => String::from_str(alloc, "out of memory"),
     }
 }

@@ -1,5 +1,6 @@
-//! The clause form of a bit of a net. Its one promise: the clauses are true exactly where each variable has the value
-//! of its node and the bit is true, so they can be satisfied exactly where some inputs make the bit true.
+//! The clause form of a bit of a net, and logs of resolution. Its promises: the clauses are true exactly where each
+//! variable has the value of its node and the bit is true, so they can be satisfied exactly where some inputs make the
+//! bit true; and where `accepts` takes a log, no assignment satisfies the clauses.
 #![tactic(auto)]
 
 mod accept;

@@ -148,8 +148,52 @@ fn assignment(values: &Seq<bool>) -> u32 {
     sum
 }
 
+// whether the answer is that of the search through all assignments, and shown
+fn agrees(alloc: Global, cnf: &Cnf) -> Result<bool, OutOfMemory> {
+    if cnf.clauses.len() >= 100 {
+        return Ok(false);
+    }
+    match solve(alloc, cnf, 31)? {
+        Answer::Model(values) => Ok(satisfies(cnf, assignment(&values))),
+        Answer::Refuted(log) => {
+            let accepted = accepts(alloc, cnf, &log)?;
+            Ok(accepted && !is_satisfiable(cnf))
+        }
+        Answer::Spent(_) => Ok(false),
+    }
+}
+
+// of the clauses over two variables those that the digits of a number choose
+fn chosen(alloc: Global, set: u32) -> Result<Cnf, Fail> {
+    let mut clauses = Seq::new(alloc);
+    let mut rest = set;
+    for code in 0..9 {
+        if rest % 2 == 1 {
+            clauses.push(coded(alloc, code)?)?;
+        }
+        rest /= 2;
+    }
+    let cnf = Cnf::new(2, clauses).ok_or("another variable")?;
+    Ok(cnf)
+}
+
+// how many can't be satisfied was counted apart, in Python; 256 of them hold the empty clause
 #[test]
-fn verdicts_are_those_of_all_assignments(rt: HostRuntime) -> Result<(), Fail> {
+fn all_clause_sets_over_two_variables(rt: HostRuntime) -> Result<(), Fail> {
+    let mut refuted = 0u32;
+    for set in 0..512u32 {
+        let cnf = chosen(rt.alloc(), set)?;
+        assert!(rt; agrees(rt.alloc(), &cnf)?);
+        if !is_satisfiable(&cnf) {
+            refuted = refuted.wrapping_add(1);
+        }
+    }
+    assert_eq!(rt; refuted, 417);
+    Ok(())
+}
+
+#[test]
+fn two_hundred_clause_sets_over_four_variables(rt: HostRuntime) -> Result<(), Fail> {
     let mut seed = 1u32;
     let mut refuted = 0u32;
     for count in 0..200u32 {
@@ -159,20 +203,11 @@ fn verdicts_are_those_of_all_assignments(rt: HostRuntime) -> Result<(), Fail> {
             clauses.push(coded(rt.alloc(), seed / 256 % 81)?)?;
         }
         let cnf = Cnf::new(4, clauses).ok_or("another variable")?;
-        assert!(rt; cnf.clauses.len() < 100);
-        match solve(rt.alloc(), &cnf, 30)? {
-            Answer::Model(values) => {
-                assert!(rt; satisfies(&cnf, assignment(&values)));
-            }
-            Answer::Refuted(log) => {
-                assert!(rt; !is_satisfiable(&cnf));
-                assert!(rt; accepts(rt.alloc(), &cnf, &log)?);
-                refuted = refuted.wrapping_add(1);
-            }
-            Answer::Spent(_) => return Err("spent".into()),
+        assert!(rt; agrees(rt.alloc(), &cnf)?);
+        if !is_satisfiable(&cnf) {
+            refuted = refuted.wrapping_add(1);
         }
     }
-    assert!(rt; refuted > 50);
-    assert!(rt; refuted < 190);
+    assert_eq!(rt; refuted, 86);
     Ok(())
 }

@@ -16,7 +16,7 @@ use Rattle.witval.specs.ThinAims.{is_in_declaration, is_in_declarations, is_in_r
 use Rattle.witval.specs.ThinGrammar.{declaration_start, spot_at, test_start}
 use Rattle.witval.specs.ThinPlaces.{is_placed, is_placed_if}
 use Rattle.witval.specs.ThinProgram.{block_of, body_tree, declaration_of, program_tree, return_tree, statements_of, test_of}
-use Rattle.witval.specs.ThinTokens.{TokenAt}
+use Rattle.c_tokens.specs.declared.token.Token.{Token}
 
 sym_or : (a b c : Bool) → (a || (b || c)) ≡ ((a || b) || c)
 sym_or a b c = sym (or_assoc a b c)
@@ -40,7 +40,7 @@ aims_in target b =
     || (list_any (λ s. same_spot s target) (map spot_of (flat_map own_fulls_of (statements_of_block b)))
     || list_any (λ s. same_spot s target) (map spot_of (filter calls_reach_error (flat_map exps_of (flat_map own_fulls_of (statements_of_block b))))))
 
-aims_of_tests : (ts : List TokenAt) (target : Spot) (d k n at : ℕ) →
+aims_of_tests : (ts : List Token) (target : Spot) (d k n at : ℕ) →
     aims_in target (block_of (map (test_of ts d) (range_with_len k n) ++ return_tree ts at ∷ []))
     ≡ (list_any (λ j. is_in_test ts target (test_start d j)) (range_with_len k n) || is_in_return ts target at)
 aims_of_tests ts target d k zero at = regroup_two (same_spot (spot_at ts at) target) (same_spot (spot_at ts (at + 1)) target) false false false ∙ or-false (is_in_return ts target at)
@@ -50,7 +50,7 @@ aims_of_tests ts target d k (suc n) at =
     ∙ ap (λ rest. is_in_test ts target (test_start d k) || rest) (aims_of_tests ts target d (k + 1) n at)
     ∙ sym_or (is_in_test ts target (test_start d k)) (list_any (λ j. is_in_test ts target (test_start d j)) (range_with_len (k + 1) n)) (is_in_return ts target at)
 
-aims_of_declarations : (ts : List TokenAt) (target : Spot) (k n : ℕ) (more : List t.Stm) →
+aims_of_declarations : (ts : List Token) (target : Spot) (k n : ℕ) (more : List t.Stm) →
     aims_in target (block_of (map (declaration_of ts) (range_with_len k n) ++ more))
     ≡ (list_any (λ j. is_in_declaration ts target (declaration_start j)) (range_with_len k n) || aims_in target (block_of more))
 aims_of_declarations ts target k zero more = refl
@@ -71,11 +71,11 @@ no_input : (here : Bool) (call : t.Exp) (rest : Option t.Exp) → is_some (input
 no_input true call rest other none = other
 no_input false call rest other none = none
 
-inputs_of_tests : (ts : List TokenAt) (close : Spot) (d k n at : ℕ) → input_in close (block_of (map (test_of ts d) (range_with_len k n) ++ return_tree ts at ∷ [])) ≡ false
+inputs_of_tests : (ts : List Token) (close : Spot) (d k n at : ℕ) → input_in close (block_of (map (test_of ts d) (range_with_len k n) ++ return_tree ts at ∷ [])) ≡ false
 inputs_of_tests ts close d k zero at = refl
 inputs_of_tests ts close d k (suc n) at = no_input (same_spot (spot_at ts (test_start d k + 9)) close) _ _ refl (inputs_of_tests ts close d (k + 1) n at)
 
-inputs_of_declarations : (ts : List TokenAt) (close : Spot) (k n : ℕ) (more : List t.Stm) → input_in close (block_of more) ≡ false →
+inputs_of_declarations : (ts : List Token) (close : Spot) (k n : ℕ) (more : List t.Stm) → input_in close (block_of more) ≡ false →
     input_in close (block_of (map (declaration_of ts) (range_with_len k n) ++ more))
     ≡ list_any (λ j. same_spot (spot_at ts (declaration_start j + 5)) close) (range_with_len k n)
 inputs_of_declarations ts close k zero more none = none
@@ -95,7 +95,7 @@ aims_split q places fulls exps places' fulls' exps' is fs es =
     ∙ ap (λ xs. list_any q (of_kind Statement places') || (list_any q (map spot_of fulls') || list_any q (map spot_of (filter calls_reach_error xs)))) es
 
 -- the waypoints stand in the tree where they stand among the tokens
-placed-stands : (model : DataModel) (ts : List TokenAt) (layout : Layout) (w : ThinWitness) → is_placed (program_tree model ts layout) w ≡ stands ts layout w
+placed-stands : (model : DataModel) (ts : List Token) (layout : Layout) (w : ThinWitness) → is_placed (program_tree model ts layout) w ≡ stands ts layout w
 placed-stands model ts layout w =
     let d = layout.declarations in
     let e = layout.tests in
@@ -120,11 +120,11 @@ placed-stands model ts layout w =
     ap (λ b. b && aim_fits p w.target.line (Some w.target.column)) input ∙ ap (λ b. is_input_close ts layout w.close && b) aim
 
 -- what is read of the tokens holds of the program that is built of them
-placed-built : (model : DataModel) (ts : List TokenAt) (layout : Layout) (w : ThinWitness) (program : t.Program) (placed : Bool) → placed ≡ stands ts layout w → program ≡ program_tree model ts layout →
+placed-built : (model : DataModel) (ts : List Token) (layout : Layout) (w : ThinWitness) (program : t.Program) (placed : Bool) → placed ≡ stands ts layout w → program ≡ program_tree model ts layout →
     placed ≡ is_placed program w
 placed-built model ts layout w program placed read built = read ∙ sym (placed-stands model ts layout w) ∙ ap (λ p. is_placed p w) (sym built)
 
-pub placed-if-built : (model : DataModel) (ts : List TokenAt) (layout : Layout) (o : Option ThinWitness) (program : t.Program) (placed : Bool) → placed ≡ stands_if ts layout o → program ≡ program_tree model ts layout →
+pub placed-if-built : (model : DataModel) (ts : List Token) (layout : Layout) (o : Option ThinWitness) (program : t.Program) (placed : Bool) → placed ≡ stands_if ts layout o → program ≡ program_tree model ts layout →
     placed ≡ is_placed_if program o
 placed-if-built model ts layout None program placed read built = read
 placed-if-built model ts layout (Some w) program placed read built = placed-built model ts layout w program placed read built

@@ -1,11 +1,19 @@
 -- The reply to the bytes read is the reply that the files call for.
-use Rattle.std.proofs.Common.{◌≡◌, Result, Ok, Err, IfOk, ℕ, List, [], Bool, true, false, Option, Some, None, IfSome, refl, sym, subst, inl}
+use Rattle.std.proofs.Common.{◌≡◌, Result, Ok, Err, IfOk, ℕ, List, false, Option, Some, None, IfSome, refl, sym, subst, inl}
+use Rattle.std.proofs.lemmas.List.Elements.{All-nil}
 use Rattle.std.specs.Str.{bytes_eq}
 use Rattle.c_core.specs.declared.number.DataModel.{DataModel}
 use Rattle.c_core.specs.declared.number.Property.{Property}
 use Rattle.c_core.specs.declared.number.Property.TheVariants.{UnreachCall, NoOverflow}
+use Rattle.c_parser.specs.declared.fault.ParseFault.{ParseFault}
+use Rattle.c_parser.specs.declared.fault.ParseFault.TheVariants as parse
+use Rattle.c_parser.specs.declared.item.Source.{Source}
+use Rattle.c_tokens.specs.declared.token.Token.{Token}
+use Rattle.c_tokens.specs.declared.token.TokenFault.{TokenFault}
+use Rattle.c_tokens.specs.declared.token.TokenFault.TheVariants as tokens
 use Rattle.sha2.specs.Sha256.{sha256}
 use Rattle.wv_base.specs.Shelf.{ShelfState, Files, file_of}
+use Rattle.wv_report.specs.Json.{HasJsonIntegers, IsJsonInteger}
 use Rattle.wv_report.specs.declared.reply.Reply.{Reply}
 use Rattle.wv_report.specs.declared.reply.Reply.TheVariants.{Verdict as Judged, Refused, ReadFault}
 use Rattle.wv_schema.specs.Schema.{witness_of}
@@ -21,20 +29,21 @@ use Rattle.wv_yaml.specs.declared.tree.Tree.{Tree}
 use Rattle.wv_yaml.specs.declared.fault.YamlFault.{YamlFault}
 use Rattle.wv_yaml.specs.declared.fault.YamlFault.TheVariants.{Bytes, Grammar, Duplicate, OutOfMemory}
 use Rattle.witval.specs.Inputs.{OfFiles, AreInputs, IsWitness, ToldOne}
-use Rattle.witval.specs.Readings.{IsRefusal, IsSchemaRefusal, IsTaskRefusal, RightAfterAnswer, RightAfterProperty, RightAfterReading, RightAfterSchema, RightAfterTask}
-use Rattle.witval.specs.Tasks.{Task, Unbuilt, Violation, RightOn, RightOnInputs, RightOnProgram, RightOnTree, RightOnWitness, task_of}
+use Rattle.witval.specs.Readings.{IsRefusal, IsSchemaRefusal, IsSyntaxRefusal, IsTaskRefusal, IsTokenRefusal, RightAfterAnswer, RightAfterProperty, RightAfterReading, RightAfterSchema, RightAfterTask, RightByParse, RightByTokens}
+use Rattle.witval.specs.Tasks.{Task, Unbuilt, Violation, RightOn, RightOnInputs, RightOnProgram, RightOnSource, RightOnTokens, RightOnTree, RightOnWitness, task_of}
 use Rattle.witval.specs.Replies.{CanonicalIn, NoReply, NoTreeReply, NoWitnessReply, OnWitness, SummaryIn, RightAlone, RightOnBytes, RightFor, too_long}
 use Rattle.witval.specs.ThinProgram.{thin_program}
 use Rattle.witval.specs.ThinWitness.{thin_witness}
 use Rattle.witval.specs.declared.input.Inputs.{Inputs}
 use Rattle.witval.specs.declared.output.Output.{Output}
 use Rattle.witval.specs.declared.output.Output.TheVariants.{Report, Canonical, Summary}
+use Rattle.witval.proofs.ShownValues.{shows_integers}
 
--- a reply that is neither a read fault nor the refusal of a long file
+-- a reply that is neither a read fault nor the refusal of a long file; a verdict shows no number beyond 64 bits
 NotOfLength : Reply → Type 0
 NotOfLength (Refused code detail) = bytes_eq code too_long ≡ false
 NotOfLength (ReadFault file) = ⊥
-NotOfLength (Judged verdict) = Unit {0}
+NotOfLength (Judged verdict) = HasJsonIntegers (Judged verdict)
 
 refusals : (fault : YamlFault) (reply : Reply) → IsRefusal fault reply → NotOfLength reply
 unfolding NotOfLength
@@ -63,12 +72,32 @@ task_refusals task.Model reply e = subst NotOfLength (sym e) refl
 task_refusals task.Uuid reply e = subst NotOfLength (sym e) refl
 task_refusals task.OutOfMemory reply e = absurd e
 
+token_refusals : (fault : TokenFault) (reply : Reply) → IsTokenRefusal fault reply → NotOfLength reply
+unfolding NotOfLength
+token_refusals (tokens.Token line column) reply e = subst NotOfLength (sym e) refl
+token_refusals (tokens.Directive line) reply e = subst NotOfLength (sym e) refl
+token_refusals tokens.OutOfMemory reply e = absurd e
+
+syntax_refusals : (fault : ParseFault) (reply : Reply) → IsSyntaxRefusal fault reply → NotOfLength reply
+unfolding NotOfLength
+syntax_refusals (parse.Syntax line column) reply e = subst NotOfLength (sym e) refl
+syntax_refusals parse.OutOfMemory reply e = absurd e
+
 tasks : (steps : ℕ) (asked : Task) (reply : Reply) → RightOn steps asked reply → NotOfLength reply
 unfolding NotOfLength
 tasks steps (Unbuilt d) reply e = subst NotOfLength (sym e) refl
-tasks steps (Violation p ss) (Judged verdict) e = tt
+tasks steps (Violation p ss) (Judged verdict) e = shows_integers p ss steps verdict e.right
 tasks steps (Violation p ss) (Refused code detail) e = absurd e
 tasks steps (Violation p ss) (ReadFault file) e = absurd e
+
+after_tokens : (answer : Result (List Token) TokenFault) (within : List Token → Reply → Type 0) → ((ts : List Token) (reply : Reply) → within ts reply → NotOfLength reply)
+    → (reply : Reply) → RightByTokens answer within reply → NotOfLength reply
+after_tokens (Ok ts) within good reply right = good ts reply right
+after_tokens (Err fault) within good reply right = token_refusals fault reply right
+
+after_parse : (answer : Result Source ParseFault) (within : Reply → Type 0) → ((reply : Reply) → within reply → NotOfLength reply) → (reply : Reply) → RightByParse answer within reply → NotOfLength reply
+after_parse (Ok source) within good reply right = good reply right
+after_parse (Err fault) within good reply right = syntax_refusals fault reply right
 
 after_task : (answer : Result DataModel TaskFault) (within : DataModel → Reply → Type 0) → ((model : DataModel) (reply : Reply) → within model reply → NotOfLength reply)
     → (reply : Reply) → RightAfterTask answer within reply → NotOfLength reply
@@ -91,10 +120,18 @@ after_property (Some UnreachCall) within good reply right = good reply right
 after_property (Some NoOverflow) within good reply right = subst NotOfLength (sym right) refl
 after_property None within good reply right = subst NotOfLength (sym right) refl
 
+tokens_not_of_length : (steps : ℕ) (witness : Witness) (model : DataModel) (ts : List Token) (reply : Reply) → RightOnTokens steps witness model ts reply → NotOfLength reply
+tokens_not_of_length steps witness model ts reply right =
+    after_parse right.0 (RightOnSource steps witness model ts) (λ reply r. tasks steps (task_of (thin_program model ts) (thin_witness witness)) reply r) reply right.2
+
+program_not_of_length : (steps : ℕ) (program : List ℕ) (witness : Witness) (model : DataModel) (reply : Reply) → RightOnProgram steps program witness model reply → NotOfLength reply
+program_not_of_length steps program witness model reply right =
+    after_tokens right.0 (RightOnTokens steps witness model) (tokens_not_of_length steps witness model) reply right.2
+
 witness_not_of_length : (steps : ℕ) (program : List ℕ) (witness : Witness) (reply : Reply) → RightOnWitness steps program witness reply → NotOfLength reply
 witness_not_of_length steps program witness reply right =
     after_task (task_judged (sha256 program) UnreachCall witness.entries) (RightOnProgram steps program witness)
-    (λ model reply r. tasks steps (task_of (thin_program model program) (thin_witness witness)) reply r) reply right
+    (program_not_of_length steps program witness) reply right
 
 tree_not_of_length : (steps : ℕ) (program : List ℕ) (tree : Tree) (reply : Reply) → RightOnTree steps program tree reply → NotOfLength reply
 tree_not_of_length steps program tree reply right = after_schema (witness_of tree) (RightOnWitness steps program) (witness_not_of_length steps program) reply right
@@ -127,6 +164,17 @@ pub judged_if : {E : Type 0} (command : Command) (steps : ℕ) (old new : ShelfS
     → IfOk result (RightOnInputs steps inputs.program.items inputs.property.items inputs.witness.items) → IfOk result (RightFor command steps old new)
 judged_if command steps old new inputs (Ok reply) a right = judged command steps old new inputs reply a right (inputs_not_of_length steps inputs.program.items inputs.property.items inputs.witness.items reply right)
 judged_if command steps old new inputs (Err e) a right = tt
+
+-- it shows no number beyond 64 bits
+integers : (reply : Reply) → NotOfLength reply → HasJsonIntegers reply
+unfolding NotOfLength
+integers (Refused code detail) other = All-nil (λ draw. IsJsonInteger draw.value)
+integers (Judged verdict) other = other
+integers (ReadFault file) other = absurd other
+
+pub integers_if : {E : Type 0} (steps : ℕ) (program property witness : List ℕ) (result : Result Reply E) → IfOk result (RightOnInputs steps program property witness) → IfOk result HasJsonIntegers
+integers_if steps program property witness (Ok reply) right = integers reply (inputs_not_of_length steps program property witness reply right)
+integers_if steps program property witness (Err e) right = tt
 
 -- a refusal is no verdict
 IsRefused : Reply → Type 0

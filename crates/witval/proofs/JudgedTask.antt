@@ -5,6 +5,7 @@ use Rattle.c_core.specs.Tree as tree
 use Rattle.c_core.specs.declared.number.DataModel.{DataModel}
 use Rattle.c_core.specs.declared.number.Property.TheVariants.{UnreachCall}
 use Rattle.c_meaning.specs.declared.verdict.Verdict.{Verdict}
+use Rattle.c_tokens.specs.declared.token.Token.{Token}
 use Rattle.wv_report.specs.declared.reply.Reply.{Reply}
 use Rattle.wv_report.specs.declared.reply.Reply.TheVariants.{Verdict as Judged}
 use Rattle.wv_schema.specs.Schema.{IsAnswer, judged as schema_judged, schema_fault, witness_of}
@@ -18,7 +19,7 @@ use Rattle.wv_task.specs.declared.fault.TaskFault.TheVariants as task
 use Rattle.wv_yaml.specs.declared.tree.Tree.{Tree}
 use Rattle.witval.specs.declared.thin.witness.ThinWitness.{ThinWitness}
 use Rattle.witval.specs.Readings.{IsSchemaRefusal, IsTaskRefusal, RightAfterSchema, RightAfterTask}
-use Rattle.witval.specs.Tasks.{IsRightVerdict, RightOn, RightOnProgram, RightOnTree, RightOnWitness, Violation, task_of}
+use Rattle.witval.specs.Tasks.{IsRightVerdict, RightOn, RightOnProgram, RightOnSource, RightOnTree, RightOnWitness, Violation, task_of}
 use Rattle.wv_show.specs.Show.{summary_of}
 use Rattle.witval.specs.Replies.{NoTreeReply, NoWitnessReply, SummaryOf}
 use Rattle.witval.specs.declared.output.Output.TheVariants.{Report, Summary}
@@ -27,14 +28,14 @@ use Rattle.witval.specs.ThinProgram.{thin_program}
 use Rattle.witval.specs.ThinWitness.{thin_witness}
 
 -- the verdict on placed waypoints is the one that the program and the witness ask for
-pub judged_right : (steps : ℕ) (program : List ℕ) (witness : Witness) (model : DataModel) (found : Option ThinWitness) (w : ThinWitness) (p : tree.Program) (placed : Bool) (verdict : Verdict)
-    → found ≡ thin_witness witness → found ≡ Some w → thin_program model program ≡ Some p → placed ≡ is_placed_if p found → placed ≡ true
-    → IsRightVerdict steps p (segments_of w) verdict → RightOnProgram steps program witness model (Judged verdict)
-judged_right steps program witness model found w p placed verdict read is built stands holds right =
+pub judged_right : (steps : ℕ) (ts : List Token) (witness : Witness) (model : DataModel) (found : Option ThinWitness) (w : ThinWitness) (p : tree.Program) (placed : Bool) (verdict : Verdict)
+    → found ≡ thin_witness witness → found ≡ Some w → thin_program model ts ≡ Some p → placed ≡ is_placed_if p found → placed ≡ true
+    → IsRightVerdict steps p (segments_of w) verdict → RightOnSource steps witness model ts (Judged verdict)
+judged_right steps ts witness model found w p placed verdict read is built stands holds right =
     let there : thin_witness witness ≡ Some w = sym read ∙ is in
     let stands_if : is_placed_if p found ≡ true = sym stands ∙ holds in
     let stands_there : is_placed p w ≡ true = rw is at stands_if in
-    let task : task_of (thin_program model program) (thin_witness witness) ≡ Violation p (segments_of w) = rw (built, there, stands_there) refl in
+    let task : task_of (thin_program model ts) (thin_witness witness) ≡ Violation p (segments_of w) = rw (built, there, stands_there) refl in
     subst (λ k. RightOn steps k (Judged verdict)) (sym task) right
 
 -- want of memory gives no reply

@@ -2,9 +2,9 @@ pub mod Confirmed
 mod ExampleGiven
 mod ExamplePassing
 mod ExampleVerdicts
+pub mod ShownValues
 pub mod Judged
 pub mod Tested
-pub mod TokenSteps
 pub mod GrammarSteps
 pub mod NameSteps
 pub mod TreeSteps
@@ -19,3 +19,4 @@ pub mod ThinGiven
 pub mod ThinReturns
 pub mod AimSteps
 pub mod JudgedTask
+pub mod RisingTokens

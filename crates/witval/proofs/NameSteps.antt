@@ -1,50 +1,46 @@
 -- Declared names, one after another.
-use Rattle.std.proofs.Common.{◌≡◌, ℕ, ◌+◌, ◌-◌, ◌<◌, zero, suc, List, [], ◌∷◌, ◌++◌, length, map, Bool, true, false, cond, not, ◌&&◌, Option, Some, None, is_none, is_some, slice_index, nat_eq, ◌⊎◌, inl, inr, if◌then◌else◌, refl, sym, ◌∙◌, ap, arith, add-one, add-zero, zero-add}
-use Rattle.std.specs.List.{list_all, range_with_len}
+use Rattle.std.proofs.Common.{◌≡◌, ℕ, ◌+◌, ◌-◌, ◌<◌, suc, List, [], ◌∷◌, ◌++◌, length, map, Bool, true, false, cond, not, ◌&&◌, Option, Some, None, is_none, is_some, ◌⊎◌, inl, inr, if◌then◌else◌, refl, sym, ◌∙◌, ap, arith, add-one, add-zero, zero-add}
+use Rattle.std.specs.List.{range_with_len}
 use Rattle.std.specs.Map.{update}
-use Rattle.std.specs.Str.{IsAscii, IsUtf8, bytes_eq}
+use Rattle.std.specs.Str.{bytes_eq}
 use Rattle.std.proofs.Math.Bool.{and-false}
-use Rattle.std.proofs.lemmas.Bool.Decides.{nat_tests}
 use Rattle.std.proofs.lemmas.Slice.Eq.{bytes_eq-Decides}
-use Rattle.std.proofs.lemmas.Str.{IsUtf8-from_ascii}
-use Rattle.witval.specs.ThinCharacters.{is_word_part, is_digit}
 use Rattle.witval.specs.ThinObjects.{object_at, objects_of}
-use Rattle.witval.proofs.GrammarSteps.{both_left, both_right}
 use Rattle.std.proofs.lemmas.List.FromFn.{length-map-range_with_len, map-range_with_len_more}
-use Rattle.witval.specs.ThinTokens.{TokenAt}
-use Rattle.witval.specs.ThinGrammar.{declaration_start, is_name, is_word, names_fit, names_of, object_from, object_of, text_at}
+use Rattle.c_tokens.specs.declared.token.Token.{Token}
+use Rattle.witval.specs.ThinGrammar.{declaration_start, is_name, names_fit, names_of, object_from, object_of, text_at}
 
-abbrev pub name_at : List TokenAt → ℕ → List ℕ
+abbrev pub name_at : List Token → ℕ → List ℕ
 name_at ts k = text_at ts (declaration_start k + 1)
 
 -- n names from number k on
-abbrev pub names_between : List TokenAt → ℕ → ℕ → List (List ℕ)
+abbrev pub names_between : List Token → ℕ → ℕ → List (List ℕ)
 names_between ts k n = map (name_at ts) (range_with_len k n)
 
-pub names_of-more : (ts : List TokenAt) (k : ℕ) → names_of ts (k + 1) ≡ names_of ts k ++ name_at ts k ∷ []
+pub names_of-more : (ts : List Token) (k : ℕ) → names_of ts (k + 1) ≡ names_of ts k ++ name_at ts k ∷ []
 names_of-more ts k = map-range_with_len_more (name_at ts) 0 k k (omega arith)
 
 -- the next name is looked at
-pub names_fit-next : (ts : List TokenAt) (k left less : ℕ) → left ≡ less + 1 →
+pub names_fit-next : (ts : List Token) (k left less : ℕ) → left ≡ less + 1 →
     names_fit (names_of ts k) (names_between ts k left)
     ≡ ((is_name (name_at ts k) && is_none (object_of (names_of ts k) (name_at ts k))) && names_fit (names_of ts (k + 1)) (names_between ts (k + 1) less))
 names_fit-next ts k left less is = rw (is, add-one less, names_of-more ts k) refl
 
 -- the next name may not be declared
-pub names-unfit : (ts : List TokenAt) (k n : ℕ) (whole : Bool) → k < n → whole ≡ names_fit (names_of ts k) (names_between ts k (n - k)) → is_name (name_at ts k) ≡ false →
+pub names-unfit : (ts : List Token) (k n : ℕ) (whole : Bool) → k < n → whole ≡ names_fit (names_of ts k) (names_between ts k (n - k)) → is_name (name_at ts k) ≡ false →
     false ≡ whole
 names-unfit ts k n whole below known unfit =
     let next = names_fit-next ts k (n - k) (n - (k + 1)) (omega arith) in sym (known ∙ next ∙ rw unfit refl)
 
 -- the next name is declared before
-pub names-again : (ts : List TokenAt) (k n : ℕ) (whole : Bool) → k < n → whole ≡ names_fit (names_of ts k) (names_between ts k (n - k)) →
+pub names-again : (ts : List Token) (k n : ℕ) (whole : Bool) → k < n → whole ≡ names_fit (names_of ts k) (names_between ts k (n - k)) →
     is_none (object_of (names_of ts k) (name_at ts k)) ≡ false → false ≡ whole
 names-again ts k n whole below known again =
     let next = names_fit-next ts k (n - k) (n - (k + 1)) (omega arith) in
     sym (known ∙ next ∙ rw again (ap (λ b. b && names_fit (names_of ts (k + 1)) (names_between ts (k + 1) (n - (k + 1)))) (and-false (is_name (name_at ts k)))))
 
 -- the next name fits
-pub names-fit : (ts : List TokenAt) (k n : ℕ) (whole : Bool) → k < n → whole ≡ names_fit (names_of ts k) (names_between ts k (n - k)) → is_name (name_at ts k) ≡ true →
+pub names-fit : (ts : List Token) (k n : ℕ) (whole : Bool) → k < n → whole ≡ names_fit (names_of ts k) (names_between ts k (n - k)) → is_name (name_at ts k) ≡ true →
     object_of (names_of ts k) (name_at ts k) ≡ None → whole ≡ names_fit (names_of ts (k + 1)) (names_between ts (k + 1) (n - (k + 1)))
 names-fit ts k n whole below known fits new =
     let next = names_fit-next ts k (n - k) (n - (k + 1)) (omega arith) in known ∙ next ∙ rw (fits, new) refl
@@ -98,14 +94,14 @@ pub object_of-more : (names : List (List ℕ)) (v w : List ℕ) → object_of na
 object_of-more names v w new = object_from-more 0 names v w new ∙ rw (zero-add (length names)) refl
 
 -- a map that gives the names so far their numbers, with one name more
-pub numbers-more : (ts : List TokenAt) (k : ℕ) (name w : List ℕ) (old : List ℕ → Option ℕ) (new : Option ℕ) → new ≡ update bytes_eq old name (Some k) w →
+pub numbers-more : (ts : List Token) (k : ℕ) (name w : List ℕ) (old : List ℕ → Option ℕ) (new : Option ℕ) → new ≡ update bytes_eq old name (Some k) w →
     old w ≡ object_of (names_of ts k) w → name ≡ name_at ts k → object_of (names_of ts k) (name_at ts k) ≡ None → new ≡ object_of (names_of ts (k + 1)) w
 numbers-more ts k name w old new put known is none =
     put ∙ ap (λ o. cond (bytes_eq name w) (Some k) o) known ∙ ap (λ v. cond (bytes_eq v w) (Some k) (object_of (names_of ts k) w)) is
     ∙ ap (λ n. cond (bytes_eq (name_at ts k) w) (Some n) (object_of (names_of ts k) w)) (sym (length-map-range_with_len (name_at ts) 0 k))
     ∙ sym (ap (λ names. object_of names w) (names_of-more ts k) ∙ object_of-more (names_of ts k) (name_at ts k) w none)
 
-pub objects-more : (ts : List TokenAt) (k : ℕ) → objects_of ts (k + 1) ≡ objects_of ts k ++ object_at ts k ∷ []
+pub objects-more : (ts : List Token) (k : ℕ) → objects_of ts (k + 1) ≡ objects_of ts k ++ object_at ts k ∷ []
 objects-more ts k = map-range_with_len_more (object_at ts) 0 k k (omega arith)
 
 pub none-where : (o : Option ℕ) → is_some o ≡ false → o ≡ None
@@ -115,14 +111,3 @@ none-where (Some n) none = cc
 pub some-where : (o : Option ℕ) → is_some o ≡ true → is_none o ≡ false
 some-where None some = cc
 some-where (Some n) some = refl
-
-word_small : (c : ℕ) → is_word_part c ≡ true → c < 128
-word_small c word = grind (arith, nat_tests)
-
-list_all-ascii : (w : List ℕ) → list_all is_word_part w ≡ true → IsAscii w
-list_all-ascii [] all i = omega arith
-list_all-ascii (c ∷ w) all zero = word_small c (both_left (is_word_part c) (list_all is_word_part w) all)
-list_all-ascii (c ∷ w) all (suc i) = list_all-ascii w (both_right (is_word_part c) (list_all is_word_part w) all) i
-
-pub is_word-utf8 : (w : List ℕ) → is_word w ≡ true → IsUtf8 w
-is_word-utf8 w word = IsUtf8-from_ascii w (list_all-ascii w (both_right (not (nat_eq (length w) 0) && not (is_digit (slice_index w 0))) (list_all is_word_part w) word))

@@ -1,93 +1,48 @@
 -- The places of a thin program's tree are those of its tokens, in their order.
-use Rattle.std.proofs.Common.{◌≡◌, ℕ, ◌+◌, ◌-◌, ◌<◌, ◌≤◌, zero, suc, nat_eq, nat_lt, nat_le, leb-true, lt-ltb, eq-eqb, List, [], ◌∷◌, ◌++◌, length, map, drop, Bool, true, false, ◌&&◌, if◌then◌else◌, Some, refl, sym, ◌∙◌, ap, subst, arith, append_assoc, append-nil, add-one, drop-cons, length-drop}
-use Rattle.std.proofs.Math.Bool.{or-true}
+use Rattle.std.proofs.Common.{◌≡◌, ℕ, ◌+◌, ◌-◌, ◌<◌, ◌≤◌, zero, suc, nat_le, leb-true, List, [], ◌∷◌, ◌++◌, length, map, drop, Bool, true, false, ◌&&◌, Some, refl, sym, ◌∙◌, ap, subst, arith, append_assoc, append-nil, add-one, drop-cons, length-drop}
 use Rattle.std.proofs.lemmas.List.{drop-map}
 use Rattle.std.proofs.lemmas.List.FromFn.{length-map-range_with_len}
 use Rattle.std.specs.Bool.{then_some}
-use Rattle.std.specs.List.{list_all, range_with_len}
+use Rattle.std.specs.List.{range_with_len}
 use Rattle.c_core.specs.Tree as t
 use Rattle.c_core.specs.Parts.{spots_of_names, names_of_program, names_in_block}
 use Rattle.c_core.specs.Thin.{IsPlaced}
-use Rattle.c_core.specs.TextOrder.{is_before, is_before_first, rises, spots_of_block, spots_of_functions, spots_of_objects}
-use Rattle.c_core.proofs.TextOrderLaws.{IsPart, skips, takes, part_none, is_before-then, rises-part, whole-same}
+use Rattle.c_core.specs.TextOrder.{is_before_first, rises, spots_of_block, spots_of_functions, spots_of_objects}
+use Rattle.c_core.proofs.TextOrderLaws.{IsPart, skips, takes, part_none, rises-part, whole-same}
 use Rattle.c_core.specs.declared.number.Spot.{Spot}
 use Rattle.c_core.specs.declared.number.DataModel.{DataModel}
 use Rattle.witval.specs.declared.thin.grammar.Layout.{Layout}
-use Rattle.witval.specs.declared.thin.grammar.Phrase.TheVariants.{Opening, Declaration, Test, Closing}
-use Rattle.witval.specs.ThinTokens.{TokenAt, behind, is_blank, right, token_length, tokens_from, tokens_of}
-use Rattle.witval.specs.ThinGrammar.{declaration_start, is_consistent, is_whole, layout_of, most_declarations, no_token, spells, spot_at, test_start, times, tokens_in}
+use Rattle.witval.specs.declared.thin.phrases.Phrase.TheVariants.{Opening, Declaration, Test, Closing}
+use Rattle.c_tokens.specs.declared.token.Token.{Token}
+use Rattle.witval.specs.ThinGrammar.{declaration_start, is_consistent, is_whole, layout_of, most_declarations, no_token, spells, spot_at, test_start, times}
+use Rattle.witval.specs.ThinPhrases.{parts_of}
 use Rattle.witval.specs.ThinObjects.{object_at, objects_of}
 use Rattle.witval.specs.ThinProgram.{block_of, declaration_of, program_tree, return_tree, statements_of, test_of}
-use Rattle.witval.proofs.GrammarSteps.{both_left, both_right, length-tokens_in, spells-length}
-
-abbrev pub spots : List TokenAt → List Spot
-spots ts = map (λ t. t.spot) ts
-
-before-right : (at : Spot) → is_before at (right at 1) ≡ true
-before-right at = rw (eq-eqb at.line at.line refl, lt-ltb at.column (at.column + 1) (omega arith)) (or-true (nat_lt at.line at.line))
-
-before_if : (at : Spot) (feed : Bool) → is_before at (if feed then (record { line = at.line + 1; column = 1 }) else right at 1) ≡ true
-before_if at true = rw (lt-ltb at.line (at.line + 1) (omega arith)) refl
-before_if at false = before-right at
-
-before-behind : (at : Spot) (c : ℕ) → is_before at (behind at c) ≡ true
-before-behind at c = before_if at (nat_eq c 10)
-
--- all places of the tokens from a place on stand behind what stands before it
-record Follows (at : Spot) (ts : List TokenAt) : Type 0 where
-  rising : rises (spots ts) ≡ true
-  behind_all : (a : Spot) → is_before a at ≡ true → list_all (is_before a) (spots ts) ≡ true
-
-first_before : (a : Spot) (ss : List Spot) → list_all (is_before a) ss ≡ true → is_before_first a ss ≡ true
-first_before a [] all = refl
-first_before a (b ∷ ss) all = both_left (is_before a b) (list_all (is_before a) ss) all
-
-follows_later : (at next : Spot) (ts : List TokenAt) → is_before at next ≡ true → Follows next ts → Follows at ts
-follows_later at next ts before f = record { rising = f.rising; behind_all = λ a h. f.behind_all a (is_before-then a at next h before) }
-
-follows_token : (at next : Spot) (text : List ℕ) (ts : List TokenAt) → is_before at next ≡ true → Follows next ts → Follows at (record { text = text; spot = at } ∷ ts)
-follows_token at next text ts before f = record {
-  rising = rw (first_before at (spots ts) (f.behind_all at before)) f.rising;
-  behind_all = λ a h. rw h (f.behind_all a (is_before-then a at next h before));
-}
-
-follows_first : (at next : Spot) (bytes : List ℕ) (c : ℕ) (blank : Bool) (ts : List TokenAt) → is_before at next ≡ true → Follows next ts →
-    Follows at ((if blank then [] else record { text = bytes; spot = at } ∷ []) ++ ts)
-follows_first at next bytes c true ts before f = follows_later at next ts before f
-follows_first at next bytes c false ts before f = follows_token at next bytes ts before f
-
-tokens_follow : (at : Spot) (left : ℕ) (bytes : List ℕ) → Follows at (tokens_from at left bytes)
-tokens_follow at left [] = record { rising = refl; behind_all = λ a h. refl }
-tokens_follow at (suc left) (c ∷ bytes) = follows_later at (right at 1) (tokens_from (right at 1) left bytes) (before-right at) (tokens_follow (right at 1) left bytes)
-tokens_follow at zero (c ∷ bytes) =
-    follows_first at (behind at c) _ c (is_blank c) (tokens_from (behind at c) (token_length (c ∷ bytes) - 1) bytes) (before-behind at c)
-    (tokens_follow (behind at c) (token_length (c ∷ bytes) - 1) bytes)
-
-tokens_rise : (bytes : List ℕ) → rises (spots (tokens_of bytes)) ≡ true
-tokens_rise bytes = (tokens_follow (record { line = 1; column = 1 }) 0 bytes).rising
+use Rattle.witval.proofs.RisingTokens.{spots}
+use Rattle.witval.proofs.GrammarSteps.{both_left, both_right, length-parts_of, spells-length}
 
 -- places of tokens in their order, from the token with a number on
-abbrev pub Places : List TokenAt → ℕ → List Spot → Type 0
+abbrev pub Places : List Token → ℕ → List Spot → Type 0
 Places ts n ss = IsPart ss (spots (drop n ts))
 
-pass : (ts : List TokenAt) (n m : ℕ) (ss : List Spot) → m ≡ n + 1 → n < length ts → Places ts m ss → Places ts n ss
+pass : (ts : List Token) (n m : ℕ) (ss : List Spot) → m ≡ n + 1 → n < length ts → Places ts m ss → Places ts n ss
 pass ts n m ss next within p =
     subst (λ xs. IsPart ss (spots xs)) (sym (drop-cons ts n no_token within))
     (skips (spot_at ts n) ss (spots (drop (suc n) ts)) (subst (λ k. Places ts k ss) (next ∙ add-one n) p))
 
-pick : (ts : List TokenAt) (n m : ℕ) (ss : List Spot) → m ≡ n + 1 → n < length ts → Places ts m ss → Places ts n (spot_at ts n ∷ ss)
+pick : (ts : List Token) (n m : ℕ) (ss : List Spot) → m ≡ n + 1 → n < length ts → Places ts m ss → Places ts n (spot_at ts n ∷ ss)
 pick ts n m ss next within p =
     subst (λ xs. IsPart (spot_at ts n ∷ ss) (spots xs)) (sym (drop-cons ts n no_token within))
     (takes (spot_at ts n) ss (spots (drop (suc n) ts)) (subst (λ k. Places ts k ss) (next ∙ add-one n) p))
 
-declaration_places : (ts : List TokenAt) (n : ℕ) (ss : List Spot) → n + 7 ≤ length ts → Places ts (n + 7) ss →
+declaration_places : (ts : List Token) (n : ℕ) (ss : List Spot) → n + 7 ≤ length ts → Places ts (n + 7) ss →
     Places ts n (spot_at ts n ∷ spot_at ts (n + 1) ∷ spot_at ts (n + 3) ∷ spot_at ts (n + 5) ∷ ss)
 declaration_places ts n ss within p =
     pick ts n (n + 1) _ refl (omega arith) (pick ts (n + 1) (n + 2) _ (omega arith) (omega arith) (pass ts (n + 2) (n + 3) _ (omega arith) (omega arith)
     (pick ts (n + 3) (n + 4) _ (omega arith) (omega arith) (pass ts (n + 4) (n + 5) _ (omega arith) (omega arith)
     (pick ts (n + 5) (n + 6) ss (omega arith) (omega arith) (pass ts (n + 6) (n + 7) ss (omega arith) (omega arith) p))))))
 
-test_places : (ts : List TokenAt) (n : ℕ) (ss : List Spot) → n + 12 ≤ length ts → Places ts (n + 12) ss →
+test_places : (ts : List Token) (n : ℕ) (ss : List Spot) → n + 12 ≤ length ts → Places ts (n + 12) ss →
     Places ts n (spot_at ts n ∷ spot_at ts (n + 2) ∷ spot_at ts (n + 4) ∷ spot_at ts (n + 6) ∷ spot_at ts (n + 7) ∷ spot_at ts (n + 9) ∷ ss)
 test_places ts n ss within p =
     pick ts n (n + 1) _ refl (omega arith) (pass ts (n + 1) (n + 2) _ (omega arith) (omega arith) (pick ts (n + 2) (n + 3) _ (omega arith) (omega arith)
@@ -95,11 +50,11 @@ test_places ts n ss within p =
     (pick ts (n + 6) (n + 7) _ (omega arith) (omega arith) (pick ts (n + 7) (n + 8) _ (omega arith) (omega arith) (pass ts (n + 8) (n + 9) _ (omega arith) (omega arith)
     (pick ts (n + 9) (n + 10) ss (omega arith) (omega arith) (pass ts (n + 10) (n + 11) ss (omega arith) (omega arith) (pass ts (n + 11) (n + 12) ss (omega arith) (omega arith) p)))))))))))
 
-closing_places : (ts : List TokenAt) (n : ℕ) → n + 4 ≤ length ts → Places ts n (spot_at ts n ∷ spot_at ts (n + 1) ∷ [])
+closing_places : (ts : List Token) (n : ℕ) → n + 4 ≤ length ts → Places ts n (spot_at ts n ∷ spot_at ts (n + 1) ∷ [])
 closing_places ts n within = pick ts n (n + 1) _ refl (omega arith) (pick ts (n + 1) (n + 2) [] (omega arith) (omega arith) (part_none (spots (drop (n + 2) ts))))
 
 -- the tests from number k on, and the end
-tests_placed : (ts : List TokenAt) (d k n at : ℕ) → at ≡ test_start d (k + n) → at + 4 ≤ length ts →
+tests_placed : (ts : List Token) (d k n at : ℕ) → at ≡ test_start d (k + n) → at + 4 ≤ length ts →
     Places ts (test_start d k) (spots_of_block (block_of (map (test_of ts d) (range_with_len k n) ++ return_tree ts at ∷ [])))
 tests_placed ts d k zero at is within =
     let here : at ≡ test_start d k = omega arith in subst (λ n. Places ts n (spot_at ts at ∷ spot_at ts (at + 1) ∷ [])) here (closing_places ts at within)
@@ -113,7 +68,7 @@ tests_placed ts d k (suc n) at is within =
     rw (whole-same (spot_at ts (s + 2)) [], whole-same (spot_at ts (s + 7)) (spot_at ts (s + 9) ∷ []))
     (test_places ts s rest room (subst (λ m. Places ts m rest) next more))
 
-declarations_placed : (ts : List TokenAt) (k n : ℕ) (more : List t.Stm) → declaration_start (k + n) ≤ length ts → Places ts (declaration_start (k + n)) (spots_of_block (block_of more)) →
+declarations_placed : (ts : List Token) (k n : ℕ) (more : List t.Stm) → declaration_start (k + n) ≤ length ts → Places ts (declaration_start (k + n)) (spots_of_block (block_of more)) →
     Places ts (declaration_start k) (spots_of_block (block_of (map (declaration_of ts) (range_with_len k n) ++ more)))
 declarations_placed ts k zero more within p = let here : declaration_start (k + 0) ≡ declaration_start k = omega arith in subst (λ n. Places ts n (spots_of_block (block_of more))) here p
 declarations_placed ts k (suc n) more within p =
@@ -125,12 +80,12 @@ declarations_placed ts k (suc n) more within p =
     let rest = declarations_placed ts (k + 1) n more within' (subst (λ n. Places ts n (spots_of_block (block_of more))) same p) in
     declaration_places ts (declaration_start k) spots_left room (subst (λ m. Places ts m spots_left) next rest)
 
-names_placed : (ts : List TokenAt) (k n : ℕ) (more : List t.Stm) → spots_of_names (names_in_block (block_of more)) ≡ [] →
+names_placed : (ts : List Token) (k n : ℕ) (more : List t.Stm) → spots_of_names (names_in_block (block_of more)) ≡ [] →
     spots_of_objects (map (object_at ts) (range_with_len k n)) ≡ spots_of_names (names_in_block (block_of (map (declaration_of ts) (range_with_len k n) ++ more)))
 names_placed ts k zero more none = sym none
 names_placed ts k (suc n) more none = ap (λ ss. spot_at ts (declaration_start k + 1) ∷ ss) (names_placed ts (k + 1) n more none)
 
-tests_nameless : (ts : List TokenAt) (d k n at : ℕ) → spots_of_names (names_in_block (block_of (map (test_of ts d) (range_with_len k n) ++ return_tree ts at ∷ []))) ≡ []
+tests_nameless : (ts : List Token) (d k n at : ℕ) → spots_of_names (names_in_block (block_of (map (test_of ts d) (range_with_len k n) ++ return_tree ts at ∷ []))) ≡ []
 tests_nameless ts d k zero at = refl
 tests_nameless ts d k (suc n) at = tests_nameless ts d (k + 1) n at
 
@@ -139,19 +94,19 @@ then_some-some true x y is = (refl, cc)
 then_some-some false x y is = cc
 
 -- the closing stands behind the tests
-closing_within : (ts : List TokenAt) (layout : Layout) → layout_of ts ≡ Some layout → test_start layout.declarations layout.tests + 4 ≤ length ts
+closing_within : (ts : List Token) (layout : Layout) → layout_of ts ≡ Some layout → test_start layout.declarations layout.tests + 4 ≤ length ts
 closing_within ts layout found =
-    let ds = times (tokens_in Declaration) (drop (declaration_start 0) ts) in
-    let es = times (tokens_in Test) (drop (declaration_start ds) ts) in
-    let parts = then_some-some (spells (tokens_in Opening) ts && is_whole (tokens_in Closing) (drop (test_start ds es) ts)) (record { declarations = ds; tests = es }) layout found in
-    let whole = both_right (spells (tokens_in Opening) ts) (is_whole (tokens_in Closing) (drop (test_start ds es) ts)) parts.0 in
-    let room = spells-length (tokens_in Closing) (drop (test_start ds es) ts) (both_left (spells (tokens_in Closing) (drop (test_start ds es) ts)) _ whole) in
-    let size = length-tokens_in Closing in
+    let ds = times (parts_of Declaration) (drop (declaration_start 0) ts) in
+    let es = times (parts_of Test) (drop (declaration_start ds) ts) in
+    let parts = then_some-some (spells (parts_of Opening) ts && is_whole (parts_of Closing) (drop (test_start ds es) ts)) (record { declarations = ds; tests = es }) layout found in
+    let whole = both_right (spells (parts_of Opening) ts) (is_whole (parts_of Closing) (drop (test_start ds es) ts)) parts.0 in
+    let room = spells-length (parts_of Closing) (drop (test_start ds es) ts) (both_left (spells (parts_of Closing) (drop (test_start ds es) ts)) _ whole) in
+    let size = length-parts_of Closing in
     let rest = length-drop (test_start ds es) ts in
     let within : test_start ds es + 4 ≤ length ts = omega (arith, room, size, rest) in
     subst (λ l. test_start l.declarations l.tests + 4 ≤ length ts) parts.1 within
 
-opening_places : (ts : List TokenAt) (ss : List Spot) → 16 ≤ length ts → Places ts 16 ss → Places ts 15 (spot_at ts 15 ∷ ss)
+opening_places : (ts : List Token) (ss : List Spot) → 16 ≤ length ts → Places ts 16 ss → Places ts 15 (spot_at ts 15 ∷ ss)
 opening_places ts ss within p = pick ts 15 16 ss refl (omega arith) p
 
 rises-drop : (n : ℕ) (ss rest : List Spot) → drop n ss ≡ rest → rises ss ≡ true → rises rest ≡ true
@@ -159,17 +114,17 @@ rises-drop zero ss rest is rising = subst (λ xs. rises xs ≡ true) is rising
 rises-drop (suc n) [] rest is rising = subst (λ xs. rises xs ≡ true) is refl
 rises-drop (suc n) (s ∷ ss) rest is rising = rises-drop n ss rest is (both_right (is_before_first s ss) (rises ss) rising)
 
-part_from : (ts : List TokenAt) (n : ℕ) (ss : List Spot) → Places ts n ss → rises (spots ts) ≡ true → rises ss ≡ true
+part_from : (ts : List Token) (n : ℕ) (ss : List Spot) → Places ts n ss → rises (spots ts) ≡ true → rises ss ≡ true
 part_from ts n ss p rising = rises-part ss (spots (drop n ts)) p (rises-drop n (spots ts) (spots (drop n ts)) (drop-map (λ t. t.spot) n ts) rising)
 
-few_of : (ts : List TokenAt) (layout : Layout) → is_consistent ts layout ≡ true → length (objects_of ts layout.declarations) ≤ 100000
+few_of : (ts : List Token) (layout : Layout) → is_consistent ts layout ≡ true → length (objects_of ts layout.declarations) ≤ 100000
 few_of ts layout fits =
     let few = leb-true layout.declarations most_declarations (both_left (nat_le layout.declarations most_declarations) _ fits) in
     let many = length-map-range_with_len (object_at ts) 0 layout.declarations in
     omega (arith, few, many)
 
 -- the places of the tree are as a program's should be
-pub tree_placed : (model : DataModel) (ts : List TokenAt) (layout : Layout) → rises (spots ts) ≡ true → layout_of ts ≡ Some layout → is_consistent ts layout ≡ true → IsPlaced (program_tree model ts layout)
+pub tree_placed : (model : DataModel) (ts : List Token) (layout : Layout) → rises (spots ts) ≡ true → layout_of ts ≡ Some layout → is_consistent ts layout ≡ true → IsPlaced (program_tree model ts layout)
 tree_placed model ts layout rising found fits =
     let d = layout.declarations in
     let e = layout.tests in
@@ -194,6 +149,3 @@ tree_placed model ts layout rising found fits =
       named = names_placed ts 0 d tests (tests_nameless ts d 0 e (test_start d e)) ∙ sym (ap spots_of_names all_names);
       few = few_of ts layout fits;
     }
-
-pub tokens_rise-given : (bytes : List ℕ) (ts : List TokenAt) → ts ≡ tokens_of bytes → rises (spots ts) ≡ true
-tokens_rise-given bytes ts is = subst (λ xs. rises (spots xs) ≡ true) (sym is) (tokens_rise bytes)

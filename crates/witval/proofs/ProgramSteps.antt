@@ -15,13 +15,13 @@ use Rattle.c_core.specs.declared.tree.Object.{Object}
 use Rattle.c_core.specs.declared.tree.Start.{Start}
 use Rattle.c_core.specs.declared.tree.Stmt.{Stmt}
 use Rattle.witval.specs.declared.thin.grammar.Layout.{Layout}
-use Rattle.witval.specs.ThinTokens.{TokenAt, tokens_of}
+use Rattle.c_tokens.specs.declared.token.Token.{Token}
 use Rattle.witval.specs.ThinGrammar.{is_consistent, layout_of, most_declarations, names_fit, names_of, spot_at, test_start, tests_fit}
 use Rattle.witval.specs.ThinObjects.{objects_of}
 use Rattle.witval.specs.ThinProgram.{block_of, declaration_of, main_tree, program_if, program_tree, return_tree, statements_of, test_of, thin_program}
 
 -- declarations, tests and the last statement are all statements
-pub statements-are : (ts : List TokenAt) (layout : Layout) (start declared tested all : List Stmt) (end : Stmt) → start ≡ [] →
+pub statements-are : (ts : List Token) (layout : Layout) (start declared tested all : List Stmt) (end : Stmt) → start ≡ [] →
     map stmt_view declared ≡ map stmt_view start ++ map (declaration_of ts) (range_with_len 0 layout.declarations) →
     map stmt_view tested ≡ map stmt_view declared ++ map (test_of ts layout.declarations) (range_with_len 0 layout.tests) →
     all ≡ tested ++ end ∷ [] → stmt_view end ≡ return_tree ts (test_start layout.declarations layout.tests) → map stmt_view all ≡ statements_of ts layout
@@ -40,7 +40,7 @@ main_with params body = record { result = Some Int; params = params; body = body
 abbrev program_with : DataModel → List Object → List Start → List t.Function → t.Program
 program_with model objects starts functions = record { model = model; property = UnreachCall; objects = objects; starts = starts; functions = functions; main = 0 }
 
-pub main-is : (ts : List TokenAt) (layout : Layout) (statements : List Stmt) (spot : Spot) (params : List ℕ) → map stmt_view statements ≡ statements_of ts layout →
+pub main-is : (ts : List Token) (layout : Layout) (statements : List Stmt) (spot : Spot) (params : List ℕ) → map stmt_view statements ≡ statements_of ts layout →
     spot ≡ spot_at ts 15 → params ≡ [] →
     main_with params (t.Stmt spot (form_view (Block statements))) ≡ main_tree ts layout
 main-is ts layout statements spot params are at none =
@@ -48,21 +48,18 @@ main-is ts layout statements spot params are at none =
     ∙ ap (λ s. main_with [] (t.Stmt s (form_view (Block statements)))) at
     ∙ ap (λ f. main_with [] (t.Stmt (spot_at ts 15) f)) (view_of_block statements ∙ ap t.Block (stmts_view-map statements ∙ ap block_of are))
 
-pub program-is : (model : DataModel) (ts : List TokenAt) (layout : Layout) (objects : List Object) (starts : List Start) (functions : List Function) → objects ≡ objects_of ts layout.declarations → starts ≡ [] →
+pub program-is : (model : DataModel) (ts : List Token) (layout : Layout) (objects : List Object) (starts : List Start) (functions : List Function) → objects ≡ objects_of ts layout.declarations → starts ≡ [] →
     functions_view functions ≡ main_tree ts layout ∷ [] → program_of model UnreachCall objects starts functions 0 ≡ program_tree model ts layout
 program-is model ts layout objects starts functions os none fs =
     ap (λ o. program_with model o starts (functions_view functions)) os ∙ ap (λ s. program_with model (objects_of ts layout.declarations) s (functions_view functions)) none
     ∙ ap (λ f. program_with model (objects_of ts layout.declarations) [] f) fs
 
-pub program-found : (model : DataModel) (bytes : List ℕ) (ts : List TokenAt) (layout : Layout) (found : Option Layout) (program : t.Program) → ts ≡ tokens_of bytes → found ≡ layout_of ts → found ≡ Some layout →
-    is_consistent ts layout ≡ true → program ≡ program_tree model ts layout → thin_program model bytes ≡ Some program
-program-found model bytes ts layout found program read laid is fits built =
-    ap (λ xs. program_if model xs (layout_of xs)) (sym read) ∙ ap (program_if model ts) (sym laid ∙ is) ∙ rw fits (ap Some (sym built))
+pub program-found : (model : DataModel) (ts : List Token) (layout : Layout) (found : Option Layout) (program : t.Program) → found ≡ layout_of ts → found ≡ Some layout →
+    is_consistent ts layout ≡ true → program ≡ program_tree model ts layout → thin_program model ts ≡ Some program
+program-found model ts layout found program laid is fits built = ap (program_if model ts) (sym laid ∙ is) ∙ rw fits (ap Some (sym built))
 
-pub consistent-from : (ts objects_in tests_in : List TokenAt) (layout : Layout) → objects_in ≡ ts → tests_in ≡ ts → layout.declarations ≤ 100000 →
-    names_fit [] (names_of objects_in layout.declarations) ≡ true → tests_fit (names_of tests_in layout.declarations) tests_in layout ≡ true → is_consistent ts layout ≡ true
-consistent-from ts objects_in tests_in layout same again few names tests =
-    let names' : names_fit [] (names_of ts layout.declarations) ≡ true = ap (λ xs. names_fit [] (names_of xs layout.declarations)) (sym same) ∙ names in
-    let tests' : tests_fit (names_of ts layout.declarations) ts layout ≡ true = ap (λ xs. tests_fit (names_of xs layout.declarations) xs layout) (sym again) ∙ tests in
+pub consistent-from : (ts : List Token) (layout : Layout) → layout.declarations ≤ 100000 →
+    names_fit [] (names_of ts layout.declarations) ≡ true → tests_fit (names_of ts layout.declarations) ts layout ≡ true → is_consistent ts layout ≡ true
+consistent-from ts layout few names tests =
     let few' : nat_le layout.declarations most_declarations ≡ true = le-leb layout.declarations 100000 few in
-    rw (few', names') tests'
+    rw (few', names) tests

@@ -15,7 +15,7 @@ pub mod Readings
 pub mod Tasks
 pub mod Replies
 pub mod Running
-pub mod ThinTokens
+pub mod ThinPhrases
 pub mod ThinGrammar
 pub mod ThinObjects
 pub mod ThinTracking

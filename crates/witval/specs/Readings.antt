@@ -1,8 +1,16 @@
--- What the answers of the readers call for: of YAML, of the schema, and of the task.
+-- What the answers of the readers call for: of YAML, of the schema, of the task, of tokens, and of the grammar.
 use Rattle.std.specs.Prelude.{◌≡◌, ℕ, List, [], ◌∷◌, ◌++◌, Result, Ok, Err, Option, Some, None, codes, decimal}
 use Rattle.c_core.specs.declared.number.DataModel.{DataModel}
 use Rattle.c_core.specs.declared.number.Property.{Property}
 use Rattle.c_core.specs.declared.number.Property.TheVariants.{UnreachCall, NoOverflow}
+use Rattle.c_parser.specs.Parsing.{Answers as ParserAnswers}
+use Rattle.c_parser.specs.declared.fault.ParseFault.{ParseFault}
+use Rattle.c_parser.specs.declared.fault.ParseFault.TheVariants as parse
+use Rattle.c_parser.specs.declared.item.Source.{Source}
+use Rattle.c_tokens.specs.Reading.{Answers as TokensAnswers}
+use Rattle.c_tokens.specs.declared.token.Token.{Token}
+use Rattle.c_tokens.specs.declared.token.TokenFault.{TokenFault}
+use Rattle.c_tokens.specs.declared.token.TokenFault.TheVariants as tokens
 use Rattle.wv_report.specs.declared.reply.Reply.{Reply}
 use Rattle.wv_report.specs.declared.reply.Reply.TheVariants.{Refused}
 use Rattle.wv_schema.specs.declared.fault.SchemaFault.{SchemaFault}
@@ -55,6 +63,21 @@ IsTaskRefusal task.Model reply = reply ≡ plain (codes "model")
 IsTaskRefusal task.Uuid reply = reply ≡ plain (codes "uuid")
 IsTaskRefusal task.OutOfMemory reply = ⊥
 
+-- a place as it is reported: the line, a colon, the column
+abbrev pub place_text : ℕ → ℕ → List ℕ
+place_text line column = decimal line ++ 58 ∷ decimal column
+
+-- the refusal of a program that is no list of tokens
+abbrev pub IsTokenRefusal : TokenFault → Reply → Type 0
+IsTokenRefusal (tokens.Token line column) reply = reply ≡ Refused (codes "token") (place_text line column)
+IsTokenRefusal (tokens.Directive line) reply = reply ≡ Refused (codes "directive") (decimal line)
+IsTokenRefusal tokens.OutOfMemory reply = ⊥
+
+-- the refusal of tokens that are no source
+abbrev pub IsSyntaxRefusal : ParseFault → Reply → Type 0
+IsSyntaxRefusal (parse.Syntax line column) reply = reply ≡ Refused (codes "syntax") (place_text line column)
+IsSyntaxRefusal parse.OutOfMemory reply = ⊥
+
 -- the reply after the property is read; one of the two isn't served yet
 abbrev pub RightAfterProperty : Option Property → (Reply → Type 0) → Reply → Type 0
 RightAfterProperty (Some UnreachCall) within reply = within reply
@@ -79,3 +102,21 @@ RightAfterSchema (Err fault) within reply = IsSchemaRefusal fault reply
 abbrev pub RightAfterTask : Result DataModel TaskFault → (DataModel → Reply → Type 0) → Reply → Type 0
 RightAfterTask (Ok model) within reply = within model reply
 RightAfterTask (Err fault) within reply = IsTaskRefusal fault reply
+
+-- the reply after an answer about a program's tokens: what they call for, or the refusal
+abbrev pub RightByTokens : Result (List Token) TokenFault → (List Token → Reply → Type 0) → Reply → Type 0
+RightByTokens (Ok ts) within reply = within ts reply
+RightByTokens (Err fault) within reply = IsTokenRefusal fault reply
+
+-- the reply after the answer that the bytes of a program have: the tokens, or the first place that has none or a refused directive
+abbrev pub RightAfterTokens : List ℕ → (List Token → Reply → Type 0) → Reply → Type 0
+RightAfterTokens bytes within reply = (answer : Result (List Token) TokenFault) × TokensAnswers bytes answer × RightByTokens answer within reply
+
+-- the same with the source that the tokens spell
+abbrev pub RightByParse : Result Source ParseFault → (Reply → Type 0) → Reply → Type 0
+RightByParse (Ok source) within reply = within reply
+RightByParse (Err fault) within reply = IsSyntaxRefusal fault reply
+
+-- the reply after the answer that the tokens have: a source, or the first item that fits no form
+abbrev pub RightAfterParse : List Token → (Reply → Type 0) → Reply → Type 0
+RightAfterParse ts within reply = (answer : Result Source ParseFault) × ParserAnswers ts answer × RightByParse answer within reply

@@ -3,7 +3,7 @@ use Rattle.std.specs.Prelude.{◌≡◌, ◌≢◌, ◌<◌, ◌-◌, ◌^◌, �
 use Rattle.wv_base.specs.Causes.{Rose}
 use Rattle.wv_base.specs.Shelf.{ShelfState, Files, file_of}
 use Rattle.wv_base.specs.Sink.{SinkState, Gained}
-use Rattle.wv_report.specs.Json.{json_of}
+use Rattle.wv_report.specs.Json.{HasJsonIntegers, json_of}
 use Rattle.wv_report.specs.Report.{status_of, text_of}
 use Rattle.wv_report.specs.declared.reply.Reply.{Reply}
 use Rattle.wv_words.specs.Words.{Asked, Wanted, Validate, Show, Normalise, Demo, asked_by}
@@ -27,6 +27,12 @@ abbrev pub bytes_by : Bool → Output → List ℕ
 bytes_by json (Report reply) = report_by json reply
 bytes_by json (Canonical text) = text
 bytes_by json (Summary text) = text
+
+-- no report shows a number beyond 64 bits
+abbrev pub HasIntegers : Output → Type 0
+HasIntegers (Report reply) = HasJsonIntegers reply
+HasIntegers (Canonical text) = Unit {0}
+HasIntegers (Summary text) = Unit {0}
 
 -- a right output, its status, and all of its bytes
 abbrev pub Replied : Asked → ShelfState → ShelfState → SinkState → SinkState → ℕ → Type 0

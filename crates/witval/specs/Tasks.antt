@@ -5,6 +5,7 @@ use Rattle.c_core.specs.Tree as tree
 use Rattle.c_core.specs.declared.number.DataModel.{DataModel}
 use Rattle.c_core.specs.declared.number.Property.TheVariants.{UnreachCall}
 use Rattle.c_meaning.specs.declared.verdict.Verdict.{Verdict}
+use Rattle.c_tokens.specs.declared.token.Token.{Token}
 use Rattle.wv_report.specs.declared.reply.Reply.{Reply}
 use Rattle.wv_report.specs.declared.reply.Reply.TheVariants.{Verdict as Judged, Refused, ReadFault}
 use Rattle.wv_schema.specs.Schema.{witness_of}
@@ -17,7 +18,7 @@ use Rattle.witval.specs.Verdicts.{IsRightOnViolation, IsConfirmed}
 use Rattle.witval.specs.ThinProgram.{thin_program}
 use Rattle.witval.specs.ThinWitness.{thin_witness}
 use Rattle.witval.specs.ThinPlaces.{is_placed, segments_of}
-use Rattle.witval.specs.Readings.{RightAfterProperty, RightAfterReading, RightAfterSchema, RightAfterTask, unbuilt}
+use Rattle.witval.specs.Readings.{RightAfterParse, RightAfterProperty, RightAfterReading, RightAfterSchema, RightAfterTask, RightAfterTokens, unbuilt}
 use Rattle.witval.specs.declared.thin.witness.ThinWitness.{ThinWitness}
 
 -- an input of a form that isn't served yet, or a program and the segments of a violation sequence
@@ -45,9 +46,17 @@ RightOn steps (Violation p ss) (Judged verdict) = IsRightVerdict steps p ss verd
 RightOn steps (Violation p ss) (Refused code detail) = ⊥
 RightOn steps (Violation p ss) (ReadFault file) = ⊥
 
+-- the reply to the tokens of a source in a data model, and a witness about it
+abbrev pub RightOnSource : ℕ → Witness → DataModel → List Token → Reply → Type 0
+RightOnSource steps witness model ts reply = RightOn steps (task_of (thin_program model ts) (thin_witness witness)) reply
+
+-- the reply to the tokens of a program, whose grammar is judged first
+abbrev pub RightOnTokens : ℕ → Witness → DataModel → List Token → Reply → Type 0
+RightOnTokens steps witness model ts reply = RightAfterParse ts (RightOnSource steps witness model ts) reply
+
 -- the reply to a program in a data model, and a witness about it
 abbrev pub RightOnProgram : ℕ → List ℕ → Witness → DataModel → Reply → Type 0
-RightOnProgram steps program witness model reply = RightOn steps (task_of (thin_program model program) (thin_witness witness)) reply
+RightOnProgram steps program witness model reply = RightAfterTokens program (RightOnTokens steps witness model) reply
 
 -- the reply to a witness, whose task is judged first
 abbrev pub RightOnWitness : ℕ → List ℕ → Witness → Reply → Type 0

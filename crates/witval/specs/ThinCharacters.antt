@@ -1,4 +1,4 @@
--- Classes of characters, and decimal numbers.
+-- Decimal numbers.
 use Rattle.std.specs.Prelude.{ℕ, ◌+◌, ◌-◌, ◌*◌, List, length, slice_index, fold, Bool, ◌&&◌, ◌||◌, not, nat_eq, nat_le, Option, Some, None, if◌then◌else◌}
 use Rattle.std.specs.List.{list_all}
 
@@ -8,13 +8,6 @@ between low high n = nat_le low n && nat_le n high
 
 abbrev pub is_digit : ℕ → Bool
 is_digit c = between 48 57 c
-
-abbrev pub is_letter : ℕ → Bool
-is_letter c = between 65 90 c || between 97 122 c
-
--- letters, digits and `_`
-abbrev pub is_word_part : ℕ → Bool
-is_word_part c = (is_letter c || is_digit c) || nat_eq c 95
 
 -- the value of decimal digits
 abbrev pub decimal : List ℕ → ℕ

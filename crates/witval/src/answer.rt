@@ -1,5 +1,7 @@
 ghost use Rattle.std.specs.Prelude.{◌≡◌, IfOk};
+ghost use Rattle.wv_report.specs.Json.{HasJsonIntegers};
 ghost use Rattle.witval.specs.Replies.{CanonicalIn, Right, RightAlone, RightFor, SummaryIn};
+ghost use Rattle.witval.specs.Running.{HasIntegers};
 ghost use Rattle.wv_words.specs.Requests.{named, stated};
 
 use crate::canonical::canonical;
@@ -21,6 +23,7 @@ fn validate<S: Shelf>(
     shelf: &mut S,
 ) -> Result<Reply, OutOfMemory>
     ensures right { IfOk result (RightFor (named names.now) steps (S.state shelf.old) (S.state shelf.new)) }
+    ensures integers { IfOk result HasJsonIntegers }
     ensures same_files { (S.state shelf.new).files ≡ (S.state shelf.old).files }
 {
     match read_three(alloc, names, shelf) {
@@ -64,6 +67,7 @@ pub fn answer<S: Shelf>(
     shelf: &mut S,
 ) -> Result<Output, OutOfMemory>
     ensures right { IfOk result (Right (stated asked.now).wanted (S.state shelf.old) (S.state shelf.new)) }
+    ensures integers { IfOk result HasIntegers }
     ensures same_files { (S.state shelf.new).files ≡ (S.state shelf.old).files }
 {
     match asked.request {

@@ -1,15 +1,22 @@
-// The reply to a program, a property and a witness: the refusals of the task in their order, and then the verdict.
-ghost use Rattle.std.specs.Prelude.{IfOk, ◌<◌, ◌≤◌, length};
+// The reply to a program, a property and a witness: the refusals in their order, and then the verdict.
+ghost use Rattle.std.specs.Prelude.{IfOk, IsTrue, ◌<◌, ◌≤◌, length, map};
+ghost use Rattle.c_core.specs.TextOrder.{rises};
 ghost use Rattle.witval.specs.Inputs.{AreWithin};
 ghost use Rattle.witval.specs.Readings.{RightAfterReading};
-ghost use Rattle.witval.specs.Tasks.{RightOnInputs, RightOnProgram, RightOnTree, RightOnWitness};
+ghost use Rattle.witval.specs.Tasks.{RightOnInputs, RightOnProgram, RightOnSource, RightOnTokens, RightOnTree, RightOnWitness};
 
 use crate::input::Inputs;
-use crate::refusal::{refuse_plainly, refuse_schema, refuse_task, refuse_unbuilt, refuse_yaml};
+use crate::refusal::{
+    refuse_plainly, refuse_schema, refuse_syntax, refuse_task, refuse_tokens, refuse_unbuilt,
+    refuse_yaml,
+};
 use crate::thin::{judge_violation, read_program, read_witness};
+use crate::tokens::program_tokens;
 use c_core::{DataModel, Property};
+use c_parser::parse;
+use c_tokens::Token;
 use std::alloc::Global;
-use wv_base::OutOfMemory;
+use wv_base::{OutOfMemory, Seq};
 use wv_report::Reply;
 use wv_schema::{Witness, witness_of};
 use wv_task::{judge_task, property};
@@ -82,8 +89,44 @@ fn judge_program(
     requires { length program.now ≤ 1048576 }
     ensures { IfOk result (RightOnProgram steps program.now witness.now model) }
 {
+    match program_tokens(alloc, program) {
+        Ok(tokens) => judge_tokens(alloc, &tokens, model, witness, steps),
+        Err(fault) => refuse_tokens(alloc, fault),
+    }
+}
+
+/// The reply to the tokens of a program, and a witness about it.
+fn judge_tokens(
+    alloc: Global,
+    tokens: &Seq<Token>,
+    model: DataModel,
+    witness: &Witness,
+    steps: u64,
+) -> Result<Reply, OutOfMemory>
+    requires few { length tokens.now ≤ 1048576 }
+    requires rising { IsTrue (rises (map (λ t. t.spot) tokens.now)) }
+    ensures { IfOk result (RightOnTokens steps witness.now model tokens.now) }
+{
+    match parse(alloc, tokens) {
+        Ok(_) => judge_source(alloc, tokens.as_slice(), model, witness, steps),
+        Err(fault) => refuse_syntax(alloc, fault),
+    }
+}
+
+/// The reply to the tokens of a source, and a witness about it.
+fn judge_source(
+    alloc: Global,
+    tokens: &[Token],
+    model: DataModel,
+    witness: &Witness,
+    steps: u64,
+) -> Result<Reply, OutOfMemory>
+    requires few { length tokens.now ≤ 1048576 }
+    requires rising { IsTrue (rises (map (λ t. t.spot) tokens.now)) }
+    ensures { IfOk result (RightOnSource steps witness.now model tokens.now) }
+{
     let found = read_witness(witness);
-    let Some(reading) = read_program(alloc, model, program, found)? else {
+    let Some(reading) = read_program(alloc, model, tokens, found)? else {
         return refuse_unbuilt(alloc, "program");
     };
     let Some(thin) = found else {

@@ -12,6 +12,7 @@ mod output;
 mod refusal;
 mod shown;
 mod thin;
+mod tokens;
 mod top;
 
 pub use laws::{confirmed_violates, confirms_exactly, test_matches};

@@ -1,11 +1,13 @@
 // The replies other than verdicts.
-ghost use Rattle.std.specs.Prelude.{◌≡◌, ◌++◌, ◌∷◌, [], IfOk, codes};
+ghost use Rattle.std.specs.Prelude.{◌≡◌, ◌++◌, ◌∷◌, [], IfOk, codes, decimal};
 ghost use Rattle.wv_report.specs.declared.reply.Reply.TheVariants as replies;
 ghost use Rattle.witval.specs.Inputs.{word_of};
-ghost use Rattle.witval.specs.Readings.{IsRefusal, IsSchemaRefusal, IsTaskRefusal, both_hashes, plain, unbuilt};
+ghost use Rattle.witval.specs.Readings.{IsRefusal, IsSchemaRefusal, IsSyntaxRefusal, IsTaskRefusal, IsTokenRefusal, both_hashes, place_text, plain, unbuilt};
 ghost use Rattle.witval.specs.Replies.{too_long};
 
 use crate::input::File;
+use c_parser::ParseFault;
+use c_tokens::TokenFault;
 use std::alloc::Global;
 use wv_base::{OutOfMemory, Text};
 use wv_report::Reply;
@@ -106,6 +108,54 @@ pub fn refuse_task(alloc: Global, fault: TaskFault) -> Result<Reply, OutOfMemory
         TaskFault::Model => refuse_plainly(alloc, "model"),
         TaskFault::Uuid => refuse_plainly(alloc, "uuid"),
         TaskFault::OutOfMemory => Err(OutOfMemory),
+    }
+}
+
+/// A place of the program: its line, a colon, its column.
+fn place_text(alloc: Global, line: u32, column: u32) -> Result<Text, OutOfMemory>
+    ensures { IfOk result (λ text. text ≡ place_text line column) }
+{
+    let digits = format!(in alloc; "{line}:{column}")?;
+    let text = Text::of(alloc, digits.as_str())?;
+    Ok(text)
+}
+
+/// A line of the program.
+fn line_text(alloc: Global, line: u32) -> Result<Text, OutOfMemory>
+    ensures { IfOk result (λ text. text ≡ decimal line) }
+{
+    let digits = format!(in alloc; "{line}")?;
+    let text = Text::of(alloc, digits.as_str())?;
+    Ok(text)
+}
+
+/// A program that is no list of tokens.
+pub fn refuse_tokens(alloc: Global, fault: TokenFault) -> Result<Reply, OutOfMemory>
+    ensures { IfOk result (IsTokenRefusal fault) }
+{
+    match fault {
+        TokenFault::Token { line, column } => {
+            let detail = place_text(alloc, line, column)?;
+            refuse(alloc, "token", detail)
+        }
+        TokenFault::Directive { line } => {
+            let detail = line_text(alloc, line)?;
+            refuse(alloc, "directive", detail)
+        }
+        TokenFault::OutOfMemory => Err(OutOfMemory),
+    }
+}
+
+/// Tokens that are no source.
+pub fn refuse_syntax(alloc: Global, fault: ParseFault) -> Result<Reply, OutOfMemory>
+    ensures { IfOk result (IsSyntaxRefusal fault) }
+{
+    match fault {
+        ParseFault::Syntax { line, column } => {
+            let detail = place_text(alloc, line, column)?;
+            refuse(alloc, "syntax", detail)
+        }
+        ParseFault::OutOfMemory => Err(OutOfMemory),
     }
 }
 

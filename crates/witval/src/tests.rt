@@ -3,6 +3,7 @@ mod json;
 mod outside;
 mod refusals;
 mod shown;
+mod sources;
 mod task;
 mod verdicts;
 

@@ -4,9 +4,9 @@ ghost use Rattle.witval.specs.ThinAims.{is_in_declaration, is_in_declarations, i
 ghost use Rattle.witval.specs.ThinGrammar.{spot_at};
 
 use crate::thin::grammar::{Layout, declaration_at, spot, test_at};
-use crate::thin::tokens::Token;
 use crate::thin::witness::ThinWitness;
 use c_core::Spot;
+use c_tokens::Token;
 
 fn is_at(tokens: &[Token], at: usize, place: Spot) -> bool
     ensures { result ≡ same_spot (spot_at tokens.now at) place }

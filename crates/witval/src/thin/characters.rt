@@ -1,20 +1,6 @@
 ghost use Rattle.std.specs.Prelude.{◌≡◌, min};
-ghost use Rattle.std.specs.List.{list_all, prefix_len};
-ghost use Rattle.witval.specs.ThinCharacters.{is_word_part, is_digit, decimal, is_decimal, number_of};
-
-/// Letters, digits and `_`.
-pub fn is_word_byte(byte: u8) -> bool
-    ensures { result ≡ is_word_part byte }
-{
-    byte.is_ascii_alphanumeric() || byte == b'_'
-}
-
-/// How many characters at the front may stand in a word.
-pub fn word_length(bytes: &[u8]) -> usize
-    ensures { result ≡ prefix_len is_word_part bytes.now }
-{
-    bytes.iter().take_while(|byte| is_word_byte(**byte)).count()
-}
+ghost use Rattle.std.specs.List.{list_all};
+ghost use Rattle.witval.specs.ThinCharacters.{is_digit, decimal, is_decimal, number_of};
 
 fn is_digits(text: &[u8]) -> bool
     ensures { result ≡ list_all is_digit text.now }

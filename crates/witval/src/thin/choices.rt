@@ -157,7 +157,7 @@ fn returns_as_int()
 #[cfg(test)]
 mod tests {
     use super::*;
-    use crate::thin::read_program;
+    use crate::thin::tests::reading_of;
     use std::test::Fail;
 
     const PROGRAM: &str = "void reach_error() { }
@@ -184,12 +184,9 @@ int main() {
             value: -5,
             target: Spot { line: 7, column: 5 },
         };
-        let reading = read_program(
-            alloc,
-            DataModel::Lp64,
-            PROGRAM.as_bytes(),
-            Some(witness),
-        )?.ok_or("no thin program")?;
+        let reading = reading_of(alloc, DataModel::Lp64, PROGRAM, witness)?.ok_or(
+            "no thin program",
+        )?;
         let Choices::Given(given) = choices(alloc, &reading.program, &witness)? else {
             return Err("in turn".into());
         };

@@ -1,15 +1,13 @@
-ghost use Rattle.std.specs.Prelude.{◌≡◌, ℕ, List, [], ◌^◌, ◌<◌, IfOk, IsTrue, OnOk, Some, false, MatchOption};
-ghost use Rattle.std.specs.List.{list_all, list_any};
+ghost use Rattle.std.specs.Prelude.{◌≡◌, ℕ, List, [], ◌^◌, ◌<◌, IfOk, OnOk, Some, false, MatchOption};
+ghost use Rattle.std.specs.List.{list_any};
 ghost use Rattle.std.specs.Map.{update};
 ghost use Rattle.std.specs.Str.{bytes_eq};
-ghost use Rattle.witval.specs.ThinCharacters.{is_word_part};
-ghost use Rattle.witval.specs.ThinGrammar.{is_name, is_word, names_fit, names_of, tokens_in};
+ghost use Rattle.witval.specs.ThinGrammar.{is_name, names_fit, names_of};
 ghost use Rattle.witval.specs.ThinObjects.{AreObjects, int_object, number_in};
 
-use crate::thin::characters::is_word_byte;
-use crate::thin::grammar::{Phrase, declaration_at, spot, text};
-use crate::thin::tokens::Token;
+use crate::thin::grammar::{declaration_at, spot, text};
 use c_core::{IntType, Object, Spot};
+use c_tokens::Token;
 use std::alloc::Global;
 use std::collections::BTreeMap;
 use wv_base::{OutOfMemory, Seq, Text};
@@ -21,46 +19,73 @@ pub struct Objects<'a> {
     pub numbers: BTreeMap<&'a [u8], u32>,
 }
 
-fn is_word_run(text: &[u8]) -> bool
-    ensures { result ≡ list_all is_word_part text.now }
-{
-    text.iter().all(|byte| is_word_byte(*byte))
-}
+// ISO C11 6.4.1.
+const KEYWORDS: [&str; 44] = [
+    "auto",
+    "break",
+    "case",
+    "char",
+    "const",
+    "continue",
+    "default",
+    "do",
+    "double",
+    "else",
+    "enum",
+    "extern",
+    "float",
+    "for",
+    "goto",
+    "if",
+    "inline",
+    "int",
+    "long",
+    "register",
+    "restrict",
+    "return",
+    "short",
+    "signed",
+    "sizeof",
+    "static",
+    "struct",
+    "switch",
+    "typedef",
+    "union",
+    "unsigned",
+    "void",
+    "volatile",
+    "while",
+    "_Alignas",
+    "_Alignof",
+    "_Atomic",
+    "_Bool",
+    "_Complex",
+    "_Generic",
+    "_Imaginary",
+    "_Noreturn",
+    "_Static_assert",
+    "_Thread_local",
+];
 
-/// Letters, digits and `_`, the first no digit.
-fn is_identifier(text: &[u8]) -> bool
-    ensures { result ≡ is_word text.now }
-{
-    !text.is_empty() && !text[0].is_ascii_digit() && is_word_run(text)
-}
+const FUNCTION_NAMES: [&str; 3] = ["reach_error", "__VERIFIER_nondet_int", "main"];
 
-fn is_among(word: &[u8], reserved: &[Token]) -> bool
-    ensures { result ≡ list_any (λ t. bytes_eq word.now t.text) reserved.now }
+fn is_among(table: &[&str], word: &str) -> bool
+    ensures { result ≡ list_any (λ spelling. bytes_eq word.now spelling.now) table.now }
 {
-    for token in reserved {
-        if word == token.text() {
-            return true;
-        }
-    }
-    false
+    table.iter().any(|spelling| word == *spelling)
 }
 
 /// Whether a word may be declared.
-fn may_be_declared(word: &[u8], reserved: &[Token]) -> bool
-    requires { reserved.now ≡ tokens_in Phrase.Reserved }
+fn may_be_declared(word: &str) -> bool
     ensures { result ≡ is_name word.now }
 {
-    is_identifier(word) && !is_among(word, reserved)
+    !(is_among(&KEYWORDS, word) || is_among(&FUNCTION_NAMES, word))
 }
 
 /// The object `int name` of one cell.
-fn make_object(alloc: Global, name: &[u8], spot: Spot) -> Result<Object, OutOfMemory>
-    requires { IsTrue (is_word name.now) }
+fn make_object(alloc: Global, name: &str, spot: Spot) -> Result<Object, OutOfMemory>
     ensures { IfOk result (λ object. object ≡ int_object name.now spot) }
 {
-    let Ok(name) = std::str::from_utf8(name) else {
-        unreachable!()
-    };
     Ok(Object {
         name: Text::of(alloc, name)?,
         ty: IntType::Int,
@@ -93,27 +118,27 @@ fn add_name<'a>(
 /// before.
 pub fn declare_objects<'a>(
     alloc: Global,
-    tokens: &[Token<'a>],
+    tokens: &'a [Token],
     declarations: usize,
 ) -> Result<Option<Objects<'a>>, OutOfMemory>
     requires { declarations < 2 ^ 32 }
     ensures { IfOk result (λ found. MatchOption found (names_fit [] (names_of tokens.now declarations) ≡ false) (AreObjects tokens.now declarations)) }
 {
-    let reserved = Phrase::Reserved.tokens(alloc)?;
     let mut objects = Seq::new(alloc);
     let mut numbers = BTreeMap::new(alloc);
     for number in 0..declarations {
         let at = declaration_at(number) + 1;
         let name = text(tokens, at);
-        if !may_be_declared(name, &reserved) {
+        if !may_be_declared(name) {
             return Ok(None);
         }
-        let before = number_of_name(&numbers, name);
+        let key = name.as_bytes();
+        let before = number_of_name(&numbers, key);
         if before.is_some() {
             return Ok(None);
         }
         objects.push(make_object(alloc, name, spot(tokens, at))?)?;
-        add_name(&mut numbers, name, number as u32)?;
+        add_name(&mut numbers, key, number as u32)?;
     }
     Ok(Some(Objects { objects, numbers }))
 }

@@ -11,10 +11,10 @@ use crate::thin::aims::stands_if_there;
 use crate::thin::grammar::{Layout, find_layout, spot};
 use crate::thin::objects::{Objects, declare_objects};
 use crate::thin::statements::{do_tests_fit, main_statements};
-use crate::thin::tokens::{Token, read_tokens};
 use crate::thin::trees::one;
 use crate::thin::witness::ThinWitness;
 use c_core::{DataModel, Form, Function, IntType, Program, Property, Stmt};
+use c_tokens::Token;
 use std::alloc::Global;
 use wv_base::{OutOfMemory, Seq, Text};
 
@@ -81,32 +81,32 @@ fn build(
     })
 }
 
-/// Reads a thin program in a data model, and whether a witness is placed in it; `None` where the bytes are none.
+/// Reads a thin program in a data model, and whether a witness is placed in it; `None` where the tokens are none.
 pub fn read_program(
     alloc: Global,
     model: DataModel,
-    bytes: &[u8],
+    tokens: &[Token],
     witness: Option<ThinWitness>,
 ) -> Result<Option<Reading>, OutOfMemory>
-    requires { length bytes.now ≤ 1048576 }
-    ensures program { IfOk result (λ r. MatchOption r (thin_program model bytes.now ≡ None) (λ r. thin_program model bytes.now ≡ Some (program_view r.program))) }
+    requires few { length tokens.now ≤ 1048576 }
+    requires rising { IsTrue (rises (map (λ t. t.spot) tokens.now)) }
+    ensures program { IfOk result (λ r. MatchOption r (thin_program model tokens.now ≡ None) (λ r. thin_program model tokens.now ≡ Some (program_view r.program))) }
     ensures thin { IfOk result (λ r. IfSome r (λ r. IsTrue (is_thin (program_view r.program)))) }
     ensures placed { IfOk result (λ r. IfSome r (λ r. r.placed ≡ is_placed_if (program_view r.program) witness)) }
 {
-    let tokens = read_tokens(alloc, bytes)?;
-    let Some(layout) = find_layout(alloc, &tokens)? else {
+    let Some(layout) = find_layout(tokens) else {
         return Ok(None);
     };
     if layout.declarations > MOST_DECLARATIONS {
         return Ok(None);
     }
-    let Some(objects) = declare_objects(alloc, &tokens, layout.declarations)? else {
+    let Some(objects) = declare_objects(alloc, tokens, layout.declarations)? else {
         return Ok(None);
     };
-    if !do_tests_fit(&tokens, layout, &objects.numbers) {
+    if !do_tests_fit(tokens, layout, &objects.numbers) {
         return Ok(None);
     }
-    let placed = stands_if_there(&tokens, layout, witness);
-    let program = build(alloc, model, &tokens, layout, objects)?;
+    let placed = stands_if_there(tokens, layout, witness);
+    let program = build(alloc, model, tokens, layout, objects)?;
     Ok(Some(Reading { program, placed }))
 }

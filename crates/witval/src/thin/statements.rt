@@ -1,17 +1,15 @@
 ghost use Rattle.std.specs.Prelude.{◌≡◌, ℕ, List, ◌++◌, ◌+◌, ◌^◌, ◌<◌, map, IfOk, OnOk};
 ghost use Rattle.std.specs.List.{range_with_len};
 ghost use Rattle.c_core.specs.View.{stmt_view};
-ghost use Rattle.witval.specs.ThinCharacters.{number_of};
-ghost use Rattle.witval.specs.ThinGrammar.{names_of, object_of, test_fits, test_start, tests_fit, text_at};
+ghost use Rattle.witval.specs.ThinGrammar.{names_of, object_of, test_fits, test_start, tests_fit, text_at, value_at};
 ghost use Rattle.witval.specs.ThinObjects.{number_in};
 ghost use Rattle.witval.specs.ThinProgram.{declaration_of, statements_of, test_of};
 
-use crate::thin::characters::number;
-use crate::thin::grammar::{Layout, declaration_at, test_at, text};
+use crate::thin::grammar::{Layout, declaration_at, test_at, text, value};
 use crate::thin::objects::number_of_name;
-use crate::thin::tokens::Token;
 use crate::thin::trees::{declaration, return_zero, test};
 use c_core::Stmt;
+use c_tokens::Token;
 use std::alloc::Global;
 use std::collections::BTreeMap;
 use wv_base::{OutOfMemory, Seq};
@@ -28,16 +26,17 @@ fn test_object(
     requires numbers { (w : List ℕ) → number_in numbers.now w ≡ object_of (names_of tokens.now declarations) w }
     ensures { result ≡ object_of (names_of tokens.now declarations) (text_at tokens.now (test_start declarations k + 2)) }
 {
-    number_of_name(numbers, text(tokens, test_at(declarations, k) + 2))
+    let key = text(tokens, test_at(declarations, k) + 2).as_bytes();
+    number_of_name(numbers, key)
 }
 
 /// The constant that a test compares with, where it is an `int`.
 fn test_constant(tokens: &[Token], declarations: usize, k: usize) -> Option<u32>
     requires declarations { declarations < 2 ^ 32 }
     requires test { k < 2 ^ 32 }
-    ensures { result ≡ number_of (text_at tokens.now (test_start declarations k + 4)) }
+    ensures { result ≡ value_at tokens.now (test_start declarations k + 4) }
 {
-    number(text(tokens, test_at(declarations, k) + 4))
+    value(tokens, test_at(declarations, k) + 4)
 }
 
 /// Whether a test compares a declared object with an `int`.

@@ -1,8 +1,11 @@
+use crate::thin::program::Reading;
 use crate::thin::tracker::Tracker;
 use crate::thin::{ThinWitness, read_program, read_witness};
+use crate::tokens::program_tokens;
 use c_core::{DataModel, Form, Init, Node, Program, Spot, Stmt};
 use c_interpreter::run_plain;
 use c_meaning::{Choices, End, Run};
+use c_tokens::TokenFault;
 use std::alloc::{AllocError, Global};
 use std::test::Fail;
 use wv_base::{OutOfMemory, Seq};
@@ -96,18 +99,28 @@ fn witness_with(alloc: Global, old: &str, new: &str) -> Result<Option<ThinWitnes
     witness_in(alloc, text.as_str())
 }
 
+/// What is read of the tokens of a text.
+pub fn reading_of(
+    alloc: Global,
+    model: DataModel,
+    text: &str,
+    witness: ThinWitness,
+) -> Result<Option<Reading>, OutOfMemory> {
+    let bytes = text.as_bytes();
+    if bytes.len() > 1048576 {
+        return Ok(None);
+    }
+    match program_tokens(alloc, bytes) {
+        Ok(tokens) => read_program(alloc, model, tokens.as_slice(), Some(witness)),
+        Err(TokenFault::OutOfMemory) => Err(OutOfMemory),
+        Err(_) => Ok(None),
+    }
+}
+
 fn is_thin_with(alloc: Global, old: &str, new: &str) -> Result<bool, OutOfMemory> {
     let text = replaced(alloc, PROGRAM, old, new)?;
-    if text.len() > 1048576 {
-        return Ok(false);
-    }
-    Ok(read_program(
-        alloc,
-        DataModel::Ilp32,
-        text.as_str().as_bytes(),
-        Some(PLACED),
-    )?
-    .is_some())
+    let reading = reading_of(alloc, DataModel::Ilp32, text.as_str(), PLACED)?;
+    Ok(reading.is_some())
 }
 
 #[test]
@@ -213,11 +226,7 @@ fn add_places(places: &mut Vec<Spot>, statement: &Stmt) -> Result<(), OutOfMemor
 #[test]
 fn program_is_read_with_its_places(rt: HostRuntime) -> Result<(), Fail> {
     let alloc = rt.alloc();
-    let bytes = PROGRAM.as_bytes();
-    if bytes.len() > 1048576 {
-        return Ok(());
-    }
-    let Some(reading) = read_program(alloc, DataModel::Lp64, bytes, Some(PLACED))? else {
+    let Some(reading) = reading_of(alloc, DataModel::Lp64, PROGRAM, PLACED)? else {
         panic!(rt; "a thin program is read");
     };
     let program = reading.program;
@@ -245,6 +254,14 @@ fn other_programs_are_refused(rt: HostRuntime) -> Result<(), Fail> {
         ("== 5", "== 0"),
         ("== 5", "==\n2147483647"),
         ("absent", "  \n"),
+        ("== 5", "== 00"),
+        ("== 5", "== 0x0"),
+        ("return 0", "return 00"),
+        ("  if", "\tif"),
+        ("{ }\n", "{ }\r\n"),
+        ("  if", "  // test\n  if"),
+        ("  if", "  /* */ if"),
+        ("absent", "#pragma once"),
         (
             "  int x = __VERIFIER_nondet_int();\n  if (x == 5) {\n    reach_error();\n  }\n",
             "",
@@ -254,7 +271,10 @@ fn other_programs_are_refused(rt: HostRuntime) -> Result<(), Fail> {
     }
     for (old, new) in [
         ("== 5", "== 05"),
-        ("== 5", "== 00"),
+        ("== 5", "== 0x5"),
+        ("== 5", "== '5'"),
+        ("== 5", "== 0u"),
+        ("== 5", "== 5L"),
         ("== 5", "== 2147483648"),
         ("== 5", "== 99999999999999999999"),
         ("== 5", "== -5"),
@@ -276,11 +296,9 @@ fn other_programs_are_refused(rt: HostRuntime) -> Result<(), Fail> {
         ("  if", "  int reach_error = __VERIFIER_nondet_int();\n  if"),
         ("  if", "  int main = __VERIFIER_nondet_int();\n  if"),
         ("  if", "  int 1y = __VERIFIER_nondet_int();\n  if"),
-        ("  if", "\tif"),
-        ("{ }\n", "{ }\r\n"),
-        ("  if", "  // test\n  if"),
-        ("  if", "  /* */ if"),
         ("return 0", "return 1"),
+        ("return 0", "return 0u"),
+        ("absent", "#define N 3"),
         ("return 0", "return0"),
         ("return 0;", "return 0"),
         ("return 0;\n}\n", "return 0;\n"),
@@ -296,18 +314,13 @@ fn other_programs_are_refused(rt: HostRuntime) -> Result<(), Fail> {
 }
 
 fn is_placed(alloc: Global, close: Spot, target: Spot) -> Result<bool, OutOfMemory> {
-    let bytes = PROGRAM.as_bytes();
-    if bytes.len() > 1048576 {
-        return Ok(false);
-    }
     let witness = ThinWitness {
         close,
         value: 5,
         target,
     };
-    Ok(read_program(alloc, DataModel::Ilp32, bytes, Some(witness))?.is_some_and(
-        |reading| reading.placed,
-    ))
+    let reading = reading_of(alloc, DataModel::Ilp32, PROGRAM, witness)?;
+    Ok(reading.is_some_and(|reading| reading.placed))
 }
 
 #[test]
@@ -345,8 +358,7 @@ fn waypoints_stand_where_they_may(rt: HostRuntime) -> Result<(), Fail> {
 
 /// The run of the program with the input 5, and so many steps.
 fn run_with(alloc: Global, steps: u64) -> Result<Run, OutOfMemory> {
-    let Some(reading) = read_program(alloc, DataModel::Ilp32, PROGRAM.as_bytes(), Some(PLACED))?
-    else {
+    let Some(reading) = reading_of(alloc, DataModel::Ilp32, PROGRAM, PLACED)? else {
         return Err(OutOfMemory);
     };
     let mut values = Seq::new(alloc);

@@ -4,8 +4,8 @@ ghost use Rattle.witval.specs.ThinObjects.{AreObjects};
 ghost use Rattle.witval.specs.ThinProgram.{arm_tree, comparison_tree, declaration_tree, input_tree, reach_tree, return_tree, test_tree};
 
 use crate::thin::grammar::spot;
-use crate::thin::tokens::Token;
 use c_core::{BinOp, Callee, Declared, Expr, Form, Init, IntType, Node, Spot, Stmt};
+use c_tokens::Token;
 use std::alloc::Global;
 use wv_base::{OutOfMemory, Seq};
 

@@ -5,9 +5,9 @@ use Rattle.witval.proofs.thin.grammar.repetitions.Given as goal
 
 abbrev pub invariant-loop-rest : goal.invariant-loop-rest
 invariant-loop-rest l = record {
-  whole : times l.production l.tokens ≡ l.count + times_within (length l.tokens - l.count) l.production l.rest;
+  whole : times l.phrase l.tokens ≡ l.count + times_within (length l.tokens - l.count) l.phrase l.rest;
   room : l.count + length l.rest ≤ length l.tokens;
-  passed : l.count * length l.production + length l.rest ≡ length l.tokens;
+  passed : l.count * length l.phrase + length l.rest ≡ length l.tokens;
 }
 
 abbrev pub decreases-loop-rest : goal.decreases-loop-rest

@@ -1,0 +1,20 @@
+ghost use Rattle.std.specs.Prelude.{◌≤◌, length, map, IfOk, IsTrue};
+ghost use Rattle.c_core.specs.TextOrder.{rises};
+ghost use Rattle.c_tokens.specs.Reading.{Answers};
+
+use c_tokens::{Token, TokenFault, tokens};
+use std::alloc::Global;
+use wv_base::Seq;
+
+/// The tokens of a program of allowed length, one behind the other.
+pub fn program_tokens(alloc: Global, program: &[u8]) -> Result<Seq<Token>, TokenFault>
+    requires { length program.now ≤ 1048576 }
+    ensures found { Answers program.now result }
+    ensures few { IfOk result (λ ts. length ts ≤ 1048576) }
+    ensures rising { IfOk result (λ ts. IsTrue (rises (map (λ t. t.spot) ts))) }
+{
+    match tokens(alloc, program) {
+        Ok(found) => Ok(found),
+        Err(fault) => Err(fault),
+    }
+}
