@@ -1,16 +1,16 @@
 -- The tokens before a semicolon, pair by pair, and the name among them, token by token.
-use Rattle.std.proofs.Common.{◌≡◌, ℕ, zero, suc, nat_lt, if◌then◌else◌, ◌-◌, ◌≤◌, ◌<◌, ◌++◌, Bool, true, false, List, [], ◌∷◌, length, take, drop, Option, Some, None, refl, sym, ap, ◌∙◌, append_assoc, append-nil, arith, length-append}
+use Rattle.std.proofs.Common.{◌≡◌, ℕ, zero, suc, nat_lt, if◌then◌else◌, ◌-◌, ◌<◌, ◌++◌, Bool, true, false, List, [], ◌∷◌, length, take, drop, Option, Some, None, refl, sym, ap, ◌∙◌, append_assoc, arith, length-append}
 use Rattle.c_core.specs.declared.number.Spot.{Spot}
 use Rattle.c_tokens.specs.declared.token.Token.{Token}
 use Rattle.c_tokens.specs.declared.token.TokenKind.{TokenKind}
 use Rattle.c_tokens.specs.declared.token.TokenKind.TheVariants as kind
 use Rattle.c_tokens.specs.declared.token.Punct.{Punct}
 use Rattle.c_tokens.specs.declared.token.Punct.TheVariants as sign
-use Rattle.c_parser.specs.Signs.{◌>>=◌, is_sign, sign_at, word_at, sign_of, word_of, place, same_sign, is_this}
-use Rattle.c_parser.specs.Brackets.{Bracket, NoBracket, Opening, Closing, bracket, bracket_of, stacked, skipped, behind}
+use Rattle.c_parser.specs.Signs.{◌>>=◌, is_sign, sign_at, word_at, sign_of, word_of, place}
+use Rattle.c_parser.specs.Brackets.{NoBracket, Opening, Closing, bracket, bracket_of, stacked, skipped, behind}
 use Rattle.c_parser.specs.ReadExpressions.{Read}
 use Rattle.c_parser.specs.Items.{depth_behind, outside, closed_word, or_later, closed_name}
-use Rattle.c_parser.specs.ReadItems.{is_end, to_semicolon}
+use Rattle.c_parser.specs.ReadItems.{to_semicolon}
 use Rattle.c_parser.proofs.ReadLaws.{bind_some}
 
 -- these tokens stand before

@@ -1,5 +1,5 @@
 -- Every node of an expression that tokens spell passes each test that the nodes of the grammar pass by themselves.
-use Rattle.std.proofs.Common.{◌≡◌, ℕ, zero, suc, ℤ, List, [], ◌∷◌, Bool, true, false, ◌&&◌, refl, sym, subst, nat_le, Some}
+use Rattle.std.proofs.Common.{◌≡◌, ℕ, zero, suc, ℤ, List, [], ◌∷◌, Bool, true, false, ◌&&◌, refl, nat_le, Some}
 use Rattle.c_core.proofs.TextOrderLaws.{left}
 use Rattle.c_core.specs.Types.{fits_signed}
 use Rattle.c_core.specs.declared.number.Spot.{Spot}
@@ -8,7 +8,7 @@ use Rattle.c_tokens.specs.declared.token.TokenKind.TheVariants as kind
 use Rattle.c_tokens.specs.declared.token.Punct.{Punct}
 use Rattle.c_parser.specs.Tree.{Exp, Expr, Node, exps, moved}
 use Rattle.c_parser.specs.Tree as node
-use Rattle.c_parser.specs.Formed.{every_node, every_part, every_argument, kind_fits, constants_fit}
+use Rattle.c_parser.specs.Formed.{every_node, every_part, every_argument}
 use Rattle.c_parser.specs.Signs.{token, Joint, Sequence, Both, Either, Plain, joined, assigns}
 use Rattle.c_parser.specs.Expressions.{Arguments, LastArgument, MoreArguments, Expression, Stronger, Joined, Assigned, Chosen, SteppedBefore, Signed, Converted, SteppedBehind, AName, AnElement, ABareCall, ACall, ANumber, ACharacter, AGroup, Within, has_room, Spells}
 use Rattle.c_parser.proofs.OrderedExpressions.{names_passed}

@@ -1,5 +1,5 @@
 -- What is read at a height is no higher.
-use Rattle.std.proofs.Common.{◌≡◌, ℕ, ◌≤◌, max, nat_le, Bool, true, List, [], ◌∷◌, refl, arith, Some}
+use Rattle.std.proofs.Common.{◌≡◌, ℕ, ◌≤◌, nat_le, Bool, true, List, [], ◌∷◌, refl, arith, Some}
 use Rattle.std.proofs.lemmas.Bool.Decides.{nat_tests}
 use Rattle.c_tokens.specs.declared.token.Token.{Token}
 use Rattle.c_parser.specs.Tree.{Declared}

@@ -1,11 +1,11 @@
 -- The tokens of a text stand in its order, and their constants fit.
-use Rattle.std.proofs.Common.{◌≡◌, ◌<◌, ◌≤◌, ◌+◌, ◌^◌, ◌-◌, ◌⊎◌, inl, inr, ℕ, zero, suc, pos, negsuc, min, nat_lt, nat_eq, nat_le, ltb-true, lt-ltb, eq-eqb, List, [], ◌∷◌, ◌++◌, length, take, drop, map, Bool, true, false, cond, ◌&&◌, ◌||◌, ◌==◌, if◌then◌else◌, refl, sym, ap, ◌∙◌, subst, Option, Some, None, arith, length-append}
+use Rattle.std.proofs.Common.{◌≡◌, ◌<◌, ◌≤◌, ◌+◌, ◌^◌, ◌-◌, ◌⊎◌, inl, inr, ℕ, suc, pos, negsuc, nat_lt, nat_le, lt-ltb, eq-eqb, List, [], ◌∷◌, length, take, drop, map, Bool, true, false, cond, ◌==◌, if◌then◌else◌, refl, sym, ap, ◌∙◌, subst, Option, Some, None, arith, length-append}
 use Rattle.std.proofs.Math.Bool.{or-true}
 use Rattle.std.proofs.lemmas.List.{take-append-drop}
 use Rattle.std.proofs.lemmas.Bool.Decides.{nat_tests}
 use Rattle.std.specs.List.{list_all, prefix_len, take_while}
 use Rattle.c_core.specs.Types.{fits_signed, signed_of}
-use Rattle.c_core.specs.TextOrder.{is_before, is_before_first, rises}
+use Rattle.c_core.specs.TextOrder.{is_before, is_before_first}
 use Rattle.c_core.proofs.TextOrderLaws.{left, right, is_before-then}
 use Rattle.c_core.specs.declared.number.Spot.{Spot}
 use Rattle.c_tokens.specs.Bytes.{line_feed, is_digit, is_octal_digit, is_hexadecimal_digit}

@@ -1,12 +1,12 @@
 -- Passing brackets pair by pair, attributes and specifiers one by one.
-use Rattle.std.proofs.Common.{◌≡◌, ℕ, zero, suc, ◌+◌, ◌-◌, ◌≤◌, ◌<◌, ◌++◌, Bool, true, false, nat_lt, List, [], ◌∷◌, length, drop, Option, Some, None, if◌then◌else◌, refl, sym, ap, ◌∙◌, subst, arith, rules, length-append, append_assoc, slice_index, append-nil}
-use Rattle.std.specs.Prelude.{Result, Ok, Err}
+use Rattle.std.proofs.Common.{◌≡◌, ℕ, zero, suc, ◌+◌, ◌-◌, ◌≤◌, ◌<◌, ◌++◌, Bool, true, false, nat_lt, List, [], ◌∷◌, length, drop, Option, Some, None, if◌then◌else◌, refl, sym, ap, ◌∙◌, subst, arith, length-append, append_assoc, slice_index, append-nil}
+use Rattle.std.specs.Prelude.{Result, Err}
 use Rattle.std.specs.Borrow.{Bor}
 use Rattle.c_parser.specs.declared.fault.Unread.{Unread}
 use Rattle.c_parser.specs.declared.fault.Unread.TheVariants.{Unspelled, OutOfMemory}
 use Rattle.c_parser.specs.Gives.{Fails, Closes}
 use Rattle.c_parser.specs.Passes.{Counted, Passes}
-use Rattle.std.proofs.lemmas.Bool.{cond-true, cond-false, lt-ltb, le-ltb}
+use Rattle.std.proofs.lemmas.Bool.{cond-true, lt-ltb}
 use Rattle.std.proofs.lemmas.Bool.Decides.{nat_tests}
 use Rattle.c_tokens.specs.declared.token.Token.{Token}
 use Rattle.c_tokens.specs.declared.token.Punct.{Punct}

@@ -1,5 +1,5 @@
-use Rattle.std.proofs.Common.{◌≡◌, ◌-◌, ◌∙◌, ◌<◌, ◌≤◌, sym, ap, [], ◌∷◌, Some, None, Err, length, drop, rules, arith}
-use Rattle.c_parser.specs.Brackets.{bracket_of, Opening, skipped, behind}
+use Rattle.std.proofs.Common.{◌≡◌, ◌-◌, ◌∙◌, ◌<◌, sym, Some, Err, drop, rules, arith}
+use Rattle.c_parser.specs.Brackets.{bracket_of, Opening, behind}
 use Rattle.c_parser.specs.Signs.{sign_at}
 use Rattle.c_parser.proofs.PassingLaws.{nested_read, nested_none, nested_shorter, behind_some, stopped}
 use Rattle.c_parser.proofs.brackets.+behind_closing.Goals as goal

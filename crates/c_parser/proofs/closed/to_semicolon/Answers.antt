@@ -1,9 +1,7 @@
-use Rattle.std.proofs.Common.{◌≡◌, ◌<◌, ◌≤◌, ◌∙◌, suc, sym, ap, subst, [], List, Some, None, Err, length, drop, true, false, rules, arith}
+use Rattle.std.proofs.Common.{◌≡◌, ◌<◌, ◌∙◌, sym, ap, subst, [], List, Some, Err, length, drop, rules}
 use Rattle.std.specs.Borrow.{Bor}
 use Rattle.c_tokens.specs.declared.token.Token.{Token}
-use Rattle.c_tokens.specs.declared.token.Punct.TheVariants as sign
-use Rattle.c_parser.specs.Signs.{is_sign, sign_at}
-use Rattle.c_parser.specs.Brackets.{NoBracket, Opening, bracket_of, behind}
+use Rattle.c_parser.specs.Brackets.{behind}
 use Rattle.c_parser.specs.Gives.{Reads}
 use Rattle.c_parser.specs.ReadItems.{to_semicolon}
 use Rattle.c_parser.proofs.PassingLaws.{stopped_by, nested_shorter}

@@ -1,7 +1,6 @@
-use Rattle.std.proofs.Common.{◌≡◌, ◌-◌, ◌∙◌, ◌++◌, suc, sym, ap, map, [], ◌∷◌, List, Option, Some, None, Err, length, drop, true, false, rules, arith}
+use Rattle.std.proofs.Common.{◌≡◌, ◌-◌, ◌∙◌, ◌++◌, suc, sym, ap, map, [], ◌∷◌, List, Some, Err, drop, rules, arith}
 use Rattle.c_tokens.specs.declared.token.Token.{Token}
 use Rattle.c_tokens.specs.declared.token.Punct.TheVariants as sign
-use Rattle.c_parser.specs.Signs.{is_sign}
 use Rattle.c_parser.specs.Tree.{Declared}
 use Rattle.c_parser.specs.SourceView.{declared_view}
 use Rattle.c_parser.specs.Gives.{Reads}

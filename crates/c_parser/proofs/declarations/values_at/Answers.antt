@@ -1,4 +1,4 @@
-use Rattle.std.proofs.Common.{◌≡◌, ◌-◌, ◌∙◌, ◌++◌, suc, sym, ap, [], ◌∷◌, List, Some, length, drop, arith}
+use Rattle.std.proofs.Common.{◌≡◌, ◌-◌, ◌∙◌, ◌++◌, suc, sym, ap, [], ◌∷◌, List, Some, drop, arith}
 use Rattle.c_tokens.specs.declared.token.Token.{Token}
 use Rattle.c_tokens.specs.declared.token.Punct.TheVariants as sign
 use Rattle.c_parser.specs.Signs.{is_sign}

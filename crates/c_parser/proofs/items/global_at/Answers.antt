@@ -1,4 +1,4 @@
-use Rattle.std.proofs.Common.{◌≡◌, ◌∙◌, Some, map, refl, true}
+use Rattle.std.proofs.Common.{◌≡◌, Some, map, refl, true}
 use Rattle.c_parser.specs.SourceView.{declared_view}
 use Rattle.c_parser.specs.ReadStatements.{declares}
 use Rattle.c_parser.proofs.LowLaws.{declares_low}

@@ -1,9 +1,6 @@
-use Rattle.std.proofs.Common.{◌≡◌, ◌-◌, ◌∙◌, ◌++◌, suc, sym, ap, map, [], ◌∷◌, List, Some, None, Err, length, drop, rules, arith}
-use Rattle.c_core.specs.declared.number.IntType.{IntType}
+use Rattle.std.proofs.Common.{◌≡◌, ◌-◌, ◌∙◌, ◌++◌, suc, sym, ap, map, [], ◌∷◌, List, Some, Err, length, drop, rules, arith}
 use Rattle.c_tokens.specs.declared.token.Token.{Token}
-use Rattle.c_tokens.specs.declared.token.Punct.TheVariants as sign
 use Rattle.c_parser.specs.Tree.{Param}
-use Rattle.c_parser.specs.Signs.{is_sign}
 use Rattle.c_parser.specs.Gives.{Reads}
 use Rattle.c_parser.specs.SourceView.{param_view}
 use Rattle.c_parser.specs.ReadItems.{read_parameter, read_parameter_list}

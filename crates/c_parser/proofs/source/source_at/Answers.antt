@@ -1,8 +1,6 @@
-use Rattle.std.proofs.Common.{◌≡◌, ◌-◌, ◌<◌, ◌≤◌, ◌∙◌, ◌++◌, suc, sym, ap, subst, map, List, Option, Some, None, Err, length, rules, arith}
+use Rattle.std.proofs.Common.{◌≡◌, ◌-◌, ◌<◌, ◌∙◌, ◌++◌, suc, sym, ap, subst, map, List, Err, length, rules, arith}
 use Rattle.std.specs.Option.{option_map, option_to_list}
-use Rattle.c_core.specs.declared.number.Spot.{Spot}
 use Rattle.c_parser.specs.Tree.{Item}
-use Rattle.c_parser.specs.Signs.{place}
 use Rattle.c_parser.specs.Sources.{max_height, max_brackets}
 use Rattle.c_parser.specs.ReadItems.{read_item, read_items}
 use Rattle.c_parser.specs.SourceView.{item_view}

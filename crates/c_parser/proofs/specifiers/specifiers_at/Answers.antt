@@ -1,4 +1,4 @@
-use Rattle.std.proofs.Common.{◌≡◌, ◌-◌, ◌∙◌, ◌<◌, ◌≤◌, suc, sym, ap, subst, List, Some, None, Err, length, drop, rules, arith}
+use Rattle.std.proofs.Common.{◌≡◌, ◌-◌, ◌∙◌, suc, sym, ap, subst, List, Some, Err, length, drop, rules, arith}
 use Rattle.c_tokens.specs.declared.token.Token.{Token}
 use Rattle.c_parser.specs.Declarations.{behind_pair, read_specifiers}
 use Rattle.c_parser.specs.Passes.{Specified}

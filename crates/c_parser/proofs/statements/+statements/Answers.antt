@@ -1,9 +1,8 @@
-use Rattle.std.proofs.Common.{◌≡◌, ◌-◌, ◌∙◌, ◌++◌, ◌&&◌, suc, sym, ap, map, [], ◌∷◌, List, Option, Some, None, Err, length, drop, true, false, rules, arith}
+use Rattle.std.proofs.Common.{◌≡◌, ◌-◌, ◌∙◌, ◌++◌, ◌&&◌, suc, sym, ap, map, [], ◌∷◌, List, Some, Err, drop, true, false, rules, arith}
 use Rattle.c_core.specs.declared.number.Spot.{Spot}
 use Rattle.c_tokens.specs.declared.token.Token.{Token}
-use Rattle.c_tokens.specs.declared.token.Punct.TheVariants as sign
 use Rattle.c_parser.specs.Tree.{Stm, Stmt, Form, Declare, Block, stms}
-use Rattle.c_parser.specs.Signs.{place, is_sign}
+use Rattle.c_parser.specs.Signs.{place}
 use Rattle.c_parser.specs.SourceView.{declared_view, form_view, stmt_view}
 use Rattle.c_parser.specs.declared.tree.RawForm.TheViews as W
 use Rattle.c_parser.specs.Gives.{Reads}
