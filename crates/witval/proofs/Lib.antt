@@ -19,4 +19,4 @@ pub mod ThinGiven
 pub mod ThinReturns
 pub mod AimSteps
 pub mod JudgedTask
-pub mod RisingTokens
+pub mod FewTokens

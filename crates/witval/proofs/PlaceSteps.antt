@@ -18,8 +18,12 @@ use Rattle.witval.specs.ThinGrammar.{declaration_start, is_consistent, is_whole,
 use Rattle.witval.specs.ThinPhrases.{parts_of}
 use Rattle.witval.specs.ThinObjects.{object_at, objects_of}
 use Rattle.witval.specs.ThinProgram.{block_of, declaration_of, program_tree, return_tree, statements_of, test_of}
-use Rattle.witval.proofs.RisingTokens.{spots}
+
 use Rattle.witval.proofs.GrammarSteps.{both_left, both_right, length-parts_of, spells-length}
+
+-- the places of tokens
+abbrev pub spots : List Token → List Spot
+spots ts = map (λ t. t.spot) ts
 
 -- places of tokens in their order, from the token with a number on
 abbrev pub Places : List Token → ℕ → List Spot → Type 0

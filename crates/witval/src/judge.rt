@@ -1,6 +1,6 @@
 // The reply to a program, a property and a witness: the refusals in their order, and then the verdict.
-ghost use Rattle.std.specs.Prelude.{IfOk, IsTrue, ◌<◌, ◌≤◌, length, map};
-ghost use Rattle.c_core.specs.TextOrder.{rises};
+ghost use Rattle.std.specs.Prelude.{IfOk, ◌<◌, ◌≤◌, length};
+ghost use Rattle.c_parser.specs.Formed.{AreOrderly};
 ghost use Rattle.witval.specs.Inputs.{AreWithin};
 ghost use Rattle.witval.specs.Readings.{RightAfterReading};
 ghost use Rattle.witval.specs.Tasks.{RightOnInputs, RightOnProgram, RightOnSource, RightOnTokens, RightOnTree, RightOnWitness};
@@ -104,7 +104,7 @@ fn judge_tokens(
     steps: u64,
 ) -> Result<Reply, OutOfMemory>
     requires few { length tokens.now ≤ 1048576 }
-    requires rising { IsTrue (rises (map (λ t. t.spot) tokens.now)) }
+    requires orderly { AreOrderly tokens.now }
     ensures { IfOk result (RightOnTokens steps witness.now model tokens.now) }
 {
     match parse(alloc, tokens) {
@@ -122,7 +122,7 @@ fn judge_source(
     steps: u64,
 ) -> Result<Reply, OutOfMemory>
     requires few { length tokens.now ≤ 1048576 }
-    requires rising { IsTrue (rises (map (λ t. t.spot) tokens.now)) }
+    requires orderly { AreOrderly tokens.now }
     ensures { IfOk result (RightOnSource steps witness.now model tokens.now) }
 {
     let found = read_witness(witness);

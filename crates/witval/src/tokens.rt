@@ -1,5 +1,5 @@
-ghost use Rattle.std.specs.Prelude.{◌≤◌, length, map, IfOk, IsTrue};
-ghost use Rattle.c_core.specs.TextOrder.{rises};
+ghost use Rattle.std.specs.Prelude.{◌≤◌, length, IfOk};
+ghost use Rattle.c_parser.specs.Formed.{AreOrderly};
 ghost use Rattle.c_tokens.specs.Reading.{Answers};
 
 use c_tokens::{Token, TokenFault, tokens};
@@ -11,7 +11,7 @@ pub fn program_tokens(alloc: Global, program: &[u8]) -> Result<Seq<Token>, Token
     requires { length program.now ≤ 1048576 }
     ensures found { Answers program.now result }
     ensures few { IfOk result (λ ts. length ts ≤ 1048576) }
-    ensures rising { IfOk result (λ ts. IsTrue (rises (map (λ t. t.spot) ts))) }
+    ensures orderly { IfOk result AreOrderly }
 {
     match tokens(alloc, program) {
         Ok(found) => Ok(found),
