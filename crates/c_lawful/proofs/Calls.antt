@@ -1,12 +1,12 @@
 -- Calls that aren't refused fit the functions that they call.
-use Rattle.std.proofs.Common.{◌≡◌, ℕ, suc, ◌+◌, Bool, true, false, cond, not, ◌&&◌, ◌||◌, List, [], ◌∷◌, ◌++◌, length, refl, sym, ap, ◌∙◌, subst, Option, Some, None, is_some, is_none, eqb-true, eq-eqb, nat_eq, add-one}
-use Rattle.std.proofs.lemmas.Bool.{false≢true, false_from_ne_true}
+use Rattle.std.proofs.Common.{◌≡◌, ℕ, suc, Bool, true, false, cond, not, ◌&&◌, ◌||◌, List, [], ◌∷◌, length, refl, sym, ap, ◌∙◌, subst, Option, Some, None, is_none, eqb-true, eq-eqb, nat_eq, add-one}
+use Rattle.std.proofs.lemmas.Bool.{false≢true}
 use Rattle.std.proofs.lemmas.Slice.Eq.{bytes_eq-Decides}
-use Rattle.std.specs.List.{Contains, slice_get, position_or_len, list_all}
+use Rattle.std.specs.List.{Contains, position_or_len, list_all}
 use Rattle.std.specs.Str.{bytes_eq}
 use Rattle.c_core.specs.Tree as t
 use Rattle.c_core.specs.Parts.{exps_in}
-use Rattle.c_core.specs.Typing.{has_value, are_values, has_input, is_type, same_types, is_call_of, is_call}
+use Rattle.c_core.specs.Typing.{has_value, are_values, same_types, is_call}
 use Rattle.c_core.specs.declared.number.IntType.{IntType}
 use Rattle.c_core.specs.declared.number.Spot.{Spot}
 use Rattle.c_core.specs.declared.tree.Callee.{Callee}
@@ -15,13 +15,13 @@ use Rattle.c_parser.specs.Tree as raw
 use Rattle.c_parser.specs.Tree.{Exp, Expr, Exps, NoExp, MoreExp, Call}
 use Rattle.c_rules.specs.Names as kind
 use Rattle.c_rules.specs.Names.{Kind, Entry, entry, declared_as, or_built_in, built_in, named, is_function, result_of_callee, parameters_of_callee}
-use Rattle.c_rules.specs.Typed.{typed, typed_all, result_named, callee_or, callee_of, callee_for}
-use Rattle.c_rules.specs.Parts.{Role, Value, Part, Expression, parts, parts_of, bodies_of}
-use Rattle.c_rules.specs.Codes.{is_among, closed_names, count, count_in, or_else, count_stated, count_defined, is_not, count_for, miscalled, is_bodiless}
+use Rattle.c_rules.specs.Typed.{typed_all, result_named, callee_or, callee_of, callee_for}
+use Rattle.c_rules.specs.Parts.{Role, Value, Expression, parts, parts_of, bodies_of}
+use Rattle.c_rules.specs.Codes.{is_among, closed_names, count, count_in, or_else, count_stated, is_not, count_for, miscalled}
 use Rattle.c_lawful.proofs.Lists.{AllOf, both, all_front, all_behind, first_fails, second_fails, not_false}
-use Rattle.c_lawful.proofs.Entries.{AreAgreed, AgreeKinds, AsMany, same_type-refl, same_types-refl}
+use Rattle.c_lawful.proofs.Entries.{AreAgreed, same_type-refl, same_types-refl}
 use Rattle.c_lawful.proofs.Known.{IsSound, IsKind}
-use Rattle.c_lawful.proofs.Good.{IsGood, IsCalled, IsBuilt, IsBuiltIf, is_built, If, Stands, declared_stands, value_of_part}
+use Rattle.c_lawful.proofs.Good.{IsGood, IsCalled, IsBuilt, IsBuiltIf, is_built, Stands, declared_stands, value_of_part}
 
 equal_unless : (n k : ℕ) → is_not n (Some k) ≡ false → n ≡ k
 equal_unless n k h = eqb-true n k (not_false (nat_eq n k) h)

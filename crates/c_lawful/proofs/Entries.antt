@@ -1,11 +1,11 @@
 -- The functions and prototypes of one name that a source declares agree.
-use Rattle.std.proofs.Common.{◌≡◌, ℕ, suc, Bool, true, false, cond, not, ◌&&◌, ◌||◌, List, [], ◌∷◌, ◌++◌, length, refl, sym, ap, ◌∙◌, subst, Option, Some, None, is_some, is_none, ◌⊎◌, inl, inr, eqb-true, eq-eqb, nat_eq}
+use Rattle.std.proofs.Common.{◌≡◌, ℕ, suc, Bool, true, false, cond, not, ◌&&◌, List, [], ◌∷◌, ◌++◌, length, refl, sym, ap, ◌∙◌, subst, Option, Some, None, ◌⊎◌, inl, inr, eqb-true, eq-eqb, nat_eq}
 use Rattle.std.proofs.lemmas.Bool.{false≢true}
 use Rattle.std.proofs.lemmas.Slice.Eq.{bytes_eq-Decides}
-use Rattle.std.proofs.lemmas.List.Elements.{Contains-append_left, Contains-append_right, Contains-push, Contains-push_cases, All-contains, All-from_recursion}
+use Rattle.std.proofs.lemmas.List.Elements.{Contains-append_left, Contains-push_cases, All-contains, All-from_recursion}
 use Rattle.std.specs.List.{AllByRecursion, Contains, list_any}
 use Rattle.std.specs.Str.{bytes_eq}
-use Rattle.c_core.specs.Typing.{number_of_type, same_type, is_type, same_types}
+use Rattle.c_core.specs.Typing.{number_of_type, same_type, same_types}
 use Rattle.c_core.specs.declared.number.IntType.{IntType}
 use Rattle.c_core.specs.declared.number.IntType.TheVariants.{Bool as BoolType, Char, SChar, UChar, Short, UShort, Int, UInt, Long, ULong, LongLong, ULongLong}
 use Rattle.c_core.specs.declared.number.DataModel.{DataModel}
@@ -13,10 +13,10 @@ use Rattle.c_core.specs.declared.number.Spot.{Spot}
 use Rattle.c_parser.specs.Tree as raw
 use Rattle.c_rules.specs.Names as kind
 use Rattle.c_rules.specs.Names.{Kind, Entry, entry}
-use Rattle.c_rules.specs.Codes.{same_lists, agree, clashes, is_again, doubled, alters}
-use Rattle.c_rules.specs.Scopes.{Scope, with_object, with_entry, object_of, after_name, after_names, after_item, after_items, entry_of_function, entry_of_prototype}
-use Rattle.c_rules.specs.Parts.{Part, Naming, parts_of_item, parts_of_items, parts_of_parameters, parts_of_block, parts_of_labels}
-use Rattle.c_lawful.proofs.Lists.{AllOf, all_front, all_behind, left, right, first_fails, second_fails, not_false}
+use Rattle.c_rules.specs.Codes.{same_lists, agree, clashes, is_again}
+use Rattle.c_rules.specs.Scopes.{Scope, object_of, after_name, after_names, after_item, after_items, entry_of_function, entry_of_prototype}
+use Rattle.c_rules.specs.Parts.{Naming, parts_of_item, parts_of_items}
+use Rattle.c_lawful.proofs.Lists.{AllOf, all_front, all_behind, right, first_fails, second_fails, not_false}
 use Rattle.c_lawful.proofs.Fair.{IsFair}
 
 -- ---- equal types
@@ -108,9 +108,10 @@ agree-sym kind.Closed (kind.Object n ty array fixed) h = tt
 agree-sym kind.Closed kind.Closed h = tt
 
 agree_unless_clashing : (k l : Kind) → clashes k l ≡ false → AgreeKinds k l
-agree_unless_clashing (kind.Function r s b) (kind.Function r' s' b') h =
-    (equal_results r r' (not_false _ (first_fails (not (same_types r r')) _ h)),
-    as_many s s' (not_false _ (first_fails (not (agree s s')) _ (second_fails (not (same_types r r')) _ h))))
+agree_unless_clashing (kind.Function r s b) (kind.Function r' s' b') h = (
+  equal_results r r' (not_false _ (first_fails (not (same_types r r')) _ h)),
+  as_many s s' (not_false _ (first_fails (not (agree s s')) _ (second_fails (not (same_types r r')) _ h))),
+)
 agree_unless_clashing (kind.Function r s b) (kind.Object n ty array fixed) h = tt
 agree_unless_clashing (kind.Function r s b) kind.Closed h = tt
 agree_unless_clashing (kind.Object n ty array fixed) (kind.Function r s b) h = tt

@@ -1,12 +1,12 @@
 -- What is known of each part of a source that isn't refused.
-use Rattle.std.proofs.Common.{◌≡◌, ℕ, Bool, true, false, List, [], ◌∷◌, ◌++◌, refl}
+use Rattle.std.proofs.Common.{◌≡◌, false, List, refl}
 use Rattle.std.proofs.lemmas.Bool.{false_from_ne_true}
 use Rattle.c_core.specs.declared.number.DataModel.{DataModel}
 use Rattle.c_parser.specs.Tree as raw
 use Rattle.c_rules.specs.declared.fault.CheckCode.TheVariants as code
 use Rattle.c_rules.specs.declared.fault.CheckCode.{CheckCode}
 use Rattle.c_rules.specs.Parts.{Part, parts_of_source}
-use Rattle.c_rules.specs.Codes.{nameless, doubled, mistyped, missized, bodiless, crowded, place_of}
+use Rattle.c_rules.specs.Codes.{nameless, doubled, mistyped, missized, bodiless, crowded}
 use Rattle.c_rules.specs.Order.{IsUnordered}
 use Rattle.c_rules.specs.First.{refusal, Holds, place, IsUnrefused}
 use Rattle.std.specs.List.{Contains}

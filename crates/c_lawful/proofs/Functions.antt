@@ -1,10 +1,10 @@
 -- Functions with a body, by their names.
-use Rattle.std.proofs.Common.{◌≡◌, ℕ, zero, suc, ◌+◌, Bool, true, false, cond, not, ◌&&◌, ◌||◌, List, [], ◌∷◌, ◌++◌, length, refl, sym, ap, ◌∙◌, subst, Option, Some, None, is_some, is_none, arith, add-one, map, codes}
+use Rattle.std.proofs.Common.{◌≡◌, ℕ, suc, ◌+◌, Bool, true, false, cond, ◌&&◌, ◌||◌, List, [], ◌∷◌, length, refl, sym, ap, ◌∙◌, subst, Option, Some, None, arith, codes}
 use Rattle.std.proofs.lemmas.Bool.{false≢true}
 use Rattle.std.proofs.lemmas.Bool.Decides.{same_from_decides, Decides-like}
 use Rattle.std.proofs.lemmas.Slice.Eq.{bytes_eq-Decides}
 use Rattle.std.proofs.lemmas.List.Elements.{Contains-push}
-use Rattle.std.specs.List.{Contains, slice_get, position_or_len, prefix_len}
+use Rattle.std.specs.List.{Contains, slice_get, position_or_len}
 use Rattle.std.specs.Str.{bytes_eq}
 use Rattle.c_core.specs.Tree as t
 use Rattle.c_core.specs.Parts.{is_empty}
@@ -15,7 +15,7 @@ use Rattle.c_core.specs.declared.number.Spot.{Spot}
 use Rattle.c_parser.specs.Tree as raw
 use Rattle.c_rules.specs.Names as kind
 use Rattle.c_rules.specs.Names.{Entry, entry}
-use Rattle.c_rules.specs.Scopes.{Scope, with_entry, after_item, after_items, types_of, entry_of_function}
+use Rattle.c_rules.specs.Scopes.{Scope, after_item, after_items, types_of, entry_of_function}
 use Rattle.c_rules.specs.Parts.{bodies_of}
 use Rattle.c_rules.specs.Codes.{is_among, count_defined}
 use Rattle.c_rules.specs.First.{has_none, is_result_of_main, unless_fit, wrong_main}

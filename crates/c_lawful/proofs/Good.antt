@@ -1,5 +1,5 @@
 -- What is known of each part of a source that isn't refused, beside its program.
-use Rattle.std.proofs.Common.{◌≡◌, ℕ, suc, Bool, true, false, cond, not, ◌&&◌, ◌||◌, List, [], ◌∷◌, ◌++◌, length, refl, sym, ap, ◌∙◌, subst, Option, Some, None, is_some, is_none, ◌⊎◌, inl, inr}
+use Rattle.std.proofs.Common.{◌≡◌, ℕ, Bool, true, false, cond, List, [], ◌∷◌, length, refl, sym, subst, Option, Some, None, is_some, is_none}
 use Rattle.std.proofs.lemmas.Bool.{false≢true}
 use Rattle.std.proofs.lemmas.Slice.Eq.{bytes_eq-Decides}
 use Rattle.std.specs.List.{Contains, slice_get, position_or_len}
@@ -13,13 +13,13 @@ use Rattle.c_core.specs.declared.tree.Callee.{Callee}
 use Rattle.c_core.specs.declared.tree.Callee.TheVariants as callee
 use Rattle.c_parser.specs.Tree as raw
 use Rattle.c_parser.specs.Tree.{Exp, Expr, Node, Number, Char, Var, Index, Unary, Cast, Step, Binary, Logic, Choose, Comma, Assign, Call, Exps, NoExp, MoreExp}
-use Rattle.c_parser.specs.Formed.{character_fits, assignment_fits}
+use Rattle.c_parser.specs.Formed.{constant_fits, assignment_fits}
 use Rattle.c_rules.specs.Names as kind
 use Rattle.c_rules.specs.Names.{Kind, Entry, entry, BuiltIn, later, declared_as, or_built_in, kind_of_callee, callee_among, built_ins, built_in, named}
 use Rattle.c_rules.specs.Typed.{typed}
-use Rattle.c_rules.specs.Parts.{Role, Value, Target, Effect, Part, Expression, parts, bodies_of}
-use Rattle.c_rules.specs.Codes.{is_among, closed_names, count_defined, is_place}
-use Rattle.c_lawful.proofs.Lists.{AllOf, first_fails, second_fails, not_false}
+use Rattle.c_rules.specs.Parts.{Role, Value, Target, Part, Expression, parts, bodies_of}
+use Rattle.c_rules.specs.Codes.{closed_names, count_defined, is_place}
+use Rattle.c_lawful.proofs.Lists.{AllOf, second_fails, not_false}
 use Rattle.c_lawful.proofs.Fair.{IsFair}
 use Rattle.c_lawful.proofs.Passing.{Passes}
 use Rattle.c_lawful.proofs.Known.{IsThere, IsKind, IsSound, Knows, IsPlaced}
@@ -79,7 +79,7 @@ module _ (p : t.Program) (items : List raw.Item) (entries : List Entry) where
     pub fair : IsFair p.model items part
     pub knows : Knows p.objects entries (closed_names items) part
     pub placed : IsPlaced p.objects entries (closed_names items) p.model (bodies_of items) part
-    pub character : Passes character_fits part
+    pub character : Passes constant_fits part
     pub assignment : Passes assignment_fits part
 
   -- a function with a body, and what is known of its name

@@ -1,6 +1,6 @@
 -- What the names in scope stand for is so in the program.
-use Rattle.std.proofs.Common.{◌≡◌, ℕ, Bool, true, false, cond, List, [], ◌∷◌, ◌++◌, length, refl, sym, ap, ◌∙◌, subst, Option, Some, None, is_some, is_none, ◌⊎◌, inl, inr}
-use Rattle.std.proofs.lemmas.List.Elements.{Contains-append_left, Contains-append_right, Contains-push, Contains-push_cases}
+use Rattle.std.proofs.Common.{◌≡◌, ℕ, Bool, true, false, List, [], ◌∷◌, ◌++◌, length, refl, sym, ap, ◌∙◌, subst, Option, Some, None, is_some}
+use Rattle.std.proofs.lemmas.List.Elements.{Contains-push}
 use Rattle.std.proofs.lemmas.Slice.Eq.{bytes_eq-Decides}
 use Rattle.std.specs.List.{Contains, slice_get}
 use Rattle.std.specs.Str.{bytes_eq}
@@ -13,10 +13,10 @@ use Rattle.c_rules.specs.Names as kind
 use Rattle.c_rules.specs.Names.{Kind, Entry, entry}
 use Rattle.c_rules.specs.Codes.{is_among, closed_names, entry_of}
 use Rattle.c_rules.specs.Scopes.{Scope, seen, opened, closed, with_object, with_entry, object_of, after_name, after_names, after_first, after_statement, after_form, after_else, after_block, after_item, after_items, after_parameters, inside, parameter, statements_of, entry_of_function, entry_of_prototype}
-use Rattle.c_rules.specs.Parts.{Role, Value, Target, Effect, Part, Expression, Declaring, Naming, Initializing, Returning, Leaving, Labelling, Label, parts, parts_if, parts_of_value, parts_of_values, parts_of_init, parts_of_name, parts_of_names, parts_of_first, parts_of_statement, parts_of_form, parts_of_else, parts_of_block, labels_of, parts_of_labels, parts_of_parameters, parts_of_item, parts_of_items}
-use Rattle.c_lawful.proofs.Lists.{AllOf, all_then, all_front, all_behind, all_weaker, append-nil, or_also, or_first}
+use Rattle.c_rules.specs.Parts.{Role, Value, Effect, Part, Expression, Declaring, Naming, Initializing, Returning, Leaving, Labelling, Label, parts, parts_if, parts_of_value, parts_of_values, parts_of_init, parts_of_name, parts_of_names, parts_of_first, parts_of_statement, parts_of_form, parts_of_else, parts_of_block, labels_of, parts_of_labels, parts_of_parameters, parts_of_item, parts_of_items}
+use Rattle.c_lawful.proofs.Lists.{AllOf, all_then, all_front, all_behind, append-nil, or_also, or_first}
 use Rattle.c_lawful.proofs.Entries.{items_stay}
-use Rattle.c_lawful.proofs.Threads.{Sees, parts_see, objects_of_part, declared, IsBehind, AreBehind}
+use Rattle.c_lawful.proofs.Threads.{Sees, parts_see}
 
 -- an object of that number, as it was declared
 pub record IsThere (objects : List Object) (n : ℕ) (ty : IntType) (is_array is_fixed : Bool) : Type 0 where
@@ -57,9 +57,9 @@ module _ (objects : List Object) (entries : List Entry) (hidden : List (List ℕ
     keeps_then : {a b c : List Entry} {ps qs : List Part} → Keeps a b ps → Keeps b c qs → Keeps a c (ps ++ qs)
     keeps_then {a} {b} {c} {ps} {qs} x y = record {
       keeps = λ h k.
-        let f = x.keeps h (all_front IsPlaced ps qs k) in
-        let g = y.keeps f.1 (all_behind IsPlaced ps qs k) in
-        (all_then Knows ps qs f.0 g.0, g.1);
+          let f = x.keeps h (all_front IsPlaced ps qs k) in
+          let g = y.keeps f.1 (all_behind IsPlaced ps qs k) in
+          (all_then Knows ps qs f.0 g.0, g.1);
     }
 
     -- a scope in a scope

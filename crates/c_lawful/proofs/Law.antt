@@ -1,7 +1,7 @@
 -- The program of a source that isn't refused meets every part of a program's invariant.
-use Rattle.std.proofs.Common.{◌≡◌, ◌≤◌, ℕ, Bool, true, false, cond, nat_eq, List, [], ◌∷◌, ◌++◌, length, refl, sym, ap, ◌∙◌, subst, Option, Some, None, append-nil, arith, nat_le}
+use Rattle.std.proofs.Common.{◌≡◌, ◌≤◌, ℕ, true, cond, nat_eq, List, [], ◌∷◌, ◌++◌, length, sym, ap, ◌∙◌, subst, Some, None, append-nil, arith, nat_le}
 use Rattle.std.proofs.lemmas.Bool.{le-leb}
-use Rattle.std.specs.List.{Contains, slice_get, list_all, range_with_len}
+use Rattle.std.specs.List.{slice_get, list_all, range_with_len}
 use Rattle.c_core.specs.Tree as t
 use Rattle.c_core.specs.Parts.{objects_of}
 use Rattle.c_core.specs.Scope.{times_in, owned_by, is_fixed, is_object}
@@ -12,14 +12,13 @@ use Rattle.c_core.specs.declared.number.DataModel.{DataModel}
 use Rattle.c_core.specs.declared.number.Property.{Property}
 use Rattle.c_core.specs.declared.tree.Object.{Object}
 use Rattle.c_parser.specs.Tree as raw
-use Rattle.c_parser.specs.Formed.{character_fits, assignment_fits, IsFormed}
-use Rattle.c_parser.specs.TextOrder.{spots_of_items}
+use Rattle.c_parser.specs.Formed.{constant_fits, assignment_fits, IsFormed}
 use Rattle.c_rules.specs.Names.{Entry}
 use Rattle.c_rules.specs.Scopes.{seen, object_of, after_items, outermost}
 use Rattle.c_rules.specs.Parts.{Part, Expression, Declaring, Naming, Initializing, Returning, Leaving, Labelling, parts_of_source, bodies_of}
 use Rattle.c_rules.specs.Codes.{is_among, closed_names, cells_in}
 use Rattle.c_rules.specs.First.{IsUnrefused, wrong_main}
-use Rattle.c_rules.specs.Checked.{functions_of, starts_of, program_of}
+use Rattle.c_rules.specs.Checked.{starts_of, program_of}
 use Rattle.c_lawful.proofs.Lists.{AllOf, append-assoc, slice_get-behind}
 use Rattle.c_lawful.proofs.Fair.{IsFair, all_fair}
 use Rattle.c_lawful.proofs.Threads.{declared, AreBehind, Leads, items_lead}
@@ -46,9 +45,10 @@ module _ (objects : List Object) (entries : List Entry) (hidden : List (List ℕ
   placed_all : (os : List Object) (ps : List Part) → AreBehind m bodies os ps → objects ≡ os ++ declared m bodies ps → AllOf (IsPlaced objects entries hidden m bodies) ps
   placed_all os [] h e = tt
   placed_all os (Declaring fixed s d ∷ ps) h e =
-      let o = object_of m bodies fixed (seen s) d in
-      (placed_at os o (declared m bodies ps) (length s.objects) (ap length (sym h.0)) e,
-      placed_all (os ++ o ∷ []) ps h.1 (e ∙ sym (append-assoc os (o ∷ []) (declared m bodies ps))))
+      let o = object_of m bodies fixed (seen s) d in (
+        placed_at os o (declared m bodies ps) (length s.objects) (ap length (sym h.0)) e,
+        placed_all (os ++ o ∷ []) ps h.1 (e ∙ sym (append-assoc os (o ∷ []) (declared m bodies ps))),
+      )
   placed_all os (Expression es' r v ∷ ps) h e = (tt, placed_all os ps (subst (λ l. AreBehind m bodies l ps) (append-nil os) h.1) e)
   placed_all os (Naming s v p ∷ ps) h e = (tt, placed_all os ps (subst (λ l. AreBehind m bodies l ps) (append-nil os) h.1) e)
   placed_all os (Initializing fixed s v ∷ ps) h e = (tt, placed_all os ps (subst (λ l. AreBehind m bodies l ps) (append-nil os) h.1) e)
@@ -57,7 +57,7 @@ module _ (objects : List Object) (entries : List Entry) (hidden : List (List ℕ
   placed_all os (Labelling before w p ∷ ps) h e = (tt, placed_all os ps (subst (λ l. AreBehind m bodies l ps) (append-nil os) h.1) e)
 
 module _ (p : t.Program) (items : List raw.Item) (entries : List Entry) where
-  all_good : (ps : List Part) → AllOf (IsFair p.model items) ps → AllOf (Knows p.objects entries (closed_names items)) ps → AllOf (IsPlaced p.objects entries (closed_names items) p.model (bodies_of items)) ps → AllOf (Passes character_fits) ps → AllOf (Passes assignment_fits) ps → AllOf (IsGood p items entries) ps
+  all_good : (ps : List Part) → AllOf (IsFair p.model items) ps → AllOf (Knows p.objects entries (closed_names items)) ps → AllOf (IsPlaced p.objects entries (closed_names items) p.model (bodies_of items)) ps → AllOf (Passes constant_fits) ps → AllOf (Passes assignment_fits) ps → AllOf (IsGood p items entries) ps
   all_good [] f k l c a = tt
   all_good (part ∷ ps) f k l c a =
       (record { fair = f.0; knows = k.0; placed = l.0; character = c.0; assignment = a.0 }, all_good ps f.1 k.1 l.1 c.1 a.1)
@@ -91,7 +91,7 @@ module _ (m : DataModel) (property : Property) (items : List raw.Item) (unrefuse
 
   good : AllOf (IsGood p items entries) (parts_of_source m items)
   good =
-      all_good p items entries (parts_of_source m items) fair known placed (items_pass character_fits m (bodies_of items) outermost items formed.characters)
+      all_good p items entries (parts_of_source m items) fair known placed (items_pass constant_fits m (bodies_of items) outermost items formed.constants)
       (items_pass assignment_fits m (bodies_of items) outermost items formed.assignments)
 
   agreed : AreAgreed entries

@@ -1,16 +1,16 @@
 -- Objects are declared in the order of the text.
-use Rattle.std.proofs.Common.{◌≡◌, ℕ, Bool, true, false, List, [], ◌∷◌, ◌++◌, refl, sym, ap, ◌∙◌, subst, Option, Some, None, map}
+use Rattle.std.proofs.Common.{◌≡◌, ℕ, Bool, true, false, List, [], ◌∷◌, ◌++◌, refl, sym, ap, ◌∙◌, subst, Option, Some, None}
 use Rattle.c_core.specs.TextOrder.{spots_of_objects}
-use Rattle.c_core.proofs.TextOrderLaws.{IsPart, ends, skips, takes, part_none, part_all, part_append, part_front, part_behind}
+use Rattle.c_core.proofs.TextOrderLaws.{IsPart, skips, part_none, part_all, part_append}
 use Rattle.c_core.specs.declared.number.IntType.{IntType}
 use Rattle.c_core.specs.declared.number.DataModel.{DataModel}
 use Rattle.c_core.specs.declared.number.Spot.{Spot}
 use Rattle.c_core.specs.declared.tree.Object.{Object}
 use Rattle.c_parser.specs.Tree as raw
-use Rattle.c_parser.specs.TextOrder.{spots_of, spots_of_all, spots_if, spots_of_init, spots_of_declared, spots_of_first, spots_of_statement, spots_of_form, spots_of_else, spots_of_block, spots_of_params, spots_of_item, spots_of_items}
+use Rattle.c_parser.specs.TextOrder.{spots_of, spots_if, spots_of_init, spots_of_declared, spots_of_first, spots_of_statement, spots_of_form, spots_of_else, spots_of_block, spots_of_params, spots_of_item, spots_of_items}
 use Rattle.c_rules.specs.Names.{Entry}
 use Rattle.c_rules.specs.Scopes.{Scope, seen, opened, closed, with_object, after_name, after_first, after_statement, after_item, after_parameters, inside, parameter, statements_of, entry_of_function}
-use Rattle.c_rules.specs.Parts.{Role, Value, Effect, Part, Expression, Declaring, Naming, Initializing, Returning, Leaving, Labelling, parts, parts_if, parts_of_init, parts_of_name, parts_of_names, parts_of_first, parts_of_statement, parts_of_form, parts_of_else, parts_of_block, labels_of, parts_of_labels, parts_of_parameters, parts_of_item, parts_of_items}
+use Rattle.c_rules.specs.Parts.{Role, Value, Effect, Part, Declaring, Naming, Returning, Leaving, parts, parts_if, parts_of_init, parts_of_name, parts_of_names, parts_of_first, parts_of_statement, parts_of_form, parts_of_else, parts_of_block, labels_of, parts_of_labels, parts_of_parameters, parts_of_item, parts_of_items}
 use Rattle.c_lawful.proofs.Lists.{AllOf, append-nil}
 use Rattle.c_lawful.proofs.Threads.{declared, declared-append, IsQuiet, none_declared, expression_quiet, option_quiet, init_quiet, labels_quiet}
 

@@ -1,22 +1,21 @@
 -- Each object fits, and all together have at most so many cells.
-use Rattle.std.proofs.Common.{◌≡◌, ℕ, ◌+◌, ◌≤◌, ◌<◌, Bool, true, false, cond, not, ◌&&◌, ℤ, pos, negsuc, List, [], ◌∷◌, ◌++◌, refl, sym, ap, ◌∙◌, subst, Option, Some, None, is_some, nat_eq, nat_le, nat_lt, arith}
-use Rattle.std.proofs.lemmas.Bool.{leb-true, le-leb, false≢true}
+use Rattle.std.proofs.Common.{◌≡◌, ℕ, ◌+◌, ◌≤◌, Bool, true, false, cond, ◌&&◌, ℤ, pos, negsuc, List, [], ◌∷◌, ◌++◌, refl, subst, Option, Some, None, is_some, nat_eq, nat_le, arith}
 use Rattle.std.proofs.lemmas.Bool.Decides.{nat_tests}
 use Rattle.std.proofs.lemmas.List.Sums.{sum_by_push}
-use Rattle.std.specs.List.{list_all, sum_by}
-use Rattle.c_core.specs.Program.{object_fits, objects_fit, cells_fit, most_declared_cells}
+use Rattle.std.specs.List.{list_all}
+use Rattle.c_core.specs.Program.{object_fits, most_declared_cells}
 use Rattle.c_core.specs.declared.number.DataModel.{DataModel}
 use Rattle.c_core.specs.declared.tree.Object.{Object}
 use Rattle.c_parser.specs.Tree as raw
 use Rattle.c_rules.specs.Names.{Entry}
 use Rattle.c_rules.specs.Constants.{constant}
 use Rattle.c_rules.specs.Typed.{typed}
-use Rattle.c_rules.specs.Scopes.{Scope, seen, in_bounds, as_size, cells_or_one, cells_of, size_of, object_of}
+use Rattle.c_rules.specs.Scopes.{seen, as_size, cells_or_one, cells_of, object_of}
 use Rattle.c_rules.specs.Parts.{Part, Expression, Declaring, Naming, Initializing, Returning, Leaving, Labelling, bodies_of}
-use Rattle.c_rules.specs.Codes.{cells_in, passes_limit, crowded}
+use Rattle.c_rules.specs.Codes.{cells_in, passes_limit}
 use Rattle.c_lawful.proofs.Lists.{AllOf, both, append-nil, append-assoc}
 use Rattle.c_lawful.proofs.Fair.{IsFair}
-use Rattle.c_lawful.proofs.Threads.{objects_of_part, declared, IsBehind, AreBehind}
+use Rattle.c_lawful.proofs.Threads.{declared, AreBehind}
 
 bound_holds : (b c : Bool) (n : ℕ) → nat_le 1 n ≡ b → nat_le 1 (cells_or_one (cond (b && c) (Some n) None)) ≡ true
 bound_holds true true n e = e

@@ -1,15 +1,13 @@
 -- Each object of automatic storage is owned once, and stands where it is declared.
-use Rattle.std.proofs.Common.{◌≡◌, ℕ, zero, suc, ◌+◌, ◌<◌, ◌≤◌, Bool, true, false, cond, not, ◌&&◌, List, [], ◌∷◌, ◌++◌, length, refl, sym, ap, ◌∙◌, subst, Option, Some, None, is_some, arith, length-append, append-nil, nat_eq, eq-eqb}
-use Rattle.std.proofs.lemmas.Bool.{false≢true}
+use Rattle.std.proofs.Common.{◌≡◌, ℕ, zero, suc, ◌+◌, ◌<◌, ◌≤◌, Bool, true, false, cond, not, List, [], ◌∷◌, ◌++◌, length, refl, sym, ap, ◌∙◌, subst, Option, Some, is_some, arith, length-append, append-nil, nat_eq, eq-eqb}
 use Rattle.std.proofs.lemmas.Bool.Decides.{nat_tests}
 use Rattle.std.specs.List.{slice_get, list_all, flat_map, range_with_len}
 use Rattle.c_core.specs.Tree as t
-use Rattle.c_core.specs.Parts.{DeclaredName, names_in, names_in_block, objects_of, same_spot}
+use Rattle.c_core.specs.Parts.{DeclaredName, names_in, names_in_block, objects_of}
 use Rattle.c_core.specs.Scope.{times_in, is_fixed_object}
 use Rattle.c_core.specs.Program.{stands_at, is_param}
 use Rattle.c_core.proofs.TextOrderLaws.{same_spot-self}
 use Rattle.c_core.specs.declared.number.IntType.{IntType}
-use Rattle.c_core.specs.declared.number.Spot.{Spot}
 use Rattle.c_core.specs.declared.tree.Object.{Object}
 use Rattle.c_parser.specs.Tree as raw
 use Rattle.c_rules.specs.Names.{Entry}
@@ -17,7 +15,7 @@ use Rattle.c_rules.specs.Scopes.{Scope, seen, with_object, object_of, after_item
 use Rattle.c_rules.specs.Parts.{Part, Expression, Declaring, Naming, Initializing, Returning, Leaving, Labelling, parts_of_block, parts_of_body, parts_of_parameters, parts_of_names, parts_of_item, parts_of_items, bodies_of}
 use Rattle.c_rules.specs.Checked.{typed_block, numbers_from, functions_of}
 use Rattle.c_lawful.proofs.Lists.{AllOf, both, all_front, all_behind}
-use Rattle.c_lawful.proofs.Threads.{declared, AreBehind, objects_of_part, block_leads}
+use Rattle.c_lawful.proofs.Threads.{declared, AreBehind, block_leads}
 use Rattle.c_lawful.proofs.Good.{IsGood}
 use Rattle.c_lawful.proofs.OwnedNames.{loose, body_names}
 use Rattle.c_lawful.proofs.TypedStatements.{all_pass_then}

@@ -1,23 +1,17 @@
 -- The parameters and declared names of functions are the objects of automatic storage, each once, in the order of their numbers.
-use Rattle.std.proofs.Common.{◌≡◌, ℕ, zero, suc, ◌+◌, ◌<◌, ◌≤◌, Bool, true, false, cond, not, ◌&&◌, List, [], ◌∷◌, ◌++◌, length, refl, sym, ap, ◌∙◌, subst, Option, Some, None, is_some, arith, length-append, append-nil, append_assoc, add-one, nat_eq, eq-eqb}
-use Rattle.std.proofs.lemmas.Bool.{false≢true}
-use Rattle.std.specs.List.{slice_get, list_all, flat_map, range_with_len}
-use Rattle.c_core.specs.Tree as t
-use Rattle.c_core.specs.Parts.{DeclaredName, names_of, names_of_first, names_in, names_in_form, names_in_else, names_in_block, objects_of, same_spot}
-use Rattle.c_core.specs.Scope.{times_in, is_fixed_object, owned_by}
-use Rattle.c_core.specs.Program.{stands_at, is_param}
-use Rattle.c_core.proofs.TextOrderLaws.{same_spot-self}
+use Rattle.std.proofs.Common.{◌≡◌, ℕ, suc, ◌+◌, Bool, true, false, cond, List, [], ◌∷◌, ◌++◌, length, refl, sym, ap, ◌∙◌, subst, Option, arith, length-append, append-nil}
+use Rattle.c_core.specs.Parts.{DeclaredName, names_of, names_of_first, names_in, names_in_form, names_in_else, names_in_block, objects_of}
+use Rattle.c_core.specs.Scope.{owned_by}
 use Rattle.c_core.specs.declared.number.IntType.{IntType}
 use Rattle.c_core.specs.declared.number.DataModel.{DataModel}
 use Rattle.c_core.specs.declared.number.Spot.{Spot}
 use Rattle.c_core.specs.declared.tree.Object.{Object}
 use Rattle.c_parser.specs.Tree as raw
-use Rattle.c_rules.specs.Names.{Entry}
-use Rattle.c_rules.specs.Scopes.{Scope, seen, opened, closed, with_object, with_entry, object_of, after_name, after_names, after_first, after_statement, after_form, after_else, after_block, after_item, after_parameters, inside, parameter, statements_of, entry_of_function, entry_of_prototype}
-use Rattle.c_rules.specs.Parts.{Role, Value, Target, Effect, Part, Expression, Declaring, Naming, Initializing, Returning, Leaving, Labelling, parts, parts_if, parts_of_init, parts_of_name, parts_of_names, parts_of_first, parts_of_statement, parts_of_form, parts_of_else, parts_of_block, labels_of, parts_of_labels, parts_of_parameters, parts_of_item, parts_of_items}
+use Rattle.c_rules.specs.Scopes.{Scope, seen, opened, closed, with_object, after_name, after_first, after_statement, after_item, after_parameters, inside, parameter, statements_of, entry_of_function, entry_of_prototype}
+use Rattle.c_rules.specs.Parts.{Value, Effect, Part, Declaring, Naming, Leaving, parts, parts_if, parts_of_init, parts_of_name, parts_of_names, parts_of_first, parts_of_statement, parts_of_form, parts_of_else, parts_of_block, labels_of, parts_of_labels, parts_of_parameters, parts_of_item, parts_of_items}
 use Rattle.c_rules.specs.Checked.{typed_names, typed_first, typed_statement, typed_form, typed_else, typed_block, numbers_from, typed_function, functions_of}
-use Rattle.c_lawful.proofs.Lists.{AllOf, both, all_front, all_behind}
-use Rattle.c_lawful.proofs.Threads.{IsQuiet, none_declared, expression_quiet, option_quiet, init_quiet, labels_quiet, declared, declared-append, AreBehind, Leads, leads_then, leads_quiet, expression_leads, option_leads, name_leads, names_lead, first_leads, statement_leads, else_leads, block_leads, parameters_lead, item_leads}
+use Rattle.c_lawful.proofs.Lists.{AllOf}
+use Rattle.c_lawful.proofs.Threads.{IsQuiet, none_declared, expression_quiet, option_quiet, init_quiet, labels_quiet, declared, declared-append, Leads, leads_then, leads_quiet, expression_leads, option_leads, name_leads, names_lead, first_leads, statement_leads, block_leads, parameters_lead, item_leads}
 
 -- ---- numbers of objects
 
@@ -58,7 +52,7 @@ module _ (m : DataModel) (bodies : List (List ℕ)) where
       let n : length b ≡ length a + length (declared m bodies ps) = ap length l.are ∙ length-append a (declared m bodies ps) in
       record {
         are = ap (λ k. k ++ us) x.are ∙ ap (λ k. loose (length a) (declared m bodies ps) ++ k) (y.are ∙ ap (λ k. loose k (declared m bodies qs)) n)
-        ∙ sym (loose-append (length a) (declared m bodies ps) (declared m bodies qs)) ∙ ap (loose (length a)) (sym (declared-append m bodies ps qs));
+            ∙ sym (loose-append (length a) (declared m bodies ps) (declared m bodies qs)) ∙ ap (loose (length a)) (sym (declared-append m bodies ps qs));
       }
 
   owns_quiet : (a : List Object) (ps : List Part) → AllOf IsQuiet ps → Owns a ps []
@@ -140,8 +134,8 @@ module _ (m : DataModel) (bodies : List (List ℕ)) where
       let P = loose (length a) (declared m bodies ps) in
       record {
         are = ap (λ k. k ++ us) x.are ∙ ap (λ k. objects_of P ++ k) (y.are ∙ ap (λ k. objects_of (loose k (declared m bodies qs))) n)
-        ∙ sym (objects-append P (loose (length a + length (declared m bodies ps)) (declared m bodies qs)))
-        ∙ ap objects_of (sym (loose-append (length a) (declared m bodies ps) (declared m bodies qs)) ∙ ap (loose (length a)) (sym (declared-append m bodies ps qs)));
+            ∙ sym (objects-append P (loose (length a + length (declared m bodies ps)) (declared m bodies qs)))
+            ∙ ap objects_of (sym (loose-append (length a) (declared m bodies ps) (declared m bodies qs)) ∙ ap (loose (length a)) (sym (declared-append m bodies ps qs)));
       }
 
   numbers_quiet : (a : List Object) (ps : List Part) → AllOf IsQuiet ps → OwnsNumbers a ps []

@@ -1,10 +1,10 @@
 -- Declarations stand directly in blocks, and `break` and `continue` in loops.
-use Rattle.std.proofs.Common.{◌≡◌, ℕ, Bool, true, false, not, ◌&&◌, List, [], ◌∷◌, ◌++◌, refl, sym, Option, Some, None}
+use Rattle.std.proofs.Common.{◌≡◌, ℕ, Bool, true, false, not, List, [], ◌∷◌, ◌++◌, refl, Option}
 use Rattle.std.proofs.lemmas.Bool.{false≢true}
 use Rattle.std.specs.List.{list_all}
 use Rattle.c_core.specs.Tree as t
-use Rattle.c_core.specs.Parts.{every_statement, every_statement_in, every_statement_else, every_statement_of}
-use Rattle.c_core.specs.Scope.{is_declaration, else_is_declaration, statement_nests, is_block, function_nests, statement_jumps, form_jumps, else_jumps, block_jumps, function_jumps}
+use Rattle.c_core.specs.Parts.{every_statement, every_statement_else, every_statement_of}
+use Rattle.c_core.specs.Scope.{is_declaration, else_is_declaration, statement_nests, function_nests, statement_jumps, form_jumps, else_jumps, block_jumps, function_jumps}
 use Rattle.c_core.specs.declared.number.IntType.{IntType}
 use Rattle.c_core.specs.declared.number.DataModel.{DataModel}
 use Rattle.c_core.specs.declared.number.Spot.{Spot}
@@ -13,7 +13,7 @@ use Rattle.c_parser.specs.Formed as formed
 use Rattle.c_parser.specs.Formed.{nests, else_nests, block_nests, item_nests}
 use Rattle.c_rules.specs.Scopes.{Scope, seen, opened, closed, after_first, after_statement, after_item, after_parameters, inside, statements_of}
 use Rattle.c_rules.specs.Parts.{Value, Effect, Part, parts, parts_if, parts_of_names, parts_of_first, parts_of_statement, parts_of_form, parts_of_else, parts_of_block, parts_of_parameters, parts_of_body, parts_of_item, parts_of_items, bodies_of}
-use Rattle.c_rules.specs.Checked.{typed_statement, typed_form, typed_else, typed_block, typed_function, functions_of}
+use Rattle.c_rules.specs.Checked.{typed_statement, typed_form, typed_else, typed_block, functions_of}
 use Rattle.c_lawful.proofs.Lists.{AllOf, both, left, right, all_front, all_behind, not_false}
 use Rattle.c_lawful.proofs.Fair.{IsFair}
 

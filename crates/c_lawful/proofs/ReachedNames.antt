@@ -1,13 +1,11 @@
 -- Expressions that aren't refused name objects in reach.
-use Rattle.std.proofs.Common.{◌≡◌, ℕ, suc, ◌+◌, ◌-◌, Bool, true, false, cond, not, ◌&&◌, ◌||◌, List, [], ◌∷◌, ◌++◌, length, refl, sym, ap, ◌∙◌, subst, Option, Some, None, is_some, is_none, ◌⊎◌, inl, inr, eq-eqb, nat_eq}
+use Rattle.std.proofs.Common.{◌≡◌, ℕ, Bool, true, false, ◌||◌, List, [], ◌∷◌, ◌++◌, refl, sym, ◌∙◌, subst, Option, Some, None, is_none, ◌⊎◌, inl, inr, eq-eqb, nat_eq}
 use Rattle.std.proofs.lemmas.Bool.{false≢true}
 use Rattle.std.proofs.lemmas.List.Folds.{list_any-append}
-use Rattle.std.specs.List.{slice_get, list_all, list_any}
 use Rattle.std.specs.Str.{bytes_eq}
 use Rattle.c_core.specs.Tree as t
-use Rattle.c_core.specs.Parts.{every_exp, every_part, every_argument, exps_in, exp_if, fulls_of_init}
+use Rattle.c_core.specs.Parts.{every_argument}
 use Rattle.c_core.specs.Scope.{is_in, is_fixed, is_reached, exp_reaches, reaches}
-use Rattle.c_core.specs.declared.number.IntType.{IntType}
 use Rattle.c_core.specs.declared.number.Spot.{Spot}
 use Rattle.c_core.specs.declared.tree.Callee.{Callee}
 use Rattle.c_parser.specs.Tree as raw
@@ -18,7 +16,7 @@ use Rattle.c_rules.specs.Typed.{typed, typed_node, typed_all, number_named}
 use Rattle.c_rules.specs.Parts.{Role, Value, Target, Effect, Part, Expression, Declaring, Naming, Initializing, Returning, Leaving, Labelling, of_cast, parts, parts_in, parts_of, bodies_of}
 use Rattle.c_rules.specs.Codes.{is_no_scalar, is_no_array}
 use Rattle.c_rules.specs.Order.{is_object, object_named, reads, changes, SomeOf, This, Other}
-use Rattle.c_lawful.proofs.Lists.{AllOf, both, all_then, all_front, all_behind, first_fails, second_fails, not_false, or_first, or_also}
+use Rattle.c_lawful.proofs.Lists.{AllOf, both, all_front, all_behind, first_fails, or_first, or_also}
 use Rattle.c_lawful.proofs.Threads.{Sees, parts_see}
 use Rattle.c_lawful.proofs.Good.{IsGood, If, declared_if}
 

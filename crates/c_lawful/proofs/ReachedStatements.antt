@@ -1,9 +1,9 @@
 -- Statements that aren't refused name objects in reach.
-use Rattle.std.proofs.Common.{◌≡◌, ℕ, suc, ◌+◌, ◌-◌, Bool, true, false, cond, not, ◌&&◌, ◌||◌, List, [], ◌∷◌, ◌++◌, length, refl, sym, ap, ◌∙◌, subst, Option, Some, None, is_some, is_none, ◌⊎◌, inl, inr, arith, length-append, append-nil, append_assoc}
-use Rattle.std.specs.List.{slice_get, list_all, list_any}
+use Rattle.std.proofs.Common.{◌≡◌, ℕ, ◌+◌, ◌-◌, Bool, true, false, List, [], ◌∷◌, ◌++◌, length, refl, sym, ap, ◌∙◌, subst, Option, Some, None, inl, inr, arith, length-append, append-nil, append_assoc}
+use Rattle.std.specs.List.{slice_get, list_all}
 use Rattle.c_core.specs.Tree as t
-use Rattle.c_core.specs.Parts.{exps_in, exp_if, fulls_of_init, fulls_of_names, objects_of_names, objects_of_first, declared_by}
-use Rattle.c_core.specs.Scope.{is_in, is_fixed, is_fixed_object, is_reached, reaches, declarators_reach, first_reaches, statement_reaches, form_reaches, else_reaches, block_reaches, function_reaches}
+use Rattle.c_core.specs.Parts.{exps_in, exp_if, fulls_of_init, objects_of_names, objects_of_first, declared_by}
+use Rattle.c_core.specs.Scope.{reaches, declarators_reach, first_reaches, statement_reaches, form_reaches, else_reaches, block_reaches, function_reaches}
 use Rattle.c_core.specs.declared.number.IntType.{IntType}
 use Rattle.c_core.specs.declared.number.Spot.{Spot}
 use Rattle.c_core.specs.declared.tree.Object.{Object}
@@ -12,13 +12,13 @@ use Rattle.c_parser.specs.Tree.{Exp, Expr, Exps, NoExp, MoreExp}
 use Rattle.c_rules.specs.Names as kind
 use Rattle.c_rules.specs.Names.{Kind, Entry, entry}
 use Rattle.c_rules.specs.Typed.{typed, typed_all}
-use Rattle.c_rules.specs.Scopes.{Scope, seen, opened, closed, with_object, with_entry, object_of, after_name, after_names, after_first, after_statement, after_form, after_else, after_block, after_item, after_parameters, inside, parameter, statements_of, entry_of_function, entry_of_prototype}
-use Rattle.c_rules.specs.Parts.{Role, Value, Target, Effect, Part, Expression, Declaring, Naming, Initializing, Returning, Leaving, Labelling, parts, parts_of, parts_if, parts_of_value, parts_of_values, parts_of_init, parts_of_name, parts_of_names, parts_of_first, parts_of_statement, parts_of_form, parts_of_else, parts_of_block, labels_of, parts_of_labels, parts_of_parameters, parts_of_body, parts_of_item, parts_of_items, bodies_of}
+use Rattle.c_rules.specs.Scopes.{Scope, seen, opened, closed, with_object, with_entry, object_of, after_name, after_names, after_first, after_statement, after_form, after_item, after_parameters, inside, parameter, statements_of, entry_of_function, entry_of_prototype}
+use Rattle.c_rules.specs.Parts.{Role, Value, Effect, Part, Initializing, parts, parts_if, parts_of_value, parts_of_values, parts_of_init, parts_of_name, parts_of_names, parts_of_first, parts_of_statement, parts_of_form, parts_of_else, parts_of_block, parts_of_parameters, parts_of_body, parts_of_item, parts_of_items, bodies_of}
 use Rattle.c_rules.specs.Order.{is_object, reads, changes, SomeOf}
 use Rattle.c_rules.specs.Checked.{typed_if, typed_init, typed_names, typed_first, typed_statement, typed_form, typed_else, typed_block, numbers_from, typed_function, functions_of}
-use Rattle.c_lawful.proofs.Lists.{AllOf, both, left, right, all_then, all_front, all_behind, all_weaker}
+use Rattle.c_lawful.proofs.Lists.{AllOf, both, all_then, all_front, all_behind, all_weaker}
 use Rattle.c_lawful.proofs.Good.{IsGood}
-use Rattle.c_lawful.proofs.ReachedNames.{OfObject, OfEntry, OfPart, of_parts, Either, but_untouched, Reached, reached_more, reached_last, with_names, expression_reaches}
+use Rattle.c_lawful.proofs.ReachedNames.{OfObject, OfEntry, of_parts, Either, but_untouched, Reached, reached_more, reached_last, with_names, expression_reaches}
 use Rattle.c_lawful.proofs.TypedStatements.{all_pass_then}
 
 -- one entry more
@@ -218,7 +218,7 @@ module _ (p : t.Program) (items : List raw.Item) (entries : List Entry) where
   parameters_then reach s [] n e h = same_reach reach (seen s) h
   parameters_then reach s (x ∷ xs) n e h =
       let more = of_push (Reached p items entries (reach ++ n ∷ [])) s.outer s.inner (entry x.name (kind.Object (length s.objects) x.ty false false)) (more_reached reach (n ∷ []) (seen s) h)
-          (subst (λ k. Reached p items entries (reach ++ n ∷ []) k) (sym e) (reached_last p items entries reach n)) in
+      (subst (λ k. Reached p items entries (reach ++ n ∷ []) k) (sym e) (reached_last p items entries reach n)) in
       subst (λ l. AreReached l (seen (after_parameters s (x ∷ xs)))) (append_assoc reach (n ∷ []) (numbers_from p.model (bodies_of items) (n + 1) xs))
       (parameters_then (reach ++ n ∷ []) (with_object s (parameter x)) xs (n + 1) (next_number s.objects (parameter x) ∙ ap (λ k. k + 1) e) more)
 

@@ -1,23 +1,19 @@
 -- The places of the typed tree are those of the source, but for the sizes of arrays.
-use Rattle.std.proofs.Common.{◌≡◌, ℕ, Bool, true, false, cond, List, [], ◌∷◌, ◌++◌, refl, sym, ap, ◌∙◌, subst, Option, Some, None, map, nat_eq, eqb-true}
-use Rattle.c_core.specs.Operators.{is_prefix}
-use Rattle.c_core.specs.Tree as t
+use Rattle.std.proofs.Common.{◌≡◌, ℕ, Bool, true, false, cond, List, [], ◌∷◌, ◌++◌, refl, sym, ap, ◌∙◌, subst, Option, Some, None, nat_eq, eqb-true}
 use Rattle.c_core.specs.Parts.{same_spot}
 use Rattle.c_core.specs.TextOrder as core
 use Rattle.c_core.specs.TextOrder.{whole, rises, spots_of_objects}
-use Rattle.c_core.proofs.TextOrderLaws.{IsPart, ends, skips, takes, part_none, part_all, part_append, part_front, part_behind}
-use Rattle.c_core.specs.declared.number.IntType.{IntType}
+use Rattle.c_core.proofs.TextOrderLaws.{IsPart, ends, skips, takes, part_none, part_all, part_append, part_behind}
 use Rattle.c_core.specs.declared.number.DataModel.{DataModel}
 use Rattle.c_core.specs.declared.number.Spot.{Spot}
-use Rattle.c_core.specs.declared.tree.Object.{Object}
 use Rattle.c_parser.specs.Tree as raw
 use Rattle.c_parser.specs.Tree.{Exp, Expr, Node, Number, Char, Var, Index, Unary, Cast, Step, Binary, Logic, Choose, Comma, Assign, Call, Exps, NoExp, MoreExp}
-use Rattle.c_parser.specs.TextOrder.{spots_of, spots_of_node, spots_of_all, spots_if, spots_of_init, spots_of_declared, spots_of_first, spots_of_statement, spots_of_form, spots_of_else, spots_of_block, spots_of_params, spots_of_item, spots_of_items}
+use Rattle.c_parser.specs.TextOrder.{spots_of, spots_of_node, spots_of_all, spots_if, spots_of_init, spots_of_declared, spots_of_first, spots_of_statement, spots_of_form, spots_of_else, spots_of_block, spots_of_params, spots_of_items}
 use Rattle.c_rules.specs.Names.{Entry}
 use Rattle.c_lawful.proofs.Lists.{left, right}
 use Rattle.c_rules.specs.Typed.{typed, typed_node, typed_all}
 use Rattle.c_rules.specs.Scopes.{Scope, seen, opened, closed, after_name, after_first, after_statement, after_item, after_parameters, inside, statements_of}
-use Rattle.c_rules.specs.Checked.{typed_if, typed_init, typed_names, typed_first, typed_statement, typed_form, typed_else, typed_block, body_place, typed_function, functions_of}
+use Rattle.c_rules.specs.Checked.{typed_if, typed_init, typed_names, typed_first, typed_statement, typed_form, typed_else, typed_block, body_place, functions_of}
 
 module _ (m : DataModel) (bodies : List (List ℕ)) (es : List Entry) where
   mutual

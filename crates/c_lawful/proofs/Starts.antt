@@ -1,5 +1,5 @@
 -- Initializers of static storage fit their objects, and no object has two.
-use Rattle.std.proofs.Common.{◌≡◌, ℕ, zero, suc, ◌+◌, ◌<◌, ◌≤◌, Bool, true, false, cond, not, ◌&&◌, ◌||◌, List, [], ◌∷◌, ◌++◌, length, refl, sym, ap, ◌∙◌, subst, Option, Some, None, is_some, is_none, arith, length-append, nat_eq, nat_le, nat_lt, add-one}
+use Rattle.std.proofs.Common.{◌≡◌, ℕ, suc, ◌+◌, ◌<◌, ◌≤◌, Bool, true, false, not, List, [], ◌∷◌, ◌++◌, length, refl, sym, ap, ◌∙◌, Option, Some, None, is_some, arith, length-append, nat_eq, nat_le, add-one}
 use Rattle.std.proofs.lemmas.Bool.{false≢true}
 use Rattle.std.proofs.lemmas.Bool.Decides.{nat_tests}
 use Rattle.std.specs.List.{slice_get, list_all}
@@ -18,10 +18,10 @@ use Rattle.c_rules.specs.Names.{Entry}
 use Rattle.c_rules.specs.Scopes.{Scope, seen, cells_of, object_of, after_name, after_names, after_item, after_items}
 use Rattle.c_rules.specs.Parts.{Value, Part, parts_if, parts_of_name, parts_of_names, parts_of_item, parts_of_items, bodies_of}
 use Rattle.c_rules.specs.Codes.{count, is_wrong_init, is_wrong_size}
-use Rattle.c_rules.specs.Checked.{or_zero, start, start_value, start_values, start_of_init, starts_of_names, starts_of}
+use Rattle.c_rules.specs.Checked.{start_values, start_of_init, starts_of_names, starts_of}
 use Rattle.c_lawful.proofs.Lists.{AllOf, both, all_front, all_behind}
 use Rattle.c_lawful.proofs.Threads.{declared, Leads, item_leads}
-use Rattle.c_lawful.proofs.Good.{IsGood, not_none}
+use Rattle.c_lawful.proofs.Good.{IsGood}
 use Rattle.c_lawful.proofs.TypedStatements.{all_pass_then, size_right}
 
 module _ (p : t.Program) (items : List raw.Item) (entries : List Entry) where

@@ -1,6 +1,5 @@
 -- The objects that parts declare, in their order, are those of the scope behind them.
-use Rattle.std.proofs.Common.{◌≡◌, ℕ, Bool, true, false, List, [], ◌∷◌, ◌++◌, length, refl, sym, ap, ◌∙◌, subst, Option, Some, None}
-use Rattle.std.specs.List.{slice_get}
+use Rattle.std.proofs.Common.{◌≡◌, ℕ, Bool, true, false, List, [], ◌∷◌, ◌++◌, refl, sym, ap, ◌∙◌, subst, Option, Some, None}
 use Rattle.c_core.specs.declared.number.IntType.{IntType}
 use Rattle.c_core.specs.declared.number.DataModel.{DataModel}
 use Rattle.c_core.specs.declared.number.Spot.{Spot}
@@ -8,9 +7,9 @@ use Rattle.c_core.specs.declared.tree.Object.{Object}
 use Rattle.c_parser.specs.Tree as raw
 use Rattle.c_parser.specs.Tree.{Exp, Expr, Node, Number, Char, Var, Index, Unary, Cast, Step, Binary, Logic, Choose, Comma, Assign, Call, Exps, NoExp, MoreExp}
 use Rattle.c_rules.specs.Names.{Entry}
-use Rattle.c_rules.specs.Scopes.{Scope, seen, opened, closed, with_object, with_entry, object_of, after_name, after_names, after_first, after_statement, after_form, after_else, after_block, after_item, after_items, after_parameters, inside, parameter, statements_of, entry_of_function, outermost}
-use Rattle.c_rules.specs.Parts.{Role, Value, Target, Effect, Part, Expression, Declaring, Naming, Initializing, Returning, Leaving, Labelling, Label, of_cast, parts, parts_in, parts_of, parts_if, parts_of_value, parts_of_values, parts_of_init, parts_of_name, parts_of_names, parts_of_first, parts_of_statement, parts_of_form, parts_of_else, parts_of_block, labels_of, parts_of_labels, parts_of_parameters, parts_of_body, parts_of_item, parts_of_items}
-use Rattle.c_lawful.proofs.Lists.{AllOf, all_then, append-nil, append-assoc, slice_get-behind}
+use Rattle.c_rules.specs.Scopes.{Scope, seen, opened, closed, with_object, object_of, after_name, after_names, after_first, after_statement, after_form, after_else, after_block, after_item, after_items, after_parameters, inside, parameter, statements_of, entry_of_function}
+use Rattle.c_rules.specs.Parts.{Role, Value, Target, Effect, Part, Expression, Declaring, Naming, Initializing, Returning, Leaving, Labelling, Label, of_cast, parts, parts_in, parts_of, parts_if, parts_of_values, parts_of_init, parts_of_name, parts_of_names, parts_of_first, parts_of_statement, parts_of_form, parts_of_else, parts_of_block, labels_of, parts_of_labels, parts_of_parameters, parts_of_item, parts_of_items}
+use Rattle.c_lawful.proofs.Lists.{AllOf, all_then, append-nil, append-assoc}
 
 -- ---- parts of expressions
 

@@ -1,31 +1,29 @@
 -- Expressions that aren't refused are well typed.
-use Rattle.std.proofs.Common.{◌≡◌, ℕ, zero, suc, ◌+◌, drop, Bool, true, false, cond, not, ◌&&◌, ◌||◌, ℤ, pos, List, [], ◌∷◌, ◌++◌, length, refl, sym, ap, ◌∙◌, subst, Option, Some, None, is_some, is_none}
+use Rattle.std.proofs.Common.{◌≡◌, ℕ, zero, suc, drop, Bool, true, false, cond, not, pos, List, [], ◌∷◌, ◌++◌, refl, sym, ap, ◌∙◌, subst, Option, Some, None, is_some, is_none}
 use Rattle.std.proofs.lemmas.Bool.{false≢true}
 use Rattle.std.specs.List.{flat_map, slice_get}
 use Rattle.c_core.specs.Types.{in_range, promote_of, common_of}
 use Rattle.c_core.specs.Tree as t
-use Rattle.c_core.specs.Parts.{type_of, every_exp, every_part, every_argument}
-use Rattle.c_core.specs.Typing.{same_type, is_type, same_types, has_value, is_constant, is_scalar, is_element, is_unary, binary_type, is_binary, is_choice, is_cast, is_target, is_assignment, exp_fits, is_typed}
+use Rattle.c_core.specs.Parts.{type_of, every_argument}
+use Rattle.c_core.specs.Typing.{same_type, same_types, is_constant, is_scalar, is_element, is_unary, binary_type, is_binary, is_choice, is_cast, is_target, exp_fits, is_typed}
 use Rattle.c_core.specs.declared.number.IntType.{IntType}
-use Rattle.c_core.specs.declared.number.IntType.TheVariants.{Int}
 use Rattle.c_core.specs.declared.number.DataModel.{DataModel}
 use Rattle.c_core.specs.declared.number.Spot.{Spot}
 use Rattle.c_core.specs.declared.number.BinOp.{BinOp}
 use Rattle.c_core.specs.declared.number.UnOp.{UnOp}
 use Rattle.c_core.specs.declared.number.UnOp.TheVariants.{Plus, Neg, BitNot, Not}
-use Rattle.c_core.specs.declared.tree.Object.{Object}
 use Rattle.c_parser.specs.Tree as raw
 use Rattle.c_parser.specs.Tree.{Exp, Expr, Node, Number, Char, Var, Index, Unary, Cast, Step, Binary, Logic, Choose, Comma, Assign, Call, Exps, NoExp, MoreExp}
-use Rattle.c_rules.specs.Constants.{Pair, ranks, of_rank, first_that_holds, constant_type, valued}
+use Rattle.c_rules.specs.Constants.{ranks, of_rank, first_that_holds, constant_type, valued}
 use Rattle.c_rules.specs.Names as kind
 use Rattle.c_rules.specs.Names.{Kind, Entry, named}
 use Rattle.c_rules.specs.Typed.{typed, typed_node, typed_all, number_named, type_named, unary_type, choice_type}
 use Rattle.c_rules.specs.Parts.{Role, Value, Target, Effect, Part, Expression, of_cast, parts, parts_in, parts_of, bodies_of}
 use Rattle.c_rules.specs.Codes.{is_among, is_no_scalar, is_no_array, is_one_void}
-use Rattle.c_lawful.proofs.Lists.{AllOf, both, all_front, all_behind, first_fails, second_fails, not_false}
+use Rattle.c_lawful.proofs.Lists.{AllOf, both, all_front, all_behind, first_fails, not_false}
 use Rattle.c_lawful.proofs.Entries.{AreAgreed, same_type-refl, same_types-refl}
 use Rattle.c_lawful.proofs.Known.{IsThere}
-use Rattle.c_lawful.proofs.Good.{IsGood, IsCalled, If, IsObject, not_none, named_object, value_of_part, target_of_part}
+use Rattle.c_lawful.proofs.Good.{IsGood, IsCalled, If, IsObject, named_object, value_of_part, target_of_part}
 use Rattle.c_lawful.proofs.Calls.{call_fits}
 
 -- ---- constants

@@ -1,23 +1,22 @@
 -- Statements that aren't refused are well typed.
-use Rattle.std.proofs.Common.{◌≡◌, ℕ, zero, suc, ◌+◌, ◌≤◌, Bool, true, false, cond, not, ◌&&◌, ◌||◌, List, [], ◌∷◌, ◌++◌, length, refl, sym, ap, ◌∙◌, subst, Option, Some, None, is_some, is_none, nat_le, nat_lt, arith, add-one}
+use Rattle.std.proofs.Common.{◌≡◌, ℕ, suc, Bool, true, false, not, List, [], ◌∷◌, ◌++◌, length, refl, sym, ap, ◌∙◌, Option, Some, None, is_some, is_none, nat_le, nat_lt, arith, add-one}
 use Rattle.std.proofs.lemmas.Bool.{false≢true}
 use Rattle.std.proofs.lemmas.Bool.Decides.{nat_tests}
-use Rattle.std.specs.List.{slice_get, list_all}
+use Rattle.std.specs.List.{list_all}
 use Rattle.c_core.specs.Tree as t
-use Rattle.c_core.specs.Parts.{exps_in, exp_if, every_statement, every_statement_in, every_statement_else, every_statement_of, fulls_of_init, fulls_of_names, fulls_of_first, own_fulls}
-use Rattle.c_core.specs.Typing.{has_value, init_fits, exp_fits, is_typed, declarators_fit, first_fits, return_fits, form_fits, statement_fits, function_fits}
+use Rattle.c_core.specs.Parts.{exps_in, exp_if, every_statement, every_statement_else, every_statement_of, fulls_of_init, fulls_of_names, fulls_of_first}
+use Rattle.c_core.specs.Typing.{has_value, init_fits, is_typed, declarators_fit, first_fits, return_fits, form_fits, statement_fits, function_fits}
 use Rattle.c_core.specs.declared.number.IntType.{IntType}
 use Rattle.c_core.specs.declared.number.Spot.{Spot}
-use Rattle.c_core.specs.declared.tree.Object.{Object}
 use Rattle.c_parser.specs.Tree as raw
 use Rattle.c_parser.specs.Tree.{Exp, Expr, Exps, NoExp, MoreExp}
-use Rattle.c_rules.specs.Names.{Kind, Entry}
+use Rattle.c_rules.specs.Names.{Entry}
 use Rattle.c_rules.specs.Typed.{typed, typed_all}
-use Rattle.c_rules.specs.Scopes.{Scope, seen, opened, closed, cells_or_one, size_of, cells_of, object_of, after_name, after_names, after_first, after_statement, after_item, after_parameters, inside, statements_of, entry_of_function}
-use Rattle.c_rules.specs.Parts.{Role, Value, Target, Effect, Part, Expression, Declaring, Naming, Initializing, Returning, Leaving, Labelling, parts, parts_of, parts_if, parts_of_value, parts_of_values, parts_of_init, parts_of_name, parts_of_names, parts_of_first, parts_of_statement, parts_of_form, parts_of_else, parts_of_block, labels_of, parts_of_labels, parts_of_parameters, parts_of_body, parts_of_item, parts_of_items, bodies_of}
-use Rattle.c_rules.specs.Codes.{is_among, count, count_of_init, is_too_small, is_wrong_init, is_wrong_size, is_wrong_return}
-use Rattle.c_rules.specs.Checked.{typed_if, typed_init, typed_names, typed_first, typed_statement, typed_form, typed_else, typed_block, body_place, typed_function, functions_of}
-use Rattle.c_lawful.proofs.Lists.{AllOf, both, left, right, all_front, all_behind, first_fails, second_fails, not_false}
+use Rattle.c_rules.specs.Scopes.{Scope, seen, opened, closed, cells_or_one, size_of, cells_of, object_of, after_name, after_first, after_statement, after_item, after_parameters, inside, statements_of}
+use Rattle.c_rules.specs.Parts.{Role, Value, Effect, Part, parts, parts_if, parts_of_values, parts_of_init, parts_of_name, parts_of_names, parts_of_first, parts_of_statement, parts_of_form, parts_of_else, parts_of_block, parts_of_parameters, parts_of_body, parts_of_item, parts_of_items, bodies_of}
+use Rattle.c_rules.specs.Codes.{is_among, count, is_too_small, is_wrong_init, is_wrong_size, is_wrong_return}
+use Rattle.c_rules.specs.Checked.{typed_if, typed_init, typed_names, typed_first, typed_statement, typed_form, typed_else, typed_block, typed_function, functions_of}
+use Rattle.c_lawful.proofs.Lists.{AllOf, both, left, right, all_front, all_behind}
 use Rattle.c_lawful.proofs.Entries.{AreAgreed}
 use Rattle.c_lawful.proofs.Good.{IsGood, IsCalled, not_none, value_of_part}
 use Rattle.c_lawful.proofs.TypedExpressions.{typed_fits}
