@@ -18,7 +18,6 @@ use Rattle.witval.specs.ThinGrammar.{declaration_start, is_consistent, is_whole,
 use Rattle.witval.specs.ThinPhrases.{parts_of}
 use Rattle.witval.specs.ThinObjects.{object_at, objects_of}
 use Rattle.witval.specs.ThinProgram.{block_of, declaration_of, program_tree, return_tree, statements_of, test_of}
-
 use Rattle.witval.proofs.GrammarSteps.{both_left, both_right, length-parts_of, spells-length}
 
 -- the places of tokens
