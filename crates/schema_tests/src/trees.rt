@@ -1,9 +1,10 @@
-use crate::{
-    Content, Entry, FileHash, Invariant, InvariantKind, Location, Metadata, Witness, tree_of,
-};
+// The tree of a witness, beside its text.
 use std::alloc::Global;
 use std::test::Fail;
 use wv_base::{OutOfMemory, Seq, Text};
+use wv_schema::{
+    Content, Entry, FileHash, Invariant, InvariantKind, Location, Metadata, Witness, tree_of,
+};
 use wv_yaml::read;
 
 /// A witness with one invariant set of one invariant.
