@@ -1,3 +1,4 @@
+// Texts that are read, trees that are written, and trees that come back as they were.
 ghost use Rattle.std.specs.Prelude.{◌≡◌, ◌++◌, ◌∷◌, [], IfOk, Some};
 ghost use Rattle.wv_yaml.specs.declared.tree.Tree.{Tree};
 ghost use Rattle.wv_yaml.specs.declared.tree.Tree.TheVariants as tree;
@@ -6,10 +7,10 @@ ghost use Rattle.wv_yaml.specs.Canon.{Fits, IsCollection};
 ghost use Rattle.wv_yaml.specs.Repeats.{Repeats};
 ghost use Rattle.wv_yaml.specs.Gives.{Gives};
 
-use crate::{Tree, YamlFault, quote, read, write};
 use std::alloc::Global;
 use std::test::Fail;
 use wv_base::{OutOfMemory, Seq, Text};
+use wv_yaml::{Tree, YamlFault, quote, read, write};
 
 fn list_of_one(alloc: Global, text: &str) -> Result<Tree, OutOfMemory>
     ensures { IfOk result (λ t. t ≡ tree.List ([] ++ tree.Text text.now ∷ [])) }

@@ -1,7 +1,7 @@
 use Rattle.std.proofs.Common.{sym, subst}
 use Rattle.wv_yaml.specs.Document.{Spelled}
 use Rattle.wv_yaml.proofs.CanonLaws.{spelled_back}
-use Rattle.wv_yaml.proofs.tests.read_back.Goals as goal
+use Rattle.yaml_tests.proofs.examples.read_back.Goals as goal
 
 pub returns : goal.returns
 returns c =
