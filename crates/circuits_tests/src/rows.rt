@@ -4,8 +4,8 @@ ghost use Rattle.c_core.specs.Types.{in_range, IsPromoted};
 ghost use Rattle.c_core.specs.declared.number.DataModel.TheVariants.{Lp64};
 
 use crate::table::{LP64, done, number};
-use crate::{Net, apply_bits, choose_bits, const_bits, convert_bits, one_bits};
 use c_core::{BinOp, Done, IntType, UnOp};
+use circuits::{Net, apply_bits, choose_bits, const_bits, convert_bits, one_bits};
 use std::alloc::Global;
 use std::test::Fail;
 use wv_base::OutOfMemory;

@@ -1,6 +1,6 @@
 // Every operator at numbers of 8 bits that are converted to `int`, beside the calls on numbers.
-use crate::{Bits, Net, Outcome, apply_bits, convert_bits, input_bits, one_bits, value_of_bit};
 use c_core::{BinOp, DataModel, Done, IntType, UnOp, apply, apply_one, convert};
+use circuits::{Bits, Net, Outcome, apply_bits, convert_bits, input_bits, one_bits, value_of_bit};
 use std::alloc::Global;
 use std::test::Fail;
 use wv_base::OutOfMemory;
@@ -37,7 +37,7 @@ struct Circuit {
     out: Outcome,
 }
 
-#[tactic(auto, using(crate::proofs::Feeding::typed_fed, crate::proofs::Feeding::typed_later))]
+#[tactic(auto, using(circuits::proofs::Feeding::typed_fed, circuits::proofs::Feeding::typed_later))]
 fn circuit_of_two(alloc: Global, op: BinOp) -> Result<Circuit, OutOfMemory> {
     let mut net = Net::new(alloc)?;
     let a = input_bits(alloc, &mut net, LP64, IntType::SChar)?;
