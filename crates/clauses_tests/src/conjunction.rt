@@ -1,6 +1,6 @@
 // A net of one and-node; the clauses of its bit.
-use crate::{Cnf, cnf_of};
 use circuits::{Net, not};
+use clauses::{Cnf, cnf_of};
 use std::alloc::Global;
 use std::test::Fail;
 use wv_base::OutOfMemory;

@@ -1,5 +1,5 @@
 // Logs that are accepted, and logs that are wrong in one place.
-use crate::{Chain, Clause, Cnf, Refutation, Resolve, accepts, accepts_log};
+use clauses::{Chain, Clause, Cnf, Refutation, Resolve, accepts, accepts_log};
 use std::alloc::Global;
 use std::test::Fail;
 use wv_base::{OutOfMemory, Seq};
