@@ -1,8 +1,8 @@
 // Values of expressions in the program `short a[3];`, `int main() {`, `  return 0;`, `}`.
-use crate::*;
 use c_core::{
     BinOp, DataModel, Expr, Form, Function, IntType, Node, Object, Program, Property, Spot, Stmt,
 };
+use c_meaning::{Memory, value_in};
 use std::alloc::Global;
 use std::test::Fail;
 use wv_base::{OutOfMemory, Seq, Text};

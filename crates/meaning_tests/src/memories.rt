@@ -1,4 +1,5 @@
-use super::*;
+// A memory beside a plain list of cells.
+use c_meaning::Memory;
 use std::test::Fail;
 
 #[test]

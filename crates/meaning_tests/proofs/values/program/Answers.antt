@@ -2,7 +2,7 @@ use Rattle.std.proofs.Common.{◌≡◌, List, [], refl, ap, ◌∙◌}
 use Rattle.c_core.specs.Tree as t
 use Rattle.c_core.specs.declared.tree.Object.{Object}
 use Rattle.c_core.proofs.BuiltPrograms.{view_of_built, along, only_one}
-use Rattle.c_meaning.proofs.value_tests.program.Goals as goal
+use Rattle.meaning_tests.proofs.values.program.Goals as goal
 
 with_objects : (os os' : List Object) (p q : t.Program) → p ≡ q → os ≡ os' → ◌≡◌ {A = t.Program} (record p { objects = os }) (record q { objects = os' })
 with_objects os os' p q e d = ap (λ (r : t.Program). record r { objects = os }) e ∙ ap (λ (xs : List Object). record q { objects = xs }) d
