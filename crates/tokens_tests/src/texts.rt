@@ -1,4 +1,5 @@
-use super::{Token, TokenFault, TokenKind, plain_tokens, tokens};
+// Short texts and their tokens, or the place where they have none.
+use c_tokens::{Token, TokenFault, TokenKind, plain_tokens, tokens};
 use std::alloc::{AllocError, Global};
 use std::test::Fail;
 use wv_base::Seq;
