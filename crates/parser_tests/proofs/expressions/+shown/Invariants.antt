@@ -1,5 +1,5 @@
 use Rattle.std.proofs.Common.{◌+◌, ◌*◌}
-use Rattle.c_parser.proofs.expression_tests.+shown.Given as goal
+use Rattle.parser_tests.proofs.expressions.+shown.Given as goal
 
 abbrev pub decreases-shown : goal.decreases-shown
 decreases-shown l = 2 * l.depth

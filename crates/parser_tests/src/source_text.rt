@@ -1,9 +1,9 @@
 // Sources as text, with parentheses round each operation and brackets round each statement that is a part.
-use crate::{
+use c_core::{BinOp, IntType, StepOp, UnOp};
+use c_parser::{
     Item, ParseFault, RawDeclared, RawExpr, RawFirst, RawForm, RawInit, RawNode, RawStmt, Source,
     parse,
 };
-use c_core::{BinOp, IntType, StepOp, UnOp};
 use c_tokens::tokens;
 use std::alloc::{AllocError, Global};
 

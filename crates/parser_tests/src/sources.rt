@@ -1,6 +1,6 @@
 // Whole sources: what they spell, and where they are refused.
-use crate::ParseFault;
 use crate::source_text::{parsed, shown};
+use c_parser::ParseFault;
 use std::alloc::{AllocError, Global};
 use std::test::Fail;
 

@@ -1,10 +1,7 @@
-use crate::expressions::expression_at;
-use crate::fault::ExprFault;
-use crate::strength::EXPR;
-use crate::tree::{RawExpr, RawNode};
-use crate::witness::{parse_expr, parse_result};
-use c_core::{IntType, StepOp, UnOp};
-use c_tokens::tokens;
+// Expressions: of a source, of a witness, and constraints on results.
+use crate::source_text::parsed;
+use c_core::IntType;
+use c_parser::{ExprFault, Item, RawExpr, RawForm, RawNode, Source, parse_expr, parse_result};
 use std::alloc::{AllocError, Global};
 use std::test::Fail;
 use wv_base::Seq;
@@ -110,20 +107,33 @@ fn shown(alloc: Global, expr: &RawExpr, depth: u32) -> Result<String, AllocError
     }
 }
 
-/// What a text is as a whole expression of a source.
-fn read(alloc: Global, text: &str) -> Result<String, AllocError> {
-    match tokens(alloc, text.as_bytes()) {
-        Ok(found) => match expression_at(alloc, found.as_slice(), 200, 200, EXPR) {
-            Ok((got, rest)) => {
-                if rest.is_empty() {
-                    shown(alloc, &got.expr, 20)
-                } else {
-                    String::from_str(alloc, "more")
-                }
-            }
-            Err(_) => String::from_str(alloc, "none"),
+/// The test of a source's first statement, where that is an `if`.
+fn first_test<'a>(source: &'a Source) -> Option<&'a RawExpr> {
+    let Some(Item::Function { body, .. }) = source.items.as_slice().first() else {
+        return None;
+    };
+    let RawForm::Block(statements) = &body.form else {
+        return None;
+    };
+    match statements.as_slice().first() {
+        Some(statement) => match &statement.form {
+            RawForm::If { test, .. } => Some(test),
+            _ => None,
         },
-        Err(_) => String::from_str(alloc, "no tokens"),
+        None => None,
+    }
+}
+
+/// What a text is as a whole expression of a source: as the test of an `if`.
+fn read(alloc: Global, text: &str) -> Result<String, AllocError> {
+    let source = format!(in alloc; "int f() {{ if ({text}) ; }}")?;
+    match parsed(alloc, source.as_bytes()) {
+        Some(Ok(source)) => match first_test(&source) {
+            Some(test) => shown(alloc, test, 20),
+            None => String::from_str(alloc, "no test"),
+        },
+        Some(Err(_)) => String::from_str(alloc, "none"),
+        None => String::from_str(alloc, "no tokens"),
     }
 }
 
@@ -199,15 +209,15 @@ fn what_is_no_expression(rt: HostRuntime) -> Result<(), Fail> {
         ("", "none"),
         ("+", "none"),
         ("a +", "none"),
-        ("a b", "more"),
+        ("a b", "none"),
         ("(a", "none"),
-        ("a)", "more"),
+        ("a)", "none"),
         ("()", "none"),
         ("a ? b", "none"),
         ("a ? : c", "none"),
-        ("a ? b : c = d", "more"),
-        ("a + b = c", "more"),
-        ("(int) x = 1", "more"),
+        ("a ? b : c = d", "none"),
+        ("a + b = c", "none"),
+        ("(int) x = 1", "none"),
         ("++(int) x", "none"),
         ("(int)", "none"),
         ("(signed unsigned) x", "none"),
@@ -216,13 +226,13 @@ fn what_is_no_expression(rt: HostRuntime) -> Result<(), Fail> {
         ("f(,a)", "none"),
         ("f(int)", "none"),
         ("a[]", "none"),
-        ("a[b](c)", "more"),
-        ("f(a)[b]", "more"),
-        ("f(a)(b)", "more"),
-        ("(f)(a)", "more"),
-        ("1[a]", "more"),
-        ("a.b", "more"),
-        ("a->b", "more"),
+        ("a[b](c)", "none"),
+        ("f(a)[b]", "none"),
+        ("f(a)(b)", "none"),
+        ("(f)(a)", "none"),
+        ("1[a]", "none"),
+        ("a.b", "none"),
+        ("a->b", "none"),
         ("*a", "none"),
         ("&a", "none"),
         ("sizeof(a)", "none"),
