@@ -7,11 +7,7 @@ mod memory;
 mod numbers;
 mod run;
 mod slots;
-#[cfg(test)]
-mod tests;
 mod value;
-#[cfg(test)]
-mod value_tests;
 mod verdict;
 mod watcher;
 

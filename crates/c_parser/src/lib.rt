@@ -5,8 +5,6 @@ mod brackets;
 mod closed;
 mod cursor;
 mod declarations;
-#[cfg(test)]
-mod expression_tests;
 mod expressions;
 mod fault;
 mod headers;
@@ -18,10 +16,6 @@ mod look;
 mod measured;
 mod parameters;
 mod source;
-#[cfg(test)]
-mod source_tests;
-#[cfg(test)]
-mod source_text;
 mod specifiers;
 mod statements;
 mod strength;

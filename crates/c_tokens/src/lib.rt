@@ -12,8 +12,6 @@ mod place;
 mod quoted;
 mod reading;
 mod sign;
-#[cfg(test)]
-mod tests;
 mod token;
 
 pub use laws::{one_outcome, some_outcome};

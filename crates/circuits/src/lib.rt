@@ -16,10 +16,6 @@ mod quotients;
 mod shifts;
 mod signs;
 mod sums;
-#[cfg(test)]
-mod table;
-#[cfg(test)]
-mod tests;
 mod types;
 mod unary;
 

@@ -7,14 +7,10 @@ mod accept;
 mod clause;
 mod cnf;
 mod log;
-#[cfg(test)]
-mod log_tests;
 mod numbering;
 mod numbers;
 mod reach;
 mod table;
-#[cfg(test)]
-mod tests;
 
 pub use accept::{accepts, accepts_log};
 pub use clause::Clause;

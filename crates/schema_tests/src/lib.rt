@@ -11,3 +11,5 @@ mod forms;
 mod order;
 #[cfg(test)]
 mod texts;
+#[cfg(test)]
+mod trees;

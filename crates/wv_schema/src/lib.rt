@@ -26,6 +26,3 @@ pub use witness::{
     Constraint, Content, Entry, FileHash, Invariant, InvariantKind, Location, Metadata, Segment,
     WayKind, Waypoint, Witness,
 };
-
-#[cfg(test)]
-mod tests;

@@ -27,6 +27,3 @@ pub use quoting::{quote, quoted_reads_back};
 pub use reading::{one_tree, read, spelled_is_computed};
 pub use tree::{Pair, Tree};
 pub use writing::{canonical_is_read, canonical_is_spelled, write};
-
-#[cfg(test)]
-mod tests;
