@@ -1,0 +1,5 @@
+pub mod Kinds
+pub mod InScope
+pub mod Lines
+pub mod Bodies
+pub mod Sources
