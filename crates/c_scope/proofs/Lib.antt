@@ -1,2 +1,5 @@
 mod TextLaws
 mod BodyLaws
+mod AgreeLaws
+mod LogLaws
+mod PastLaws

@@ -1,5 +1,5 @@
 -- Declarations of the code as those of the rules, and what expressions ask of them.
-use Rattle.std.specs.Prelude.{List, map, Option, Some, None}
+use Rattle.std.specs.Prelude.{List, [], map, Option, Some, None}
 use Rattle.c_core.specs.declared.number.IntType.{IntType}
 use Rattle.c_parser.specs.SourceView.{param_view}
 use Rattle.c_rules.specs.Names as kind
@@ -17,6 +17,12 @@ abbrev pub types_stated : Stated → Option (List IntType)
 types_stated stated.Unstated = None
 types_stated (stated.Types types) = Some types.now
 types_stated (stated.Parameters parameters) = Some (types_of (map param_view parameters.now))
+
+-- none where none are stated
+abbrev pub types_in : Stated → List IntType
+types_in stated.Unstated = []
+types_in (stated.Types types) = types.now
+types_in (stated.Parameters parameters) = types_of (map param_view parameters.now)
 
 abbrev pub kind_of : Known → Kind
 kind_of (known.Object n ty array fixed) = kind.Object n ty array fixed

@@ -3,3 +3,4 @@ pub mod InScope
 pub mod Lines
 pub mod Bodies
 pub mod Sources
+pub mod Pasts
