@@ -16,7 +16,7 @@ use Rattle.c_rules.specs.Scopes.{types_of}
 -- place by place
 
 pub same_heads : (i : ℕ) (ts us : List IntType)
-  → same_lists (drop i ts) (drop i us) ≡ (same_types (slice_get ts i) (slice_get us i) && same_lists (drop (suc i) ts) (drop (suc i) us))
+    → same_lists (drop i ts) (drop i us) ≡ (same_types (slice_get ts i) (slice_get us i) && same_lists (drop (suc i) ts) (drop (suc i) us))
 same_heads zero [] [] = refl
 same_heads zero [] (u ∷ us) = refl
 same_heads zero (t ∷ ts) [] = refl

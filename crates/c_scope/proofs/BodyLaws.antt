@@ -15,7 +15,7 @@ use Rattle.c_scope.proofs.TextLaws.{same_both_ways}
 -- one item on
 
 pub first_on : (o : Option Body) (n : ℕ) (item : raw.Item) (items : List raw.Item) (x : List ℕ)
-  → or_first o (first_body n (item ∷ items) x) ≡ or_first (body_with n item x o) (first_body (count_with item n) items x)
+    → or_first o (first_body n (item ∷ items) x) ≡ or_first (body_with n item x o) (first_body (count_with item n) items x)
 first_on (Some b) n (raw.Function p name result xs body) items x = refl
 first_on None n (raw.Function p name result xs body) items x = by_test (bytes_eq name x)
   where
@@ -27,7 +27,7 @@ first_on o n (raw.Global ds) items x = refl
 first_on o n (raw.Closed p name) items x = refl
 
 pub closed_on : (h : Bool) (item : raw.Item) (items : List raw.Item) (x : List ℕ)
-  → (h || is_among (closed_names (item ∷ items)) x) ≡ (closed_with item x h || is_among (closed_names items) x)
+    → (h || is_among (closed_names (item ∷ items)) x) ≡ (closed_with item x h || is_among (closed_names items) x)
 closed_on h (raw.Function p name result xs body) items x = refl
 closed_on h (raw.Prototype p name result types) items x = refl
 closed_on h (raw.Global ds) items x = refl
@@ -52,8 +52,8 @@ number_is n (raw.Function p name result xs body ∷ items) x =
     ap (λ b. n + cond (not b) (1 + position_or_len (bytes_eq x) (bodies_of items)) 0) (same_both_ways x name) ∙ by_test (bytes_eq name x) (number_is (n + 1) items x)
   where
     by_test : (b : Bool) → n + 1 + position_or_len (bytes_eq x) (bodies_of items) ≡ number_or (n + 1 + length (bodies_of items)) (first_body (n + 1) items x)
-      → n + cond (not b) (1 + position_or_len (bytes_eq x) (bodies_of items)) 0
-      ≡ number_or (n + length (name ∷ bodies_of items)) (cond b (Some (body_of n (length xs))) (first_body (n + 1) items x))
+        → n + cond (not b) (1 + position_or_len (bytes_eq x) (bodies_of items)) 0
+        ≡ number_or (n + length (name ∷ bodies_of items)) (cond b (Some (body_of n (length xs))) (first_body (n + 1) items x))
     by_test true rest = omega arith
     by_test false rest =
         let left : n + (1 + position_or_len (bytes_eq x) (bodies_of items)) ≡ n + 1 + position_or_len (bytes_eq x) (bodies_of items) = omega arith in
@@ -78,7 +78,7 @@ defined_is n [] x = refl
 defined_is n (raw.Function p name result xs body ∷ items) x = by_test (bytes_eq name x) (defined_is (n + 1) items x)
   where
     by_test : (b : Bool) → count_defined items x ≡ option_map (λ c. c.parameters) (first_body (n + 1) items x)
-      → cond b (Some (length xs)) (count_defined items x) ≡ option_map (λ c. c.parameters) (cond b (Some (body_of n (length xs))) (first_body (n + 1) items x))
+        → cond b (Some (length xs)) (count_defined items x) ≡ option_map (λ c. c.parameters) (cond b (Some (body_of n (length xs))) (first_body (n + 1) items x))
     by_test true rest = refl
     by_test false rest = rest
 defined_is n (raw.Prototype p name result types ∷ items) x = defined_is n items x
@@ -97,8 +97,8 @@ among_is n (raw.Global ds ∷ items) x = among_is n items x
 among_is n (raw.Closed p name ∷ items) x = among_is n items x
 
 pub bodiless : (m : DataModel) (items : List raw.Item) (x : List ℕ) (shut none held : Bool)
-  → shut ≡ is_among (closed_names items) x → none ≡ is_none (built_in x) → held ≡ is_some (first_body 0 items x)
-  → (shut || (none && not held)) ≡ is_bodiless m items x
+    → shut ≡ is_among (closed_names items) x → none ≡ is_none (built_in x) → held ≡ is_some (first_body 0 items x)
+    → (shut || (none && not held)) ≡ is_bodiless m items x
 bodiless m items x shut none held a b c = rw (a, b, c, ← among_is 0 items x) refl
 
 -- what a change of a map does

@@ -3,3 +3,4 @@ mod BodyLaws
 mod AgreeLaws
 mod LogLaws
 mod PastLaws
+pub mod ScopeLaws

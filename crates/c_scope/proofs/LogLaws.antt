@@ -11,7 +11,7 @@ use Rattle.c_scope.specs.Pasts.{with_known}
 use Rattle.c_scope.specs.Lines.{entry_of, entries_of, past_after, past_from, past_of, befores, hidden}
 
 past_push : (n : ℕ) (before : Option Past) (ls : List Line) (l : Line) (x : List ℕ)
-  → past_from n before (ls ++ l ∷ []) x ≡ past_after (n + length ls) (past_from n before ls x) l x
+    → past_from n before (ls ++ l ∷ []) x ≡ past_after (n + length ls) (past_from n before ls x) l x
 past_push n before [] l x = ap (λ k. past_after k before l x) (omega arith)
 past_push n before (m ∷ ls) l x =
     let e : n + 1 + length ls ≡ n + length (m ∷ ls) = omega arith in
@@ -25,11 +25,11 @@ past_more ls l x =
 -- the index after one declaration more: now is what it says of x
 
 pub indexed_push : (ls : List Line) (l : Line) (x : List ℕ) (now : Option Past)
-  → now ≡ cond (bytes_eq l.name.now x) (Some (with_known (length ls) (past_of ls l.name.now) l.known)) (past_of ls x) → now ≡ past_of (ls ++ l ∷ []) x
+    → now ≡ cond (bytes_eq l.name.now x) (Some (with_known (length ls) (past_of ls l.name.now) l.known)) (past_of ls x) → now ≡ past_of (ls ++ l ∷ []) x
 indexed_push ls l x now h = h ∙ by_test (bytes_eq l.name.now x) refl ∙ sym (past_more ls l x)
   where
     by_test : (b : Bool) → bytes_eq l.name.now x ≡ b
-      → cond b (Some (with_known (length ls) (past_of ls l.name.now) l.known)) (past_of ls x) ≡ cond b (Some (with_known (length ls) (past_of ls x) l.known)) (past_of ls x)
+        → cond b (Some (with_known (length ls) (past_of ls l.name.now) l.known)) (past_of ls x) ≡ cond b (Some (with_known (length ls) (past_of ls x) l.known)) (past_of ls x)
     by_test true e = ap (λ y. Some (with_known (length ls) (past_of ls y) l.known)) ((bytes_eq-Decides l.name.now x).0 e)
     by_test false e = refl
 
@@ -41,7 +41,7 @@ hidden_push : (seen ls : List Line) (l : Line) → hidden seen (ls ++ l ∷ []) 
 hidden_push seen [] l = ap (λ r. past_of r l.name.now ∷ []) (sym (append-nil seen))
 hidden_push seen (m ∷ ls) l =
     ap (λ r. past_of seen m.name.now ∷ r)
-      (hidden_push (seen ++ m ∷ []) ls l ∙ ap (λ r. hidden (seen ++ m ∷ []) ls ++ past_of r l.name.now ∷ []) (append_assoc seen (m ∷ []) ls))
+    (hidden_push (seen ++ m ∷ []) ls l ∙ ap (λ r. hidden (seen ++ m ∷ []) ls ++ past_of r l.name.now ∷ []) (append_assoc seen (m ∷ []) ls))
 
 pub keeps_push : (ls : List Line) (l : Line) → befores ls ≡ hidden [] ls → l.before ≡ past_of ls l.name.now → befores (ls ++ l ∷ []) ≡ hidden [] (ls ++ l ∷ [])
 keeps_push ls l h k =
@@ -79,7 +79,7 @@ front_keeps ls l h = front_same (befores ls) (hidden [] ls) l.before (past_of ls
 
 -- old and now: what the index says of x before and after w is put at the last name
 pub taken_back : (ls : List Line) (l : Line) (x : List ℕ) (w now old : Option Past) → old ≡ past_of (ls ++ l ∷ []) x
-  → now ≡ cond (bytes_eq l.name.now x) w old → w ≡ past_of ls l.name.now → now ≡ past_of ls x
+    → now ≡ cond (bytes_eq l.name.now x) w old → w ≡ past_of ls l.name.now → now ≡ past_of ls x
 taken_back ls l x w now old o n k = by_test (bytes_eq l.name.now x) refl
   where
     by_test : (b : Bool) → bytes_eq l.name.now x ≡ b → now ≡ past_of ls x

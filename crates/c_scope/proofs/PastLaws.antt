@@ -160,7 +160,7 @@ function_with n (Some p) known.Closed = refl
 
 -- the place of a value that differs, where the latest value may be the same
 result_step : (n : ℕ) (given result : Option IntType) (f : Option IntType → Option ℕ)
-  → cond (not (same_types result given)) (Some n) (f given) ≡ cond (same_types result given) (f result) (Some n)
+    → cond (not (same_types result given)) (Some n) (f given) ≡ cond (same_types result given) (f result) (Some n)
 result_step n given result f = by_test (same_types result given) refl
   where
     by_test : (b : Bool) → same_types result given ≡ b → cond (not b) (Some n) (f given) ≡ cond b (f result) (Some n)
@@ -168,7 +168,7 @@ result_step n given result f = by_test (same_types result given) refl
     by_test false e = refl
 
 result_with : (n : ℕ) (given : Option IntType) (o : Option Past) (k : Known)
-  → cond (has_other_result given (kind_of k)) (Some n) (result_of given o) ≡ result_of given (Some (with_known n o k))
+    → cond (has_other_result given (kind_of k)) (Some n) (result_of given o) ≡ result_of given (Some (with_known n o k))
 result_with n given None (known.Object i ty array fixed) = refl
 result_with n given None (known.Function result s has_body) = result_step n given result (λ r. None)
 result_with n given None known.Closed = refl
@@ -177,7 +177,7 @@ result_with n given (Some p) (known.Function result s has_body) = result_step n 
 result_with n given (Some p) known.Closed = refl
 
 list_step : (n : ℕ) (lists : Option Lists) (s : Stated) (types : Option (List IntType)) (given : Option (List IntType)) → types_stated s ≡ types
-  → cond (not (agree types given)) (Some n) (other_list lists given) ≡ other_list (lists_by n lists s types) given
+    → cond (not (agree types given)) (Some n) (other_list lists given) ≡ other_list (lists_by n lists s types) given
 list_step n lists s None given e = refl
 list_step n None s (Some ts) None e = refl
 list_step n (Some l) s (Some ts) None e = refl
@@ -189,7 +189,7 @@ list_step n lists s (Some ts) (Some us) e =
     by_test false h = refl
 
 list_with : (n : ℕ) (given : Option (List IntType)) (o : Option Past) (k : Known)
-  → cond (states_others given (kind_of k)) (Some n) (list_of given o) ≡ list_of given (Some (with_known n o k))
+    → cond (states_others given (kind_of k)) (Some n) (list_of given o) ≡ list_of given (Some (with_known n o k))
 list_with n given None (known.Object i ty array fixed) = refl
 list_with n given None (known.Function result s has_body) = list_step n None s (types_stated s) given refl
 list_with n given None known.Closed = refl
@@ -274,8 +274,8 @@ count_push (f ∷ es) e x =
 
 -- a test of a kind, where the name may be another
 since_more : (x : List ℕ) (t : Kind → Bool) (kept : Option Past → Option ℕ) (es : List Entry) (l : Line) (o : Option Past)
-  → cond (t (kind_of l.known)) (Some (length es)) (kept o) ≡ kept (Some (with_known (length es) o l.known))
-  → Since (among x t) es (kept o) → Since (among x t) (es ++ entry_of l ∷ []) (kept (past_after (length es) o l x))
+    → cond (t (kind_of l.known)) (Some (length es)) (kept o) ≡ kept (Some (with_known (length es) o l.known))
+    → Since (among x t) es (kept o) → Since (among x t) (es ++ entry_of l ∷ []) (kept (past_after (length es) o l x))
 since_more x t kept es l o same h =
     subst (Since (among x t) (es ++ entry_of l ∷ [])) (by_test (bytes_eq l.name.now x)) (since_push (among x t) es (entry_of l) (kept o) h)
   where
@@ -311,7 +311,7 @@ agrees_from x es o a (l ∷ ls) =
     let more : Agrees x ((es ++ entry_of l ∷ []) ++ entries_of ls) (past_from (length (es ++ entry_of l ∷ [])) o' ls x) =
     agrees_from x (es ++ entry_of l ∷ []) o' (one_more x es l o a) ls in
     subst (λ r. Agrees x r (past_from (length es + 1) o' ls x)) (append_assoc es (entry_of l ∷ []) (entries_of ls))
-      (subst (λ k. Agrees x ((es ++ entry_of l ∷ []) ++ entries_of ls) (past_from k o' ls x)) (length_push es (entry_of l)) more)
+    (subst (λ k. Agrees x ((es ++ entry_of l ∷ []) ++ entries_of ls) (past_from k o' ls x)) (length_push es (entry_of l)) more)
 
 agrees : (x : List ℕ) (ls : List Line) → Agrees x (entries_of ls) (past_of ls x)
 agrees x ls = agrees_from x [] None (nothing x) ls
@@ -362,7 +362,7 @@ clash_closed x e = by_test (bytes_eq e.name x) e.kind
     by_test true kind.Closed = refl
 
 clash_object : (x : List ℕ) (n : ℕ) (ty : IntType) (array fixed : Bool) (e : Entry)
-  → (bytes_eq e.name x && clashes e.kind (kind.Object n ty array fixed)) ≡ (among x is_object e || among x is_declared_function e)
+    → (bytes_eq e.name x && clashes e.kind (kind.Object n ty array fixed)) ≡ (among x is_object e || among x is_declared_function e)
 clash_object x n ty array fixed e = by_test (bytes_eq e.name x) e.kind
   where
     by_test : (b : Bool) (k : Kind) → (b && clashes k (kind.Object n ty array fixed)) ≡ ((b && is_object k) || (b && is_declared_function k))
@@ -372,12 +372,12 @@ clash_object x n ty array fixed e = by_test (bytes_eq e.name x) e.kind
     by_test true kind.Closed = refl
 
 clash_function : (x : List ℕ) (result : Option IntType) (types : Option (List IntType)) (has_body : Bool) (e : Entry)
-  → (bytes_eq e.name x && clashes e.kind (kind.Function result types has_body))
+    → (bytes_eq e.name x && clashes e.kind (kind.Function result types has_body))
     ≡ (among x is_object e || (among x (has_other_result result) e || (among x (states_others types) e || (among x is_body e && has_body))))
 clash_function x result types has_body e = by_test (bytes_eq e.name x) e.kind
   where
     by_test : (b : Bool) (k : Kind) → (b && clashes k (kind.Function result types has_body))
-      ≡ ((b && is_object k) || ((b && has_other_result result k) || ((b && states_others types k) || ((b && is_body k) && has_body))))
+        ≡ ((b && is_object k) || ((b && has_other_result result k) || ((b && states_others types k) || ((b && is_body k) && has_body))))
     by_test false k = refl
     by_test true (kind.Object n ty array fixed) = refl
     by_test true (kind.Function result' types' has_body') = refl
@@ -412,18 +412,18 @@ clash_since x es o start (known.Function result stated has_body) a =
     any_ext (clash_in x (kind.Function result types has_body)) (λ e. ob e || (re e || (li e || (bo e && has_body)))) (clash_function x result types has_body) r
     ∙ any_or ob (λ e. re e || (li e || (bo e && has_body))) r
     ∙ ap (λ b. list_any ob r || b) (any_or re (λ e. li e || (bo e && has_body)) r
-      ∙ ap (λ b. list_any re r || b) (any_or li (λ e. bo e && has_body) r ∙ ap (λ b. list_any li r || b) (any_and bo has_body r)))
+    ∙ ap (λ b. list_any re r || b) (any_or li (λ e. bo e && has_body) r ∙ ap (λ b. list_any li r || b) (any_and bo has_body r)))
     ∙ four (a.object start) (a.result result start) (a.list types start) (a.body start) ∙ kept o
   where
     four : {a b c d a' b' c' d' : Bool} → a ≡ a' → b ≡ b' → c ≡ c' → d ≡ d' → (a || (b || (c || (d && has_body)))) ≡ (a' || (b' || (c' || (d' && has_body))))
     four p q r s = rw (p, q, r, s) refl
 
     kept : (o : Option Past)
-      → (is_since start (object_of o) || (is_since start (result_of result o) || (is_since start (list_of (types_stated stated) o) || (is_since start (body_of o) && has_body))))
+        → (is_since start (object_of o) || (is_since start (result_of result o) || (is_since start (list_of (types_stated stated) o) || (is_since start (body_of o) && has_body))))
         ≡ is_clash start o (known.Function result stated has_body)
     kept None = refl
     kept (Some p) = refl
 
 pub clash_is : (x : List ℕ) (ls : List Line) (start : ℕ) (k : Known)
-  → list_any (λ earlier. bytes_eq earlier.name x && clashes earlier.kind (kind_of k)) (drop start (entries_of ls)) ≡ is_clash start (past_of ls x) k
+    → list_any (λ earlier. bytes_eq earlier.name x && clashes earlier.kind (kind_of k)) (drop start (entries_of ls)) ≡ is_clash start (past_of ls x) k
 clash_is x ls start k = clash_since x (entries_of ls) (past_of ls x) start k (agrees x ls)

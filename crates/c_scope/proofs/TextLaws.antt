@@ -5,7 +5,9 @@ use Rattle.std.proofs.lemmas.Slice.Eq.{bytes_eq-Decides}
 
 pub other_text : (s t : List ℕ) → (t ≡ s → ⊥) → bytes_eq s t ≡ false
 other_text s t h = elim (bytes_eq s t) as (λ (b : Bool). bytes_eq s t ≡ b → bytes_eq s t ≡ false) [
-  true ↦ (λ e. absurd (h (sym ((bytes_eq-Decides s t).0 e)))) | false ↦ (λ e. e) ] refl
+  | true ↦ (λ e. absurd (h (sym ((bytes_eq-Decides s t).0 e))))
+  | false ↦ (λ e. e)
+] refl
 
 abbrev IsFalse : Bool → Type 0
 IsFalse true = ⊥

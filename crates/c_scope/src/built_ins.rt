@@ -3,7 +3,6 @@ ghost use Rattle.c_rules.specs.Names;
 
 use c_core::{Callee, IntType};
 
-
 /// A built-in function by its name: the input functions, and those that end a run.
 pub fn built_in(name: &str) -> Option<Callee>
     ensures { result ≡ Names.built_in name.now }

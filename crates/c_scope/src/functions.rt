@@ -1,13 +1,12 @@
 ghost use Rattle.std.specs.Prelude.{◌≡◌, ℕ, ◌||◌, List, length, map, IfOk, OnOk};
 ghost use Rattle.std.specs.List.{position_or_len};
-ghost use Rattle.std.specs.Option.{is_some, option_map};
 ghost use Rattle.std.specs.Str.{bytes_eq};
-ghost use Rattle.c_parser.specs.SourceView.{item_view};
 ghost use Rattle.c_core.specs.declared.number.DataModel.{DataModel};
-ghost use Rattle.c_rules.specs.Typed;
-ghost use Rattle.c_rules.specs.Parts.{bodies_of};
+ghost use Rattle.c_parser.specs.SourceView.{item_view};
+ghost use Rattle.c_rules.specs.Codes;
 ghost use Rattle.c_rules.specs.Codes.{closed_names, is_among};
-ghost use Rattle.c_rules.specs.Codes as codes;
+ghost use Rattle.c_rules.specs.Parts.{bodies_of};
+ghost use Rattle.c_rules.specs.Typed;
 ghost use Rattle.c_scope.specs.Bodies.{body_after, body_in, body_with, closed_with, count_with, first_body, has_name};
 
 use crate::built_ins::built_in;
@@ -27,8 +26,11 @@ pub struct Body {
 /// What the items of a source say of functions, wherever they stand.
 #[derive(Drop)]
 pub struct Functions<'a> {
+    /// Of this source.
     pub items: &'a [Item],
+    // the first function of each name
     bodies: BTreeMap<&'a str, Body>,
+    // a map, since it is maps whose keys contracts read by their text
     closed: BTreeMap<&'a str, ()>,
     count: u32,
     ghost found: { (w : List ℕ) → body_in bodies w ≡ first_body 0 (map item_view items.now) w },
@@ -133,7 +135,7 @@ impl<'a> Functions<'a> {
 
     /// How many parameters the definition has.
     pub fn count_defined(&self, name: &str) -> Option<usize>
-        ensures { result ≡ codes.count_defined (map item_view self.now.items.now) name.now }
+        ensures { result ≡ Codes.count_defined (map item_view self.now.items.now) name.now }
     {
         match self.bodies.get(name) {
             Some(body) => Some(body.parameters),
@@ -143,8 +145,9 @@ impl<'a> Functions<'a> {
 
     /// Whether a call of this name has no body to run.
     pub fn is_bodiless(&self, name: &str) -> bool
-        ensures { (m : DataModel) → result ≡ codes.is_bodiless m (map item_view self.now.items.now) name.now }
+        ensures { (m : DataModel) → result ≡ Codes.is_bodiless m (map item_view self.now.items.now) name.now }
     {
-        self.closed.contains_key(name) || (built_in(name).is_none() && !self.bodies.contains_key(name))
+        self.closed.contains_key(name)
+            || (built_in(name).is_none() && !self.bodies.contains_key(name))
     }
 }

@@ -78,11 +78,7 @@ fn count_stated(stated: Stated) -> Option<usize>
     }
 }
 
-fn lists_with<'a>(
-    place: usize,
-    lists: Option<Lists<'a>>,
-    stated: Stated<'a>,
-) -> Option<Lists<'a>>
+fn lists_with<'a>(place: usize, lists: Option<Lists<'a>>, stated: Stated<'a>) -> Option<Lists<'a>>
     ensures { result ≡ Pasts.lists_with place lists.entry stated.entry }
 {
     match stated {

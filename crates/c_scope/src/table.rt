@@ -1,9 +1,9 @@
 ghost use Rattle.std.specs.Prelude.{◌≡◌, ◌≤◌, [], length, OnOk, OnErr};
 ghost use Rattle.std.specs.Option.{option_map};
-ghost use Rattle.c_rules.specs.Names;
 ghost use Rattle.c_rules.specs.Codes;
+ghost use Rattle.c_rules.specs.Names;
+ghost use Rattle.c_scope.specs.InScope.{all_of, closed, in_scope, opened, scope_of, with_name};
 ghost use Rattle.c_scope.specs.Kinds.{kind_of, meaning_of};
-ghost use Rattle.c_scope.specs.InScope.{in_scope, all_of, scope_of, with_name, opened, closed};
 
 use crate::built_ins::built_in;
 use crate::known::Known;
@@ -17,6 +17,7 @@ use wv_base::OutOfMemory;
 #[derive(Drop)]
 pub struct Table<'a> {
     log: Log<'a>,
+    // where the innermost scope begins
     start: usize,
 }
 

@@ -20,5 +20,5 @@ returns-in_default c =
       other_text (codes "__VERIFIER_nondet_ulonglong") w c.in_default.not-text-12,
       other_text (codes "reach_error") w c.in_default.not-reach_error,
       other_text (codes "abort") w c.in_default.not-abort,
-      other_text (codes "exit") w c.in_default.not-exit
+      other_text (codes "exit") w c.in_default.not-exit,
     ) refl

@@ -12,7 +12,7 @@ returns-then-is_none c = λ m.
     let none : true ≡ is_none (built_in x) = sym c.if-is_none.true ∙ none_is c.built_in.result c.is_none.result c.is_none.ensures ∙ ap is_none c.built_in.ensures in
     let held : c.contains_key-then-is_none.result ≡ is_some (body_in c.args.self.now.bodies x) = search rules in
     bodiless m (map item_view c.args.self.now.items.now) x false true c.contains_key-then-is_none.result
-      (shut ∙ c.args.self.now.shut x) none (held ∙ ap is_some (c.args.self.now.found x))
+    (shut ∙ c.args.self.now.shut x) none (held ∙ ap is_some (c.args.self.now.found x))
 
 pub returns-else-is_none : goal.returns-else-is_none
 returns-else-is_none c = λ m.

@@ -16,12 +16,12 @@ loop-item-preserved c =
     let e : i + 1 ≡ suc i = omega arith in
     rw e (record {
       found = λ w. ap (λ o. or_first o (first_body c.add_item.new.count rest w)) (c.in_ok-add_item.ensures.bodies w)
-        ∙ ap (λ n. or_first (body_with c.loop-item.count item w (body_in c.loop-item.bodies w)) (first_body n rest w)) c.in_ok-add_item.ensures.count
-        ∙ sym (first_on (body_in c.loop-item.bodies w) c.loop-item.count item rest w)
-        ∙ ap (λ l. or_first (body_in c.loop-item.bodies w) (first_body c.loop-item.count l w)) (sym d) ∙ c.loop-item.invariant.found w;
+          ∙ ap (λ n. or_first (body_with c.loop-item.count item w (body_in c.loop-item.bodies w)) (first_body n rest w)) c.in_ok-add_item.ensures.count
+          ∙ sym (first_on (body_in c.loop-item.bodies w) c.loop-item.count item rest w)
+          ∙ ap (λ l. or_first (body_in c.loop-item.bodies w) (first_body c.loop-item.count l w)) (sym d) ∙ c.loop-item.invariant.found w;
       shut = λ w. ap (λ b. b || is_among (closed_names rest) w) (c.in_ok-add_item.ensures.closed w)
-        ∙ sym (closed_on (has_name c.loop-item.closed w) item rest w)
-        ∙ ap (λ l. has_name c.loop-item.closed w || is_among (closed_names l) w) (sym d) ∙ c.loop-item.invariant.shut w;
+          ∙ sym (closed_on (has_name c.loop-item.closed w) item rest w)
+          ∙ ap (λ l. has_name c.loop-item.closed w || is_among (closed_names l) w) (sym d) ∙ c.loop-item.invariant.shut w;
       counted = ap (λ n. n + length (bodies_of rest)) c.in_ok-add_item.ensures.count
-        ∙ sym (count_on c.loop-item.count item rest) ∙ ap (λ l. c.loop-item.count + length (bodies_of l)) (sym d) ∙ c.loop-item.invariant.counted;
+          ∙ sym (count_on c.loop-item.count item rest) ∙ ap (λ l. c.loop-item.count + length (bodies_of l)) (sym d) ∙ c.loop-item.invariant.counted;
     })

@@ -16,8 +16,8 @@ invariant_of-self c =
     let keeps : befores (ls ++ l ∷ []) ≡ hidden [] (ls ++ l ∷ []) = subst (λ r. befores r ≡ hidden [] r) was c.args.self.now.keeps in
     record {
       indexed = λ q. taken_back ls l q None (past_in c.remove.new.self q) (past_in c.args.self.now.index q)
-        (c.args.self.now.indexed q ∙ ap (λ r. past_of r q) was)
-        (btree_map_updates_str l.name.now c.args.self.now.index c.remove.new.self None c.remove.ensures.updates q) (sym c.in-None.is ∙ last_keeps ls l keeps);
+          (c.args.self.now.indexed q ∙ ap (λ r. past_of r q) was)
+          (btree_map_updates_str l.name.now c.args.self.now.index c.remove.new.self None c.remove.ensures.updates q) (sym c.in-None.is ∙ last_keeps ls l keeps);
       keeps = front_keeps ls l keeps;
     }
 
@@ -28,10 +28,10 @@ invariant_of-self-in-Some-before c =
     let was : c.args.self.now.lines.items ≡ ls ++ l ∷ [] = c.in-Some.ensures.items in
     let keeps : befores (ls ++ l ∷ []) ≡ hidden [] (ls ++ l ∷ []) = subst (λ r. befores r ≡ hidden [] r) was c.args.self.now.keeps in
     let put = must_be_ok c.insert.result _ _ c.insert.ensures.updates c.insert.ensures.absent
-      (λ none. is_there ls l (sym (c.args.self.now.indexed l.name.now ∙ ap (λ r. past_of r l.name.now) was) ∙ none)) in
+    (λ none. is_there ls l (sym (c.args.self.now.indexed l.name.now ∙ ap (λ r. past_of r l.name.now) was) ∙ none)) in
     record {
       indexed = λ q. taken_back ls l q (Some c.in-Some-before.before) (past_in c.insert.new.self q) (past_in c.args.self.now.index q)
-        (c.args.self.now.indexed q ∙ ap (λ r. past_of r q) was)
-        (btree_map_updates_str l.name.now c.args.self.now.index c.insert.new.self _ put q) (sym c.in-Some-before.is ∙ last_keeps ls l keeps);
+          (c.args.self.now.indexed q ∙ ap (λ r. past_of r q) was)
+          (btree_map_updates_str l.name.now c.args.self.now.index c.insert.new.self _ put q) (sym c.in-Some-before.is ∙ last_keeps ls l keeps);
       keeps = front_keeps ls l keeps;
     }

@@ -24,9 +24,9 @@ invariant_of-self-in-Ok c =
     c.with_known-past.ensures ∙ ap (λ n. with_known n c.past-before.result c.args.known) c.len-len.ensures ∙ ap (λ o. with_known (length ls) o c.args.known) c.past-before.ensures in
     record {
       indexed = λ q. subst (λ r. past_in c.insert.new.self q ≡ past_of r q) (sym pushed)
-        (indexed_push ls l q (past_in c.insert.new.self q)
+          (indexed_push ls l q (past_in c.insert.new.self q)
           (btree_map_updates_str x index c.insert.new.self _ c.in-Ok.ensures.updates q
-            ∙ ap (λ p. cond (bytes_eq x q) (Some p) (past_in index q)) past ∙ ap (cond (bytes_eq x q) (Some (with_known (length ls) (past_of ls x) c.args.known))) (c.args.self.now.indexed q)));
+          ∙ ap (λ p. cond (bytes_eq x q) (Some p) (past_in index q)) past ∙ ap (cond (bytes_eq x q) (Some (with_known (length ls) (past_of ls x) c.args.known))) (c.args.self.now.indexed q)));
       keeps = subst (λ r. befores r ≡ hidden [] r) (sym pushed) (keeps_push ls l c.args.self.now.keeps c.past-before.ensures);
     }
 
