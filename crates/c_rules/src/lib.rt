@@ -3,5 +3,7 @@
 #![tactic(auto)]
 
 mod fault;
+mod noting;
 
 pub use fault::{CheckCode, CheckFault, Refusal};
+pub use noting::noted;
