@@ -27,7 +27,7 @@ mod OrderedExpressions
 mod OrderedStatements
 mod OrderedItems
 mod SpelledExamples
-mod Views
+pub mod Views
 mod ReadSteps
 mod TypeCountLaws
 mod NameLaws

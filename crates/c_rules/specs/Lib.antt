@@ -7,6 +7,7 @@ pub mod Codes
 pub mod Order
 pub mod First
 pub mod Noting
+pub mod Roles
 pub mod Checked
 pub mod Deciding
 pub mod NameExamples

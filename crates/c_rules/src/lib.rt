@@ -4,6 +4,8 @@
 
 mod fault;
 mod noting;
+mod role;
 
 pub use fault::{CheckCode, CheckFault, Refusal};
 pub use noting::noted;
+pub use role::Role;
