@@ -1,5 +1,5 @@
 -- Values of types, and the lists of types of constants.
-use Rattle.std.proofs.Common.{◌≡◌, ◌<◌, ℕ, Bool, true, false, nat_eq, ℤ, pos, refl, sym, ap, ◌∙◌, Option, None}
+use Rattle.std.proofs.Common.{◌≡◌, ◌<◌, ℕ, Bool, true, false, nat_eq, ℤ, refl, sym, ap, ◌∙◌, None}
 use Rattle.std.proofs.lemmas.Bool.{eqb-true, eq-eqb, false≢true, false_from_ne_true}
 use Rattle.std.proofs.lemmas.Int.{to_z-of_z}
 use Rattle.std.proofs.lemmas.List.{drop_all}
@@ -22,7 +22,7 @@ kept_by_value m ty k v f g e = by_range (in_range m ty v) refl
     by_range true h = eq-eqb _ _ (ap (of_z w128) (e ∙ fit_kept m ty v h)) ∙ sym h
     by_range false h =
         let differ : nat_eq (of_z w128 k) (of_z w128 v) ≡ true → ⊥ = λ q.
-          false≢true (sym h ∙ ap (in_range m ty) (sym (same_number k v f g (eqb-true _ _ q))) ∙ ap (in_range m ty) e ∙ fit_in_range m ty v) in
+        false≢true (sym h ∙ ap (in_range m ty) (sym (same_number k v f g (eqb-true _ _ q))) ∙ ap (in_range m ty) e ∙ fit_in_range m ty v) in
         false_from_ne_true _ differ ∙ sym h
 
 pub no_rank : (m : DataModel) (v : ℕ) (decimal unsigned : Bool) (longs : ℕ) → 2 < longs → constant_type m v decimal unsigned longs ≡ None

@@ -65,19 +65,19 @@ module _ (m : DataModel) (items : List Item) (es : List Entry) where
   no_call (Assign op a b) h = refl
 
   pub own_part : (b : Option Refusal) (r : Role) (p : Spot) (n : Node)
-    → noted (noted (noted b (names_nothing es (word_of n)) (refusal code.Name (place_of_word p n)))
-        (misused m items es n || unfit_by r (type_of (typed m (bodies_of items) es (Expr p n))) n) (refusal code.Typing p))
-        (calls_bodiless m items es n) (refusal code.Body p)
+      → noted (noted (noted b (names_nothing es (word_of n)) (refusal code.Name (place_of_word p n)))
+      (misused m items es n || unfit_by r (type_of (typed m (bodies_of items) es (Expr p n))) n) (refusal code.Typing p))
+      (calls_bodiless m items es n) (refusal code.Body p)
       ≡ noted_part m items b (Expression es r (Expr p n))
   own_part b Value p n = refl
   own_part b Target p n = refl
   own_part b Effect p n = refl
 
   pub noted_own : (b c d e : Option Refusal) (r : Role) (p q : Spot) (n : Node) (nameless mistyped bodiless : Bool)
-    → nameless ≡ names_nothing es (word_of n) → q ≡ place_of_word p n
-    → mistyped ≡ (misused m items es n || unfit_by r (type_of (typed m (bodies_of items) es (Expr p n))) n) → bodiless ≡ calls_bodiless m items es n
-    → c ≡ noted b nameless (refusal code.Name q) → d ≡ noted c mistyped (refusal code.Typing p) → e ≡ noted d bodiless (refusal code.Body p)
-    → e ≡ noted_part m items b (Expression es r (Expr p n))
+      → nameless ≡ names_nothing es (word_of n) → q ≡ place_of_word p n
+      → mistyped ≡ (misused m items es n || unfit_by r (type_of (typed m (bodies_of items) es (Expr p n))) n) → bodiless ≡ calls_bodiless m items es n
+      → c ≡ noted b nameless (refusal code.Name q) → d ≡ noted c mistyped (refusal code.Typing p) → e ≡ noted d bodiless (refusal code.Body p)
+      → e ≡ noted_part m items b (Expression es r (Expr p n))
   noted_own b c d e r p q n nameless mistyped bodiless f g h k x y z =
       let last = refusal code.Body p in
       let typing = refusal code.Typing p in

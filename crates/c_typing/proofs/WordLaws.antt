@@ -1,7 +1,7 @@
 -- Words by their meanings.
 use Rattle.std.proofs.Common.{◌≡◌, ℕ, List, Option, Some, None, refl}
 use Rattle.std.specs.Option.{option_map}
-use Rattle.c_rules.specs.Names.{Kind, Object, Function, Closed, Entry, named}
+use Rattle.c_rules.specs.Names.{Kind, Object, Function, Closed, Entry}
 use Rattle.c_rules.specs.Codes.{names_nothing}
 use Rattle.c_scope.specs.Kinds.{meaning_of}
 use Rattle.c_typing.specs.Words.{word_of, word_as, word_at}

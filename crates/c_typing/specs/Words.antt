@@ -1,5 +1,5 @@
 -- What expressions ask of a word, as one record.
-use Rattle.std.specs.Prelude.{ℕ, Bool, true, false, List, Option, Some, None, is_none}
+use Rattle.std.specs.Prelude.{ℕ, false, List, Option, Some, None, is_none}
 use Rattle.c_rules.specs.Names.{Kind, Object, Function, Closed, Entry, named, is_function}
 use Rattle.c_rules.specs.Typed.{no_object, number_named, type_named, result_named}
 use Rattle.c_rules.specs.Codes.{is_no_scalar, is_no_array}

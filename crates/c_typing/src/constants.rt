@@ -75,7 +75,11 @@ fn value_of(model: DataModel, e: &Expr) -> Option<i128>
             }
         }
         Node::Choose { test, yes, no, .. } => {
-            let arm = if holds(value_of(model, test)?) { yes } else { no };
+            let arm = if holds(value_of(model, test)?) {
+                yes
+            } else {
+                no
+            };
             let value = value_of(model, arm)?;
             Some(converted(model, e.ty, value))
         }

@@ -89,12 +89,7 @@ pub fn unary(
     })
 }
 
-pub fn cast(
-    alloc: Global,
-    spot: Spot,
-    to: Option<IntType>,
-    of: Expr,
-) -> Result<Expr, OutOfMemory>
+pub fn cast(alloc: Global, spot: Spot, to: Option<IntType>, of: Expr) -> Result<Expr, OutOfMemory>
     ensures { IfOk result (λ r. expr_view r ≡ t.Expr spot to (t.Cast (expr_view of))) }
 {
     let node = Node::Cast(Box::new(alloc, of)?);
@@ -214,13 +209,7 @@ pub fn assign(
     })
 }
 
-pub fn call(
-    spot: Spot,
-    ty: Option<IntType>,
-    callee: Callee,
-    args: Seq<Expr>,
-    close: Spot,
-) -> Expr
+pub fn call(spot: Spot, ty: Option<IntType>, callee: Callee, args: Seq<Expr>, close: Spot) -> Expr
     ensures { expr_view result ≡ t.Expr spot ty (t.Call callee (exprs_view args) close) }
 {
     Expr {

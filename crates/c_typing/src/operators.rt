@@ -70,11 +70,7 @@ pub fn unary_type(model: DataModel, op: UnOp, ty: IntType) -> IntType
 }
 
 /// The type of a choice between two arms.
-pub fn choice_type(
-    model: DataModel,
-    yes: Option<IntType>,
-    no: Option<IntType>,
-) -> Option<IntType>
+pub fn choice_type(model: DataModel, yes: Option<IntType>, no: Option<IntType>) -> Option<IntType>
     ensures { result ≡ typed.choice_type model yes no }
 {
     match (yes, no) {

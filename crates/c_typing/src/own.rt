@@ -33,13 +33,7 @@ fn has_one_void(e: &Expr) -> bool
 }
 
 // Is an object called, or a function with another number of arguments?
-fn is_miscalled(
-    functions: &Functions,
-    table: &Table,
-    name: &str,
-    count: usize,
-    word: Word,
-) -> bool
+fn is_miscalled(functions: &Functions, table: &Table, name: &str, count: usize, word: Word) -> bool
     requires { word ≡ word_as (names.named (all_of table.now) name.now) }
     ensures { (m : Model) → result ≡ codes.miscalled m (items_of functions.now) (all_of table.now) name.now count (names.named (all_of table.now) name.now) }
 {

@@ -49,16 +49,7 @@ pub fn expression(
     ensures noted { OnOk result (best.new ≡ noted_parts model (items_of functions.now) best.old (part.parts (all_of table.now) (role_of role) (expr_view e.now))) }
 {
     let word = word_at(table, &e.node);
-    let typed = node(
-        alloc,
-        functions,
-        table,
-        model,
-        best,
-        e.spot,
-        word,
-        &e.node,
-    )?;
+    let typed = node(alloc, functions, table, model, best, e.spot, word, &e.node)?;
     *best = note_own(functions, table, model, *best, role, e, word, &typed);
     Ok(typed)
 }

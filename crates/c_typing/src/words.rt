@@ -66,12 +66,14 @@ fn word_of(meaning: Option<Meaning>) -> Word
             is_nameless: true,
             ..no_word()
         },
-        Some(Meaning::Object {
-            number,
-            ty,
-            array,
-            ..
-        }) => Word {
+        Some(
+            Meaning::Object {
+                number,
+                ty,
+                array,
+                ..
+            },
+        ) => Word {
             number,
             ty,
             is_no_scalar: array,

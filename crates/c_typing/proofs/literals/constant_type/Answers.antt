@@ -1,5 +1,4 @@
-use Rattle.std.proofs.Common.{rules, arith, ◌≡◌, ◌++◌, List, [], refl}
-use Rattle.c_core.specs.declared.number.IntType.{IntType}
+use Rattle.std.proofs.Common.{arith, ◌≡◌, ◌++◌, [], refl}
 use Rattle.c_core.specs.declared.number.IntType.TheVariants.{Long, ULong, LongLong, ULongLong}
 use Rattle.c_rules.specs.Constants.{of_rank}
 use Rattle.c_typing.proofs.literals.constant_type.Goals as goal

@@ -1,4 +1,4 @@
-use Rattle.std.proofs.Common.{◌≡◌, ap, sym, ◌∙◌, Bool, ◌&&◌, true, false}
+use Rattle.std.proofs.Common.{ap, sym, ◌∙◌, Bool, ◌&&◌}
 use Rattle.c_parser.specs.View.{node_view}
 use Rattle.c_rules.specs.Codes as codes
 use Rattle.c_scope.specs.InScope.{all_of}

@@ -1,10 +1,9 @@
-use Rattle.std.proofs.Common.{◌≡◌, ap, sym, ◌∙◌, Bool, not, true, false}
+use Rattle.std.proofs.Common.{ap, sym, ◌∙◌, not}
 use Rattle.c_rules.specs.Codes.{is_not}
 use Rattle.c_rules.specs.Names.{named}
 use Rattle.c_scope.specs.InScope.{all_of}
 use Rattle.c_scope.specs.Sources.{items_of}
 use Rattle.c_typing.specs.declared.words.Word.{Word}
-use Rattle.c_typing.specs.Words.{word_as}
 use Rattle.c_typing.proofs.OwnLaws.{called, not_called}
 use Rattle.c_typing.proofs.own.is_miscalled.Goals as goal
 

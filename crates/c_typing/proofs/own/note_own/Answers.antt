@@ -1,4 +1,4 @@
-use Rattle.std.proofs.Common.{◌≡◌, ◌||◌, ap, ◌∙◌, Option}
+use Rattle.std.proofs.Common.{◌||◌, ap, ◌∙◌, Option}
 use Rattle.c_core.specs.Parts.{type_of}
 use Rattle.c_core.specs.declared.number.IntType.{IntType}
 use Rattle.c_parser.specs.View.{node_view}
@@ -22,5 +22,5 @@ returns c =
     let nameless = ap (λ (w : Word). w.is_nameless) c.requires.word ∙ nameless_word es (word_of n) in
     let mistyped = c.is_mistyped-mistyped.ensures ∙ ap (λ (ty : Option IntType). misused m items es n || unfit_by r ty n) (ap type_of c.requires.typed) in
     noted_own m items es c.args.best c.noted-best.result c.noted-best-2.result c.noted.result r c.args.e.now.spot c.place_of_word-place.result n
-      c.args.word.is_nameless c.is_mistyped-mistyped.result c.is_bodiless-bodiless.result
-      nameless c.place_of_word-place.ensures mistyped (c.is_bodiless-bodiless.ensures m) c.noted-best.ensures c.noted-best-2.ensures c.noted.ensures
+    c.args.word.is_nameless c.is_mistyped-mistyped.result c.is_bodiless-bodiless.result
+    nameless c.place_of_word-place.ensures mistyped (c.is_bodiless-bodiless.ensures m) c.noted-best.ensures c.noted-best-2.ensures c.noted.ensures

@@ -29,7 +29,7 @@ use Rattle.c_typing.proofs.trees.+expression.Goals as goal
 pub expression-returns-clause-noted : goal.expression-returns-clause-noted
 expression-returns-clause-noted g c =
     noted_whole c.args.model (items_of c.args.functions.now) (all_of c.args.table.now) c.args.best.now c.node.new.best c.note_own.result
-      (role_of c.args.role) c.args.e.now.spot (node_view c.args.e.now.node) c.in_ok-typed.ensures.noted c.note_own.ensures
+    (role_of c.args.role) c.args.e.now.spot (node_view c.args.e.now.node) c.in_ok-typed.ensures.noted c.note_own.ensures
 
 pub node-returns-in-Number-clause-typed : goal.node-returns-in-Number-clause-typed
 node-returns-in-Number-clause-typed g c =
@@ -38,37 +38,37 @@ node-returns-in-Number-clause-typed g c =
 pub node-returns-in_ok-typed-in-Binary-clause-noted : goal.node-returns-in_ok-typed-in-Binary-clause-noted
 node-returns-in_ok-typed-in-Binary-clause-noted g c =
     noted_two c.args.model (items_of c.args.functions.now) (all_of c.args.table.now) c.args.best.now c.expression-in-Binary.new.best c.expression-in-Binary-2.new.best
-      Value Value c.deref-in-Binary.result.now c.in-Binary.left.value c.deref-in-Binary-2.result.now c.in-Binary.right.value
-      c.deref-in-Binary.ensures c.deref-in-Binary-2.ensures c.in_ok-left-in-Binary.ensures.noted c.in_ok-right-in-Binary.ensures.noted
+    Value Value c.deref-in-Binary.result.now c.in-Binary.left.value c.deref-in-Binary-2.result.now c.in-Binary.right.value
+    c.deref-in-Binary.ensures c.deref-in-Binary-2.ensures c.in_ok-left-in-Binary.ensures.noted c.in_ok-right-in-Binary.ensures.noted
     ∙ sym (ap (λ (n : RawNode). noted_parts c.args.model (items_of c.args.functions.now) c.args.best.now (parts_in (all_of c.args.table.now) (node_view n))) c.in-Binary.is)
 
 pub node-returns-in_ok-typed-in-Logic-clause-noted : goal.node-returns-in_ok-typed-in-Logic-clause-noted
 node-returns-in_ok-typed-in-Logic-clause-noted g c =
     noted_two c.args.model (items_of c.args.functions.now) (all_of c.args.table.now) c.args.best.now c.expression-in-Logic.new.best c.expression-in-Logic-2.new.best
-      Value Value c.deref-in-Logic.result.now c.in-Logic.left.value c.deref-in-Logic-2.result.now c.in-Logic.right.value
-      c.deref-in-Logic.ensures c.deref-in-Logic-2.ensures c.in_ok-left-in-Logic.ensures.noted c.in_ok-right-in-Logic.ensures.noted
+    Value Value c.deref-in-Logic.result.now c.in-Logic.left.value c.deref-in-Logic-2.result.now c.in-Logic.right.value
+    c.deref-in-Logic.ensures c.deref-in-Logic-2.ensures c.in_ok-left-in-Logic.ensures.noted c.in_ok-right-in-Logic.ensures.noted
     ∙ sym (ap (λ (n : RawNode). noted_parts c.args.model (items_of c.args.functions.now) c.args.best.now (parts_in (all_of c.args.table.now) (node_view n))) c.in-Logic.is)
 
 pub node-returns-in_ok-typed-in-Comma-clause-noted : goal.node-returns-in_ok-typed-in-Comma-clause-noted
 node-returns-in_ok-typed-in-Comma-clause-noted g c =
     noted_two c.args.model (items_of c.args.functions.now) (all_of c.args.table.now) c.args.best.now c.expression-in-Comma.new.best c.expression-in-Comma-2.new.best
-      Effect Effect c.deref-in-Comma.result.now c.in-Comma.first.value c.deref-in-Comma-2.result.now c.in-Comma.last.value
-      c.deref-in-Comma.ensures c.deref-in-Comma-2.ensures c.in_ok-first-in-Comma.ensures.noted c.in_ok-last-in-Comma.ensures.noted
+    Effect Effect c.deref-in-Comma.result.now c.in-Comma.first.value c.deref-in-Comma-2.result.now c.in-Comma.last.value
+    c.deref-in-Comma.ensures c.deref-in-Comma-2.ensures c.in_ok-first-in-Comma.ensures.noted c.in_ok-last-in-Comma.ensures.noted
     ∙ sym (ap (λ (n : RawNode). noted_parts c.args.model (items_of c.args.functions.now) c.args.best.now (parts_in (all_of c.args.table.now) (node_view n))) c.in-Comma.is)
 
 pub node-returns-in_ok-typed-in-Assign-clause-noted : goal.node-returns-in_ok-typed-in-Assign-clause-noted
 node-returns-in_ok-typed-in-Assign-clause-noted g c =
     noted_two c.args.model (items_of c.args.functions.now) (all_of c.args.table.now) c.args.best.now c.expression-in-Assign.new.best c.expression-in-Assign-2.new.best
-      Target Value c.deref-in-Assign.result.now c.in-Assign.target.value c.deref-in-Assign-2.result.now c.in-Assign.from.value
-      c.deref-in-Assign.ensures c.deref-in-Assign-2.ensures c.in_ok-target-in-Assign.ensures.noted c.in_ok-from-in-Assign.ensures.noted
+    Target Value c.deref-in-Assign.result.now c.in-Assign.target.value c.deref-in-Assign-2.result.now c.in-Assign.from.value
+    c.deref-in-Assign.ensures c.deref-in-Assign-2.ensures c.in_ok-target-in-Assign.ensures.noted c.in_ok-from-in-Assign.ensures.noted
     ∙ sym (ap (λ (n : RawNode). noted_parts c.args.model (items_of c.args.functions.now) c.args.best.now (parts_in (all_of c.args.table.now) (node_view n))) c.in-Assign.is)
 
 pub node-returns-in_ok-typed-in-Choose-clause-noted : goal.node-returns-in_ok-typed-in-Choose-clause-noted
 node-returns-in_ok-typed-in-Choose-clause-noted g c =
     noted_three c.args.model (items_of c.args.functions.now) (all_of c.args.table.now) c.args.best.now c.expression-in-Choose.new.best c.expression-in-Choose-2.new.best c.expression-in-Choose-3.new.best
-      Value Effect Effect c.deref-in-Choose.result.now c.in-Choose.test.value c.deref-in-Choose-2.result.now c.in-Choose.yes.value c.deref-in-Choose-3.result.now c.in-Choose.no.value
-      c.deref-in-Choose.ensures c.deref-in-Choose-2.ensures c.deref-in-Choose-3.ensures
-      c.in_ok-test-in-Choose.ensures.noted c.in_ok-yes-in-Choose.ensures.noted c.in_ok-no-in-Choose.ensures.noted
+    Value Effect Effect c.deref-in-Choose.result.now c.in-Choose.test.value c.deref-in-Choose-2.result.now c.in-Choose.yes.value c.deref-in-Choose-3.result.now c.in-Choose.no.value
+    c.deref-in-Choose.ensures c.deref-in-Choose-2.ensures c.deref-in-Choose-3.ensures
+    c.in_ok-test-in-Choose.ensures.noted c.in_ok-yes-in-Choose.ensures.noted c.in_ok-no-in-Choose.ensures.noted
     ∙ sym (ap (λ (n : RawNode). noted_parts c.args.model (items_of c.args.functions.now) c.args.best.now (parts_in (all_of c.args.table.now) (node_view n))) c.in-Choose.is)
 
 pub node-returns-in_ok-args-in-Call-clause-typed : goal.node-returns-in_ok-args-in-Call-clause-typed
@@ -81,8 +81,8 @@ node-returns-in_ok-args-in-Call-clause-typed g c =
     let shape = ap node_view c.in-Call.is ∙ view_of_call c.in-Call.callee c.in-Call.word c.in-Call.args c.in-Call.close in
     let word = c.requires ∙ ap (λ (n : raw.Node). word_at es (word_of n)) shape in
     let callee = c.callee-callee.ensures
-      ∙ ap (λ (w : Word). callee_for w.is_function bodies c.as_str.result.now) word
-      ∙ ap (callee_for (is_function (named es f)) bodies) c.as_str.ensures in
+    ∙ ap (λ (w : Word). callee_for w.is_function bodies c.as_str.result.now) word
+    ∙ ap (callee_for (is_function (named es f)) bodies) c.as_str.ensures in
     let args = c.in_ok-args-in-Call.ensures.typed ∙ ap (λ (xs : List RawExpr). typed_all m bodies es (exps (exprs_view xs))) c.as_slice.ensures in
     c.call.ensures
     ∙ ap (λ (w : Word). t.Expr p w.result (t.Call c.callee-callee.result (typed_views c.in_ok-args-in-Call.args) c.in-Call.close)) word
@@ -111,14 +111,14 @@ expressions-loop-e-preserved g c =
     let pushed : c.push.new.self ≡ c.loop-e.all ++ c.in_ok-typed.typed ∷ [] = search rules in
     record {
       typed = ap (λ (xs : List Expr). before xs behind) pushed
-        ∙ before_one_more c.loop-e.all c.in_ok-typed.typed behind
-        ∙ ap (λ (x : t.Exp). before c.loop-e.all (t.MoreExp x behind)) c.in_ok-typed.ensures.typed
-        ∙ sym (ap (λ (xs : raw.Exps). before c.loop-e.all (typed_all m (bodies_of items) es xs)) next)
-        ∙ c.loop-e.invariant.typed;
+          ∙ before_one_more c.loop-e.all c.in_ok-typed.typed behind
+          ∙ ap (λ (x : t.Exp). before c.loop-e.all (t.MoreExp x behind)) c.in_ok-typed.ensures.typed
+          ∙ sym (ap (λ (xs : raw.Exps). before c.loop-e.all (typed_all m (bodies_of items) es xs)) next)
+          ∙ c.loop-e.invariant.typed;
       noted = ap (λ (b : Option Refusal). noted_parts m items b (parts_of es rest)) c.in_ok-typed.ensures.noted
-        ∙ sym (noted_parts-append m items c.loop-e.best (parts es Value (expr_view c.e-item.result)) (parts_of es rest))
-        ∙ sym (ap (λ (xs : raw.Exps). noted_parts m items c.loop-e.best (parts_of es xs)) next)
-        ∙ c.loop-e.invariant.noted;
+          ∙ sym (noted_parts-append m items c.loop-e.best (parts es Value (expr_view c.e-item.result)) (parts_of es rest))
+          ∙ sym (ap (λ (xs : raw.Exps). noted_parts m items c.loop-e.best (parts_of es xs)) next)
+          ∙ c.loop-e.invariant.noted;
     }
 
 pub expressions-returns-clause-typed : goal.expressions-returns-clause-typed

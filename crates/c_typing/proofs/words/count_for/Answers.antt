@@ -1,4 +1,4 @@
-use Rattle.std.proofs.Common.{ap, sym, ◌∙◌, ℕ, Option, None, Some}
+use Rattle.std.proofs.Common.{ap, sym, ◌∙◌, ℕ, Option, Some}
 use Rattle.c_core.specs.declared.tree.Callee.{Callee}
 use Rattle.c_rules.specs.Codes as codes
 use Rattle.c_scope.specs.InScope.{all_of}
