@@ -4,7 +4,6 @@ use Rattle.std.specs.Str.{bytes_eq}
 use Rattle.std.proofs.lemmas.List.{append-nil, append_assoc, drop_all, length-take-le, take-append-drop, take-append-le}
 use Rattle.std.proofs.Math.Seq.{take-append_seam, get_or-append_seam}
 use Rattle.std.proofs.lemmas.Slice.Eq.{bytes_eq-Decides}
-use Rattle.c_rules.specs.Names.{Entry}
 use Rattle.c_scope.specs.declared.line.Line.{Line}
 use Rattle.c_scope.specs.declared.past.Past.{Past}
 use Rattle.c_scope.specs.Pasts.{with_known}

@@ -1,8 +1,7 @@
 -- What is made of a name says what all its declarations do.
-use Rattle.std.proofs.Common.{arith, ◌≡◌, ◌+◌, ◌≤◌, ◌++◌, ℕ, suc, Bool, true, false, cond, not, ◌&&◌, ◌||◌, List, [], ◌∷◌, length, drop, map, Option, Some, None, refl, ap, sym, subst, ◌∙◌}
+use Rattle.std.proofs.Common.{arith, ◌≡◌, ◌+◌, ◌≤◌, ◌++◌, ℕ, Bool, true, false, cond, not, ◌&&◌, ◌||◌, List, [], ◌∷◌, length, drop, Option, Some, None, refl, ap, sym, subst, ◌∙◌}
 use Rattle.std.specs.Prelude.{nat_le}
 use Rattle.std.specs.List.{list_any}
-use Rattle.std.specs.Option.{option_map}
 use Rattle.std.specs.Str.{bytes_eq}
 use Rattle.std.proofs.Math.Seq.{drop-nil}
 use Rattle.std.proofs.lemmas.Bool.Decides.{nat_tests}
@@ -20,7 +19,7 @@ use Rattle.c_scope.specs.declared.line.Line.{Line}
 use Rattle.c_scope.specs.declared.past.Past.{Past}
 use Rattle.c_scope.specs.declared.past.Lists.{Lists}
 use Rattle.c_scope.specs.Kinds.{kind_of, types_stated}
-use Rattle.c_scope.specs.Pasts.{count_of, is_clash, is_since, latest_function, lists_by, or_blank, other_list, other_result, with_known}
+use Rattle.c_scope.specs.Pasts.{count_of, is_clash, is_since, latest_function, lists_by, other_list, other_result, with_known}
 use Rattle.c_scope.specs.Lines.{entry_of, entries_of, past_after, past_from, past_of}
 use Rattle.c_scope.proofs.AgreeLaws.{one_list, one_result}
 

@@ -1,6 +1,6 @@
 -- A scope that was opened is closed.
-use Rattle.std.proofs.Common.{arith, ◌≡◌, ◌≤◌, ◌++◌, List, length, take, drop, ap, ◌∙◌}
-use Rattle.std.proofs.Math.Seq.{drop-append_seam, take-append_seam, length-append}
+use Rattle.std.proofs.Common.{arith, ◌≡◌, ◌≤◌, List, length, length-append, drop, ap, ◌∙◌}
+use Rattle.std.proofs.Math.Seq.{drop-append_seam, take-append_seam}
 use Rattle.c_rules.specs.Names.{Entry}
 use Rattle.c_scope.specs.InScope.{InScope, all_of, closed, in_scope}
 

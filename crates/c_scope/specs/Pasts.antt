@@ -1,6 +1,5 @@
 -- What all declarations of a name make of it together, declaration by declaration.
-use Rattle.std.specs.Prelude.{ℕ, ◌+◌, nat_le, Bool, true, false, cond, ◌&&◌, ◌||◌, List, [], ◌∷◌, length, Option, Some, None}
-use Rattle.std.specs.Str.{bytes_eq}
+use Rattle.std.specs.Prelude.{ℕ, nat_le, Bool, false, cond, ◌&&◌, ◌||◌, List, length, Option, Some, None}
 use Rattle.c_core.specs.Typing.{same_types}
 use Rattle.c_core.specs.declared.number.IntType.{IntType}
 use Rattle.c_rules.specs.Codes.{agree, or_else}

@@ -1,5 +1,4 @@
 use Rattle.std.proofs.Common.{rules, ◌≡◌, ◌<◌, ◌≤◌, Some, None, length, get_or, refl, sym}
-use Rattle.std.specs.Prelude.{slice_get}
 use Rattle.std.proofs.lemmas.Option.{slice_get_past, slice_get_read}
 use Rattle.c_scope.proofs.AgreeLaws.{type_found}
 use Rattle.c_scope.proofs.agreeing.type_at.Goals as goal

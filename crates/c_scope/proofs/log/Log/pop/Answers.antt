@@ -1,4 +1,4 @@
-use Rattle.std.proofs.Common.{rules, ◌≡◌, ℕ, List, [], ◌∷◌, ◌++◌, OnOk, OnErr, Ok, Err, Result, Some, None, sym, ap, ◌∙◌, subst}
+use Rattle.std.proofs.Common.{◌≡◌, [], ◌∷◌, ◌++◌, OnOk, OnErr, Ok, Err, Result, Some, None, sym, ap, ◌∙◌, subst}
 use Rattle.std.proofs.lemmas.Map.Text.{btree_map_updates_str}
 use Rattle.c_scope.specs.Lines.{befores, hidden, past_in, past_of}
 use Rattle.c_scope.proofs.LogLaws.{last_keeps, front_keeps, taken_back, is_there}

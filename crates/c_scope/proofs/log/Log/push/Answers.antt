@@ -1,4 +1,4 @@
-use Rattle.std.proofs.Common.{rules, ◌≡◌, ℕ, List, [], ◌∷◌, ◌++◌, length, take, cond, Option, Some, refl, sym, ap, ◌∙◌, subst}
+use Rattle.std.proofs.Common.{rules, ◌≡◌, [], ◌∷◌, ◌++◌, length, take, cond, Some, sym, ap, ◌∙◌, subst}
 use Rattle.std.specs.BTreeMap.{is_at}
 use Rattle.std.specs.Map.{lookup}
 use Rattle.std.specs.Ordering.{nat_cmp}
@@ -7,7 +7,6 @@ use Rattle.std.specs.Str.{bytes_eq}
 use Rattle.std.proofs.Math.Seq.{take-append_seam}
 use Rattle.std.proofs.lemmas.Map.Text.{btree_map_updates_str}
 use Rattle.c_scope.specs.declared.line.Line.{Line}
-use Rattle.c_scope.specs.declared.past.Past.{Past}
 use Rattle.c_scope.specs.Pasts.{with_known}
 use Rattle.c_scope.specs.Lines.{befores, hidden, past_in, past_of}
 use Rattle.c_scope.proofs.LogLaws.{indexed_push, keeps_push}
