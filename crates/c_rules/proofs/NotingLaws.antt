@@ -1,9 +1,8 @@
 -- The first refusal so far doesn't depend on the order in which the parts are gone through.
-use Rattle.std.proofs.Common.{arith, cond, ◌≡◌, ℕ, Bool, true, false, List, [], ◌∷◌, ◌++◌, get_or, Option, Some, None, refl, ap, sym, ◌∙◌, tests, nat_lt, nat_eq}
+use Rattle.std.proofs.Common.{arith, cond, ◌≡◌, ℕ, Bool, true, false, List, [], ◌∷◌, ◌++◌, get_or, Option, Some, None, refl, ap, sym, ◌∙◌}
 use Rattle.std.proofs.lemmas.Bool.{false≢true, false_from_ne_true}
 use Rattle.std.proofs.lemmas.Bool.Decides.{nat_tests}
 use Rattle.c_core.specs.declared.number.DataModel.{DataModel}
-use Rattle.c_core.specs.declared.number.Spot.{Spot}
 use Rattle.c_parser.specs.Tree as raw
 use Rattle.c_rules.specs.declared.fault.CheckCode.{CheckCode}
 use Rattle.c_rules.specs.declared.fault.CheckCode.TheVariants as code
@@ -63,7 +62,7 @@ not_before : (f g h : Refusal) → comes_first g h ≡ true → comes_first f h 
 not_before f g h p q = false_from_ne_true _ (λ e. false≢true (sym q ∙ comes_first-then f g h e p))
 
 three : (f g h : Refusal) (a b : Bool) → comes_first g f ≡ a → comes_first h f ≡ b
-  → noted (cond a (Some g) (Some f)) true h ≡ noted (cond b (Some h) (Some f)) true g
+    → noted (cond a (Some g) (Some f)) true h ≡ noted (cond b (Some h) (Some f)) true g
 three f g h true true p q = two g h _ _ refl refl
 three f g h true false p q = rw (not_before h g f p q, p) refl
 three f g h false true p q = rw (not_before g h f q p, q) refl

@@ -45,6 +45,10 @@ pub fn noted(best: Option<Refusal>, holds: bool, code: CheckCode, spot: Spot) ->
     let new = Refusal { code, spot };
     match best {
         None => Some(new),
-        Some(first) => if comes_first(new, first) { Some(new) } else { Some(first) },
+        Some(first) => if comes_first(new, first) {
+            Some(new)
+        } else {
+            Some(first)
+        },
     }
 }
