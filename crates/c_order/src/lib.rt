@@ -3,5 +3,7 @@
 
 mod effect;
 mod marks;
+mod memo;
+mod seen;
 
 pub use effect::Effect;

@@ -31,7 +31,7 @@ fn is_wanted(effect: Effect, only_changes: bool, object: u32) -> bool
     if only_changes { changes(effect, object) } else { touches(effect, object) }
 }
 
-fn is_marked(marks: &[bool], function: u32) -> bool
+pub fn is_marked(marks: &[bool], function: u32) -> bool
     ensures { result ≡ is_marked marks.now function }
 {
     marks.get(function as usize).copied().unwrap_or(false)

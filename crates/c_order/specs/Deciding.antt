@@ -1,0 +1,31 @@
+-- What the checker of the order keeps, and what its answers tell.
+use Rattle.std.specs.Prelude.{◌≡◌, ℕ, Bool, true, false, List, Some}
+use Rattle.std.specs.List.{list_any}
+use Rattle.std.specs.Ordering.{nat_cmp}
+use Rattle.std.specs.BTreeMap.{get}
+use Rattle.std.specs.BTreeSet.{contains}
+use Rattle.std.specs.declared.vec.Vec.{Vec}
+use Rattle.std.specs.declared.alloc.Global.{Global}
+use Rattle.c_order.specs.declared.effect.Effect.{Effect}
+use Rattle.c_order.specs.declared.effect.Effect.TheVariants as does
+use Rattle.c_order.specs.declared.memo.Memo.{Memo}
+use Rattle.c_order.specs.declared.seen.Seen.{Seen}
+use Rattle.c_order.specs.Effects.{AreMarks, changes, touches, wanted}
+
+-- true exactly where it is so
+abbrev pub Tells : Bool → Type 0 → Type 0
+Tells b P = (b ≡ true → P) × (P → b ≡ true)
+
+-- all marks that are kept are right
+abbrev pub IsRight : Memo → Type 0
+IsRight m = (o : ℕ) (marks : Vec Bool Global) → get nat_cmp m.made o ≡ Some marks → AreMarks m.bodies.now (wanted m.only_changes o) marks.items
+
+abbrev pub is_call : Effect → Bool
+is_call (does.Calls k) = true
+is_call e = false
+
+-- the sets are those of these effects
+pub record IsSeen (seen : Seen) (es : List Effect) : Type 0 where
+  pub changed : (o : ℕ) → contains nat_cmp seen.changed o ≡ list_any (changes o) es
+  pub touched : (o : ℕ) → contains nat_cmp seen.touched o ≡ list_any (touches o) es
+  pub calling : seen.is_calling ≡ list_any is_call es
