@@ -28,6 +28,19 @@ is_fixed_if (Some o) = o.fixed
 abbrev pub is_fixed : List Object → ℕ → Bool
 is_fixed objects o = is_fixed_if (slice_get objects o)
 
+abbrev pub is_call : Effect → Bool
+is_call (does.Calls k) = true
+is_call e = false
+
+abbrev pub CallsOne : List Effect → Type 0
+CallsOne es = (list_any is_call es ≡ true)
+
+-- it is so of one of these effects
+pub record OneOf (P : Effect → Type 0) (es : List Effect) : Type 0 where
+  pub effect : Effect
+  pub among : Contains es effect
+  pub holds : P effect
+
 -- the effects of each function's body, by its number
 module _ (bodies : List (List Effect)) where
   abbrev pub IsBody : ℕ → List Effect → Type 0
@@ -39,12 +52,16 @@ module _ (bodies : List (List Effect)) where
     ByCall : {j k : ℕ} {es : List Effect} → IsBody k es → list_any (calls j) es ≡ true → Does test j → Does test k
 
 module _ (bodies : List (List Effect)) (objects : List Object) where
-  -- these effects call a function that does so to an object
-  pub record Through (test : ℕ → Effect → Bool) (o : ℕ) (es : List Effect) : Type 0 where
-    pub fixed : is_fixed objects o ≡ true
-    pub function : ℕ
-    pub called : list_any (calls function) es ≡ true
-    pub does : Does bodies (test o) function
+  -- a call of the function k does to the object o what the test asks for
+  abbrev pub CallDoes : (ℕ → Effect → Bool) → ℕ → ℕ → Type 0
+  CallDoes test o k = (is_fixed objects o ≡ true) × Does bodies (test o) k
+
+  abbrev pub IsCallThatDoes : (ℕ → Effect → Bool) → ℕ → Effect → Type 0
+  IsCallThatDoes test o (does.Calls k) = CallDoes test o k
+  IsCallThatDoes test o e = ⊥
+
+  abbrev pub Through : (ℕ → Effect → Bool) → ℕ → List Effect → Type 0
+  Through test o es = OneOf (IsCallThatDoes test o) es
 
   abbrev pub Changes : ℕ → List Effect → Type 0
   Changes o es = (list_any (changes o) es ≡ true) ⊎ Through changes o es
@@ -58,10 +75,6 @@ module _ (bodies : List (List Effect)) (objects : List Object) where
     pub changed : Changes object es
     pub touched : Touches object fs
 
-  pub record CallsOne (es : List Effect) : Type 0 where
-    pub function : ℕ
-    pub called : list_any (calls function) es ≡ true
-
   abbrev pub AreUnsequenced : List Effect → List Effect → Type 0
   AreUnsequenced es fs = Clash es fs ⊎ (Clash fs es ⊎ (CallsOne es × CallsOne fs))
 
@@ -74,8 +87,8 @@ module _ (bodies : List (List Effect)) (objects : List Object) where
 
 -- changes alone, or reads too
 abbrev pub wanted : Bool → ℕ → Effect → Bool
-wanted true o e = changes o e
-wanted false o e = touches o e
+wanted true = changes
+wanted false = touches
 
 -- a mark stands at this number
 abbrev pub is_marked : List Bool → ℕ → Bool
@@ -110,3 +123,18 @@ abbrev pub unmarked : List Bool → ℕ
 unmarked [] = 0
 unmarked (true ∷ marks) = unmarked marks
 unmarked (false ∷ marks) = suc (unmarked marks)
+
+-- ---- one operand behind others, effect by effect
+
+module _ (bodies : List (List Effect)) (objects : List Object) where
+  -- an effect and a call of the function k, one of which changes what the other touches
+  abbrev pub MeetsCall : ℕ → Effect → Type 0
+  MeetsCall k (does.Reads o) = CallDoes bodies objects changes o k
+  MeetsCall k (does.Changes o) = CallDoes bodies objects touches o k
+  MeetsCall k (does.Calls j) = ⊥
+
+  -- effects and one that has no order with them
+  abbrev pub Meets : List Effect → Effect → Type 0
+  Meets es (does.Reads o) = Changes bodies objects o es
+  Meets es (does.Changes o) = Touches bodies objects o es
+  Meets es (does.Calls k) = CallsOne es ⊎ OneOf (MeetsCall k) es
