@@ -31,10 +31,10 @@ left_of false h = h
 
 -- ---- an effect of a list that passes a test
 
-pub here : (e : Effect) (es : List Effect) → Contains (e ∷ es) e
+pub here : {A : Type 0} (e : A) (es : List A) → Contains (e ∷ es) e
 here e es = (0, omega arith, refl)
 
-pub there : (d e : Effect) (es : List Effect) → Contains es e → Contains (d ∷ es) e
+pub there : {A : Type 0} (d e : A) (es : List A) → Contains es e → Contains (d ∷ es) e
 there d e es c = (suc c.0, omega (arith, c.1), c.2)
 
 passes_at : (test : Effect → Bool) (es : List Effect) (n : ℕ) (e : Effect) → n < length es → get_or es n e ≡ e → test e ≡ true → list_any test es ≡ true

@@ -1,5 +1,5 @@
 -- Operands between which C has no order (C11 6.5p2), by the lists of what they do.
-use Rattle.std.specs.Prelude.{◌≡◌, ◌⊎◌, ℕ, suc, nat_eq, Bool, true, false, ◌||◌, List, [], ◌∷◌, Option, Some, None, slice_get, get_or}
+use Rattle.std.specs.Prelude.{◌≡◌, ◌⊎◌, ℕ, suc, nat_eq, Bool, true, false, ◌||◌, List, [], ◌∷◌, ◌++◌, Option, Some, None, slice_get, get_or}
 use Rattle.std.specs.List.{list_any, Contains}
 use Rattle.c_core.specs.declared.tree.Object.{Object}
 use Rattle.c_order.specs.declared.effect.Effect.{Effect}
@@ -138,3 +138,11 @@ module _ (bodies : List (List Effect)) (objects : List Object) where
   Meets es (does.Reads o) = Changes bodies objects o es
   Meets es (does.Changes o) = Touches bodies objects o es
   Meets es (does.Calls k) = CallsOne es ⊎ OneOf (MeetsCall k) es
+
+-- ---- operands one behind another
+
+module _ (bodies : List (List Effect)) (objects : List Object) where
+  -- one of these operands has no order with those before it, taken together
+  pub data SomeBehind : List Effect → List (List Effect) → Type 0 where
+    Next : {before es : List Effect} {rest : List (List Effect)} → AreUnsequenced bodies objects before es → SomeBehind before (es ∷ rest)
+    Later : {before es : List Effect} {rest : List (List Effect)} → SomeBehind (before ++ es) rest → SomeBehind before (es ∷ rest)
