@@ -1,3 +1,4 @@
 pub mod MarkLaws
 pub mod ClashLaws
 pub mod PairLaws
+pub mod QuietLaws

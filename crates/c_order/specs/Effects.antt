@@ -1,6 +1,6 @@
 -- Operands between which C has no order (C11 6.5p2), by the lists of what they do.
 use Rattle.std.specs.Prelude.{◌≡◌, ◌⊎◌, ℕ, suc, nat_eq, Bool, true, false, ◌||◌, List, [], ◌∷◌, ◌++◌, Option, Some, None, slice_get, get_or}
-use Rattle.std.specs.List.{list_any, Contains}
+use Rattle.std.specs.List.{list_all, list_any, Contains}
 use Rattle.c_core.specs.declared.tree.Object.{Object}
 use Rattle.c_order.specs.declared.effect.Effect.{Effect}
 use Rattle.c_order.specs.declared.effect.Effect.TheVariants as does
@@ -34,6 +34,14 @@ is_call e = false
 
 abbrev pub CallsOne : List Effect → Type 0
 CallsOne es = (list_any is_call es ≡ true)
+
+abbrev pub is_read : Effect → Bool
+is_read (does.Reads o) = true
+is_read e = false
+
+-- nothing is changed or called
+abbrev pub is_quiet : List Effect → Bool
+is_quiet es = list_all is_read es
 
 -- it is so of one of these effects
 pub record OneOf (P : Effect → Type 0) (es : List Effect) : Type 0 where

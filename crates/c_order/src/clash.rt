@@ -1,5 +1,5 @@
 ghost use Rattle.std.specs.Prelude.{◌≡◌, ◌⊎◌, ℕ, List, IfOk, true, false};
-ghost use Rattle.c_order.specs.Effects.{AreUnsequenced, CallDoes, CallsOne, Changes, IsCallThatDoes, Meets, MeetsCall, OneOf, Through, Touches, changes, is_fixed, touches, wanted};
+ghost use Rattle.c_order.specs.Effects.{AreUnsequenced, CallDoes, CallsOne, Changes, IsCallThatDoes, Meets, MeetsCall, OneOf, Through, Touches, changes, is_fixed, is_quiet, is_read, touches};
 ghost use Rattle.c_core.specs.declared.tree.Object.{Object};
 ghost use Rattle.c_order.specs.declared.effect.Effect.{Effect};
 ghost use Rattle.c_order.specs.Deciding.{IsKnown, IsSameSource, IsSeen, Tells, bodies_of, objects_of};
@@ -27,6 +27,19 @@ fn is_fixed(objects: &[Object], object: u32) -> bool
         Some(object) => object.fixed,
         None => false,
     }
+}
+
+fn is_read(effect: Effect) -> bool
+    ensures { result ≡ is_read effect }
+{
+    matches!(effect, Effect::Reads(_))
+}
+
+/// Whether nothing is changed or called.
+pub fn is_quiet(effects: &[Effect]) -> bool
+    ensures { result ≡ is_quiet effects.now }
+{
+    effects.iter().all(|effect| is_read(*effect))
 }
 
 impl<'a> Source<'a> {
@@ -209,5 +222,20 @@ impl<'a> Source<'a> {
             }
         }
         Ok(false)
+    }
+
+    /// Whether two operands have no order.
+    #[tactic(auto, using(crate::proofs::ClashLaws::met_is_unsequenced, crate::proofs::ClashLaws::unsequenced_is_met, crate::proofs::QuietLaws::quiet_is_ordered))]
+    pub fn are_unsequenced(&mut self, before: &[Effect], after: &[Effect]) -> Result<bool, OutOfMemory>
+        requires { IsKnown self.old }
+        ensures same { IsSameSource self.old self.new }
+        ensures told { IfOk result (λ b. Tells b (AreUnsequenced (bodies_of self.old) (objects_of self.old) before.now after.now)) }
+    {
+        if is_quiet(before) && is_quiet(after) {
+            return Ok(false);
+        }
+        let mut seen = Seen::new(self.alloc);
+        seen.add(before)?;
+        self.some_meets(&seen, before, after)
     }
 }
