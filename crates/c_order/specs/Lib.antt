@@ -1,3 +1,4 @@
 pub mod Effects
 pub mod Deciding
 pub mod Typed
+pub mod Walking

@@ -6,5 +6,6 @@ mod effect;
 mod marks;
 mod memo;
 mod seen;
+mod walk;
 
 pub use effect::Effect;
