@@ -1,4 +1,3 @@
 pub mod Effects
 pub mod Deciding
 pub mod Typed
-pub mod Walking

@@ -2,10 +2,11 @@
 #![tactic(auto)]
 
 mod clash;
+mod declarations;
 mod effect;
 mod marks;
 mod memo;
 mod seen;
-mod walk;
 
+pub use declarations::Declarations;
 pub use effect::Effect;
