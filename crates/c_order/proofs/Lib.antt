@@ -2,3 +2,6 @@ pub mod MarkLaws
 pub mod ClashLaws
 pub mod PairLaws
 pub mod QuietLaws
+pub mod WalkLaws
+pub mod QuietTests
+pub mod ArgumentLaws

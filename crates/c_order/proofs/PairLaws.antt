@@ -8,6 +8,7 @@ use Rattle.c_core.specs.declared.tree.Object.{Object}
 use Rattle.c_order.specs.declared.effect.Effect.{Effect}
 use Rattle.c_order.specs.declared.effect.Effect.TheVariants as does
 use Rattle.c_order.specs.Effects.{AreUnsequenced, CallsOne, Changes, IsCallThatDoes, Meets, MeetsCall, OneOf, SomePair, OfFirst, OfOthers, SomeBehind, Next, Later, Through, Touches, changes, is_call, touches}
+use Rattle.c_order.specs.Deciding.{Tells}
 use Rattle.c_order.proofs.ClashLaws.{met_is_unsequenced, unsequenced_is_met, here, one_that_passes, passes, there}
 
 -- ---- more effects do no less
@@ -32,6 +33,9 @@ any_of_two test es fs h = elim (one_of_two (λ e. test e ≡ true) es fs (one_th
   | inl o ↦ inl (passes test es o.effect o.among o.holds)
   | inr o ↦ inr (passes test fs o.effect o.among o.holds)
 ]
+
+pub told_alone : (b : Bool) (P : Type 0) → Tells b P → Tells b (P ⊎ ⊥)
+told_alone b P t = (λ h. inl (t.0 h), λ p. elim p as (λ _. b ≡ true) [ inl x ↦ t.1 x | inr x ↦ absurd x ])
 
 module _ (bodies : List (List Effect)) (objects : List Object) where
   changes_more : (o : ℕ) (es fs : List Effect) → Within es fs → Changes bodies objects o es → Changes bodies objects o fs
@@ -107,3 +111,40 @@ module _ (bodies : List (List Effect)) (objects : List Object) where
   behind_of_pair before [] p = elim p [ ]
   behind_of_pair before (es ∷ rest) (OfFirst c u) = Later (with_one es (before ++ es) rest c.0 _ (λ e i. Contains-append_right before es e i) c.1 c.2 u)
   behind_of_pair before (es ∷ rest) (OfOthers p) = Later (behind_of_pair (before ++ es) rest p)
+
+  -- with no effects everything has an order
+  nothing_before : (es : List Effect) → AreUnsequenced bodies objects [] es → ⊥
+  nothing_before es u = let o = unsequenced_is_met bodies objects [] es u in met o.effect o.holds
+    where
+      none : (P : Effect → Type 0) → OneOf P [] → ⊥
+      none P o = absurd (omega (arith, o.among.1))
+
+      met : (e : Effect) → Meets bodies objects [] e → ⊥
+      met (does.Reads n) (inl h) = false≢true h
+      met (does.Reads n) (inr t) = none (IsCallThatDoes bodies objects changes n) t
+      met (does.Changes n) (inl h) = false≢true h
+      met (does.Changes n) (inr t) = none (IsCallThatDoes bodies objects touches n) t
+      met (does.Calls k) (inl h) = false≢true h
+      met (does.Calls k) (inr s) = none (MeetsCall bodies objects k) s
+
+  pub pair_if_behind : (rest : List (List Effect)) → SomeBehind bodies objects [] rest → SomePair bodies objects rest
+  pair_if_behind rest b = elim (pair_of_behind [] rest b) as (λ _. SomePair bodies objects rest) [
+    | inl s ↦ absurd (nothing_before s.operand s.no_order)
+    | inr p ↦ p
+  ]
+
+  second_of : (es fs : List Effect) → SomeBehind bodies objects [] (es ∷ fs ∷ []) → AreUnsequenced bodies objects es fs
+  second_of es fs (Next u) = absurd (nothing_before es u)
+  second_of es fs (Later (Next u)) = u
+  second_of es fs (Later (Later b)) = elim b [ ]
+
+  pub pair_told : (b : Bool) (es fs : List Effect) → Tells b (AreUnsequenced bodies objects es fs) → Tells b (SomePair bodies objects (es ∷ fs ∷ []))
+  pair_told b es fs t = (λ h. OfFirst (here fs []) (t.0 h), λ p. t.1 (second_of es fs (behind_of_pair [] (es ∷ fs ∷ []) p)))
+
+  -- one operand more
+  pub one_behind : (before es : List Effect) (rest : List (List Effect)) → (AreUnsequenced bodies objects before es → ⊥) → SomeBehind bodies objects before (es ∷ rest) → SomeBehind bodies objects (before ++ es) rest
+  one_behind before es rest n (Next u) = absurd (n u)
+  one_behind before es rest n (Later b) = b
+
+  pub none_behind : (before : List Effect) → SomeBehind bodies objects before [] → ⊥
+  none_behind before b = elim b [ ]

@@ -31,7 +31,11 @@ abbrev pub bodies_of : Source → List (List Effect)
 bodies_of source = source.changed.bodies.now
 
 abbrev pub objects_of : Source → List Object
-objects_of source = source.objects.now
+objects_of source = source.declared.objects.now
+
+-- so many functions have a body
+abbrev pub count_of : Source → ℕ
+count_of source = source.declared.bodies
 
 -- what is kept is right
 pub record IsKnown (source : Source) : Type 0 where
@@ -45,4 +49,5 @@ pub record IsKnown (source : Source) : Type 0 where
 pub record IsSameSource (old new : Source) : Type 0 where
   pub bodies : bodies_of new ≡ bodies_of old
   pub objects : objects_of new ≡ objects_of old
+  pub count : count_of new ≡ count_of old
   pub known : IsKnown new

@@ -11,6 +11,15 @@ use Rattle.c_order.specs.declared.effect.Effect.{Effect}
 use Rattle.c_order.specs.declared.effect.Effect.TheVariants as does
 use Rattle.c_order.specs.Effects.{AreUnsequenced, Changes, SomePair, Touches, changes}
 
+-- what is tested: the operands of an expression, or the initializer of an object
+pub data Test : Type 0 where
+  Operands : Exp → Test
+  Initial : ℕ → Exp → Test
+
+abbrev pub place : Test → Spot
+place (Operands e) = spot_of e
+place (Initial o e) = spot_of e
+
 abbrev pub to_object : Bool → ℕ → Effect
 to_object true o = does.Changes o
 to_object false o = does.Reads o
@@ -94,25 +103,32 @@ module _ (objects : List Object) (count : ℕ) where
     IsStoredTwice (Assign op a b) = ChangedInIndex (target a) a ⊎ ChangedBeside (target a) a b
     IsStoredTwice n = ⊥
 
+    abbrev pub IsUnorderedIn : Node → Type 0
+    IsUnorderedIn n = SomePair bodies objects (operands n) ⊎ IsStoredTwice n
+
     abbrev pub IsUnordered : Exp → Type 0
-    IsUnordered (Expr p ty n) = SomePair bodies objects (operands n) ⊎ IsStoredTwice n
+    IsUnordered (Expr p ty n) = IsUnorderedIn n
 
     -- an object is read or changed in its own initializer
     abbrev pub InitializesItself : ℕ → Exp → Type 0
     InitializesItself o e = Touches bodies objects o (effects false e)
 
-    -- the places of the unordered ones of these expressions
-    pub data Listed : List Exp → List Spot → Type 0 where
+    abbrev pub IsFound : Test → Type 0
+    IsFound (Operands e) = IsUnordered e
+    IsFound (Initial o e) = InitializesItself o e
+
+    -- the places of those of these tests that find something
+    pub data Listed : List Test → List Spot → Type 0 where
       Nothing : Listed [] []
-      Passed : {e : Exp} {es : List Exp} {spots : List Spot} → (IsUnordered e → ⊥) → Listed es spots → Listed (e ∷ es) spots
-      Told : {e : Exp} {es : List Exp} {spots : List Spot} → IsUnordered e → Listed es spots → Listed (e ∷ es) (spot_of e ∷ spots)
+      Passed : {t : Test} {ts : List Test} {spots : List Spot} → (IsFound t → ⊥) → Listed ts spots → Listed (t ∷ ts) spots
+      Told : {t : Test} {ts : List Test} {spots : List Spot} → IsFound t → Listed ts spots → Listed (t ∷ ts) (place t ∷ spots)
 
--- an expression and all in it, in the order in which they are tested
+-- the tests of an expression and of all in it, in their order
 abbrev mutual
-  pub tested : Exp → List Exp
-  tested (Expr p ty n) = tested_in n ++ Expr p ty n ∷ []
+  pub tested : Exp → List Test
+  tested (Expr p ty n) = tested_in n ++ Operands (Expr p ty n) ∷ []
 
-  pub tested_in : Node → List Exp
+  pub tested_in : Node → List Test
   tested_in (Const v) = []
   tested_in (Var o) = []
   tested_in (Index o i) = tested i
@@ -126,6 +142,6 @@ abbrev mutual
   tested_in (Assign op a b) = tested a ++ tested b
   tested_in (Call callee es close) = tested_all es
 
-  pub tested_all : Exps → List Exp
+  pub tested_all : Exps → List Test
   tested_all NoExp = []
   tested_all (MoreExp e es) = tested e ++ tested_all es

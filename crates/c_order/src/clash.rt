@@ -1,21 +1,24 @@
 ghost use Rattle.std.specs.Prelude.{◌≡◌, ◌⊎◌, ℕ, List, IfOk, true, false};
+ghost use Rattle.std.specs.List.{list_any};
 ghost use Rattle.c_order.specs.Effects.{AreUnsequenced, CallDoes, CallsOne, Changes, IsCallThatDoes, Meets, MeetsCall, OneOf, Through, Touches, changes, is_fixed, is_quiet, is_read, touches};
 ghost use Rattle.c_core.specs.declared.tree.Object.{Object};
 ghost use Rattle.c_order.specs.declared.effect.Effect.{Effect};
-ghost use Rattle.c_order.specs.Deciding.{IsKnown, IsSameSource, IsSeen, Tells, bodies_of, objects_of};
+ghost use Rattle.c_order.specs.Deciding.{IsKnown, IsSameSource, IsSeen, Tells, bodies_of, count_of, objects_of};
 
+use crate::declarations::Declarations;
 use crate::effect::Effect;
+use crate::marks::{changes, touches};
 use crate::memo::Memo;
 use crate::seen::Seen;
 use c_core::Object;
 use std::alloc::Global;
 use wv_base::{OutOfMemory, Seq};
 
-/// The objects of a source, and what its functions do to those of static storage.
+/// What a source declares, and what its functions do to objects of static storage.
 #[derive(Drop)]
 pub struct Source<'a> {
     pub alloc: Global,
-    pub objects: &'a [Object],
+    pub declared: Declarations<'a>,
     pub changed: Memo<'a>,
     pub touched: Memo<'a>,
 }
@@ -42,15 +45,29 @@ pub fn is_quiet(effects: &[Effect]) -> bool
     effects.iter().all(|effect| is_read(*effect))
 }
 
+/// Whether one of these effects changes an object by itself.
+pub fn one_changes(effects: &[Effect], object: u32) -> bool
+    ensures { result ≡ list_any (changes object) effects.now }
+{
+    effects.iter().any(|effect| changes(*effect, object))
+}
+
+fn one_touches(effects: &[Effect], object: u32) -> bool
+    ensures { result ≡ list_any (touches object) effects.now }
+{
+    effects.iter().any(|effect| touches(*effect, object))
+}
+
 impl<'a> Source<'a> {
-    pub fn new(alloc: Global, objects: &'a [Object], bodies: &'a [Seq<Effect>]) -> Source<'a>
+    pub fn new(alloc: Global, declared: Declarations<'a>, bodies: &'a [Seq<Effect>]) -> Source<'a>
         ensures bodies { bodies_of result ≡ bodies.now }
-        ensures objects { objects_of result ≡ objects.now }
+        ensures objects { objects_of result ≡ declared.entry.objects.now }
+        ensures count { count_of result ≡ declared.entry.bodies }
         ensures known { IsKnown result }
     {
         Source {
             alloc,
-            objects,
+            declared,
             changed: Memo::new(alloc, bodies, true),
             touched: Memo::new(alloc, bodies, false),
         }
@@ -62,7 +79,7 @@ impl<'a> Source<'a> {
         ensures same { IsSameSource self.old self.new }
         ensures told { IfOk result (λ b. Tells b (CallDoes (bodies_of self.old) (objects_of self.old) changes object function)) }
     {
-        if !is_fixed(self.objects, object) {
+        if !is_fixed(self.declared.objects, object) {
             return Ok(false);
         }
         let does = self.changed.does(self.alloc, object, function)?;
@@ -75,7 +92,7 @@ impl<'a> Source<'a> {
         ensures same { IsSameSource self.old self.new }
         ensures told { IfOk result (λ b. Tells b (CallDoes (bodies_of self.old) (objects_of self.old) touches object function)) }
     {
-        if !is_fixed(self.objects, object) {
+        if !is_fixed(self.declared.objects, object) {
             return Ok(false);
         }
         let does = self.touched.does(self.alloc, object, function)?;
@@ -156,6 +173,30 @@ impl<'a> Source<'a> {
             }
         }
         Ok(false)
+    }
+
+    /// Whether these effects change an object, by themselves or through calls.
+    pub fn some_changes(&mut self, effects: &[Effect], object: u32) -> Result<bool, OutOfMemory>
+        requires { IsKnown self.old }
+        ensures same { IsSameSource self.old self.new }
+        ensures told { IfOk result (λ b. Tells b (Changes (bodies_of self.old) (objects_of self.old) object effects.now)) }
+    {
+        if one_changes(effects, object) {
+            return Ok(true);
+        }
+        self.some_call_changes(effects, object)
+    }
+
+    /// Whether these effects read or change an object, by themselves or through calls.
+    pub fn some_touches(&mut self, effects: &[Effect], object: u32) -> Result<bool, OutOfMemory>
+        requires { IsKnown self.old }
+        ensures same { IsSameSource self.old self.new }
+        ensures told { IfOk result (λ b. Tells b (Touches (bodies_of self.old) (objects_of self.old) object effects.now)) }
+    {
+        if one_touches(effects, object) {
+            return Ok(true);
+        }
+        self.some_call_touches(effects, object)
     }
 
     fn has_changed(&mut self, seen: &Seen, before: &[Effect], object: u32) -> Result<bool, OutOfMemory>

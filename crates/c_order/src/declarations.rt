@@ -1,5 +1,5 @@
 // What expressions do, as lists: what each does by itself, before what its parts do.
-ghost use Rattle.std.specs.Prelude.{◌≡◌, false, ◌++◌, is_some, slice_get, OnOk};
+ghost use Rattle.std.specs.Prelude.{◌≡◌, false, cond, ◌++◌, Some, None, is_some, slice_get, OnOk};
 ghost use Rattle.c_core.specs.TreeView.{expr_view, exprs_view, node_view};
 ghost use Rattle.c_order.specs.Typed.{effects, effects_all, inner, on_call, on_object, own};
 
@@ -19,6 +19,13 @@ impl<'a> Declarations<'a> {
         ensures { result ≡ is_some (slice_get self.now.objects.now object) }
     {
         self.objects.get(object as usize).is_some()
+    }
+
+    /// The object of this number, where there is one.
+    pub fn known(&self, object: u32) -> Option<u32>
+        ensures { result ≡ cond (is_some (slice_get self.now.objects.now object)) (Some object) None }
+    {
+        if self.is_object(object) { Some(object) } else { None }
     }
 
     fn push_object(&self, list: &mut Vec<Effect>, stored: bool, object: u32) -> Result<(), OutOfMemory>
