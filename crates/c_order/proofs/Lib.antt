@@ -5,3 +5,4 @@ pub mod QuietLaws
 pub mod WalkLaws
 pub mod QuietTests
 pub mod ArgumentLaws
+pub mod BodyLaws

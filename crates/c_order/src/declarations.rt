@@ -1,10 +1,13 @@
 // What expressions do, as lists: what each does by itself, before what its parts do.
 ghost use Rattle.std.specs.Prelude.{◌≡◌, false, cond, ◌++◌, Some, None, is_some, slice_get, OnOk};
-ghost use Rattle.c_core.specs.TreeView.{expr_view, exprs_view, node_view};
+ghost use Rattle.c_core.specs.TreeView.{expr_view, exprs_view, node_view, stmt_view};
+ghost use Rattle.c_order.specs.Bodies.{effects_of_fulls, fulls, fulls_view};
 ghost use Rattle.c_order.specs.Typed.{effects, effects_all, inner, on_call, on_object, own};
 
+use crate::bodies::{fulls_of, FullExpression};
 use crate::effect::Effect;
-use c_core::{Callee, Expr, Node, Object};
+use c_core::{Callee, Expr, Node, Object, Stmt};
+use std::alloc::Global;
 use wv_base::OutOfMemory;
 
 /// What a source declares: its objects, and how many functions with a body.
@@ -113,6 +116,24 @@ impl<'a> Declarations<'a> {
         for e in es {
             self.push(list, false, e)?;
         }
+        Ok(())
+    }
+
+    fn push_fulls(&self, list: &mut Vec<Effect>, fulls: &[FullExpression<'_>]) -> Result<(), OutOfMemory>
+        ensures { OnOk result (list.new.items ≡ list.old.items ++ effects_of_fulls self.now.objects.now self.now.bodies (fulls_view fulls.now)) }
+    {
+        for full in fulls {
+            self.push(list, false, full.value)?;
+        }
+        Ok(())
+    }
+
+    /// Appends what the body of a function does.
+    pub fn push_body(&self, alloc: Global, list: &mut Vec<Effect>, body: &Stmt) -> Result<(), OutOfMemory>
+        ensures { OnOk result (list.new.items ≡ list.old.items ++ effects_of_fulls self.now.objects.now self.now.bodies (fulls (stmt_view body.now))) }
+    {
+        let fulls = fulls_of(alloc, body)?;
+        self.push_fulls(list, fulls.as_slice())?;
         Ok(())
     }
 }

@@ -9,8 +9,10 @@ mod marks;
 mod memo;
 mod operands;
 mod seen;
+#[cfg(test)]
+mod tests;
 mod walk;
 
-pub use bodies::FullExpression;
 pub use declarations::Declarations;
 pub use effect::Effect;
+pub use walk::Walk;

@@ -1,14 +1,16 @@
 // Goes through typed expressions, and lists where operands have no order.
 ghost use Rattle.std.specs.Prelude.{◌≡◌, cond, [], ◌∷◌, ◌++◌, OnOk};
-ghost use Rattle.c_core.specs.TreeView.{expr_view, exprs_view, node_view};
+ghost use Rattle.c_core.specs.TreeView.{expr_view, exprs_view, node_view, stmt_view};
+ghost use Rattle.c_order.specs.Bodies.{full_view, fulls, fulls_view, tested_fulls, tests_of};
 ghost use Rattle.c_order.specs.Deciding.{bodies_of, count_of, objects_of};
 ghost use Rattle.c_order.specs.Typed.{Initial, Operands, tested, tested_all, tested_in};
 ghost use Rattle.c_order.specs.Walking.{IsGone, IsReady, IsSameWalk};
 
+use crate::bodies::{fulls_of, FullExpression};
 use crate::clash::{is_quiet, Source};
 use crate::declarations::Declarations;
 use crate::effect::Effect;
-use c_core::{Expr, Node, Spot};
+use c_core::{Expr, Node, Spot, Stmt};
 use std::alloc::Global;
 use wv_base::{OutOfMemory, Seq};
 
@@ -149,6 +151,39 @@ impl<'a> Walk<'a> {
     {
         self.test_initializer(object, e)?;
         self.full_expression(e)?;
+        Ok(())
+    }
+
+    fn full(&mut self, full: FullExpression<'_>) -> Result<(), OutOfMemory>
+        requires { IsReady self.old }
+        ensures same { IsSameWalk self.old self.new }
+        ensures gone { OnOk result (IsGone self.old self.new (tests_of (full_view full.entry))) }
+    {
+        match full.object {
+            None => self.full_expression(full.value),
+            Some(object) => self.initializer(object, full.value),
+        }
+    }
+
+    fn fulls(&mut self, fulls: &[FullExpression<'_>]) -> Result<(), OutOfMemory>
+        requires { IsReady self.old }
+        ensures same { IsSameWalk self.old self.new }
+        ensures gone { OnOk result (IsGone self.old self.new (tested_fulls (fulls_view fulls.now))) }
+    {
+        for full in fulls {
+            self.full(*full)?;
+        }
+        Ok(())
+    }
+
+    /// The body of a function: its full expressions, in the order of the text.
+    pub fn body(&mut self, body: &Stmt) -> Result<(), OutOfMemory>
+        requires { IsReady self.old }
+        ensures same { IsSameWalk self.old self.new }
+        ensures gone { OnOk result (IsGone self.old self.new (tested_fulls (fulls (stmt_view body.now)))) }
+    {
+        let fulls = fulls_of(self.source.alloc, body)?;
+        self.fulls(fulls.as_slice())?;
         Ok(())
     }
 }
