@@ -17,9 +17,9 @@ same_effects s u e h = ap (λ o. effects o (count_of u) false e) h.objects ∙ a
 pub told_at : (s u : Source) (b : Bool) (before : List Effect) (e : Exp) → IsSameSource s u → Tells b (AreUnsequencedBy u before (effects_by u e)) → Tells b (AreUnsequencedBy s before (effects_by s e))
 told_at s u b before e h t =
     subst (λ x. Tells b (AreUnsequencedBy s before x)) (same_effects s u e h)
-      (subst (λ o. Tells b (AreUnsequenced (bodies_of s) o before (effects_by u e))) h.objects
-        (subst (λ f. Tells b (AreUnsequenced f (objects_of u) before (effects_by u e))) h.bodies t))
+    (subst (λ o. Tells b (AreUnsequenced (bodies_of s) o before (effects_by u e))) h.objects
+    (subst (λ f. Tells b (AreUnsequenced f (objects_of u) before (effects_by u e))) h.bodies t))
 
 pub next_argument : (s : Source) (es : List Expr) (i : ℕ) (e : Expr) → i < length es → e ≡ get_or es i e
-  → arguments_by s (exprs_view (drop i es)) ≡ effects_by s (expr_view e) ∷ arguments_by s (exprs_view (drop (i + 1) es))
+    → arguments_by s (exprs_view (drop i es)) ≡ effects_by s (expr_view e) ∷ arguments_by s (exprs_view (drop (i + 1) es))
 next_argument s es i e l is = ap (λ xs. arguments_by s (exprs_view xs)) (drop_more es i e l ∙ ap (λ x. x ∷ drop (i + 1) es) (sym is))

@@ -5,6 +5,7 @@ use Rattle.std.specs.List.{list_any, Contains}
 use Rattle.std.proofs.lemmas.Bool.{false≢true, eqb-true, eq-eqb}
 use Rattle.std.proofs.lemmas.List.Elements.{Contains-push_cases}
 use Rattle.std.proofs.lemmas.List.{take_more}
+use Rattle.c_order.proofs.Lists.{here, left_of, there}
 use Rattle.c_order.proofs.MarkLaws.{either, or_left, or_right}
 use Rattle.c_core.specs.declared.tree.Object.{Object}
 use Rattle.c_order.specs.declared.effect.Effect.{Effect}
@@ -25,17 +26,7 @@ none_more P es i d l none next o =
       | inr e ↦ next (subst P (sym e) o.holds)
     ]
 
-left_of : (a : Bool) → (a || false) ≡ true → a ≡ true
-left_of true h = refl
-left_of false h = h
-
 -- ---- an effect of a list that passes a test
-
-pub here : {A : Type 0} (e : A) (es : List A) → Contains (e ∷ es) e
-here e es = (0, omega arith, refl)
-
-pub there : {A : Type 0} (d e : A) (es : List A) → Contains es e → Contains (d ∷ es) e
-there d e es c = (suc c.0, omega (arith, c.1), c.2)
 
 passes_at : (test : Effect → Bool) (es : List Effect) (n : ℕ) (e : Effect) → n < length es → get_or es n e ≡ e → test e ≡ true → list_any test es ≡ true
 passes_at test [] n e l g t = absurd (omega (arith, l))
@@ -164,15 +155,15 @@ module _ (bodies : List (List Effect)) (objects : List Object) where
   unsequenced_is_met es fs (inl clash) = elim clash.touched as (λ _. OneOf (Meets bodies objects es) fs) [
     | inl t ↦ touch_meets es fs clash.object clash.changed t
     | inr t ↦ elim clash.changed as (λ _. OneOf (Meets bodies objects es) fs) [
-        | inl c ↦ call_touches_meets es fs clash.object c t
-        | inr c ↦ calls_meet es fs (a_call es changes clash.object c) (a_call fs touches clash.object t)
-      ]
+      | inl c ↦ call_touches_meets es fs clash.object c t
+      | inr c ↦ calls_meet es fs (a_call es changes clash.object c) (a_call fs touches clash.object t)
+    ]
   ]
   unsequenced_is_met es fs (inr (inl clash)) = elim clash.changed as (λ _. OneOf (Meets bodies objects es) fs) [
     | inl c ↦ change_meets es fs clash.object clash.touched c
     | inr c ↦ elim clash.touched as (λ _. OneOf (Meets bodies objects es) fs) [
-        | inl t ↦ call_changes_meets es fs clash.object t c
-        | inr t ↦ calls_meet es fs (a_call es touches clash.object t) (a_call fs changes clash.object c)
-      ]
+      | inl t ↦ call_changes_meets es fs clash.object t c
+      | inr t ↦ calls_meet es fs (a_call es touches clash.object t) (a_call fs changes clash.object c)
+    ]
   ]
   unsequenced_is_met es fs (inr (inr both)) = calls_meet es fs both.0 both.1

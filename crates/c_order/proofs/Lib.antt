@@ -1,3 +1,4 @@
+pub mod Lists
 pub mod MarkLaws
 pub mod ClashLaws
 pub mod PairLaws

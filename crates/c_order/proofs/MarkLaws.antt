@@ -42,13 +42,13 @@ pub done_by : (marks : List Bool) (test : Effect → Bool) (es : List Effect) �
 done_by marks test [] h = absurd (false≢true h)
 done_by marks test (e ∷ es) h = elim (either (test e || calls_marked marks e) (does_by marks test es) h) as (λ _. (list_any test (e ∷ es) ≡ true) ⊎ MarkedCall marks (e ∷ es)) [
   | inl here ↦ elim (either (test e) (calls_marked marks e) here) as (λ _. (list_any test (e ∷ es) ≡ true) ⊎ MarkedCall marks (e ∷ es)) [
-      | inl t ↦ inl (or_left (test e) (list_any test es) t)
-      | inr m ↦ inr (marked_call marks e es m)
-    ]
+    | inl t ↦ inl (or_left (test e) (list_any test es) t)
+    | inr m ↦ inr (marked_call marks e es m)
+  ]
   | inr there ↦ elim (done_by marks test es there) as (λ _. (list_any test (e ∷ es) ≡ true) ⊎ MarkedCall marks (e ∷ es)) [
-      | inl t ↦ inl (or_right (test e) (list_any test es) t)
-      | inr m ↦ inr (m.0, or_right (calls m.0 e) (list_any (calls m.0) es) m.1, m.2)
-    ]
+    | inl t ↦ inl (or_right (test e) (list_any test es) t)
+    | inr m ↦ inr (m.0, or_right (calls m.0 e) (list_any (calls m.0) es) m.1, m.2)
+  ]
 ]
 
 by_itself : (marks : List Bool) (test : Effect → Bool) (es : List Effect) → list_any test es ≡ true → does_by marks test es ≡ true

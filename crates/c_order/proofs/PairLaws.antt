@@ -9,7 +9,8 @@ use Rattle.c_order.specs.declared.effect.Effect.{Effect}
 use Rattle.c_order.specs.declared.effect.Effect.TheVariants as does
 use Rattle.c_order.specs.Effects.{AreUnsequenced, CallsOne, Changes, IsCallThatDoes, Meets, MeetsCall, OneOf, SomePair, OfFirst, OfOthers, SomeBehind, Next, Later, Through, Touches, changes, is_call, touches}
 use Rattle.c_order.specs.Deciding.{Tells}
-use Rattle.c_order.proofs.ClashLaws.{met_is_unsequenced, unsequenced_is_met, here, one_that_passes, passes, there}
+use Rattle.c_order.proofs.ClashLaws.{met_is_unsequenced, unsequenced_is_met, one_that_passes, passes}
+use Rattle.c_order.proofs.Lists.{here, there}
 
 -- ---- more effects do no less
 
@@ -96,9 +97,9 @@ module _ (bodies : List (List Effect)) (objects : List Object) where
   pair_of_behind before (es ∷ rest) (Next u) = inl (record { operand = es; among = here es rest; no_order = u })
   pair_of_behind before (es ∷ rest) (Later b) = elim (pair_of_behind (before ++ es) rest b) as (λ _. SomeWith before (es ∷ rest) ⊎ SomePair bodies objects (es ∷ rest)) [
     | inl s ↦ elim (unsequenced_of_two before es s.operand s.no_order) as (λ _. SomeWith before (es ∷ rest) ⊎ SomePair bodies objects (es ∷ rest)) [
-        | inl u ↦ inl (record { operand = s.operand; among = there es s.operand rest s.among; no_order = u })
-        | inr u ↦ inr (OfFirst s.among u)
-      ]
+      | inl u ↦ inl (record { operand = s.operand; among = there es s.operand rest s.among; no_order = u })
+      | inr u ↦ inr (OfFirst s.among u)
+    ]
     | inr p ↦ inr (OfOthers p)
   ]
 

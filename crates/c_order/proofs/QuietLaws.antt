@@ -7,23 +7,8 @@ use Rattle.c_core.specs.declared.tree.Object.{Object}
 use Rattle.c_order.specs.declared.effect.Effect.{Effect}
 use Rattle.c_order.specs.declared.effect.Effect.TheVariants as does
 use Rattle.c_order.specs.Effects.{AreUnsequenced, Changes, IsCallThatDoes, Meets, OneOf, Through, changes, is_quiet, is_read}
+use Rattle.c_order.proofs.Lists.{all_of}
 use Rattle.c_order.proofs.ClashLaws.{one_that_passes, unsequenced_is_met}
-
-pub first_of : (a b : Bool) → (a && b) ≡ true → a ≡ true
-first_of true b h = refl
-first_of false b h = absurd (false≢true h)
-
-pub rest_of : (a b : Bool) → (a && b) ≡ true → b ≡ true
-rest_of true b h = h
-rest_of false b h = absurd (false≢true h)
-
-all_at : {A : Type 0} (test : A → Bool) (xs : List A) (n : ℕ) (x : A) → n < length xs → get_or xs n x ≡ x → list_all test xs ≡ true → test x ≡ true
-all_at test [] n x l g q = absurd (omega (arith, l))
-all_at test (y ∷ xs) zero x l g q = sym (ap test g) ∙ first_of (test y) (list_all test xs) q
-all_at test (y ∷ xs) (suc n) x l g q = all_at test xs n x (omega (arith, l)) g (rest_of (test y) (list_all test xs) q)
-
-pub all_of : {A : Type 0} (test : A → Bool) (xs : List A) (x : A) → Contains xs x → list_all test xs ≡ true → test x ≡ true
-all_of test xs x c q = all_at test xs c.0 x c.1 c.2 q
 
 module _ (bodies : List (List Effect)) (objects : List Object) where
   pub unchanged : (es : List Effect) (o : ℕ) → is_quiet es ≡ true → Changes bodies objects o es → ⊥

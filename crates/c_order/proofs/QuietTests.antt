@@ -9,7 +9,8 @@ use Rattle.c_core.specs.declared.tree.Object.{Object}
 use Rattle.c_order.specs.declared.effect.Effect.{Effect}
 use Rattle.c_order.specs.Effects.{SomePair, OfFirst, OfOthers, is_quiet, is_read}
 use Rattle.c_order.specs.Typed.{ChangedBeside, ChangedInIndex, IsUnorderedIn, Listed, Nothing, Operands, Passed, arguments, below, effects, effects_all, inner, operands, own, target, tested, tested_all, tested_in}
-use Rattle.c_order.proofs.QuietLaws.{first_of, rest_of, all_of, quiet_is_ordered, unchanged}
+use Rattle.c_order.proofs.Lists.{all_of, first_of, rest_of}
+use Rattle.c_order.proofs.QuietLaws.{quiet_is_ordered, unchanged}
 use Rattle.c_order.proofs.WalkLaws.{listed_append}
 
 left_part : (xs ys : List Effect) → is_quiet (xs ++ ys) ≡ true → is_quiet xs ≡ true
@@ -39,7 +40,7 @@ module _ (objects : List Object) (count : ℕ) (bodies : List (List Effect)) whe
   quiet_arguments NoExp q = refl
   quiet_arguments (MoreExp e es) q =
       both_parts (is_quiet (effects objects count false e)) (list_all is_quiet (arguments objects count es)) (left_part (effects objects count false e) (effects_all objects count es) q)
-        (quiet_arguments es (right_part (effects objects count false e) (effects_all objects count es) q))
+      (quiet_arguments es (right_part (effects objects count false e) (effects_all objects count es) q))
 
   unchanged_index : (t : Option ℕ) (a : Exp) → is_quiet (below objects count a) ≡ true → ChangedInIndex objects count bodies t a → ⊥
   unchanged_index None a q c = c
@@ -49,7 +50,7 @@ module _ (objects : List Object) (count : ℕ) (bodies : List (List Effect)) whe
   unchanged_beside None a b q r c = c
   unchanged_beside (Some o) a b q r c =
       unchanged bodies objects (below objects count a ++ effects objects count false b) o
-        (list_all-append is_read (below objects count a) (effects objects count false b) ∙ both_parts (is_quiet (below objects count a)) (is_quiet (effects objects count false b)) q r) (inl c)
+      (list_all-append is_read (below objects count a) (effects objects count false b) ∙ both_parts (is_quiet (below objects count a)) (is_quiet (effects objects count false b)) q r) (inl c)
 
   quiet_node : (n : Node) → is_quiet (inner objects count n) ≡ true → IsUnorderedIn objects count bodies n → ⊥
   quiet_node n q (inl p) = no_pair (operands objects count n) (each_quiet n q) p
@@ -88,7 +89,7 @@ module _ (objects : List Object) (count : ℕ) (bodies : List (List Effect)) whe
     pub quiet_tested : (e : Exp) (stored : Bool) → is_quiet (effects objects count stored e) ≡ true → Listed objects count bodies (tested e) []
     quiet_tested (Expr p ty n) stored q =
         listed_append objects count bodies (tested_in n) (Operands (Expr p ty n) ∷ []) [] [] (quiet_in n (right_part (own objects count stored n) (inner objects count n) q))
-          (Passed (quiet_node n (right_part (own objects count stored n) (inner objects count n) q)) Nothing)
+        (Passed (quiet_node n (right_part (own objects count stored n) (inner objects count n) q)) Nothing)
 
     quiet_in : (n : Node) → is_quiet (inner objects count n) ≡ true → Listed objects count bodies (tested_in n) []
     quiet_in (Const v) q = Nothing
@@ -103,8 +104,8 @@ module _ (objects : List Object) (count : ℕ) (bodies : List (List Effect)) whe
         listed_append objects count bodies (tested a) (tested b) [] [] (quiet_tested a false (left_part (effects objects count false a) (effects objects count false b) q)) (quiet_tested b false (right_part (effects objects count false a) (effects objects count false b) q))
     quiet_in (Choose mark e a b) q =
         listed_append objects count bodies (tested e ++ tested a) (tested b) [] []
-          (listed_append objects count bodies (tested e) (tested a) [] [] (quiet_tested e false (left_part (effects objects count false e) (effects objects count false a) (left_part (effects objects count false e ++ effects objects count false a) (effects objects count false b) q))) (quiet_tested a false (right_part (effects objects count false e) (effects objects count false a) (left_part (effects objects count false e ++ effects objects count false a) (effects objects count false b) q))))
-          (quiet_tested b false (right_part (effects objects count false e ++ effects objects count false a) (effects objects count false b) q))
+        (listed_append objects count bodies (tested e) (tested a) [] [] (quiet_tested e false (left_part (effects objects count false e) (effects objects count false a) (left_part (effects objects count false e ++ effects objects count false a) (effects objects count false b) q))) (quiet_tested a false (right_part (effects objects count false e) (effects objects count false a) (left_part (effects objects count false e ++ effects objects count false a) (effects objects count false b) q))))
+        (quiet_tested b false (right_part (effects objects count false e ++ effects objects count false a) (effects objects count false b) q))
     quiet_in (Comma a b) q =
         listed_append objects count bodies (tested a) (tested b) [] [] (quiet_tested a false (left_part (effects objects count false a) (effects objects count false b) q)) (quiet_tested b false (right_part (effects objects count false a) (effects objects count false b) q))
     quiet_in (Assign op a b) q =
@@ -115,4 +116,4 @@ module _ (objects : List Object) (count : ℕ) (bodies : List (List Effect)) whe
     quiet_all NoExp q = Nothing
     quiet_all (MoreExp e es) q =
         listed_append objects count bodies (tested e) (tested_all es) [] [] (quiet_tested e false (left_part (effects objects count false e) (effects_all objects count es) q))
-          (quiet_all es (right_part (effects objects count false e) (effects_all objects count es) q))
+        (quiet_all es (right_part (effects objects count false e) (effects_all objects count es) q))

@@ -27,11 +27,11 @@ same_after a b c s t = record { bodies = t.bodies ∙ s.bodies; objects = t.obje
 
 -- in the same source
 same_listed : (a b : Walk) (ts : List Test) (ps : List Spot) → IsSameWalk a b → Listed (objects_of b.source) (count_of b.source) (bodies_of b.source) ts ps
-  → Listed (objects_of a.source) (count_of a.source) (bodies_of a.source) ts ps
+    → Listed (objects_of a.source) (count_of a.source) (bodies_of a.source) ts ps
 same_listed a b ts ps s l =
     subst (λ o. Listed o (count_of a.source) (bodies_of a.source) ts ps) s.objects
-      (subst (λ n. Listed (objects_of b.source) n (bodies_of a.source) ts ps) s.count
-        (subst (λ f. Listed (objects_of b.source) (count_of b.source) f ts ps) s.bodies l))
+    (subst (λ n. Listed (objects_of b.source) n (bodies_of a.source) ts ps) s.count
+    (subst (λ f. Listed (objects_of b.source) (count_of b.source) f ts ps) s.bodies l))
 
 pub gone_both : (a b c : Walk) (ts us : List Test) → IsSameWalk a b → IsGone a b ts → IsGone b c us → IsGone a c (ts ++ us)
 gone_both a b c ts us s g h = record {
@@ -50,7 +50,7 @@ pub gone_quiet : (a b : Walk) (ts : List Test) → Listed (objects_of a.source) 
 gone_quiet a b ts l e = record { spots = []; listed = l; added = e ∙ sym (append-nil a.unordered.items) }
 
 pub gone_noted : (a b : Walk) (t : Test) (found : Bool) → Tells found (IsFound (objects_of a.source) (count_of a.source) (bodies_of a.source) t)
-  → b.unordered.items ≡ a.unordered.items ++ cond found (place t ∷ []) [] → IsGone a b (t ∷ [])
+    → b.unordered.items ≡ a.unordered.items ++ cond found (place t ∷ []) [] → IsGone a b (t ∷ [])
 gone_noted a b t true told e = record { spots = place t ∷ []; listed = Told (told.0 refl) Nothing; added = e }
 gone_noted a b t false told e = record { spots = []; listed = Passed (λ f. false≢true (told.1 f)) Nothing; added = e }
 
@@ -61,10 +61,10 @@ tested_push [] e = append-nil (tested (expr_view e))
 tested_push (d ∷ es) e = ap (λ ts. tested (expr_view d) ++ ts) (tested_push es e) ∙ sym (append_assoc (tested (expr_view d)) (tested_all (exprs_view es)) (tested (expr_view e)))
 
 pub gone_one_more : (a b c : Walk) (es : List Expr) (i : ℕ) (e : Expr) → i < length es → e ≡ get_or es i e → IsSameWalk a b
-  → IsGone a b (tested_all (exprs_view (take i es))) → IsGone b c (tested (expr_view e)) → IsGone a c (tested_all (exprs_view (take (i + 1) es)))
+    → IsGone a b (tested_all (exprs_view (take i es))) → IsGone b c (tested (expr_view e)) → IsGone a c (tested_all (exprs_view (take (i + 1) es)))
 gone_one_more a b c es i e l is s g h =
     subst (IsGone a c) (sym (ap (λ xs. tested_all (exprs_view xs)) (take_more es i e l ∙ ap (λ x. take i es ++ x ∷ []) (sym is)) ∙ tested_push (take i es) e))
-      (gone_both a b c (tested_all (exprs_view (take i es))) (tested (expr_view e)) s g h)
+    (gone_both a b c (tested_all (exprs_view (take i es))) (tested (expr_view e)) s g h)
 
 pub gone_all : (a b : Walk) (es : List Expr) (i : ℕ) → length es ≤ i → IsGone a b (tested_all (exprs_view (take i es))) → IsGone a b (tested_all (exprs_view es))
 gone_all a b es i l g = subst (λ xs. IsGone a b (tested_all (exprs_view xs))) (take_all i es l) g

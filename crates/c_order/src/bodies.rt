@@ -14,7 +14,11 @@ pub struct FullExpression<'a> {
     pub value: &'a Expr,
 }
 
-fn push<'a>(list: &mut Vec<FullExpression<'a>>, object: Option<u32>, value: &'a Expr) -> Result<(), OutOfMemory>
+fn push<'a>(
+    list: &mut Vec<FullExpression<'a>>,
+    object: Option<u32>,
+    value: &'a Expr,
+) -> Result<(), OutOfMemory>
     ensures { OnOk result (fulls_view list.new.items ≡ fulls_view list.old.items ++ full object (expr_view value.now) ∷ []) }
 {
     list.push(FullExpression { object, value })?;
@@ -30,7 +34,11 @@ fn push_if<'a>(list: &mut Vec<FullExpression<'a>>, e: &'a Option<Expr>) -> Resul
     Ok(())
 }
 
-fn push_initializers<'a>(list: &mut Vec<FullExpression<'a>>, object: u32, es: &'a [Expr]) -> Result<(), OutOfMemory>
+fn push_initializers<'a>(
+    list: &mut Vec<FullExpression<'a>>,
+    object: u32,
+    es: &'a [Expr],
+) -> Result<(), OutOfMemory>
     ensures { OnOk result (fulls_view list.new.items ≡ fulls_view list.old.items ++ initializers object (exprs_view es.now)) }
 {
     for e in es {
@@ -39,7 +47,11 @@ fn push_initializers<'a>(list: &mut Vec<FullExpression<'a>>, object: u32, es: &'
     Ok(())
 }
 
-fn push_init<'a>(list: &mut Vec<FullExpression<'a>>, object: u32, init: &'a Init) -> Result<(), OutOfMemory>
+fn push_init<'a>(
+    list: &mut Vec<FullExpression<'a>>,
+    object: u32,
+    init: &'a Init,
+) -> Result<(), OutOfMemory>
     ensures { OnOk result (fulls_view list.new.items ≡ fulls_view list.old.items ++ fulls_of_init object (init_view init.now)) }
 {
     match init {
@@ -49,7 +61,10 @@ fn push_init<'a>(list: &mut Vec<FullExpression<'a>>, object: u32, init: &'a Init
     }
 }
 
-fn push_names<'a>(list: &mut Vec<FullExpression<'a>>, names: &'a [Declared]) -> Result<(), OutOfMemory>
+fn push_names<'a>(
+    list: &mut Vec<FullExpression<'a>>,
+    names: &'a [Declared],
+) -> Result<(), OutOfMemory>
     ensures { OnOk result (fulls_view list.new.items ≡ fulls_view list.old.items ++ fulls_of_names (names_view names.now)) }
 {
     for name in names {

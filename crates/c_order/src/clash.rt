@@ -199,7 +199,12 @@ impl<'a> Source<'a> {
         self.some_call_touches(effects, object)
     }
 
-    fn has_changed(&mut self, seen: &Seen, before: &[Effect], object: u32) -> Result<bool, OutOfMemory>
+    fn has_changed(
+        &mut self,
+        seen: &Seen,
+        before: &[Effect],
+        object: u32,
+    ) -> Result<bool, OutOfMemory>
         requires known { IsKnown self.old }
         requires seen { IsSeen seen.now before.now }
         ensures same { IsSameSource self.old self.new }
@@ -211,7 +216,12 @@ impl<'a> Source<'a> {
         self.some_call_changes(before, object)
     }
 
-    fn has_touched(&mut self, seen: &Seen, before: &[Effect], object: u32) -> Result<bool, OutOfMemory>
+    fn has_touched(
+        &mut self,
+        seen: &Seen,
+        before: &[Effect],
+        object: u32,
+    ) -> Result<bool, OutOfMemory>
         requires known { IsKnown self.old }
         requires seen { IsSeen seen.now before.now }
         ensures same { IsSameSource self.old self.new }
@@ -223,7 +233,12 @@ impl<'a> Source<'a> {
         self.some_call_touches(before, object)
     }
 
-    fn meets_new_call(&mut self, seen: &Seen, before: &[Effect], function: u32) -> Result<bool, OutOfMemory>
+    fn meets_new_call(
+        &mut self,
+        seen: &Seen,
+        before: &[Effect],
+        function: u32,
+    ) -> Result<bool, OutOfMemory>
         requires known { IsKnown self.old }
         requires seen { IsSeen seen.now before.now }
         ensures same { IsSameSource self.old self.new }
@@ -251,7 +266,12 @@ impl<'a> Source<'a> {
 
     /// Whether one of these effects has no order with those before them.
     #[tactic(auto, using(crate::proofs::ClashLaws::none_more))]
-    pub fn some_meets(&mut self, seen: &Seen, before: &[Effect], effects: &[Effect]) -> Result<bool, OutOfMemory>
+    pub fn some_meets(
+        &mut self,
+        seen: &Seen,
+        before: &[Effect],
+        effects: &[Effect],
+    ) -> Result<bool, OutOfMemory>
         requires known { IsKnown self.old }
         requires seen { IsSeen seen.now before.now }
         ensures same { IsSameSource self.old self.new }
@@ -267,7 +287,11 @@ impl<'a> Source<'a> {
 
     /// Whether two operands have no order.
     #[tactic(auto, using(crate::proofs::ClashLaws::met_is_unsequenced, crate::proofs::ClashLaws::unsequenced_is_met, crate::proofs::QuietLaws::quiet_is_ordered))]
-    pub fn are_unsequenced(&mut self, before: &[Effect], after: &[Effect]) -> Result<bool, OutOfMemory>
+    pub fn are_unsequenced(
+        &mut self,
+        before: &[Effect],
+        after: &[Effect],
+    ) -> Result<bool, OutOfMemory>
         requires { IsKnown self.old }
         ensures same { IsSameSource self.old self.new }
         ensures told { IfOk result (λ b. Tells b (AreUnsequenced (bodies_of self.old) (objects_of self.old) before.now after.now)) }

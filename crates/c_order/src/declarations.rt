@@ -4,7 +4,7 @@ ghost use Rattle.c_core.specs.TreeView.{expr_view, exprs_view, node_view, stmt_v
 ghost use Rattle.c_order.specs.Bodies.{effects_of_fulls, fulls, fulls_view};
 ghost use Rattle.c_order.specs.Typed.{effects, effects_all, inner, on_call, on_object, own};
 
-use crate::bodies::{fulls_of, FullExpression};
+use crate::bodies::{FullExpression, fulls_of};
 use crate::effect::Effect;
 use c_core::{Callee, Expr, Node, Object, Stmt};
 use std::alloc::Global;
@@ -28,14 +28,27 @@ impl<'a> Declarations<'a> {
     pub fn known(&self, object: u32) -> Option<u32>
         ensures { result ≡ cond (is_some (slice_get self.now.objects.now object)) (Some object) None }
     {
-        if self.is_object(object) { Some(object) } else { None }
+        if self.is_object(object) {
+            Some(object)
+        } else {
+            None
+        }
     }
 
-    fn push_object(&self, list: &mut Vec<Effect>, stored: bool, object: u32) -> Result<(), OutOfMemory>
+    fn push_object(
+        &self,
+        list: &mut Vec<Effect>,
+        stored: bool,
+        object: u32,
+    ) -> Result<(), OutOfMemory>
         ensures { OnOk result (list.new.items ≡ list.old.items ++ on_object self.now.objects.now self.now.bodies stored object) }
     {
         if self.is_object(object) {
-            list.push(if stored { Effect::Changes(object) } else { Effect::Reads(object) })?;
+            list.push(if stored {
+                Effect::Changes(object)
+            } else {
+                Effect::Reads(object)
+            })?;
         }
         Ok(())
     }
@@ -43,7 +56,9 @@ impl<'a> Declarations<'a> {
     fn push_call(&self, list: &mut Vec<Effect>, callee: Callee) -> Result<(), OutOfMemory>
         ensures { OnOk result (list.new.items ≡ list.old.items ++ on_call self.now.objects.now self.now.bodies callee) }
     {
-        if let Callee::Defined(function) = callee && function < self.bodies {
+        if let Callee::Defined(function) = callee
+            && function < self.bodies
+        {
             list.push(Effect::Calls(function))?;
         }
         Ok(())
@@ -119,7 +134,11 @@ impl<'a> Declarations<'a> {
         Ok(())
     }
 
-    fn push_fulls(&self, list: &mut Vec<Effect>, fulls: &[FullExpression<'_>]) -> Result<(), OutOfMemory>
+    fn push_fulls(
+        &self,
+        list: &mut Vec<Effect>,
+        fulls: &[FullExpression<'_>],
+    ) -> Result<(), OutOfMemory>
         ensures { OnOk result (list.new.items ≡ list.old.items ++ effects_of_fulls self.now.objects.now self.now.bodies (fulls_view fulls.now)) }
     {
         for full in fulls {
@@ -129,7 +148,12 @@ impl<'a> Declarations<'a> {
     }
 
     /// Appends what the body of a function does.
-    pub fn push_body(&self, alloc: Global, list: &mut Vec<Effect>, body: &Stmt) -> Result<(), OutOfMemory>
+    pub fn push_body(
+        &self,
+        alloc: Global,
+        list: &mut Vec<Effect>,
+        body: &Stmt,
+    ) -> Result<(), OutOfMemory>
         ensures { OnOk result (list.new.items ≡ list.old.items ++ effects_of_fulls self.now.objects.now self.now.bodies (fulls (stmt_view body.now))) }
     {
         let fulls = fulls_of(alloc, body)?;

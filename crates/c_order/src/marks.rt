@@ -28,7 +28,11 @@ pub fn touches(effect: Effect, object: u32) -> bool
 fn is_wanted(effect: Effect, only_changes: bool, object: u32) -> bool
     ensures { result ≡ wanted only_changes object effect }
 {
-    if only_changes { changes(effect, object) } else { touches(effect, object) }
+    if only_changes {
+        changes(effect, object)
+    } else {
+        touches(effect, object)
+    }
 }
 
 pub fn is_marked(marks: &[bool], function: u32) -> bool
@@ -50,12 +54,18 @@ fn calls_marked(marks: &[bool], effect: Effect) -> bool
 fn does_by(marks: &[bool], body: &[Effect], only_changes: bool, object: u32) -> bool
     ensures { result ≡ does_by marks.now (wanted only_changes object) body.now }
 {
-    body.iter()
-        .any(|effect| is_wanted(*effect, only_changes, object) || calls_marked(marks, *effect))
+    body.iter().any(|effect| is_wanted(*effect, only_changes, object)
+        || calls_marked(marks, *effect))
 }
 
 /// Marks a function that does so by the marks so far; tells whether it was added.
-fn visit(bodies: &[Seq<Effect>], marks: &mut [bool], function: usize, only_changes: bool, object: u32) -> bool
+fn visit(
+    bodies: &[Seq<Effect>],
+    marks: &mut [bool],
+    function: usize,
+    only_changes: bool,
+    object: u32,
+) -> bool
     requires function { function < length bodies.now }
     requires length { length marks.old ≡ length bodies.now }
     ensures length { length marks.new ≡ length marks.old }
@@ -115,7 +125,12 @@ fn mark_all(bodies: &[Seq<Effect>], marks: &mut [bool], only_changes: bool, obje
 
 /// The marks of the functions that change an object, themselves or through calls, or that touch it.
 #[tactic(auto, using(crate::proofs::MarkLaws::written_back, crate::proofs::MarkLaws::none_marked))]
-pub fn marks_of(alloc: Global, bodies: &[Seq<Effect>], only_changes: bool, object: u32) -> Result<Vec<bool>, OutOfMemory>
+pub fn marks_of(
+    alloc: Global,
+    bodies: &[Seq<Effect>],
+    only_changes: bool,
+    object: u32,
+) -> Result<Vec<bool>, OutOfMemory>
     ensures { IfOk result (λ marks. AreMarks bodies.now (wanted only_changes object) marks.items) }
 {
     let mut marks = Vec::new(alloc);

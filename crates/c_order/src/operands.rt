@@ -4,7 +4,7 @@ ghost use Rattle.c_core.specs.TreeView.{expr_view, exprs_view, node_view};
 ghost use Rattle.c_order.specs.Deciding.{IsKnown, IsSameSource, IsSeen, Tells};
 ghost use Rattle.c_order.specs.Walking.{AreUnsequencedBy, ChangedBesideBy, ChangedInIndexBy, IsUnorderedBy, SomePairBy, arguments_by, below_by, effects_by, target_by};
 
-use crate::clash::{one_changes, Source};
+use crate::clash::{Source, one_changes};
 use crate::effect::Effect;
 use crate::seen::Seen;
 use c_core::{Expr, Node};
@@ -115,7 +115,12 @@ impl<'a> Source<'a> {
     }
 
     /// Whether an argument has no order with those before it; behind that it counts among them.
-    fn joins_unordered(&mut self, seen: &mut Seen, before: &mut Vec<Effect>, arg: &Expr) -> Result<bool, OutOfMemory>
+    fn joins_unordered(
+        &mut self,
+        seen: &mut Seen,
+        before: &mut Vec<Effect>,
+        arg: &Expr,
+    ) -> Result<bool, OutOfMemory>
         requires known { IsKnown self.old }
         requires seen { IsSeen seen.old before.old.items }
         ensures same { IsSameSource self.old self.new }

@@ -2,7 +2,9 @@
 use crate::declarations::Declarations;
 use crate::effect::Effect;
 use crate::walk::Walk;
-use c_core::{BinOp, Callee, Declared, Expr, Form, Init, IntType, Node, Object, Spot, StepOp, Stmt};
+use c_core::{
+    BinOp, Callee, Declared, Expr, Form, Init, IntType, Node, Object, Spot, StepOp, Stmt,
+};
 use std::alloc::Global;
 use std::test::Fail;
 use wv_base::{OutOfMemory, Seq, Text};
@@ -11,12 +13,16 @@ const SPOT: Spot = Spot { line: 1, column: 1 };
 
 // Two objects of blocks, x and y, and the static g.
 const X: u32 = 0;
+
 const Y: u32 = 1;
+
 const G: u32 = 2;
 
 // The first function changes g, the next calls that one, and the last reads g.
 const CHANGES_G: u32 = 0;
+
 const CALLS: u32 = 1;
+
 const READS_G: u32 = 2;
 
 fn typed(node: Node) -> Expr {
@@ -163,7 +169,10 @@ fn block(alloc: Global) -> Result<Stmt, OutOfMemory> {
 fn operands_that_change_objects(rt: HostRuntime) -> Result<(), Fail> {
     let alloc = rt.alloc();
     assert_eq!(rt; count(alloc, assign(alloc, X, step(alloc, X)?)?)?, 1);
-    assert_eq!(rt; count(alloc, assign(alloc, X, sum(alloc, var(X), var(Y))?)?)?, 0);
+    assert_eq!(rt;
+        count(alloc, assign(alloc, X, sum(alloc, var(X), var(Y))?)?)?,
+        0
+    );
     assert_eq!(rt; count(alloc, sum(alloc, step(alloc, X)?, var(X))?)?, 1);
     assert_eq!(rt; count(alloc, sum(alloc, step(alloc, X)?, var(Y))?)?, 0);
     Ok(())
@@ -172,10 +181,23 @@ fn operands_that_change_objects(rt: HostRuntime) -> Result<(), Fail> {
 #[test]
 fn operands_that_call(rt: HostRuntime) -> Result<(), Fail> {
     let alloc = rt.alloc();
-    assert_eq!(rt; count(alloc, sum(alloc, var(G), call_of_none(alloc, CALLS))?)?, 1);
-    assert_eq!(rt; count(alloc, sum(alloc, var(X), call_of_none(alloc, CALLS))?)?, 0);
-    assert_eq!(rt; count(alloc, sum(alloc, var(G), call_of_none(alloc, READS_G))?)?, 0);
-    let both = sum(alloc, call_of_none(alloc, READS_G), call_of_none(alloc, READS_G))?;
+    assert_eq!(rt;
+        count(alloc, sum(alloc, var(G), call_of_none(alloc, CALLS))?)?,
+        1
+    );
+    assert_eq!(rt;
+        count(alloc, sum(alloc, var(X), call_of_none(alloc, CALLS))?)?,
+        0
+    );
+    assert_eq!(rt;
+        count(alloc, sum(alloc, var(G), call_of_none(alloc, READS_G))?)?,
+        0
+    );
+    let both = sum(
+        alloc,
+        call_of_none(alloc, READS_G),
+        call_of_none(alloc, READS_G),
+    )?;
     assert_eq!(rt; count(alloc, both)?, 1);
     Ok(())
 }
@@ -183,8 +205,14 @@ fn operands_that_call(rt: HostRuntime) -> Result<(), Fail> {
 #[test]
 fn arguments_that_change_objects(rt: HostRuntime) -> Result<(), Fail> {
     let alloc = rt.alloc();
-    assert_eq!(rt; count(alloc, call_of_two(alloc, READS_G, var(X), step(alloc, X)?)?)?, 1);
-    assert_eq!(rt; count(alloc, call_of_two(alloc, READS_G, var(Y), step(alloc, X)?)?)?, 0);
+    assert_eq!(rt;
+        count(alloc, call_of_two(alloc, READS_G, var(X), step(alloc, X)?)?)?,
+        1
+    );
+    assert_eq!(rt;
+        count(alloc, call_of_two(alloc, READS_G, var(Y), step(alloc, X)?)?)?,
+        0
+    );
     Ok(())
 }
 
@@ -193,7 +221,10 @@ fn initializers(rt: HostRuntime) -> Result<(), Fail> {
     let alloc = rt.alloc();
     assert_eq!(rt; count_in_initializer(alloc, X, var(X))?, 1);
     assert_eq!(rt; count_in_initializer(alloc, X, var(Y))?, 0);
-    assert_eq!(rt; count_in_initializer(alloc, G, call_of_none(alloc, CALLS))?, 1);
+    assert_eq!(rt;
+        count_in_initializer(alloc, G, call_of_none(alloc, CALLS))?,
+        1
+    );
     Ok(())
 }
 

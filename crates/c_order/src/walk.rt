@@ -6,8 +6,8 @@ ghost use Rattle.c_order.specs.Deciding.{bodies_of, count_of, objects_of};
 ghost use Rattle.c_order.specs.Typed.{Initial, Operands, tested, tested_all, tested_in};
 ghost use Rattle.c_order.specs.Walking.{IsGone, IsReady, IsSameWalk};
 
-use crate::bodies::{fulls_of, FullExpression};
-use crate::clash::{is_quiet, Source};
+use crate::bodies::{FullExpression, fulls_of};
+use crate::clash::{Source, is_quiet};
 use crate::declarations::Declarations;
 use crate::effect::Effect;
 use c_core::{Expr, Node, Spot, Stmt};

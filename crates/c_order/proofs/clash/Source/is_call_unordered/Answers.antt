@@ -28,9 +28,10 @@ returns-then-branch-clause-told c =
     let s = c.args.self.now in
     let e = expr_view c.arg-item.result in
     let next = next_argument s c.args.args.now c.loop-arg.arg-index c.arg-item.result c.loop-arg-test.true c.arg-item.is in
-    let told = told_at s c.loop-arg.self c.in_ok-joins_unordered.field-0 c.loop-arg.before.items e c.loop-arg.invariant.same c.in_ok-joins_unordered.ensures.told in
-    ( λ h. c.loop-arg.invariant.forth (subst (SomeBehind (bodies_of s) (objects_of s) c.loop-arg.before.items) (sym next) (Next (told.0 c.if-branch.true))),
-      λ p. refl )
+    let told = told_at s c.loop-arg.self c.in_ok-joins_unordered.field-0 c.loop-arg.before.items e c.loop-arg.invariant.same c.in_ok-joins_unordered.ensures.told in (
+      λ h. c.loop-arg.invariant.forth (subst (SomeBehind (bodies_of s) (objects_of s) c.loop-arg.before.items) (sym next) (Next (told.0 c.if-branch.true))),
+      λ p. refl,
+    )
 
 pub loop-arg-preserved : goal.loop-arg-preserved
 loop-arg-preserved c =
@@ -48,12 +49,13 @@ loop-arg-preserved c =
       seen = c.in_ok-joins_unordered.ensures.seen;
       forth = λ b. c.loop-arg.invariant.forth (subst (SomeBehind (bodies_of s) (objects_of s) before) (sym next) (Later (subst (λ xs. SomeBehind (bodies_of s) (objects_of s) xs rest) joined b)));
       back = λ p. subst (λ xs. SomeBehind (bodies_of s) (objects_of s) xs rest) (sym joined)
-        (one_behind (bodies_of s) (objects_of s) before (effects_by s e) rest (λ u. false≢true (sym c.if-branch.false ∙ told.1 u)) (subst (SomeBehind (bodies_of s) (objects_of s) before) next (c.loop-arg.invariant.back p)));
+          (one_behind (bodies_of s) (objects_of s) before (effects_by s e) rest (λ u. false≢true (sym c.if-branch.false ∙ told.1 u)) (subst (SomeBehind (bodies_of s) (objects_of s) before) next (c.loop-arg.invariant.back p)));
     }
 
 pub returns-clause-told : goal.returns-clause-told
 returns-clause-told c =
-    let s = c.args.self.now in
-    ( λ h. absurd (false≢true h),
+    let s = c.args.self.now in (
+      λ h. absurd (false≢true h),
       λ p. absurd (none_behind (bodies_of s) (objects_of s) c.loop-arg.before.items
-        (subst (λ xs. SomeBehind (bodies_of s) (objects_of s) c.loop-arg.before.items (arguments_by s (exprs_view xs))) (drop_all c.loop-arg.arg-index c.args.args.now c.loop-arg-test.false) (c.loop-arg.invariant.back p))) )
+          (subst (λ xs. SomeBehind (bodies_of s) (objects_of s) c.loop-arg.before.items (arguments_by s (exprs_view xs))) (drop_all c.loop-arg.arg-index c.args.args.now c.loop-arg-test.false) (c.loop-arg.invariant.back p))),
+    )

@@ -13,5 +13,5 @@ returns-in_ok-told-in-Call-clause-told c =
     let b = c.in_ok-told-in-Call.told in
     let e : node_view c.args.node.now ≡ Call c.in-Call.callee (exprs_view c.in-Call.args) c.in-Call.close = ap node_view c.in-Call.is ∙ view_of_call c.in-Call.callee c.in-Call.args c.in-Call.close in
     subst (λ n. Tells b (IsUnorderedBy s n)) (sym e)
-      (told_alone b (SomePairBy s (arguments_by s (exprs_view c.in-Call.args)))
-        (subst (λ es. Tells b (SomePairBy s (arguments_by s (exprs_view es)))) c.as_slice.ensures c.in_ok-told-in-Call.ensures.told))
+    (told_alone b (SomePairBy s (arguments_by s (exprs_view c.in-Call.args)))
+    (subst (λ es. Tells b (SomePairBy s (arguments_by s (exprs_view es)))) c.as_slice.ensures c.in_ok-told-in-Call.ensures.told))

@@ -7,4 +7,4 @@ use Rattle.c_order.proofs.declarations.Declarations.+effects.Given as goal
 abbrev pub invariant-push_all-loop-e : goal.invariant-push_all-loop-e
 invariant-push_all-loop-e l =
     (l.list.items ++ effects_all l.self.objects.now l.self.bodies (exprs_view (drop l.e-index l.es))
-      ≡ l.fn.list.items ++ effects_all l.self.objects.now l.self.bodies (exprs_view l.es))
+    ≡ l.fn.list.items ++ effects_all l.self.objects.now l.self.bodies (exprs_view l.es))

@@ -6,4 +6,4 @@ use Rattle.c_order.proofs.declarations.Declarations.push_fulls.Given as goal
 abbrev pub invariant-loop-full : goal.invariant-loop-full
 invariant-loop-full l =
     (l.list.items ++ effects_of_fulls l.self.objects.now l.self.bodies (fulls_view (drop l.full-index l.fulls))
-      ≡ l.initial.list.items ++ effects_of_fulls l.self.objects.now l.self.bodies (fulls_view l.fulls))
+    ≡ l.initial.list.items ++ effects_of_fulls l.self.objects.now l.self.bodies (fulls_view l.fulls))

@@ -11,5 +11,5 @@ pub returns-then-is_quiet-clause-gone : goal.returns-then-is_quiet-clause-gone
 returns-then-is_quiet-clause-gone c =
     let s = c.args.self.now.source in
     gone_quiet c.args.self.now c.args.self.now (tested (expr_view c.args.e.now))
-      (quiet_tested (objects_of s) (count_of s) (bodies_of s) (expr_view c.args.e.now) false
-        (ap is_quiet (sym (c.as_slice.ensures.value ∙ c.in_ok-effects.ensures)) ∙ sym c.if-is_quiet.ensures)) refl
+    (quiet_tested (objects_of s) (count_of s) (bodies_of s) (expr_view c.args.e.now) false
+    (ap is_quiet (sym (c.as_slice.ensures.value ∙ c.in_ok-effects.ensures)) ∙ sym c.if-is_quiet.ensures)) refl
