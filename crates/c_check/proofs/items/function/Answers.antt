@@ -30,12 +30,12 @@ close-requires c =
     let b = statements_of (stmt_view c.args.body.now) in
     let within = inside s c.args.name.now c.args.gives xs in
     let declared = with_entry s (entry_of_function c.args.name.now c.args.gives xs) in
-    let u1 : scope_at c.open.new.self ≡ within = c.open.ensures.scope ∙ ap opened c.in_ok-declare.ensures.scope in
+    let u1 : scope_at c.open-outside.new.self ≡ within = c.open-outside.ensures.scope ∙ ap opened c.in_ok-declare.ensures.scope in
     let u2 : scope_at c.parameters.new.walk ≡ after_parameters within xs = c.in_ok-params.ensures.scope ∙ ap (λ (y : Scope). after_parameters y xs) u1 in
     let u3 : scope_at c.statements.new.walk ≡ after_block m bodies (after_parameters within xs) b =
       c.in_ok-block.ensures.scope ∙ ap (after_block m bodies (scope_at c.parameters.new.walk)) c.statements_in.ensures ∙ ap (λ (y : Scope). after_block m bodies y b) u2 in
-    stands_outside declared (after_block m bodies (after_parameters within xs) b) (scope_at c.statements.new.walk) c.open.result
-      (c.open.ensures.outside ∙ ap (λ (y : Scope). length y.outer) c.in_ok-declare.ensures.scope) u3
+    stands_outside declared (after_block m bodies (after_parameters within xs) b) (scope_at c.statements.new.walk) c.open-outside.result
+      (c.open-outside.ensures.outside ∙ ap (λ (y : Scope). length y.outer) c.in_ok-declare.ensures.scope) u3
       (kept_by_block m bodies (after_parameters within xs) b ∙ kept_by_parameters within xs)
 
 pub returns-clause-typed : goal.returns-clause-typed
@@ -47,7 +47,7 @@ returns-clause-typed c =
     let xs = map param_view c.args.xs.now in
     let b = statements_of (stmt_view c.args.body.now) in
     let within = inside s c.args.name.now c.args.gives xs in
-    let u1 : scope_at c.open.new.self ≡ within = c.open.ensures.scope ∙ ap opened c.in_ok-declare.ensures.scope in
+    let u1 : scope_at c.open-outside.new.self ≡ within = c.open-outside.ensures.scope ∙ ap opened c.in_ok-declare.ensures.scope in
     let u2 : scope_at c.parameters.new.walk ≡ after_parameters within xs = c.in_ok-params.ensures.scope ∙ ap (λ (y : Scope). after_parameters y xs) u1 in
     same_function c.args.gives _ _ _ _
       (c.in_ok-params.ensures.numbers ∙ ap (λ (y : Scope). numbers_from m bodies (length y.objects) xs) u1)
@@ -62,13 +62,13 @@ returns-clause-scope c =
     let b = statements_of (stmt_view c.args.body.now) in
     let within = inside s c.args.name.now c.args.gives xs in
     let declared = with_entry s (entry_of_function c.args.name.now c.args.gives xs) in
-    let u1 : scope_at c.open.new.self ≡ within = c.open.ensures.scope ∙ ap opened c.in_ok-declare.ensures.scope in
+    let u1 : scope_at c.open-outside.new.self ≡ within = c.open-outside.ensures.scope ∙ ap opened c.in_ok-declare.ensures.scope in
     let u2 : scope_at c.parameters.new.walk ≡ after_parameters within xs = c.in_ok-params.ensures.scope ∙ ap (λ (y : Scope). after_parameters y xs) u1 in
     let u3 : scope_at c.statements.new.walk ≡ after_block m bodies (after_parameters within xs) b =
       c.in_ok-block.ensures.scope ∙ ap (after_block m bodies (scope_at c.parameters.new.walk)) c.statements_in.ensures ∙ ap (λ (y : Scope). after_block m bodies y b) u2 in
     c.in_ok-note_labels.ensures.scope
-    ∙ closes declared (after_block m bodies (after_parameters within xs) b) (scope_at c.statements.new.walk) (scope_at c.close.new.self) c.open.result
-      (c.open.ensures.outside ∙ ap (λ (y : Scope). length y.outer) c.in_ok-declare.ensures.scope) u3
+    ∙ closes declared (after_block m bodies (after_parameters within xs) b) (scope_at c.statements.new.walk) (scope_at c.close.new.self) c.open-outside.result
+      (c.open-outside.ensures.outside ∙ ap (λ (y : Scope). length y.outer) c.in_ok-declare.ensures.scope) u3
       (kept_by_block m bodies (after_parameters within xs) b ∙ kept_by_parameters within xs) c.close.ensures.scope
 
 pub returns-clause-noted : goal.returns-clause-noted
@@ -80,16 +80,16 @@ returns-clause-noted c =
     let xs = map param_view c.args.xs.now in
     let body = stmt_view c.args.body.now in
     let within = inside s c.args.name.now c.args.gives xs in
-    let n1 = scope_at c.open.new.self in
+    let n1 = scope_at c.open-outside.new.self in
     let n2 = scope_at c.parameters.new.walk in
-    let u1 : n1 ≡ within = c.open.ensures.scope ∙ ap opened c.in_ok-declare.ensures.scope in
+    let u1 : n1 ≡ within = c.open-outside.ensures.scope ∙ ap opened c.in_ok-declare.ensures.scope in
     let pp : Scope → List Part = λ y. parts_of_parameters y xs in
     let pb : Scope → List Part = λ y. parts_of_block m bodies c.args.gives false y (statements_of body) in
     let pl = parts_of_labels [] (labels_of body) in
     let all : Scope → List Part = λ y. pp y ++ pb (after_parameters y xs) ++ pl in
     let last = c.note_labels.new.walk.best in
-    noted_within m items c.declare.new.walk.best c.open.new.self.best last last all within n1 c.open.ensures.best u1
-      (noted_then m items c.open.new.self.best c.parameters.new.walk.best last (pp n1) (λ (y : Scope). pb y ++ pl) (after_parameters n1 xs) n2
+    noted_within m items c.declare.new.walk.best c.open-outside.new.self.best last last all within n1 c.open-outside.ensures.best u1
+      (noted_then m items c.open-outside.new.self.best c.parameters.new.walk.best last (pp n1) (λ (y : Scope). pb y ++ pl) (after_parameters n1 xs) n2
         c.in_ok-params.ensures.noted c.in_ok-params.ensures.scope
         (noted_then m items c.parameters.new.walk.best c.statements.new.walk.best last (pb n2) (λ (y : Scope). pl) n2 n2
           (c.in_ok-block.ensures.noted ∙ ap (λ (b : raw.Stms). noted_parts m items c.parameters.new.walk.best (parts_of_block m bodies c.args.gives false n2 b)) c.statements_in.ensures)

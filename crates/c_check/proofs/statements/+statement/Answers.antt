@@ -29,12 +29,12 @@ arm-close-requires t c =
     let bodies = bodies_in c.args.context.now in
     let s = scope_at c.args.walk.now in
     let x = stmt_view c.args.s.now in
-    stands_outside s (after_statement m bodies (opened s) x) (scope_at c.statement.new.walk) c.open.result c.open.ensures.outside
-      (c.in_ok-s.ensures.scope ∙ ap (λ (y : Scope). after_statement m bodies y x) c.open.ensures.scope) (kept_by_statement m bodies (opened s) x)
+    stands_outside s (after_statement m bodies (opened s) x) (scope_at c.statement.new.walk) c.open-outside.result c.open-outside.ensures.outside
+      (c.in_ok-s.ensures.scope ∙ ap (λ (y : Scope). after_statement m bodies y x) c.open-outside.ensures.scope) (kept_by_statement m bodies (opened s) x)
 
 pub arm-returns-clause-typed : goal.arm-returns-clause-typed
 arm-returns-clause-typed t c =
-    c.in_ok-s.ensures.typed ∙ ap (λ (y : Scope). typed_statement c.args.context.now.model (bodies_in c.args.context.now) y (stmt_view c.args.s.now)) c.open.ensures.scope
+    c.in_ok-s.ensures.typed ∙ ap (λ (y : Scope). typed_statement c.args.context.now.model (bodies_in c.args.context.now) y (stmt_view c.args.s.now)) c.open-outside.ensures.scope
 
 pub arm-returns-clause-scope : goal.arm-returns-clause-scope
 arm-returns-clause-scope t c =
@@ -42,16 +42,16 @@ arm-returns-clause-scope t c =
     let bodies = bodies_in c.args.context.now in
     let s = scope_at c.args.walk.now in
     let x = stmt_view c.args.s.now in
-    closes s (after_statement m bodies (opened s) x) (scope_at c.statement.new.walk) (scope_at c.close.new.self) c.open.result c.open.ensures.outside
-      (c.in_ok-s.ensures.scope ∙ ap (λ (y : Scope). after_statement m bodies y x) c.open.ensures.scope) (kept_by_statement m bodies (opened s) x) c.close.ensures.scope
+    closes s (after_statement m bodies (opened s) x) (scope_at c.statement.new.walk) (scope_at c.close.new.self) c.open-outside.result c.open-outside.ensures.outside
+      (c.in_ok-s.ensures.scope ∙ ap (λ (y : Scope). after_statement m bodies y x) c.open-outside.ensures.scope) (kept_by_statement m bodies (opened s) x) c.close.ensures.scope
 
 pub arm-returns-clause-noted : goal.arm-returns-clause-noted
 arm-returns-clause-noted t c =
     let m = c.args.context.now.model in
     let bodies = bodies_in c.args.context.now in
-    noted_within m (items_in c.args.context.now) c.args.walk.now.best c.open.new.self.best c.statement.new.walk.best c.close.new.self.best
-      (λ (y : Scope). parts_of_statement m bodies c.args.gives c.args.looped y (stmt_view c.args.s.now)) (opened (scope_at c.args.walk.now)) (scope_at c.open.new.self)
-      c.open.ensures.best c.open.ensures.scope c.in_ok-s.ensures.noted c.close.ensures.best
+    noted_within m (items_in c.args.context.now) c.args.walk.now.best c.open-outside.new.self.best c.statement.new.walk.best c.close.new.self.best
+      (λ (y : Scope). parts_of_statement m bodies c.args.gives c.args.looped y (stmt_view c.args.s.now)) (opened (scope_at c.args.walk.now)) (scope_at c.open-outside.new.self)
+      c.open-outside.ensures.best c.open-outside.ensures.scope c.in_ok-s.ensures.noted c.close.ensures.best
 
 pub block-close-requires : goal.block-close-requires
 block-close-requires t c =
@@ -59,12 +59,12 @@ block-close-requires t c =
     let bodies = bodies_in c.args.context.now in
     let s = scope_at c.args.walk.now in
     let x = stms (map stmt_view c.args.ss.now) in
-    stands_outside s (after_block m bodies (opened s) x) (scope_at c.statements.new.walk) c.open.result c.open.ensures.outside
-      (c.in_ok-ss.ensures.scope ∙ ap (λ (y : Scope). after_block m bodies y x) c.open.ensures.scope) (kept_by_block m bodies (opened s) x)
+    stands_outside s (after_block m bodies (opened s) x) (scope_at c.statements.new.walk) c.open-outside.result c.open-outside.ensures.outside
+      (c.in_ok-ss.ensures.scope ∙ ap (λ (y : Scope). after_block m bodies y x) c.open-outside.ensures.scope) (kept_by_block m bodies (opened s) x)
 
 pub block-returns-clause-typed : goal.block-returns-clause-typed
 block-returns-clause-typed t c =
-    c.in_ok-ss.ensures.typed ∙ ap (λ (y : Scope). typed_block c.args.context.now.model (bodies_in c.args.context.now) y (stms (map stmt_view c.args.ss.now))) c.open.ensures.scope
+    c.in_ok-ss.ensures.typed ∙ ap (λ (y : Scope). typed_block c.args.context.now.model (bodies_in c.args.context.now) y (stms (map stmt_view c.args.ss.now))) c.open-outside.ensures.scope
 
 pub block-returns-clause-scope : goal.block-returns-clause-scope
 block-returns-clause-scope t c =
@@ -72,16 +72,16 @@ block-returns-clause-scope t c =
     let bodies = bodies_in c.args.context.now in
     let s = scope_at c.args.walk.now in
     let x = stms (map stmt_view c.args.ss.now) in
-    closes s (after_block m bodies (opened s) x) (scope_at c.statements.new.walk) (scope_at c.close.new.self) c.open.result c.open.ensures.outside
-      (c.in_ok-ss.ensures.scope ∙ ap (λ (y : Scope). after_block m bodies y x) c.open.ensures.scope) (kept_by_block m bodies (opened s) x) c.close.ensures.scope
+    closes s (after_block m bodies (opened s) x) (scope_at c.statements.new.walk) (scope_at c.close.new.self) c.open-outside.result c.open-outside.ensures.outside
+      (c.in_ok-ss.ensures.scope ∙ ap (λ (y : Scope). after_block m bodies y x) c.open-outside.ensures.scope) (kept_by_block m bodies (opened s) x) c.close.ensures.scope
 
 pub block-returns-clause-noted : goal.block-returns-clause-noted
 block-returns-clause-noted t c =
     let m = c.args.context.now.model in
     let bodies = bodies_in c.args.context.now in
-    noted_within m (items_in c.args.context.now) c.args.walk.now.best c.open.new.self.best c.statements.new.walk.best c.close.new.self.best
-      (λ (y : Scope). parts_of_block m bodies c.args.gives c.args.looped y (stms (map stmt_view c.args.ss.now))) (opened (scope_at c.args.walk.now)) (scope_at c.open.new.self)
-      c.open.ensures.best c.open.ensures.scope c.in_ok-ss.ensures.noted c.close.ensures.best
+    noted_within m (items_in c.args.context.now) c.args.walk.now.best c.open-outside.new.self.best c.statements.new.walk.best c.close.new.self.best
+      (λ (y : Scope). parts_of_block m bodies c.args.gives c.args.looped y (stms (map stmt_view c.args.ss.now))) (opened (scope_at c.args.walk.now)) (scope_at c.open-outside.new.self)
+      c.open-outside.ensures.best c.open-outside.ensures.scope c.in_ok-ss.ensures.noted c.close.ensures.best
 
 -- ---- one statement after another
 
@@ -166,9 +166,9 @@ choose-returns-clause-noted t c =
     let yes : Scope → List Part = λ y. parts_of_statement m bodies c.args.gives c.args.looped (opened y) a in
     let no : Scope → List Part = λ y. parts_of_else m bodies c.args.gives c.args.looped y b in
     let behind : Scope → Scope = λ y. closed y (after_statement m bodies (opened y) a) in
-    noted_then m items c.args.walk.now.best c.full.new.walk.best _ (parts (seen s) Value (expr_view c.args.test.now)) (λ (y : Scope). yes y ++ no (behind y)) s u
+    noted_then m items c.args.walk.now.best c.full.new.walk.best c.other_arm.new.walk.best (parts (seen s) Value (expr_view c.args.test.now)) (λ (y : Scope). yes y ++ no (behind y)) s u
       c.in_ok-test.ensures.noted c.in_ok-test.ensures.scope
-      (noted_then m items c.full.new.walk.best c.arm.new.walk.best _ (yes u) no (behind u) (scope_at c.arm.new.walk) c.in_ok-yes.ensures.noted c.in_ok-yes.ensures.scope c.in_ok-no.ensures.noted)
+      (noted_then m items c.full.new.walk.best c.arm.new.walk.best c.other_arm.new.walk.best (yes u) no (behind u) (scope_at c.arm.new.walk) c.in_ok-yes.ensures.noted c.in_ok-yes.ensures.scope c.in_ok-no.ensures.noted)
 
 pub while_loop-returns-clause-typed : goal.while_loop-returns-clause-typed
 while_loop-returns-clause-typed t c =
@@ -216,9 +216,9 @@ for_loop-close-requires t c =
     let a = stmt_view c.args.body.now in
     let first = first_view c.args.first.now in
     let behind = after_first m bodies (opened s) first in
-    let i = c.in_ok-first.ensures.scope ∙ ap (λ (y : Scope). after_first m bodies y first) c.open.ensures.scope in
+    let i = c.in_ok-first.ensures.scope ∙ ap (λ (y : Scope). after_first m bodies y first) c.open-outside.ensures.scope in
     let u = c.in_ok-step.ensures.scope ∙ c.in_ok-test.ensures.scope ∙ i in
-    stands_outside s (closed behind (after_statement m bodies (opened behind) a)) (scope_at c.arm.new.walk) c.open.result c.open.ensures.outside
+    stands_outside s (closed behind (after_statement m bodies (opened behind) a)) (scope_at c.arm.new.walk) c.open-outside.result c.open-outside.ensures.outside
       (c.in_ok-body.ensures.scope ∙ ap (λ (y : Scope). closed y (after_statement m bodies (opened y) a)) u) (kept_by_first m bodies (opened s) first)
 
 pub for_loop-returns-clause-typed : goal.for_loop-returns-clause-typed
@@ -226,11 +226,11 @@ for_loop-returns-clause-typed t c =
     let m = c.args.context.now.model in
     let bodies = bodies_in c.args.context.now in
     let first = first_view c.args.first.now in
-    let i = c.in_ok-first.ensures.scope ∙ ap (λ (y : Scope). after_first m bodies y first) c.open.ensures.scope in
+    let i = c.in_ok-first.ensures.scope ∙ ap (λ (y : Scope). after_first m bodies y first) c.open-outside.ensures.scope in
     let e = c.in_ok-test.ensures.scope ∙ i in
     let u = c.in_ok-step.ensures.scope ∙ e in
     c.in_ok-form.ensures
-    ∙ same_for _ _ _ _ _ _ _ _ (c.in_ok-first.ensures.typed ∙ ap (λ (y : Scope). typed_first m bodies y first) c.open.ensures.scope)
+    ∙ same_for _ _ _ _ _ _ _ _ (c.in_ok-first.ensures.typed ∙ ap (λ (y : Scope). typed_first m bodies y first) c.open-outside.ensures.scope)
         (c.in_ok-test.ensures.typed ∙ ap (λ (y : Scope). typed_if m bodies (seen y) (option_map expr_view c.args.test.now)) i)
         (c.in_ok-step.ensures.typed ∙ ap (λ (y : Scope). typed_if m bodies (seen y) (option_map expr_view c.args.step.now)) e)
         (c.in_ok-body.ensures.typed ∙ ap (λ (y : Scope). typed_statement m bodies (opened y) (stmt_view c.args.body.now)) u)
@@ -243,9 +243,9 @@ for_loop-returns-clause-scope t c =
     let a = stmt_view c.args.body.now in
     let first = first_view c.args.first.now in
     let behind = after_first m bodies (opened s) first in
-    let i = c.in_ok-first.ensures.scope ∙ ap (λ (y : Scope). after_first m bodies y first) c.open.ensures.scope in
+    let i = c.in_ok-first.ensures.scope ∙ ap (λ (y : Scope). after_first m bodies y first) c.open-outside.ensures.scope in
     let u = c.in_ok-step.ensures.scope ∙ c.in_ok-test.ensures.scope ∙ i in
-    closes s (closed behind (after_statement m bodies (opened behind) a)) (scope_at c.arm.new.walk) (scope_at c.close.new.self) c.open.result c.open.ensures.outside
+    closes s (closed behind (after_statement m bodies (opened behind) a)) (scope_at c.arm.new.walk) (scope_at c.close.new.self) c.open-outside.result c.open-outside.ensures.outside
       (c.in_ok-body.ensures.scope ∙ ap (λ (y : Scope). closed y (after_statement m bodies (opened y) a)) u) (kept_by_first m bodies (opened s) first) c.close.ensures.scope
 
 pub for_loop-returns-clause-noted : goal.for_loop-returns-clause-noted
@@ -254,7 +254,7 @@ for_loop-returns-clause-noted t c =
     let items = items_in c.args.context.now in
     let bodies = bodies_in c.args.context.now in
     let s = scope_at c.args.walk.now in
-    let o = scope_at c.open.new.self in
+    let o = scope_at c.open-outside.new.self in
     let n1 = scope_at c.begin.new.walk in
     let n2 = scope_at c.full_if.new.walk in
     let n3 = scope_at c.full_if-2.new.walk in
@@ -263,10 +263,10 @@ for_loop-returns-clause-noted t c =
     let p2 : Scope → List Part = λ y. parts_if (seen y) Value (option_map expr_view c.args.test.now) in
     let p3 : Scope → List Part = λ y. parts_if (seen y) Effect (option_map expr_view c.args.step.now) in
     let p4 : Scope → List Part = λ y. parts_of_statement m bodies c.args.gives true (opened y) (stmt_view c.args.body.now) in
-    noted_within m items c.args.walk.now.best c.open.new.self.best c.arm.new.walk.best c.close.new.self.best
+    noted_within m items c.args.walk.now.best c.open-outside.new.self.best c.arm.new.walk.best c.close.new.self.best
       (λ (y : Scope). p1 y ++ p2 (after_first m bodies y first) ++ p3 (after_first m bodies y first) ++ p4 (after_first m bodies y first)) (opened s) o
-      c.open.ensures.best c.open.ensures.scope
-      (noted_then m items c.open.new.self.best c.begin.new.walk.best _ (p1 o) (λ (y : Scope). p2 y ++ p3 y ++ p4 y) (after_first m bodies o first) n1
+      c.open-outside.ensures.best c.open-outside.ensures.scope
+      (noted_then m items c.open-outside.new.self.best c.begin.new.walk.best _ (p1 o) (λ (y : Scope). p2 y ++ p3 y ++ p4 y) (after_first m bodies o first) n1
         c.in_ok-first.ensures.noted c.in_ok-first.ensures.scope
         (noted_then m items c.begin.new.walk.best c.full_if.new.walk.best _ (p2 n1) (λ (y : Scope). p3 y ++ p4 y) n1 n2
           c.in_ok-test.ensures.noted c.in_ok-test.ensures.scope
