@@ -1,3 +1,7 @@
+ghost use Rattle.std.specs.Prelude.{IfOk, IfSome, IsTrue};
+ghost use Rattle.c_core.specs.Thin.{is_thin};
+ghost use Rattle.c_core.specs.View.{program_view};
+
 use crate::thin::program::Reading;
 use crate::thin::tracker::Tracker;
 use crate::thin::{ThinWitness, read_program, read_witness};
@@ -105,7 +109,9 @@ pub fn reading_of(
     model: DataModel,
     text: &str,
     witness: ThinWitness,
-) -> Result<Option<Reading>, OutOfMemory> {
+) -> Result<Option<Reading>, OutOfMemory>
+    ensures { IfOk result (λ r. IfSome r (λ reading. IsTrue (is_thin (program_view reading.program)))) }
+{
     let bytes = text.as_bytes();
     if bytes.len() > 1048576 {
         return Ok(None);
