@@ -33,7 +33,7 @@ mod NestedStatements
 mod FormedItems
 pub mod OrderlyTokens
 mod SpelledExamples
-mod Views
+pub mod Views
 mod ReadSteps
 mod TypeCountLaws
 mod NameLaws

@@ -5,8 +5,10 @@ pub mod Scopes
 pub mod Parts
 pub mod Codes
 pub mod Order
+pub mod Kept
 pub mod First
 pub mod Noting
+pub mod Roles
 pub mod Checked
 pub mod Deciding
 pub mod NameExamples

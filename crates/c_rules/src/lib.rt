@@ -3,5 +3,9 @@
 #![tactic(auto)]
 
 mod fault;
+mod noting;
+mod role;
 
 pub use fault::{CheckCode, CheckFault, Refusal};
+pub use noting::noted;
+pub use role::Role;

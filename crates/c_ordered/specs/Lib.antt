@@ -1,0 +1,3 @@
+pub mod PartEffects
+pub mod Agreement
+pub mod PartsFound

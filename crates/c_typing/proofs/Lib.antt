@@ -1,0 +1,5 @@
+mod ConstantTypes
+mod WordLaws
+mod OwnLaws
+mod ListLaws
+mod TreeLaws

@@ -1,0 +1,15 @@
+//! Expressions: their typed trees, which of their parts are refused, and the values of constant ones.
+#![tactic(auto)]
+
+mod constants;
+mod literals;
+mod nodes;
+mod operators;
+mod own;
+#[cfg(test)]
+mod tests;
+mod trees;
+mod words;
+
+pub use constants::constant;
+pub use trees::{expression, expressions};

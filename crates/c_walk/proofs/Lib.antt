@@ -1,0 +1,10 @@
+mod ListLaws
+mod NameLaws
+mod NotedLaws
+mod ScopeLaws
+mod BlockLaws
+mod LabelLaws
+mod ParameterLaws
+mod StartLaws
+mod ItemLaws
+mod FirstLaws

@@ -1,0 +1,46 @@
+use Rattle.std.proofs.Common.{rules, ◌≡◌, ◌++◌, ◌+◌, ◌∷◌, [], List, drop, refl, sym, ap, ◌∙◌}
+use Rattle.std.proofs.lemmas.List.{drop_all}
+use Rattle.c_core.specs.Tree as t
+use Rattle.c_core.specs.declared.tree.Expr.{Expr}
+use Rattle.c_parser.specs.Tree as raw
+use Rattle.c_parser.specs.Tree.{exps}
+use Rattle.c_parser.specs.View.{expr_view, exprs_view}
+use Rattle.c_parser.specs.declared.tree.RawExpr.{RawExpr}
+use Rattle.c_rules.specs.Noting.{noted_parts}
+use Rattle.c_rules.specs.Parts.{parts_of_value, parts_of_values}
+use Rattle.c_rules.specs.Scopes.{Scope, seen}
+use Rattle.c_rules.specs.Typed.{typed, typed_all}
+use Rattle.c_walk.specs.Walks.{scope_at, items_in, bodies_in}
+use Rattle.c_walk.proofs.ListLaws.{before, before_none, before_one_more, views-next}
+use Rattle.c_walk.proofs.NotedLaws.{noted_on}
+use Rattle.c_walk.proofs.declaring.values.Goals as goal
+
+pub loop-e-preserved : goal.loop-e-preserved
+loop-e-preserved c =
+    let m = c.args.context.now.model in
+    let items = items_in c.args.context.now in
+    let bodies = bodies_in c.args.context.now in
+    let s = scope_at c.args.walk.now in
+    let rest = exps (exprs_view (drop (c.loop-e.e-index + 1) c.args.es.now)) in
+    let e = expr_view c.e-item.result in
+    let next = views-next c.args.es.now c.loop-e.e-index c.e-item.result c.loop-e-test.true c.e-item.is in
+    let pushed : c.push.new.self ≡ c.loop-e.all ++ c.in_ok-typed.typed ∷ [] = search rules in
+    record {
+      typed = ap (λ (xs : List Expr). before xs (typed_all m bodies (seen s) rest)) pushed
+        ∙ before_one_more c.loop-e.all c.in_ok-typed.typed (typed_all m bodies (seen s) rest)
+        ∙ ap (λ (x : t.Exp). before c.loop-e.all (t.MoreExp x (typed_all m bodies (seen s) rest)))
+            (c.in_ok-typed.ensures.typed ∙ ap (λ (x : Scope). typed m bodies (seen x) e) c.loop-e.invariant.scope)
+        ∙ sym (ap (λ (x : raw.Exps). before c.loop-e.all (typed_all m bodies (seen s) x)) next)
+        ∙ c.loop-e.invariant.typed;
+      scope = c.in_ok-typed.ensures.scope ∙ c.loop-e.invariant.scope;
+      noted = noted_on m items c.loop-e.walk.best c.value.new.walk.best _ (parts_of_value c.args.fixed s e) (λ x. parts_of_values c.args.fixed s rest) s s
+        (c.in_ok-typed.ensures.noted ∙ ap (λ (x : Scope). noted_parts m items c.loop-e.walk.best (parts_of_value c.args.fixed x e)) c.loop-e.invariant.scope) refl
+        (sym (ap (λ (x : raw.Exps). noted_parts m items c.loop-e.walk.best (parts_of_values c.args.fixed s x)) next) ∙ c.loop-e.invariant.noted);
+    }
+
+pub returns-clause-typed : goal.returns-clause-typed
+returns-clause-typed c =
+    let m = c.args.context.now.model in
+    sym (before_none c.loop-e.all)
+    ∙ ap (λ (xs : List RawExpr). before c.loop-e.all (typed_all m (bodies_in c.args.context.now) (seen (scope_at c.args.walk.now)) (exps (exprs_view xs)))) (sym (drop_all c.loop-e.e-index c.args.es.now c.loop-e-test.false))
+    ∙ c.loop-e.invariant.typed

@@ -1,0 +1,68 @@
+use Rattle.std.proofs.Common.{◌≡◌, ◌++◌, ◌+◌, ◌∷◌, [], ℕ, List, drop, map, sym, ap, ◌∙◌}
+use Rattle.std.proofs.lemmas.List.{append-nil, drop_all}
+use Rattle.c_core.specs.Tree as typ
+use Rattle.c_core.specs.View.{functions_view}
+use Rattle.c_core.specs.declared.tree.Start.{Start}
+use Rattle.c_parser.specs.Tree as raw
+use Rattle.c_parser.specs.SourceView.{item_view}
+use Rattle.c_parser.specs.declared.item.Item.{Item}
+use Rattle.c_rules.specs.Checked.{starts_of, functions_of}
+use Rattle.c_rules.specs.Noting.{noted_parts}
+use Rattle.c_rules.specs.Parts.{bodies_of, parts_of_item, parts_of_items}
+use Rattle.c_rules.specs.Scopes.{Scope, after_item, after_items}
+use Rattle.c_walk.specs.Items.{names_of}
+use Rattle.c_walk.specs.Walks.{scope_at, items_in, bodies_in}
+use Rattle.c_walk.proofs.ItemLaws.{next_item, bodies-next, starts_of-next, functions_of-next}
+use Rattle.c_walk.proofs.NotedLaws.{noted_on}
+use Rattle.c_walk.proofs.items.items.Goals as goal
+
+pub loop-x-preserved : goal.loop-x-preserved
+loop-x-preserved c =
+    let m = c.args.context.now.model in
+    let known = items_in c.args.context.now in
+    let bodies = bodies_in c.args.context.now in
+    let s = scope_at c.loop-x.walk in
+    let u = scope_at c.item.new.walk in
+    let x = item_view c.x-item.result in
+    let rest = map item_view (drop (c.loop-x.x-index + 1) c.args.items.now) in
+    let next = next_item c.args.items.now c.loop-x.x-index c.x-item.result c.loop-x-test.true c.x-item.is in
+    record {
+      starts = starts_of-next m bodies c.loop-x.starts c.item.new.starts s u x rest c.in_ok-item.ensures.scope c.in_ok-item.ensures.starts
+        ∙ sym (ap (λ (ys : List raw.Item). c.loop-x.starts ++ starts_of m bodies s ys) next) ∙ c.loop-x.invariant.starts;
+      functions = functions_of-next m bodies (functions_view c.loop-x.functions) (functions_view c.item.new.functions) s u x rest c.in_ok-item.ensures.scope c.in_ok-item.ensures.functions
+        ∙ sym (ap (λ (ys : List raw.Item). functions_view c.loop-x.functions ++ functions_of m bodies s ys) next) ∙ c.loop-x.invariant.functions;
+      names = bodies-next (names_of c.loop-x.functions) (names_of c.item.new.functions) x rest c.in_ok-item.ensures.names
+        ∙ sym (ap (λ (ys : List raw.Item). names_of c.loop-x.functions ++ bodies_of ys) next) ∙ c.loop-x.invariant.names;
+      scope = ap (λ (y : Scope). after_items m bodies y rest) c.in_ok-item.ensures.scope ∙ sym (ap (after_items m bodies s) next) ∙ c.loop-x.invariant.scope;
+      noted = noted_on m known c.loop-x.walk.best c.item.new.walk.best _ (parts_of_item m bodies s x) (λ (y : Scope). parts_of_items m bodies y rest) (after_item m bodies s x) u
+        c.in_ok-item.ensures.noted c.in_ok-item.ensures.scope
+        (sym (ap (λ (ys : List raw.Item). noted_parts m known c.loop-x.walk.best (parts_of_items m bodies s ys)) next) ∙ c.loop-x.invariant.noted);
+    }
+
+pub returns-clause-starts : goal.returns-clause-starts
+returns-clause-starts c =
+    sym (append-nil c.loop-x.starts)
+    ∙ ap (λ (xs : List Item). c.loop-x.starts ++ starts_of c.args.context.now.model (bodies_in c.args.context.now) (scope_at c.loop-x.walk) (map item_view xs)) (sym (drop_all c.loop-x.x-index c.args.items.now c.loop-x-test.false))
+    ∙ c.loop-x.invariant.starts
+
+pub returns-clause-functions : goal.returns-clause-functions
+returns-clause-functions c =
+    sym (append-nil (functions_view c.loop-x.functions))
+    ∙ ap (λ (xs : List Item). functions_view c.loop-x.functions ++ functions_of c.args.context.now.model (bodies_in c.args.context.now) (scope_at c.loop-x.walk) (map item_view xs)) (sym (drop_all c.loop-x.x-index c.args.items.now c.loop-x-test.false))
+    ∙ c.loop-x.invariant.functions
+
+pub returns-clause-names : goal.returns-clause-names
+returns-clause-names c =
+    sym (append-nil (names_of c.loop-x.functions))
+    ∙ ap (λ (xs : List Item). names_of c.loop-x.functions ++ bodies_of (map item_view xs)) (sym (drop_all c.loop-x.x-index c.args.items.now c.loop-x-test.false))
+    ∙ c.loop-x.invariant.names
+
+pub returns-clause-scope : goal.returns-clause-scope
+returns-clause-scope c =
+    ap (λ (xs : List Item). after_items c.args.context.now.model (bodies_in c.args.context.now) (scope_at c.loop-x.walk) (map item_view xs)) (sym (drop_all c.loop-x.x-index c.args.items.now c.loop-x-test.false))
+    ∙ c.loop-x.invariant.scope
+
+pub returns-clause-noted : goal.returns-clause-noted
+returns-clause-noted c =
+    ap (λ (xs : List Item). noted_parts c.args.context.now.model (items_in c.args.context.now) c.loop-x.walk.best (parts_of_items c.args.context.now.model (bodies_in c.args.context.now) (scope_at c.loop-x.walk) (map item_view xs))) (sym (drop_all c.loop-x.x-index c.args.items.now c.loop-x-test.false))
+    ∙ c.loop-x.invariant.noted

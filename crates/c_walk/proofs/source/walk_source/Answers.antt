@@ -1,0 +1,28 @@
+use Rattle.std.proofs.Common.{◌≡◌, List, map, None, ap, ◌∙◌}
+use Rattle.c_parser.specs.Tree as raw
+use Rattle.c_parser.specs.SourceView.{item_view}
+use Rattle.c_rules.specs.Checked.{starts_of, functions_of}
+use Rattle.c_rules.specs.Noting.{noted_parts}
+use Rattle.c_rules.specs.Parts.{bodies_of, parts_of_items}
+use Rattle.c_rules.specs.Scopes.{after_items, outermost}
+use Rattle.c_walk.proofs.source.walk_source.Goals as goal
+
+pub returns-clause-objects : goal.returns-clause-objects
+returns-clause-objects c =
+    let xs = map item_view c.args.source.now in
+    c.in_ok-walked.ensures.objects ∙ ap (λ (ys : List raw.Item). (after_items c.args.model (bodies_of ys) outermost xs).objects) (ap (map item_view) c.in_ok-known.ensures)
+
+pub returns-clause-starts : goal.returns-clause-starts
+returns-clause-starts c =
+    let xs = map item_view c.args.source.now in
+    c.in_ok-walked.ensures.starts ∙ ap (λ (ys : List raw.Item). starts_of c.args.model (bodies_of ys) outermost xs) (ap (map item_view) c.in_ok-known.ensures)
+
+pub returns-clause-functions : goal.returns-clause-functions
+returns-clause-functions c =
+    let xs = map item_view c.args.source.now in
+    c.in_ok-walked.ensures.functions ∙ ap (λ (ys : List raw.Item). functions_of c.args.model (bodies_of ys) outermost xs) (ap (map item_view) c.in_ok-known.ensures)
+
+pub returns-clause-best : goal.returns-clause-best
+returns-clause-best c =
+    let xs = map item_view c.args.source.now in
+    c.in_ok-walked.ensures.best ∙ ap (λ (ys : List raw.Item). noted_parts c.args.model ys None (parts_of_items c.args.model (bodies_of ys) outermost xs)) (ap (map item_view) c.in_ok-known.ensures)

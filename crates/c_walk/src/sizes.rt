@@ -1,0 +1,91 @@
+// Sizes of arrays.
+ghost use Rattle.std.specs.Prelude.{◌≡◌, ◌≤◌, IfOk, OnOk, OnSome};
+ghost use Rattle.std.specs.Option.{option_map};
+ghost use Rattle.c_parser.specs.SourceView.{init_view};
+ghost use Rattle.c_parser.specs.View.{expr_view};
+ghost use Rattle.c_rules.specs.Codes as codes;
+ghost use Rattle.c_rules.specs.Parts as part;
+ghost use Rattle.c_rules.specs.Scopes as scopes;
+ghost use Rattle.c_rules.specs.Scopes.{seen};
+ghost use Rattle.c_walk.specs.Walks.{scope_at, bodies_in, IsNoted, size_stated};
+
+use crate::context::Context;
+use crate::walk::Walk;
+use c_parser::{RawExpr, RawInit};
+use c_rules::Role;
+use c_typing::{constant, expression};
+use wv_base::OutOfMemory;
+
+fn in_bounds(n: u32) -> Option<u32>
+    ensures { result ≡ scopes.in_bounds n }
+{
+    if 1 <= n && n <= 256 { Some(n) } else { None }
+}
+
+// A constant from 1 to 256.
+fn as_size(value: Option<i128>) -> Option<u32>
+    ensures { result ≡ scopes.as_size value }
+{
+    match u32::try_from(value?) {
+        Ok(n) => in_bounds(n),
+        Err(_) => None,
+    }
+}
+
+/// The size of an array.
+fn size_of(context: &Context, walk: &mut Walk, e: &RawExpr) -> Result<Option<u32>, OutOfMemory>
+    ensures size { IfOk result (λ r. r ≡ scopes.size_of context.now.model (bodies_in context.now) (seen (scope_at walk.old)) (expr_view e.now)) }
+    ensures scope { OnOk result (scope_at walk.new ≡ scope_at walk.old) }
+    ensures noted { OnOk result (IsNoted context.now walk.old walk.new (part.parts (seen (scope_at walk.old)) part.Value (expr_view e.now))) }
+{
+    let typed = expression(
+        context.alloc,
+        context.functions,
+        &walk.table,
+        context.model,
+        &mut walk.best,
+        Role::Value,
+        e,
+    )?;
+    Ok(as_size(constant(context.model, &typed)))
+}
+
+/// The size that a declaration states, where it states one that fits.
+pub fn size(context: &Context, walk: &mut Walk, e: &Option<RawExpr>) -> Result<Option<u32>, OutOfMemory>
+    ensures size { IfOk result (λ r. r ≡ size_stated context.now.model (bodies_in context.now) (seen (scope_at walk.old)) (option_map expr_view e.now)) }
+    ensures scope { OnOk result (scope_at walk.new ≡ scope_at walk.old) }
+    ensures noted { OnOk result (IsNoted context.now walk.old walk.new (part.parts_if (seen (scope_at walk.old)) part.Value (option_map expr_view e.now))) }
+{
+    match e {
+        None => Ok(None),
+        Some(e) => size_of(context, walk, e),
+    }
+}
+
+/// All cells of an object.
+pub fn cells(size: Option<u32>) -> u32
+    ensures { result ≡ scopes.cells_or_one size }
+{
+    size.unwrap_or(1)
+}
+
+// How many values an initializer states.
+fn count(init: &RawInit) -> usize
+    ensures { result ≡ codes.count_of_init (init_view init.now) }
+{
+    match init {
+        RawInit::Absent => 0,
+        RawInit::One(_) => 1,
+        RawInit::Many(es) => es.len(),
+    }
+}
+
+/// Is the size of an array no constant that fits, or smaller than the number of its initializers?
+pub fn is_too_small(init: &RawInit, size: Option<u32>) -> bool
+    ensures { result ≡ codes.is_too_small (codes.count_of_init (init_view init.now)) size }
+{
+    match size {
+        None => true,
+        Some(size) => (size as usize) < count(init),
+    }
+}
