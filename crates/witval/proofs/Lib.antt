@@ -1,10 +1,5 @@
-pub mod Confirmed
-mod ExampleGiven
-mod ExamplePassing
-mod ExampleVerdicts
 pub mod ShownValues
 pub mod Judged
-pub mod Tested
 pub mod GrammarSteps
 pub mod NameSteps
 pub mod TreeSteps

@@ -10,10 +10,10 @@ use Rattle.c_meaning.specs.Run.{Run}
 use Rattle.c_meaning.proofs.DrawsFit.{draws_fit}
 use Rattle.wv_report.specs.Json.{HasJsonIntegers, IsJsonInteger}
 use Rattle.wv_report.specs.declared.reply.Reply.TheVariants.{Verdict as Judged}
-use Rattle.witval.specs.Points.{BoundSegment}
-use Rattle.witval.specs.Matching.{SeenIn}
-use Rattle.witval.specs.Given.{given_by, RunGiven}
-use Rattle.witval.specs.Verdicts.{verdict_at, IsRightAt, IsRightOnViolation}
+use Rattle.way_match.specs.Points.{BoundSegment}
+use Rattle.way_match.specs.Matching.{SeenIn}
+use Rattle.way_match.specs.Given.{given_by, RunGiven}
+use Rattle.way_match.specs.Verdicts.{verdict_at, IsRightAt, IsRightOnViolation}
 
 abbrev Shows : Verdict → Type 0
 Shows verdict = HasJsonIntegers (Judged verdict)

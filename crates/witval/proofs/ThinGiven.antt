@@ -12,7 +12,7 @@ use Rattle.c_core.specs.declared.number.Spot.{Spot}
 use Rattle.c_meaning.specs.declared.run.Choices.TheVariants.{Given}
 use Rattle.c_meaning.specs.declared.run.Given.{Given as GivenAt}
 use Rattle.c_meaning.specs.Objects.{same_spot}
-use Rattle.witval.specs.Given.{given_by, given_by_return, value_if_at, values_at}
+use Rattle.way_match.specs.Given.{given_by, given_by_return, value_if_at, values_at}
 use Rattle.witval.specs.ThinPlaces.{returns_value, segments_of}
 use Rattle.witval.specs.ThinChoices.{spots_of_declarations, main_block, start_of, values_from, given_to, given_to_all}
 use Rattle.witval.specs.declared.thin.choices.InputSpots.{InputSpots}

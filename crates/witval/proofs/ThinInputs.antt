@@ -14,7 +14,7 @@ use Rattle.c_core.specs.declared.tree.Callee.TheVariants.{Input, ReachError}
 use Rattle.c_core.proofs.TextOrderLaws.{left, right}
 use Rattle.c_core.proofs.ThinShapes.{comparison_of, arm_of, declaration_of, return_of, IsEnd, last, test, IsThinBlock, ends, declares, block_in}
 use Rattle.c_meaning.specs.Objects.{same_spot}
-use Rattle.witval.specs.Passing.{type_of_call}
+use Rattle.way_match.specs.Passing.{type_of_call}
 use Rattle.witval.specs.ThinChoices.{spots_of_declarations, block_of, block_of_function, main_block, start_of}
 use Rattle.witval.specs.declared.thin.choices.InputSpots.{InputSpots}
 

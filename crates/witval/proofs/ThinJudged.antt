@@ -8,16 +8,16 @@ use Rattle.c_meaning.specs.declared.run.Choices.{Choices}
 use Rattle.c_meaning.specs.declared.verdict.Verdict.{Verdict}
 use Rattle.c_meaning.specs.Run.{Moment, Told, Here, Head, Run, Moments}
 use Rattle.c_meaning.specs.Watching.{seen_after}
-use Rattle.witval.specs.Points.{BoundSegment}
-use Rattle.witval.specs.Matching.{Seen, Finds, seen_of}
-use Rattle.witval.specs.Given.{given_by, RunGiven, SeenGiven}
-use Rattle.witval.specs.Verdicts.{IsRightAt, IsRightOnViolation}
+use Rattle.way_match.specs.Points.{BoundSegment}
+use Rattle.way_match.specs.Matching.{Seen, Finds, seen_of}
+use Rattle.way_match.specs.Given.{given_by, RunGiven, SeenGiven}
+use Rattle.way_match.specs.Verdicts.{IsRightAt, IsRightOnViolation}
 use Rattle.witval.specs.Tasks.{IsRightVerdict}
 use Rattle.witval.specs.ThinPlaces.{segments_of}
 use Rattle.witval.specs.ThinTracking.{after, after_all, tracking, positions_of, verdict_by, verdict_by_end, ReturnsAsInt}
 use Rattle.witval.specs.declared.thin.tracker.Tracker.{Tracker}
 use Rattle.witval.specs.declared.thin.witness.ThinWitness.{ThinWitness}
-use Rattle.witval.proofs.Confirmed.{confirmed}
+use Rattle.way_match.proofs.Confirmed.{confirmed}
 use Rattle.witval.proofs.ThinTracked.{decides}
 
 -- a tracker sees the events among the moments

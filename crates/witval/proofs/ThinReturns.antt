@@ -11,7 +11,7 @@ use Rattle.c_core.specs.declared.number.IntType.TheVariants.{Int}
 use Rattle.c_core.specs.declared.number.Spot.{Spot}
 use Rattle.c_meaning.specs.declared.run.Event.TheVariants as event
 use Rattle.c_meaning.specs.Objects.{same_spot}
-use Rattle.witval.specs.Passing.{meets, type_of_call}
+use Rattle.way_match.specs.Passing.{meets, type_of_call}
 use Rattle.witval.specs.ThinPlaces.{returns_value}
 use Rattle.witval.specs.ThinTracking.{ReturnsAsInt}
 use Rattle.witval.specs.declared.thin.witness.ThinWitness.{ThinWitness}

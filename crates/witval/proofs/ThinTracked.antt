@@ -5,9 +5,9 @@ use Rattle.c_core.specs.Tree.{Program}
 use Rattle.c_meaning.specs.Cells.{Cell}
 use Rattle.c_meaning.specs.declared.run.Event.{Event}
 use Rattle.c_meaning.specs.declared.run.Event.TheVariants as event
-use Rattle.witval.specs.Points.{Point}
-use Rattle.witval.specs.Passing.{passes}
-use Rattle.witval.specs.Matching.{Seen, seen_passes, seen_passes_any, Matches, Finds}
+use Rattle.way_match.specs.Points.{Point}
+use Rattle.way_match.specs.Passing.{passes}
+use Rattle.way_match.specs.Matching.{Seen, seen_passes, seen_passes_any, Matches, Finds}
 use Rattle.witval.specs.ThinPlaces.{segments_of}
 use Rattle.witval.specs.ThinTracking.{follow_return, follow_target, gives_value, violates_there, tracking, TrackingDecides, first_with, after, after_all, positions_if, positions_of}
 use Rattle.witval.specs.declared.thin.tracker.Tracker.{Tracker}

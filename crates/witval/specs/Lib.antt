@@ -1,11 +1,3 @@
-pub mod Points
-pub mod Passing
-pub mod Matching
-pub mod Given
-pub mod Verdicts
-pub mod ExampleVerdicts
-pub mod ExampleGiven
-pub mod ExamplePassing
 pub mod ThinCharacters
 pub mod ThinWitness
 pub mod ThinProgram

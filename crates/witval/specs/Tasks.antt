@@ -13,8 +13,8 @@ use Rattle.wv_schema.specs.declared.witness.Witness.{Witness}
 use Rattle.wv_task.specs.PropertyText.{property_of}
 use Rattle.wv_task.specs.Task.{judged}
 use Rattle.wv_yaml.specs.declared.tree.Tree.{Tree}
-use Rattle.witval.specs.Points.{BoundSegment}
-use Rattle.witval.specs.Verdicts.{IsRightOnViolation, IsConfirmed}
+use Rattle.way_match.specs.Points.{BoundSegment}
+use Rattle.way_match.specs.Verdicts.{IsRightOnViolation, IsConfirmed}
 use Rattle.witval.specs.ThinProgram.{thin_program}
 use Rattle.witval.specs.ThinWitness.{thin_witness}
 use Rattle.witval.specs.ThinPlaces.{is_placed, segments_of}

@@ -5,7 +5,7 @@ use Rattle.c_core.specs.Places.{aim_fits, input_at}
 use Rattle.c_core.specs.declared.number.IntType.TheVariants.{Int}
 use Rattle.c_core.specs.declared.number.BinOp.TheVariants.{Eq}
 use Rattle.c_core.specs.declared.number.Spot.{Spot}
-use Rattle.witval.specs.Points.{At, BoundSegment, Point, Return, ReturnTest, Target}
+use Rattle.way_match.specs.Points.{At, BoundSegment, Point, Return, ReturnTest, Target}
 use Rattle.witval.specs.declared.thin.witness.ThinWitness.{ThinWitness}
 
 -- the first waypoint stands at the closing parenthesis of an input call, and the second where a target may stand

@@ -16,10 +16,10 @@ use Rattle.c_meaning.specs.declared.verdict.Reason.TheVariants.{Ended, Undefined
 use Rattle.c_meaning.specs.declared.verdict.Cause.TheVariants.{Steps, Cells}
 use Rattle.c_meaning.specs.Cells.{Cell}
 use Rattle.c_meaning.specs.Objects.{same_spot}
-use Rattle.witval.specs.Points.{Point, Return, Target, At}
-use Rattle.witval.specs.Passing.{passes, aims_if}
-use Rattle.witval.specs.Matching.{Seen, Finds}
-use Rattle.witval.specs.Verdicts.{verdict_at}
+use Rattle.way_match.specs.Points.{Point, Return, Target, At}
+use Rattle.way_match.specs.Passing.{passes, aims_if}
+use Rattle.way_match.specs.Matching.{Seen, Finds}
+use Rattle.way_match.specs.Verdicts.{verdict_at}
 use Rattle.witval.specs.ThinPlaces.{segments_of, returns_value}
 use Rattle.witval.specs.declared.thin.tracker.Tracker.{Tracker}
 use Rattle.witval.specs.declared.thin.witness.ThinWitness.{ThinWitness}

@@ -4,10 +4,8 @@
 
 mod answer;
 mod canonical;
-mod examples;
 mod input;
 mod judge;
-mod laws;
 mod output;
 mod refusal;
 mod shown;
@@ -15,7 +13,6 @@ mod thin;
 mod tokens;
 mod top;
 
-pub use laws::{confirmed_violates, confirms_exactly, test_matches};
 pub use top::run;
 
 #[cfg(test)]

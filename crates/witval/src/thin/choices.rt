@@ -2,7 +2,7 @@ ghost use Rattle.std.specs.Prelude.{◌≡◌, IfOk, IsTrue, true};
 ghost use Rattle.c_core.specs.Tree as tree;
 ghost use Rattle.c_core.specs.Thin.{is_thin};
 ghost use Rattle.c_core.specs.View.{program_view, expr_view, names_view, stmt_view, stmts_view};
-ghost use Rattle.witval.specs.Given.{given_by};
+ghost use Rattle.way_match.specs.Given.{given_by};
 ghost use Rattle.witval.specs.ThinPlaces.{segments_of};
 ghost use Rattle.witval.specs.ThinTracking.{ReturnsAsInt};
 ghost use Rattle.witval.specs.ThinChoices.{block_of, given_to_all, main_block, spots_of_call, spots_of_declaration, spots_of_declarations, spots_of_names, start_of, values_from};

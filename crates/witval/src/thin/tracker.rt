@@ -1,7 +1,7 @@
 ghost use Rattle.std.specs.Prelude.{◌≡◌, List};
 ghost use Rattle.c_core.specs.Tree.{Program};
 ghost use Rattle.c_core.specs.Types.{fit};
-ghost use Rattle.witval.specs.Matching.{Seen};
+ghost use Rattle.way_match.specs.Matching.{Seen};
 ghost use Rattle.witval.specs.ThinTracking.{TrackingDecides, after, gives_value, tracking, violates_there};
 ghost use Rattle.witval.specs.declared.thin.tracker.Tracker.{Tracker};
 ghost use Rattle.witval.specs.declared.thin.witness.ThinWitness.{ThinWitness};

@@ -1,0 +1,5 @@
+pub mod Confirmed
+mod ExampleGiven
+mod ExamplePassing
+mod ExampleVerdicts
+mod Tested

@@ -1,0 +1,8 @@
+//! Waypoints of violation witnesses bound to a program: what an event passes, at which positions a run's events match the
+//! segments, which values a witness gives, and which verdict is right.
+#![tactic(auto)]
+
+mod examples;
+mod laws;
+
+pub use laws::{confirmed_violates, confirms_exactly, test_matches};

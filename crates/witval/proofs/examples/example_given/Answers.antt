@@ -1,5 +1,0 @@
-use Rattle.witval.proofs.ExampleGiven.{example_given}
-use Rattle.witval.proofs.examples.example_given.Goals as goal
-
-pub returns : goal.returns
-returns c = example_given

@@ -1,5 +1,0 @@
-use Rattle.witval.proofs.ExampleVerdicts.{example_matches}
-use Rattle.witval.proofs.examples.example_matches.Goals as goal
-
-pub returns : goal.returns
-returns c = example_matches

@@ -1,5 +1,0 @@
-use Rattle.witval.proofs.ExamplePassing.{example_passing}
-use Rattle.witval.proofs.examples.example_passing.Goals as goal
-
-pub returns : goal.returns
-returns c = example_passing

@@ -1,5 +1,0 @@
-use Rattle.witval.proofs.ExampleVerdicts.{example_verdicts}
-use Rattle.witval.proofs.examples.example_verdicts.Goals as goal
-
-pub returns : goal.returns
-returns c = example_verdicts

@@ -1,5 +1,0 @@
-use Rattle.witval.proofs.Confirmed.{confirmed}
-use Rattle.witval.proofs.laws.confirmed_violates.Goals as goal
-
-pub returns : goal.returns
-returns c = confirmed

@@ -1,5 +1,0 @@
-use Rattle.witval.proofs.Confirmed.{confirmed_exactly}
-use Rattle.witval.proofs.laws.confirms_exactly.Goals as goal
-
-pub returns : goal.returns
-returns c = confirmed_exactly

@@ -1,5 +1,0 @@
-use Rattle.witval.proofs.Tested.{tested}
-use Rattle.witval.proofs.laws.test_matches.Goals as goal
-
-pub returns : goal.returns
-returns c = tested
