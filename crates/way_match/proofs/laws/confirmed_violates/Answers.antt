@@ -1,5 +1,5 @@
 use Rattle.way_match.proofs.Confirmed.{confirmed}
-use Rattle.witval.proofs.laws.confirmed_violates.Goals as goal
+use Rattle.way_match.proofs.laws.confirmed_violates.Goals as goal
 
 pub returns : goal.returns
 returns c = confirmed

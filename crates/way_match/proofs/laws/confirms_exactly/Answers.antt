@@ -1,5 +1,5 @@
 use Rattle.way_match.proofs.Confirmed.{confirmed_exactly}
-use Rattle.witval.proofs.laws.confirms_exactly.Goals as goal
+use Rattle.way_match.proofs.laws.confirms_exactly.Goals as goal
 
 pub returns : goal.returns
 returns c = confirmed_exactly

@@ -1,5 +1,5 @@
 use Rattle.way_match.proofs.Tested.{tested}
-use Rattle.witval.proofs.laws.test_matches.Goals as goal
+use Rattle.way_match.proofs.laws.test_matches.Goals as goal
 
 pub returns : goal.returns
 returns c = tested
