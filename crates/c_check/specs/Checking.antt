@@ -1,0 +1,21 @@
+-- What `check` answers.
+use Rattle.std.specs.Prelude.{◌≡◌, ℕ, List, map, Result, Ok, Err}
+use Rattle.c_core.specs.View.{program_view}
+use Rattle.c_core.specs.declared.number.DataModel.{DataModel}
+use Rattle.c_core.specs.declared.number.Property.{Property}
+use Rattle.c_core.specs.declared.program.Program.{Program}
+use Rattle.c_core.specs.declared.tree.Function.{Function}
+use Rattle.c_parser.specs.Tree as raw
+use Rattle.c_rules.specs.Checked.{HasProgram}
+use Rattle.c_rules.specs.First.{Refuses, refusal}
+use Rattle.c_rules.specs.declared.fault.CheckFault.{CheckFault}
+use Rattle.c_rules.specs.declared.fault.CheckFault.TheVariants.{Refused, OutOfMemory}
+
+abbrev pub names_of : List Function → List (List ℕ)
+names_of functions = map (λ f. f.name) functions
+
+-- the program of the source, or its first refusal
+abbrev pub Answers : DataModel → Property → List raw.Item → Result Program CheckFault → Type 0
+Answers m property items (Ok p) = HasProgram m property items (program_view p) (names_of p.functions)
+Answers m property items (Err (Refused code spot)) = Refuses m items (refusal code spot)
+Answers m property items (Err OutOfMemory) = Unit {0}
