@@ -1,3 +1,4 @@
 pub mod Seeking
+pub mod Sought
 pub mod Visible
 pub mod WorkedNames

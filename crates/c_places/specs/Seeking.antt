@@ -1,8 +1,8 @@
 -- Walks that keep what they found so far.
 use Rattle.std.specs.Prelude.{ℕ, nat_eq, nat_lt, Bool, true, false, cond, ◌&&◌, List, [], ◌∷◌, ◌++◌, Option, Some, None}
-use Rattle.c_core.specs.Tree.{Exp, Stm, Function}
-use Rattle.c_core.specs.Parts.{spot_of}
-use Rattle.c_core.specs.Places.{is_named, same_kind, places_of_body, calls_reach_error, ends_at, before_in_statement}
+use Rattle.c_core.specs.Tree.{Exp, Stm, Stms, MoreStm, Function}
+use Rattle.c_core.specs.Parts.{spot_of, statements_of}
+use Rattle.c_core.specs.Places.{is_named, same_kind, places_of_body, calls_reach_error, ends_at, before_in, before_in_statement}
 use Rattle.c_core.specs.declared.number.Spot.{Spot}
 use Rattle.c_core.specs.declared.place.PlaceKind.{PlaceKind}
 use Rattle.c_core.specs.declared.place.Place.{Place}
@@ -50,3 +50,12 @@ before_of spot found (s ∷ ss) = before_of spot (or_else found (before_in_state
 abbrev pub places_of_functions : List Function → List Place
 places_of_functions [] = []
 places_of_functions (f ∷ fs) = places_of_body f.body ++ places_of_functions fs
+
+abbrev pub statements_of_functions : List Function → List Stm
+statements_of_functions [] = []
+statements_of_functions (f ∷ fs) = statements_of f.body ++ statements_of_functions fs
+
+-- the statement before a place, in these statements behind the last one
+abbrev pub before_behind : Spot → Option Stm → Stms → Option Stm
+before_behind spot None b = before_in spot b
+before_behind spot (Some s) b = before_in spot (MoreStm s b)

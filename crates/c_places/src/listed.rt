@@ -2,6 +2,7 @@
 ghost use Rattle.std.specs.Prelude.{◌≡◌, [], ◌∷◌, ◌++◌, OnOk, IfOk};
 ghost use Rattle.c_core.specs.Places.{place, places_if, places_in, places_in_arguments, places_in_first, places_in_init, places_in_names, places_in_node, places_of, places_of_block, places_of_body, places_of_form, places_of_statement};
 ghost use Rattle.c_core.specs.View.{block_view, expr_view, expr_view_if, exprs_view, first_view, form_view, functions_view, init_view, names_view, node_view, program_view, stmt_view, stmts_view};
+ghost use Rattle.c_core.specs.declared.place.PlaceKind.TheVariants.{CallEnd};
 ghost use Rattle.c_places.specs.Seeking.{places_of_functions};
 
 use c_core::{
@@ -63,11 +64,17 @@ fn push_node(list: &mut Vec<Place>, node: &Node) -> Result<(), OutOfMemory>
             push_expression(list, target)?;
             push_expression(list, from)?;
         }
-        Node::Call { args, close, .. } => {
-            push_arguments(list, args.as_slice())?;
-            push(list, PlaceKind::CallEnd, *close)?;
-        }
+        Node::Call { args, close, .. } => push_call(list, args.as_slice(), *close)?,
     }
+    Ok(())
+}
+
+#[cycle(expression)]
+fn push_call(list: &mut Vec<Place>, es: &[Expr], close: Spot) -> Result<(), OutOfMemory>
+    ensures { OnOk result (list.new.items ≡ list.old.items ++ (places_in_arguments (exprs_view es.now) ++ place CallEnd close ∷ [])) }
+{
+    push_arguments(list, es)?;
+    push(list, PlaceKind::CallEnd, close)?;
     Ok(())
 }
 
@@ -198,6 +205,7 @@ fn push_functions(list: &mut Vec<Place>, functions: &[Function]) -> Result<(), O
 }
 
 /// Every place, by place and then by kind.
+#[tactic(auto, using(crate::proofs::PlaceLaws::places_of_all))]
 pub fn places(alloc: Global, program: &Program) -> Result<Seq<Place>, OutOfMemory>
     ensures { IfOk result (λ places. places ≡ places_of (program_view program.now)) }
 {

@@ -1,7 +1,8 @@
 // The place that a location names.
-ghost use Rattle.std.specs.Prelude.{◌≡◌, cond, None, Some};
+ghost use Rattle.std.specs.Prelude.{◌≡◌, [], ◌∷◌, ◌++◌, None, Some};
 ghost use Rattle.c_core.specs.Places.{is_named, place, place_at, places_if, places_in, places_in_arguments, places_in_first, places_in_init, places_in_names, places_in_node, places_of_block, places_of_form, places_of_statement, same_kind};
 ghost use Rattle.c_core.specs.View.{block_view, expr_view, expr_view_if, exprs_view, first_view, form_view, functions_view, init_view, names_view, node_view, program_view, stmt_view, stmts_view};
+ghost use Rattle.c_core.specs.declared.place.PlaceKind.TheVariants.{Branch, CallEnd, Loop};
 ghost use Rattle.c_places.specs.Seeking.{best_of, places_of_functions};
 
 use c_core::{Declared, Expr, First, Form, Function, Init, Node, PlaceKind, Program, Spot, Stmt};
@@ -62,6 +63,7 @@ impl Location {
     }
 
     #[cycle(expression)]
+    #[tactic(auto, using(crate::proofs::SeekingLaws::best_of_both))]
     fn node(&self, best: Option<Spot>, node: &Node) -> Option<Spot>
         ensures { result ≡ best_of self.now.kind self.now.line self.now.column best (places_in_node (node_view node.now)) }
     {
@@ -99,14 +101,21 @@ impl Location {
                 let best = self.expression(best, target);
                 self.expression(best, from)
             }
-            Node::Call { args, close, .. } => {
-                let best = self.arguments(best, args.as_slice());
-                self.own(best, PlaceKind::CallEnd, *close)
-            }
+            Node::Call { args, close, .. } => self.call(best, args.as_slice(), *close),
         }
     }
 
     #[cycle(expression)]
+    #[tactic(auto, using(crate::proofs::SeekingLaws::best_of_both))]
+    fn call(&self, best: Option<Spot>, es: &[Expr], close: Spot) -> Option<Spot>
+        ensures { result ≡ best_of self.now.kind self.now.line self.now.column best (places_in_arguments (exprs_view es.now) ++ place CallEnd close ∷ []) }
+    {
+        let inner = self.arguments(best, es);
+        self.own(inner, PlaceKind::CallEnd, close)
+    }
+
+    #[cycle(expression)]
+    #[tactic(auto, using(crate::proofs::SeekingLaws::best_of_both))]
     fn arguments(&self, best: Option<Spot>, es: &[Expr]) -> Option<Spot>
         ensures { result ≡ best_of self.now.kind self.now.line self.now.column best (places_in_arguments (exprs_view es.now)) }
     {
@@ -136,6 +145,7 @@ impl Location {
         }
     }
 
+    #[tactic(auto, using(crate::proofs::SeekingLaws::best_of_both))]
     fn names(&self, best: Option<Spot>, names: &[Declared]) -> Option<Spot>
         ensures { result ≡ best_of self.now.kind self.now.line self.now.column best (places_in_names (names_view names.now)) }
     {
@@ -157,6 +167,7 @@ impl Location {
     }
 
     #[cycle(statement)]
+    #[tactic(auto, using(crate::proofs::SeekingLaws::best_of_both))]
     fn statement(&self, best: Option<Spot>, s: &Stmt) -> Option<Spot>
         ensures { result ≡ best_of self.now.kind self.now.line self.now.column best (places_of_statement (stmt_view s.now)) }
     {
@@ -165,6 +176,7 @@ impl Location {
     }
 
     #[cycle(statement)]
+    #[tactic(auto, using(crate::proofs::SeekingLaws::best_of_both))]
     fn form(&self, best: Option<Spot>, at: Spot, form: &Form) -> Option<Spot>
         ensures { result ≡ best_of self.now.kind self.now.line self.now.column best (places_of_form at (form_view form.now)) }
     {
@@ -212,14 +224,16 @@ impl Location {
     }
 
     /// The places of a loop itself.
+    #[tactic(auto, using(crate::proofs::SeekingLaws::best_of_both))]
     fn turning(&self, best: Option<Spot>, at: Spot) -> Option<Spot>
-        ensures { result ≡ best_of self.now.kind self.now.line self.now.column best (place PlaceKind.Loop at ∷ place PlaceKind.Branch at ∷ []) }
+        ensures { result ≡ best_of self.now.kind self.now.line self.now.column best (place Loop at ∷ place Branch at ∷ []) }
     {
         let best = self.own(best, PlaceKind::Loop, at);
         self.own(best, PlaceKind::Branch, at)
     }
 
     #[cycle(statement)]
+    #[tactic(auto, using(crate::proofs::SeekingLaws::best_of_both))]
     fn block(&self, best: Option<Spot>, body: &[Stmt]) -> Option<Spot>
         ensures { result ≡ best_of self.now.kind self.now.line self.now.column best (places_of_block (stmts_view body.now)) }
     {
@@ -230,6 +244,7 @@ impl Location {
         nearest
     }
 
+    #[tactic(auto, using(crate::proofs::SeekingLaws::best_of_both))]
     fn functions(&self, functions: &[Function]) -> Option<Spot>
         ensures { result ≡ best_of self.now.kind self.now.line self.now.column None (places_of_functions (functions_view functions.now)) }
     {
@@ -242,6 +257,7 @@ impl Location {
 }
 
 /// The place of this kind that a location names: exactly there, or the leftmost on the line.
+#[tactic(auto, using(crate::proofs::PlaceLaws::best_is_place))]
 pub fn place_at(
     program: &Program,
     kind: PlaceKind,
