@@ -1,7 +1,9 @@
 -- A checked program has few objects.
 use Rattle.std.proofs.Common.{◌≡◌, ℕ, ◌≤◌, ◌+◌, refl, true, false, cond, Bool, ◌&&◌, List, [], ◌∷◌, length, IsTrue, nat_le, nat_eq, arith}
+use Rattle.std.proofs.lemmas.Bool.{false≢true}
 use Rattle.std.specs.List.{list_all, sum_by}
 use Rattle.std.proofs.lemmas.Bool.Decides.{nat_tests}
+use Rattle.std.proofs.lemmas.List.Sums.{sum_by-cons}
 use Rattle.c_core.specs.Tree.{Program}
 use Rattle.c_core.specs.Program.{IsProgram, object_fits, objects_fit, cells_fit}
 use Rattle.c_core.specs.declared.tree.Object.{Object}
@@ -11,9 +13,8 @@ one_at_least true cells h = grind (arith, nat_tests)
 one_at_least false cells h = grind (arith, nat_tests)
 
 both_true : (a b : Bool) → IsTrue (a && b) → IsTrue a × IsTrue b
-both_true true true h = (h, h)
-both_true true false h = absurd h
-both_true false b h = absurd h
+both_true true b h = (refl, h)
+both_true false b h = absurd (false≢true h)
 
 few : (os : List Object) → IsTrue (list_all object_fits os) → length os ≤ sum_by (λ o. o.cells) os
 few [] h = omega arith
@@ -21,7 +22,7 @@ few (o ∷ os) h =
     let t = both_true (object_fits o) (list_all object_fits os) h in
     let one : 1 ≤ o.cells = one_at_least o.array o.cells t.0 in
     let rest : length os ≤ sum_by (λ x. x.cells) os = few os t.1 in
-    omega arith
+    omega (arith, sum_by-cons (λ x. x.cells) o os)
 
 within : (n : ℕ) → IsTrue (nat_le n 100000) → n ≤ 100000
 within n h = grind (arith, nat_tests)

@@ -1,5 +1,5 @@
 -- What walks keep over two lists, one after the other, and what they find over a program.
-use Rattle.std.proofs.Common.{◌≡◌, ℕ, refl, sym, ap, ◌∙◌, Bool, true, false, cond, List, [], ◌∷◌, ◌++◌, Option, Some, None}
+use Rattle.std.proofs.Common.{◌≡◌, ℕ, suc, ◌+◌, ◌<◌, refl, sym, ap, ◌∙◌, Bool, cond, List, [], ◌∷◌, ◌++◌, get_or, length, drop, drop-cons, add-one, Option, Some, None}
 use Rattle.c_core.specs.Tree.{Exp, Stm}
 use Rattle.c_core.specs.Places.{before_in_statement}
 use Rattle.c_core.specs.declared.number.Spot.{Spot}
@@ -20,3 +20,7 @@ first_of_both q found (e ∷ xs) ys = first_of_both q (or_this found (q e) e) xs
 pub before_of_both : (spot : Spot) (found : Option Stm) (xs ys : List Stm) → before_of spot found (xs ++ ys) ≡ before_of spot (before_of spot found xs) ys
 before_of_both spot found [] ys = refl
 before_of_both spot found (s ∷ xs) ys = before_of_both spot (or_else found (before_in_statement spot s)) xs ys
+
+-- the item at an index, and those behind it
+pub item_first : {A : Type 0} (xs : List A) (i : ℕ) (x : A) → i < length xs → x ≡ get_or xs i x → drop i xs ≡ x ∷ drop (i + 1) xs
+item_first xs i x inside is = drop-cons xs i x inside ∙ ap (λ y. y ∷ drop (suc i) xs) (sym is) ∙ ap (λ n. x ∷ drop n xs) (sym (add-one i))

@@ -12,39 +12,39 @@ use Rattle.c_core.specs.declared.number.Property.TheVariants.{UnreachCall, NoOve
 use Rattle.c_core.specs.declared.number.Spot.{Spot}
 use Rattle.c_core.specs.declared.place.PlaceKind.TheVariants.{Statement}
 use Rattle.c_places.specs.Seeking.{first_of, is_wanted, or_this}
-use Rattle.c_places.specs.Sought.{is_reachability, parts_of, sought_if, sought_in, sought_in_block, sought_in_else, sought_in_first, sought_in_form, sought_in_functions, sought_in_init, sought_in_list, sought_in_names}
+use Rattle.c_places.specs.Sought.{found_by, is_reachability, parts_of, each_if, each_in, each_in_block, each_in_else, each_in_first, each_in_form, each_in_functions, each_in_init, each_in_list, each_in_names}
 use Rattle.c_places.specs.declared.expressions.Wanted.{Wanted}
 use Rattle.c_places.specs.declared.expressions.Wanted.TheVariants.{EndsAt, Starts, ReachesError}
 
 -- what is sought in these full expressions
-abbrev parts : Wanted → List Exp → List Exp
-parts w es = flat_map (parts_of w) es
+abbrev parts : {A : Type 0} → (Exp → List A) → List Exp → List A
+parts w es = flat_map w es
 
-two_parts : (w : Wanted) (xs ys : List Exp) → parts w (xs ++ ys) ≡ parts w xs ++ parts w ys
-two_parts w xs ys = flat_map-append (parts_of w) xs ys
+two_parts : {A : Type 0} (w : Exp → List A) (xs ys : List Exp) → parts w (xs ++ ys) ≡ parts w xs ++ parts w ys
+two_parts w xs ys = flat_map-append w xs ys
 
-one_part : (w : Wanted) (e : Exp) → parts_of w e ≡ parts w (e ∷ [])
-one_part w e = sym (append-nil (parts_of w e))
+one_part : {A : Type 0} (w : Exp → List A) (e : Exp) → w e ≡ parts w (e ∷ [])
+one_part w e = sym (append-nil (w e))
 
-in_if : (w : Wanted) (e : Option Exp) → sought_if w e ≡ parts w (exp_if e)
+in_if : {A : Type 0} (w : Exp → List A) (e : Option Exp) → each_if w e ≡ parts w (exp_if e)
 in_if w None = refl
 in_if w (Some e) = one_part w e
 
-in_list : (w : Wanted) (es : Exps) → sought_in_list w es ≡ parts w (exps_in es)
+in_list : {A : Type 0} (w : Exp → List A) (es : Exps) → each_in_list w es ≡ parts w (exps_in es)
 in_list w NoExp = refl
-in_list w (MoreExp e es) = ap (λ l. parts_of w e ++ l) (in_list w es)
+in_list w (MoreExp e es) = ap (λ l. w e ++ l) (in_list w es)
 
-in_init : (w : Wanted) (i : Init) → sought_in_init w i ≡ parts w (fulls_of_init i)
+in_init : {A : Type 0} (w : Exp → List A) (i : Init) → each_in_init w i ≡ parts w (fulls_of_init i)
 in_init w Absent = refl
 in_init w (One e) = one_part w e
 in_init w (Many es) = in_list w es
 
-in_names : (w : Wanted) (ns : Names) → sought_in_names w ns ≡ parts w (fulls_of_names ns)
+in_names : {A : Type 0} (w : Exp → List A) (ns : Names) → each_in_names w ns ≡ parts w (fulls_of_names ns)
 in_names w NoName = refl
 in_names w (MoreName spot o i ns) =
-    ap (λ l. l ++ sought_in_names w ns) (in_init w i) ∙ ap (λ l. parts w (fulls_of_init i) ++ l) (in_names w ns) ∙ sym (two_parts w (fulls_of_init i) (fulls_of_names ns))
+    ap (λ l. l ++ each_in_names w ns) (in_init w i) ∙ ap (λ l. parts w (fulls_of_init i) ++ l) (in_names w ns) ∙ sym (two_parts w (fulls_of_init i) (fulls_of_names ns))
 
-in_first : (w : Wanted) (i : First) → sought_in_first w i ≡ parts w (fulls_of_first i)
+in_first : {A : Type 0} (w : Exp → List A) (i : First) → each_in_first w i ≡ parts w (fulls_of_first i)
 in_first w NoFirst = refl
 in_first w (FirstExp e) = one_part w e
 in_first w (FirstNames ns) = in_names w ns
@@ -54,19 +54,19 @@ abbrev fulls : List Stm → List Exp
 fulls ss = flat_map own_fulls_of ss
 
 -- what is sought in two lists of statements
-both : (w : Wanted) (xs ys : List Stm) (l m : List Exp) → l ≡ parts w (fulls xs) → m ≡ parts w (fulls ys) → l ++ m ≡ parts w (fulls (xs ++ ys))
+both : {A : Type 0} (w : Exp → List A) (xs ys : List Stm) (l m : List A) → l ≡ parts w (fulls xs) → m ≡ parts w (fulls ys) → l ++ m ≡ parts w (fulls (xs ++ ys))
 both w xs ys l m a b =
     ap (λ k. k ++ m) a ∙ ap (λ k. parts w (fulls xs) ++ k) b
     ∙ sym (two_parts w (fulls xs) (fulls ys)) ∙ sym (ap (parts w) (flat_map-append own_fulls_of xs ys))
 
 -- an own full expression, before those of statements
-behind : (w : Wanted) (es : List Exp) (ss : List Stm) (l m : List Exp) → l ≡ parts w es → m ≡ parts w (fulls ss) → l ++ m ≡ parts w (es ++ fulls ss)
+behind : {A : Type 0} (w : Exp → List A) (es : List Exp) (ss : List Stm) (l m : List A) → l ≡ parts w es → m ≡ parts w (fulls ss) → l ++ m ≡ parts w (es ++ fulls ss)
 behind w es ss l m a b = ap (λ k. k ++ m) a ∙ ap (λ k. parts w es ++ k) b ∙ sym (two_parts w es (fulls ss))
 
-alone : (w : Wanted) (es : List Exp) (l : List Exp) → l ≡ parts w es → l ≡ parts w (es ++ [])
+alone : {A : Type 0} (w : Exp → List A) (es : List Exp) (l : List A) → l ≡ parts w es → l ≡ parts w (es ++ [])
 alone w es l a = a ∙ sym (ap (parts w) (append-nil es))
 
-of_for : (w : Wanted) (xs ys zs : List Exp) (ss : List Stm) (a b c d : List Exp) → a ≡ parts w xs → b ≡ parts w ys → c ≡ parts w zs → d ≡ parts w (fulls ss)
+of_for : {A : Type 0} (w : Exp → List A) (xs ys zs : List Exp) (ss : List Stm) (a b c d : List A) → a ≡ parts w xs → b ≡ parts w ys → c ≡ parts w zs → d ≡ parts w (fulls ss)
     → a ++ (b ++ (c ++ d)) ≡ parts w (xs ++ ys ++ zs ++ fulls ss)
 of_for w xs ys zs ss a b c d p q r s =
     ap (λ k. k ++ (b ++ (c ++ d))) p ∙ ap (λ k. parts w xs ++ (k ++ (c ++ d))) q ∙ ap (λ k. parts w xs ++ (parts w ys ++ (k ++ d))) r
@@ -77,46 +77,46 @@ of_for w xs ys zs ss a b c d p q r s =
     ∙ append_assoc (parts w xs) (parts w ys) (parts w zs ++ parts w (fulls ss)))
 
 mutual
-  in_statement : (w : Wanted) (s : Stm) → sought_in w s ≡ parts w (fulls (statements_of s))
+  in_statement : {A : Type 0} (w : Exp → List A) (s : Stm) → each_in w s ≡ parts w (fulls (statements_of s))
   in_statement w (Stmt at f) = in_form w f
 
-  in_form : (w : Wanted) (f : Form) → sought_in_form w f ≡ parts w (own_fulls f ++ fulls (statements_of_form f))
+  in_form : {A : Type 0} (w : Exp → List A) (f : Form) → each_in_form w f ≡ parts w (own_fulls f ++ fulls (statements_of_form f))
   in_form w Empty = refl
   in_form w (Do e) = one_part w e
-  in_form w (Declare ns) = alone w (fulls_of_names ns) (sought_in_names w ns) (in_names w ns)
+  in_form w (Declare ns) = alone w (fulls_of_names ns) (each_in_names w ns) (in_names w ns)
   in_form w (Block b) = in_block w b
-  in_form w (If e a b) = ap (λ l. parts_of w e ++ l) (both w (statements_of a) (statements_of_else b) (sought_in w a) (sought_in_else w b) (in_statement w a) (in_else w b))
-  in_form w (While e b) = ap (λ l. parts_of w e ++ l) (in_statement w b)
-  in_form w (DoWhile b e) = ap (λ l. parts_of w e ++ l) (in_statement w b)
+  in_form w (If e a b) = ap (λ l. w e ++ l) (both w (statements_of a) (statements_of_else b) (each_in w a) (each_in_else w b) (in_statement w a) (in_else w b))
+  in_form w (While e b) = ap (λ l. w e ++ l) (in_statement w b)
+  in_form w (DoWhile b e) = ap (λ l. w e ++ l) (in_statement w b)
   in_form w (For i e s b) =
-      of_for w (fulls_of_first i) (exp_if e) (exp_if s) (statements_of b) (sought_in_first w i) (sought_if w e) (sought_if w s) (sought_in w b) (in_first w i) (in_if w e) (in_if w s) (in_statement w b)
+      of_for w (fulls_of_first i) (exp_if e) (exp_if s) (statements_of b) (each_in_first w i) (each_if w e) (each_if w s) (each_in w b) (in_first w i) (in_if w e) (in_if w s) (in_statement w b)
   in_form w Break = refl
   in_form w Continue = refl
-  in_form w (Return e) = alone w (exp_if e) (sought_if w e) (in_if w e)
+  in_form w (Return e) = alone w (exp_if e) (each_if w e) (in_if w e)
   in_form w (Label b) = in_statement w b
 
-  in_else : (w : Wanted) (b : Else) → sought_in_else w b ≡ parts w (fulls (statements_of_else b))
+  in_else : {A : Type 0} (w : Exp → List A) (b : Else) → each_in_else w b ≡ parts w (fulls (statements_of_else b))
   in_else w NoElse = refl
   in_else w (OrElse b) = in_statement w b
 
-  in_block : (w : Wanted) (b : Stms) → sought_in_block w b ≡ parts w (fulls (statements_of_block b))
+  in_block : {A : Type 0} (w : Exp → List A) (b : Stms) → each_in_block w b ≡ parts w (fulls (statements_of_block b))
   in_block w NoStm = refl
-  in_block w (MoreStm s b) = both w (statements_of s) (statements_of_block b) (sought_in w s) (sought_in_block w b) (in_statement w s) (in_block w b)
+  in_block w (MoreStm s b) = both w (statements_of s) (statements_of_block b) (each_in w s) (each_in_block w b) (in_statement w s) (in_block w b)
 
-in_functions : (w : Wanted) (fs : List Function) → sought_in_functions w fs ≡ parts w (fulls (flat_map (λ f. statements_of f.body) fs))
+pub in_functions : {A : Type 0} (w : Exp → List A) (fs : List Function) → each_in_functions w fs ≡ parts w (fulls (flat_map (λ f. statements_of f.body) fs))
 in_functions w [] = refl
 in_functions w (f ∷ fs) =
-    both w (statements_of f.body) (flat_map (λ f. statements_of f.body) fs) (sought_in w f.body) (sought_in_functions w fs) (in_statement w f.body) (in_functions w fs)
+    both w (statements_of f.body) (flat_map (λ f. statements_of f.body) fs) (each_in w f.body) (each_in_functions w fs) (in_statement w f.body) (in_functions w fs)
 
-call_parts : (close : Spot) (es : List Exp) → parts (EndsAt close) es ≡ flat_map exps_of es
+call_parts : (close : Spot) (es : List Exp) → parts (parts_of (EndsAt close)) es ≡ flat_map exps_of es
 call_parts close [] = refl
 call_parts close (e ∷ es) = ap (λ l. exps_of e ++ l) (call_parts close es)
 
-error_parts : (line : ℕ) (column : Option ℕ) (es : List Exp) → parts (ReachesError line column) es ≡ flat_map exps_of es
+error_parts : (line : ℕ) (column : Option ℕ) (es : List Exp) → parts (parts_of (ReachesError line column)) es ≡ flat_map exps_of es
 error_parts line column [] = refl
 error_parts line column (e ∷ es) = ap (λ l. exps_of e ++ l) (error_parts line column es)
 
-start_parts : (line : ℕ) (column : Option ℕ) (es : List Exp) → parts (Starts line column) es ≡ es
+start_parts : (line : ℕ) (column : Option ℕ) (es : List Exp) → parts (parts_of (Starts line column)) es ≡ es
 start_parts line column [] = refl
 start_parts line column (e ∷ es) = ap (λ l. e ∷ l) (start_parts line column es)
 
@@ -136,9 +136,9 @@ find_same : (close : Spot) (es : List Exp) → find (is_wanted (EndsAt close)) e
 find_same close [] = refl
 find_same close (e ∷ es) = ap (λ r. cond (ends_at close e) (Some e) r) (find_same close es)
 
-pub first_is_call : (p : Program) (close : Spot) → first_of (is_wanted (EndsAt close)) None (sought_in_functions (EndsAt close) p.functions) ≡ call_at p close
+pub first_is_call : (p : Program) (close : Spot) → first_of (is_wanted (EndsAt close)) None (each_in_functions (parts_of (EndsAt close)) p.functions) ≡ call_at p close
 first_is_call p close =
-    ap (first_of (is_wanted (EndsAt close)) None) (in_functions (EndsAt close) p.functions ∙ call_parts close (fulls_of_program p))
+    ap (first_of (is_wanted (EndsAt close)) None) (in_functions (parts_of (EndsAt close)) p.functions ∙ call_parts close (fulls_of_program p))
     ∙ first_is_find (is_wanted (EndsAt close)) (exps_of_program p) ∙ find_same close (exps_of_program p)
 
 -- whether one is found
@@ -186,18 +186,14 @@ error_starts : (property : Property) (line : ℕ) (column : Option ℕ) (es : Li
 error_starts UnreachCall line column es = sym (error_found line column es)
 error_starts NoOverflow line column es = refl
 
--- the first of a kind that a walk finds
-abbrev pub found_by : Wanted → Program → Option Exp
-found_by w p = first_of (is_wanted w) None (sought_in_functions w p.functions)
-
 start_is_found : (p : Program) (line : ℕ) (column : Option ℕ) → is_some (found_by (Starts line column) p) ≡ list_any (is_named line column) (map spot_of (fulls_of_program p))
 start_is_found p line column =
-    ap (λ es. is_some (first_of (is_wanted (Starts line column)) None es)) (in_functions (Starts line column) p.functions ∙ start_parts line column (fulls_of_program p))
+    ap (λ es. is_some (first_of (is_wanted (Starts line column)) None es)) (in_functions (parts_of (Starts line column)) p.functions ∙ start_parts line column (fulls_of_program p))
     ∙ ap is_some (first_is_find (is_wanted (Starts line column)) (fulls_of_program p)) ∙ start_found line column (fulls_of_program p)
 
 error_is_found : (p : Program) (line : ℕ) (column : Option ℕ) → is_some (found_by (ReachesError line column) p) ≡ is_some (find (is_wanted (ReachesError line column)) (exps_of_program p))
 error_is_found p line column =
-    ap (λ es. is_some (first_of (is_wanted (ReachesError line column)) None es)) (in_functions (ReachesError line column) p.functions ∙ error_parts line column (fulls_of_program p))
+    ap (λ es. is_some (first_of (is_wanted (ReachesError line column)) None es)) (in_functions (parts_of (ReachesError line column)) p.functions ∙ error_parts line column (fulls_of_program p))
     ∙ ap is_some (first_is_find (is_wanted (ReachesError line column)) (exps_of_program p))
 
 -- a target is at a statement, at a full expression, or at a call of `reach_error` where that is the property

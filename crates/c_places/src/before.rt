@@ -2,7 +2,7 @@
 ghost use Rattle.std.specs.Prelude.{◌≡◌, [], ◌∷◌, ◌++◌, None};
 ghost use Rattle.std.specs.Option.{option_copied, option_map};
 ghost use Rattle.c_core.specs.Parts.{statements_of, statements_of_block, statements_of_form};
-ghost use Rattle.c_core.specs.Places.{before_in, before_in_statement, stmt_before};
+ghost use Rattle.c_core.specs.Places.{before_in, before_in_form, stmt_before};
 ghost use Rattle.c_core.specs.View.{form_view, functions_view, program_view, stmt_view, stmts_view};
 ghost use Rattle.c_places.specs.Seeking.{before_of, statements_of_functions};
 
@@ -22,15 +22,21 @@ fn directly_before(spot: Spot, body: &[Stmt]) -> Option<&Stmt>
     None
 }
 
+fn before_in_form(spot: Spot, form: &Form) -> Option<&Stmt>
+    ensures { option_map stmt_view (option_copied result) ≡ before_in_form spot (form_view form.now) }
+{
+    match form {
+        Form::Block(body) => directly_before(spot, body.as_slice()),
+        _ => None,
+    }
+}
+
 fn own<'a>(spot: Spot, found: Option<&'a Stmt>, s: &'a Stmt) -> Option<&'a Stmt>
     ensures { option_map stmt_view (option_copied result) ≡ before_of spot (option_map stmt_view (option_copied found.entry)) (stmt_view s.now ∷ []) }
 {
-    if found.is_some() {
-        return found;
-    }
-    match &s.form {
-        Form::Block(body) => directly_before(spot, body.as_slice()),
-        _ => None,
+    match found {
+        Some(first) => Some(first),
+        None => before_in_form(spot, &s.form),
     }
 }
 

@@ -1,11 +1,11 @@
 // The first expression of a kind, over all bodies.
-ghost use Rattle.std.specs.Prelude.{◌≡◌, [], ◌∷◌, ◌++◌, None};
+ghost use Rattle.std.specs.Prelude.{◌≡◌, [], ◌∷◌, ◌++◌, None, is_some};
 ghost use Rattle.std.specs.Option.{option_copied};
 ghost use Rattle.c_core.specs.Parts.{exps_of, exps_of_arguments, exps_of_node, same_spot};
 ghost use Rattle.c_core.specs.Places.{aim_fits, call_at};
 ghost use Rattle.c_core.specs.View.{expr_view, expr_view_if, exprs_view, first_view, form_view, functions_view, init_view, names_view, node_view, program_view, stmt_view, stmts_view};
 ghost use Rattle.c_places.specs.Seeking.{first_of, is_wanted};
-ghost use Rattle.c_places.specs.Sought.{is_reachability, parts_of, sought_if, sought_in, sought_in_block, sought_in_first, sought_in_form, sought_in_functions, sought_in_init, sought_in_list, sought_in_names};
+ghost use Rattle.c_places.specs.Sought.{found_by, is_reachability, parts_of, each_if, each_in, each_in_block, each_in_first, each_in_form, each_in_functions, each_in_init, each_in_list, each_in_names};
 
 use crate::place::{names, place_at};
 use c_core::{
@@ -131,7 +131,7 @@ fn full<'a>(wanted: Wanted, found: Option<&'a Expr>, e: &'a Expr) -> Option<&'a 
 }
 
 fn optional<'a>(wanted: Wanted, found: Option<&'a Expr>, e: &'a Option<Expr>) -> Option<&'a Expr>
-    ensures { expr_view_if (option_copied result) ≡ first_of (is_wanted wanted) (expr_view_if (option_copied found.entry)) (sought_if wanted (expr_view_if e.now)) }
+    ensures { expr_view_if (option_copied result) ≡ first_of (is_wanted wanted) (expr_view_if (option_copied found.entry)) (each_if (parts_of wanted) (expr_view_if e.now)) }
 {
     match e {
         None => found,
@@ -141,7 +141,7 @@ fn optional<'a>(wanted: Wanted, found: Option<&'a Expr>, e: &'a Option<Expr>) ->
 
 #[tactic(auto, using(crate::proofs::SeekingLaws::first_of_both))]
 fn listed<'a>(wanted: Wanted, found: Option<&'a Expr>, es: &'a [Expr]) -> Option<&'a Expr>
-    ensures { expr_view_if (option_copied result) ≡ first_of (is_wanted wanted) (expr_view_if (option_copied found.entry)) (sought_in_list wanted (exprs_view es.now)) }
+    ensures { expr_view_if (option_copied result) ≡ first_of (is_wanted wanted) (expr_view_if (option_copied found.entry)) (each_in_list (parts_of wanted) (exprs_view es.now)) }
 {
     let mut first = found;
     for e in es {
@@ -151,7 +151,7 @@ fn listed<'a>(wanted: Wanted, found: Option<&'a Expr>, es: &'a [Expr]) -> Option
 }
 
 fn initial<'a>(wanted: Wanted, found: Option<&'a Expr>, init: &'a Init) -> Option<&'a Expr>
-    ensures { expr_view_if (option_copied result) ≡ first_of (is_wanted wanted) (expr_view_if (option_copied found.entry)) (sought_in_init wanted (init_view init.now)) }
+    ensures { expr_view_if (option_copied result) ≡ first_of (is_wanted wanted) (expr_view_if (option_copied found.entry)) (each_in_init (parts_of wanted) (init_view init.now)) }
 {
     match init {
         Init::Absent => found,
@@ -166,7 +166,7 @@ fn declared<'a>(
     found: Option<&'a Expr>,
     names: &'a [Declared],
 ) -> Option<&'a Expr>
-    ensures { expr_view_if (option_copied result) ≡ first_of (is_wanted wanted) (expr_view_if (option_copied found.entry)) (sought_in_names wanted (names_view names.now)) }
+    ensures { expr_view_if (option_copied result) ≡ first_of (is_wanted wanted) (expr_view_if (option_copied found.entry)) (each_in_names (parts_of wanted) (names_view names.now)) }
 {
     let mut first = found;
     for name in names {
@@ -176,7 +176,7 @@ fn declared<'a>(
 }
 
 fn beginning<'a>(wanted: Wanted, found: Option<&'a Expr>, first: &'a First) -> Option<&'a Expr>
-    ensures { expr_view_if (option_copied result) ≡ first_of (is_wanted wanted) (expr_view_if (option_copied found.entry)) (sought_in_first wanted (first_view first.now)) }
+    ensures { expr_view_if (option_copied result) ≡ first_of (is_wanted wanted) (expr_view_if (option_copied found.entry)) (each_in_first (parts_of wanted) (first_view first.now)) }
 {
     match first {
         First::Absent => found,
@@ -187,7 +187,7 @@ fn beginning<'a>(wanted: Wanted, found: Option<&'a Expr>, first: &'a First) -> O
 
 #[cycle(statement)]
 fn statement<'a>(wanted: Wanted, found: Option<&'a Expr>, s: &'a Stmt) -> Option<&'a Expr>
-    ensures { expr_view_if (option_copied result) ≡ first_of (is_wanted wanted) (expr_view_if (option_copied found.entry)) (sought_in wanted (stmt_view s.now)) }
+    ensures { expr_view_if (option_copied result) ≡ first_of (is_wanted wanted) (expr_view_if (option_copied found.entry)) (each_in (parts_of wanted) (stmt_view s.now)) }
 {
     inside(wanted, found, &s.form)
 }
@@ -195,7 +195,7 @@ fn statement<'a>(wanted: Wanted, found: Option<&'a Expr>, s: &'a Stmt) -> Option
 #[cycle(statement)]
 #[tactic(auto, using(crate::proofs::SeekingLaws::first_of_both))]
 fn inside<'a>(wanted: Wanted, found: Option<&'a Expr>, form: &'a Form) -> Option<&'a Expr>
-    ensures { expr_view_if (option_copied result) ≡ first_of (is_wanted wanted) (expr_view_if (option_copied found.entry)) (sought_in_form wanted (form_view form.now)) }
+    ensures { expr_view_if (option_copied result) ≡ first_of (is_wanted wanted) (expr_view_if (option_copied found.entry)) (each_in_form (parts_of wanted) (form_view form.now)) }
 {
     match form {
         Form::Empty => found,
@@ -239,7 +239,7 @@ fn inside<'a>(wanted: Wanted, found: Option<&'a Expr>, form: &'a Form) -> Option
 #[cycle(statement)]
 #[tactic(auto, using(crate::proofs::SeekingLaws::first_of_both))]
 fn block<'a>(wanted: Wanted, found: Option<&'a Expr>, body: &'a [Stmt]) -> Option<&'a Expr>
-    ensures { expr_view_if (option_copied result) ≡ first_of (is_wanted wanted) (expr_view_if (option_copied found.entry)) (sought_in_block wanted (stmts_view body.now)) }
+    ensures { expr_view_if (option_copied result) ≡ first_of (is_wanted wanted) (expr_view_if (option_copied found.entry)) (each_in_block (parts_of wanted) (stmts_view body.now)) }
 {
     let mut first = found;
     for s in body {
@@ -250,7 +250,7 @@ fn block<'a>(wanted: Wanted, found: Option<&'a Expr>, body: &'a [Stmt]) -> Optio
 
 #[tactic(auto, using(crate::proofs::SeekingLaws::first_of_both))]
 fn in_functions<'a>(wanted: Wanted, functions: &'a [Function]) -> Option<&'a Expr>
-    ensures { expr_view_if (option_copied result) ≡ first_of (is_wanted wanted) None (sought_in_functions wanted (functions_view functions.now)) }
+    ensures { expr_view_if (option_copied result) ≡ first_of (is_wanted wanted) None (each_in_functions (parts_of wanted) (functions_view functions.now)) }
 {
     let mut first = None;
     for function in functions {
@@ -268,20 +268,21 @@ fn is_reachability(property: Property) -> bool
     }
 }
 
+fn is_found(program: &Program, wanted: Wanted) -> bool
+    ensures { result ≡ is_some (found_by wanted (program_view program.now)) }
+{
+    in_functions(wanted, program.functions.as_slice()).is_some()
+}
+
 /// Whether a target may stand there, exactly or somewhere on the line.
 #[tactic(auto, using(crate::proofs::SoughtLaws::aim_is_found))]
 pub fn aim_fits(program: &Program, line: u32, column: Option<u32>) -> bool
     ensures { result ≡ aim_fits (program_view program.now) line column }
 {
-    let functions = program.functions.as_slice();
-    if place_at(program, PlaceKind::Statement, line, column).is_some() {
-        return true;
-    }
-    if in_functions(Wanted::Starts(line, column), functions).is_some() {
-        return true;
-    }
-    is_reachability(program.property)
-        && in_functions(Wanted::ReachesError(line, column), functions).is_some()
+    let at_statement = place_at(program, PlaceKind::Statement, line, column).is_some();
+    let at_start = is_found(program, Wanted::Starts(line, column));
+    let at_error = is_found(program, Wanted::ReachesError(line, column));
+    at_statement || (at_start || (is_reachability(program.property) && at_error))
 }
 
 /// The call whose closing parenthesis stands there.

@@ -4,12 +4,14 @@
 mod before;
 mod examples;
 mod expressions;
+mod inputs;
 mod listed;
 mod place;
 mod visible;
 
 pub use before::stmt_before;
 pub use expressions::{aim_fits, call_at};
+pub use inputs::{InputCall, input_calls, input_of};
 pub use listed::places;
 pub use place::place_at;
 pub use visible::names_at;
