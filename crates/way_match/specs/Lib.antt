@@ -1,4 +1,5 @@
 pub mod Points
+pub mod View
 pub mod Passing
 pub mod Matching
 pub mod Given

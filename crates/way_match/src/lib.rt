@@ -3,6 +3,10 @@
 #![tactic(auto)]
 
 mod examples;
+mod given_values;
 mod laws;
+mod point;
 
+pub use given_values::given;
 pub use laws::{confirmed_violates, confirms_exactly, test_matches};
+pub use point::{Aim, Bound, BoundSegment, Point, ReturnTest};

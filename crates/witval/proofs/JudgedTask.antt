@@ -19,7 +19,8 @@ use Rattle.wv_task.specs.declared.fault.TaskFault.TheVariants as task
 use Rattle.wv_yaml.specs.declared.tree.Tree.{Tree}
 use Rattle.witval.specs.declared.thin.witness.ThinWitness.{ThinWitness}
 use Rattle.witval.specs.Readings.{IsSchemaRefusal, IsTaskRefusal, RightAfterSchema, RightAfterTask}
-use Rattle.witval.specs.Tasks.{IsRightVerdict, RightOn, RightOnProgram, RightOnSource, RightOnTree, RightOnWitness, Violation, task_of}
+use Rattle.way_match.specs.Verdicts.{IsRightVerdict}
+use Rattle.witval.specs.Tasks.{RightOn, RightOnProgram, RightOnSource, RightOnTree, RightOnWitness, Violation, task_of}
 use Rattle.wv_show.specs.Show.{summary_of}
 use Rattle.witval.specs.Replies.{NoTreeReply, NoWitnessReply, SummaryOf}
 use Rattle.witval.specs.declared.output.Output.TheVariants.{Report, Summary}

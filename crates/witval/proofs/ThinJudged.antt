@@ -12,7 +12,7 @@ use Rattle.way_match.specs.Points.{BoundSegment}
 use Rattle.way_match.specs.Matching.{Seen, Finds, seen_of}
 use Rattle.way_match.specs.Given.{given_by, RunGiven, SeenGiven}
 use Rattle.way_match.specs.Verdicts.{IsRightAt, IsRightOnViolation}
-use Rattle.witval.specs.Tasks.{IsRightVerdict}
+use Rattle.way_match.specs.Verdicts.{IsRightVerdict}
 use Rattle.witval.specs.ThinPlaces.{segments_of}
 use Rattle.witval.specs.ThinTracking.{after, after_all, tracking, positions_of, verdict_by, verdict_by_end, ReturnsAsInt}
 use Rattle.witval.specs.declared.thin.tracker.Tracker.{Tracker}

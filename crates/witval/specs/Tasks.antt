@@ -14,7 +14,7 @@ use Rattle.wv_task.specs.PropertyText.{property_of}
 use Rattle.wv_task.specs.Task.{judged}
 use Rattle.wv_yaml.specs.declared.tree.Tree.{Tree}
 use Rattle.way_match.specs.Points.{BoundSegment}
-use Rattle.way_match.specs.Verdicts.{IsRightOnViolation, IsConfirmed}
+use Rattle.way_match.specs.Verdicts.{IsRightVerdict}
 use Rattle.witval.specs.ThinProgram.{thin_program}
 use Rattle.witval.specs.ThinWitness.{thin_witness}
 use Rattle.witval.specs.ThinPlaces.{is_placed, segments_of}
@@ -34,11 +34,6 @@ task_placed p (Some w) = if is_placed p w then Violation p (segments_of w) else 
 abbrev pub task_of : Option tree.Program → Option ThinWitness → Task
 task_of None w = Unbuilt (codes "program")
 task_of (Some p) w = task_placed p w
-
--- a verdict that is right on the given run with so many steps, and that shows such values where it confirms
-pub record IsRightVerdict (steps : ℕ) (p : tree.Program) (ss : List BoundSegment) (verdict : Verdict) : Type 0 where
-  pub right : IsRightOnViolation p ss steps verdict
-  pub confirmed : IsConfirmed p ss steps verdict
 
 abbrev pub RightOn : ℕ → Task → Reply → Type 0
 RightOn steps (Unbuilt detail) reply = reply ≡ unbuilt detail

@@ -1,7 +1,7 @@
 ghost use Rattle.std.specs.Prelude.{◌≡◌, IfOk, IsTrue};
 ghost use Rattle.c_core.specs.Thin.{is_thin};
 ghost use Rattle.c_core.specs.View.{program_view};
-ghost use Rattle.witval.specs.Tasks.{IsRightVerdict};
+ghost use Rattle.way_match.specs.Verdicts.{IsRightVerdict};
 ghost use Rattle.witval.specs.ThinPlaces.{segments_of};
 ghost use Rattle.witval.specs.ThinTracking.{positions_if, verdict_by};
 
