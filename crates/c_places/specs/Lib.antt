@@ -1,0 +1,3 @@
+pub mod Seeking
+pub mod Visible
+pub mod WorkedNames
