@@ -4,6 +4,7 @@ ghost use Rattle.c_core.specs.View.{program_view};
 ghost use Rattle.c_parser.specs.Formed.{AreOrderly};
 ghost use Rattle.c_parser.specs.Parsing.{source_view};
 ghost use Rattle.way_match.specs.View.{segments_view};
+ghost use Rattle.wv_schema.specs.Shapes.{is_set};
 ghost use Rattle.witval.specs.Inputs.{AreWithin};
 ghost use Rattle.witval.specs.Tasks.{RightOnInputs, RightOnProgram, RightOnSegments, RightOnSequence, RightOnSource, RightOnText, RightOnTokens, RightOnTree, RightOnWitness, RightUnder, holds_sets};
 
@@ -143,12 +144,21 @@ fn judge_source(
     }
 }
 
+fn is_set(entry: &Entry) -> bool
+    ensures { result ≡ is_set entry.now }
+{
+    match entry.content {
+        Content::Violation(_) => false,
+        Content::Invariants(_) => true,
+    }
+}
+
 /// Whether one of the entries is an invariant set.
 fn holds_sets(witness: &Witness) -> bool
     ensures { result ≡ holds_sets witness.now }
 {
-    let is_set = |entry: &Entry| matches!(entry.content, Content::Invariants(_));
-    witness.entries.as_slice().iter().any(is_set)
+    let entries = witness.entries.as_slice();
+    entries.iter().any(|entry| is_set(entry))
 }
 
 /// The reply to a program, and a witness about it.

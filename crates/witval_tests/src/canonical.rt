@@ -1,4 +1,4 @@
-use super::{ran, shelf};
+use crate::files::{ran, shelf};
 use std::alloc::Global;
 use std::test::Fail;
 use wv_base::{MemorySink, OutOfMemory};

@@ -1,14 +1,6 @@
-mod canonical;
-mod json;
-mod outside;
-mod refusals;
-mod shown;
-mod sources;
-mod task;
-mod verdicts;
-
-use super::run;
+// The files that the tests are about, and the validator over them.
 use std::alloc::{AllocError, Global};
+use witval::run;
 use wv_base::{MemoryShelf, MemorySink, OutOfMemory};
 
 pub const PROGRAM: &str = "void reach_error() { }
@@ -23,6 +15,14 @@ int main() {
 ";
 
 pub const PROPERTY: &str = "CHECK( init(main()), LTL(G ! call(reach_error())) )";
+
+/// The other property, and what a witness states of it.
+pub const OVERFLOW: &str = "CHECK( init(main()), LTL(G ! overflow) )";
+
+pub const NO_OVERFLOW: &str = "G ! overflow";
+
+/// What a witness states of the first one.
+pub const NO_CALL: &str = "G ! call(reach_error())";
 
 /// What `sha256sum` answers of the program.
 pub const HASH: &str = "ded7b1589e6fa99c676b3ed474b6ab4f17e0986b1188a85ae719b7120ee66725";
@@ -111,4 +111,67 @@ pub fn ran(
 /// The same for a witness about the program.
 pub fn ran_on(alloc: Global, line: &str, witness: &str) -> Result<(u8, MemorySink), OutOfMemory> {
     ran(alloc, line, &mut shelf(alloc, PROGRAM, PROPERTY, witness)?)
+}
+
+/// What stands before a blank, and behind it.
+fn parted(text: &str) -> (&str, &str) {
+    match text.split_once(' ') {
+        Some(parts) => parts,
+        None => (text, ""),
+    }
+}
+
+/// A waypoint in YAML. It is written as `show` prints it, without quotes: its action, its type, its place and the value of its
+/// constraint.
+fn waypoint(alloc: Global, text: &str) -> Result<String, AllocError> {
+    let (action, rest) = parted(text);
+    let (kind, rest) = parted(rest);
+    let (place, value) = parted(rest);
+    let location = match place.split_once(':') {
+        Some((line, column)) => format!(in alloc; "line: {line}, column: {column}")?,
+        None => format!(in alloc; "line: {place}")?,
+    };
+    let constraint = if value.is_empty() {
+        String::new(alloc)
+    } else {
+        format!(in alloc; ", constraint: {{value: '{value}'}}")?
+    };
+    format!(in alloc; "{{waypoint: {{type: {kind}, action: {action}, location: {{{location}}}{constraint}}}}}")
+}
+
+/// A witness of one violation sequence about a program with this hash, under this formula. Its segments stand between `/`, the
+/// waypoints of each between `;`.
+pub fn sequence(
+    alloc: Global,
+    hash: &str,
+    formula: &str,
+    segments: &str,
+) -> Result<String, AllocError> {
+    let head = match WITNESS.split_once("    - segment:") {
+        Some((head, _)) => head,
+        None => WITNESS,
+    };
+    let head = replaced(alloc, head, HASH, hash)?;
+    let mut text = replaced(alloc, &head, NO_CALL, formula)?;
+    for segment in segments.split('/') {
+        text.push_str("    - segment:\n")?;
+        for point in segment.split(';') {
+            text.push_str("        - ")?;
+            text.push_str(&waypoint(alloc, point.trim())?)?;
+            text.push_str("\n")?;
+        }
+    }
+    Ok(text)
+}
+
+/// A witness without invariants about a program with this hash, under this formula.
+pub fn no_invariants(alloc: Global, hash: &str, formula: &str) -> Result<String, AllocError> {
+    let head = match WITNESS.split_once("  content:") {
+        Some((head, _)) => head,
+        None => WITNESS,
+    };
+    let head = replaced(alloc, head, HASH, hash)?;
+    let head = replaced(alloc, &head, NO_CALL, formula)?;
+    let head = replaced(alloc, &head, "violation_sequence", "invariant_set")?;
+    format!(in alloc; "{head}  content: []\n")
 }

@@ -1,4 +1,4 @@
-use super::{PROGRAM, PROPERTY, VALIDATE, WITNESS, ran, ran_on, replaced, shelf};
+use crate::files::{PROGRAM, PROPERTY, VALIDATE, WITNESS, ran, ran_on, replaced, shelf};
 use std::test::Fail;
 use wv_base::MemoryShelf;
 

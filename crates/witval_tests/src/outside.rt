@@ -1,5 +1,5 @@
-use super::{PROGRAM, PROPERTY, VALIDATE, WITNESS, ran, shelf, words};
-use crate::run;
+use crate::files::{PROGRAM, PROPERTY, VALIDATE, WITNESS, ran, shelf, words};
+use witval::run;
 use std::test::Fail;
 use wv_base::{MemoryShelf, MemorySink};
 

@@ -1,4 +1,4 @@
-use super::{PROGRAM, PROPERTY, VALIDATE, WITNESS, ran, ran_on, replaced, shelf};
+use crate::files::{HASH, OVERFLOW, PROGRAM, PROPERTY, VALIDATE, WITNESS, ran, ran_on, replaced, shelf};
 use std::test::Fail;
 use wv_base::MemoryShelf;
 
@@ -74,22 +74,16 @@ fn the_schema_comes_before_the_task(rt: HostRuntime) -> Result<(), Fail> {
 #[test]
 fn refusals_come_in_their_order(rt: HostRuntime) -> Result<(), Fail> {
     let alloc = rt.alloc();
-    let overflow = "CHECK( init(main()), LTL(G ! overflow) )";
     let other = replaced(
         alloc,
         WITNESS,
         "6\n              column: 5",
         "7\n              column: 5",
     )?;
-    let enters = replaced(
-        alloc,
-        WITNESS,
-        "line: 4\n              column: 33",
-        "line: 4",
-    )?;
     let cases = [
         (PROGRAM, "G ! overflow", "\u{1}", "refused property\n"),
-        (PROGRAM, overflow, "\u{1}", "refused unbuilt property\n"),
+        (PROGRAM, OVERFLOW, "\u{1}", "refused yaml-bytes\n"),
+        (PROGRAM, OVERFLOW, WITNESS, "refused specification\n"),
         (PROGRAM, PROPERTY, "\u{1}", "refused yaml-bytes\n"),
         (PROGRAM, PROPERTY, "a: [1, 2\n", "refused yaml-grammar\n"),
         (
@@ -102,14 +96,8 @@ fn refusals_come_in_their_order(rt: HostRuntime) -> Result<(), Fail> {
         (
             PROGRAM,
             PROPERTY,
-            enters.as_str(),
-            "refused unbuilt witness\n",
-        ),
-        (
-            PROGRAM,
-            PROPERTY,
             other.as_str(),
-            "refused unbuilt waypoint\n",
+            "refused place 2\n",
         ),
     ];
     for (program, property, witness, report) in cases {
@@ -128,11 +116,11 @@ fn refusals_come_in_their_order(rt: HostRuntime) -> Result<(), Fail> {
 fn another_program_comes_before_another_witness(rt: HostRuntime) -> Result<(), Fail> {
     let alloc = rt.alloc();
     let empty = "e3b0c44298fc1c149afbf4c8996fb92427ae41e4649b934ca495991b7852b855";
-    let witness = replaced(alloc, WITNESS, super::HASH, empty)?;
+    let witness = replaced(alloc, WITNESS, HASH, empty)?;
     let enters = replaced(alloc, &witness, "function_return", "function_enter")?;
     for witness in [witness.as_str(), enters.as_str()] {
         let (status, out) = ran(alloc, VALIDATE, &mut shelf(alloc, "", PROPERTY, witness)?)?;
-        assert_eq!(rt; out.bytes(), b"refused unbuilt program\n".as_slice());
+        assert_eq!(rt; out.bytes(), b"refused check-main 1:1\n".as_slice());
         assert_eq!(rt; status, 3);
     }
     Ok(())

@@ -1,4 +1,4 @@
-use super::{WITNESS, ran, replaced, shelf};
+use crate::files::{WITNESS, ran, replaced, shelf};
 use std::test::Fail;
 
 const SHOW: &str = "witval show --witness w";

@@ -1,5 +1,5 @@
 // Programs that are no tokens or no source, and what may stand between the tokens of a program.
-use super::{HASH, PROGRAM, PROPERTY, VALIDATE, WITNESS, ran, ran_on, replaced, shelf};
+use crate::files::{HASH, PROGRAM, PROPERTY, VALIDATE, WITNESS, ran, ran_on, replaced, shelf};
 use std::alloc::Global;
 use std::test::Fail;
 use wv_base::{MemorySink, OutOfMemory};
@@ -55,7 +55,7 @@ const REFUSED: [(&str, &str, &str); 8] = [
     (
         "int main() { return 1; }",
         "b1ebfc6f7dac326a0440e145c3e069c5c1c008015d5d7900eab3721210888682",
-        "refused unbuilt program\n",
+        "refused place 1\n",
     ),
 ];
 

@@ -1,4 +1,4 @@
-use super::{HASH, PROPERTY, VALIDATE, WITNESS, ran, ran_on, replaced, shelf};
+use crate::files::{HASH, PROPERTY, VALIDATE, WITNESS, ran, ran_on, replaced, shelf};
 use std::test::Fail;
 
 /// What breaks each rule of the task, and the refusal, in the order in which the rules are judged.
