@@ -1,17 +1,27 @@
 -- The reply to the bytes read is the reply that the files call for.
-use Rattle.std.proofs.Common.{◌≡◌, Result, Ok, Err, IfOk, ℕ, List, false, Option, Some, None, IfSome, refl, sym, subst, inl}
+use Rattle.std.proofs.Common.{◌≡◌, Result, Ok, Err, IfOk, ℕ, List, Bool, true, false, Option, Some, None, IfSome, refl, sym, subst, inl}
 use Rattle.std.proofs.lemmas.List.Elements.{All-nil}
 use Rattle.std.specs.Str.{bytes_eq}
 use Rattle.c_core.specs.declared.number.DataModel.{DataModel}
 use Rattle.c_core.specs.declared.number.Property.{Property}
-use Rattle.c_core.specs.declared.number.Property.TheVariants.{UnreachCall, NoOverflow}
+use Rattle.c_core.specs.declared.program.Program.{Program}
+use Rattle.c_core.specs.Tree as tree
+use Rattle.c_parser.specs.Tree as raw
 use Rattle.c_parser.specs.declared.fault.ParseFault.{ParseFault}
 use Rattle.c_parser.specs.declared.fault.ParseFault.TheVariants as parse
 use Rattle.c_parser.specs.declared.item.Source.{Source}
+use Rattle.c_rules.specs.declared.fault.CheckCode.{CheckCode}
+use Rattle.c_rules.specs.declared.fault.CheckCode.TheVariants as code
+use Rattle.c_rules.specs.declared.fault.CheckFault.{CheckFault}
+use Rattle.c_rules.specs.declared.fault.CheckFault.TheVariants as check
 use Rattle.c_tokens.specs.declared.token.Token.{Token}
 use Rattle.c_tokens.specs.declared.token.TokenFault.{TokenFault}
 use Rattle.c_tokens.specs.declared.token.TokenFault.TheVariants as tokens
 use Rattle.sha2.specs.Sha256.{sha256}
+use Rattle.way_bind.specs.declared.fault.BindFault.{BindFault}
+use Rattle.way_bind.specs.declared.fault.BindFault.TheVariants as bind
+use Rattle.way_match.specs.Points.{BoundSegment}
+use Rattle.way_match.specs.declared.point.Bound.{Bound}
 use Rattle.wv_base.specs.Shelf.{ShelfState, Files, file_of}
 use Rattle.wv_report.specs.Json.{HasJsonIntegers, IsJsonInteger}
 use Rattle.wv_report.specs.declared.reply.Reply.{Reply}
@@ -29,11 +39,9 @@ use Rattle.wv_yaml.specs.declared.tree.Tree.{Tree}
 use Rattle.wv_yaml.specs.declared.fault.YamlFault.{YamlFault}
 use Rattle.wv_yaml.specs.declared.fault.YamlFault.TheVariants.{Bytes, Grammar, Duplicate, OutOfMemory}
 use Rattle.witval.specs.Inputs.{OfFiles, AreInputs, IsWitness, ToldOne}
-use Rattle.witval.specs.Readings.{IsRefusal, IsSchemaRefusal, IsSyntaxRefusal, IsTaskRefusal, IsTokenRefusal, RightAfterAnswer, RightAfterProperty, RightAfterReading, RightAfterSchema, RightAfterTask, RightByParse, RightByTokens}
-use Rattle.witval.specs.Tasks.{Task, Unbuilt, Violation, RightOn, RightOnInputs, RightOnProgram, RightOnSource, RightOnTokens, RightOnTree, RightOnWitness, task_of}
+use Rattle.witval.specs.Readings.{IsBindRefusal, IsCheckRefusal, IsRefusal, IsSchemaRefusal, IsSyntaxRefusal, IsTaskRefusal, IsTokenRefusal, RightAfterAnswer, RightAfterProperty, RightAfterReading, RightAfterSchema, RightAfterTask, RightByBind, RightByCheck, RightByClaims, RightByParse, RightByTokens, check_code, place_text}
+use Rattle.witval.specs.Tasks.{RightOnInputs, RightOnProgram, RightOnSegments, RightOnSequence, RightOnSource, RightOnText, RightOnTokens, RightOnTree, RightOnWitness, RightUnder, holds_sets}
 use Rattle.witval.specs.Replies.{CanonicalIn, NoReply, NoTreeReply, NoWitnessReply, OnWitness, SummaryIn, RightAlone, RightOnBytes, RightFor, too_long}
-use Rattle.witval.specs.ThinProgram.{thin_program}
-use Rattle.witval.specs.ThinWitness.{thin_witness}
 use Rattle.witval.specs.declared.input.Inputs.{Inputs}
 use Rattle.witval.specs.declared.output.Output.{Output}
 use Rattle.witval.specs.declared.output.Output.TheVariants.{Report, Canonical, Summary}
@@ -83,20 +91,57 @@ unfolding NotOfLength
 syntax_refusals (parse.Syntax line column) reply e = subst NotOfLength (sym e) refl
 syntax_refusals parse.OutOfMemory reply e = absurd e
 
-tasks : (steps : ℕ) (asked : Task) (reply : Reply) → RightOn steps asked reply → NotOfLength reply
+coded : (c : CheckCode) (detail : List ℕ) → NotOfLength (Refused (check_code c) detail)
 unfolding NotOfLength
-tasks steps (Unbuilt d) reply e = subst NotOfLength (sym e) refl
-tasks steps (Violation p ss) (Judged verdict) e = shows_integers p ss steps verdict e.right
-tasks steps (Violation p ss) (Refused code detail) e = absurd e
-tasks steps (Violation p ss) (ReadFault file) e = absurd e
+coded code.Name detail = refl
+coded code.Again detail = refl
+coded code.Typing detail = refl
+coded code.Size detail = refl
+coded code.Order detail = refl
+coded code.Body detail = refl
+coded code.Main detail = refl
+coded code.Cells detail = refl
+
+check_refusals : (fault : CheckFault) (reply : Reply) → IsCheckRefusal fault reply → NotOfLength reply
+check_refusals (check.Refused c spot) reply e = subst NotOfLength (sym e) (coded c (place_text spot.line spot.column))
+check_refusals check.OutOfMemory reply e = absurd e
+
+bind_refusals : (fault : BindFault) (reply : Reply) → IsBindRefusal fault reply → NotOfLength reply
+unfolding NotOfLength
+bind_refusals (bind.NoPlace waypoint) reply e = subst NotOfLength (sym e) refl
+bind_refusals (bind.Expression waypoint) reply e = subst NotOfLength (sym e) refl
+bind_refusals (bind.Scope waypoint) reply e = subst NotOfLength (sym e) refl
+bind_refusals bind.OutOfMemory reply e = absurd e
+
+on_segments : (steps : ℕ) (p : tree.Program) (ss : List BoundSegment) (reply : Reply) → RightOnSegments steps p ss reply → NotOfLength reply
+unfolding NotOfLength
+on_segments steps p ss (Judged verdict) e = shows_integers p ss steps verdict e.right
+on_segments steps p ss (Refused code detail) e = absurd e
+on_segments steps p ss (ReadFault file) e = absurd e
+
+after_bind : (answer : Result Bound BindFault) (within : List BoundSegment → Reply → Type 0) → ((ss : List BoundSegment) (reply : Reply) → within ss reply → NotOfLength reply)
+    → (reply : Reply) → RightByBind answer within reply → NotOfLength reply
+after_bind (Ok bound) within good reply right = good _ reply right
+after_bind (Err fault) within good reply right = bind_refusals fault reply right
+
+by_claims : (sets : Bool) (within : Reply → Type 0) → ((reply : Reply) → within reply → NotOfLength reply) → (reply : Reply) → RightByClaims sets within reply → NotOfLength reply
+unfolding NotOfLength
+by_claims true within good reply right = subst NotOfLength (sym right) refl
+by_claims false within good reply right = good reply right
+
+after_check : (answer : Result Program CheckFault) (within : tree.Program → Reply → Type 0) → ((p : tree.Program) (reply : Reply) → within p reply → NotOfLength reply)
+    → (reply : Reply) → RightByCheck answer within reply → NotOfLength reply
+after_check (Ok program) within good reply right = good _ reply right
+after_check (Err fault) within good reply right = check_refusals fault reply right
 
 after_tokens : (answer : Result (List Token) TokenFault) (within : List Token → Reply → Type 0) → ((ts : List Token) (reply : Reply) → within ts reply → NotOfLength reply)
     → (reply : Reply) → RightByTokens answer within reply → NotOfLength reply
 after_tokens (Ok ts) within good reply right = good ts reply right
 after_tokens (Err fault) within good reply right = token_refusals fault reply right
 
-after_parse : (answer : Result Source ParseFault) (within : Reply → Type 0) → ((reply : Reply) → within reply → NotOfLength reply) → (reply : Reply) → RightByParse answer within reply → NotOfLength reply
-after_parse (Ok source) within good reply right = good reply right
+after_parse : (answer : Result Source ParseFault) (within : List raw.Item → Reply → Type 0) → ((items : List raw.Item) (reply : Reply) → within items reply → NotOfLength reply)
+    → (reply : Reply) → RightByParse answer within reply → NotOfLength reply
+after_parse (Ok source) within good reply right = good _ reply right
 after_parse (Err fault) within good reply right = syntax_refusals fault reply right
 
 after_task : (answer : Result DataModel TaskFault) (within : DataModel → Reply → Type 0) → ((model : DataModel) (reply : Reply) → within model reply → NotOfLength reply)
@@ -114,32 +159,49 @@ after_answer : (answer : Result Tree YamlFault) (within : Tree → Reply → Typ
 after_answer (Ok tree) within good reply right = good tree reply right
 after_answer (Err fault) within good reply right = refusals fault reply right
 
-after_property : (o : Option Property) (within : Reply → Type 0) → ((reply : Reply) → within reply → NotOfLength reply) → (reply : Reply) → RightAfterProperty o within reply → NotOfLength reply
+after_property : (o : Option Property) (within : Property → Reply → Type 0) → ((property : Property) (reply : Reply) → within property reply → NotOfLength reply)
+    → (reply : Reply) → RightAfterProperty o within reply → NotOfLength reply
 unfolding NotOfLength
-after_property (Some UnreachCall) within good reply right = good reply right
-after_property (Some NoOverflow) within good reply right = subst NotOfLength (sym right) refl
+after_property (Some property) within good reply right = good property reply right
 after_property None within good reply right = subst NotOfLength (sym right) refl
 
-tokens_not_of_length : (steps : ℕ) (witness : Witness) (model : DataModel) (ts : List Token) (reply : Reply) → RightOnTokens steps witness model ts reply → NotOfLength reply
-tokens_not_of_length steps witness model ts reply right =
-    after_parse right.0 (RightOnSource steps witness model ts) (λ reply r. tasks steps (task_of (thin_program model ts) (thin_witness witness)) reply r) reply right.2
+sequence_not_of_length : (steps : ℕ) (witness : Witness) (p : tree.Program) (reply : Reply) → RightOnSequence steps witness p reply → NotOfLength reply
+sequence_not_of_length steps witness p reply right = after_bind right.0 (RightOnSegments steps p) (on_segments steps p) reply right.2
 
-program_not_of_length : (steps : ℕ) (program : List ℕ) (witness : Witness) (model : DataModel) (reply : Reply) → RightOnProgram steps program witness model reply → NotOfLength reply
-program_not_of_length steps program witness model reply right =
-    after_tokens right.0 (RightOnTokens steps witness model) (tokens_not_of_length steps witness model) reply right.2
+program_not_of_length : (steps : ℕ) (witness : Witness) (p : tree.Program) (reply : Reply) → RightOnProgram steps witness p reply → NotOfLength reply
+program_not_of_length steps witness p reply right = by_claims (holds_sets witness) (RightOnSequence steps witness p) (sequence_not_of_length steps witness p) reply right
 
-witness_not_of_length : (steps : ℕ) (program : List ℕ) (witness : Witness) (reply : Reply) → RightOnWitness steps program witness reply → NotOfLength reply
-witness_not_of_length steps program witness reply right =
-    after_task (task_judged (sha256 program) UnreachCall witness.entries) (RightOnProgram steps program witness)
-    (program_not_of_length steps program witness) reply right
+source_not_of_length : (steps : ℕ) (property : Property) (witness : Witness) (model : DataModel) (items : List raw.Item) (reply : Reply)
+    → RightOnSource steps property witness model items reply → NotOfLength reply
+source_not_of_length steps property witness model items reply right =
+    after_check right.0 (RightOnProgram steps witness) (program_not_of_length steps witness) reply right.2
 
-tree_not_of_length : (steps : ℕ) (program : List ℕ) (tree : Tree) (reply : Reply) → RightOnTree steps program tree reply → NotOfLength reply
-tree_not_of_length steps program tree reply right = after_schema (witness_of tree) (RightOnWitness steps program) (witness_not_of_length steps program) reply right
+tokens_not_of_length : (steps : ℕ) (property : Property) (witness : Witness) (model : DataModel) (ts : List Token) (reply : Reply)
+    → RightOnTokens steps property witness model ts reply → NotOfLength reply
+tokens_not_of_length steps property witness model ts reply right =
+    after_parse right.0 (RightOnSource steps property witness model) (source_not_of_length steps property witness model) reply right.2
+
+text_not_of_length : (steps : ℕ) (property : Property) (text : List ℕ) (witness : Witness) (model : DataModel) (reply : Reply)
+    → RightOnText steps property text witness model reply → NotOfLength reply
+text_not_of_length steps property text witness model reply right =
+    after_tokens right.0 (RightOnTokens steps property witness model) (tokens_not_of_length steps property witness model) reply right.2
+
+witness_not_of_length : (steps : ℕ) (property : Property) (text : List ℕ) (witness : Witness) (reply : Reply) → RightOnWitness steps property text witness reply → NotOfLength reply
+witness_not_of_length steps property text witness reply right =
+    after_task (task_judged (sha256 text) property witness.entries) (RightOnText steps property text witness)
+    (text_not_of_length steps property text witness) reply right
+
+tree_not_of_length : (steps : ℕ) (property : Property) (text : List ℕ) (tree : Tree) (reply : Reply) → RightOnTree steps property text tree reply → NotOfLength reply
+tree_not_of_length steps property text tree reply right =
+    after_schema (witness_of tree) (RightOnWitness steps property text) (witness_not_of_length steps property text) reply right
+
+under_not_of_length : (steps : ℕ) (text witness : List ℕ) (property : Property) (reply : Reply) → RightUnder steps text witness property reply → NotOfLength reply
+under_not_of_length steps text witness property reply right =
+    after_answer right.0 (RightOnTree steps property text) (tree_not_of_length steps property text) reply right.2
 
 inputs_not_of_length : (steps : ℕ) (program property witness : List ℕ) (reply : Reply) → RightOnInputs steps program property witness reply → NotOfLength reply
 inputs_not_of_length steps program property witness reply right =
-    after_property (property_of property) (RightAfterReading witness (RightOnTree steps program))
-    (λ reply r. after_answer r.0 (RightOnTree steps program) (tree_not_of_length steps program) reply r.2) reply right
+    after_property (property_of property) (RightUnder steps program witness) (under_not_of_length steps program witness) reply right
 
 -- the files hold the bytes that were read
 on_files : (steps : ℕ) (program property witness : List ℕ) (inputs : Inputs) (reply : Reply) → AreInputs inputs program property witness

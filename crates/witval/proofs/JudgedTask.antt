@@ -1,13 +1,9 @@
 -- What the readers answer decides the reply, step by step.
 use Rattle.std.proofs.Common.{◌≡◌, ◌∙◌, ℕ, List, Bool, true, Option, Some, None, Result, Ok, Err, IfOk, refl, sym, subst, ap₂}
 use Rattle.sha2.specs.Sha256.{sha256}
-use Rattle.c_core.specs.Tree as tree
 use Rattle.c_core.specs.declared.number.DataModel.{DataModel}
-use Rattle.c_core.specs.declared.number.Property.TheVariants.{UnreachCall}
-use Rattle.c_meaning.specs.declared.verdict.Verdict.{Verdict}
-use Rattle.c_tokens.specs.declared.token.Token.{Token}
+use Rattle.c_core.specs.declared.number.Property.{Property}
 use Rattle.wv_report.specs.declared.reply.Reply.{Reply}
-use Rattle.wv_report.specs.declared.reply.Reply.TheVariants.{Verdict as Judged}
 use Rattle.wv_schema.specs.Schema.{IsAnswer, judged as schema_judged, schema_fault, witness_of}
 use Rattle.wv_schema.specs.Values.{witness_in}
 use Rattle.wv_schema.specs.declared.fault.SchemaFault.{SchemaFault}
@@ -17,27 +13,11 @@ use Rattle.wv_task.specs.Task.{Gives, judged as task_judged}
 use Rattle.wv_task.specs.declared.fault.TaskFault.{TaskFault}
 use Rattle.wv_task.specs.declared.fault.TaskFault.TheVariants as task
 use Rattle.wv_yaml.specs.declared.tree.Tree.{Tree}
-use Rattle.witval.specs.declared.thin.witness.ThinWitness.{ThinWitness}
 use Rattle.witval.specs.Readings.{IsSchemaRefusal, IsTaskRefusal, RightAfterSchema, RightAfterTask}
-use Rattle.way_match.specs.Verdicts.{IsRightVerdict}
-use Rattle.witval.specs.Tasks.{RightOn, RightOnProgram, RightOnSource, RightOnTree, RightOnWitness, Violation, task_of}
+use Rattle.witval.specs.Tasks.{RightOnText, RightOnTree, RightOnWitness}
 use Rattle.wv_show.specs.Show.{summary_of}
 use Rattle.witval.specs.Replies.{NoTreeReply, NoWitnessReply, SummaryOf}
 use Rattle.witval.specs.declared.output.Output.TheVariants.{Report, Summary}
-use Rattle.witval.specs.ThinPlaces.{is_placed, is_placed_if, segments_of}
-use Rattle.witval.specs.ThinProgram.{thin_program}
-use Rattle.witval.specs.ThinWitness.{thin_witness}
-
--- the verdict on placed waypoints is the one that the program and the witness ask for
-pub judged_right : (steps : ℕ) (ts : List Token) (witness : Witness) (model : DataModel) (found : Option ThinWitness) (w : ThinWitness) (p : tree.Program) (placed : Bool) (verdict : Verdict)
-    → found ≡ thin_witness witness → found ≡ Some w → thin_program model ts ≡ Some p → placed ≡ is_placed_if p found → placed ≡ true
-    → IsRightVerdict steps p (segments_of w) verdict → RightOnSource steps witness model ts (Judged verdict)
-judged_right steps ts witness model found w p placed verdict read is built stands holds right =
-    let there : thin_witness witness ≡ Some w = sym read ∙ is in
-    let stands_if : is_placed_if p found ≡ true = sym stands ∙ holds in
-    let stands_there : is_placed p w ≡ true = rw is at stands_if in
-    let task : task_of (thin_program model ts) (thin_witness witness) ≡ Violation p (segments_of w) = rw (built, there, stands_there) refl in
-    subst (λ k. RightOn steps k (Judged verdict)) (sym task) right
 
 -- want of memory gives no reply
 never : {E : Type 0} (P : Reply → Type 0) (result : Result Reply E) → IfOk result (λ reply. ⊥) → IfOk result P
@@ -53,46 +33,46 @@ witness_answer : (t : Tree) (w : Witness) → IsAnswer t (Ok w) → witness_of t
 unfolding witness_of
 witness_answer t w answer = ap₂ schema_judged answer.0 (sym answer.1)
 
-pub after_witness : {E : Type 0} (steps : ℕ) (program : List ℕ) (t : Tree) (w : Witness) (result : Result Reply E) → IsAnswer t (Ok w)
-    → IfOk result (RightOnWitness steps program w) → IfOk result (RightOnTree steps program t)
-after_witness steps program t w result answer right =
-    subst (λ a. IfOk result (RightAfterSchema a (RightOnWitness steps program))) (sym (witness_answer t w answer)) right
+pub after_witness : {E : Type 0} (steps : ℕ) (property : Property) (program : List ℕ) (t : Tree) (w : Witness) (result : Result Reply E) → IsAnswer t (Ok w)
+    → IfOk result (RightOnWitness steps property program w) → IfOk result (RightOnTree steps property program t)
+after_witness steps property program t w result answer right =
+    subst (λ a. IfOk result (RightAfterSchema a (RightOnWitness steps property program))) (sym (witness_answer t w answer)) right
 
-refused_by_schema : {E : Type 0} (steps : ℕ) (program : List ℕ) (t : Tree) (fault : SchemaFault) (result : Result Reply E) → schema_fault t ≡ Some fault
-    → IfOk result (IsSchemaRefusal fault) → IfOk result (RightOnTree steps program t)
-refused_by_schema steps program t fault result e right =
-    subst (λ a. IfOk result (RightAfterSchema a (RightOnWitness steps program))) (sym (schema_answer t fault e)) right
+refused_by_schema : {E : Type 0} (steps : ℕ) (property : Property) (program : List ℕ) (t : Tree) (fault : SchemaFault) (result : Result Reply E) → schema_fault t ≡ Some fault
+    → IfOk result (IsSchemaRefusal fault) → IfOk result (RightOnTree steps property program t)
+refused_by_schema steps property program t fault result e right =
+    subst (λ a. IfOk result (RightAfterSchema a (RightOnWitness steps property program))) (sym (schema_answer t fault e)) right
 
-pub after_fault : {E : Type 0} (steps : ℕ) (program : List ℕ) (t : Tree) (fault : SchemaFault) (result : Result Reply E) → IsAnswer t (Err fault)
-    → IfOk result (IsSchemaRefusal fault) → IfOk result (RightOnTree steps program t)
-after_fault steps program t (schema.Missing path) result e right = refused_by_schema steps program t _ result e right
-after_fault steps program t (schema.WrongKind path) result e right = refused_by_schema steps program t _ result e right
-after_fault steps program t (schema.BadValue path) result e right = refused_by_schema steps program t _ result e right
-after_fault steps program t schema.Version result e right = refused_by_schema steps program t _ result e right
-after_fault steps program t (schema.Shape segment) result e right = refused_by_schema steps program t _ result e right
-after_fault steps program t schema.Entries result e right = refused_by_schema steps program t _ result e right
-after_fault steps program t schema.OutOfMemory result e right = never _ result right
+pub after_fault : {E : Type 0} (steps : ℕ) (property : Property) (program : List ℕ) (t : Tree) (fault : SchemaFault) (result : Result Reply E) → IsAnswer t (Err fault)
+    → IfOk result (IsSchemaRefusal fault) → IfOk result (RightOnTree steps property program t)
+after_fault steps property program t (schema.Missing path) result e right = refused_by_schema steps property program t _ result e right
+after_fault steps property program t (schema.WrongKind path) result e right = refused_by_schema steps property program t _ result e right
+after_fault steps property program t (schema.BadValue path) result e right = refused_by_schema steps property program t _ result e right
+after_fault steps property program t schema.Version result e right = refused_by_schema steps property program t _ result e right
+after_fault steps property program t (schema.Shape segment) result e right = refused_by_schema steps property program t _ result e right
+after_fault steps property program t schema.Entries result e right = refused_by_schema steps property program t _ result e right
+after_fault steps property program t schema.OutOfMemory result e right = never _ result right
 
 -- the same with the rules of the task
-pub after_model : {E : Type 0} (steps : ℕ) (program : List ℕ) (w : Witness) (model : DataModel) (result : Result Reply E)
-    → Gives (task_judged (sha256 program) UnreachCall w.entries) (Ok model) → IfOk result (RightOnProgram steps program w model) → IfOk result (RightOnWitness steps program w)
-after_model steps program w model result answer right =
-    subst (λ a. IfOk result (RightAfterTask a (RightOnProgram steps program w))) (sym answer) right
+pub after_model : {E : Type 0} (steps : ℕ) (property : Property) (program : List ℕ) (w : Witness) (model : DataModel) (result : Result Reply E)
+    → Gives (task_judged (sha256 program) property w.entries) (Ok model) → IfOk result (RightOnText steps property program w model) → IfOk result (RightOnWitness steps property program w)
+after_model steps property program w model result answer right =
+    subst (λ a. IfOk result (RightAfterTask a (RightOnText steps property program w))) (sym answer) right
 
-refused_by_task : {E : Type 0} (steps : ℕ) (program : List ℕ) (w : Witness) (fault : TaskFault) (result : Result Reply E)
-    → task_judged (sha256 program) UnreachCall w.entries ≡ Err fault → IfOk result (IsTaskRefusal fault) → IfOk result (RightOnWitness steps program w)
-refused_by_task steps program w fault result e right =
-    subst (λ a. IfOk result (RightAfterTask a (RightOnProgram steps program w))) (sym e) right
+refused_by_task : {E : Type 0} (steps : ℕ) (property : Property) (program : List ℕ) (w : Witness) (fault : TaskFault) (result : Result Reply E)
+    → task_judged (sha256 program) property w.entries ≡ Err fault → IfOk result (IsTaskRefusal fault) → IfOk result (RightOnWitness steps property program w)
+refused_by_task steps property program w fault result e right =
+    subst (λ a. IfOk result (RightAfterTask a (RightOnText steps property program w))) (sym e) right
 
-pub after_task_fault : {E : Type 0} (steps : ℕ) (program : List ℕ) (w : Witness) (fault : TaskFault) (result : Result Reply E)
-    → Gives (task_judged (sha256 program) UnreachCall w.entries) (Err fault) → IfOk result (IsTaskRefusal fault) → IfOk result (RightOnWitness steps program w)
-after_task_fault steps program w task.Files result e right = refused_by_task steps program w _ result e right
-after_task_fault steps program w (task.Hash stated found) result e right = refused_by_task steps program w _ result e right
-after_task_fault steps program w task.Specification result e right = refused_by_task steps program w _ result e right
-after_task_fault steps program w task.Language result e right = refused_by_task steps program w _ result e right
-after_task_fault steps program w task.Model result e right = refused_by_task steps program w _ result e right
-after_task_fault steps program w task.Uuid result e right = refused_by_task steps program w _ result e right
-after_task_fault steps program w task.OutOfMemory result e right = never _ result right
+pub after_task_fault : {E : Type 0} (steps : ℕ) (property : Property) (program : List ℕ) (w : Witness) (fault : TaskFault) (result : Result Reply E)
+    → Gives (task_judged (sha256 program) property w.entries) (Err fault) → IfOk result (IsTaskRefusal fault) → IfOk result (RightOnWitness steps property program w)
+after_task_fault steps property program w task.Files result e right = refused_by_task steps property program w _ result e right
+after_task_fault steps property program w (task.Hash stated found) result e right = refused_by_task steps property program w _ result e right
+after_task_fault steps property program w task.Specification result e right = refused_by_task steps property program w _ result e right
+after_task_fault steps property program w task.Language result e right = refused_by_task steps property program w _ result e right
+after_task_fault steps property program w task.Model result e right = refused_by_task steps property program w _ result e right
+after_task_fault steps property program w task.Uuid result e right = refused_by_task steps property program w _ result e right
+after_task_fault steps property program w task.OutOfMemory result e right = never _ result right
 
 -- the same where a summary is asked for
 pub shown_by : (t : Tree) (w : Witness) (text : List ℕ) → IsAnswer t (Ok w) → text ≡ summary_of w → SummaryOf (Summary text) t

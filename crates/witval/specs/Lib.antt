@@ -1,15 +1,5 @@
-pub mod ThinCharacters
-pub mod ThinWitness
-pub mod ThinProgram
-pub mod ThinPlaces
 pub mod Inputs
 pub mod Readings
 pub mod Tasks
 pub mod Replies
 pub mod Running
-pub mod ThinPhrases
-pub mod ThinGrammar
-pub mod ThinObjects
-pub mod ThinTracking
-pub mod ThinChoices
-pub mod ThinAims

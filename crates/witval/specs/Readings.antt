@@ -1,16 +1,31 @@
--- What the answers of the readers call for: of YAML, of the schema, of the task, of tokens, and of the grammar.
-use Rattle.std.specs.Prelude.{◌≡◌, ℕ, List, [], ◌∷◌, ◌++◌, Result, Ok, Err, Option, Some, None, codes, decimal}
+-- What the answers of the readers call for: of YAML, of the schema, of the task, of tokens, of the grammar, of the rules of a source
+-- and of the waypoints.
+use Rattle.std.specs.Prelude.{◌≡◌, ℕ, Bool, true, false, List, [], ◌∷◌, ◌++◌, Result, Ok, Err, Option, Some, None, codes, decimal}
 use Rattle.c_core.specs.declared.number.DataModel.{DataModel}
+use Rattle.c_core.specs.Tree as tree
+use Rattle.c_core.specs.View.{program_view}
 use Rattle.c_core.specs.declared.number.Property.{Property}
-use Rattle.c_core.specs.declared.number.Property.TheVariants.{UnreachCall, NoOverflow}
-use Rattle.c_parser.specs.Parsing.{Answers as ParserAnswers}
+use Rattle.c_core.specs.declared.program.Program.{Program}
+use Rattle.c_check.specs.Checking.{Answers as CheckAnswers}
+use Rattle.c_parser.specs.Parsing.{Answers as ParserAnswers, source_view}
+use Rattle.c_parser.specs.Tree as raw
 use Rattle.c_parser.specs.declared.fault.ParseFault.{ParseFault}
 use Rattle.c_parser.specs.declared.fault.ParseFault.TheVariants as parse
 use Rattle.c_parser.specs.declared.item.Source.{Source}
+use Rattle.c_rules.specs.declared.fault.CheckCode.{CheckCode}
+use Rattle.c_rules.specs.declared.fault.CheckCode.TheVariants as code
+use Rattle.c_rules.specs.declared.fault.CheckFault.{CheckFault}
+use Rattle.c_rules.specs.declared.fault.CheckFault.TheVariants as check
 use Rattle.c_tokens.specs.Reading.{Answers as TokensAnswers}
 use Rattle.c_tokens.specs.declared.token.Token.{Token}
 use Rattle.c_tokens.specs.declared.token.TokenFault.{TokenFault}
 use Rattle.c_tokens.specs.declared.token.TokenFault.TheVariants as tokens
+use Rattle.way_bind.specs.Binding.{Binds}
+use Rattle.way_bind.specs.declared.fault.BindFault.{BindFault}
+use Rattle.way_bind.specs.declared.fault.BindFault.TheVariants as bind
+use Rattle.way_match.specs.Points.{BoundSegment}
+use Rattle.way_match.specs.View.{segments_view}
+use Rattle.way_match.specs.declared.point.Bound.{Bound}
 use Rattle.wv_report.specs.declared.reply.Reply.{Reply}
 use Rattle.wv_report.specs.declared.reply.Reply.TheVariants.{Refused}
 use Rattle.wv_schema.specs.declared.fault.SchemaFault.{SchemaFault}
@@ -78,10 +93,32 @@ abbrev pub IsSyntaxRefusal : ParseFault → Reply → Type 0
 IsSyntaxRefusal (parse.Syntax line column) reply = reply ≡ Refused (codes "syntax") (place_text line column)
 IsSyntaxRefusal parse.OutOfMemory reply = ⊥
 
--- the reply after the property is read; one of the two isn't served yet
-abbrev pub RightAfterProperty : Option Property → (Reply → Type 0) → Reply → Type 0
-RightAfterProperty (Some UnreachCall) within reply = within reply
-RightAfterProperty (Some NoOverflow) within reply = reply ≡ unbuilt (codes "property")
+-- the word for what a source breaks
+abbrev pub check_code : CheckCode → List ℕ
+check_code code.Name = codes "check-name"
+check_code code.Again = codes "check-again"
+check_code code.Typing = codes "check-typing"
+check_code code.Size = codes "check-size"
+check_code code.Order = codes "check-order"
+check_code code.Body = codes "check-body"
+check_code code.Main = codes "check-main"
+check_code code.Cells = codes "check-cells"
+
+-- the refusal of a source that is no program
+abbrev pub IsCheckRefusal : CheckFault → Reply → Type 0
+IsCheckRefusal (check.Refused code spot) reply = reply ≡ Refused (check_code code) (place_text spot.line spot.column)
+IsCheckRefusal check.OutOfMemory reply = ⊥
+
+-- the refusal of a waypoint that isn't bound, by its number
+abbrev pub IsBindRefusal : BindFault → Reply → Type 0
+IsBindRefusal (bind.NoPlace waypoint) reply = reply ≡ Refused (codes "place") (decimal waypoint)
+IsBindRefusal (bind.Expression waypoint) reply = reply ≡ Refused (codes "expression") (decimal waypoint)
+IsBindRefusal (bind.Scope waypoint) reply = reply ≡ Refused (codes "scope") (decimal waypoint)
+IsBindRefusal bind.OutOfMemory reply = ⊥
+
+-- the reply after the property is read
+abbrev pub RightAfterProperty : Option Property → (Property → Reply → Type 0) → Reply → Type 0
+RightAfterProperty (Some property) within reply = within property reply
 RightAfterProperty None within reply = reply ≡ plain (codes "property")
 
 -- the reply after an answer: what its tree calls for, or the refusal
@@ -112,11 +149,35 @@ RightByTokens (Err fault) within reply = IsTokenRefusal fault reply
 abbrev pub RightAfterTokens : List ℕ → (List Token → Reply → Type 0) → Reply → Type 0
 RightAfterTokens bytes within reply = (answer : Result (List Token) TokenFault) × TokensAnswers bytes answer × RightByTokens answer within reply
 
--- the same with the source that the tokens spell
-abbrev pub RightByParse : Result Source ParseFault → (Reply → Type 0) → Reply → Type 0
-RightByParse (Ok source) within reply = within reply
+-- the same with the items of the source that the tokens spell
+abbrev pub RightByParse : Result Source ParseFault → (List raw.Item → Reply → Type 0) → Reply → Type 0
+RightByParse (Ok source) within reply = within (source_view source) reply
 RightByParse (Err fault) within reply = IsSyntaxRefusal fault reply
 
 -- the reply after the answer that the tokens have: a source, or the first item that fits no form
-abbrev pub RightAfterParse : List Token → (Reply → Type 0) → Reply → Type 0
+abbrev pub RightAfterParse : List Token → (List raw.Item → Reply → Type 0) → Reply → Type 0
 RightAfterParse ts within reply = (answer : Result Source ParseFault) × ParserAnswers ts answer × RightByParse answer within reply
+
+-- the same with the program of the source
+abbrev pub RightByCheck : Result Program CheckFault → (tree.Program → Reply → Type 0) → Reply → Type 0
+RightByCheck (Ok program) within reply = within (program_view program) reply
+RightByCheck (Err fault) within reply = IsCheckRefusal fault reply
+
+-- the reply after the answer that the source has: its program, or its first refusal
+abbrev pub RightAfterCheck : DataModel → Property → List raw.Item → (tree.Program → Reply → Type 0) → Reply → Type 0
+RightAfterCheck model property items within reply =
+    (answer : Result Program CheckFault) × CheckAnswers model property items answer × RightByCheck answer within reply
+
+-- the same with the segments of the witness, bound to the program
+abbrev pub RightByBind : Result Bound BindFault → (List BoundSegment → Reply → Type 0) → Reply → Type 0
+RightByBind (Ok bound) within reply = within (segments_view bound) reply
+RightByBind (Err fault) within reply = IsBindRefusal fault reply
+
+-- the reply after the answer that a violation sequence has: its bound segments, or its least waypoint that isn't bound
+abbrev pub RightAfterBind : tree.Program → Witness → (List BoundSegment → Reply → Type 0) → Reply → Type 0
+RightAfterBind p witness within reply = (answer : Result Bound BindFault) × Binds p witness answer × RightByBind answer within reply
+
+-- the reply to a witness that holds invariant sets, which aren't served yet, or holds none
+abbrev pub RightByClaims : Bool → (Reply → Type 0) → Reply → Type 0
+RightByClaims true within reply = reply ≡ unbuilt (codes "witness")
+RightByClaims false within reply = within reply

@@ -6,7 +6,7 @@ ghost use Rattle.wv_words.specs.Requests.{named, stated};
 
 use crate::canonical::canonical;
 use crate::input::{Stop, read_one, read_three};
-use crate::judge::judge;
+use crate::judging::judge;
 use crate::output::Output;
 use crate::refusal::{read_fault, refuse_plainly, refuse_too_long, refuse_unbuilt};
 use crate::shown::shown;

@@ -3,17 +3,14 @@
 #![tactic(auto)]
 
 mod answer;
+mod binding;
 mod canonical;
 mod input;
-mod judge;
+mod judging;
 mod output;
 mod refusal;
 mod shown;
-mod thin;
 mod tokens;
 mod top;
 
 pub use top::run;
-
-#[cfg(test)]
-mod tests;

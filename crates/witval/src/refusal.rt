@@ -2,13 +2,15 @@
 ghost use Rattle.std.specs.Prelude.{◌≡◌, ◌++◌, ◌∷◌, [], IfOk, codes, decimal};
 ghost use Rattle.wv_report.specs.declared.reply.Reply.TheVariants as replies;
 ghost use Rattle.witval.specs.Inputs.{word_of};
-ghost use Rattle.witval.specs.Readings.{IsRefusal, IsSchemaRefusal, IsSyntaxRefusal, IsTaskRefusal, IsTokenRefusal, both_hashes, place_text, plain, unbuilt};
+ghost use Rattle.witval.specs.Readings.{IsBindRefusal, IsCheckRefusal, IsRefusal, IsSchemaRefusal, IsSyntaxRefusal, IsTaskRefusal, IsTokenRefusal, both_hashes, check_code, place_text, plain, unbuilt};
 ghost use Rattle.witval.specs.Replies.{too_long};
 
 use crate::input::File;
 use c_parser::ParseFault;
+use c_rules::{CheckCode, CheckFault};
 use c_tokens::TokenFault;
 use std::alloc::Global;
+use way_bind::BindFault;
 use wv_base::{OutOfMemory, Text};
 use wv_report::Reply;
 use wv_schema::SchemaFault;
@@ -72,8 +74,7 @@ pub fn refuse_schema(alloc: Global, fault: SchemaFault) -> Result<Reply, OutOfMe
         SchemaFault::BadValue(path) => refuse(alloc, "schema-value", path),
         SchemaFault::Version => refuse_plainly(alloc, "schema-version"),
         SchemaFault::Shape(segment) => {
-            let digits = format!(in alloc; "{segment}")?;
-            let detail = Text::of(alloc, digits.as_str())?;
+            let detail = number_text(alloc, segment)?;
             refuse(alloc, "schema-shape", detail)
         }
         SchemaFault::Entries => refuse_plainly(alloc, "schema-entries"),
@@ -120,11 +121,11 @@ fn place_text(alloc: Global, line: u32, column: u32) -> Result<Text, OutOfMemory
     Ok(text)
 }
 
-/// A line of the program.
-fn line_text(alloc: Global, line: u32) -> Result<Text, OutOfMemory>
-    ensures { IfOk result (λ text. text ≡ decimal line) }
+/// A line of the program, or the number of a segment or a waypoint.
+fn number_text(alloc: Global, number: u32) -> Result<Text, OutOfMemory>
+    ensures { IfOk result (λ text. text ≡ decimal number) }
 {
-    let digits = format!(in alloc; "{line}")?;
+    let digits = format!(in alloc; "{number}")?;
     let text = Text::of(alloc, digits.as_str())?;
     Ok(text)
 }
@@ -139,7 +140,7 @@ pub fn refuse_tokens(alloc: Global, fault: TokenFault) -> Result<Reply, OutOfMem
             refuse(alloc, "token", detail)
         }
         TokenFault::Directive { line } => {
-            let detail = line_text(alloc, line)?;
+            let detail = number_text(alloc, line)?;
             refuse(alloc, "directive", detail)
         }
         TokenFault::OutOfMemory => Err(OutOfMemory),
@@ -156,6 +157,56 @@ pub fn refuse_syntax(alloc: Global, fault: ParseFault) -> Result<Reply, OutOfMem
             refuse(alloc, "syntax", detail)
         }
         ParseFault::OutOfMemory => Err(OutOfMemory),
+    }
+}
+
+/// The word for what a source breaks.
+fn check_code(code: CheckCode) -> &'static str
+    ensures { result.now ≡ check_code code }
+{
+    match code {
+        CheckCode::Name => "check-name",
+        CheckCode::Again => "check-again",
+        CheckCode::Typing => "check-typing",
+        CheckCode::Size => "check-size",
+        CheckCode::Order => "check-order",
+        CheckCode::Body => "check-body",
+        CheckCode::Main => "check-main",
+        CheckCode::Cells => "check-cells",
+    }
+}
+
+/// A source that is no program.
+pub fn refuse_check(alloc: Global, fault: CheckFault) -> Result<Reply, OutOfMemory>
+    ensures { IfOk result (IsCheckRefusal fault) }
+{
+    match fault {
+        CheckFault::Refused { code, spot } => {
+            let detail = place_text(alloc, spot.line, spot.column)?;
+            refuse(alloc, check_code(code), detail)
+        }
+        CheckFault::OutOfMemory => Err(OutOfMemory),
+    }
+}
+
+/// A witness of which a waypoint isn't bound to the program.
+pub fn refuse_bind(alloc: Global, fault: BindFault) -> Result<Reply, OutOfMemory>
+    ensures { IfOk result (IsBindRefusal fault) }
+{
+    match fault {
+        BindFault::NoPlace(waypoint) => {
+            let detail = number_text(alloc, waypoint)?;
+            refuse(alloc, "place", detail)
+        }
+        BindFault::Expression(waypoint) => {
+            let detail = number_text(alloc, waypoint)?;
+            refuse(alloc, "expression", detail)
+        }
+        BindFault::Scope(waypoint) => {
+            let detail = number_text(alloc, waypoint)?;
+            refuse(alloc, "scope", detail)
+        }
+        BindFault::OutOfMemory => Err(OutOfMemory),
     }
 }
 

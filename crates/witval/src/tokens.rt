@@ -10,7 +10,6 @@ use wv_base::Seq;
 pub fn program_tokens(alloc: Global, program: &[u8]) -> Result<Seq<Token>, TokenFault>
     requires { length program.now ≤ 1048576 }
     ensures found { Answers program.now result }
-    ensures few { IfOk result (λ ts. length ts ≤ 1048576) }
     ensures orderly { IfOk result AreOrderly }
 {
     match tokens(alloc, program) {

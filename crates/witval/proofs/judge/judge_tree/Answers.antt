@@ -1,8 +1,0 @@
-use Rattle.witval.proofs.JudgedTask.{after_fault, after_witness}
-use Rattle.witval.proofs.judge.judge_tree.Goals as goal
-
-pub returns-in-Ok : goal.returns-in-Ok
-returns-in-Ok c = after_witness c.args.steps c.args.program.now c.args.tree.now c.in-Ok.witness _ c.in-Ok.ensures.answer c.judge_witness.ensures
-
-pub returns-in-Err : goal.returns-in-Err
-returns-in-Err c = after_fault c.args.steps c.args.program.now c.args.tree.now c.in-Err.fault _ c.in-Err.ensures.answer c.refuse_schema.ensures
