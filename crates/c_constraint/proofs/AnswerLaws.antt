@@ -1,22 +1,21 @@
 -- From what the calls give to what is answered.
-use Rattle.std.proofs.Common.{◌≡◌, ℕ, Bool, true, false, ◌||◌, List, [], Option, Some, None, is_some, refl, ap, sym, subst, ◌∙◌}
+use Rattle.std.proofs.Common.{◌≡◌, ℕ, Bool, true, false, List, [], Option, None, is_some, ap, sym, subst, ◌∙◌}
 use std.Path.{fun_ext}
-use Rattle.std.specs.List.{list_any}
 use Rattle.c_core.specs.Tree as t
 use Rattle.c_core.specs.declared.number.DataModel.{DataModel}
 use Rattle.c_core.specs.declared.tree.Object.{Object}
 use Rattle.c_parser.specs.Formed.{every_node}
 use Rattle.c_parser.specs.Tree.{Exp, Node, Item}
 use Rattle.c_rules.specs.declared.fault.Refusal.{Refusal}
-use Rattle.c_rules.specs.Codes.{word_of, mistyped}
+use Rattle.c_rules.specs.Codes.{word_of}
 use Rattle.c_rules.specs.Names.{Entry}
 use Rattle.c_rules.specs.Noting.{noted_parts}
 use Rattle.c_rules.specs.Parts.{Value, parts, bodies_of}
 use Rattle.c_rules.specs.Typed.{typed}
-use Rattle.c_constraint.specs.Constraints.{entries, is_among, in_scope, is_refused, IsTyped, IsMistyped, FitsConstraint}
+use Rattle.c_constraint.specs.Constraints.{entries, in_scope, is_refused, IsTyped, IsMistyped, FitsConstraint}
 use Rattle.c_constraint.specs.Known.{stands_for_object}
 use Rattle.c_constraint.proofs.NameLaws.{same_words}
-use Rattle.c_constraint.proofs.NoteLaws.{refused, kept_of_parts}
+use Rattle.c_constraint.proofs.NoteLaws.{kept_of_parts}
 use Rattle.c_constraint.proofs.PartLaws.{refused_by_types}
 use Rattle.c_constraint.proofs.TreeLaws.{value_is_typed, passive, reads_objects}
 

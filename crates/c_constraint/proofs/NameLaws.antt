@@ -1,12 +1,12 @@
 -- What a word stands for among the names of objects.
 use Rattle.std.proofs.Common.{◌≡◌, ℕ, nat_eq, Bool, true, false, cond, ◌||◌, List, [], ◌∷◌, ◌++◌, Option, Some, None, is_none, slice_get, eq-eqb, refl, ap}
-use Rattle.std.specs.List.{list_any, flat_map}
+use Rattle.std.specs.List.{list_any}
 use Rattle.std.specs.Str.{bytes_eq}
 use Rattle.c_core.specs.Scope.{is_in}
 use Rattle.c_core.specs.declared.number.IntType.{IntType}
 use Rattle.c_core.specs.declared.tree.Callee.{Callee}
 use Rattle.c_core.specs.declared.tree.Object as declared
-use Rattle.c_rules.specs.Names.{Kind, Object, Function, Closed, Entry, entry, later, declared_as, or_built_in, built_in, named, is_function}
+use Rattle.c_rules.specs.Names.{Kind, Object, Function, Closed, Entry, later, declared_as, or_built_in, built_in, named, is_function}
 use Rattle.c_rules.specs.Typed.{number_named}
 use Rattle.c_constraint.specs.Constraints.{entries, entry_at, is_among}
 use Rattle.std.specs.Option.{option_map}

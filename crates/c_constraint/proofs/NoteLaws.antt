@@ -1,5 +1,5 @@
 -- A refusal is kept exactly where some part is refused.
-use Rattle.std.proofs.Common.{◌≡◌, cond, Bool, true, false, ◌||◌, List, [], ◌∷◌, Option, Some, None, is_some, refl, ap, sym, ◌∙◌}
+use Rattle.std.proofs.Common.{◌≡◌, cond, Bool, true, false, ◌||◌, List, [], ◌∷◌, Option, Some, None, is_some, refl, ap, ◌∙◌}
 use Rattle.std.specs.List.{list_any}
 use Rattle.c_core.specs.declared.number.DataModel.{DataModel}
 use Rattle.c_parser.specs.Tree.{Item}

@@ -1,14 +1,14 @@
 -- Where every word is an object, the refusals of an expression are those of types.
-use Rattle.std.proofs.Common.{◌≡◌, ℕ, Bool, true, false, ◌||◌, ◌&&◌, List, [], ◌∷◌, ◌++◌, Option, Some, None, refl, ap, sym, ◌∙◌}
+use Rattle.std.proofs.Common.{◌≡◌, ℕ, Bool, true, false, ◌||◌, ◌&&◌, List, ◌++◌, Option, Some, None, refl, ap, sym, ◌∙◌}
 use Rattle.std.specs.List.{list_any}
 use Rattle.std.proofs.lemmas.List.Folds.{list_any-append}
 use Rattle.c_core.specs.declared.number.DataModel.{DataModel}
 use Rattle.c_core.specs.declared.number.Spot.{Spot}
 use Rattle.c_parser.specs.Formed.{every_node, every_part, every_argument}
 use Rattle.c_parser.specs.Tree.{Exp, Expr, Node, Number, Char, Var, Index, Unary, Cast, Step, Binary, Logic, Choose, Comma, Assign, Call, Exps, NoExp, MoreExp, Item}
-use Rattle.c_rules.specs.Names.{Entry, named, is_function}
+use Rattle.c_rules.specs.Names.{Entry, named}
 use Rattle.c_rules.specs.Parts.{Role, Value, Target, Effect, Part, Expression, of_cast, parts, parts_in, parts_of}
-use Rattle.c_rules.specs.Codes.{word_of, names_nothing, calls_bodiless, nameless, mistyped, bodiless, is_bodiless}
+use Rattle.c_rules.specs.Codes.{word_of, names_nothing, calls_bodiless, mistyped, is_bodiless}
 use Rattle.c_constraint.specs.Known.{stands_for_object, word_is_object}
 use Rattle.c_constraint.proofs.NameLaws.{object_named, object_uncalled}
 use Rattle.c_constraint.proofs.NoteLaws.{refused}

@@ -1,8 +1,7 @@
 -- What holds of the typed tree of a constraint.
-use Rattle.std.proofs.Common.{◌≡◌, ℕ, Bool, true, false, ◌||◌, ◌&&◌, List, [], ◌∷◌, Option, Some, None, is_none, refl, ap, sym, ◌∙◌}
+use Rattle.std.proofs.Common.{◌≡◌, ℕ, Bool, true, false, ◌||◌, ◌&&◌, List, [], is_none, refl}
 use Rattle.c_core.specs.Tree as t
 use Rattle.c_core.specs.Parts.{type_of, every_exp, every_argument as every_typed_argument}
-use Rattle.c_core.specs.Scope.{is_in}
 use Rattle.c_core.specs.declared.number.DataModel.{DataModel}
 use Rattle.c_core.specs.declared.number.Spot.{Spot}
 use Rattle.c_core.specs.declared.tree.Object.{Object}
@@ -11,7 +10,7 @@ use Rattle.c_parser.specs.Tree.{Exp, Expr, Node, Number, Char, Var, Index, Unary
 use Rattle.c_rules.specs.Codes.{word_of, misused}
 use Rattle.c_rules.specs.Names.{Entry}
 use Rattle.c_rules.specs.Typed.{typed, typed_node, typed_all}
-use Rattle.c_constraint.specs.Constraints.{entries, is_among, in_scope, is_refused, is_passive, is_passive_exp, reads_among}
+use Rattle.c_constraint.specs.Constraints.{entries, is_among, is_refused, is_passive, is_passive_exp, reads_among}
 use Rattle.c_constraint.proofs.NameLaws.{number_among}
 use Rattle.c_constraint.proofs.PartLaws.{left_of, right_of}
 

@@ -1,4 +1,4 @@
-use Rattle.std.proofs.Common.{ap, refl, true, false, map, is_some}
+use Rattle.std.proofs.Common.{ap, false, map, is_some}
 use Rattle.c_core.specs.View.{expr_view as typed_view}
 use Rattle.c_parser.specs.SourceView.{item_view}
 use Rattle.c_parser.specs.View.{expr_view}
