@@ -1,0 +1,6 @@
+mod ListLaws
+mod NoteLaws
+mod NameLaws
+mod PartLaws
+mod TreeLaws
+mod AnswerLaws

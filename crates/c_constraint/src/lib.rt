@@ -1,0 +1,10 @@
+//! Expressions of witnesses over a checked program: their typed trees, by the names that stand where they are bound.
+#![tactic(auto)]
+
+mod check;
+mod known;
+mod names;
+#[cfg(test)]
+mod tests;
+
+pub use check::check_expr;
