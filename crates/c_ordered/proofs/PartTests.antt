@@ -23,11 +23,11 @@ use Rattle.c_order.specs.Typed.{on_call, on_object, own, to_object}
 use Rattle.c_order.proofs.MarkLaws.{either, or_left, or_right}
 use Rattle.c_ordered.specs.PartEffects.{AreListed, AreListedParts, OnePart, HasStorage, IsListed, IsListedPart, count, effects_of_part, effects_of_parts, is_stored, node_of}
 
-or_none : (b : Bool) → b ≡ (b || false)
+pub or_none : (b : Bool) → b ≡ (b || false)
 or_none true = refl
 or_none false = refl
 
-any_append : (g : Effect → Bool) (xs ys : List Effect) → list_any g (xs ++ ys) ≡ (list_any g xs || list_any g ys)
+pub any_append : (g : Effect → Bool) (xs ys : List Effect) → list_any g (xs ++ ys) ≡ (list_any g xs || list_any g ys)
 any_append g [] ys = refl
 any_append g (x ∷ xs) ys = either_way (g x) (list_any g xs) (list_any g ys) (list_any g (xs ++ ys)) (any_append g xs ys)
   where

@@ -1,28 +1,28 @@
 -- The parts of items, and the full expressions of their functions and of what is kept outside.
-use Rattle.std.proofs.Common.{◌≡◌, ◌⊎◌, inl, inr, ℕ, zero, suc, Bool, true, false, ◌||◌, List, [], ◌∷◌, ◌++◌, map, length, Option, Some, refl, ap, sym, subst, ◌∙◌}
+use Rattle.std.proofs.Common.{◌≡◌, ◌⊎◌, inl, inr, ℕ, zero, suc, Bool, true, false, List, [], ◌∷◌, ◌++◌, map, length, Option, Some, refl, ap, sym, subst, ◌∙◌}
 use Rattle.std.specs.Prelude.{slice_get}
 use Rattle.std.specs.List.{list_any}
 use Rattle.std.proofs.lemmas.List.{append-nil}
-use Rattle.c_core.specs.Tree as t
 use Rattle.c_core.specs.declared.number.IntType.{IntType}
 use Rattle.c_core.specs.declared.number.DataModel.{DataModel}
 use Rattle.c_core.specs.declared.number.Spot.{Spot}
 use Rattle.c_core.specs.declared.tree.Object.{Object}
 use Rattle.c_parser.specs.Tree as raw
-use Rattle.c_rules.specs.Scopes.{Scope, after_item, after_parameters, inside, statements_of, entry_of_function, entry_of_prototype, with_object, parameter}
-use Rattle.c_rules.specs.Parts.{Part, Naming, Label, Labelling, bodies_of, labels_of, parts_of_block, parts_of_body, parts_of_item, parts_of_items, parts_of_labels, parts_of_names, parts_of_parameters}
+use Rattle.c_rules.specs.Scopes.{Scope, after_item, after_parameters, inside, statements_of, entry_of_function, with_object, parameter}
+use Rattle.c_rules.specs.Parts.{Part, Naming, Label, bodies_of, labels_of, parts_of_body, parts_of_item, parts_of_items, parts_of_labels, parts_of_names, parts_of_parameters}
 use Rattle.c_rules.specs.Order.{IsUnordered, parts_of_bodies}
-use Rattle.c_rules.specs.Checked.{functions_of, typed_block, typed_function}
+use Rattle.c_rules.specs.Checked.{functions_of, typed_block}
 use Rattle.c_rules.specs.Kept as rules
 use Rattle.c_rules.specs.Kept.{kept_of_parts, kept_outside}
 use Rattle.c_order.specs.declared.effect.Effect.{Effect}
-use Rattle.c_order.specs.Bodies.{Full, effects_of_fulls, fulls, fulls_of_block}
-use Rattle.c_ordered.specs.PartEffects.{AreListedParts, IsObjectList, count, effects_of_parts}
+use Rattle.c_order.specs.Bodies.{Full, fulls_of_block}
+use Rattle.c_ordered.specs.PartEffects.{AreListedParts, IsObjectList, count}
+use Rattle.c_ordered.proofs.PartTests.{any_append}
 use Rattle.c_ordered.proofs.SameTests.{none_in}
 use Rattle.c_lawful.proofs.Lists.{AllOf}
-use Rattle.c_unordered.specs.Bodies.{all_fulls, body_effects, function_fulls, kept_fulls}
+use Rattle.c_unordered.specs.Bodies.{all_fulls, body_effects, kept_fulls}
 use Rattle.c_unordered.proofs.Wider.{AreSame}
-use Rattle.c_unordered.proofs.Matches.{AreFound, Found, Unordered, any_append, done, effs, found_both, found_none, found_other, full_cases, full_left, full_right, kept_of, listed_behind, listed_front, map_append}
+use Rattle.c_unordered.proofs.Matches.{AreFound, Found, Unordered, done, effs, found_both, found_none, found_other, full_cases, full_left, full_right, kept_of, listed_behind, listed_front, map_append}
 use Rattle.c_unordered.proofs.Statements.{block_is, fixed_names_are}
 
 module _ (m : DataModel) (items : List raw.Item) (objects : List Object) where

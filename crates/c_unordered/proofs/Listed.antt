@@ -1,6 +1,6 @@
 -- What the expressions of a source see is in its list of objects.
-use Rattle.std.proofs.Common.{◌≡◌, ℕ, ◌<◌, List, [], ◌∷◌, length, refl, sym, subst, ◌∙◌, Option, Some, None}
-use Rattle.std.specs.Prelude.{Bool, true, slice_get}
+use Rattle.std.proofs.Common.{◌≡◌, ℕ, List, [], ◌∷◌, refl, sym, subst, ◌∙◌, Option, Some, None}
+use Rattle.std.specs.Prelude.{true}
 use Rattle.std.specs.Str.{bytes_eq}
 use Rattle.c_core.specs.declared.number.DataModel.{DataModel}
 use Rattle.c_core.specs.declared.tree.Callee.{Callee}
@@ -14,7 +14,7 @@ use Rattle.c_rules.specs.Codes.{closed_names}
 use Rattle.c_ordered.specs.PartEffects.{AreListed, AreListedParts, NoPart, OnePart, HasStorage, IsListed}
 use Rattle.c_lawful.proofs.Lists.{AllOf}
 use Rattle.c_lawful.proofs.Threads.{items_lead}
-use Rattle.c_lawful.proofs.Known.{AreAmong, IsKind, IsSound, IsThere, Knows, items_keep}
+use Rattle.c_lawful.proofs.Known.{AreAmong, IsKind, IsSound, Knows, items_keep}
 use Rattle.c_lawful.proofs.Good.{If, declared_if}
 use Rattle.c_lawful.proofs.Law.{placed_all}
 

@@ -1,7 +1,7 @@
 -- Parts of a source, and the full expressions that a typed program and the kept values hold of them.
-use Rattle.std.proofs.Common.{◌≡◌, ◌⊎◌, inl, inr, ℕ, Bool, true, false, ◌||◌, List, [], ◌∷◌, ◌++◌, length, map, Option, Some, None, refl, ap, sym, subst, ◌∙◌, append_assoc}
+use Rattle.std.proofs.Common.{◌≡◌, ◌⊎◌, inl, inr, ℕ, Bool, true, false, ◌||◌, List, [], ◌∷◌, ◌++◌, length, Option, Some, None, refl, ap, sym, subst, ◌∙◌}
 use Rattle.std.specs.Prelude.{◌-◌}
-use Rattle.std.specs.List.{Contains, list_any}
+use Rattle.std.specs.List.{list_any}
 use Rattle.std.proofs.lemmas.Grind.{flat_map-append}
 use Rattle.std.proofs.lemmas.List.{append-nil}
 use Rattle.c_core.specs.Tree as t
@@ -19,26 +19,15 @@ use Rattle.c_rules.specs.Kept as rules
 use Rattle.c_rules.specs.Kept.{kept_of_part, kept_of_parts, kept_size}
 use Rattle.c_order.specs.declared.effect.Effect.{Effect}
 use Rattle.c_order.specs.Bodies.{Full, full, effects_of_fulls, tested_fulls, tests_of}
-use Rattle.c_order.specs.Typed.{Test, effects, tested}
+use Rattle.c_order.specs.Typed.{effects, tested}
 use Rattle.c_ordered.specs.PartEffects.{AreListed, AreListedParts, NoPart, OnePart, IsListedPart, IsObjectList, count, effects_of_part, effects_of_parts, is_stored}
 use Rattle.c_ordered.specs.PartsFound.{AreTestsOf, OneFound, OneUnordered}
+use Rattle.c_ordered.proofs.PartTests.{any_append, or_none}
 use Rattle.c_ordered.proofs.TypedEffects.{effects_of_expression}
 use Rattle.c_ordered.proofs.SameTests.{found_cases, found_left, found_right, none_in, same_both, same_expression, same_initializer, same_none, same_other, unordered_cases, unordered_left, unordered_right}
 use Rattle.c_lawful.proofs.Lists.{AllOf}
 use Rattle.c_lawful.proofs.Threads.{Sees, parts_see}
 use Rattle.c_unordered.specs.Bodies.{kept_full, kept_fulls}
-
-pub any_append : (g : Effect → Bool) (xs ys : List Effect) → list_any g (xs ++ ys) ≡ (list_any g xs || list_any g ys)
-any_append g [] ys = refl
-any_append g (x ∷ xs) ys = one_more (g x) (list_any g xs) (list_any g ys) (list_any g (xs ++ ys)) (any_append g xs ys)
-  where
-    one_more : (a b c d : Bool) → d ≡ (b || c) → (a || d) ≡ ((a || b) || c)
-    one_more true b c d e = refl
-    one_more false b c d e = e
-
-or_none : (b : Bool) → b ≡ (b || false)
-or_none true = refl
-or_none false = refl
 
 crossed : (f k g l : Bool) → ((f || k) || (g || l)) ≡ ((f || g) || (k || l))
 crossed true k g l = refl

@@ -1,6 +1,5 @@
 -- The tests of a whole source list its places.
 use Rattle.std.proofs.Common.{◌≡◌, inl, inr, ℕ, suc, ◌<◌, List, [], ◌∷◌, ◌++◌, map, length, refl, ap, sym, subst, ◌∙◌, arith}
-use Rattle.std.specs.Prelude.{slice_get}
 use Rattle.std.specs.List.{Contains}
 use Rattle.std.proofs.lemmas.Option.{slice_get_past}
 use Rattle.c_core.specs.Tree as t
@@ -26,7 +25,7 @@ use Rattle.c_ordered.specs.PartEffects.{IsObjectList, count, effects_of_bodies}
 use Rattle.c_ordered.specs.PartsFound.{OneUnordered}
 use Rattle.c_ordered.proofs.SameTests.{found_cases, found_left, found_right, listed_from, listed_to}
 use Rattle.c_unordered.specs.Bodies.{all_fulls, body_effects, kept_fulls, kept_views}
-use Rattle.c_unordered.specs.Unordered.{ArePlaces, IsTyped, ListsUnordered}
+use Rattle.c_unordered.specs.Unordered.{ArePlaces, ListsUnordered}
 use Rattle.c_unordered.proofs.Wider.{listed_same, same_back}
 use Rattle.c_unordered.proofs.Listed.{source_listed}
 use Rattle.c_unordered.proofs.Items.{bodies_listed, bodies_same, items_found, many_functions}

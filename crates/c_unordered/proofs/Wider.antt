@@ -8,7 +8,7 @@ use Rattle.c_core.specs.declared.tree.Object.{Object}
 use Rattle.c_order.specs.declared.effect.Effect.{Effect}
 use Rattle.c_order.specs.declared.effect.Effect.TheVariants as does
 use Rattle.c_order.specs.Effects.{AreUnsequenced, ByCall, Changes, Clash, Does, IsBody, IsCallThatDoes, Itself, OfFirst, OfOthers, SomePair, Through, Touches, calls, changes, touches}
-use Rattle.c_order.specs.Typed.{ChangedBeside, ChangedInIndex, Initial, IsFound, IsStoredTwice, IsUnorderedIn, Listed, Nothing, Operands, Passed, Test, Told, below, effects, operands, place, target}
+use Rattle.c_order.specs.Typed.{ChangedBeside, ChangedInIndex, Initial, IsFound, IsStoredTwice, IsUnorderedIn, Listed, Nothing, Operands, Passed, Test, Told, below, effects, operands, target}
 
 -- ---- two lists of bodies that do the same
 

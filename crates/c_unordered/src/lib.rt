@@ -3,6 +3,8 @@
 
 mod bodies;
 mod places;
+#[cfg(test)]
+mod tests;
 mod walks;
 
 pub use places::unordered;
