@@ -1,5 +1,5 @@
 -- Waypoints that are bound one after another, and the least that isn't.
-use Rattle.std.proofs.Common.{◌≡◌, refl, sym, ap, ◌∙◌, ℕ, ◌+◌, List, [], ◌∷◌, ◌++◌, length, Result, Ok, Err, arith}
+use Rattle.std.proofs.Common.{◌≡◌, refl, sym, ap, ◌∙◌, ℕ, ◌+◌, List, [], ◌∷◌, ◌++◌, length, Ok, Err, arith}
 use Rattle.std.proofs.lemmas.List.{append_assoc, length-append}
 use Rattle.c_core.specs.Tree.{Program}
 use Rattle.wv_schema.specs.declared.witness.Waypoint.{Waypoint}
@@ -48,10 +48,11 @@ points_of_segments p [] [] h = ([], tt)
 points_of_segments p [] (b ∷ bs) h = elim h [ ]
 points_of_segments p (s ∷ ss) [] h = elim h [ ]
 points_of_segments p (s ∷ ss) (b ∷ bs) h =
-    let rest = points_of_segments p ss bs h.1 in
-    ((b.avoids ++ b.follow ∷ []) ++ rest.0,
-    bound_both p (waypoints_of s) (waypoints_in ss) (b.avoids ++ b.follow ∷ []) rest.0
-    (bound_more p s.avoids s.follow b.avoids b.follow h.0.0 h.0.1) rest.1)
+    let rest = points_of_segments p ss bs h.1 in (
+      (b.avoids ++ b.follow ∷ []) ++ rest.0,
+      bound_both p (waypoints_of s) (waypoints_in ss) (b.avoids ++ b.follow ∷ []) rest.0
+          (bound_more p s.avoids s.follow b.avoids b.follow h.0.0 h.0.1) rest.1,
+    )
 
 -- ---- the least that isn't bound
 

@@ -4,3 +4,5 @@ mod TestLaws
 mod PlaceLaws
 mod NamedLaws
 mod ReturnLaws
+mod PointAnswers
+mod AnswerLaws

@@ -1,5 +1,5 @@
 -- One turn of a loop over waypoints, and over segments.
-use Rattle.std.proofs.Common.{◌≡◌, refl, sym, ap, ◌∙◌, subst, ℕ, suc, ◌+◌, ◌<◌, ◌≤◌, add-one, IsErrAnd, List, [], ◌∷◌, ◌++◌, length, take, drop, get_or, Result, Ok, Err, arith}
+use Rattle.std.proofs.Common.{◌≡◌, sym, ap, ◌∙◌, subst, ℕ, suc, ◌+◌, ◌<◌, ◌≤◌, add-one, IsErrAnd, List, [], ◌∷◌, ◌++◌, length, take, drop, get_or, Result, Ok, Err, arith}
 use Rattle.std.proofs.Math.Seq.{drop-cons}
 use Rattle.std.proofs.lemmas.List.{take_more, take-append-drop, length-append, length-take-le}
 use Rattle.std.proofs.lemmas.Grind.{flat_map-append}
@@ -74,14 +74,14 @@ segment_kept p ss i s bs new b lt is same k h =
 pub segment_counted : (ss : List Segment) (i : ℕ) (s : Segment) (first n : ℕ) → i < length ss → s ≡ get_or ss i s → n ≡ length s.avoids → first ≡ 1 + length (waypoints_in (take i ss)) → first + (n + 1) ≡ 1 + length (waypoints_in (take (i + 1) ss))
 segment_counted ss i s first n lt is count so_far =
     let next : length (waypoints_in (take (i + 1) ss)) ≡ length (waypoints_in (take i ss)) + (length (waypoints_of s) + 0) =
-        ap length (waypoints_next ss i s lt is) ∙ length_both (waypoints_in (take i ss)) (waypoints_of s) [] in
+    ap length (waypoints_next ss i s lt is) ∙ length_both (waypoints_in (take i ss)) (waypoints_of s) [] in
     let own : length (waypoints_of s) ≡ length s.avoids + 1 = length_of s in
     omega arith
 
 pub segment_fits : (ss : List Segment) (i : ℕ) (s : Segment) (first : ℕ) → i < length ss → s ≡ get_or ss i s → first ≡ 1 + length (waypoints_in (take i ss)) → first + length (waypoints_of s) ≤ 1 + length (waypoints_in ss)
 segment_fits ss i s first lt is so_far =
     let whole : length (waypoints_in ss) ≡ length (waypoints_in (take i ss)) + (length (waypoints_of s) + length (waypoints_in (drop (i + 1) ss))) =
-        ap length (waypoints_split ss i s lt is) ∙ length_both (waypoints_in (take i ss)) (waypoints_of s) (waypoints_in (drop (i + 1) ss)) in
+    ap length (waypoints_split ss i s lt is) ∙ length_both (waypoints_in (take i ss)) (waypoints_of s) (waypoints_in (drop (i + 1) ss)) in
     omega arith
 
 pub avoids_fit : (ss : List Segment) (i : ℕ) (s : Segment) (first n : ℕ) → i < length ss → s ≡ get_or ss i s → n ≡ length s.avoids → first ≡ 1 + length (waypoints_in (take i ss)) → first + (n + 1) ≤ 1 + length (waypoints_in ss)

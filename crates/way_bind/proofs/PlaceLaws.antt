@@ -1,5 +1,5 @@
 -- A place that a location names is one of its kind.
-use Rattle.std.proofs.Common.{◌≡◌, refl, sym, ap, ◌∙◌, eq-eqb, ℕ, Bool, true, false, cond, ltb, ◌||◌, List, [], ◌∷◌, Option, Some, None}
+use Rattle.std.proofs.Common.{◌≡◌, refl, sym, eq-eqb, Bool, true, false, cond, ◌||◌, List, [], ◌∷◌, Option, Some, None}
 use Rattle.std.specs.List.{list_any, filter}
 use Rattle.c_core.specs.Parts.{same_spot}
 use Rattle.c_core.specs.Places.{lefter, leftmost}

@@ -1,5 +1,5 @@
 -- What is known of a `\result` constraint once its text is read, and its constant is typed.
-use Rattle.std.proofs.Common.{◌≡◌, refl, sym, subst, IsErrAnd, Bool, true, false, List, ℕ, [], Result, Ok, Err, inl, inr}
+use Rattle.std.proofs.Common.{◌≡◌, sym, subst, IsErrAnd, Bool, true, false, List, ℕ, [], Result, Ok, Err, inl, inr}
 use Rattle.c_core.specs.Tree.{Program}
 use Rattle.c_core.specs.View as typed
 use Rattle.c_core.specs.declared.tree.Expr.{Expr}

@@ -2,7 +2,7 @@
 use Rattle.c_parser.specs.declared.fault.ExprFault.{ExprFault}
 use Rattle.c_parser.specs.declared.fault.ExprFault.TheVariants as expr
 use Rattle.way_bind.specs.declared.fault.Unbound.{Unbound}
-use Rattle.way_bind.specs.declared.fault.Unbound.TheVariants.{NoPlace, Expression, Scope, OutOfMemory}
+use Rattle.way_bind.specs.declared.fault.Unbound.TheVariants.{Expression, Scope, OutOfMemory}
 
 abbrev pub lack_of : ExprFault → Unbound
 lack_of expr.Expression = Expression

@@ -1,3 +1,4 @@
 pub mod Lacks
 pub mod Binding
 pub mod Steps
+pub mod Agreement

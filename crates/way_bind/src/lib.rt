@@ -4,7 +4,9 @@
 
 mod binding;
 mod fault;
+mod laws;
 mod waypoint;
 
 pub use binding::bind_violation;
 pub use fault::BindFault;
+pub use laws::one_answer;

@@ -99,12 +99,7 @@ fn test_of(
     })
 }
 
-fn assumption_at(
-    alloc: Global,
-    program: &Program,
-    text: &str,
-    spot: Spot,
-) -> Result<Point, Unbound>
+fn assumption_at(alloc: Global, program: &Program, text: &str, spot: Spot) -> Result<Point, Unbound>
     requires { IsTrue (is_scoped (program_view program.now) Statement spot) }
     ensures { BindsAssumption (program_view program.now) text.now spot (seen point_view result) }
 {

@@ -1,0 +1,174 @@
+-- Two answers about one waypoint are one, unless memory was wanted.
+use Rattle.std.proofs.Common.{◌≡◌, ◌⊎◌, refl, sym, ap, ◌∙◌, ℕ, Bool, true, false, List, [], Option, Some, None, Result, Ok, Err, inl, inr}
+use Rattle.c_core.specs.Tree.{Exp, Program}
+use Rattle.c_core.specs.declared.number.BinOp.{BinOp}
+use Rattle.c_core.specs.declared.place.PlaceKind.TheVariants as place
+use Rattle.c_places.specs.Visible.{names_at}
+use Rattle.c_core.specs.declared.number.Spot.{Spot}
+use Rattle.c_parser.specs.Tree as raw
+use Rattle.c_constraint.specs.Constraints.{IsTyped, IsMistyped, entries, in_scope}
+use Rattle.wv_schema.specs.declared.witness.WayKind.{WayKind}
+use Rattle.wv_schema.specs.declared.witness.WayKind.TheVariants.{Assumption, Target, FunctionEnter, FunctionReturn, Branching}
+use Rattle.wv_schema.specs.declared.witness.Location.{Location}
+use Rattle.wv_schema.specs.declared.witness.Constraint.{Constraint}
+use Rattle.wv_schema.specs.declared.witness.Waypoint.{Waypoint}
+use Rattle.way_match.specs.Points as point
+use Rattle.way_match.specs.Points.{Point, ReturnTest}
+use Rattle.way_bind.specs.declared.fault.Unbound.{Unbound}
+use Rattle.way_bind.specs.declared.fault.Unbound.TheVariants.{NoPlace, Expression, Scope, OutOfMemory}
+use Rattle.way_bind.specs.Binding.{BindsExpression, BindsTest, BindsReturn, BindsAssumption, BindsKind, BindsPoint, Makes, WherePlaced, is_valued, place_named, text_of, way_of, BindsEntry, BindsBranching}
+
+abbrev pub One : {A : Type 0} → Result A Unbound → Result A Unbound → Type 0
+One r q = (r ≡ q) ⊎ ((r ≡ Err OutOfMemory) ⊎ (q ≡ Err OutOfMemory))
+
+-- ---- typed, mistyped and out of scope exclude one another
+
+module _ (p : Program) (names : List ℕ) where
+  one_tree : (e u : raw.Exp) (t w : Exp) → u ≡ e → IsTyped p.model (entries p.objects names) e t → IsTyped p.model (entries p.objects names) u w → t ≡ w
+  one_tree e u t w same a b = cc
+
+  not_mistyped : (e u : raw.Exp) (t : Exp) → u ≡ e → IsTyped p.model (entries p.objects names) e t → IsMistyped p.model (entries p.objects names) u → ⊥
+  not_mistyped e u t same a b = cc
+
+  typed_in_scope : (e u : raw.Exp) (t : Exp) → u ≡ e → IsTyped p.model (entries p.objects names) e t → in_scope (entries p.objects names) u ≡ false → ⊥
+  typed_in_scope e u t same a b = cc
+
+  mistyped_in_scope : (e u : raw.Exp) → u ≡ e → IsMistyped p.model (entries p.objects names) e → in_scope (entries p.objects names) u ≡ false → ⊥
+  mistyped_in_scope e u same a b = cc
+
+-- ---- expressions
+
+one_expression : (p : Program) (names text : List ℕ) (r q : Result Exp Unbound) → BindsExpression p names text r → BindsExpression p names text q → One r q
+one_expression p names text (Err NoPlace) q h k = elim h [ ]
+one_expression p names text (Err OutOfMemory) q h k = inr (inl refl)
+one_expression p names text (Ok t) (Err NoPlace) h k = elim k [ ]
+one_expression p names text (Ok t) (Err OutOfMemory) h k = inr (inr refl)
+one_expression p names text (Ok t) (Ok w) h k = inl (ap Ok (one_tree p names h.0 k.0 t w (h.1.only k.0 k.1.spelled) h.2 k.2))
+one_expression p names text (Ok t) (Err Expression) h (inl none) = absurd (none h.0 h.1.spelled)
+one_expression p names text (Ok t) (Err Expression) h (inr k) = absurd (not_mistyped p names h.0 k.0 t (h.1.only k.0 k.1.spelled) h.2 k.2)
+one_expression p names text (Ok t) (Err Scope) h k = absurd (typed_in_scope p names h.0 k.0 t (h.1.only k.0 k.1.spelled) h.2 k.2)
+one_expression p names text (Err Expression) (Err NoPlace) h k = elim k [ ]
+one_expression p names text (Err Expression) (Err OutOfMemory) h k = inr (inr refl)
+one_expression p names text (Err Expression) (Err Expression) h k = inl refl
+one_expression p names text (Err Expression) (Ok w) (inl none) k = absurd (none k.0 k.1.spelled)
+one_expression p names text (Err Expression) (Ok w) (inr h) k = absurd (not_mistyped p names k.0 h.0 w (k.1.only h.0 h.1.spelled) k.2 h.2)
+one_expression p names text (Err Expression) (Err Scope) (inl none) k = absurd (none k.0 k.1.spelled)
+one_expression p names text (Err Expression) (Err Scope) (inr h) k = absurd (mistyped_in_scope p names h.0 k.0 (h.1.only k.0 k.1.spelled) h.2 k.2)
+one_expression p names text (Err Scope) (Err NoPlace) h k = elim k [ ]
+one_expression p names text (Err Scope) (Err OutOfMemory) h k = inr (inr refl)
+one_expression p names text (Err Scope) (Err Scope) h k = inl refl
+one_expression p names text (Err Scope) (Ok w) h k = absurd (typed_in_scope p names k.0 h.0 w (k.1.only h.0 h.1.spelled) k.2 h.2)
+one_expression p names text (Err Scope) (Err Expression) h (inl none) = absurd (none h.0 h.1.spelled)
+one_expression p names text (Err Scope) (Err Expression) h (inr k) = absurd (mistyped_in_scope p names k.0 h.0 (k.1.only h.0 h.1.spelled) k.2 h.2)
+
+-- ---- constraints on results
+
+abbrev make : BinOp → Exp → ReturnTest
+make o c = record { op = o; constant = c }
+
+same_test : (t w : ReturnTest) → w.op ≡ t.op → t.constant ≡ w.constant → t ≡ w
+same_test t w ops constants = ap (λ (o : BinOp). make o t.constant) (sym ops) ∙ ap (λ (c : Exp). make w.op c) constants
+
+-- a void call, or a name, refuses what a typed or mistyped constant would not
+refused : (p : Program) (valued : Bool) (e u : raw.Exp) → u ≡ e → valued ≡ true → in_scope (entries p.objects []) e ≡ true → (valued ≡ false) ⊎ (in_scope (entries p.objects []) u ≡ false) → ⊥
+refused p valued e u same value scope (inl void) = cc
+refused p valued e u same value scope (inr out) = cc
+
+scope_of_typed : (p : Program) (e : raw.Exp) (t : Exp) → IsTyped p.model (entries p.objects []) e t → in_scope (entries p.objects []) e ≡ true
+scope_of_typed p e t h = h.scope
+
+scope_of_mistyped : (p : Program) (e : raw.Exp) → IsMistyped p.model (entries p.objects []) e → in_scope (entries p.objects []) e ≡ true
+scope_of_mistyped p e h = h.scope
+
+one_test : (p : Program) (valued : Bool) (text : List ℕ) (r q : Result ReturnTest Unbound) → BindsTest p valued text r → BindsTest p valued text q → One r q
+one_test p valued text (Err NoPlace) q h k = elim h [ ]
+one_test p valued text (Err OutOfMemory) q h k = inr (inl refl)
+one_test p valued text (Ok t) (Err NoPlace) h k = elim k [ ]
+one_test p valued text (Ok t) (Err OutOfMemory) h k = inr (inr refl)
+one_test p valued text (Ok t) (Ok w) h k =
+    let same = h.1.only w.op k.0 k.1.spelled in
+    inl (ap Ok (same_test t w same.0 (one_tree p [] h.0 k.0 t.constant w.constant same.1 h.3 k.3)))
+one_test p valued text (Ok t) (Err Expression) h (inl none) = absurd (none t.op h.0 h.1.spelled)
+one_test p valued text (Ok t) (Err Expression) h (inr k) = absurd (not_mistyped p [] h.0 k.1 t.constant (h.1.only k.0 k.1 k.2.spelled).1 h.3 k.4)
+one_test p valued text (Ok t) (Err Scope) h k = absurd (refused p valued h.0 k.1 (h.1.only k.0 k.1 k.2.spelled).1 h.2 (scope_of_typed p h.0 t.constant h.3) k.3)
+one_test p valued text (Err Expression) (Err NoPlace) h k = elim k [ ]
+one_test p valued text (Err Expression) (Err OutOfMemory) h k = inr (inr refl)
+one_test p valued text (Err Expression) (Err Expression) h k = inl refl
+one_test p valued text (Err Expression) (Ok w) (inl none) k = absurd (none w.op k.0 k.1.spelled)
+one_test p valued text (Err Expression) (Ok w) (inr h) k = absurd (not_mistyped p [] k.0 h.1 w.constant (k.1.only h.0 h.1 h.2.spelled).1 k.3 h.4)
+one_test p valued text (Err Expression) (Err Scope) (inl none) k = absurd (none k.0 k.1 k.2.spelled)
+one_test p valued text (Err Expression) (Err Scope) (inr h) k = absurd (refused p valued h.1 k.1 (h.2.only k.0 k.1 k.2.spelled).1 h.3 (scope_of_mistyped p h.1 h.4) k.3)
+one_test p valued text (Err Scope) (Err NoPlace) h k = elim k [ ]
+one_test p valued text (Err Scope) (Err OutOfMemory) h k = inr (inr refl)
+one_test p valued text (Err Scope) (Err Scope) h k = inl refl
+one_test p valued text (Err Scope) (Ok w) h k = absurd (refused p valued k.0 h.1 (k.1.only h.0 h.1 h.2.spelled).1 k.2 (scope_of_typed p k.0 w.constant k.3) h.3)
+one_test p valued text (Err Scope) (Err Expression) h (inl none) = absurd (none h.0 h.1 h.2.spelled)
+one_test p valued text (Err Scope) (Err Expression) h (inr k) = absurd (refused p valued k.1 h.1 (k.2.only h.0 h.1 h.2.spelled).1 k.3 (scope_of_mistyped p k.1 k.4) h.3)
+
+-- ---- waypoints
+
+made_oks : {A B : Type 0} (make : A → B) (a b : A) → One (Ok a) (Ok b) → make a ≡ make b
+made_oks make a b (inl e) = ap make cc
+made_oks make a b (inr (inl e)) = cc
+made_oks make a b (inr (inr e)) = cc
+
+ok_and_lack : {A : Type 0} (a : A) (l : Unbound) → One (Ok a) (Err l) → l ≡ OutOfMemory
+ok_and_lack a l (inl e) = cc
+ok_and_lack a l (inr (inl e)) = cc
+ok_and_lack a l (inr (inr e)) = cc
+
+lack_and_ok : {A : Type 0} (a : A) (l : Unbound) → One (Err l) (Ok a) → l ≡ OutOfMemory
+lack_and_ok a l (inl e) = cc
+lack_and_ok a l (inr (inl e)) = cc
+lack_and_ok a l (inr (inr e)) = cc
+
+lacks : {A B : Type 0} (l m : Unbound) → One {A = A} (Err l) (Err m) → One {A = B} (Err l) (Err m)
+lacks l m (inl e) = inl (ap Err cc)
+lacks l m (inr (inl e)) = inr (inl (ap Err cc))
+lacks l m (inr (inr e)) = inr (inr (ap Err cc))
+
+one_made : {A B : Type 0} (test : Result A Unbound → Type 0) (make : A → B) → ((r q : Result A Unbound) → test r → test q → One r q) → (x y : Result B Unbound) → Makes test make x → Makes test make y → One x y
+one_made test make one (Ok x) (Ok y) h k = inl (ap Ok (h.2 ∙ made_oks make h.0 k.0 (one (Ok h.0) (Ok k.0) h.1 k.1) ∙ sym k.2))
+one_made test make one (Ok x) (Err l) h k = inr (inr (ap Err (ok_and_lack h.0 l (one (Ok h.0) (Err l) h.1 k))))
+one_made test make one (Err l) (Ok y) h k = inr (inl (ap Err (lack_and_ok k.0 l (one (Err l) (Ok k.0) h k.1))))
+one_made test make one (Err l) (Err m) h k = lacks l m (one (Err l) (Err m) h k)
+
+one_placed : (place : Option Spot) (binds : Spot → Result Point Unbound → Type 0) → ((spot : Spot) (r q : Result Point Unbound) → binds spot r → binds spot q → One r q) → (r q : Result Point Unbound) → WherePlaced place binds r → WherePlaced place binds q → One r q
+one_placed None binds one r q h k = inl (h ∙ sym k)
+one_placed (Some spot) binds one r q h k = one spot r q h k
+
+one_return : (p : Program) (v : Option Constraint) (close : Spot) (r q : Result Point Unbound) → BindsReturn p v close r → BindsReturn p v close q → One r q
+one_return p None close r q h k = inl (h ∙ sym k)
+one_return p (Some v) close r q h k = one_made (BindsTest p (is_valued p close) v.value) (λ t. point.Return close (Some t)) (one_test p (is_valued p close) v.value) r q h k
+
+one_kind : (p : Program) (kind : WayKind) (at : Location) (v : Option Constraint) (r q : Result Point Unbound) → BindsKind p kind at v r → BindsKind p kind at v q → One r q
+one_kind p Assumption at v r q h k =
+    one_placed (place_named p place.Statement at) (BindsAssumption p (text_of v))
+    (λ spot. one_made (BindsExpression p (names_at p place.Statement spot) (text_of v)) (point.Assume spot) (one_expression p (names_at p place.Statement spot) (text_of v))) r q h k
+one_kind p Target at v r q h k = inl (h ∙ sym k)
+one_kind p FunctionEnter at v r q h k = one_placed (place_named p place.CallEnd at) BindsEntry (λ close r q h k. inl (h ∙ sym k)) r q h k
+one_kind p FunctionReturn at v r q h k = one_placed (place_named p place.CallEnd at) (BindsReturn p v) (λ close. one_return p v close) r q h k
+one_kind p Branching at v r q h k = one_placed (place_named p place.Branch at) (BindsBranching (way_of v)) (λ spot r q h k. inl (h ∙ sym k)) r q h k
+
+one_point : (p : Program) (v : Waypoint) (r q : Result Point Unbound) → BindsPoint p v r → BindsPoint p v q → One r q
+one_point p v r q h k = one_kind p v.kind v.location v.constraint r q h k
+
+ok_same : {A : Type 0} (a b : A) → One (Ok a) (Ok b) → a ≡ b
+ok_same a b (inl e) = cc
+ok_same a b (inr (inl e)) = cc
+ok_same a b (inr (inr e)) = cc
+
+-- one point, one first failing test, and not both
+pub same_point : (p : Program) (v : Waypoint) (x y : Point) → BindsPoint p v (Ok x) → BindsPoint p v (Ok y) → x ≡ y
+same_point p v x y h k = ok_same x y (one_point p v (Ok x) (Ok y) h k)
+
+pub bound_lacks_memory : (p : Program) (v : Waypoint) (x : Point) (l : Unbound) → BindsPoint p v (Ok x) → BindsPoint p v (Err l) → l ≡ OutOfMemory
+bound_lacks_memory p v x l h k = ok_and_lack x l (one_point p v (Ok x) (Err l) h k)
+
+lack_same : (l m : Unbound) → One {A = Point} (Err l) (Err m) → (l ≡ OutOfMemory → ⊥) → (m ≡ OutOfMemory → ⊥) → l ≡ m
+lack_same l m (inl e) a b = cc
+lack_same l m (inr (inl e)) a b = absurd (a cc)
+lack_same l m (inr (inr e)) a b = absurd (b cc)
+
+pub same_lack : (p : Program) (v : Waypoint) (l m : Unbound) → BindsPoint p v (Err l) → BindsPoint p v (Err m) → (l ≡ OutOfMemory → ⊥) → (m ≡ OutOfMemory → ⊥) → l ≡ m
+same_lack p v l m h k a b = lack_same l m (one_point p v (Err l) (Err m) h k) a b
