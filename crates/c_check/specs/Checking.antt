@@ -19,3 +19,12 @@ abbrev pub Answers : DataModel → Property → List raw.Item → Result Program
 Answers m property items (Ok p) = HasProgram m property items (program_view p) (names_of p.functions)
 Answers m property items (Err (Refused code spot)) = Refuses m items (refusal code spot)
 Answers m property items (Err OutOfMemory) = Unit {0}
+
+-- two answers that contracts don't tell apart; want of memory says nothing
+abbrev pub AreSame : Result Program CheckFault → Result Program CheckFault → Type 0
+AreSame (Err OutOfMemory) b = Unit {0}
+AreSame a (Err OutOfMemory) = Unit {0}
+AreSame (Ok p) (Ok q) = (program_view p ≡ program_view q) × (names_of p.functions ≡ names_of q.functions)
+AreSame (Err (Refused code spot)) (Err (Refused code' spot')) = (code ≡ code') × (spot ≡ spot')
+AreSame (Ok p) (Err (Refused code spot)) = ⊥
+AreSame (Err (Refused code spot)) (Ok p) = ⊥

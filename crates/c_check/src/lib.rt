@@ -1,7 +1,14 @@
 //! Names, types and the order of operands of a C source: its checked program, or its first refusal.
 #![tactic(auto)]
 
-mod check;
+mod checked;
+mod checking;
+mod laws;
+mod main_function;
+mod refusals;
+#[cfg(test)]
+mod tests;
 
 pub use c_rules::{CheckCode, CheckFault};
-pub use check::check;
+pub use checking::check;
+pub use laws::one_answer;

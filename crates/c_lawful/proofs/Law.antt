@@ -42,7 +42,7 @@ module _ (objects : List Object) (entries : List Entry) (hidden : List (List ℕ
   placed_at : (os : List Object) (o : Object) (more : List Object) (n : ℕ) → length os ≡ n → objects ≡ os ++ (o ∷ more) → slice_get objects n ≡ Some o
   placed_at os o more n e h = rw h (subst (λ k. slice_get (os ++ (o ∷ more)) k ≡ Some o) e (slice_get-behind os o more))
 
-  placed_all : (os : List Object) (ps : List Part) → AreBehind m bodies os ps → objects ≡ os ++ declared m bodies ps → AllOf (IsPlaced objects entries hidden m bodies) ps
+  pub placed_all : (os : List Object) (ps : List Part) → AreBehind m bodies os ps → objects ≡ os ++ declared m bodies ps → AllOf (IsPlaced objects entries hidden m bodies) ps
   placed_all os [] h e = tt
   placed_all os (Declaring fixed s d ∷ ps) h e =
       let o = object_of m bodies fixed (seen s) d in (

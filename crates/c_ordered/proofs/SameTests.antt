@@ -29,7 +29,7 @@ only_at x y (suc n) l g = absurd (omega (arith, l))
 only : {A : Type 0} (x y : A) → Contains (x ∷ []) y → x ≡ y
 only x y c = only_at x y c.0 c.1 c.2
 
-none_in : {A : Type 0} (x : A) → Contains [] x → ⊥
+pub none_in : {A : Type 0} (x : A) → Contains [] x → ⊥
 none_in x c = omega (arith, c.1)
 
 first_or_rest_at : {A : Type 0} (x y : A) (xs : List A) (n : ℕ) → n < length (x ∷ xs) → get_or (x ∷ xs) n y ≡ y → (x ≡ y) ⊎ Contains xs y
@@ -49,25 +49,25 @@ module _ (m : DataModel) (items : List raw.Item) (objects : List Object) where
   abbrev Same : List Part → List Test → Type 0
   Same ps ts = AreTestsOf m items objects ps ts
 
-  found_left : (ts us : List Test) (p : Spot) → Found ts p → Found (ts ++ us) p
+  pub found_left : (ts us : List Test) (p : Spot) → Found ts p → Found (ts ++ us) p
   found_left ts us p o = record { test = o.test; among = Contains-append_left ts us o.test o.among; found = o.found; there = o.there }
 
-  found_right : (ts us : List Test) (p : Spot) → Found us p → Found (ts ++ us) p
+  pub found_right : (ts us : List Test) (p : Spot) → Found us p → Found (ts ++ us) p
   found_right ts us p o = record { test = o.test; among = Contains-append_right ts us o.test o.among; found = o.found; there = o.there }
 
-  found_cases : (ts us : List Test) (p : Spot) → Found (ts ++ us) p → Found ts p ⊎ Found us p
+  pub found_cases : (ts us : List Test) (p : Spot) → Found (ts ++ us) p → Found ts p ⊎ Found us p
   found_cases ts us p o = elim (Contains-append_cases ts us o.test o.among) as (λ _. Found ts p ⊎ Found us p) [
     | inl c ↦ inl (record { test = o.test; among = c; found = o.found; there = o.there })
     | inr c ↦ inr (record { test = o.test; among = c; found = o.found; there = o.there })
   ]
 
-  unordered_left : (ps qs : List Part) (p : Spot) → Unordered ps p → Unordered (ps ++ qs) p
+  pub unordered_left : (ps qs : List Part) (p : Spot) → Unordered ps p → Unordered (ps ++ qs) p
   unordered_left ps qs p o = record { part = o.part; among = Contains-append_left ps qs o.part o.among; unordered = o.unordered; there = o.there }
 
-  unordered_right : (ps qs : List Part) (p : Spot) → Unordered qs p → Unordered (ps ++ qs) p
+  pub unordered_right : (ps qs : List Part) (p : Spot) → Unordered qs p → Unordered (ps ++ qs) p
   unordered_right ps qs p o = record { part = o.part; among = Contains-append_right ps qs o.part o.among; unordered = o.unordered; there = o.there }
 
-  unordered_cases : (ps qs : List Part) (p : Spot) → Unordered (ps ++ qs) p → Unordered ps p ⊎ Unordered qs p
+  pub unordered_cases : (ps qs : List Part) (p : Spot) → Unordered (ps ++ qs) p → Unordered ps p ⊎ Unordered qs p
   unordered_cases ps qs p o = elim (Contains-append_cases ps qs o.part o.among) as (λ _. Unordered ps p ⊎ Unordered qs p) [
     | inl c ↦ inl (record { part = o.part; among = c; unordered = o.unordered; there = o.there })
     | inr c ↦ inr (record { part = o.part; among = c; unordered = o.unordered; there = o.there })

@@ -3,3 +3,10 @@ mod ExampleGiven
 mod ExamplePassing
 mod ExampleVerdicts
 mod Tested
+mod Views
+mod Ways
+mod Found
+mod Kept
+mod Turn
+mod Begin
+mod Done

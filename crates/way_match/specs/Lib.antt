@@ -1,6 +1,11 @@
 pub mod Points
+pub mod View
 pub mod Passing
 pub mod Matching
+pub mod Prepared
+pub mod Steps
+pub mod Arena
+pub mod Shape
 pub mod Given
 pub mod Verdicts
 pub mod ExampleVerdicts

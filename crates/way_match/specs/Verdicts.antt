@@ -45,6 +45,11 @@ abbrev pub IsConfirmed : Program → List BoundSegment → ℕ → Verdict → T
 IsConfirmed p ss N (ViolationConfirmed draws positions) = Violates p ss N draws positions
 IsConfirmed p ss N _ = Unit {0}
 
+-- a verdict that is right on the given run with so many steps, and that shows such values where it confirms
+pub record IsRightVerdict (steps : ℕ) (p : Program) (ss : List BoundSegment) (verdict : Verdict) : Type 0 where
+  pub right : IsRightOnViolation p ss steps verdict
+  pub confirmed : IsConfirmed p ss steps verdict
+
 abbrev pub is_confirmation : Verdict → Bool
 is_confirmation (ViolationConfirmed draws positions) = true
 is_confirmation _ = false

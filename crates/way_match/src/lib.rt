@@ -3,6 +3,15 @@
 #![tactic(auto)]
 
 mod examples;
+mod given_values;
 mod laws;
+mod matcher;
+mod passing;
+mod point;
+mod prepared;
+mod states;
 
+pub use given_values::given;
 pub use laws::{confirmed_violates, confirms_exactly, test_matches};
+pub use matcher::Matcher;
+pub use point::{Aim, Bound, BoundSegment, Point, ReturnTest};

@@ -1,0 +1,5 @@
+mod FirstLaws
+mod OrderLaws
+mod AnswerLaws
+mod MainLaws
+mod ProgramLaws

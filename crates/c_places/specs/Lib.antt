@@ -1,0 +1,5 @@
+pub mod Seeking
+pub mod Sought
+pub mod Inputs
+pub mod Visible
+pub mod WorkedNames

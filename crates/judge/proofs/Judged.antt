@@ -1,0 +1,55 @@
+-- The verdict by the end of the given run is right.
+use Rattle.std.proofs.Common.{◌≡◌, ℕ, List, [], ◌∷◌, Option, refl, sym, ◌∙◌, ap, subst}
+use Rattle.c_core.specs.Tree.{Program}
+use Rattle.c_core.specs.View.{program_view}
+use Rattle.c_core.specs.declared.program.Program as declared
+use Rattle.c_meaning.specs.declared.run.Choices.{Choices}
+use Rattle.c_meaning.specs.declared.run.End.{End}
+use Rattle.c_meaning.specs.declared.run.End.TheVariants as end
+use Rattle.c_meaning.specs.declared.run.Run.{Run as GivenRun}
+use Rattle.c_meaning.specs.declared.verdict.Verdict.{Verdict}
+use Rattle.c_meaning.specs.Run.{Run, Moment, Told, Here, Head, Moments}
+use Rattle.c_meaning.specs.Watching.{seen_after}
+use Rattle.way_match.specs.Given.{given_by, RunGiven, SeenGiven}
+use Rattle.way_match.specs.Matching.{Seen, seen_of, Finds}
+use Rattle.way_match.specs.Points.{BoundSegment}
+use Rattle.way_match.specs.Steps.{Matching, begun, after, after_all}
+use Rattle.way_match.specs.Verdicts.{IsRightAt, IsRightOnViolation, IsRightVerdict}
+use Rattle.way_match.specs.View.{segments_view}
+use Rattle.way_match.specs.declared.point.Bound.{Bound}
+use Rattle.way_match.proofs.Confirmed.{confirmed}
+use Rattle.judge.specs.Judging.{verdict_at_end, verdict_by}
+
+-- a matcher sees the events alone
+seen_events : (m : Matching) (ms : List Moment) → seen_after after m ms ≡ after_all m (seen_of ms)
+seen_events m [] = refl
+seen_events m (Told e cells ∷ ms) = seen_events (after e cells m) ms
+seen_events m (Here spot cells ∷ ms) = seen_events m ms
+seen_events m (Head at l arrived cells ∷ ms) = seen_events m ms
+
+right_at : (p : Program) (ss : List BoundSegment) (N : ℕ) (r : GivenRun) (es : List Seen) (found : Option (List ℕ)) (e : End) → Finds p ss es found →
+    IsRightAt p ss N r es e (verdict_at_end N r found e)
+right_at p ss N r es found (end.Violated spot) f = (found, f, refl)
+right_at p ss N r es found end.Ended f = refl
+right_at p ss N r es found (end.Undefined spot) f = refl
+right_at p ss N r es found end.Spent f = refl
+right_at p ss N r es found end.Deep f = refl
+
+right_given : (p : Program) (ss : List BoundSegment) (N : ℕ) (r : GivenRun) (found : Option (List ℕ)) → r ≡ RunGiven p ss N → Finds p ss (SeenGiven p ss N) found →
+    IsRightVerdict N p ss (verdict_by N r found)
+right_given p ss N r found e f =
+    let right : IsRightOnViolation p ss N (verdict_by N r found) =
+        subst (λ (x : GivenRun). IsRightOnViolation p ss N (verdict_by N x found)) (sym e) (right_at p ss N (RunGiven p ss N) (SeenGiven p ss N) found (RunGiven p ss N).end f) in
+    record { right = right; confirmed = confirmed p ss N (verdict_by N r found) right }
+
+pub judged : (program : declared.Program) (bound : Bound) (N : ℕ) (c : Choices) (r : GivenRun) (m n : Matching) (found : Option (List ℕ)) (v : Verdict) →
+    c ≡ given_by (program_view program) (segments_view bound) → r ≡ Run (program_view program) c N → m ≡ begun program bound → n ≡ seen_after after m (Moments (program_view program) c N) →
+    ((q : declared.Program) (b : Bound) (es : List Seen) → n ≡ after_all (begun q b) es → Finds (program_view q) (segments_view b) es found) →
+    v ≡ verdict_by N r found → IsRightVerdict N (program_view program) (segments_view bound) v
+judged program bound N c r m n found v given ran new saw finds is =
+    let p = program_view program in
+    let ss = segments_view bound in
+    let same : r ≡ RunGiven p ss N = ran ∙ ap (λ (x : Choices). Run p x N) given in
+    let seen : n ≡ after_all (begun program bound) (SeenGiven p ss N) =
+        saw ∙ seen_events m (Moments p c N) ∙ ap (λ (x : Matching). after_all x (seen_of (Moments p c N))) new ∙ ap (λ (x : Choices). after_all (begun program bound) (seen_of (Moments p x N))) given in
+    subst (λ (x : Verdict). IsRightVerdict N p ss x) (sym is) (right_given p ss N r found same (finds program bound (SeenGiven p ss N) seen))

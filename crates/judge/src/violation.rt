@@ -1,0 +1,56 @@
+ghost use Rattle.std.specs.Prelude.{◌≡◌, IfOk};
+ghost use Rattle.c_core.specs.View.{program_view};
+ghost use Rattle.judge.specs.Judging.{verdict_by};
+ghost use Rattle.way_match.specs.Verdicts.{IsRightVerdict};
+ghost use Rattle.way_match.specs.View.{segments_view};
+
+use c_core::Program;
+use c_interpreter::run_plain;
+use c_meaning::{Cause, End, Reason, Run, Verdict};
+use std::alloc::Global;
+use way_match::{Bound, Matcher, given};
+use wv_base::{OutOfMemory, Seq};
+
+/// The verdict on the run of a program that draws the values of a violation sequence, with a budget of steps.
+pub fn judge_violation(
+    alloc: Global,
+    program: &Program,
+    bound: &Bound,
+    steps: u64,
+) -> Result<Verdict, OutOfMemory>
+    ensures { IfOk result (IsRightVerdict steps (program_view program.now) (segments_view bound.now)) }
+{
+    let choices = given(alloc, bound, program)?;
+    let mut matcher = Matcher::new(alloc, bound, program)?;
+    let run = run_plain(alloc, program, &choices, steps, &mut matcher)?;
+    let found = matcher.done();
+    Ok(verdict(run, found, steps))
+}
+
+fn verdict(run: Run, found: Option<Seq<u64>>, steps: u64) -> Verdict
+    ensures { result ≡ verdict_by steps run found }
+{
+    let unfixed = run.unfixed;
+    match run.end {
+        End::Violated(_) => match found {
+            Some(positions) => Verdict::ViolationConfirmed {
+                draws: run.draws,
+                positions,
+            },
+            None => Verdict::ViolationNot {
+                reason: Reason::Unmatched,
+                unfixed,
+            },
+        },
+        End::Ended => Verdict::ViolationNot {
+            reason: Reason::Ended,
+            unfixed,
+        },
+        End::Undefined(spot) => Verdict::ViolationNot {
+            reason: Reason::Undefined(spot),
+            unfixed,
+        },
+        End::Spent => Verdict::Undecided(Cause::Steps(steps)),
+        End::Deep => Verdict::Undecided(Cause::Cells),
+    }
+}

@@ -1,0 +1,6 @@
+mod BindingLaws
+mod LoopLaws
+mod TestLaws
+mod PlaceLaws
+mod NamedLaws
+mod ReturnLaws

@@ -1,0 +1,8 @@
+use Rattle.std.proofs.Common.{take}
+use Rattle.c_core.specs.View.{program_view}
+use Rattle.way_match.specs.View.{points_view}
+use Rattle.way_bind.specs.Binding.{AreBound}
+use Rattle.way_bind.proofs.binding.bind_avoids.Given as goal
+
+abbrev pub invariant-loop-index : goal.invariant-loop-index
+invariant-loop-index l = AreBound (program_view l.program) (take l.index l.waypoints) (points_view l.points)

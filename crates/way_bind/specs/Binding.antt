@@ -1,0 +1,210 @@
+-- Violation witnesses bound to the places and the typed expressions of a program. A waypoint passes four tests, in this order: its
+-- place exists; its expression is in the grammar; its names are in scope, and a `\result` constraint isn't at a call of a void
+-- function; its expression types. The least waypoint that fails one is told, by the first test that it fails.
+use Rattle.std.specs.Prelude.{◌≡◌, ◌⊎◌, ℕ, ◌+◌, Bool, true, false, cond, is_some, length, List, [], ◌∷◌, ◌++◌, Option, Some, None, Result, Ok, Err, codes}
+use Rattle.std.specs.List.{flat_map}
+use Rattle.std.specs.Str.{bytes_eq}
+use Rattle.c_core.specs.Tree.{Exp, Expr, Program}
+use Rattle.c_core.specs.Places.{place_at, aim_fits, call_at}
+use Rattle.c_core.specs.declared.number.BinOp.{BinOp}
+use Rattle.c_core.specs.declared.number.Spot.{Spot}
+use Rattle.c_core.specs.declared.place.PlaceKind.{PlaceKind}
+use Rattle.c_core.specs.declared.place.PlaceKind.TheVariants as place
+use Rattle.c_parser.specs.Tree as raw
+use Rattle.c_parser.specs.Witness.{IsWitnessExpression, IsResultTest}
+use Rattle.c_places.specs.Visible.{names_at}
+use Rattle.c_constraint.specs.Constraints.{IsTyped, IsMistyped, entries, in_scope}
+use Rattle.wv_schema.specs.declared.witness.WayKind.{WayKind}
+use Rattle.wv_schema.specs.declared.witness.WayKind.TheVariants.{Assumption, Target, FunctionEnter, FunctionReturn, Branching}
+use Rattle.wv_schema.specs.declared.witness.Location.{Location}
+use Rattle.wv_schema.specs.declared.witness.Constraint.{Constraint}
+use Rattle.wv_schema.specs.declared.witness.Waypoint.{Waypoint}
+use Rattle.wv_schema.specs.declared.witness.Segment.{Segment}
+use Rattle.wv_schema.specs.declared.witness.Content.{Content}
+use Rattle.wv_schema.specs.declared.witness.Content.TheVariants.{Violation, Invariants}
+use Rattle.wv_schema.specs.declared.witness.Entry.{Entry}
+use Rattle.wv_schema.specs.declared.witness.Witness.{Witness}
+use Rattle.way_match.specs.Points as point
+use Rattle.way_match.specs.Points.{Point, ReturnTest, BoundSegment}
+use Rattle.way_match.specs.View.{segments_view}
+use Rattle.way_match.specs.declared.point.Bound.{Bound}
+use Rattle.way_bind.specs.declared.fault.Unbound.{Unbound}
+use Rattle.way_bind.specs.declared.fault.Unbound.TheVariants.{NoPlace, Expression, Scope, OutOfMemory}
+use Rattle.way_bind.specs.declared.fault.BindFault.{BindFault}
+use Rattle.way_bind.specs.declared.fault.BindFault.TheVariants as fault
+
+-- ---- the parts of a waypoint
+
+-- the place that a location names
+unfoldable pub place_named : Program → PlaceKind → Location → Option Spot
+place_named p kind v = place_at p kind v.line v.column
+
+-- a target may lie at the location
+unfoldable pub is_suitable : Program → Location → Bool
+is_suitable p v = aim_fits p v.line v.column
+
+-- the text of a constraint; the schema leaves no assumption and no branching without one
+abbrev pub text_of : Option Constraint → List ℕ
+text_of None = []
+text_of (Some v) = v.value
+
+-- the way of a branching; the schema leaves `true` and `false` alone
+abbrev pub way_of : Option Constraint → Bool
+way_of v = bytes_eq (text_of v) (codes "true")
+
+-- where a target lies
+abbrev pub aim_of : ℕ → Option ℕ → point.Aim
+aim_of line None = point.Line line
+aim_of line (Some column) = point.At (record { line = line; column = column })
+
+abbrev pub has_value : Option Exp → Bool
+has_value None = false
+has_value (Some (Expr spot ty node)) = is_some ty
+
+-- the call that ends there has a value
+unfoldable pub is_valued : Program → Spot → Bool
+is_valued p close = has_value (call_at p close)
+
+-- ---- expressions
+
+-- the one expression that a text spells
+pub record IsExpressionOf (text : List ℕ) (e : raw.Exp) : Type 0 where
+  pub spelled : IsWitnessExpression text e
+  pub only : (u : raw.Exp) → IsWitnessExpression text u → u ≡ e
+
+-- the one comparison of `\result` with a constant that a text spells
+pub record IsTestOf (text : List ℕ) (op : BinOp) (e : raw.Exp) : Type 0 where
+  pub spelled : IsResultTest text op e
+  pub only : (q : BinOp) (u : raw.Exp) → IsResultTest text q u → (q ≡ op) × (u ≡ e)
+
+-- the grammar comes first, then the names, then the types
+abbrev pub BindsExpression : Program → List ℕ → List ℕ → Result Exp Unbound → Type 0
+BindsExpression p names text (Ok test) = (e : raw.Exp) × IsExpressionOf text e × IsTyped p.model (entries p.objects names) e test
+BindsExpression p names text (Err NoPlace) = ⊥
+BindsExpression p names text (Err Expression) =
+    ((e : raw.Exp) → IsWitnessExpression text e → ⊥)
+    ⊎ ((e : raw.Exp) × IsExpressionOf text e × IsMistyped p.model (entries p.objects names) e)
+BindsExpression p names text (Err Scope) = (e : raw.Exp) × IsExpressionOf text e × (in_scope (entries p.objects names) e ≡ false)
+BindsExpression p names text (Err OutOfMemory) = Unit {0}
+
+-- the same for `\result op E`, at a call that has a value or has none; E sees no names
+abbrev pub BindsTest : Program → Bool → List ℕ → Result ReturnTest Unbound → Type 0
+BindsTest p valued text (Ok t) =
+    (e : raw.Exp) × IsTestOf text t.op e × (valued ≡ true) × IsTyped p.model (entries p.objects []) e t.constant
+BindsTest p valued text (Err NoPlace) = ⊥
+BindsTest p valued text (Err Expression) =
+    ((op : BinOp) (e : raw.Exp) → IsResultTest text op e → ⊥)
+    ⊎ ((op : BinOp) × (e : raw.Exp) × IsTestOf text op e × (valued ≡ true) × IsMistyped p.model (entries p.objects []) e)
+BindsTest p valued text (Err Scope) =
+    (op : BinOp) × (e : raw.Exp) × IsTestOf text op e × ((valued ≡ false) ⊎ (in_scope (entries p.objects []) e ≡ false))
+BindsTest p valued text (Err OutOfMemory) = Unit {0}
+
+-- ---- waypoints
+
+-- an answer as contracts see what it holds
+abbrev pub seen : {A B : Type 0} → (A → B) → Result A Unbound → Result B Unbound
+seen view (Ok a) = Ok (view a)
+seen view (Err lack) = Err lack
+
+-- what an answer is made into
+abbrev pub Makes : {A B : Type 0} → (Result A Unbound → Type 0) → (A → B) → Result B Unbound → Type 0
+Makes {A} {B} test make (Ok x) = (a : A) × test (Ok a) × (x ≡ make a)
+Makes {A} {B} test make (Err lack) = test (Err lack)
+
+-- where its place isn't there, no other test is made
+abbrev pub WherePlaced : Option Spot → (Spot → Result Point Unbound → Type 0) → Result Point Unbound → Type 0
+WherePlaced None binds answer = answer ≡ Err NoPlace
+WherePlaced (Some spot) binds answer = binds spot answer
+
+abbrev pub BindsAssumption : Program → List ℕ → Spot → Result Point Unbound → Type 0
+BindsAssumption p text spot answer = Makes (BindsExpression p (names_at p place.Statement spot) text) (point.Assume spot) answer
+
+abbrev pub BindsTested : Program → List ℕ → Spot → Result Point Unbound → Type 0
+BindsTested p text close answer = Makes (BindsTest p (is_valued p close) text) (λ t. point.Return close (Some t)) answer
+
+-- without a constraint every return passes
+abbrev pub BindsReturn : Program → Option Constraint → Spot → Result Point Unbound → Type 0
+BindsReturn p None close answer = answer ≡ Ok (point.Return close None)
+BindsReturn p (Some v) close answer = BindsTested p v.value close answer
+
+abbrev pub BindsEntry : Spot → Result Point Unbound → Type 0
+BindsEntry close answer = answer ≡ Ok (point.Enter close)
+
+abbrev pub BindsBranching : Bool → Spot → Result Point Unbound → Type 0
+BindsBranching way spot answer = answer ≡ Ok (point.Branch spot way)
+
+abbrev pub target_at : Program → Location → Result Point Unbound
+target_at p v = cond (is_suitable p v) (Ok (point.Target (aim_of v.line v.column))) (Err NoPlace)
+
+-- by the type of the waypoint
+abbrev pub BindsKind : Program → WayKind → Location → Option Constraint → Result Point Unbound → Type 0
+BindsKind p Assumption at v answer = WherePlaced (place_named p place.Statement at) (BindsAssumption p (text_of v)) answer
+BindsKind p Target at v answer = answer ≡ target_at p at
+BindsKind p FunctionEnter at v answer = WherePlaced (place_named p place.CallEnd at) BindsEntry answer
+BindsKind p FunctionReturn at v answer = WherePlaced (place_named p place.CallEnd at) (BindsReturn p v) answer
+BindsKind p Branching at v answer = WherePlaced (place_named p place.Branch at) (BindsBranching (way_of v)) answer
+
+-- a waypoint is bound to a point, or this is the first test that it fails
+abbrev pub BindsPoint : Program → Waypoint → Result Point Unbound → Type 0
+BindsPoint p v answer = BindsKind p v.kind v.location v.constraint answer
+
+-- ---- witnesses
+
+-- the segments of a violation sequence
+abbrev pub segments_in : Content → List Segment
+segments_in (Violation segments) = segments
+segments_in (Invariants list) = []
+
+-- they are the only entry of their witness
+abbrev pub segments_among : List Entry → List Segment
+segments_among (e ∷ []) = segments_in e.content
+segments_among _ = []
+
+abbrev pub segments_of : Witness → List Segment
+segments_of w = segments_among w.entries
+
+-- waypoints in document order: in each segment those to avoid, then the one to follow
+abbrev pub waypoints_of : Segment → List Waypoint
+waypoints_of s = s.avoids ++ s.follow ∷ []
+
+abbrev pub waypoints_in : List Segment → List Waypoint
+waypoints_in ss = flat_map waypoints_of ss
+
+-- each is bound to its point
+abbrev pub AreBound : Program → List Waypoint → List Point → Type 0
+AreBound p [] [] = Unit {0}
+AreBound p [] (x ∷ xs) = ⊥
+AreBound p (v ∷ vs) [] = ⊥
+AreBound p (v ∷ vs) (x ∷ xs) = BindsPoint p v (Ok x) × AreBound p vs xs
+
+abbrev pub IsBoundTo : Program → Segment → BoundSegment → Type 0
+IsBoundTo p s b = AreBound p s.avoids b.avoids × BindsPoint p s.follow (Ok b.follow)
+
+abbrev pub AreBoundTo : Program → List Segment → List BoundSegment → Type 0
+AreBoundTo p [] [] = Unit {0}
+AreBoundTo p [] (b ∷ bs) = ⊥
+AreBoundTo p (s ∷ ss) [] = ⊥
+AreBoundTo p (s ∷ ss) (b ∷ bs) = IsBoundTo p s b × AreBoundTo p ss bs
+
+-- of waypoints numbered from `first` on, the least that isn't bound has this number, and fails this test first
+pub record IsLeastUnbound (p : Program) (first : ℕ) (vs : List Waypoint) (number : ℕ) (lack : Unbound) : Type 0 where
+  pub before : List Waypoint
+  pub points : List Point
+  pub at : Waypoint
+  pub behind : List Waypoint
+  pub in_order : vs ≡ before ++ at ∷ behind
+  pub counted : number ≡ first + length before
+  pub bound : AreBound p before points
+  pub fails : BindsPoint p at (Err lack)
+
+-- a fault tells the least waypoint that isn't bound
+abbrev pub Tells : Program → ℕ → List Waypoint → BindFault → Type 0
+Tells p first vs (fault.NoPlace n) = IsLeastUnbound p first vs n NoPlace
+Tells p first vs (fault.Expression n) = IsLeastUnbound p first vs n Expression
+Tells p first vs (fault.Scope n) = IsLeastUnbound p first vs n Scope
+Tells p first vs fault.OutOfMemory = Unit {0}
+
+-- the witness is bound, or its least waypoint that isn't is told, by its number from 1
+abbrev pub Binds : Program → Witness → Result Bound BindFault → Type 0
+Binds p w (Ok bound) = AreBoundTo p (segments_of w) (segments_view bound)
+Binds p w (Err f) = Tells p 1 (waypoints_in (segments_of w)) f

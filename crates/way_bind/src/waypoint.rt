@@ -1,0 +1,219 @@
+// One waypoint, bound to a point of a program.
+ghost use Rattle.std.specs.Prelude.{◌≡◌, [], IsTrue};
+ghost use Rattle.c_core.specs.View.{program_view, expr_view};
+ghost use Rattle.c_core.specs.declared.place.PlaceKind.TheVariants.{Statement, Branch, CallEnd};
+ghost use Rattle.c_parser.specs.View.{expr_view as raw_view};
+ghost use Rattle.c_constraint.specs.Constraints.{AnswersConstraint};
+ghost use Rattle.c_places.specs.Visible.{is_scoped};
+ghost use Rattle.way_match.specs.View.{aim_view, point_view, test_view};
+ghost use Rattle.way_bind.specs.Binding.{BindsAssumption, BindsBranching, BindsEntry, BindsExpression, BindsPoint, BindsReturn, BindsTest, BindsTested, WherePlaced, aim_of, is_suitable, is_valued, place_named, seen, target_at, text_of, way_of};
+
+use crate::fault::Unbound;
+use c_constraint::check_expr;
+use c_core::{Expr, PlaceKind, Program, Spot};
+use c_parser::{ExprFault, RawExpr, parse_expr, parse_result};
+use c_places::{aim_fits, call_at, names_at, place_at};
+use std::alloc::Global;
+use way_match::{Aim, Point, ReturnTest};
+use wv_base::Seq;
+use wv_schema::{Constraint, Location, WayKind, Waypoint};
+
+/// The text of a constraint.
+fn text_of(constraint: &Option<Constraint>) -> &str
+    ensures { result.now ≡ text_of constraint.now }
+{
+    match constraint {
+        Some(constraint) => constraint.value.as_str(),
+        None => "",
+    }
+}
+
+fn way_of(constraint: &Option<Constraint>) -> bool
+    ensures { result ≡ way_of constraint.now }
+{
+    text_of(constraint) == "true"
+}
+
+fn aim_of(location: &Location) -> Aim
+    ensures { aim_view result ≡ aim_of location.now.line location.now.column }
+{
+    match location.column {
+        Some(column) => Aim::At(Spot {
+            line: location.line,
+            column,
+        }),
+        None => Aim::Line(location.line),
+    }
+}
+
+/// Whether the call that ends there has a value.
+fn is_valued(program: &Program, close: Spot) -> bool
+    ensures { result ≡ is_valued (program_view program.now) close }
+{
+    match call_at(program, close) {
+        Some(call) => call.ty.is_some(),
+        None => false,
+    }
+}
+
+/// The expression of a text over these names, typed.
+fn expression_of(
+    alloc: Global,
+    program: &Program,
+    names: &Seq<u32>,
+    text: &str,
+) -> Result<Expr, Unbound>
+    ensures { BindsExpression (program_view program.now) names.now text.now (seen expr_view result) }
+{
+    let expr = parse_expr(alloc, text.as_bytes())?;
+    let test = check_expr(alloc, program, names, &expr)?;
+    Ok(test)
+}
+
+/// A constant, which sees no names, typed.
+fn constant_of(alloc: Global, program: &Program, expr: &RawExpr) -> Result<Expr, ExprFault>
+    ensures { AnswersConstraint (program_view program.now) [] (raw_view expr.now) result }
+{
+    let names = Seq::new(alloc);
+    let constant = check_expr(alloc, program, &names, expr)?;
+    Ok(constant)
+}
+
+/// The comparison of `\result` with a constant, at a call that has a value or has none.
+fn test_of(
+    alloc: Global,
+    program: &Program,
+    valued: bool,
+    text: &str,
+) -> Result<ReturnTest, Unbound>
+    ensures { BindsTest (program_view program.now) valued text.now (seen test_view result) }
+{
+    let test = parse_result(alloc, text.as_bytes())?;
+    if !valued {
+        return Err(Unbound::Scope);
+    }
+    let constant = constant_of(alloc, program, &test.constant)?;
+    Ok(ReturnTest {
+        op: test.op,
+        constant,
+    })
+}
+
+fn assumption_at(
+    alloc: Global,
+    program: &Program,
+    text: &str,
+    spot: Spot,
+) -> Result<Point, Unbound>
+    requires { IsTrue (is_scoped (program_view program.now) Statement spot) }
+    ensures { BindsAssumption (program_view program.now) text.now spot (seen point_view result) }
+{
+    let names = names_at(alloc, program, PlaceKind::Statement, spot)?;
+    let test = expression_of(alloc, program, &names, text)?;
+    Ok(Point::Assume(spot, test))
+}
+
+fn tested_return(
+    alloc: Global,
+    program: &Program,
+    text: &str,
+    close: Spot,
+) -> Result<Point, Unbound>
+    ensures { BindsTested (program_view program.now) text.now close (seen point_view result) }
+{
+    let valued = is_valued(program, close);
+    match test_of(alloc, program, valued, text) {
+        Ok(test) => Ok(Point::Return(close, Some(test))),
+        Err(lack) => Err(lack),
+    }
+}
+
+fn return_at(
+    alloc: Global,
+    program: &Program,
+    constraint: &Option<Constraint>,
+    close: Spot,
+) -> Result<Point, Unbound>
+    ensures { BindsReturn (program_view program.now) constraint.now close (seen point_view result) }
+{
+    match constraint {
+        None => Ok(Point::Return(close, None)),
+        Some(constraint) => tested_return(alloc, program, constraint.value.as_str(), close),
+    }
+}
+
+/// The place of a kind that a location names.
+fn place_named(program: &Program, kind: PlaceKind, location: &Location) -> Option<Spot>
+    ensures { result ≡ place_named (program_view program.now) kind location.now }
+{
+    place_at(program, kind, location.line, location.column)
+}
+
+fn is_suitable(program: &Program, location: &Location) -> bool
+    ensures { result ≡ is_suitable (program_view program.now) location.now }
+{
+    aim_fits(program, location.line, location.column)
+}
+
+fn target_at(program: &Program, location: &Location) -> Result<Point, Unbound>
+    ensures { seen point_view result ≡ target_at (program_view program.now) location.now }
+{
+    if is_suitable(program, location) {
+        Ok(Point::Target(aim_of(location)))
+    } else {
+        Err(Unbound::NoPlace)
+    }
+}
+
+fn assumption(alloc: Global, program: &Program, waypoint: &Waypoint) -> Result<Point, Unbound>
+    ensures { WherePlaced (place_named (program_view program.now) Statement waypoint.now.location)
+        (BindsAssumption (program_view program.now) (text_of waypoint.now.constraint)) (seen point_view result) }
+{
+    match place_named(program, PlaceKind::Statement, &waypoint.location) {
+        None => Err(Unbound::NoPlace),
+        Some(spot) => assumption_at(alloc, program, text_of(&waypoint.constraint), spot),
+    }
+}
+
+fn entry(program: &Program, waypoint: &Waypoint) -> Result<Point, Unbound>
+    ensures { WherePlaced (place_named (program_view program.now) CallEnd waypoint.now.location)
+        BindsEntry (seen point_view result) }
+{
+    match place_named(program, PlaceKind::CallEnd, &waypoint.location) {
+        None => Err(Unbound::NoPlace),
+        Some(close) => Ok(Point::Enter(close)),
+    }
+}
+
+fn function_return(alloc: Global, program: &Program, waypoint: &Waypoint) -> Result<Point, Unbound>
+    ensures { WherePlaced (place_named (program_view program.now) CallEnd waypoint.now.location)
+        (BindsReturn (program_view program.now) waypoint.now.constraint) (seen point_view result) }
+{
+    match place_named(program, PlaceKind::CallEnd, &waypoint.location) {
+        None => Err(Unbound::NoPlace),
+        Some(close) => return_at(alloc, program, &waypoint.constraint, close),
+    }
+}
+
+fn branching(program: &Program, waypoint: &Waypoint) -> Result<Point, Unbound>
+    ensures { WherePlaced (place_named (program_view program.now) Branch waypoint.now.location)
+        (BindsBranching (way_of waypoint.now.constraint)) (seen point_view result) }
+{
+    match place_named(program, PlaceKind::Branch, &waypoint.location) {
+        None => Err(Unbound::NoPlace),
+        Some(spot) => Ok(Point::Branch(spot, way_of(&waypoint.constraint))),
+    }
+}
+
+/// A waypoint bound to a point of the program, or the first test that it fails.
+pub fn bind_point(alloc: Global, program: &Program, waypoint: &Waypoint) -> Result<Point, Unbound>
+    ensures { BindsPoint (program_view program.now) waypoint.now (seen point_view result) }
+{
+    match waypoint.kind {
+        WayKind::Assumption => assumption(alloc, program, waypoint),
+        WayKind::Target => target_at(program, &waypoint.location),
+        WayKind::FunctionEnter => entry(program, waypoint),
+        WayKind::FunctionReturn => function_return(alloc, program, waypoint),
+        WayKind::Branching => branching(program, waypoint),
+    }
+}

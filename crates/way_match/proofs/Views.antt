@@ -1,0 +1,79 @@
+-- Items of lists of waypoints, as pure ones and prepared.
+use Rattle.std.proofs.Common.{◌≡◌, ℕ, zero, suc, ◌<◌, List, [], ◌∷◌, ◌++◌, length, map, get_or, drop, Bool, true, false, ◌||◌, Option, Some, None, refl, sym, ◌∙◌, ap, subst, arith}
+use Rattle.std.proofs.Math.Seq.{drop-cons}
+use Rattle.std.proofs.lemmas.List.{append_assoc}
+use Rattle.c_core.specs.Tree.{Program}
+use Rattle.c_meaning.specs.declared.run.Event.{Event}
+use Rattle.c_meaning.specs.Cells.{Cell}
+use Rattle.way_match.specs.Points as pure
+use Rattle.way_match.specs.Passing.{passes, passes_any}
+use Rattle.way_match.specs.Prepared.{comparison_of, comparisons_of, prepared_of, all_prepared}
+use Rattle.way_match.specs.View.{point_view, points_view, segment_view, each_segment_view}
+use Rattle.way_match.specs.declared.point.Point.{Point}
+use Rattle.way_match.specs.declared.point.BoundSegment.{BoundSegment}
+use Rattle.way_match.specs.declared.prepared.Comparison.{Comparison}
+use Rattle.way_match.specs.declared.prepared.Prepared.{Prepared}
+
+pub segments_length : (ss : List BoundSegment) → length (each_segment_view ss) ≡ length ss
+segments_length [] = refl
+segments_length (s ∷ ss) = ap suc (segments_length ss)
+
+pub prepared_length : (p : Program) (ss : List BoundSegment) → length (all_prepared p (each_segment_view ss)) ≡ length ss
+prepared_length p [] = refl
+prepared_length p (s ∷ ss) = ap suc (prepared_length p ss)
+
+pub comparisons_length : (p : Program) (xs : List Point) → length (comparisons_of p (points_view xs)) ≡ length xs
+comparisons_length p [] = refl
+comparisons_length p (x ∷ xs) = ap suc (comparisons_length p xs)
+
+pub segment_at : (ss : List BoundSegment) (i : ℕ) (s : BoundSegment) → i < length ss → s ≡ get_or ss i s →
+    segment_view s ≡ get_or (each_segment_view ss) i (segment_view s)
+segment_at [] i s h e = absurd (omega arith)
+segment_at (x ∷ ss) zero s h e = ap segment_view e
+segment_at (x ∷ ss) (suc i) s h e = segment_at ss i s (omega arith) e
+
+pub prepared_at : (p : Program) (ss : List BoundSegment) (i : ℕ) (s : BoundSegment) (d : Prepared) → i < length ss → s ≡ get_or ss i s →
+    get_or (all_prepared p (each_segment_view ss)) i d ≡ prepared_of p (segment_view s)
+prepared_at p [] i s d h e = absurd (omega arith)
+prepared_at p (x ∷ ss) zero s d h e = ap (λ (y : BoundSegment). prepared_of p (segment_view y)) (sym e)
+prepared_at p (x ∷ ss) (suc i) s d h e = prepared_at p ss i s d (omega arith) e
+
+pub comparison_at : (p : Program) (xs : List Point) (i : ℕ) (x : Point) (d : Option Comparison) → i < length xs → x ≡ get_or xs i x →
+    get_or (comparisons_of p (points_view xs)) i d ≡ comparison_of p (point_view x)
+comparison_at p [] i x d h e = absurd (omega arith)
+comparison_at p (y ∷ xs) zero x d h e = ap (λ (z : Point). comparison_of p (point_view z)) (sym e)
+comparison_at p (y ∷ xs) (suc i) x d h e = comparison_at p xs i x d (omega arith) e
+
+-- the test of the waypoints from number i on
+from_here : (p : Program) (e : Event) (cells : List Cell) (xs : List Point) (i : ℕ) (x : Point) → i < length xs → x ≡ get_or xs i x →
+    passes_any p (points_view (drop i xs)) e cells ≡ (passes p (point_view x) e cells || passes_any p (points_view (drop (suc i) xs)) e cells)
+from_here p e cells xs i x h q =
+    ap (λ (ys : List Point). passes_any p (points_view ys) e cells) (drop-cons xs i x h) ∙
+    ap (λ (y : Point). passes p (point_view y) e cells || passes_any p (points_view (drop (suc i) xs)) e cells) (sym q)
+
+or_true : (a b : Bool) → a ≡ true → (a || b) ≡ true
+or_true a b e = ap (λ (x : Bool). x || b) e
+
+or_false : (a b : Bool) → a ≡ false → (a || b) ≡ b
+or_false a b e = ap (λ (x : Bool). x || b) e
+
+pub passed_here : (p : Program) (e : Event) (cells : List Cell) (xs : List Point) (i : ℕ) (x : Point) (whole : Bool) → i < length xs → x ≡ get_or xs i x →
+    passes_any p (points_view (drop i xs)) e cells ≡ whole → passes p (point_view x) e cells ≡ true → true ≡ whole
+passed_here p e cells xs i x whole h q w t = sym (or_true _ _ t) ∙ sym (from_here p e cells xs i x h q) ∙ w
+
+pub passed_later : (p : Program) (e : Event) (cells : List Cell) (xs : List Point) (i : ℕ) (x : Point) (whole : Bool) → i < length xs → x ≡ get_or xs i x →
+    passes_any p (points_view (drop i xs)) e cells ≡ whole → passes p (point_view x) e cells ≡ false → passes_any p (points_view (drop (suc i) xs)) e cells ≡ whole
+passed_later p e cells xs i x whole h q w f = sym (or_false _ _ f) ∙ sym (from_here p e cells xs i x h q) ∙ w
+
+-- what is prepared of the first waypoints, and one more
+pub more_comparisons : (p : Program) (xs : List Point) (i : ℕ) (x : Point) (done more whole : List (Option Comparison)) → i < length xs → x ≡ get_or xs i x →
+    more ≡ done ++ comparison_of p (point_view x) ∷ [] → done ++ comparisons_of p (points_view (drop i xs)) ≡ whole → more ++ comparisons_of p (points_view (drop (suc i) xs)) ≡ whole
+more_comparisons p xs i x done more whole h q m e =
+    let here : drop i xs ≡ x ∷ drop (suc i) xs = drop-cons xs i x h ∙ ap (λ (y : Point). y ∷ drop (suc i) xs) (sym q) in
+    rw (m, append_assoc) (rw here at e)
+
+pub more_prepared : (p : Program) (ss : List BoundSegment) (i : ℕ) (s : BoundSegment) (done more whole : List Prepared) → i < length ss → s ≡ get_or ss i s →
+    more ≡ done ++ prepared_of p (segment_view s) ∷ [] → done ++ all_prepared p (each_segment_view (drop i ss)) ≡ whole → more ++ all_prepared p (each_segment_view (drop (suc i) ss)) ≡ whole
+more_prepared p ss i s done more whole h q m e =
+    let here : drop i ss ≡ s ∷ drop (suc i) ss = drop-cons ss i s h ∙ ap (λ (y : BoundSegment). y ∷ drop (suc i) ss) (sym q) in
+    rw (m, append_assoc) (rw here at e)

@@ -1,0 +1,121 @@
+ghost use Rattle.std.specs.Prelude.{◌≡◌, List, IfOk};
+ghost use Rattle.c_core.specs.View.{program_view};
+ghost use Rattle.c_core.specs.declared.program.Program.{Program};
+ghost use Rattle.way_match.specs.Matching.{Seen, Finds};
+ghost use Rattle.way_match.specs.Steps.{Matching, begun, after, after_all, last_way, positions_of};
+ghost use Rattle.way_match.specs.View.{segments_view};
+ghost use Rattle.way_match.specs.declared.point.Bound.{Bound};
+
+use crate::point::Bound;
+use crate::prepared::{Prepared, prepare};
+use crate::states::{Node, advance, fill};
+use c_core::Program;
+use c_meaning::{Event, Memory, Watcher};
+use std::alloc::Global;
+use std::marker::Model;
+use wv_base::{OutOfMemory, Seq};
+
+/// Sees the events of a run and keeps which segments some fitting positions among them have completed.
+#[derive(Drop)]
+pub struct Matcher<'a> {
+    program: &'a Program,
+    bound: &'a Bound,
+    prepared: Seq<Prepared>,
+    nodes: Vec<Node>,
+    live: Vec<Option<usize>>,
+    room: Vec<u64>,
+    count: u64,
+    reach: usize,
+}
+
+impl<'a> Model for Matcher<'a> {
+    ghost use Rattle.c_core.specs.View.{program_view};
+    ghost use Rattle.way_match.specs.Arena.{ways_of};
+    ghost use Rattle.way_match.specs.Shape.{Shaped};
+    ghost use Rattle.way_match.specs.Steps.{Matching};
+    ghost use Rattle.std.specs.Coded.{codes};
+    ghost use Rattle.c_core.specs.contracts.tree.Expr as expression;
+    ghost use Rattle.c_core.specs.contracts.tree.Stmt as statement;
+
+    ghost Value = { Matching };
+
+    ghost coded = { Prim.hlevel (codes, expression.the_row.coded, statement.the_row.coded) };
+
+    ghost view = { λ m. record { program = m.program.now; bound = m.bound.now; count = m.count; ways = ways_of m.nodes.items 0 m.live.items } };
+
+    ghost invariant = { λ m. Shaped (program_view m.program.now) m.bound.now.segments m.prepared m.nodes.items m.live.items m.room.items m.reach };
+}
+
+impl<'a> Matcher<'a> {
+    /// Before all events.
+    pub fn new(
+        alloc: Global,
+        bound: &'a Bound,
+        program: &'a Program,
+    ) -> Result<Matcher<'a>, OutOfMemory>
+        ensures { IfOk result (λ m. m ≡ begun program.now bound.now) }
+    {
+        let prepared = prepare(alloc, program, bound.segments.as_slice())?;
+        let mut live = Vec::new(alloc);
+        let mut room = Vec::new(alloc);
+        live.push(Some(0))?;
+        for _ in bound.segments.as_slice() {
+            live.push(None)?;
+            room.push(0)?;
+        }
+        Ok(Matcher {
+            program,
+            bound,
+            prepared,
+            nodes: Vec::new(alloc),
+            live,
+            room,
+            count: 0,
+            reach: 1,
+        })
+    }
+
+    /// Positions that match the events seen, exactly where some do. It takes no memory.
+    pub fn done(self) -> Option<Seq<u64>>
+        ensures answer { result ≡ positions_of (last_way self.entry.ways) }
+        ensures exact { (p : Program) (b : Bound) (es : List Seen) → self.entry ≡ after_all (begun p b) es → Finds (program_view p) (segments_view b) es result }
+    {
+        let Matcher { nodes, live, mut room, .. } = self;
+        match live[room.len()] {
+            Some(last) => {
+                fill(nodes.as_slice(), last, room.as_mut_slice());
+                Some(Seq::from_vec(room))
+            }
+            None => None,
+        }
+    }
+}
+
+impl<'a> Watcher for Matcher<'a> {
+    ghost Seen = { Matching };
+
+    ghost seen = { λ m. m };
+
+    ghost after = { after };
+
+    fn see(&mut self, event: Event, memory: &Memory) -> Result<(), OutOfMemory> {
+        // A number that no u64 holds can't be kept.
+        let Some(count) = self.count.checked_add(1) else {
+            return Err(OutOfMemory);
+        };
+        self.nodes.reserve(self.live.len())?;
+        self.reach = advance(
+            self.program,
+            self.bound.segments.as_slice(),
+            self.prepared.as_slice(),
+            event,
+            memory,
+            self.count,
+            &mut self.nodes,
+            self.live.as_mut_slice(),
+            self.reach,
+        );
+        self.count = count;
+        Ok(())
+    }
+}

@@ -1,0 +1,113 @@
+// What waypoints need of a program that is the same at each event.
+ghost use Rattle.std.specs.Prelude.{◌≡◌, IfOk};
+ghost use Rattle.c_core.specs.Places.{call_at as call_there};
+ghost use Rattle.c_core.specs.View.{program_view, expr_view};
+ghost use Rattle.c_meaning.specs.Objects as objects;
+ghost use Rattle.way_match.specs.Passing as passing;
+ghost use Rattle.way_match.specs.Points.{Return};
+ghost use Rattle.way_match.specs.Prepared.{all_prepared, comparison_of, comparisons_of};
+ghost use Rattle.way_match.specs.View.{each_segment_view, point_view, points_view, test_view_if};
+
+use crate::point::{BoundSegment, Point, ReturnTest};
+use c_core::{Expr, IntType, Program, Spot};
+use c_meaning::{Memory, value_in};
+use c_places::call_at;
+use std::alloc::Global;
+use wv_base::{OutOfMemory, Seq};
+
+/// Of `\result op constant`: the type of the call that returns, and the constant's value, if it is defined.
+#[derive(Clone, Copy, Debug, PartialEq, Eq)]
+pub struct Comparison {
+    pub ty: IntType,
+    pub constant: Option<i128>,
+}
+
+/// The comparisons of a segment's waypoints, none for those without.
+#[derive(Drop)]
+pub struct Prepared {
+    pub avoids: Seq<Option<Comparison>>,
+    pub follow: Option<Comparison>,
+}
+
+/// The type of an expression; that of a void one isn't asked for.
+pub fn type_of(e: &Expr) -> IntType
+    ensures { result ≡ objects.type_of (expr_view e.now) }
+{
+    match e.ty {
+        Some(ty) => ty,
+        None => IntType::Int,
+    }
+}
+
+fn type_of_call(program: &Program, close: Spot) -> IntType
+    ensures { result ≡ passing.type_of_call (call_there (program_view program.now) close) }
+{
+    match call_at(program, close) {
+        Some(call) => type_of(call),
+        None => IntType::Int,
+    }
+}
+
+fn constant(alloc: Global, program: &Program, e: &Expr) -> Option<i128>
+    ensures { result ≡ passing.constant_of (program_view program.now) (expr_view e.now) }
+{
+    let memory = Memory::new(alloc);
+    value_in(program, e, &memory)
+}
+
+fn comparison_at(
+    alloc: Global,
+    program: &Program,
+    close: Spot,
+    test: &Option<ReturnTest>,
+) -> Option<Comparison>
+    ensures { result ≡ comparison_of (program_view program.now) (Return close (test_view_if test.now)) }
+{
+    match test {
+        Some(test) => Some(Comparison {
+            ty: type_of_call(program, close),
+            constant: constant(alloc, program, &test.constant),
+        }),
+        None => None,
+    }
+}
+
+fn comparison_for(alloc: Global, program: &Program, point: &Point) -> Option<Comparison>
+    ensures { result ≡ comparison_of (program_view program.now) (point_view point.now) }
+{
+    match point {
+        Point::Return(close, test) => comparison_at(alloc, program, *close, test),
+        _ => None,
+    }
+}
+
+fn comparisons(
+    alloc: Global,
+    program: &Program,
+    points: &[Point],
+) -> Result<Seq<Option<Comparison>>, OutOfMemory>
+    ensures { IfOk result (λ found. found ≡ comparisons_of (program_view program.now) (points_view points.now)) }
+{
+    let mut found = Seq::new(alloc);
+    for point in points {
+        found.push(comparison_for(alloc, program, point))?;
+    }
+    Ok(found)
+}
+
+/// The comparisons of all segments.
+pub fn prepare(
+    alloc: Global,
+    program: &Program,
+    segments: &[BoundSegment],
+) -> Result<Seq<Prepared>, OutOfMemory>
+    ensures { IfOk result (λ prepared. prepared ≡ all_prepared (program_view program.now) (each_segment_view segments.now)) }
+{
+    let mut prepared = Seq::new(alloc);
+    for segment in segments {
+        let avoids = comparisons(alloc, program, segment.avoids.as_slice())?;
+        let follow = comparison_for(alloc, program, &segment.follow);
+        prepared.push(Prepared { avoids, follow })?;
+    }
+    Ok(prepared)
+}
