@@ -1,5 +1,7 @@
 // Sources that are no programs, by the code and the place of their first refusal.
-use crate::files::{HASH, NO_CALL, PROPERTY, VALIDATE, WITNESS, no_invariants, ran, replaced, shelf};
+use crate::files::{
+    HASH, NO_CALL, PROPERTY, VALIDATE, WITNESS, no_invariants, ran, replaced, shelf,
+};
 use std::test::Fail;
 
 /// Sources that break one rule each, what `sha256sum` answers of each, and the refusal.
@@ -128,7 +130,11 @@ fn the_grammar_comes_before_the_rules(rt: HostRuntime) -> Result<(), Fail> {
     let program = "int main() {\n  x = 1;\n  return 0 }\n";
     let hash = "ced5f44c217d59e00f21562c403a9b1edaa29fa4636d2247f8c7ee9474d66242";
     let witness = replaced(alloc, WITNESS, HASH, hash)?;
-    let (status, out) = ran(alloc, VALIDATE, &mut shelf(alloc, program, PROPERTY, &witness)?)?;
+    let (status, out) = ran(
+        alloc,
+        VALIDATE,
+        &mut shelf(alloc, program, PROPERTY, &witness)?,
+    )?;
     assert_eq!(rt; out.bytes(), b"refused syntax 1:1\n".as_slice());
     assert_eq!(rt; status, 3);
     Ok(())

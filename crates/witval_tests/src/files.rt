@@ -136,7 +136,9 @@ fn waypoint(alloc: Global, text: &str) -> Result<String, AllocError> {
     } else {
         format!(in alloc; ", constraint: {{value: '{value}'}}")?
     };
-    format!(in alloc; "{{waypoint: {{type: {kind}, action: {action}, location: {{{location}}}{constraint}}}}}")
+    format!(in alloc;
+        "{{waypoint: {{type: {kind}, action: {action}, location: {{{location}}}{constraint}}}}}"
+    )
 }
 
 /// A witness of one violation sequence about a program with this hash, under this formula. Its segments stand between `/`, the

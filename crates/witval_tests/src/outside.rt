@@ -1,6 +1,6 @@
 use crate::files::{PROGRAM, PROPERTY, VALIDATE, WITNESS, ran, shelf, words};
-use witval::run;
 use std::test::Fail;
+use witval::run;
 use wv_base::{MemoryShelf, MemorySink};
 
 #[test]

@@ -1,4 +1,6 @@
-use crate::files::{HASH, OVERFLOW, PROGRAM, PROPERTY, VALIDATE, WITNESS, ran, ran_on, replaced, shelf};
+use crate::files::{
+    HASH, OVERFLOW, PROGRAM, PROPERTY, VALIDATE, WITNESS, ran, ran_on, replaced, shelf,
+};
 use std::test::Fail;
 use wv_base::MemoryShelf;
 
@@ -93,12 +95,7 @@ fn refusals_come_in_their_order(rt: HostRuntime) -> Result<(), Fail> {
             "refused yaml-duplicate\n",
         ),
         (PROGRAM, PROPERTY, "a: 1\n", "refused schema-kind witness\n"),
-        (
-            PROGRAM,
-            PROPERTY,
-            other.as_str(),
-            "refused place 2\n",
-        ),
+        (PROGRAM, PROPERTY, other.as_str(), "refused place 2\n"),
     ];
     for (program, property, witness, report) in cases {
         let (status, out) = ran(

@@ -1,6 +1,6 @@
 use crate::files::{PROGRAM, PROPERTY, VALIDATE, WITNESS, ran, ran_on, replaced, shelf, words};
-use witval::run;
 use std::test::Fail;
+use witval::run;
 use wv_base::{SteadyShelf, SteadySink};
 
 const CONFIRMED: &str = "violation confirmed

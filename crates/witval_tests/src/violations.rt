@@ -38,8 +38,18 @@ fn an_assumption_gives_a_value(rt: HostRuntime) -> Result<(), Fail> {
     let cases = [
         (FIRST, "follow target 6:5", open, 1),
         (BRANCH, "follow target 6:5", zero, 0),
-        (FIRST, "follow assumption 5 x == 5 / follow target 6:5", five, 0),
-        (FIRST, "follow assumption 5:3 x == 6 / follow target 6:5", ENDED, 1),
+        (
+            FIRST,
+            "follow assumption 5 x == 5 / follow target 6:5",
+            five,
+            0,
+        ),
+        (
+            FIRST,
+            "follow assumption 5:3 x == 6 / follow target 6:5",
+            ENDED,
+            1,
+        ),
     ];
     for (program, segments, report, status) in cases {
         let (ended, out) = judged(alloc, VALIDATE, program, UNREACHED, segments)?;
@@ -139,7 +149,8 @@ fn these_reports_are_json_too(rt: HostRuntime) -> Result<(), Fail> {
     let alloc = rt.alloc();
     let line = format!(in alloc; "{VALIDATE} --json")?;
     let returned = "follow function_return 3:33 \\result == 2147483647 / follow target 4:3";
-    let confirmed = "{\"answer\":\"violation confirmed\",\"positions\":[2,4],\"values\":[{\"column\":11,\"line\":3,\"type\":\"int\",\"value\":2147483647}]}\n";
+    let confirmed =
+        "{\"answer\":\"violation confirmed\",\"positions\":[2,4],\"values\":[{\"column\":11,\"line\":3,\"type\":\"int\",\"value\":2147483647}]}\n";
     let placed = "{\"answer\":\"refused\",\"code\":\"place\",\"detail\":\"2\"}\n";
     let elsewhere = "follow function_return 3:33 \\result == 2147483647 / follow target 1";
     let cases = [(returned, confirmed, 0), (elsewhere, placed, 3)];

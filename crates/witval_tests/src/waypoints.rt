@@ -9,17 +9,50 @@ use std::test::Fail;
 /// Segments about the first program, and the refusal.
 const UNBOUND: [(&str, &str); 12] = [
     ("follow target 2", "refused place 1\n"),
-    ("follow function_return 4:33 \\result == 5 / follow target 2", "refused place 2\n"),
-    ("follow function_return 4:32 / follow target 6:5", "refused place 1\n"),
-    ("follow branching 4 true / follow target 6:5", "refused place 1\n"),
-    ("follow assumption 5 x == / follow target 6:5", "refused expression 1\n"),
-    ("follow function_return 4 (\\result) == 5 / follow target 6:5", "refused expression 1\n"),
-    ("follow assumption 5 x[1] == 5 / follow target 6:5", "refused expression 1\n"),
-    ("follow assumption 5 z == 5 / follow target 6:5", "refused scope 1\n"),
-    ("follow function_return 4 \\result == x / follow target 6:5", "refused expression 1\n"),
-    ("avoid branching 5 true; follow assumption 5 z == 5 / follow target 2", "refused scope 2\n"),
-    ("follow assumption 2 z == / follow target 2", "refused place 1\n"),
-    ("follow assumption 5 z[1] == 5 / follow target 6:5", "refused scope 1\n"),
+    (
+        "follow function_return 4:33 \\result == 5 / follow target 2",
+        "refused place 2\n",
+    ),
+    (
+        "follow function_return 4:32 / follow target 6:5",
+        "refused place 1\n",
+    ),
+    (
+        "follow branching 4 true / follow target 6:5",
+        "refused place 1\n",
+    ),
+    (
+        "follow assumption 5 x == / follow target 6:5",
+        "refused expression 1\n",
+    ),
+    (
+        "follow function_return 4 (\\result) == 5 / follow target 6:5",
+        "refused expression 1\n",
+    ),
+    (
+        "follow assumption 5 x[1] == 5 / follow target 6:5",
+        "refused expression 1\n",
+    ),
+    (
+        "follow assumption 5 z == 5 / follow target 6:5",
+        "refused scope 1\n",
+    ),
+    (
+        "follow function_return 4 \\result == x / follow target 6:5",
+        "refused expression 1\n",
+    ),
+    (
+        "avoid branching 5 true; follow assumption 5 z == 5 / follow target 2",
+        "refused scope 2\n",
+    ),
+    (
+        "follow assumption 2 z == / follow target 2",
+        "refused place 1\n",
+    ),
+    (
+        "follow assumption 5 z[1] == 5 / follow target 6:5",
+        "refused scope 1\n",
+    ),
 ];
 
 #[test]
@@ -40,7 +73,11 @@ fn a_void_call_returns_nothing_to_compare(rt: HostRuntime) -> Result<(), Fail> {
     let (program, hash) = CALLS;
     let confirmed = "violation confirmed\nsegment 1 event 3\nsegment 2 event 8\n";
     let cases = [
-        ("follow function_return 5:5 \\result == 1 / follow target 9:3", "refused scope 1\n", 3),
+        (
+            "follow function_return 5:5 \\result == 1 / follow target 9:3",
+            "refused scope 1\n",
+            3,
+        ),
         ("follow function_return 5 / follow target 9:3", confirmed, 0),
     ];
     for (segments, report, status) in cases {
@@ -67,7 +104,12 @@ fn invariant_sets_are_not_served_yet(rt: HostRuntime) -> Result<(), Fail> {
         let (status, out) = ran(alloc, VALIDATE, &mut files)?;
         assert_eq!(rt; out.bytes(), b"refused unbuilt witness\n".as_slice());
         assert_eq!(rt; status, 3);
-        let again = replaced(alloc, &witness, "- entry_type", "- entry_type: x\n  entry_type")?;
+        let again = replaced(
+            alloc,
+            &witness,
+            "- entry_type",
+            "- entry_type: x\n  entry_type",
+        )?;
         let mut files = shelf(alloc, program, property, &again)?;
         let (_, out) = ran(alloc, VALIDATE, &mut files)?;
         assert_eq!(rt; out.bytes(), b"refused yaml-duplicate\n".as_slice());
