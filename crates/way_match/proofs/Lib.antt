@@ -3,3 +3,4 @@ mod ExampleGiven
 mod ExamplePassing
 mod ExampleVerdicts
 mod Tested
+pub mod GatherLaws

@@ -7,3 +7,4 @@ pub mod Verdicts
 pub mod ExampleVerdicts
 pub mod ExampleGiven
 pub mod ExamplePassing
+pub mod Gathered

@@ -2,10 +2,12 @@
 //! segments, which values a witness gives, and which verdict is right.
 #![tactic(auto)]
 
+mod compared;
 mod examples;
 mod given_values;
 mod laws;
 mod point;
+mod stored;
 
 pub use given_values::given;
 pub use laws::{confirmed_violates, confirms_exactly, test_matches};
