@@ -5,3 +5,4 @@ pub mod InputLaws
 pub mod BeforeLaws
 pub mod VisibleLaws
 pub mod ObjectLaws
+pub mod OrderLaws

@@ -207,3 +207,11 @@ aim_is_found p line column =
     ∙ ap (λ t. is_some (place_at p Statement line column) || (t || list_any (is_named line column) (starts_of_reach_error p.property (exps_of_program p)))) (sym (start_is_found p line column))
     ∙ ap (λ t. is_some (place_at p Statement line column) || (is_some (found_by (Starts line column) p) || t))
     (error_starts p.property line column (exps_of_program p) ∙ ap (λ t. is_reachability p.property && t) (sym (error_is_found p line column)))
+
+pub aim_by : (p : Program) (line : ℕ) (column : Option ℕ) (result a b r e : Bool) → result ≡ a || (b || (r && e)) → a ≡ is_some (place_at p Statement line column) → b ≡ is_some (found_by (Starts line column) p)
+    → r ≡ is_reachability p.property → e ≡ is_some (found_by (ReachesError line column) p) → result ≡ aim_fits p line column
+aim_by p line column result a b r e h x y z w =
+    h ∙ ap (λ t. t || (b || (r && e))) x ∙ ap (λ t. is_some (place_at p Statement line column) || (t || (r && e))) y
+    ∙ ap (λ t. is_some (place_at p Statement line column) || (is_some (found_by (Starts line column) p) || (t && e))) z
+    ∙ ap (λ t. is_some (place_at p Statement line column) || (is_some (found_by (Starts line column) p) || (is_reachability p.property && t))) w
+    ∙ sym (aim_is_found p line column)

@@ -61,37 +61,37 @@ names_told false before after seen e h = h ∙ sym (ap (names_or before) e)
 -- a statement in which the place is, or isn't
 stays_found : (kind : PlaceKind) (spot : Spot) (names after : List ℕ) (s : Stm) (rest : Stms) (there : Bool) → there ≡ true
     → seen_from spot (sights_in kind names s) ≡ cond there (Some after) None → seen_from spot (sights_in_block kind names (MoreStm s rest)) ≡ Some after
-stays_found kind spot names after s rest there yes e =
+stays_found kind spot names after s rest there there_is e =
     seen_both spot (sights_in kind names s) (sights_in_block kind (names ++ declared_by s) rest)
-    ∙ ap (λ o. or_else o (seen_from spot (sights_in_block kind (names ++ declared_by s) rest))) (e ∙ ap (λ b. cond b (Some after) None) yes)
+    ∙ ap (λ o. or_else o (seen_from spot (sights_in_block kind (names ++ declared_by s) rest))) (e ∙ ap (λ b. cond b (Some after) None) there_is)
 
 goes_past : (kind : PlaceKind) (spot : Spot) (names after more : List ℕ) (s : Stm) (rest : Stms) (there : Bool) → there ≡ false
     → seen_from spot (sights_in kind names s) ≡ cond there (Some after) None → cond there names after ≡ names → more ≡ after ++ declared_by s
     → seen_from spot (sights_in_block kind names (MoreStm s rest)) ≡ seen_from spot (sights_in_block kind more rest)
-goes_past kind spot names after more s rest there no e same declared =
-    let kept : after ≡ names = sym (ap (λ b. cond b names after) no) ∙ same in
+goes_past kind spot names after more s rest there not_there e same declared =
+    let kept : after ≡ names = sym (ap (λ b. cond b names after) not_there) ∙ same in
     seen_both spot (sights_in kind names s) (sights_in_block kind (names ++ declared_by s) rest)
-    ∙ ap (λ o. or_else o (seen_from spot (sights_in_block kind (names ++ declared_by s) rest))) (e ∙ ap (λ b. cond b (Some after) None) no)
+    ∙ ap (λ o. or_else o (seen_from spot (sights_in_block kind (names ++ declared_by s) rest))) (e ∙ ap (λ b. cond b (Some after) None) not_there)
     ∙ ap (λ ns. seen_from spot (sights_in_block kind ns rest)) (ap (λ ns. ns ++ declared_by s) (sym kept) ∙ sym declared)
 
 module _ (kind : PlaceKind) (spot : Spot) (names after : List ℕ) (xs : List Stmt) (i : ℕ) (s : Stmt) (there : Bool) (inside : i < length xs) (is : s ≡ get_or xs i s) where
   pub found_at : there ≡ true → seen_from spot (sights_in kind names (stmt_view s)) ≡ cond there (Some after) None
       → seen_from spot (sights_in_block kind names (stmts_view (drop i xs))) ≡ Some after
-  found_at yes e =
+  found_at there_is e =
       ap (λ l. seen_from spot (sights_in_block kind names (stmts_view l))) (item_first xs i s inside is)
-      ∙ stays_found kind spot names after (stmt_view s) (stmts_view (drop (i + 1) xs)) there yes e
+      ∙ stays_found kind spot names after (stmt_view s) (stmts_view (drop (i + 1) xs)) there there_is e
 
   pub past_at : (more : List ℕ) → there ≡ false → seen_from spot (sights_in kind names (stmt_view s)) ≡ cond there (Some after) None → cond there names after ≡ names
       → more ≡ after ++ declared_by (stmt_view s)
       → seen_from spot (sights_in_block kind more (stmts_view (drop (i + 1) xs))) ≡ seen_from spot (sights_in_block kind names (stmts_view (drop i xs)))
-  past_at more no e same declared =
+  past_at more not_there e same declared =
       sym (ap (λ l. seen_from spot (sights_in_block kind names (stmts_view l))) (item_first xs i s inside is)
-      ∙ goes_past kind spot names after more (stmt_view s) (stmts_view (drop (i + 1) xs)) there no e same declared)
+      ∙ goes_past kind spot names after more (stmt_view s) (stmts_view (drop (i + 1) xs)) there not_there e same declared)
 
 pub first_kept : (first names after more declared : List ℕ) (there : Bool) → there ≡ false → cond there names after ≡ names → more ≡ after ++ declared
     → take (length first) names ≡ first → take (length first) more ≡ first
-first_kept first names after more declared there no same e h =
-    let kept : after ≡ names = sym (ap (λ b. cond b names after) no) ∙ same in
+first_kept first names after more declared there not_there same e h =
+    let kept : after ≡ names = sym (ap (λ b. cond b names after) not_there) ∙ same in
     ap (take (length first)) (e ∙ ap (λ ns. ns ++ declared) kept) ∙ take_kept first names declared h
 
 -- a function in which the place is, or isn't
@@ -106,13 +106,13 @@ module _ (kind : PlaceKind) (spot : Spot) (first names after : List ℕ) (xs : L
 
   pub function_found : there ≡ true → seen_from spot (sights_in_body kind (names ++ f.params) (stmt_view f.body)) ≡ cond there (Some after) None
       → seen_from spot (sights_in_functions kind first (functions_view (drop i xs))) ≡ Some after
-  function_found yes e =
-      split e ∙ ap (λ b. or_else (cond b (Some after) None) (seen_from spot (sights_in_functions kind first (functions_view (drop (i + 1) xs))))) yes
+  function_found there_is e =
+      split e ∙ ap (λ b. or_else (cond b (Some after) None) (seen_from spot (sights_in_functions kind first (functions_view (drop (i + 1) xs))))) there_is
 
   pub function_past : there ≡ false → seen_from spot (sights_in_body kind (names ++ f.params) (stmt_view f.body)) ≡ cond there (Some after) None
       → seen_from spot (sights_in_functions kind first (functions_view (drop (i + 1) xs))) ≡ seen_from spot (sights_in_functions kind first (functions_view (drop i xs)))
-  function_past no e =
-      sym (split e ∙ ap (λ b. or_else (cond b (Some after) None) (seen_from spot (sights_in_functions kind first (functions_view (drop (i + 1) xs))))) no)
+  function_past not_there e =
+      sym (split e ∙ ap (λ b. or_else (cond b (Some after) None) (seen_from spot (sights_in_functions kind first (functions_view (drop (i + 1) xs))))) not_there)
 
 pub names_kept : (first names after : List ℕ) (there : Bool) → there ≡ false → cond there names after ≡ names → names ≡ first → after ≡ first
-names_kept first names after there no same as_first = sym (ap (λ b. cond b names after) no) ∙ same ∙ as_first
+names_kept first names after there not_there same as_first = sym (ap (λ b. cond b names after) not_there) ∙ same ∙ as_first

@@ -99,7 +99,6 @@ fn in_functions(spot: Spot, functions: &[Function]) -> Option<&Stmt>
 }
 
 /// The statement or declaration directly before the one at a place, in the same block.
-#[tactic(auto, using(crate::proofs::BeforeLaws::before_is_found))]
 pub fn stmt_before(program: &Program, spot: Spot) -> Option<&Stmt>
     ensures { option_map stmt_view (option_copied result) ≡ stmt_before (program_view program.now) spot }
 {

@@ -1,5 +1,5 @@
 // The first expression of a kind, over all bodies.
-ghost use Rattle.std.specs.Prelude.{◌≡◌, [], ◌∷◌, ◌++◌, None, is_some};
+ghost use Rattle.std.specs.Prelude.{◌≡◌, ◌&&◌, ◌||◌, [], ◌∷◌, ◌++◌, None, is_some};
 ghost use Rattle.std.specs.Option.{option_copied};
 ghost use Rattle.c_core.specs.Parts.{exps_of, exps_of_arguments, exps_of_node, same_spot};
 ghost use Rattle.c_core.specs.Places.{aim_fits, call_at};
@@ -274,19 +274,24 @@ fn is_found(program: &Program, wanted: Wanted) -> bool
     in_functions(wanted, program.functions.as_slice()).is_some()
 }
 
+fn is_aim(at_statement: bool, at_start: bool, in_task: bool, at_error: bool) -> bool
+    ensures { result ≡ at_statement || (at_start || (in_task && at_error)) }
+{
+    at_statement || at_start || in_task && at_error
+}
+
 /// Whether a target may stand there, exactly or somewhere on the line.
-#[tactic(auto, using(crate::proofs::SoughtLaws::aim_is_found))]
 pub fn aim_fits(program: &Program, line: u32, column: Option<u32>) -> bool
     ensures { result ≡ aim_fits (program_view program.now) line column }
 {
     let at_statement = place_at(program, PlaceKind::Statement, line, column).is_some();
     let at_start = is_found(program, Wanted::Starts(line, column));
     let at_error = is_found(program, Wanted::ReachesError(line, column));
-    at_statement || (at_start || (is_reachability(program.property) && at_error))
+    let in_task = is_reachability(program.property);
+    is_aim(at_statement, at_start, in_task, at_error)
 }
 
 /// The call whose closing parenthesis stands there.
-#[tactic(auto, using(crate::proofs::SoughtLaws::first_is_call))]
 pub fn call_at(program: &Program, close: Spot) -> Option<&Expr>
     ensures { expr_view_if (option_copied result) ≡ call_at (program_view program.now) close }
 {

@@ -220,7 +220,6 @@ fn push_functions(list: &mut Vec<InputCall>, functions: &[Function]) -> Result<(
 }
 
 /// Every input call, each function's statements before those in them.
-#[tactic(auto, using(crate::proofs::InputLaws::inputs_of_all))]
 pub fn input_calls(alloc: Global, program: &Program) -> Result<Vec<InputCall>, OutOfMemory>
     ensures { IfOk result (λ calls. calls_view calls.items ≡ filter_map input_of (exps_of_program (program_view program.now))) }
 {

@@ -1,8 +1,9 @@
 // The list of a program's places.
-ghost use Rattle.std.specs.Prelude.{◌≡◌, [], ◌∷◌, ◌++◌, OnOk, IfOk};
+ghost use Rattle.std.specs.Prelude.{◌≡◌, [], ◌∷◌, ◌++◌, OnOk, IfOk, IsTrue};
 ghost use Rattle.c_core.specs.Places.{place, places_if, places_in, places_in_arguments, places_in_first, places_in_init, places_in_names, places_in_node, places_of, places_of_block, places_of_body, places_of_form, places_of_statement};
 ghost use Rattle.c_core.specs.View.{block_view, expr_view, expr_view_if, exprs_view, first_view, form_view, functions_view, init_view, names_view, node_view, program_view, stmt_view, stmts_view};
 ghost use Rattle.c_core.specs.declared.place.PlaceKind.TheVariants.{CallEnd};
+ghost use Rattle.c_places.specs.Ordered.{are_ordered};
 ghost use Rattle.c_places.specs.Seeking.{places_of_functions};
 
 use c_core::{
@@ -207,7 +208,8 @@ fn push_functions(list: &mut Vec<Place>, functions: &[Function]) -> Result<(), O
 /// Every place, by place and then by kind.
 #[tactic(auto, using(crate::proofs::PlaceLaws::places_of_all))]
 pub fn places(alloc: Global, program: &Program) -> Result<Seq<Place>, OutOfMemory>
-    ensures { IfOk result (λ places. places ≡ places_of (program_view program.now)) }
+    ensures exact { IfOk result (λ places. places ≡ places_of (program_view program.now)) }
+    ensures ordered { IfOk result (λ places. IsTrue (are_ordered places)) }
 {
     let mut list = Vec::new(alloc);
     push_functions(&mut list, program.functions.as_slice())?;

@@ -257,7 +257,6 @@ impl Location {
 }
 
 /// The place of this kind that a location names: exactly there, or the leftmost on the line.
-#[tactic(auto, using(crate::proofs::PlaceLaws::best_is_place))]
 pub fn place_at(
     program: &Program,
     kind: PlaceKind,

@@ -10,3 +10,4 @@ mod Kept
 mod Turn
 mod Begin
 mod Done
+pub mod GatherLaws

@@ -11,3 +11,4 @@ pub mod Verdicts
 pub mod ExampleVerdicts
 pub mod ExampleGiven
 pub mod ExamplePassing
+pub mod Gathered

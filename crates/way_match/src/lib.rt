@@ -2,6 +2,7 @@
 //! segments, which values a witness gives, and which verdict is right.
 #![tactic(auto)]
 
+mod compared;
 mod examples;
 mod given_values;
 mod laws;
@@ -10,6 +11,7 @@ mod passing;
 mod point;
 mod prepared;
 mod states;
+mod stored;
 
 pub use given_values::given;
 pub use laws::{confirmed_violates, confirms_exactly, test_matches};
