@@ -1,6 +1,8 @@
 mod ListLaws
 mod NameLaws
 mod NotedLaws
+mod FoundLaws
+mod KeptLaws
 mod ScopeLaws
 mod BlockLaws
 mod LabelLaws

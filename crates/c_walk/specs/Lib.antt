@@ -1,3 +1,2 @@
-pub mod Walks
-pub mod Starting
 pub mod Items
+pub mod Walks

@@ -8,15 +8,18 @@ use Rattle.c_core.specs.declared.number.DataModel.{DataModel}
 use Rattle.c_core.specs.declared.number.Spot.{Spot}
 use Rattle.c_core.specs.declared.tree.Stmt.{Stmt}
 use Rattle.c_parser.specs.Tree as raw
+use Rattle.c_rules.specs.declared.fault.Refusal.{Refusal}
+use Rattle.c_rules.specs.Kept.{Kept, kept_of_parts}
 use Rattle.c_rules.specs.Names.{Entry}
 use Rattle.c_rules.specs.Scopes.{Scope, scope, seen, size_of}
 use Rattle.c_rules.specs.Parts.{Part, Value, Declaring, parts_if, bodies_of}
-use Rattle.c_rules.specs.Noting.{noted_part, noted_parts}
+use Rattle.c_rules.specs.Noting.{noted_parts}
 use Rattle.c_scope.specs.Sources.{items_of}
 use Rattle.c_rules.specs.Parts as part
 use Rattle.c_walk.specs.declared.label.Label.{Label}
 use Rattle.c_walk.specs.declared.context.Context.{Context}
 use Rattle.c_walk.specs.declared.walk.Walk.{Walk}
+use Rattle.c_walk.specs.Items.{kept_views}
 
 abbrev pub items_in : Context → List raw.Item
 items_in context = items_of context.functions.now
@@ -28,9 +31,28 @@ bodies_in context = bodies_of (items_in context)
 abbrev pub scope_at : Walk → Scope
 scope_at walk = scope walk.table.outer walk.table.inner walk.objects
 
--- these parts were gone through
+-- the first refusal so far, and the full expressions that were kept
+pub record Found : Type 0 where
+  pub best : Option Refusal
+  pub kept : List Kept
+
+abbrev pub found : Option Refusal → List Kept → Found
+found best kept = record { best = best; kept = kept }
+
+abbrev pub found_at : Walk → Found
+found_at walk = found walk.best (kept_views walk.kept)
+
+-- with these parts gone through
+abbrev pub with_parts : DataModel → List raw.Item → Found → List Part → Found
+with_parts m items f ps = found (noted_parts m items f.best ps) (f.kept ++ kept_of_parts m (bodies_of items) ps)
+
+-- these parts were gone through: what is refused of them was noted, and what is kept of them was kept
 abbrev pub IsNoted : Context → Walk → Walk → List Part → Type 0
-IsNoted context old new ps = (new.best ≡ noted_parts context.model (items_in context) old.best ps)
+IsNoted context old new ps = (found_at new ≡ with_parts context.model (items_in context) (found_at old) ps)
+
+-- what is refused of these parts was noted
+abbrev pub IsJudged : Context → Walk → Walk → List Part → Type 0
+IsJudged context old new ps = (new.best ≡ noted_parts context.model (items_in context) old.best ps)
 
 -- the innermost scope has ended, and of the names around so many stand outside the one that goes on
 abbrev pub cut : ℕ → Scope → Scope

@@ -16,13 +16,13 @@ ghost use Rattle.c_rules.specs.Typed as typing;
 ghost use Rattle.c_walk.specs.Walks.{scope_at, bodies_in, items_in, IsNoted, size_stated, declarator};
 
 use crate::context::Context;
+use crate::full::full;
 use crate::sizes::{cells, is_too_small, size};
 use crate::walk::Walk;
 use c_core::{Declared, Expr, Init, Object};
 use c_parser::{RawDeclared, RawExpr, RawInit};
 use c_rules::{CheckCode, Role, noted};
 use c_scope::Known;
-use c_typing::{constant, expression};
 use wv_base::{OutOfMemory, Seq, Text};
 
 const MOST_CELLS: u64 = 100_000;
@@ -64,6 +64,7 @@ fn note_declared(
     requires size { size ≡ size_stated context.now.model (bodies_in context.now) (seen (scope_at walk.old)) (option_map expr_view d.now.size) }
     ensures scope { scope_at walk.new ≡ scope_at walk.old }
     ensures noted { walk.new.best ≡ noted_part context.now.model (items_in context.now) walk.old.best (part.Declaring fixed (scope_at walk.old) (declared_view d.now)) }
+    ensures kept { walk.new.kept ≡ walk.old.kept }
 {
     let known = Known::Object {
         number,
@@ -97,47 +98,28 @@ fn object(
     })
 }
 
-// What is refused of an initializer itself: where storage is static, it is a constant.
-fn note_value(context: &Context, walk: &mut Walk, fixed: bool, e: &RawExpr, typed: &Expr)
-    requires { typed_view typed.now ≡ typing.typed context.now.model (bodies_in context.now) (seen (scope_at walk.old)) (expr_view e.now) }
-    ensures scope { scope_at walk.new ≡ scope_at walk.old }
-    ensures noted { walk.new.best ≡ noted_part context.now.model (items_in context.now) walk.old.best (part.Initializing fixed (scope_at walk.old) (expr_view e.now)) }
-{
-    let mistyped = fixed && constant(context.model, typed).is_none();
-    walk.best = noted(walk.best, mistyped, CheckCode::Typing, e.spot);
-}
-
-fn value(context: &Context, walk: &mut Walk, fixed: bool, e: &RawExpr) -> Result<Expr, OutOfMemory>
+// An initializer in a function, which may be any value.
+fn value(context: &Context, walk: &mut Walk, e: &RawExpr) -> Result<Expr, OutOfMemory>
     ensures typed { IfOk result (λ r. typed_view r ≡ typing.typed context.now.model (bodies_in context.now) (seen (scope_at walk.old)) (expr_view e.now)) }
     ensures scope { OnOk result (scope_at walk.new ≡ scope_at walk.old) }
-    ensures noted { OnOk result (IsNoted context.now walk.old walk.new (part.parts_of_value fixed (scope_at walk.old) (expr_view e.now))) }
+    ensures noted { OnOk result (IsNoted context.now walk.old walk.new (part.parts_of_value false (scope_at walk.old) (expr_view e.now))) }
 {
-    let typed = expression(
-        context.alloc,
-        context.functions,
-        &walk.table,
-        context.model,
-        &mut walk.best,
-        Role::Value,
-        e,
-    )?;
-    note_value(context, walk, fixed, e, &typed);
+    let typed = full(context, walk, Role::Value, e)?;
     Ok(typed)
 }
 
 fn values(
     context: &Context,
     walk: &mut Walk,
-    fixed: bool,
     es: &[RawExpr],
 ) -> Result<Seq<Expr>, OutOfMemory>
     ensures typed { IfOk result (λ r. typed_views r ≡ typing.typed_all context.now.model (bodies_in context.now) (seen (scope_at walk.old)) (exps (exprs_view es.now))) }
     ensures scope { OnOk result (scope_at walk.new ≡ scope_at walk.old) }
-    ensures noted { OnOk result (IsNoted context.now walk.old walk.new (part.parts_of_values fixed (scope_at walk.old) (exps (exprs_view es.now)))) }
+    ensures noted { OnOk result (IsNoted context.now walk.old walk.new (part.parts_of_values false (scope_at walk.old) (exps (exprs_view es.now)))) }
 {
     let mut all = Seq::new(context.alloc);
     for e in es {
-        let typed = value(context, walk, fixed, e)?;
+        let typed = value(context, walk, e)?;
         all.push(typed)?;
     }
     Ok(all)
@@ -147,28 +129,27 @@ fn values(
 fn initializer(
     context: &Context,
     walk: &mut Walk,
-    fixed: bool,
     init: &RawInit,
 ) -> Result<Init, OutOfMemory>
     ensures typed { IfOk result (λ r. typed_init_view r ≡ checked.typed_init context.now.model (bodies_in context.now) (seen (scope_at walk.old)) (init_view init.now)) }
     ensures scope { OnOk result (scope_at walk.new ≡ scope_at walk.old) }
-    ensures noted { OnOk result (IsNoted context.now walk.old walk.new (part.parts_of_init fixed (scope_at walk.old) (init_view init.now))) }
+    ensures noted { OnOk result (IsNoted context.now walk.old walk.new (part.parts_of_init false (scope_at walk.old) (init_view init.now))) }
 {
     match init {
         RawInit::Absent => Ok(Init::Absent),
         RawInit::One(e) => {
-            let typed = value(context, walk, fixed, e)?;
+            let typed = value(context, walk, e)?;
             Ok(Init::One(typed))
         }
         RawInit::Many(es) => {
-            let typed = values(context, walk, fixed, es.as_slice())?;
+            let typed = values(context, walk, es.as_slice())?;
             Ok(Init::Many(typed))
         }
     }
 }
 
-// A declared name up to its initializer, and its number.
-fn declare<'a>(
+/// A declared name up to its initializer, and its number.
+pub fn declare<'a>(
     context: &Context,
     walk: &mut Walk<'a>,
     fixed: bool,
@@ -186,21 +167,20 @@ fn declare<'a>(
     Ok(number)
 }
 
-/// A declared name with its initializer.
-pub fn name<'a>(
+// A name in a function, with its initializer.
+fn name<'a>(
     context: &Context,
     walk: &mut Walk<'a>,
-    fixed: bool,
     d: &'a RawDeclared,
 ) -> Result<Declared, OutOfMemory>
     ensures spot { IfOk result (λ r. r.spot ≡ d.now.spot) }
     ensures number { IfOk result (λ r. r.object ≡ length walk.old.objects) }
-    ensures typed { IfOk result (λ r. typed_init_view r.init ≡ checked.typed_init context.now.model (bodies_in context.now) (seen (scopes.after_name context.now.model (bodies_in context.now) fixed (scope_at walk.old) (declared_view d.now))) (init_view d.now.init)) }
-    ensures scope { OnOk result (scope_at walk.new ≡ scopes.after_name context.now.model (bodies_in context.now) fixed (scope_at walk.old) (declared_view d.now)) }
-    ensures noted { OnOk result (IsNoted context.now walk.old walk.new (part.parts_of_name context.now.model (bodies_in context.now) fixed (scope_at walk.old) (declared_view d.now))) }
+    ensures typed { IfOk result (λ r. typed_init_view r.init ≡ checked.typed_init context.now.model (bodies_in context.now) (seen (scopes.after_name context.now.model (bodies_in context.now) false (scope_at walk.old) (declared_view d.now))) (init_view d.now.init)) }
+    ensures scope { OnOk result (scope_at walk.new ≡ scopes.after_name context.now.model (bodies_in context.now) false (scope_at walk.old) (declared_view d.now)) }
+    ensures noted { OnOk result (IsNoted context.now walk.old walk.new (part.parts_of_name context.now.model (bodies_in context.now) false (scope_at walk.old) (declared_view d.now))) }
 {
-    let object = declare(context, walk, fixed, d)?;
-    let init = initializer(context, walk, fixed, &d.init)?;
+    let object = declare(context, walk, false, d)?;
+    let init = initializer(context, walk, &d.init)?;
     Ok(Declared {
         spot: d.spot,
         object,
@@ -220,7 +200,7 @@ pub fn names<'a>(
 {
     let mut all = Seq::new(context.alloc);
     for d in ds {
-        let declared = name(context, walk, false, d)?;
+        let declared = name(context, walk, d)?;
         all.push(declared)?;
     }
     Ok(all)

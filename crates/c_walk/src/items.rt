@@ -1,77 +1,27 @@
 // Items: functions, prototypes, and objects of static storage.
-ghost use Rattle.std.specs.Prelude.{◌≡◌, ◌++◌, ◌∷◌, [], None, true, map, IfOk, OnOk};
-ghost use Rattle.c_core.specs.View.{function_view, functions_view};
-ghost use Rattle.c_parser.specs.SourceView.{declared_view, item_view, param_view, stmt_view};
+ghost use Rattle.std.specs.Prelude.{◌≡◌, ◌++◌, ◌∷◌, [], map, IfOk, OnOk};
+ghost use Rattle.c_core.specs.View.{functions_view};
+ghost use Rattle.c_parser.specs.SourceView.{item_view, param_view, stmt_view};
 ghost use Rattle.c_parser.specs.Tree as raw;
-ghost use Rattle.c_parser.specs.Tree.{stms};
 ghost use Rattle.c_rules.specs.Checked as checked;
+ghost use Rattle.c_rules.specs.Kept.{kept_of_parts, kept_outside};
+ghost use Rattle.c_rules.specs.Names as known_as;
+ghost use Rattle.c_rules.specs.Order.{parts_of_bodies};
 ghost use Rattle.c_rules.specs.Parts as part;
 ghost use Rattle.c_rules.specs.Scopes as scopes;
-ghost use Rattle.c_walk.specs.Items.{names_of, functions_by, starts_by};
-ghost use Rattle.c_walk.specs.Walks.{scope_at, bodies_in, IsNoted};
+ghost use Rattle.c_walk.specs.Items.{names_of, functions_by, starts_by, kept_by, outside_by, kept_lists, kept_views};
+ghost use Rattle.c_walk.specs.Walks.{scope_at, bodies_in, IsJudged};
 
 use crate::context::Context;
-use crate::declaring::name;
-use crate::labels::note_labels;
+use crate::functions::function;
+use crate::globals::globals;
 use crate::naming::{declare, stated_by};
-use crate::parameters::parameters;
-use crate::starts::add_start;
-use crate::statements::statements;
-use crate::forms::block_of;
 use crate::walk::Walk;
-use c_core::{Function, IntType, Spot, Start, Stmt};
-use c_parser::{Item, RawDeclared, RawForm, RawParam, RawStmt};
-use c_scope::{Known, Stated};
+use c_core::{Function, IntType, Spot, Start};
+use c_order::Kept;
+use c_parser::{Item, RawParam, RawStmt};
+use c_scope::Known;
 use wv_base::{OutOfMemory, Seq, Text};
-
-// The statements of a body.
-fn statements_in(body: &RawStmt) -> &[RawStmt]
-    ensures { stms (map stmt_view result.now) ≡ scopes.statements_of (stmt_view body.now) }
-{
-    match &body.form {
-        RawForm::Block(ss) => ss.as_slice(),
-        _ => &[],
-    }
-}
-
-// A function with a body.
-fn function<'a>(
-    context: &Context,
-    walk: &mut Walk<'a>,
-    spot: Spot,
-    name: &'a Text,
-    gives: Option<IntType>,
-    xs: &'a [RawParam],
-    body: &'a RawStmt,
-) -> Result<Function, OutOfMemory>
-    ensures name { IfOk result (λ r. r.name ≡ name.now) }
-    ensures typed { IfOk result (λ r. function_view r ≡ checked.typed_function context.now.model (bodies_in context.now) (scope_at walk.old) name.now gives (map param_view xs.now) (stmt_view body.now)) }
-    ensures scope { OnOk result (scope_at walk.new ≡ scopes.after_item context.now.model (bodies_in context.now) (scope_at walk.old) (raw.Function spot name.now gives (map param_view xs.now) (stmt_view body.now))) }
-    ensures noted { OnOk result (IsNoted context.now walk.old walk.new (part.parts_of_item context.now.model (bodies_in context.now) (scope_at walk.old) (raw.Function spot name.now gives (map param_view xs.now) (stmt_view body.now)))) }
-{
-    let known = Known::Function {
-        result: gives,
-        stated: Stated::Parameters(xs),
-        has_body: true,
-    };
-    declare(context, walk, spot, name, known)?;
-    let outside = walk.open();
-    let params = parameters(context, walk, xs)?;
-    let block = statements(context, walk, gives, false, statements_in(body))?;
-    walk.close(outside);
-    note_labels(context, walk, body)?;
-    let name = Text::of(context.alloc, name.as_str())?;
-    let body = Stmt {
-        spot: body.spot,
-        form: block_of(block),
-    };
-    Ok(Function {
-        name,
-        result: gives,
-        params,
-        body,
-    })
-}
 
 fn prototype<'a>(
     context: &Context,
@@ -82,31 +32,16 @@ fn prototype<'a>(
     types: &'a Option<Seq<IntType>>,
 ) -> Result<(), OutOfMemory>
     ensures scope { OnOk result (scope_at walk.new ≡ scopes.after_item context.now.model (bodies_in context.now) (scope_at walk.old) (raw.Prototype spot name.now gives types.now)) }
-    ensures noted { OnOk result (IsNoted context.now walk.old walk.new (part.parts_of_item context.now.model (bodies_in context.now) (scope_at walk.old) (raw.Prototype spot name.now gives types.now))) }
+    ensures noted { OnOk result (IsJudged context.now walk.old walk.new (part.parts_of_item context.now.model (bodies_in context.now) (scope_at walk.old) (raw.Prototype spot name.now gives types.now))) }
+    ensures kept { OnOk result (walk.new.kept ≡ walk.old.kept) }
 {
+    let stated = stated_by(name.as_str(), types);
     let known = Known::Function {
         result: gives,
-        stated: stated_by(name.as_str(), types),
+        stated,
         has_body: false,
     };
-    declare(context, walk, spot, name, known)
-}
-
-// The names of one declaration outside of functions.
-fn globals<'a>(
-    context: &Context,
-    walk: &mut Walk<'a>,
-    starts: &mut Seq<Start>,
-    ds: &'a [RawDeclared],
-) -> Result<(), OutOfMemory>
-    ensures starts { OnOk result (starts.new ≡ starts.old ++ checked.starts_of_names context.now.model (bodies_in context.now) (scope_at walk.old) (map declared_view ds.now)) }
-    ensures scope { OnOk result (scope_at walk.new ≡ scopes.after_names context.now.model (bodies_in context.now) true (scope_at walk.old) (map declared_view ds.now)) }
-    ensures noted { OnOk result (IsNoted context.now walk.old walk.new (part.parts_of_names context.now.model (bodies_in context.now) true (scope_at walk.old) (map declared_view ds.now))) }
-{
-    for d in ds {
-        let declared = name(context, walk, true, d)?;
-        add_start(context.alloc, context.model, starts, d.ty, &declared)?;
-    }
+    declare(context, walk, spot, name, known)?;
     Ok(())
 }
 
@@ -114,6 +49,7 @@ fn add_function<'a>(
     context: &Context,
     walk: &mut Walk<'a>,
     functions: &mut Seq<Function>,
+    kept: &mut Seq<Seq<Kept>>,
     spot: Spot,
     name: &'a Text,
     gives: Option<IntType>,
@@ -123,24 +59,22 @@ fn add_function<'a>(
     ensures functions { OnOk result (functions_view functions.new ≡ functions_view functions.old ++ functions_by context.now.model (bodies_in context.now) (scope_at walk.old) (raw.Function spot name.now gives (map param_view xs.now) (stmt_view body.now))) }
     ensures names { OnOk result (names_of functions.new ≡ names_of functions.old ++ name.now ∷ []) }
     ensures scope { OnOk result (scope_at walk.new ≡ scopes.after_item context.now.model (bodies_in context.now) (scope_at walk.old) (raw.Function spot name.now gives (map param_view xs.now) (stmt_view body.now))) }
-    ensures noted { OnOk result (IsNoted context.now walk.old walk.new (part.parts_of_item context.now.model (bodies_in context.now) (scope_at walk.old) (raw.Function spot name.now gives (map param_view xs.now) (stmt_view body.now)))) }
+    ensures noted { OnOk result (IsJudged context.now walk.old walk.new (part.parts_of_item context.now.model (bodies_in context.now) (scope_at walk.old) (raw.Function spot name.now gives (map param_view xs.now) (stmt_view body.now)))) }
+    ensures kept { OnOk result (kept_lists kept.new ≡ kept_lists kept.old ++ kept_by context.now.model (bodies_in context.now) (scope_at walk.old) (raw.Function spot name.now gives (map param_view xs.now) (stmt_view body.now))) }
+    ensures outside { OnOk result (kept_views walk.new.kept ≡ kept_views walk.old.kept) }
 {
-    let function = function(context, walk, spot, name, gives, xs, body)?;
-    functions.push(function)?;
+    let walked = function(context, walk, spot, name, gives, xs, body)?;
+    functions.push(walked.function)?;
+    kept.push(walked.kept)?;
     Ok(())
 }
 
 // An item of which the name alone is known.
-fn close_name<'a>(
-    context: &Context,
-    walk: &mut Walk<'a>,
-    spot: Spot,
-    name: &'a Text,
-) -> Result<(), OutOfMemory>
-    ensures scope { OnOk result (scope_at walk.new ≡ scopes.after_item context.now.model (bodies_in context.now) (scope_at walk.old) (raw.Closed spot name.now)) }
+fn close_name<'a>(walk: &mut Walk<'a>, name: &'a Text) -> Result<(), OutOfMemory>
+    ensures scope { OnOk result (scope_at walk.new ≡ scopes.with_entry (scope_at walk.old) (known_as.entry name.now known_as.Closed)) }
     ensures best { OnOk result (walk.new.best ≡ walk.old.best) }
+    ensures kept { OnOk result (walk.new.kept ≡ walk.old.kept) }
 {
-    let _ = (context, spot);
     walk.table.declare(name.as_str(), Known::Closed)?;
     Ok(())
 }
@@ -151,13 +85,16 @@ fn item<'a>(
     walk: &mut Walk<'a>,
     starts: &mut Seq<Start>,
     functions: &mut Seq<Function>,
+    kept: &mut Seq<Seq<Kept>>,
     item: &'a Item,
 ) -> Result<(), OutOfMemory>
     ensures starts { OnOk result (starts.new ≡ starts.old ++ starts_by context.now.model (bodies_in context.now) (scope_at walk.old) (item_view item.now)) }
     ensures functions { OnOk result (functions_view functions.new ≡ functions_view functions.old ++ functions_by context.now.model (bodies_in context.now) (scope_at walk.old) (item_view item.now)) }
     ensures names { OnOk result (names_of functions.new ≡ names_of functions.old ++ part.bodies_of (item_view item.now ∷ [])) }
     ensures scope { OnOk result (scope_at walk.new ≡ scopes.after_item context.now.model (bodies_in context.now) (scope_at walk.old) (item_view item.now)) }
-    ensures noted { OnOk result (IsNoted context.now walk.old walk.new (part.parts_of_item context.now.model (bodies_in context.now) (scope_at walk.old) (item_view item.now))) }
+    ensures noted { OnOk result (IsJudged context.now walk.old walk.new (part.parts_of_item context.now.model (bodies_in context.now) (scope_at walk.old) (item_view item.now))) }
+    ensures kept { OnOk result (kept_lists kept.new ≡ kept_lists kept.old ++ kept_by context.now.model (bodies_in context.now) (scope_at walk.old) (item_view item.now)) }
+    ensures outside { OnOk result (kept_views walk.new.kept ≡ kept_views walk.old.kept ++ outside_by context.now.model (bodies_in context.now) (scope_at walk.old) (item_view item.now)) }
 {
     match item {
         Item::Function {
@@ -167,25 +104,28 @@ fn item<'a>(
             params,
             body,
         } => {
-            add_function(
-                context,
-                walk,
-                functions,
-                *spot,
-                name,
-                *result,
-                params.as_slice(),
-                body,
-            )
+            let xs = params.as_slice();
+            add_function(context, walk, functions, kept, *spot, name, *result, xs, body)?;
+            Ok(())
         }
         Item::Prototype {
             spot,
             name,
             result,
             params,
-        } => prototype(context, walk, *spot, name, *result, params),
-        Item::Global(ds) => globals(context, walk, starts, ds.as_slice()),
-        Item::Closed { spot, name } => close_name(context, walk, *spot, name),
+        } => {
+            prototype(context, walk, *spot, name, *result, params)?;
+            Ok(())
+        }
+        Item::Global(ds) => {
+            let names = ds.as_slice();
+            globals(context, walk, starts, names)?;
+            Ok(())
+        }
+        Item::Closed { name, .. } => {
+            close_name(walk, name)?;
+            Ok(())
+        }
     }
 }
 
@@ -195,16 +135,19 @@ pub fn items<'a>(
     walk: &mut Walk<'a>,
     starts: &mut Seq<Start>,
     functions: &mut Seq<Function>,
+    kept: &mut Seq<Seq<Kept>>,
     items: &'a [Item],
 ) -> Result<(), OutOfMemory>
     ensures starts { OnOk result (starts.new ≡ starts.old ++ checked.starts_of context.now.model (bodies_in context.now) (scope_at walk.old) (map item_view items.now)) }
     ensures functions { OnOk result (functions_view functions.new ≡ functions_view functions.old ++ checked.functions_of context.now.model (bodies_in context.now) (scope_at walk.old) (map item_view items.now)) }
     ensures names { OnOk result (names_of functions.new ≡ names_of functions.old ++ part.bodies_of (map item_view items.now)) }
     ensures scope { OnOk result (scope_at walk.new ≡ scopes.after_items context.now.model (bodies_in context.now) (scope_at walk.old) (map item_view items.now)) }
-    ensures noted { OnOk result (IsNoted context.now walk.old walk.new (part.parts_of_items context.now.model (bodies_in context.now) (scope_at walk.old) (map item_view items.now))) }
+    ensures noted { OnOk result (IsJudged context.now walk.old walk.new (part.parts_of_items context.now.model (bodies_in context.now) (scope_at walk.old) (map item_view items.now))) }
+    ensures kept { OnOk result (kept_lists kept.new ≡ kept_lists kept.old ++ map (kept_of_parts context.now.model (bodies_in context.now)) (parts_of_bodies context.now.model (bodies_in context.now) (scope_at walk.old) (map item_view items.now))) }
+    ensures outside { OnOk result (kept_views walk.new.kept ≡ kept_views walk.old.kept ++ kept_outside context.now.model (bodies_in context.now) (scope_at walk.old) (map item_view items.now)) }
 {
     for x in items {
-        item(context, walk, starts, functions, x)?;
+        item(context, walk, starts, functions, kept, x)?;
     }
     Ok(())
 }

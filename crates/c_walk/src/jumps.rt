@@ -37,6 +37,7 @@ fn note_return(
 )
     ensures scope { scope_at walk.new ≡ scope_at walk.old }
     ensures noted { walk.new.best ≡ noted_part context.now.model (items_in context.now) walk.old.best (part.Returning gives spot (is_some (option_map expr_view e.now))) }
+    ensures kept { walk.new.kept ≡ walk.old.kept }
 {
     let _ = context;
     let mistyped = is_wrong_return(gives, e.is_some());
@@ -65,6 +66,7 @@ pub fn give(
 pub fn leave(context: &Context, walk: &mut Walk, looped: bool, spot: Spot)
     ensures scope { scope_at walk.new ≡ scope_at walk.old }
     ensures noted { walk.new.best ≡ noted_part context.now.model (items_in context.now) walk.old.best (part.Leaving looped spot) }
+    ensures kept { walk.new.kept ≡ walk.old.kept }
 {
     let _ = context;
     walk.best = noted(walk.best, !looped, CheckCode::Typing, spot);

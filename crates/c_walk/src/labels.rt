@@ -6,7 +6,7 @@ ghost use Rattle.c_scope.specs.Bodies.{has_name};
 ghost use Rattle.c_parser.specs.Tree.{stms};
 ghost use Rattle.c_rules.specs.Noting.{noted_parts};
 ghost use Rattle.c_rules.specs.Parts as part;
-ghost use Rattle.c_walk.specs.Walks.{scope_at, items_in, IsNoted, label, labels_seen};
+ghost use Rattle.c_walk.specs.Walks.{scope_at, items_in, IsJudged, label, labels_seen};
 
 use crate::context::Context;
 use crate::label::Label;
@@ -47,12 +47,21 @@ fn gather<'a>(all: &mut Vec<Label<'a>>, s: &'a RawStmt) -> Result<(), OutOfMemor
 {
     match &s.form {
         RawForm::Block(ss) => gather_block(all, ss.as_slice()),
-        RawForm::If { yes, no, .. } => gather_arms(all, yes, no),
+        RawForm::If { yes, no, .. } => {
+            gather(all, yes)?;
+            gather_else(all, no)?;
+            Ok(())
+        }
         RawForm::While { body, .. } => gather(all, body),
         RawForm::Do { body, .. } => gather(all, body),
         RawForm::For { body, .. } => gather(all, body),
         RawForm::Label { name, of } => gather_labelled(all, name, s.spot, of),
-        _ => Ok(()),
+        RawForm::Empty => Ok(()),
+        RawForm::Expr(_) => Ok(()),
+        RawForm::Declare(_) => Ok(()),
+        RawForm::Break => Ok(()),
+        RawForm::Continue => Ok(()),
+        RawForm::Return(_) => Ok(()),
     }
 }
 
@@ -67,19 +76,6 @@ fn gather_labelled<'a>(
 {
     add(all, name, spot)?;
     gather(all, of)?;
-    Ok(())
-}
-
-#[cycle(gather)]
-fn gather_arms<'a>(
-    all: &mut Vec<Label<'a>>,
-    yes: &'a RawStmt,
-    no: &'a Option<Box<RawStmt>>,
-) -> Result<(), OutOfMemory>
-    ensures { OnOk result (labels_seen all.new.items ≡ labels_seen all.old.items ++ part.labels_of (stmt_view yes.now) ++ part.labels_of_else (else_if no.now)) }
-{
-    gather(all, yes)?;
-    gather_else(all, no)?;
     Ok(())
 }
 
@@ -131,7 +127,8 @@ pub fn note_labels(
     body: &RawStmt,
 ) -> Result<(), OutOfMemory>
     ensures scope { OnOk result (scope_at walk.new ≡ scope_at walk.old) }
-    ensures noted { OnOk result (IsNoted context.now walk.old walk.new (part.parts_of_labels [] (part.labels_of (stmt_view body.now)))) }
+    ensures noted { OnOk result (IsJudged context.now walk.old walk.new (part.parts_of_labels [] (part.labels_of (stmt_view body.now)))) }
+    ensures kept { OnOk result (walk.new.kept ≡ walk.old.kept) }
 {
     let mut all = Vec::new(context.alloc);
     gather(&mut all, body)?;

@@ -6,6 +6,8 @@ mod context;
 mod declaring;
 mod forms;
 mod full;
+mod functions;
+mod globals;
 mod items;
 mod jumps;
 mod label;
@@ -15,7 +17,6 @@ mod parameters;
 mod scopes;
 mod sizes;
 mod source;
-mod starts;
 mod statements;
 mod walk;
 

@@ -62,6 +62,7 @@ fn alters(built: Option<Callee>, known: Known) -> bool
 fn note_named(context: &Context, walk: &mut Walk, spot: Spot, name: &str, known: Known)
     ensures scope { scope_at walk.new ≡ scope_at walk.old }
     ensures noted { walk.new.best ≡ noted_part context.now.model (items_in context.now) walk.old.best (part.Naming (scope_at walk.old) (names.entry name.now (kind_of known.entry)) spot) }
+    ensures kept { walk.new.kept ≡ walk.old.kept }
 {
     let _ = context;
     let doubled = walk.table.is_again(name, known) || alters(built_in(name), known);
@@ -78,9 +79,12 @@ pub fn declare<'a>(
 ) -> Result<(), OutOfMemory>
     ensures scope { OnOk result (scope_at walk.new ≡ scopes.with_entry (scope_at walk.old) (names.entry name.now (kind_of known.entry))) }
     ensures noted { OnOk result (walk.new.best ≡ noted_part context.now.model (items_in context.now) walk.old.best (part.Naming (scope_at walk.old) (names.entry name.now (kind_of known.entry)) spot)) }
+    ensures kept { OnOk result (walk.new.kept ≡ walk.old.kept) }
 {
-    note_named(context, walk, spot, name.as_str(), known);
-    walk.table.declare(name.as_str(), known)
+    let word = name.as_str();
+    note_named(context, walk, spot, word, known);
+    walk.table.declare(word, known)?;
+    Ok(())
 }
 
 /// The parameters that a prototype states, but for input functions, which are compared by their results alone.

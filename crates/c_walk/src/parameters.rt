@@ -4,7 +4,8 @@ ghost use Rattle.c_parser.specs.SourceView.{param_view};
 ghost use Rattle.c_rules.specs.Checked as checked;
 ghost use Rattle.c_rules.specs.Parts as part;
 ghost use Rattle.c_rules.specs.Scopes as scopes;
-ghost use Rattle.c_walk.specs.Walks.{scope_at, bodies_in, IsNoted};
+ghost use Rattle.c_walk.specs.Items.{kept_views};
+ghost use Rattle.c_walk.specs.Walks.{scope_at, bodies_in, IsJudged};
 
 use crate::context::Context;
 use crate::declaring::is_crowded;
@@ -18,7 +19,8 @@ use wv_base::{OutOfMemory, Seq, Text};
 fn note_parameter(context: &Context, walk: &mut Walk, number: u32, x: &RawParam)
     requires { number ≡ length walk.old.objects }
     ensures scope { scope_at walk.new ≡ scope_at walk.old }
-    ensures noted { IsNoted context.now walk.old walk.new (part.parts_of_parameters (scope_at walk.old) (param_view x.now ∷ [])) }
+    ensures noted { IsJudged context.now walk.old walk.new (part.parts_of_parameters (scope_at walk.old) (param_view x.now ∷ [])) }
+    ensures kept { walk.new.kept ≡ walk.old.kept }
 {
     let _ = context;
     let known = Known::Object {
@@ -54,7 +56,8 @@ fn parameter<'a>(
 ) -> Result<u32, OutOfMemory>
     ensures number { IfOk result (λ n. n ≡ length walk.old.objects) }
     ensures scope { OnOk result (scope_at walk.new ≡ scopes.with_object (scope_at walk.old) (scopes.parameter (param_view x.now))) }
-    ensures noted { OnOk result (IsNoted context.now walk.old walk.new (part.parts_of_parameters (scope_at walk.old) (param_view x.now ∷ []))) }
+    ensures noted { OnOk result (IsJudged context.now walk.old walk.new (part.parts_of_parameters (scope_at walk.old) (param_view x.now ∷ []))) }
+    ensures kept { OnOk result (kept_views walk.new.kept ≡ kept_views walk.old.kept) }
 {
     let number = walk.next_number()?;
     note_parameter(context, walk, number, x);
@@ -71,7 +74,8 @@ pub fn parameters<'a>(
 ) -> Result<Seq<u32>, OutOfMemory>
     ensures numbers { IfOk result (λ r. r ≡ checked.numbers_from context.now.model (bodies_in context.now) (length walk.old.objects) (map param_view xs.now)) }
     ensures scope { OnOk result (scope_at walk.new ≡ scopes.after_parameters (scope_at walk.old) (map param_view xs.now)) }
-    ensures noted { OnOk result (IsNoted context.now walk.old walk.new (part.parts_of_parameters (scope_at walk.old) (map param_view xs.now))) }
+    ensures noted { OnOk result (IsJudged context.now walk.old walk.new (part.parts_of_parameters (scope_at walk.old) (map param_view xs.now))) }
+    ensures kept { OnOk result (kept_views walk.new.kept ≡ kept_views walk.old.kept) }
 {
     let mut numbers = Seq::new(context.alloc);
     for x in xs {

@@ -1,12 +1,14 @@
 // Scopes and objects, as a walk meets them.
 ghost use Rattle.std.specs.Prelude.{◌≡◌, ◌<◌, ◌≤◌, ◌∷◌, ◌++◌, [], length, IfOk, OnOk, None};
 ghost use Rattle.c_rules.specs.Scopes.{outermost, with_object, opened};
-ghost use Rattle.c_walk.specs.Walks.{scope_at, cut};
+ghost use Rattle.c_walk.specs.Walks.{scope_at, found, found_at, cut};
 
 use crate::walk::Walk;
 use c_core::Object;
+use c_order::Kept;
 use c_scope::{Known, Table};
 use std::alloc::Global;
+use std::mem;
 use wv_base::{OutOfMemory, Seq};
 
 // The number that stands for no object.
@@ -16,13 +18,14 @@ impl<'a> Walk<'a> {
     /// In the outermost scope, where nothing is declared.
     pub fn new(alloc: Global) -> Walk<'a>
         ensures scope { scope_at result ≡ outermost }
-        ensures best { result.best ≡ None }
+        ensures found { found_at result ≡ found None [] }
     {
         Walk {
             table: Table::new(alloc),
             objects: Seq::new(alloc),
             cells: 0,
             best: None,
+            kept: Seq::new(alloc),
         }
     }
 
@@ -47,7 +50,7 @@ impl<'a> Walk<'a> {
     pub fn declare(&mut self, name: &'a str, object: Object) -> Result<(), OutOfMemory>
         requires { object.name ≡ name.now }
         ensures scope { OnOk result (scope_at self.new ≡ with_object (scope_at self.old) object) }
-        ensures best { OnOk result (self.new.best ≡ self.old.best) }
+        ensures found { OnOk result (found_at self.new ≡ found_at self.old) }
     {
         let number = self.next_number()?;
         let known = Known::Object {
@@ -64,6 +67,7 @@ impl<'a> Walk<'a> {
         ensures objects { OnOk result (self.new.objects ≡ self.old.objects ++ object ∷ []) }
         ensures table { self.new.table ≡ self.old.table }
         ensures best { self.new.best ≡ self.old.best }
+        ensures kept { self.new.kept ≡ self.old.kept }
     {
         let cells = self.cells.checked_add(u64::from(object.cells)).ok_or(OutOfMemory)?;
         self.objects.push(object)?;
@@ -71,10 +75,20 @@ impl<'a> Walk<'a> {
         Ok(())
     }
 
+    /// Goes on with another list of what is kept, and gives the one so far.
+    pub fn set_kept(&mut self, kept: Seq<Kept>) -> Seq<Kept>
+        ensures scope { scope_at self.new ≡ scope_at self.old }
+        ensures best { self.new.best ≡ self.old.best }
+        ensures given { result ≡ self.old.kept }
+        ensures kept { self.new.kept ≡ kept }
+    {
+        mem::replace(&mut self.kept, kept)
+    }
+
     /// Opens a scope, and gives how many names stand outside of the one around it.
     pub fn open(&mut self) -> usize
         ensures scope { scope_at self.new ≡ opened (scope_at self.old) }
-        ensures best { self.new.best ≡ self.old.best }
+        ensures found { found_at self.new ≡ found_at self.old }
         ensures outside { result ≡ length self.old.table.outer }
     {
         self.table.open()
@@ -84,7 +98,7 @@ impl<'a> Walk<'a> {
     pub fn close(&mut self, outside: usize)
         requires { outside ≤ length self.old.table.outer }
         ensures scope { scope_at self.new ≡ cut outside (scope_at self.old) }
-        ensures best { self.new.best ≡ self.old.best }
+        ensures found { found_at self.new ≡ found_at self.old }
     {
         self.table.close(outside);
     }

@@ -1,16 +1,22 @@
 // Sizes of arrays.
-ghost use Rattle.std.specs.Prelude.{◌≡◌, ◌≤◌, IfOk, OnOk, OnSome};
+ghost use Rattle.std.specs.Prelude.{◌≡◌, ◌∷◌, ◌++◌, [], None, IfOk, OnOk};
 ghost use Rattle.std.specs.Option.{option_map};
 ghost use Rattle.c_parser.specs.SourceView.{init_view};
 ghost use Rattle.c_parser.specs.View.{expr_view};
+ghost use Rattle.c_core.specs.View.{expr_view as typed_view};
 ghost use Rattle.c_rules.specs.Codes as codes;
+ghost use Rattle.c_rules.specs.Kept.{kept, kept_size};
 ghost use Rattle.c_rules.specs.Parts as part;
 ghost use Rattle.c_rules.specs.Scopes as scopes;
 ghost use Rattle.c_rules.specs.Scopes.{seen};
-ghost use Rattle.c_walk.specs.Walks.{scope_at, bodies_in, IsNoted, size_stated};
+ghost use Rattle.c_rules.specs.Typed as typing;
+ghost use Rattle.c_walk.specs.Items.{kept_views};
+ghost use Rattle.c_walk.specs.Walks.{scope_at, bodies_in, IsJudged, size_stated};
 
 use crate::context::Context;
 use crate::walk::Walk;
+use c_core::Expr;
+use c_order::Kept;
 use c_parser::{RawExpr, RawInit};
 use c_rules::Role;
 use c_typing::{constant, expression};
@@ -32,11 +38,22 @@ fn as_size(value: Option<i128>) -> Option<u32>
     }
 }
 
-/// The size of an array.
+/// Keeps a full expression, which no typed tree holds.
+pub fn keep(walk: &mut Walk, object: Option<u32>, value: Expr) -> Result<(), OutOfMemory>
+    ensures scope { OnOk result (scope_at walk.new ≡ scope_at walk.old) }
+    ensures best { OnOk result (walk.new.best ≡ walk.old.best) }
+    ensures kept { OnOk result (kept_views walk.new.kept ≡ kept_views walk.old.kept ++ kept object (typed_view value) ∷ []) }
+{
+    walk.kept.push(Kept { object, value })?;
+    Ok(())
+}
+
+// The size of an array.
 fn size_of(context: &Context, walk: &mut Walk, e: &RawExpr) -> Result<Option<u32>, OutOfMemory>
     ensures size { IfOk result (λ r. r ≡ scopes.size_of context.now.model (bodies_in context.now) (seen (scope_at walk.old)) (expr_view e.now)) }
     ensures scope { OnOk result (scope_at walk.new ≡ scope_at walk.old) }
-    ensures noted { OnOk result (IsNoted context.now walk.old walk.new (part.parts (seen (scope_at walk.old)) part.Value (expr_view e.now))) }
+    ensures noted { OnOk result (IsJudged context.now walk.old walk.new (part.parts (seen (scope_at walk.old)) part.Value (expr_view e.now))) }
+    ensures kept { OnOk result (kept_views walk.new.kept ≡ kept_views walk.old.kept ++ kept None (typing.typed context.now.model (bodies_in context.now) (seen (scope_at walk.old)) (expr_view e.now)) ∷ []) }
 {
     let typed = expression(
         context.alloc,
@@ -47,18 +64,24 @@ fn size_of(context: &Context, walk: &mut Walk, e: &RawExpr) -> Result<Option<u32
         Role::Value,
         e,
     )?;
-    Ok(as_size(constant(context.model, &typed)))
+    let size = as_size(constant(context.model, &typed));
+    keep(walk, None, typed)?;
+    Ok(size)
 }
 
 /// The size that a declaration states, where it states one that fits.
 pub fn size(context: &Context, walk: &mut Walk, e: &Option<RawExpr>) -> Result<Option<u32>, OutOfMemory>
     ensures size { IfOk result (λ r. r ≡ size_stated context.now.model (bodies_in context.now) (seen (scope_at walk.old)) (option_map expr_view e.now)) }
     ensures scope { OnOk result (scope_at walk.new ≡ scope_at walk.old) }
-    ensures noted { OnOk result (IsNoted context.now walk.old walk.new (part.parts_if (seen (scope_at walk.old)) part.Value (option_map expr_view e.now))) }
+    ensures noted { OnOk result (IsJudged context.now walk.old walk.new (part.parts_if (seen (scope_at walk.old)) part.Value (option_map expr_view e.now))) }
+    ensures kept { OnOk result (kept_views walk.new.kept ≡ kept_views walk.old.kept ++ kept_size context.now.model (bodies_in context.now) (seen (scope_at walk.old)) (option_map expr_view e.now)) }
 {
     match e {
         None => Ok(None),
-        Some(e) => size_of(context, walk, e),
+        Some(e) => {
+            let size = size_of(context, walk, e)?;
+            Ok(size)
+        }
     }
 }
 

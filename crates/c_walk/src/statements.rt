@@ -67,11 +67,14 @@ fn form<'a>(
             Ok(block_of(ss))
         }
         RawForm::If { test, yes, no } => {
-            let form = choose(context, walk, gives, looped, spot, test, yes, no)?;
-            Ok(form)
+            let test = full(context, walk, Role::Value, test)?;
+            let yes = arm(context, walk, gives, looped, yes)?;
+            let no = other_arm(context, walk, gives, looped, no)?;
+            let choice = choice_of(context.alloc, test, yes, no)?;
+            Ok(choice)
         }
         RawForm::While { test, body } => {
-            let form = while_loop(context, walk, gives, looped, spot, test, body)?;
+            let form = while_loop(context, walk, gives, looped, spot, body, test)?;
             Ok(form)
         }
         RawForm::Do { body, test } => {
@@ -84,7 +87,7 @@ fn form<'a>(
             step,
             body,
         } => {
-            let form = for_loop(context, walk, gives, looped, spot, first, test, step, body)?;
+            let form = for_loop(context, walk, gives, looped, spot, body, first, test, step)?;
             Ok(form)
         }
         RawForm::Break => {
@@ -107,28 +110,7 @@ fn form<'a>(
     }
 }
 
-#[cycle(statement)]
-fn choose<'a>(
-    context: &Context,
-    walk: &mut Walk<'a>,
-    gives: Option<IntType>,
-    looped: bool,
-    spot: Spot,
-    test: &RawExpr,
-    yes: &'a RawStmt,
-    no: &'a Option<Box<RawStmt>>,
-) -> Result<Form, OutOfMemory>
-    ensures typed { IfOk result (λ r. typed_form_view r ≡ checked.typed_form context.now.model (bodies_in context.now) (scope_at walk.old) (raw.If (expr_view test.now) (stmt_view yes.now) (else_if no.now))) }
-    ensures scope { OnOk result (scope_at walk.new ≡ scopes.after_form context.now.model (bodies_in context.now) (scope_at walk.old) (raw.If (expr_view test.now) (stmt_view yes.now) (else_if no.now))) }
-    ensures noted { OnOk result (IsNoted context.now walk.old walk.new (part.parts_of_form context.now.model (bodies_in context.now) gives looped (scope_at walk.old) spot (raw.If (expr_view test.now) (stmt_view yes.now) (else_if no.now)))) }
-{
-    let test = full(context, walk, Role::Value, test)?;
-    let yes = arm(context, walk, gives, looped, yes)?;
-    let no = other_arm(context, walk, gives, looped, no)?;
-    let form = choice_of(context.alloc, test, yes, no)?;
-    Ok(form)
-}
-
+// In the loops the body comes first, by which the recursion ends.
 #[cycle(statement)]
 fn while_loop<'a>(
     context: &Context,
@@ -136,8 +118,8 @@ fn while_loop<'a>(
     gives: Option<IntType>,
     looped: bool,
     spot: Spot,
-    test: &RawExpr,
     body: &'a RawStmt,
+    test: &RawExpr,
 ) -> Result<Form, OutOfMemory>
     ensures typed { IfOk result (λ r. typed_form_view r ≡ checked.typed_form context.now.model (bodies_in context.now) (scope_at walk.old) (raw.While (expr_view test.now) (stmt_view body.now))) }
     ensures scope { OnOk result (scope_at walk.new ≡ scopes.after_form context.now.model (bodies_in context.now) (scope_at walk.old) (raw.While (expr_view test.now) (stmt_view body.now))) }
@@ -177,10 +159,10 @@ fn for_loop<'a>(
     gives: Option<IntType>,
     looped: bool,
     spot: Spot,
+    body: &'a RawStmt,
     first: &'a RawFirst,
     test: &Option<RawExpr>,
     step: &Option<RawExpr>,
-    body: &'a RawStmt,
 ) -> Result<Form, OutOfMemory>
     ensures typed { IfOk result (λ r. typed_form_view r ≡ checked.typed_form context.now.model (bodies_in context.now) (scope_at walk.old) (raw.For (first_view first.now) (option_map expr_view test.now) (option_map expr_view step.now) (stmt_view body.now))) }
     ensures scope { OnOk result (scope_at walk.new ≡ scopes.after_form context.now.model (bodies_in context.now) (scope_at walk.old) (raw.For (first_view first.now) (option_map expr_view test.now) (option_map expr_view step.now) (stmt_view body.now))) }

@@ -6,12 +6,11 @@ use Rattle.c_parser.specs.Tree as raw
 use Rattle.c_parser.specs.SourceView.{declared_view}
 use Rattle.c_parser.specs.declared.tree.RawDeclared.{RawDeclared}
 use Rattle.c_rules.specs.Checked.{typed_names}
-use Rattle.c_rules.specs.Noting.{noted_parts}
 use Rattle.c_rules.specs.Parts.{parts_of_name, parts_of_names}
 use Rattle.c_rules.specs.Scopes.{Scope, after_name, after_names}
-use Rattle.c_walk.specs.Walks.{scope_at, items_in, bodies_in}
+use Rattle.c_walk.specs.Walks.{scope_at, items_in, bodies_in, found_at, with_parts}
 use Rattle.c_walk.proofs.NameLaws.{names_before, names_before-none, names_typed-next, next_declared}
-use Rattle.c_walk.proofs.NotedLaws.{noted_on}
+use Rattle.c_walk.proofs.FoundLaws.{found_on, with_none}
 use Rattle.c_walk.proofs.declaring.names.Goals as goal
 
 pub loop-d-preserved : goal.loop-d-preserved
@@ -34,9 +33,9 @@ loop-d-preserved c =
       scope = ap (λ (y : Scope). after_names m bodies false y rest) c.in_ok-declared.ensures.scope
         ∙ sym (ap (after_names m bodies false s) next)
         ∙ c.loop-d.invariant.scope;
-      noted = noted_on m items c.loop-d.walk.best c.name.new.walk.best _ (parts_of_name m bodies false s d) (λ (y : Scope). parts_of_names m bodies false y rest) (after_name m bodies false s d) u
+      noted = found_on m items (found_at c.loop-d.walk) (found_at c.name.new.walk) _ (parts_of_name m bodies false s d) (λ (y : Scope). parts_of_names m bodies false y rest) (after_name m bodies false s d) u
         c.in_ok-declared.ensures.noted c.in_ok-declared.ensures.scope
-        (sym (ap (λ (xs : List raw.Declared). noted_parts m items c.loop-d.walk.best (parts_of_names m bodies false s xs)) next) ∙ c.loop-d.invariant.noted);
+        (sym (ap (λ (xs : List raw.Declared). with_parts m items (found_at c.loop-d.walk) (parts_of_names m bodies false s xs)) next) ∙ c.loop-d.invariant.noted);
     }
 
 pub returns-clause-typed : goal.returns-clause-typed
@@ -56,5 +55,6 @@ pub returns-clause-noted : goal.returns-clause-noted
 returns-clause-noted c =
     let m = c.args.context.now.model in
     let bodies = bodies_in c.args.context.now in
-    ap (λ (xs : List RawDeclared). noted_parts m (items_in c.args.context.now) c.loop-d.walk.best (parts_of_names m bodies false (scope_at c.loop-d.walk) (map declared_view xs))) (sym (drop_all c.loop-d.d-index c.args.ds.now c.loop-d-test.false))
+    with_none m (items_in c.args.context.now) (found_at c.loop-d.walk)
+    ∙ ap (λ (xs : List RawDeclared). with_parts m (items_in c.args.context.now) (found_at c.loop-d.walk) (parts_of_names m bodies false (scope_at c.loop-d.walk) (map declared_view xs))) (sym (drop_all c.loop-d.d-index c.args.ds.now c.loop-d-test.false))
     ∙ c.loop-d.invariant.noted

@@ -1,4 +1,4 @@
-use Rattle.std.proofs.Common.{rules, ◌≡◌, ◌++◌, ◌+◌, ◌∷◌, [], List, drop, refl, sym, ap, ◌∙◌}
+use Rattle.std.proofs.Common.{rules, ◌≡◌, ◌++◌, ◌+◌, ◌∷◌, [], List, drop, false, refl, sym, ap, ◌∙◌}
 use Rattle.std.proofs.lemmas.List.{drop_all}
 use Rattle.c_core.specs.Tree as t
 use Rattle.c_core.specs.declared.tree.Expr.{Expr}
@@ -6,13 +6,12 @@ use Rattle.c_parser.specs.Tree as raw
 use Rattle.c_parser.specs.Tree.{exps}
 use Rattle.c_parser.specs.View.{expr_view, exprs_view}
 use Rattle.c_parser.specs.declared.tree.RawExpr.{RawExpr}
-use Rattle.c_rules.specs.Noting.{noted_parts}
 use Rattle.c_rules.specs.Parts.{parts_of_value, parts_of_values}
 use Rattle.c_rules.specs.Scopes.{Scope, seen}
 use Rattle.c_rules.specs.Typed.{typed, typed_all}
-use Rattle.c_walk.specs.Walks.{scope_at, items_in, bodies_in}
+use Rattle.c_walk.specs.Walks.{scope_at, items_in, bodies_in, found_at, with_parts}
 use Rattle.c_walk.proofs.ListLaws.{before, before_none, before_one_more, views-next}
-use Rattle.c_walk.proofs.NotedLaws.{noted_on}
+use Rattle.c_walk.proofs.FoundLaws.{found_on, with_none}
 use Rattle.c_walk.proofs.declaring.values.Goals as goal
 
 pub loop-e-preserved : goal.loop-e-preserved
@@ -33,9 +32,9 @@ loop-e-preserved c =
         ∙ sym (ap (λ (x : raw.Exps). before c.loop-e.all (typed_all m bodies (seen s) x)) next)
         ∙ c.loop-e.invariant.typed;
       scope = c.in_ok-typed.ensures.scope ∙ c.loop-e.invariant.scope;
-      noted = noted_on m items c.loop-e.walk.best c.value.new.walk.best _ (parts_of_value c.args.fixed s e) (λ x. parts_of_values c.args.fixed s rest) s s
-        (c.in_ok-typed.ensures.noted ∙ ap (λ (x : Scope). noted_parts m items c.loop-e.walk.best (parts_of_value c.args.fixed x e)) c.loop-e.invariant.scope) refl
-        (sym (ap (λ (x : raw.Exps). noted_parts m items c.loop-e.walk.best (parts_of_values c.args.fixed s x)) next) ∙ c.loop-e.invariant.noted);
+      noted = found_on m items (found_at c.loop-e.walk) (found_at c.value.new.walk) _ (parts_of_value false s e) (λ (x : Scope). parts_of_values false s rest) s s
+        (c.in_ok-typed.ensures.noted ∙ ap (λ (x : Scope). with_parts m items (found_at c.loop-e.walk) (parts_of_value false x e)) c.loop-e.invariant.scope) refl
+        (sym (ap (λ (x : raw.Exps). with_parts m items (found_at c.loop-e.walk) (parts_of_values false s x)) next) ∙ c.loop-e.invariant.noted);
     }
 
 pub returns-clause-typed : goal.returns-clause-typed
@@ -44,3 +43,11 @@ returns-clause-typed c =
     sym (before_none c.loop-e.all)
     ∙ ap (λ (xs : List RawExpr). before c.loop-e.all (typed_all m (bodies_in c.args.context.now) (seen (scope_at c.args.walk.now)) (exps (exprs_view xs)))) (sym (drop_all c.loop-e.e-index c.args.es.now c.loop-e-test.false))
     ∙ c.loop-e.invariant.typed
+
+pub returns-clause-noted : goal.returns-clause-noted
+returns-clause-noted c =
+    let m = c.args.context.now.model in
+    let items = items_in c.args.context.now in
+    with_none m items (found_at c.loop-e.walk)
+    ∙ ap (λ (xs : List RawExpr). with_parts m items (found_at c.loop-e.walk) (parts_of_values false (scope_at c.args.walk.now) (exps (exprs_view xs)))) (sym (drop_all c.loop-e.e-index c.args.es.now c.loop-e-test.false))
+    ∙ c.loop-e.invariant.noted

@@ -1,11 +1,10 @@
-use Rattle.std.proofs.Common.{◌≡◌, drop}
+use Rattle.std.proofs.Common.{◌≡◌, drop, false}
 use Rattle.c_parser.specs.Tree.{exps}
 use Rattle.c_parser.specs.View.{exprs_view}
-use Rattle.c_rules.specs.Noting.{noted_parts}
 use Rattle.c_rules.specs.Parts.{parts_of_values}
 use Rattle.c_rules.specs.Scopes.{seen}
 use Rattle.c_rules.specs.Typed.{typed_all}
-use Rattle.c_walk.specs.Walks.{scope_at, items_in, bodies_in}
+use Rattle.c_walk.specs.Walks.{scope_at, items_in, bodies_in, found_at, with_parts}
 use Rattle.c_walk.proofs.ListLaws.{before}
 use Rattle.c_walk.proofs.declaring.values.Given as goal
 
@@ -13,5 +12,5 @@ abbrev pub invariant-loop-e : goal.invariant-loop-e
 invariant-loop-e l = record {
   typed : before l.all (typed_all l.context.model (bodies_in l.context) (seen (scope_at l.fn.walk)) (exps (exprs_view (drop l.e-index l.es)))) ≡ typed_all l.context.model (bodies_in l.context) (seen (scope_at l.fn.walk)) (exps (exprs_view l.es));
   scope : scope_at l.walk ≡ scope_at l.fn.walk;
-  noted : noted_parts l.context.model (items_in l.context) l.walk.best (parts_of_values l.fixed (scope_at l.fn.walk) (exps (exprs_view (drop l.e-index l.es)))) ≡ noted_parts l.context.model (items_in l.context) l.fn.walk.best (parts_of_values l.fixed (scope_at l.fn.walk) (exps (exprs_view l.es)));
+  noted : with_parts l.context.model (items_in l.context) (found_at l.walk) (parts_of_values false (scope_at l.fn.walk) (exps (exprs_view (drop l.e-index l.es)))) ≡ with_parts l.context.model (items_in l.context) (found_at l.fn.walk) (parts_of_values false (scope_at l.fn.walk) (exps (exprs_view l.es)));
 }

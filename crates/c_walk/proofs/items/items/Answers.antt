@@ -10,9 +10,10 @@ use Rattle.c_rules.specs.Checked.{starts_of, functions_of}
 use Rattle.c_rules.specs.Noting.{noted_parts}
 use Rattle.c_rules.specs.Parts.{bodies_of, parts_of_item, parts_of_items}
 use Rattle.c_rules.specs.Scopes.{Scope, after_item, after_items}
-use Rattle.c_walk.specs.Items.{names_of}
+use Rattle.c_rules.specs.Kept.{kept_outside}
+use Rattle.c_walk.specs.Items.{names_of, kept_lists, kept_views}
 use Rattle.c_walk.specs.Walks.{scope_at, items_in, bodies_in}
-use Rattle.c_walk.proofs.ItemLaws.{next_item, bodies-next, starts_of-next, functions_of-next}
+use Rattle.c_walk.proofs.ItemLaws.{next_item, bodies-next, starts_of-next, functions_of-next, kept_of_items, kept-next, outside-next}
 use Rattle.c_walk.proofs.NotedLaws.{noted_on}
 use Rattle.c_walk.proofs.items.items.Goals as goal
 
@@ -31,6 +32,10 @@ loop-x-preserved c =
         ∙ sym (ap (λ (ys : List raw.Item). c.loop-x.starts ++ starts_of m bodies s ys) next) ∙ c.loop-x.invariant.starts;
       functions = functions_of-next m bodies (functions_view c.loop-x.functions) (functions_view c.item.new.functions) s u x rest c.in_ok-item.ensures.scope c.in_ok-item.ensures.functions
         ∙ sym (ap (λ (ys : List raw.Item). functions_view c.loop-x.functions ++ functions_of m bodies s ys) next) ∙ c.loop-x.invariant.functions;
+      kept = kept-next m bodies (kept_lists c.loop-x.kept) (kept_lists c.item.new.kept) s u x rest c.in_ok-item.ensures.scope c.in_ok-item.ensures.kept
+        ∙ sym (ap (λ (ys : List raw.Item). kept_lists c.loop-x.kept ++ kept_of_items m bodies s ys) next) ∙ c.loop-x.invariant.kept;
+      outside = outside-next m bodies (kept_views c.loop-x.walk.kept) (kept_views c.item.new.walk.kept) s u x rest c.in_ok-item.ensures.scope c.in_ok-item.ensures.outside
+        ∙ sym (ap (λ (ys : List raw.Item). kept_views c.loop-x.walk.kept ++ kept_outside m bodies s ys) next) ∙ c.loop-x.invariant.outside;
       names = bodies-next (names_of c.loop-x.functions) (names_of c.item.new.functions) x rest c.in_ok-item.ensures.names
         ∙ sym (ap (λ (ys : List raw.Item). names_of c.loop-x.functions ++ bodies_of ys) next) ∙ c.loop-x.invariant.names;
       scope = ap (λ (y : Scope). after_items m bodies y rest) c.in_ok-item.ensures.scope ∙ sym (ap (after_items m bodies s) next) ∙ c.loop-x.invariant.scope;
@@ -50,6 +55,18 @@ returns-clause-functions c =
     sym (append-nil (functions_view c.loop-x.functions))
     ∙ ap (λ (xs : List Item). functions_view c.loop-x.functions ++ functions_of c.args.context.now.model (bodies_in c.args.context.now) (scope_at c.loop-x.walk) (map item_view xs)) (sym (drop_all c.loop-x.x-index c.args.items.now c.loop-x-test.false))
     ∙ c.loop-x.invariant.functions
+
+pub returns-clause-kept : goal.returns-clause-kept
+returns-clause-kept c =
+    sym (append-nil (kept_lists c.loop-x.kept))
+    ∙ ap (λ (xs : List Item). kept_lists c.loop-x.kept ++ kept_of_items c.args.context.now.model (bodies_in c.args.context.now) (scope_at c.loop-x.walk) (map item_view xs)) (sym (drop_all c.loop-x.x-index c.args.items.now c.loop-x-test.false))
+    ∙ c.loop-x.invariant.kept
+
+pub returns-clause-outside : goal.returns-clause-outside
+returns-clause-outside c =
+    sym (append-nil (kept_views c.loop-x.walk.kept))
+    ∙ ap (λ (xs : List Item). kept_views c.loop-x.walk.kept ++ kept_outside c.args.context.now.model (bodies_in c.args.context.now) (scope_at c.loop-x.walk) (map item_view xs)) (sym (drop_all c.loop-x.x-index c.args.items.now c.loop-x-test.false))
+    ∙ c.loop-x.invariant.outside
 
 pub returns-clause-names : goal.returns-clause-names
 returns-clause-names c =

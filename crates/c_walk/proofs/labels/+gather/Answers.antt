@@ -1,4 +1,4 @@
-use Rattle.std.proofs.Common.{◌≡◌, ◌++◌, ◌+◌, ◌∷◌, [], OnOk, List, ℕ, map, drop, ap, sym, subst, ◌∙◌}
+use Rattle.std.proofs.Common.{◌≡◌, ◌++◌, ◌+◌, ◌∷◌, [], OnOk, List, ℕ, map, drop, refl, ap, sym, subst, ◌∙◌}
 use Rattle.std.proofs.lemmas.List.{append_assoc, append-nil, drop_all}
 use Rattle.std.specs.Prelude.{Option}
 use Rattle.std.specs.declared.boxed.Box.{Box}
@@ -17,6 +17,9 @@ use Rattle.c_walk.specs.Walks.{label, labels_seen}
 use Rattle.c_walk.proofs.BlockLaws.{next_statement, raw_view_of_if}
 use Rattle.c_walk.proofs.labels.+gather.Goals as goal
 
+none_in : (old : List Label) (p : Spot) (f g : RawForm) → f ≡ g → labels_in p (form_view g) ≡ [] → old ≡ old ++ labels_in p (form_view f)
+none_in old p f g e h = sym (append-nil old) ∙ ap (λ (x : List Label). old ++ x) (sym h) ∙ ap (λ (x : RawForm). old ++ labels_in p (form_view x)) (sym e)
+
 pub gather-returns-in-Block : goal.gather-returns-in-Block
 gather-returns-in-Block t c =
     let p = c.args.s.now.spot in
@@ -30,23 +33,20 @@ labels_of_if : (p : Spot) (f : RawForm) {e : RawExpr} (a : Box RawStmt Global) (
   → labels_in p (form_view f) ≡ labels_of (stmt_view a.value) ++ labels_of_else (else_if b)
 labels_of_if p f {e} a b h = ap (λ (x : RawForm). labels_in p (form_view x)) h ∙ ap (labels_in p) (raw_view_of_if e a b)
 
-pub gather-returns-in-If : goal.gather-returns-in-If
-gather-returns-in-If t c =
+pub gather-returns-in_ok-gather_else-in-If : goal.gather-returns-in_ok-gather_else-in-If
+gather-returns-in_ok-gather_else-in-If t c =
     let old = labels_seen c.args.all.now.items in
-    subst (λ (x : List Label). OnOk c.gather_arms.result (labels_seen c.gather_arms.new.all.items ≡ old ++ x))
-      (ap (λ (s : RawStmt). labels_of (stmt_view s) ++ labels_of_else (else_if c.in-If.no)) c.deref-in-If.ensures
-       ∙ sym (labels_of_if c.args.s.now.spot c.args.s.now.form c.in-If.yes c.in-If.no c.in-If.is))
-      c.gather_arms.ensures
+    let yes = labels_of (stmt_view c.in-If.yes.value) in
+    let no = labels_of_else (else_if c.in-If.no) in
+    c.in_ok-gather_else.ensures
+    ∙ ap (λ (x : List Label). x ++ no) (c.in_ok-gather.ensures ∙ ap (λ (s : RawStmt). old ++ labels_of (stmt_view s)) c.deref.ensures)
+    ∙ append_assoc old yes no
+    ∙ ap (λ (x : List Label). old ++ x) (sym (labels_of_if c.args.s.now.spot c.args.s.now.form c.in-If.yes c.in-If.no c.in-If.is))
 
 pub gather_labelled-returns : goal.gather_labelled-returns
 gather_labelled-returns t c =
     let of = labels_of (stmt_view c.args.of.now) in
     c.in_ok-gather.ensures ∙ ap (λ (x : List Label). x ++ of) c.in_ok-add.ensures ∙ append_assoc (labels_seen c.args.all.now.items) (label c.args.name.now c.args.spot ∷ []) of
-
-pub gather_arms-returns : goal.gather_arms-returns
-gather_arms-returns t c =
-    let no = labels_of_else (else_if c.args.no.now) in
-    c.in_ok-gather_else.ensures ∙ ap (λ (x : List Label). x ++ no) c.in_ok-gather.ensures ∙ append_assoc (labels_seen c.args.all.now.items) (labels_of (stmt_view c.args.yes.now)) no
 
 pub gather_block-loop-s-preserved : goal.gather_block-loop-s-preserved
 gather_block-loop-s-preserved t c =
@@ -63,3 +63,23 @@ gather_block-returns t c =
     sym (append-nil so_far)
     ∙ ap (λ (xs : List RawStmt). so_far ++ labels_of_block (stms (map stmt_view xs))) (sym (drop_all c.loop-s.s-index c.args.ss.now c.loop-s-test.false))
     ∙ c.loop-s.invariant
+
+-- ---- forms that have no statement in them
+
+pub gather-returns-in-Empty : goal.gather-returns-in-Empty
+gather-returns-in-Empty t c = none_in (labels_seen c.args.all.now.items) c.args.s.now.spot c.args.s.now.form _ c.in-Empty.is refl
+
+pub gather-returns-in-Expr : goal.gather-returns-in-Expr
+gather-returns-in-Expr t c = none_in (labels_seen c.args.all.now.items) c.args.s.now.spot c.args.s.now.form _ c.in-Expr.is refl
+
+pub gather-returns-in-Declare : goal.gather-returns-in-Declare
+gather-returns-in-Declare t c = none_in (labels_seen c.args.all.now.items) c.args.s.now.spot c.args.s.now.form _ c.in-Declare.is refl
+
+pub gather-returns-in-Break : goal.gather-returns-in-Break
+gather-returns-in-Break t c = none_in (labels_seen c.args.all.now.items) c.args.s.now.spot c.args.s.now.form _ c.in-Break.is refl
+
+pub gather-returns-in-Continue : goal.gather-returns-in-Continue
+gather-returns-in-Continue t c = none_in (labels_seen c.args.all.now.items) c.args.s.now.spot c.args.s.now.form _ c.in-Continue.is refl
+
+pub gather-returns-in-Return : goal.gather-returns-in-Return
+gather-returns-in-Return t c = none_in (labels_seen c.args.all.now.items) c.args.s.now.spot c.args.s.now.form _ c.in-Return.is refl

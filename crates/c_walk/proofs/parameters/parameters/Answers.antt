@@ -33,6 +33,7 @@ loop-x-preserved c =
       noted = noted_on m items c.loop-x.walk.best c.parameter.new.walk.best _ (parts_of_parameters s (x ∷ [])) (λ (y : Scope). parts_of_parameters y rest) (with_object s (parameter x)) u
         c.in_ok-number.ensures.noted c.in_ok-number.ensures.scope
         (sym (ap (λ (ys : List raw.Param). noted_parts m items c.loop-x.walk.best (parts_of_parameters s ys)) next) ∙ c.loop-x.invariant.noted);
+      kept = c.in_ok-number.ensures.kept ∙ c.loop-x.invariant.kept;
     }
 
 pub returns-clause-numbers : goal.returns-clause-numbers
@@ -50,3 +51,6 @@ returns-clause-scope c =
 pub returns-clause-noted : goal.returns-clause-noted
 returns-clause-noted c =
     ap (λ (xs : List RawParam). noted_parts c.args.context.now.model (items_in c.args.context.now) c.loop-x.walk.best (parts_of_parameters (scope_at c.loop-x.walk) (map param_view xs))) (sym (drop_all c.loop-x.x-index c.args.xs.now c.loop-x-test.false)) ∙ c.loop-x.invariant.noted
+
+pub returns-clause-kept : goal.returns-clause-kept
+returns-clause-kept c = c.loop-x.invariant.kept

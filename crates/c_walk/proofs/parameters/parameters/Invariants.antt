@@ -4,6 +4,7 @@ use Rattle.c_rules.specs.Checked.{numbers_from}
 use Rattle.c_rules.specs.Noting.{noted_parts}
 use Rattle.c_rules.specs.Parts.{parts_of_parameters}
 use Rattle.c_rules.specs.Scopes.{after_parameters}
+use Rattle.c_walk.specs.Items.{kept_views}
 use Rattle.c_walk.specs.Walks.{scope_at, items_in, bodies_in}
 use Rattle.c_walk.proofs.parameters.parameters.Given as goal
 
@@ -12,4 +13,5 @@ invariant-loop-x l = record {
   numbers : l.numbers ++ numbers_from l.context.model (bodies_in l.context) (length l.walk.objects) (map param_view (drop l.x-index l.xs)) ≡ numbers_from l.context.model (bodies_in l.context) (length l.fn.walk.objects) (map param_view l.xs);
   scope : after_parameters (scope_at l.walk) (map param_view (drop l.x-index l.xs)) ≡ after_parameters (scope_at l.fn.walk) (map param_view l.xs);
   noted : noted_parts l.context.model (items_in l.context) l.walk.best (parts_of_parameters (scope_at l.walk) (map param_view (drop l.x-index l.xs))) ≡ noted_parts l.context.model (items_in l.context) l.fn.walk.best (parts_of_parameters (scope_at l.fn.walk) (map param_view l.xs));
+  kept : kept_views l.walk.kept ≡ kept_views l.fn.walk.kept;
 }

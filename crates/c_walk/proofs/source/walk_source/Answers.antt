@@ -2,6 +2,8 @@ use Rattle.std.proofs.Common.{◌≡◌, List, map, None, ap, ◌∙◌}
 use Rattle.c_parser.specs.Tree as raw
 use Rattle.c_parser.specs.SourceView.{item_view}
 use Rattle.c_rules.specs.Checked.{starts_of, functions_of}
+use Rattle.c_rules.specs.Kept.{kept_of_parts, kept_outside}
+use Rattle.c_rules.specs.Order.{parts_of_bodies}
 use Rattle.c_rules.specs.Noting.{noted_parts}
 use Rattle.c_rules.specs.Parts.{bodies_of, parts_of_items}
 use Rattle.c_rules.specs.Scopes.{after_items, outermost}
@@ -21,6 +23,18 @@ pub returns-clause-functions : goal.returns-clause-functions
 returns-clause-functions c =
     let xs = map item_view c.args.source.now in
     c.in_ok-walked.ensures.functions ∙ ap (λ (ys : List raw.Item). functions_of c.args.model (bodies_of ys) outermost xs) (ap (map item_view) c.in_ok-known.ensures)
+
+pub returns-clause-kept : goal.returns-clause-kept
+returns-clause-kept c =
+    let m = c.args.model in
+    let xs = map item_view c.args.source.now in
+    c.in_ok-walked.ensures.kept
+    ∙ ap (λ (ys : List raw.Item). map (kept_of_parts m (bodies_of ys)) (parts_of_bodies m (bodies_of ys) outermost xs)) (ap (map item_view) c.in_ok-known.ensures)
+
+pub returns-clause-outside : goal.returns-clause-outside
+returns-clause-outside c =
+    let xs = map item_view c.args.source.now in
+    c.in_ok-walked.ensures.outside ∙ ap (λ (ys : List raw.Item). kept_outside c.args.model (bodies_of ys) outermost xs) (ap (map item_view) c.in_ok-known.ensures)
 
 pub returns-clause-best : goal.returns-clause-best
 returns-clause-best c =

@@ -11,13 +11,12 @@ use Rattle.c_parser.specs.declared.tree.RawForm.{RawForm}
 use Rattle.c_parser.specs.declared.tree.RawStmt.{RawStmt}
 use Rattle.c_parser.proofs.SourceViews.{view_of_block}
 use Rattle.c_rules.specs.Checked.{typed_if, typed_first, typed_statement, typed_form, typed_else, typed_block}
-use Rattle.c_rules.specs.Noting.{noted_parts}
 use Rattle.c_rules.specs.Parts.{Part, Value, Effect, parts, parts_if, parts_of_first, parts_of_statement, parts_of_form, parts_of_else, parts_of_block}
 use Rattle.c_rules.specs.Scopes.{Scope, seen, opened, closed, after_first, after_statement, after_form, after_else, after_block}
 use Rattle.c_rules.specs.Typed.{typed}
-use Rattle.c_walk.specs.Walks.{scope_at, items_in, bodies_in}
+use Rattle.c_walk.specs.Walks.{scope_at, items_in, bodies_in, found_at, with_parts}
 use Rattle.c_walk.proofs.BlockLaws.{next_statement, statements_before, statements_before-none, statements_before-one_more, raw_view_of_if, same_if, same_while, same_do, same_for}
-use Rattle.c_walk.proofs.NotedLaws.{noted_then, noted_within, noted_on}
+use Rattle.c_walk.proofs.FoundLaws.{found_then, found_within, found_on, with_none}
 use Rattle.c_walk.proofs.ScopeLaws.{kept_by_first, kept_by_statement, kept_by_block, closes, stands_outside}
 use Rattle.c_walk.proofs.statements.+statement.Goals as goal
 
@@ -49,9 +48,9 @@ pub arm-returns-clause-noted : goal.arm-returns-clause-noted
 arm-returns-clause-noted t c =
     let m = c.args.context.now.model in
     let bodies = bodies_in c.args.context.now in
-    noted_within m (items_in c.args.context.now) c.args.walk.now.best c.open-outside.new.self.best c.statement.new.walk.best c.close.new.self.best
+    found_within m (items_in c.args.context.now) (found_at c.args.walk.now) (found_at c.open-outside.new.self) (found_at c.statement.new.walk) (found_at c.close.new.self)
       (λ (y : Scope). parts_of_statement m bodies c.args.gives c.args.looped y (stmt_view c.args.s.now)) (opened (scope_at c.args.walk.now)) (scope_at c.open-outside.new.self)
-      c.open-outside.ensures.best c.open-outside.ensures.scope c.in_ok-s.ensures.noted c.close.ensures.best
+      c.open-outside.ensures.found c.open-outside.ensures.scope c.in_ok-s.ensures.noted c.close.ensures.found
 
 pub block-close-requires : goal.block-close-requires
 block-close-requires t c =
@@ -79,9 +78,9 @@ pub block-returns-clause-noted : goal.block-returns-clause-noted
 block-returns-clause-noted t c =
     let m = c.args.context.now.model in
     let bodies = bodies_in c.args.context.now in
-    noted_within m (items_in c.args.context.now) c.args.walk.now.best c.open-outside.new.self.best c.statements.new.walk.best c.close.new.self.best
+    found_within m (items_in c.args.context.now) (found_at c.args.walk.now) (found_at c.open-outside.new.self) (found_at c.statements.new.walk) (found_at c.close.new.self)
       (λ (y : Scope). parts_of_block m bodies c.args.gives c.args.looped y (stms (map stmt_view c.args.ss.now))) (opened (scope_at c.args.walk.now)) (scope_at c.open-outside.new.self)
-      c.open-outside.ensures.best c.open-outside.ensures.scope c.in_ok-ss.ensures.noted c.close.ensures.best
+      c.open-outside.ensures.found c.open-outside.ensures.scope c.in_ok-ss.ensures.noted c.close.ensures.found
 
 -- ---- one statement after another
 
@@ -106,10 +105,10 @@ statements-loop-s-preserved t c =
       scope = ap (λ (y : Scope). after_block m bodies y rest) c.in_ok-typed.ensures.scope
         ∙ sym (ap (after_block m bodies s) next)
         ∙ c.loop-s.invariant.scope;
-      noted = noted_on m items c.loop-s.walk.best c.statement.new.walk.best _ (parts_of_statement m bodies c.args.gives c.args.looped s x)
+      noted = found_on m items (found_at c.loop-s.walk) (found_at c.statement.new.walk) _ (parts_of_statement m bodies c.args.gives c.args.looped s x)
         (λ (y : Scope). parts_of_block m bodies c.args.gives c.args.looped y rest) (after_statement m bodies s x) u
         c.in_ok-typed.ensures.noted c.in_ok-typed.ensures.scope
-        (sym (ap (λ (xs : raw.Stms). noted_parts m items c.loop-s.walk.best (parts_of_block m bodies c.args.gives c.args.looped s xs)) next) ∙ c.loop-s.invariant.noted);
+        (sym (ap (λ (xs : raw.Stms). with_parts m items (found_at c.loop-s.walk) (parts_of_block m bodies c.args.gives c.args.looped s xs)) next) ∙ c.loop-s.invariant.noted);
     }
 
 pub statements-returns-clause-typed : goal.statements-returns-clause-typed
@@ -129,46 +128,65 @@ pub statements-returns-clause-noted : goal.statements-returns-clause-noted
 statements-returns-clause-noted t c =
     let m = c.args.context.now.model in
     let bodies = bodies_in c.args.context.now in
-    ap (λ (xs : List RawStmt). noted_parts m (items_in c.args.context.now) c.loop-s.walk.best (parts_of_block m bodies c.args.gives c.args.looped (scope_at c.loop-s.walk) (stms (map stmt_view xs)))) (sym (drop_all c.loop-s.s-index c.args.ss.now c.loop-s-test.false))
+    with_none m (items_in c.args.context.now) (found_at c.loop-s.walk)
+    ∙ ap (λ (xs : List RawStmt). with_parts m (items_in c.args.context.now) (found_at c.loop-s.walk) (parts_of_block m bodies c.args.gives c.args.looped (scope_at c.loop-s.walk) (stms (map stmt_view xs)))) (sym (drop_all c.loop-s.s-index c.args.ss.now c.loop-s-test.false))
     ∙ c.loop-s.invariant.noted
 
 -- ---- forms of several parts
 
-pub choose-returns-clause-typed : goal.choose-returns-clause-typed
-choose-returns-clause-typed t c =
+pub form-returns-in-If-clause-typed : goal.form-returns-in-If-clause-typed
+form-returns-in-If-clause-typed t c =
     let m = c.args.context.now.model in
-    let bodies = bodies_in c.args.context.now in
-    let a = stmt_view c.args.yes.now in
-    let b = else_if c.args.no.now in
-    let f = c.in_ok-test.ensures.scope in
-    let g = c.in_ok-yes.ensures.scope ∙ ap (λ (y : Scope). closed y (after_statement m bodies (opened y) a)) f in
-    c.in_ok-form.ensures
-    ∙ same_if _ _ _ _ _ _ c.in_ok-test.ensures.typed (c.in_ok-yes.ensures.typed ∙ ap (λ (y : Scope). typed_statement m bodies (opened y) a) f)
-        (c.in_ok-no.ensures.typed ∙ ap (λ (y : Scope). typed_else m bodies y b) g)
-
-pub choose-returns-clause-scope : goal.choose-returns-clause-scope
-choose-returns-clause-scope t c =
-    let m = c.args.context.now.model in
-    let bodies = bodies_in c.args.context.now in
-    let a = stmt_view c.args.yes.now in
-    let g = c.in_ok-yes.ensures.scope ∙ ap (λ (y : Scope). closed y (after_statement m bodies (opened y) a)) c.in_ok-test.ensures.scope in
-    c.in_ok-no.ensures.scope ∙ ap (λ (y : Scope). after_else m bodies y (else_if c.args.no.now)) g
-
-pub choose-returns-clause-noted : goal.choose-returns-clause-noted
-choose-returns-clause-noted t c =
-    let m = c.args.context.now.model in
-    let items = items_in c.args.context.now in
     let bodies = bodies_in c.args.context.now in
     let s = scope_at c.args.walk.now in
-    let u = scope_at c.full.new.walk in
-    let a = stmt_view c.args.yes.now in
-    let b = else_if c.args.no.now in
+    let e = expr_view c.in-If.test in
+    let a = stmt_view c.deref.result.now in
+    let b = else_if c.in-If.no in
+    let view : form_view c.args.f.now ≡ raw.If e a b =
+      ap form_view c.in-If.is ∙ raw_view_of_if c.in-If.test c.in-If.yes c.in-If.no ∙ ap (λ (x : RawStmt). raw.If e (stmt_view x) b) (sym c.deref.ensures) in
+    let behind : Scope → Scope = λ y. closed y (after_statement m bodies (opened y) a) in
+    let f = c.in_ok-test.ensures.scope in
+    c.in_ok-choice.ensures
+    ∙ same_if _ _ _ _ _ _ c.in_ok-test.ensures.typed (c.in_ok-yes.ensures.typed ∙ ap (λ (y : Scope). typed_statement m bodies (opened y) a) f)
+        (c.in_ok-no.ensures.typed ∙ ap (λ (y : Scope). typed_else m bodies y b) (c.in_ok-yes.ensures.scope ∙ ap behind f))
+    ∙ sym (ap (typed_form m bodies s) view)
+
+
+pub form-returns-in-If-clause-scope : goal.form-returns-in-If-clause-scope
+form-returns-in-If-clause-scope t c =
+    let m = c.args.context.now.model in
+    let bodies = bodies_in c.args.context.now in
+    let s = scope_at c.args.walk.now in
+    let e = expr_view c.in-If.test in
+    let a = stmt_view c.deref.result.now in
+    let b = else_if c.in-If.no in
+    let view : form_view c.args.f.now ≡ raw.If e a b =
+      ap form_view c.in-If.is ∙ raw_view_of_if c.in-If.test c.in-If.yes c.in-If.no ∙ ap (λ (x : RawStmt). raw.If e (stmt_view x) b) (sym c.deref.ensures) in
+    let behind : Scope → Scope = λ y. closed y (after_statement m bodies (opened y) a) in
+    c.in_ok-no.ensures.scope ∙ ap (λ (y : Scope). after_else m bodies y b) (c.in_ok-yes.ensures.scope ∙ ap behind c.in_ok-test.ensures.scope)
+    ∙ sym (ap (after_form m bodies s) view)
+
+
+pub form-returns-in-If-clause-noted : goal.form-returns-in-If-clause-noted
+form-returns-in-If-clause-noted t c =
+    let m = c.args.context.now.model in
+    let bodies = bodies_in c.args.context.now in
+    let s = scope_at c.args.walk.now in
+    let items = items_in c.args.context.now in
+    let e = expr_view c.in-If.test in
+    let a = stmt_view c.deref.result.now in
+    let b = else_if c.in-If.no in
+    let view : form_view c.args.f.now ≡ raw.If e a b =
+      ap form_view c.in-If.is ∙ raw_view_of_if c.in-If.test c.in-If.yes c.in-If.no ∙ ap (λ (x : RawStmt). raw.If e (stmt_view x) b) (sym c.deref.ensures) in
+    let behind : Scope → Scope = λ y. closed y (after_statement m bodies (opened y) a) in
+    let first = parts (seen s) Value e in
     let yes : Scope → List Part = λ y. parts_of_statement m bodies c.args.gives c.args.looped (opened y) a in
     let no : Scope → List Part = λ y. parts_of_else m bodies c.args.gives c.args.looped y b in
-    let behind : Scope → Scope = λ y. closed y (after_statement m bodies (opened y) a) in
-    noted_then m items c.args.walk.now.best c.full.new.walk.best c.other_arm.new.walk.best (parts (seen s) Value (expr_view c.args.test.now)) (λ (y : Scope). yes y ++ no (behind y)) s u
-      c.in_ok-test.ensures.noted c.in_ok-test.ensures.scope
-      (noted_then m items c.full.new.walk.best c.arm.new.walk.best c.other_arm.new.walk.best (yes u) no (behind u) (scope_at c.arm.new.walk) c.in_ok-yes.ensures.noted c.in_ok-yes.ensures.scope c.in_ok-no.ensures.noted)
+    found_then m items (found_at c.args.walk.now) _ _ (first ++ yes s) no (behind s) _
+      (found_then m items (found_at c.args.walk.now) _ _ first yes s _ c.in_ok-test.ensures.noted c.in_ok-test.ensures.scope c.in_ok-yes.ensures.noted)
+      (c.in_ok-yes.ensures.scope ∙ ap behind c.in_ok-test.ensures.scope) c.in_ok-no.ensures.noted
+    ∙ ap (λ (x : raw.Form). with_parts m items (found_at c.args.walk.now) (parts_of_form m bodies c.args.gives c.args.looped s c.args.spot x)) (sym view)
+
 
 pub while_loop-returns-clause-typed : goal.while_loop-returns-clause-typed
 while_loop-returns-clause-typed t c =
@@ -185,7 +203,7 @@ pub while_loop-returns-clause-noted : goal.while_loop-returns-clause-noted
 while_loop-returns-clause-noted t c =
     let m = c.args.context.now.model in
     let s = scope_at c.args.walk.now in
-    noted_then m (items_in c.args.context.now) c.args.walk.now.best c.full.new.walk.best _ (parts (seen s) Value (expr_view c.args.test.now))
+    found_then m (items_in c.args.context.now) (found_at c.args.walk.now) (found_at c.full.new.walk) _ (parts (seen s) Value (expr_view c.args.test.now))
       (λ (y : Scope). parts_of_statement m (bodies_in c.args.context.now) c.args.gives true (opened y) (stmt_view c.args.body.now)) s (scope_at c.full.new.walk)
       c.in_ok-test.ensures.noted c.in_ok-test.ensures.scope c.in_ok-body.ensures.noted
 
@@ -204,7 +222,7 @@ do_loop-returns-clause-noted t c =
     let bodies = bodies_in c.args.context.now in
     let s = scope_at c.args.walk.now in
     let a = stmt_view c.args.body.now in
-    noted_then m (items_in c.args.context.now) c.args.walk.now.best c.arm.new.walk.best _ (parts_of_statement m bodies c.args.gives true (opened s) a)
+    found_then m (items_in c.args.context.now) (found_at c.args.walk.now) (found_at c.arm.new.walk) _ (parts_of_statement m bodies c.args.gives true (opened s) a)
       (λ (y : Scope). parts (seen y) Value (expr_view c.args.test.now)) (closed s (after_statement m bodies (opened s) a)) (scope_at c.arm.new.walk)
       c.in_ok-body.ensures.noted c.in_ok-body.ensures.scope c.in_ok-test.ensures.noted
 
@@ -263,13 +281,26 @@ for_loop-returns-clause-noted t c =
     let p2 : Scope → List Part = λ y. parts_if (seen y) Value (option_map expr_view c.args.test.now) in
     let p3 : Scope → List Part = λ y. parts_if (seen y) Effect (option_map expr_view c.args.step.now) in
     let p4 : Scope → List Part = λ y. parts_of_statement m bodies c.args.gives true (opened y) (stmt_view c.args.body.now) in
-    noted_within m items c.args.walk.now.best c.open-outside.new.self.best c.arm.new.walk.best c.close.new.self.best
-      (λ (y : Scope). p1 y ++ p2 (after_first m bodies y first) ++ p3 (after_first m bodies y first) ++ p4 (after_first m bodies y first)) (opened s) o
-      c.open-outside.ensures.best c.open-outside.ensures.scope
-      (noted_then m items c.open-outside.new.self.best c.begin.new.walk.best _ (p1 o) (λ (y : Scope). p2 y ++ p3 y ++ p4 y) (after_first m bodies o first) n1
-        c.in_ok-first.ensures.noted c.in_ok-first.ensures.scope
-        (noted_then m items c.begin.new.walk.best c.full_if.new.walk.best _ (p2 n1) (λ (y : Scope). p3 y ++ p4 y) n1 n2
-          c.in_ok-test.ensures.noted c.in_ok-test.ensures.scope
-          (noted_then m items c.full_if.new.walk.best c.full_if-2.new.walk.best _ (p3 n2) p4 n2 n3
-            c.in_ok-step.ensures.noted c.in_ok-step.ensures.scope c.in_ok-body.ensures.noted)))
-      c.close.ensures.best
+    let behind : Scope → Scope = λ y. after_first m bodies y first in
+    let opened_at = found_at c.open-outside.new.self in
+    let i = c.in_ok-first.ensures.scope in
+    let e = c.in_ok-test.ensures.scope ∙ i in
+    let u = c.in_ok-step.ensures.scope ∙ e in
+    let two = found_then m items opened_at (found_at c.begin.new.walk) (found_at c.full_if.new.walk) (p1 o) p2 (behind o) n1 c.in_ok-first.ensures.noted i c.in_ok-test.ensures.noted in
+    let three = found_then m items opened_at (found_at c.full_if.new.walk) (found_at c.full_if-2.new.walk) (p1 o ++ p2 (behind o)) p3 (behind o) n2 two e c.in_ok-step.ensures.noted in
+    found_within m items (found_at c.args.walk.now) opened_at (found_at c.arm.new.walk) (found_at c.close.new.self)
+      (λ (y : Scope). p1 y ++ p2 (behind y) ++ p3 (behind y) ++ p4 (behind y)) (opened s) o
+      c.open-outside.ensures.found c.open-outside.ensures.scope
+      (found_then m items opened_at (found_at c.full_if-2.new.walk) (found_at c.arm.new.walk) (p1 o ++ p2 (behind o) ++ p3 (behind o)) p4 (behind o) n3 three u c.in_ok-body.ensures.noted)
+      c.close.ensures.found
+
+-- ---- forms of which nothing is left to go through
+
+pub form-returns-in-Empty-clause-noted : goal.form-returns-in-Empty-clause-noted
+form-returns-in-Empty-clause-noted t c = ?
+
+pub form-returns-in-Break-clause-noted : goal.form-returns-in-Break-clause-noted
+form-returns-in-Break-clause-noted t c = ?
+
+pub form-returns-in-Continue-clause-noted : goal.form-returns-in-Continue-clause-noted
+form-returns-in-Continue-clause-noted t c = ?

@@ -6,7 +6,7 @@ use Rattle.c_parser.specs.declared.tree.RawForm.{RawForm}
 use Rattle.c_parser.specs.declared.tree.RawStmt.{RawStmt}
 use Rattle.c_parser.proofs.SourceViews.{view_of_block}
 use Rattle.c_rules.specs.Scopes.{statements_of}
-use Rattle.c_walk.proofs.items.statements_in.Goals as goal
+use Rattle.c_walk.proofs.functions.statements_in.Goals as goal
 
 pub returns-in-Block : goal.returns-in-Block
 returns-in-Block c =

@@ -5,14 +5,16 @@ use Rattle.c_parser.specs.Tree as raw
 use Rattle.c_parser.specs.SourceView.{param_view, stmt_view}
 use Rattle.c_rules.specs.declared.fault.Refusal.{Refusal}
 use Rattle.c_rules.specs.Checked.{typed_block, numbers_from}
+use Rattle.c_rules.specs.Kept.{kept_of_parts}
 use Rattle.c_rules.specs.Noting.{noted_part, noted_parts}
 use Rattle.c_rules.specs.Parts.{Part, Naming, parts_of_block, parts_of_labels, parts_of_parameters, labels_of}
 use Rattle.c_rules.specs.Scopes.{Scope, seen, opened, closed, with_entry, after_block, after_parameters, inside, statements_of, entry_of_function}
-use Rattle.c_walk.specs.Walks.{scope_at, items_in, bodies_in}
+use Rattle.c_walk.specs.Items.{kept_views}
+use Rattle.c_walk.specs.Walks.{Found, scope_at, items_in, bodies_in}
 use Rattle.c_walk.proofs.NotedLaws.{noted_then, noted_within}
 use Rattle.c_walk.proofs.ParameterLaws.{kept_by_parameters}
 use Rattle.c_walk.proofs.ScopeLaws.{kept_by_block, closes, stands_outside}
-use Rattle.c_walk.proofs.items.function.Goals as goal
+use Rattle.c_walk.proofs.functions.function.Goals as goal
 
 abbrev made : Option IntType → List ℕ → typ.Stm → typ.Function
 made result ns body = record { result = result; params = ns; body = body }
@@ -32,9 +34,9 @@ close-requires c =
     let declared = with_entry s (entry_of_function c.args.name.now c.args.gives xs) in
     let u1 : scope_at c.open-outside.new.self ≡ within = c.open-outside.ensures.scope ∙ ap opened c.in_ok-declare.ensures.scope in
     let u2 : scope_at c.parameters.new.walk ≡ after_parameters within xs = c.in_ok-params.ensures.scope ∙ ap (λ (y : Scope). after_parameters y xs) u1 in
-    let u3 : scope_at c.statements.new.walk ≡ after_block m bodies (after_parameters within xs) b =
-      c.in_ok-block.ensures.scope ∙ ap (after_block m bodies (scope_at c.parameters.new.walk)) c.statements_in.ensures ∙ ap (λ (y : Scope). after_block m bodies y b) u2 in
-    stands_outside declared (after_block m bodies (after_parameters within xs) b) (scope_at c.statements.new.walk) c.open-outside.result
+    let u3 : scope_at c.body_of.new.walk ≡ after_block m bodies (after_parameters within xs) b =
+      c.in_ok-inner.ensures.scope ∙ ap (λ (y : Scope). after_block m bodies y b) u2 in
+    stands_outside declared (after_block m bodies (after_parameters within xs) b) (scope_at c.body_of.new.walk) c.open-outside.result
       (c.open-outside.ensures.outside ∙ ap (λ (y : Scope). length y.outer) c.in_ok-declare.ensures.scope) u3
       (kept_by_block m bodies (after_parameters within xs) b ∙ kept_by_parameters within xs)
 
@@ -51,7 +53,7 @@ returns-clause-typed c =
     let u2 : scope_at c.parameters.new.walk ≡ after_parameters within xs = c.in_ok-params.ensures.scope ∙ ap (λ (y : Scope). after_parameters y xs) u1 in
     same_function c.args.gives _ _ _ _
       (c.in_ok-params.ensures.numbers ∙ ap (λ (y : Scope). numbers_from m bodies (length y.objects) xs) u1)
-      (ap (typ.Stmt p) (c.block_of.ensures ∙ ap typ.Block (c.in_ok-block.ensures.typed ∙ ap (typed_block m bodies (scope_at c.parameters.new.walk)) c.statements_in.ensures ∙ ap (λ (y : Scope). typed_block m bodies y b) u2)))
+      (ap (typ.Stmt p) (c.block_of.ensures ∙ ap typ.Block (c.in_ok-inner.ensures.typed ∙ ap (λ (y : Scope). typed_block m bodies y b) u2)))
 
 pub returns-clause-scope : goal.returns-clause-scope
 returns-clause-scope c =
@@ -64,10 +66,10 @@ returns-clause-scope c =
     let declared = with_entry s (entry_of_function c.args.name.now c.args.gives xs) in
     let u1 : scope_at c.open-outside.new.self ≡ within = c.open-outside.ensures.scope ∙ ap opened c.in_ok-declare.ensures.scope in
     let u2 : scope_at c.parameters.new.walk ≡ after_parameters within xs = c.in_ok-params.ensures.scope ∙ ap (λ (y : Scope). after_parameters y xs) u1 in
-    let u3 : scope_at c.statements.new.walk ≡ after_block m bodies (after_parameters within xs) b =
-      c.in_ok-block.ensures.scope ∙ ap (after_block m bodies (scope_at c.parameters.new.walk)) c.statements_in.ensures ∙ ap (λ (y : Scope). after_block m bodies y b) u2 in
+    let u3 : scope_at c.body_of.new.walk ≡ after_block m bodies (after_parameters within xs) b =
+      c.in_ok-inner.ensures.scope ∙ ap (λ (y : Scope). after_block m bodies y b) u2 in
     c.in_ok-note_labels.ensures.scope
-    ∙ closes declared (after_block m bodies (after_parameters within xs) b) (scope_at c.statements.new.walk) (scope_at c.close.new.self) c.open-outside.result
+    ∙ closes declared (after_block m bodies (after_parameters within xs) b) (scope_at c.body_of.new.walk) (scope_at c.close.new.self) c.open-outside.result
       (c.open-outside.ensures.outside ∙ ap (λ (y : Scope). length y.outer) c.in_ok-declare.ensures.scope) u3
       (kept_by_block m bodies (after_parameters within xs) b ∙ kept_by_parameters within xs) c.close.ensures.scope
 
@@ -87,13 +89,29 @@ returns-clause-noted c =
     let pb : Scope → List Part = λ y. parts_of_block m bodies c.args.gives false y (statements_of body) in
     let pl = parts_of_labels [] (labels_of body) in
     let all : Scope → List Part = λ y. pp y ++ pb (after_parameters y xs) ++ pl in
+    let opened_best = c.open-outside.new.self.best in
     let last = c.note_labels.new.walk.best in
-    noted_within m items c.declare.new.walk.best c.open-outside.new.self.best last last all within n1 c.open-outside.ensures.best u1
-      (noted_then m items c.open-outside.new.self.best c.parameters.new.walk.best last (pp n1) (λ (y : Scope). pb y ++ pl) (after_parameters n1 xs) n2
-        c.in_ok-params.ensures.noted c.in_ok-params.ensures.scope
-        (noted_then m items c.parameters.new.walk.best c.statements.new.walk.best last (pb n2) (λ (y : Scope). pl) n2 n2
-          (c.in_ok-block.ensures.noted ∙ ap (λ (b : raw.Stms). noted_parts m items c.parameters.new.walk.best (parts_of_block m bodies c.args.gives false n2 b)) c.statements_in.ensures)
-          refl
-          (c.in_ok-note_labels.ensures.noted ∙ ap (λ (b : Option Refusal). noted_parts m items b pl) c.close.ensures.best)))
+    let two = noted_then m items opened_best c.parameters.new.walk.best c.body_of.new.walk.best (pp n1) pb (after_parameters n1 xs) n2
+      c.in_ok-params.ensures.noted c.in_ok-params.ensures.scope c.in_ok-inner.ensures.noted in
+    noted_within m items c.declare.new.walk.best opened_best last last all within n1 (ap (λ (y : Found). y.best) c.open-outside.ensures.found) u1
+      (noted_then m items opened_best c.body_of.new.walk.best last (pp n1 ++ pb (after_parameters n1 xs)) (λ (y : Scope). pl) n2 n2 two refl
+        (c.in_ok-note_labels.ensures.noted ∙ ap (λ (y : Found). noted_parts m items y.best pl) c.close.ensures.found))
       refl
     ∙ ap (λ (b : Option Refusal). noted_parts m items b (all within)) c.in_ok-declare.ensures.noted
+
+pub returns-clause-kept : goal.returns-clause-kept
+returns-clause-kept c =
+    let m = c.args.context.now.model in
+    let bodies = bodies_in c.args.context.now in
+    let s = scope_at c.args.walk.now in
+    let xs = map param_view c.args.xs.now in
+    let b = statements_of (stmt_view c.args.body.now) in
+    let within = inside s c.args.name.now c.args.gives xs in
+    let u1 : scope_at c.open-outside.new.self ≡ within = c.open-outside.ensures.scope ∙ ap opened c.in_ok-declare.ensures.scope in
+    let u2 : scope_at c.parameters.new.walk ≡ after_parameters within xs = c.in_ok-params.ensures.scope ∙ ap (λ (y : Scope). after_parameters y xs) u1 in
+    c.in_ok-inner.ensures.kept ∙ ap (λ (y : Scope). kept_of_parts m bodies (parts_of_block m bodies c.args.gives false y b)) u2
+
+pub returns-clause-outside : goal.returns-clause-outside
+returns-clause-outside c =
+    ap kept_views c.in_ok-note_labels.ensures.kept ∙ ap (λ (y : Found). y.kept) c.close.ensures.found ∙ ap kept_views c.in_ok-inner.ensures.outside
+    ∙ c.in_ok-params.ensures.kept ∙ ap (λ (y : Found). y.kept) c.open-outside.ensures.found ∙ ap kept_views c.in_ok-declare.ensures.kept

@@ -1,15 +1,14 @@
 use Rattle.std.proofs.Common.{◌≡◌, ◌++◌, drop, map, true}
 use Rattle.c_parser.specs.SourceView.{declared_view}
 use Rattle.c_rules.specs.Checked.{starts_of_names}
-use Rattle.c_rules.specs.Noting.{noted_parts}
 use Rattle.c_rules.specs.Parts.{parts_of_names}
 use Rattle.c_rules.specs.Scopes.{after_names}
-use Rattle.c_walk.specs.Walks.{scope_at, items_in, bodies_in}
-use Rattle.c_walk.proofs.items.globals.Given as goal
+use Rattle.c_walk.specs.Walks.{scope_at, items_in, bodies_in, found_at, with_parts}
+use Rattle.c_walk.proofs.globals.globals.Given as goal
 
 abbrev pub invariant-loop-d : goal.invariant-loop-d
 invariant-loop-d l = record {
   starts : l.starts ++ starts_of_names l.context.model (bodies_in l.context) (scope_at l.walk) (map declared_view (drop l.d-index l.ds)) ≡ l.fn.starts ++ starts_of_names l.context.model (bodies_in l.context) (scope_at l.fn.walk) (map declared_view l.ds);
   scope : after_names l.context.model (bodies_in l.context) true (scope_at l.walk) (map declared_view (drop l.d-index l.ds)) ≡ after_names l.context.model (bodies_in l.context) true (scope_at l.fn.walk) (map declared_view l.ds);
-  noted : noted_parts l.context.model (items_in l.context) l.walk.best (parts_of_names l.context.model (bodies_in l.context) true (scope_at l.walk) (map declared_view (drop l.d-index l.ds))) ≡ noted_parts l.context.model (items_in l.context) l.fn.walk.best (parts_of_names l.context.model (bodies_in l.context) true (scope_at l.fn.walk) (map declared_view l.ds));
+  noted : with_parts l.context.model (items_in l.context) (found_at l.walk) (parts_of_names l.context.model (bodies_in l.context) true (scope_at l.walk) (map declared_view (drop l.d-index l.ds))) ≡ with_parts l.context.model (items_in l.context) (found_at l.fn.walk) (parts_of_names l.context.model (bodies_in l.context) true (scope_at l.fn.walk) (map declared_view l.ds));
 }
