@@ -8,7 +8,7 @@ use Rattle.c_parser.specs.Tree as raw
 use Rattle.c_rules.specs.declared.fault.CheckCode.{CheckCode}
 use Rattle.c_rules.specs.declared.fault.CheckCode.TheVariants as code
 use Rattle.c_rules.specs.declared.fault.Refusal.{Refusal}
-use Rattle.c_rules.specs.First.{Holds, IsRefused, place, refusal}
+use Rattle.c_rules.specs.First.{Holds, IsRefused, refusal}
 use Rattle.c_rules.specs.Noting.{noted_order, noted_parts}
 use Rattle.c_rules.specs.Parts.{Part, parts_of_source}
 use Rattle.c_unordered.specs.Unordered.{ArePlaces}

@@ -1,4 +1,4 @@
-use Rattle.std.proofs.Common.{◌≡◌, ℕ, List, None, Some, map, codes, ap, sym, ◌∙◌}
+use Rattle.std.proofs.Common.{◌≡◌, List, None, Some, map, codes, ap, sym, ◌∙◌}
 use Rattle.std.specs.List.{position_or_len}
 use Rattle.std.specs.Str.{bytes_eq}
 use Rattle.c_core.specs.declared.tree.Function.{Function}

@@ -1,4 +1,4 @@
-use Rattle.std.proofs.Common.{arith, ◌≡◌, List, length, map, ap, sym, subst, ◌∙◌}
+use Rattle.std.proofs.Common.{arith, length, map, ap, sym, subst, ◌∙◌}
 use Rattle.c_core.specs.View.{functions_view}
 use Rattle.c_unordered.specs.Bodies.{kept_views}
 use Rattle.c_unordered.specs.Unordered.{ArePlaces}
