@@ -27,10 +27,10 @@ assigns spot o e = t.Stmt spot (t.Do (t.Expr spot (Some Int) (t.Assign None (var
 -- `for (int i = 0; i < 3;) {`, `    int x = i;`, `    g = x;`, `  }`
 abbrev pub turns : t.Stm
 turns = t.Stmt (at 4 3) (t.For
-  (t.FirstNames (t.MoreName (at 4 12) 2 (t.One (number (at 4 16) (pos 0))) t.NoName))
-  (Some (t.Expr (at 4 19) (Some Int) (t.Binary b.Lt (variable (at 4 19) 2) (number (at 4 23) (pos 3)))))
-  None
-  (t.Stmt (at 4 27) (t.Block (t.MoreStm (declares (at 5 5) (at 5 9) 3 (variable (at 5 13) 2)) (t.MoreStm (assigns (at 6 5) 0 (variable (at 6 9) 3)) t.NoStm)))))
+    (t.FirstNames (t.MoreName (at 4 12) 2 (t.One (number (at 4 16) (pos 0))) t.NoName))
+    (Some (t.Expr (at 4 19) (Some Int) (t.Binary b.Lt (variable (at 4 19) 2) (number (at 4 23) (pos 3)))))
+    None
+    (t.Stmt (at 4 27) (t.Block (t.MoreStm (declares (at 5 5) (at 5 9) 3 (variable (at 5 13) 2)) (t.MoreStm (assigns (at 6 5) 0 (variable (at 6 9) 3)) t.NoStm)))))
 
 -- `do x = g; while (0);`
 abbrev pub turns_once : t.Stm
@@ -50,10 +50,10 @@ hidden_names = record {
     result = Some Int;
     params = [];
     body = t.Stmt (at 2 12) (t.Block
-      (t.MoreStm (declares (at 3 3) (at 3 7) 1 (number (at 3 11) (pos 0)))
-      (t.MoreStm turns
-      (t.MoreStm turns_once
-      (t.MoreStm (t.Stmt (at 9 3) (t.Return (Some (number (at 9 10) (pos 0))))) t.NoStm)))));
+        (t.MoreStm (declares (at 3 3) (at 3 7) 1 (number (at 3 11) (pos 0)))
+        (t.MoreStm turns
+        (t.MoreStm turns_once
+        (t.MoreStm (t.Stmt (at 9 3) (t.Return (Some (number (at 9 10) (pos 0))))) t.NoStm)))));
   } ∷ [];
   main = 0;
 }

@@ -52,13 +52,7 @@ fn own<'a>(wanted: Wanted, found: Option<&'a Expr>, e: &'a Expr) -> Option<&'a E
 {
     match found {
         Some(first) => Some(first),
-        None => {
-            if is_wanted(wanted, e) {
-                Some(e)
-            } else {
-                None
-            }
-        }
+        None => { if is_wanted(wanted, e) { Some(e) } else { None } }
     }
 }
 
@@ -161,11 +155,7 @@ fn initial<'a>(wanted: Wanted, found: Option<&'a Expr>, init: &'a Init) -> Optio
 }
 
 #[tactic(auto, using(crate::proofs::SeekingLaws::first_of_both))]
-fn declared<'a>(
-    wanted: Wanted,
-    found: Option<&'a Expr>,
-    names: &'a [Declared],
-) -> Option<&'a Expr>
+fn declared<'a>(wanted: Wanted, found: Option<&'a Expr>, names: &'a [Declared]) -> Option<&'a Expr>
     ensures { expr_view_if (option_copied result) ≡ first_of (is_wanted wanted) (expr_view_if (option_copied found.entry)) (each_in_names (parts_of wanted) (names_view names.now)) }
 {
     let mut first = found;

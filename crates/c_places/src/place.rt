@@ -257,12 +257,7 @@ impl Location {
 }
 
 /// The place of this kind that a location names: exactly there, or the leftmost on the line.
-pub fn place_at(
-    program: &Program,
-    kind: PlaceKind,
-    line: u32,
-    column: Option<u32>,
-) -> Option<Spot>
+pub fn place_at(program: &Program, kind: PlaceKind, line: u32, column: Option<u32>) -> Option<Spot>
     ensures { result ≡ place_at (program_view program.now) kind line column }
 {
     let location = Location { kind, line, column };

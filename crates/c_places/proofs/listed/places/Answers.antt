@@ -10,6 +10,6 @@ use Rattle.c_places.proofs.listed.places.Goals as goal
 pub returns-clause-ordered : goal.returns-clause-ordered
 returns-clause-ordered c =
     let exact : c.from_vec.result ≡ places_of (program_view c.args.program.now) =
-        c.from_vec.ensures ∙ c.in_ok-push_functions.ensures ∙ ap (λ l. l ++ places_of_functions (functions_view c.as_slice.result.now)) c.new-list.ensures.items
-        ∙ ap (λ fs. places_of_functions (functions_view fs)) c.as_slice.ensures ∙ places_of_all (functions_view c.args.program.now.functions) in
+    c.from_vec.ensures ∙ c.in_ok-push_functions.ensures ∙ ap (λ l. l ++ places_of_functions (functions_view c.as_slice.result.now)) c.new-list.ensures.items
+    ∙ ap (λ fs. places_of_functions (functions_view fs)) c.as_slice.ensures ∙ places_of_all (functions_view c.args.program.now.functions) in
     ap are_ordered exact ∙ places_ordered (program_view c.args.program.now) c.args.program.now.checked.in_order
