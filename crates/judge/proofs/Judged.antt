@@ -39,7 +39,7 @@ right_given : (p : Program) (ss : List BoundSegment) (N : ℕ) (r : GivenRun) (f
     IsRightVerdict N p ss (verdict_by N r found)
 right_given p ss N r found e f =
     let right : IsRightOnViolation p ss N (verdict_by N r found) =
-        subst (λ (x : GivenRun). IsRightOnViolation p ss N (verdict_by N x found)) (sym e) (right_at p ss N (RunGiven p ss N) (SeenGiven p ss N) found (RunGiven p ss N).end f) in
+    subst (λ (x : GivenRun). IsRightOnViolation p ss N (verdict_by N x found)) (sym e) (right_at p ss N (RunGiven p ss N) (SeenGiven p ss N) found (RunGiven p ss N).end f) in
     record { right = right; confirmed = confirmed p ss N (verdict_by N r found) right }
 
 pub judged : (program : declared.Program) (bound : Bound) (N : ℕ) (c : Choices) (r : GivenRun) (m n : Matching) (found : Option (List ℕ)) (v : Verdict) →
@@ -51,5 +51,5 @@ judged program bound N c r m n found v given ran new saw finds is =
     let ss = segments_view bound in
     let same : r ≡ RunGiven p ss N = ran ∙ ap (λ (x : Choices). Run p x N) given in
     let seen : n ≡ after_all (begun program bound) (SeenGiven p ss N) =
-        saw ∙ seen_events m (Moments p c N) ∙ ap (λ (x : Matching). after_all x (seen_of (Moments p c N))) new ∙ ap (λ (x : Choices). after_all (begun program bound) (seen_of (Moments p x N))) given in
+    saw ∙ seen_events m (Moments p c N) ∙ ap (λ (x : Matching). after_all x (seen_of (Moments p c N))) new ∙ ap (λ (x : Choices). after_all (begun program bound) (seen_of (Moments p x N))) given in
     subst (λ (x : Verdict). IsRightVerdict N p ss x) (sym is) (right_given p ss N r found same (finds program bound (SeenGiven p ss N) seen))

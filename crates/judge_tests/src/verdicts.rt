@@ -131,7 +131,13 @@ fn an_overflow_is_a_violation_of_one_property(rt: HostRuntime) -> Result<(), Fai
     let bound = given(alloc, returns(3, 33, 2147483647), target(4, 3))?;
     let program = add_to_input(alloc, Property::NoOverflow)?;
     let verdict = judge_violation(alloc, &program, &bound, 1000)?;
-    assert!(rt; confirms(verdict, [input(3, 11, 2147483647)].as_slice(), [2, 4].as_slice()));
+    assert!(rt;
+        confirms(
+            verdict,
+            [input(3, 11, 2147483647)].as_slice(),
+            [2, 4].as_slice()
+        )
+    );
     let program = add_to_input(alloc, Property::UnreachCall)?;
     let verdict = judge_violation(alloc, &program, &bound, 1000)?;
     assert!(rt; refuses(verdict, Reason::Ended, 0));

@@ -40,7 +40,8 @@ begins_shaped p ss prepared ns live room n q e l r = record {
   states = length_begun live n e ∙ ap (λ (j : ℕ). j + 1) l;
   rooms = r ∙ l;
   blank = λ k h. subst (λ (xs : List (Option ℕ)). get_or xs k None ≡ None) (sym e) (nones_blank n k h);
-  held = subst (AreHeld ns 0) (sym e) (tt, nones_held ns 1 n) }
+  held = subst (AreHeld ns 0) (sym e) (tt, nones_held ns 1 n);
+}
 
 pub begins_ways : (ns : List Node) (live : List (Option ℕ)) (n m : ℕ) → live ≡ Some 0 ∷ replicate n None → n ≡ m → ways_of ns 0 live ≡ Some [] ∷ replicate m None
 begins_ways ns live n m e l = ap (ways_of ns 0) e ∙ ap (λ (t : List (Option (List ℕ))). Some [] ∷ t) (nones_ways ns 1 n ∙ ap (λ (j : ℕ). replicate j None) l)

@@ -37,7 +37,7 @@ runs program bound es (e ∷ rest) n ws agree r =
     let c : suc n ≡ n + 1 = omega arith in
     let m : n + 1 + length rest ≡ n + suc (length rest) = omega arith in
     let later : (j : ℕ) → slice_get es (n + 1 + j) ≡ slice_get rest j = λ j.
-        let k : n + suc j ≡ n + 1 + j = omega arith in subst (λ (i : ℕ). slice_get es i ≡ slice_get rest j) k (agree (suc j)) in
+    let k : n + suc j ≡ n + 1 + j = omega arith in subst (λ (i : ℕ). slice_get es i ≡ slice_get rest j) k (agree (suc j)) in
     subst (λ (k : ℕ). Rights p es k [] ss (after_all (record { program = program; bound = bound; count = n + 1; ways = step p e n None false ss ws }) rest).ways) m
     (runs program bound es rest (n + 1) (step p e n None false ss ws) later (subst (λ (k : ℕ). Rights p es k [] ss (step p e n None false ss ws)) c on))
 

@@ -76,16 +76,16 @@ core pr e n ns ms front back i s rest was kept c now d sh whole lf hf hb g ke we
     let p : Bool = passes pr s.follow e.event e.cells in
     let q : Bool = sh && is_assumption s.follow in
     let o : way_of ms i d ≡ only_if (p && (is_there st || q)) (way_now n st (came_of ns i c)) =
-        ap (way_of ms i) de ∙ way_only_if ms i (p && (is_there kept || q)) now ∙ ap (λ (b : Bool). only_if (p && (b || q)) (way_of ms i now)) t ∙
-        ap (only_if (p && (is_there st || q))) w in
+    ap (way_of ms i) de ∙ way_only_if ms i (p && (is_there kept || q)) now ∙ ap (λ (b : Bool). only_if (p && (b || q)) (way_of ms i now)) t ∙
+    ap (only_if (p && (is_there st || q))) w in
     let z : 0 + length front ≡ i = omega (arith, lf) in
     let f : ways_of ms 0 (front ++ now ∷ []) ≡ ways_of ns 0 front ++ way_now n st (came_of ns i c) ∷ [] =
-        ways_append ms 0 front (now ∷ []) ∙ ap (λ (xs : List (Option (List ℕ))). xs ++ way_of ms (0 + length front) now ∷ []) (ways_stay ns ms 0 front g hf) ∙
-        ap (λ (j : ℕ). ways_of ns 0 front ++ way_of ms j now ∷ []) z ∙ ap (λ (x : Option (List ℕ)). ways_of ns 0 front ++ x ∷ []) w in
+    ways_append ms 0 front (now ∷ []) ∙ ap (λ (xs : List (Option (List ℕ))). xs ++ way_of ms (0 + length front) now ∷ []) (ways_stay ns ms 0 front g hf) ∙
+    ap (λ (j : ℕ). ways_of ns 0 front ++ way_of ms j now ∷ []) z ∙ ap (λ (x : Option (List ℕ)). ways_of ns 0 front ++ x ∷ []) w in
     let r : step pr e n (way_of ms i d) (is_assumption s.follow) rest (ways_of ms (suc i) back) ≡
-            step pr e n (only_if (p && (is_there st || q)) (way_now n st (came_of ns i c))) (is_assumption s.follow) rest (ways_of ns (suc i) back) =
-        ap (λ (x : Option (List ℕ)). step pr e n x (is_assumption s.follow) rest (ways_of ms (suc i) back)) o ∙
-        ap (λ (xs : List (Option (List ℕ))). step pr e n (only_if (p && (is_there st || q)) (way_now n st (came_of ns i c))) (is_assumption s.follow) rest xs) (ways_stay ns ms (suc i) back g hb) in
+    step pr e n (only_if (p && (is_there st || q)) (way_now n st (came_of ns i c))) (is_assumption s.follow) rest (ways_of ns (suc i) back) =
+    ap (λ (x : Option (List ℕ)). step pr e n x (is_assumption s.follow) rest (ways_of ms (suc i) back)) o ∙
+    ap (λ (xs : List (Option (List ℕ))). step pr e n (only_if (p && (is_there st || q)) (way_now n st (came_of ns i c))) (is_assumption s.follow) rest xs) (ways_stay ns ms (suc i) back g hb) in
     rw (f, r, append_assoc) v
 
 set_is : (xs : List (Option ℕ)) (i : ℕ) (w : Option ℕ) → i < length xs → drop (i + 1) (set xs i w) ≡ drop (suc i) xs
@@ -113,8 +113,9 @@ eq_or (suc k) (suc i) = elim (eq_or k i) [ inl e ↦ inl (ap suc e) | inr ne ↦
 pub blank_set : (live : List (Option ℕ)) (i : ℕ) (now : Option ℕ) (reach reach1 : ℕ) → i < length live → IsBlank reach live → reach ≤ reach1 →
     (reach1 ≤ i → now ≡ None) → IsBlank reach1 (set live i now)
 blank_set live i now reach reach1 lt b rr rn k h = elim (eq_or k i) as (λ v. get_or (set live i now) k None ≡ None) [
-      inl e ↦ subst (λ (j : ℕ). get_or (set live i now) j None ≡ None) (sym e) (set_same live i now lt ∙ rn (omega arith))
-    | inr ne ↦ set_other live i k now ne ∙ b k (omega arith) ]
+  | inl e ↦ subst (λ (j : ℕ). get_or (set live i now) j None ≡ None) (sym e) (set_same live i now lt ∙ rn (omega arith))
+  | inr ne ↦ set_other live i k now ne ∙ b k (omega arith)
+]
 
 Nones : List (Option ℕ) → Type 0
 Nones [] = Unit {0}
@@ -164,7 +165,7 @@ unmoved pr e n ns ss live i c sh reach whole t ls ll rr cn =
     let cc0 : came_of ns i c ≡ None = ap (came_of ns i) cn ∙ came_none ns i in
     let st = stopped pr e n ns i sh (drop i ss) (drop i live) (nones_of (drop i live) f) l in
     let v : ways_of ns 0 (take i live) ++ ways_of ns i (drop i live) ≡ whole =
-        ap (λ (xs : List (Option (List ℕ))). ways_of ns 0 (take i live) ++ xs) (sym (ap (λ (o : Option (List ℕ)). step pr e n o sh (drop i ss) (ways_of ns i (drop i live))) cc0 ∙ st)) ∙ t.value in
+    ap (λ (xs : List (Option (List ℕ))). ways_of ns 0 (take i live) ++ xs) (sym (ap (λ (o : Option (List ℕ)). step pr e n o sh (drop i ss) (ways_of ns i (drop i live))) cc0 ∙ st)) ∙ t.value in
     ap (ways_of ns 0) (sym (take-append-drop i live)) ∙ ways_append ns 0 (take i live) (drop i live) ∙
     ap (λ (j : ℕ). ways_of ns 0 (take i live) ++ ways_of ns j (drop i live)) z ∙ v
 
@@ -188,15 +189,16 @@ turned pr e n ns ms ss live i s was kept c now d sh reach reach1 whole t rr rn l
     let hn : IsHeld ms i now = hk i hk0 t.from in
     let lf : length (take i live) ≡ i = length-take-le i live (omega arith) in
     let v : ways_of ns 0 (take i live) ++ step pr e n (came_of ns i c) sh (s ∷ drop (i + 1) ss) (way_of ns i was ∷ ways_of ns (suc i) (drop (suc i) live)) ≡ whole =
-        subst (λ (xs : List (Option ℕ)). ways_of ns 0 (take i live) ++ step pr e n (came_of ns i c) sh (s ∷ drop (i + 1) ss) (ways_of ns i xs) ≡ whole) dc
-        (subst (λ (xs : List BoundSegment). ways_of ns 0 (take i live) ++ step pr e n (came_of ns i c) sh xs (ways_of ns i (drop i live)) ≡ whole) sis t.value) in
+    subst (λ (xs : List (Option ℕ)). ways_of ns 0 (take i live) ++ step pr e n (came_of ns i c) sh (s ∷ drop (i + 1) ss) (ways_of ns i xs) ≡ whole) dc
+    (subst (λ (xs : List BoundSegment). ways_of ns 0 (take i live) ++ step pr e n (came_of ns i c) sh xs (ways_of ns i (drop i live)) ≡ whole) sis t.value) in
     let u = core pr e n ns ms (take i live) (drop (suc i) live) i s (drop (i + 1) ss) was kept c now d sh whole lf (held_take ns 0 i live t.held) b.1 g ke
-        (wk i hk0 t.from) de v in
+    (wk i hk0 t.from) de v in
     record {
       held = held_set ms 0 i live now (are_held_stay ns ms 0 live g t.held) (subst (λ (j : ℕ). IsHeld ms j now) (sym z) hn);
       blank = blank_set live i now reach reach1 lt t.blank rr rn;
       from = rw add-one (subst (IsHeld ms i) (sym de) (held_only_if ms i (passes pr s.follow e.event e.cells && (is_there kept || (sh && is_assumption s.follow))) now hn));
-      value = rw (take_more_set live i now lt, set_is live i now lt, add-one) (rw add-one at u) }
+      value = rw (take_more_set live i now lt, set_is live i now lt, add-one) (rw add-one at u);
+    }
 
 pub finished_held : (ns ms : List Node) (live : List (Option ℕ)) (i : ℕ) (last : Option ℕ) → AreHeld ns 0 live → Grown ns ms → IsHeld ms i last → AreHeld ms 0 (set live i last)
 finished_held ns ms live i last h g hl =
@@ -215,11 +217,11 @@ finished pr e n ns ms ss live i j c last sh reach whole t is js ll g wk =
     let lf : length (take i live) ≡ i = length-take-le i live (omega arith) in
     let z : 0 + length (take i live) ≡ i = omega (arith, lf) in
     let v : ways_of ns 0 (take i live) ++ way_now n None (came_of ns i c) ∷ [] ≡ whole =
-        subst (λ (xs : List (Option ℕ)). ways_of ns 0 (take i live) ++ step pr e n (came_of ns i c) sh [] (ways_of ns i xs) ≡ whole) dc
-        (subst (λ (xs : List BoundSegment). ways_of ns 0 (take i live) ++ step pr e n (came_of ns i c) sh xs (ways_of ns i (drop i live)) ≡ whole) none_left t.value) in
+    subst (λ (xs : List (Option ℕ)). ways_of ns 0 (take i live) ++ step pr e n (came_of ns i c) sh [] (ways_of ns i xs) ≡ whole) dc
+    (subst (λ (xs : List BoundSegment). ways_of ns 0 (take i live) ++ step pr e n (came_of ns i c) sh xs (ways_of ns i (drop i live)) ≡ whole) none_left t.value) in
     let ij : i ≡ j = is ∙ sym js in
     let sp : set live j last ≡ take i live ++ last ∷ [] =
-        ap (λ (k : ℕ). set live k last) (sym ij) ∙ set_split live i last lt ∙ ap (λ (xs : List (Option ℕ)). take i live ++ last ∷ xs) no_more in
+    ap (λ (k : ℕ). set live k last) (sym ij) ∙ set_split live i last lt ∙ ap (λ (xs : List (Option ℕ)). take i live ++ last ∷ xs) no_more in
     ap (ways_of ms 0) sp ∙ ways_append ms 0 (take i live) (last ∷ []) ∙
     ap (λ (xs : List (Option (List ℕ))). xs ++ way_of ms (0 + length (take i live)) last ∷ []) (ways_stay ns ms 0 (take i live) g (held_take ns 0 i live t.held)) ∙
     ap (λ (k : ℕ). ways_of ns 0 (take i live) ++ way_of ms k last ∷ []) z ∙

@@ -72,8 +72,9 @@ clash b h k = cc
 -- idle for one event more, exactly where that event passes none
 longer : (pr : Program) (es : List Seen) (n : ℕ) (ps : List Point) (from : ℕ) → Avoids pr es ps from n → seen_passes_any pr (slice_get es n) ps ≡ false → Avoids pr es ps from (suc n)
 longer pr es n ps from h last j lo hi = elim (lt_or_eq j n hi) as (λ v. seen_passes_any pr (slice_get es j) ps ≡ false) [
-      inl lt ↦ h j lo lt
-    | inr e ↦ subst (λ (i : ℕ). seen_passes_any pr (slice_get es i) ps ≡ false) (sym e) last ]
+  | inl lt ↦ h j lo lt
+  | inr e ↦ subst (λ (i : ℕ). seen_passes_any pr (slice_get es i) ps ≡ false) (sym e) last
+]
 
 pub kept : (pr : Program) (es : List Seen) (n : ℕ) (rs ss : List BoundSegment) (s : BoundSegment) (b : Bool) (w : Option (List ℕ)) →
     b ≡ seen_passes_any pr (slice_get es n) s.avoids → Right pr es n rs (s ∷ ss) w → Kept pr es n rs s (only_if (not b) w)
@@ -99,8 +100,9 @@ now_right pr es n rs ss s (Some qs) a k c = record { way = k.way; within = omega
 now_right pr es n rs ss s None (Some qs) k c = record { way = c; within = omega arith; idle = λ j lo hi. absurd (omega arith) }
 now_right pr es n rs ss s None None k c = λ qs l.
     elim (le_or_eq (next qs) n l.within) [
-      inl le ↦ k qs (record { way = l.way; within = le; idle = l.idle })
-    | inr e ↦ ends pr es n rs qs l.way e c ]
+      | inl le ↦ k qs (record { way = l.way; within = le; idle = l.idle })
+      | inr e ↦ ends pr es n rs qs l.way e c
+    ]
 
 -- whether the event moves a way past the next segment
 pub came : (pr : Program) (es : List Seen) (n : ℕ) (rs : List BoundSegment) (s : BoundSegment) (st a : Option (List ℕ)) (f sh am : Bool) →
@@ -110,14 +112,17 @@ came pr es n rs s st a false sh am fe ae me k c = λ qs w. clash false (fe ∙ w
 came pr es n rs s (Some qs) a true sh am fe ae me k c = (sym fe, inl k.within, k.idle, k.way)
 came pr es n rs s None (Some qs) true true true fe ae me k c = (sym fe, inr (refl, sym ae, sym me), (λ j lo hi. absurd (omega arith)), c)
 came pr es n rs s None None true true true fe ae me k c = λ qs w. elim w.1 [
-      inl le ↦ k qs (record { way = w.3; within = le; idle = w.2 })
-    | inr e ↦ ends pr es n rs qs w.3 (sym e.0) c ]
+  | inl le ↦ k qs (record { way = w.3; within = le; idle = w.2 })
+  | inr e ↦ ends pr es n rs qs w.3 (sym e.0) c
+]
 came pr es n rs s None a true false am fe ae me k c = λ qs w. elim w.1 [
-      inl le ↦ k qs (record { way = w.3; within = le; idle = w.2 })
-    | inr e ↦ clash false (ae ∙ e.1) refl ]
+  | inl le ↦ k qs (record { way = w.3; within = le; idle = w.2 })
+  | inr e ↦ clash false (ae ∙ e.1) refl
+]
 came pr es n rs s None a true true false fe ae me k c = λ qs w. elim w.1 [
-      inl le ↦ k qs (record { way = w.3; within = le; idle = w.2 })
-    | inr e ↦ clash false (me ∙ e.2) refl ]
+  | inl le ↦ k qs (record { way = w.3; within = le; idle = w.2 })
+  | inr e ↦ clash false (me ∙ e.2) refl
+]
 
 pub steps : (pr : Program) (es : List Seen) (n : ℕ) (e : Seen) → slice_get es n ≡ Some e → (ss rs : List BoundSegment) (a : Option (List ℕ)) (ws : List (Option (List ℕ))) →
     Came pr es n rs a → Rights pr es n rs ss ws → Rights pr es (suc n) rs ss (step pr e n a (assumed rs) ss ws)
@@ -127,6 +132,7 @@ steps pr es n e h [] rs a (w ∷ v ∷ ws) c r = absurd r
 steps pr es n e h (s ∷ ss) rs a [] c r = r
 steps pr es n e h (s ∷ ss) rs a (w ∷ ws) c r =
     let st : Option (List ℕ) = only_if (not (passes_any pr s.avoids e.event e.cells)) w in
-    let k : Kept pr es n rs s st = kept pr es n rs ss s _ w (sym (ap (λ (o : Option Seen). seen_passes_any pr o s.avoids) h)) r.0 in
-    (now_right pr es n rs ss s st a k c,
-     steps pr es n e h ss (s ∷ rs) _ ws (came pr es n rs s st a _ _ _ (sym (ap (λ (o : Option Seen). seen_passes pr o s.follow) h)) refl refl k c) r.1)
+    let k : Kept pr es n rs s st = kept pr es n rs ss s _ w (sym (ap (λ (o : Option Seen). seen_passes_any pr o s.avoids) h)) r.0 in (
+      now_right pr es n rs ss s st a k c,
+      steps pr es n e h ss (s ∷ rs) _ ws (came pr es n rs s st a _ _ _ (sym (ap (λ (o : Option Seen). seen_passes pr o s.follow) h)) refl refl k c) r.1,
+    )

@@ -49,7 +49,8 @@ begun program bound = record { program = program; bound = bound; count = 0; ways
 abbrev pub after : Event → List Cell → Matching → Matching
 after e cells m = record m {
   count = m.count + 1;
-  ways = step (program_view m.program) (record { event = e; cells = cells }) m.count None false (segments_view m.bound) m.ways }
+  ways = step (program_view m.program) (record { event = e; cells = cells }) m.count None false (segments_view m.bound) m.ways;
+}
 
 abbrev pub after_all : Matching → List Seen → Matching
 after_all m [] = m

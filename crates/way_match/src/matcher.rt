@@ -80,7 +80,12 @@ impl<'a> Matcher<'a> {
         ensures answer { result ≡ positions_of (last_way self.entry.ways) }
         ensures exact { (p : Program) (b : Bound) (es : List Seen) → self.entry ≡ after_all (begun p b) es → Finds (program_view p) (segments_view b) es result }
     {
-        let Matcher { nodes, live, mut room, .. } = self;
+        let Matcher {
+            nodes,
+            live,
+            mut room,
+            ..
+        } = self;
         match live[room.len()] {
             Some(last) => {
                 fill(nodes.as_slice(), last, room.as_mut_slice());

@@ -25,12 +25,7 @@ pub fn object(object: u32) -> Expr {
 }
 
 /// An operator on values of type `int`.
-pub fn operation(
-    alloc: Global,
-    op: BinOp,
-    left: Expr,
-    right: Expr,
-) -> Result<Expr, OutOfMemory> {
+pub fn operation(alloc: Global, op: BinOp, left: Expr, right: Expr) -> Result<Expr, OutOfMemory> {
     Ok(Expr {
         spot: at(1, 1),
         ty: Some(IntType::Int),

@@ -15,7 +15,7 @@ returns-clause-answer c =
     let r : c.len.result ≡ length c.self.inside.room.items = search rules in
     let l : length c.self.inside.live.items ≡ c.len.result + 1 = omega (arith, c.self.invariant.states, c.self.invariant.rooms, r) in
     answer_none c.self.inside.nodes.items c.self.inside.live.items c.len.result c.index.result.now c.args.self.ways
-        (ap (λ (m : Matching). m.ways) c.self.view_is) l c.index.ensures c.in-None.is
+    (ap (λ (m : Matching). m.ways) c.self.view_is) l c.index.ensures c.in-None.is
 
 pub returns-clause-exact : goal.returns-clause-exact
 returns-clause-exact c = exact_of c.args.self None (returns-clause-answer c)
@@ -26,8 +26,8 @@ returns-in-Some-clause-answer c =
     let l : length c.self.inside.live.items ≡ c.len.result + 1 = omega (arith, c.self.invariant.states, c.self.invariant.rooms, r) in
     let f = rw (c.as_slice.ensures.value, c.as_mut_slice.ensures.value, ← r) at c.fill.ensures in
     answer_some c.self.inside.nodes.items c.self.inside.live.items c.len.result c.in-Some.last c.index.result.now c.args.self.ways c.from_vec.result
-        (ap (λ (m : Matching). m.ways) c.self.view_is) l c.index.ensures c.in-Some.is
-        (whole_room c.from_vec.result c.fill.new.room _ c.self.inside.room.len (omega (arith, r, c.fill.auto.room, c.as_mut_slice.ensures.len)) c.from_vec.ensures ∙ f)
+    (ap (λ (m : Matching). m.ways) c.self.view_is) l c.index.ensures c.in-Some.is
+    (whole_room c.from_vec.result c.fill.new.room _ c.self.inside.room.len (omega (arith, r, c.fill.auto.room, c.as_mut_slice.ensures.len)) c.from_vec.ensures ∙ f)
 
 pub returns-in-Some-clause-exact : goal.returns-in-Some-clause-exact
 returns-in-Some-clause-exact c = exact_of c.args.self (Some c.from_vec.result) (returns-in-Some-clause-answer c)

@@ -14,7 +14,7 @@ invariant_of-result c =
     let l : c.loop.index ≡ length c.args.bound.now.segments = omega (arith, s) in
     let q = c.in_ok-prepared.ensures ∙ ap (λ (xs : List BoundSegment). all_prepared (program_view c.args.program.now) (each_segment_view xs)) c.as_slice.ensures in
     begins_shaped (program_view c.args.program.now) c.args.bound.now.segments c.in_ok-prepared.prepared c.new.result.items c.loop.live.items c.loop.room.items c.loop.index
-        q c.loop.invariant.0 l c.loop.invariant.1
+    q c.loop.invariant.0 l c.loop.invariant.1
 
 pub returns : goal.returns
 returns c =
