@@ -1,8 +1,17 @@
 -- Labels of a function, and the names among them.
-use Rattle.std.proofs.Common.{cond, ◌≡◌, ◌||◌, ◌++◌, ◌∷◌, ℕ, Bool, true, false, List, [], map, Option, Some, None, is_some, refl, ap, sym, subst, ◌∙◌}
+use Rattle.std.proofs.Common.{cond, ◌≡◌, ◌<◌, ◌+◌, ◌||◌, ◌++◌, ◌∷◌, ℕ, Bool, true, false, List, [], length, take, drop, get_or, map, Option, Some, None, is_some, refl, ap, sym, subst, ◌∙◌}
+use Rattle.std.proofs.lemmas.List.{drop_more, take_more}
 use Rattle.std.proofs.lemmas.Slice.Eq.{bytes_eq-Decides}
 use Rattle.std.specs.Str.{bytes_eq}
+use Rattle.c_core.specs.declared.number.DataModel.{DataModel}
 use Rattle.c_core.specs.declared.number.Spot.{Spot}
+use Rattle.c_parser.specs.Tree.{Item}
+use Rattle.c_rules.specs.declared.fault.CheckCode.TheVariants as code
+use Rattle.c_rules.specs.declared.fault.Refusal.{Refusal}
+use Rattle.c_rules.specs.First.{refusal}
+use Rattle.c_rules.specs.Noting.{noted, noted_parts}
+use Rattle.c_rules.specs.Parts as part
+use Rattle.c_rules.specs.Parts.{parts_of_labels}
 use Rattle.c_rules.specs.Codes.{is_among}
 use Rattle.c_walk.specs.declared.label.Label.{Label}
 use Rattle.c_walk.specs.Walks.{label, labels_seen}
@@ -57,3 +66,27 @@ name_put name x old = by_test (bytes_eq name x) old ∙ ap (λ b. is_some old ||
     by_test true (Some u) = refl
     by_test false None = refl
     by_test false (Some u) = refl
+
+-- ---- one label more
+
+names_taken : (ls : List Label) (i : ℕ) (d : Label) → i < length ls → names_seen (take (i + 1) ls) ≡ names_seen (take i ls) ++ (get_or ls i d).name.now ∷ []
+names_taken ls i d h = ap names_seen (take_more ls i d h) ∙ names_one_more (take i ls) (get_or ls i d)
+
+pub known_next : (ls : List Label) (i : ℕ) (d : Label) (w : List ℕ) (a b : Bool) → i < length ls → b ≡ (a || bytes_eq w (get_or ls i d).name.now) → a ≡ is_among (names_seen (take i ls)) w
+  → b ≡ is_among (names_seen (take (i + 1) ls)) w
+known_next ls i d w a b h e f =
+    let l = get_or ls i d in
+    e ∙ ap (λ (x : Bool). x || bytes_eq w l.name.now) f ∙ sym (among_one_more (names_seen (take i ls)) l.name.now w) ∙ sym (ap (λ (xs : List (List ℕ)). is_among xs w) (names_taken ls i d h))
+
+pub labels_next : (m : DataModel) (items : List Item) (ls : List Label) (i : ℕ) (d : Label) (best new n : Option Refusal) (doubled : Bool) → i < length ls
+  → new ≡ noted best doubled (refusal code.Again (get_or ls i d).spot) → doubled ≡ is_among (names_seen (take i ls)) (get_or ls i d).name.now
+  → noted_parts m items best (parts_of_labels (names_seen (take i ls)) (labels_seen (drop i ls))) ≡ n
+  → noted_parts m items new (parts_of_labels (names_seen (take (i + 1) ls)) (labels_seen (drop (i + 1) ls))) ≡ n
+labels_next m items ls i d best new n doubled h e f g =
+    let l = get_or ls i d in
+    let before = names_seen (take i ls) in
+    let rest = labels_seen (drop (i + 1) ls) in
+    ap (λ (b : Option Refusal). noted_parts m items b (parts_of_labels (names_seen (take (i + 1) ls)) rest)) (e ∙ ap (λ (b : Bool). noted best b (refusal code.Again l.spot)) f)
+    ∙ ap (λ (xs : List (List ℕ)). noted_parts m items (noted best (is_among before l.name.now) (refusal code.Again l.spot)) (parts_of_labels xs rest)) (names_taken ls i d h)
+    ∙ sym (ap (λ (xs : List part.Label). noted_parts m items best (parts_of_labels before xs)) (ap labels_seen (drop_more ls i d h)))
+    ∙ g

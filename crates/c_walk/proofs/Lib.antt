@@ -9,4 +9,3 @@ mod LabelLaws
 mod ParameterLaws
 mod StartLaws
 mod ItemLaws
-mod FirstLaws

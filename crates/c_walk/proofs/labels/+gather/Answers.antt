@@ -38,8 +38,8 @@ gather-returns-in_ok-gather_else-in-If t c =
     let old = labels_seen c.args.all.now.items in
     let yes = labels_of (stmt_view c.in-If.yes.value) in
     let no = labels_of_else (else_if c.in-If.no) in
-    c.in_ok-gather_else.ensures
-    ∙ ap (λ (x : List Label). x ++ no) (c.in_ok-gather.ensures ∙ ap (λ (s : RawStmt). old ++ labels_of (stmt_view s)) c.deref.ensures)
+    c.in_ok-gather_else-in-If.ensures
+    ∙ ap (λ (x : List Label). x ++ no) (c.in_ok-gather-in-If.ensures ∙ ap (λ (s : RawStmt). old ++ labels_of (stmt_view s)) c.deref.ensures)
     ∙ append_assoc old yes no
     ∙ ap (λ (x : List Label). old ++ x) (sym (labels_of_if c.args.s.now.spot c.args.s.now.form c.in-If.yes c.in-If.no c.in-If.is))
 

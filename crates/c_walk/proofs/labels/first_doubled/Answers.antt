@@ -10,11 +10,19 @@ use Rattle.c_rules.specs.Parts as part
 use Rattle.c_rules.specs.Parts.{parts_of_labels}
 use Rattle.c_walk.specs.declared.label.Label.{Label}
 use Rattle.c_walk.specs.Walks.{items_in, label, labels_seen}
-use Rattle.c_walk.proofs.LabelLaws.{names_seen, names_one_more, among_one_more}
+use Rattle.c_walk.proofs.LabelLaws.{names_seen, known_next, labels_next}
 use Rattle.c_walk.proofs.labels.first_doubled.Goals as goal
 
 pub loop-label-preserved : goal.loop-label-preserved
-loop-label-preserved c = ?
+loop-label-preserved c =
+    let ls = c.args.labels.now in
+    let i = c.loop-label.label-index in
+    let below = c.loop-label-test.true in
+    record {
+      known = λ w. known_next ls i _ w _ _ below (c.in_ok-add_name.ensures w) (c.loop-label.invariant.known w);
+      noted = labels_next c.args.context.now.model (items_in c.args.context.now) ls i _ c.loop-label.best _ _ _ below c.noted-best.ensures
+        (c.is_known-doubled.ensures ∙ c.loop-label.invariant.known _) c.loop-label.invariant.noted;
+    }
 
 pub returns : goal.returns
 returns c =

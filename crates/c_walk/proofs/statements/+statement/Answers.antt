@@ -1,22 +1,26 @@
-use Rattle.std.proofs.Common.{rules, ◌≡◌, ◌++◌, ◌+◌, ◌∷◌, [], ℕ, Bool, true, List, map, drop, refl, sym, ap, ◌∙◌}
+use Rattle.std.proofs.Common.{rules, ◌≡◌, ◌++◌, ◌+◌, ◌∷◌, [], ℕ, Bool, true, List, Option, map, drop, refl, sym, ap, ◌∙◌}
+use Rattle.std.specs.declared.boxed.Box.{Box}
+use Rattle.std.specs.declared.alloc.Global.{Global}
 use Rattle.std.proofs.lemmas.List.{drop_all}
 use Rattle.std.specs.Option.{option_map}
 use Rattle.c_core.specs.Tree as typ
 use Rattle.c_core.specs.declared.tree.Stmt.{Stmt}
 use Rattle.c_parser.specs.Tree as raw
 use Rattle.c_parser.specs.Tree.{stms}
-use Rattle.c_parser.specs.SourceView.{first_view, form_view, stmt_view, else_if}
+use Rattle.c_parser.specs.SourceView.{declared_view, first_view, form_view, stmt_view, else_if}
 use Rattle.c_parser.specs.View.{expr_view}
+use Rattle.c_parser.specs.declared.tree.RawDeclared.{RawDeclared}
 use Rattle.c_parser.specs.declared.tree.RawForm.{RawForm}
 use Rattle.c_parser.specs.declared.tree.RawStmt.{RawStmt}
 use Rattle.c_parser.proofs.SourceViews.{view_of_block}
 use Rattle.c_rules.specs.Checked.{typed_if, typed_first, typed_statement, typed_form, typed_else, typed_block}
-use Rattle.c_rules.specs.Parts.{Part, Value, Effect, parts, parts_if, parts_of_first, parts_of_statement, parts_of_form, parts_of_else, parts_of_block}
+use Rattle.c_rules.specs.Parts.{Part, Value, Effect, Leaving, parts, parts_if, parts_of_first, parts_of_statement, parts_of_form, parts_of_else, parts_of_block}
 use Rattle.c_rules.specs.Scopes.{Scope, seen, opened, closed, after_first, after_statement, after_form, after_else, after_block}
 use Rattle.c_rules.specs.Typed.{typed}
+use Rattle.c_walk.specs.Items.{kept_views}
 use Rattle.c_walk.specs.Walks.{scope_at, items_in, bodies_in, found_at, with_parts}
 use Rattle.c_walk.proofs.BlockLaws.{next_statement, statements_before, statements_before-none, statements_before-one_more, raw_view_of_if, same_if, same_while, same_do, same_for}
-use Rattle.c_walk.proofs.FoundLaws.{found_then, found_within, found_on, with_none}
+use Rattle.c_walk.proofs.FoundLaws.{found_then, found_within, found_on, with_none, quiet}
 use Rattle.c_walk.proofs.ScopeLaws.{kept_by_first, kept_by_statement, kept_by_block, closes, stands_outside}
 use Rattle.c_walk.proofs.statements.+statement.Goals as goal
 
@@ -132,10 +136,108 @@ statements-returns-clause-noted t c =
     ∙ ap (λ (xs : List RawStmt). with_parts m (items_in c.args.context.now) (found_at c.loop-s.walk) (parts_of_block m bodies c.args.gives c.args.looped (scope_at c.loop-s.walk) (stms (map stmt_view xs)))) (sym (drop_all c.loop-s.s-index c.args.ss.now c.loop-s-test.false))
     ∙ c.loop-s.invariant.noted
 
--- ---- forms of several parts
+-- ---- forms, one after another
 
-pub form-returns-in-If-clause-typed : goal.form-returns-in-If-clause-typed
-form-returns-in-If-clause-typed t c =
+pub form-returns-in-Empty-clause-noted : goal.form-returns-in-Empty-clause-noted
+form-returns-in-Empty-clause-noted t c =
+    let m = c.args.context.now.model in
+    let bodies = bodies_in c.args.context.now in
+    let s = scope_at c.args.walk.now in
+    let items = items_in c.args.context.now in
+    let view : form_view c.args.f.now ≡ raw.Empty =
+      ap form_view c.in-Empty.is in
+    with_none m items (found_at c.args.walk.now)
+    ∙ ap (λ (x : raw.Form). with_parts m items (found_at c.args.walk.now) (parts_of_form m bodies c.args.gives c.args.looped s c.args.spot x)) (sym view)
+
+pub form-returns-in_ok-e-in-Expr-clause-typed : goal.form-returns-in_ok-e-in-Expr-clause-typed
+form-returns-in_ok-e-in-Expr-clause-typed t c =
+    let m = c.args.context.now.model in
+    let bodies = bodies_in c.args.context.now in
+    let s = scope_at c.args.walk.now in
+    let view : form_view c.args.f.now ≡ raw.Do (expr_view c.in-Expr.e) =
+      ap form_view c.in-Expr.is in
+    ap typ.Do c.in_ok-e-in-Expr.ensures.typed ∙ sym (ap (typed_form m bodies s) view)
+
+pub form-returns-in_ok-e-in-Expr-clause-scope : goal.form-returns-in_ok-e-in-Expr-clause-scope
+form-returns-in_ok-e-in-Expr-clause-scope t c =
+    let m = c.args.context.now.model in
+    let bodies = bodies_in c.args.context.now in
+    let s = scope_at c.args.walk.now in
+    let view : form_view c.args.f.now ≡ raw.Do (expr_view c.in-Expr.e) =
+      ap form_view c.in-Expr.is in
+    c.in_ok-e-in-Expr.ensures.scope ∙ sym (ap (after_form m bodies s) view)
+
+pub form-returns-in_ok-e-in-Expr-clause-noted : goal.form-returns-in_ok-e-in-Expr-clause-noted
+form-returns-in_ok-e-in-Expr-clause-noted t c =
+    let m = c.args.context.now.model in
+    let bodies = bodies_in c.args.context.now in
+    let s = scope_at c.args.walk.now in
+    let items = items_in c.args.context.now in
+    let view : form_view c.args.f.now ≡ raw.Do (expr_view c.in-Expr.e) =
+      ap form_view c.in-Expr.is in
+    c.in_ok-e-in-Expr.ensures.noted
+    ∙ ap (λ (x : raw.Form). with_parts m items (found_at c.args.walk.now) (parts_of_form m bodies c.args.gives c.args.looped s c.args.spot x)) (sym view)
+
+pub form-returns-in_ok-names-in-Declare-clause-typed : goal.form-returns-in_ok-names-in-Declare-clause-typed
+form-returns-in_ok-names-in-Declare-clause-typed t c =
+    let m = c.args.context.now.model in
+    let bodies = bodies_in c.args.context.now in
+    let s = scope_at c.args.walk.now in
+    let view : form_view c.args.f.now ≡ raw.Declare (map declared_view c.as_slice.result.now) =
+      ap form_view c.in-Declare.is ∙ ap (λ (x : List RawDeclared). raw.Declare (map declared_view x)) (sym c.as_slice.ensures) in
+    ap typ.Declare c.in_ok-names-in-Declare.ensures.typed ∙ sym (ap (typed_form m bodies s) view)
+
+pub form-returns-in_ok-names-in-Declare-clause-scope : goal.form-returns-in_ok-names-in-Declare-clause-scope
+form-returns-in_ok-names-in-Declare-clause-scope t c =
+    let m = c.args.context.now.model in
+    let bodies = bodies_in c.args.context.now in
+    let s = scope_at c.args.walk.now in
+    let view : form_view c.args.f.now ≡ raw.Declare (map declared_view c.as_slice.result.now) =
+      ap form_view c.in-Declare.is ∙ ap (λ (x : List RawDeclared). raw.Declare (map declared_view x)) (sym c.as_slice.ensures) in
+    c.in_ok-names-in-Declare.ensures.scope ∙ sym (ap (after_form m bodies s) view)
+
+pub form-returns-in_ok-names-in-Declare-clause-noted : goal.form-returns-in_ok-names-in-Declare-clause-noted
+form-returns-in_ok-names-in-Declare-clause-noted t c =
+    let m = c.args.context.now.model in
+    let bodies = bodies_in c.args.context.now in
+    let s = scope_at c.args.walk.now in
+    let items = items_in c.args.context.now in
+    let view : form_view c.args.f.now ≡ raw.Declare (map declared_view c.as_slice.result.now) =
+      ap form_view c.in-Declare.is ∙ ap (λ (x : List RawDeclared). raw.Declare (map declared_view x)) (sym c.as_slice.ensures) in
+    c.in_ok-names-in-Declare.ensures.noted
+    ∙ ap (λ (x : raw.Form). with_parts m items (found_at c.args.walk.now) (parts_of_form m bodies c.args.gives c.args.looped s c.args.spot x)) (sym view)
+
+pub form-returns-in_ok-ss-in-Block-clause-typed : goal.form-returns-in_ok-ss-in-Block-clause-typed
+form-returns-in_ok-ss-in-Block-clause-typed t c =
+    let m = c.args.context.now.model in
+    let bodies = bodies_in c.args.context.now in
+    let s = scope_at c.args.walk.now in
+    let view : form_view c.args.f.now ≡ raw.Block (stms (map stmt_view c.as_slice-in-Block.result.now)) =
+      ap form_view c.in-Block.is ∙ view_of_block c.in-Block.ss ∙ ap (λ (x : List RawStmt). raw.Block (stms (map stmt_view x))) (sym c.as_slice-in-Block.ensures) in
+    c.block_of.ensures ∙ ap typ.Block c.in_ok-ss-in-Block.ensures.typed ∙ sym (ap (typed_form m bodies s) view)
+
+pub form-returns-in_ok-ss-in-Block-clause-scope : goal.form-returns-in_ok-ss-in-Block-clause-scope
+form-returns-in_ok-ss-in-Block-clause-scope t c =
+    let m = c.args.context.now.model in
+    let bodies = bodies_in c.args.context.now in
+    let s = scope_at c.args.walk.now in
+    let view : form_view c.args.f.now ≡ raw.Block (stms (map stmt_view c.as_slice-in-Block.result.now)) =
+      ap form_view c.in-Block.is ∙ view_of_block c.in-Block.ss ∙ ap (λ (x : List RawStmt). raw.Block (stms (map stmt_view x))) (sym c.as_slice-in-Block.ensures) in
+    c.in_ok-ss-in-Block.ensures.scope ∙ sym (ap (after_form m bodies s) view)
+
+pub form-returns-in_ok-ss-in-Block-clause-noted : goal.form-returns-in_ok-ss-in-Block-clause-noted
+form-returns-in_ok-ss-in-Block-clause-noted t c =
+    let m = c.args.context.now.model in
+    let bodies = bodies_in c.args.context.now in
+    let s = scope_at c.args.walk.now in
+    let items = items_in c.args.context.now in
+    let view : form_view c.args.f.now ≡ raw.Block (stms (map stmt_view c.as_slice-in-Block.result.now)) =
+      ap form_view c.in-Block.is ∙ view_of_block c.in-Block.ss ∙ ap (λ (x : List RawStmt). raw.Block (stms (map stmt_view x))) (sym c.as_slice-in-Block.ensures) in
+    c.in_ok-ss-in-Block.ensures.noted
+    ∙ ap (λ (x : raw.Form). with_parts m items (found_at c.args.walk.now) (parts_of_form m bodies c.args.gives c.args.looped s c.args.spot x)) (sym view)
+
+pub form-returns-in_ok-choice-in-If-clause-typed : goal.form-returns-in_ok-choice-in-If-clause-typed
+form-returns-in_ok-choice-in-If-clause-typed t c =
     let m = c.args.context.now.model in
     let bodies = bodies_in c.args.context.now in
     let s = scope_at c.args.walk.now in
@@ -145,15 +247,15 @@ form-returns-in-If-clause-typed t c =
     let view : form_view c.args.f.now ≡ raw.If e a b =
       ap form_view c.in-If.is ∙ raw_view_of_if c.in-If.test c.in-If.yes c.in-If.no ∙ ap (λ (x : RawStmt). raw.If e (stmt_view x) b) (sym c.deref.ensures) in
     let behind : Scope → Scope = λ y. closed y (after_statement m bodies (opened y) a) in
-    let f = c.in_ok-test.ensures.scope in
-    c.in_ok-choice.ensures
-    ∙ same_if _ _ _ _ _ _ c.in_ok-test.ensures.typed (c.in_ok-yes.ensures.typed ∙ ap (λ (y : Scope). typed_statement m bodies (opened y) a) f)
-        (c.in_ok-no.ensures.typed ∙ ap (λ (y : Scope). typed_else m bodies y b) (c.in_ok-yes.ensures.scope ∙ ap behind f))
+    let f = c.in_ok-test-in-If.ensures.scope in
+    c.in_ok-choice-in-If.ensures
+    ∙ same_if _ _ _ _ _ _ c.in_ok-test-in-If.ensures.typed (c.in_ok-yes-in-If.ensures.typed ∙ ap (λ (y : Scope). typed_statement m bodies (opened y) a) f)
+        (c.in_ok-no-in-If.ensures.typed ∙ ap (λ (y : Scope). typed_else m bodies y b) (c.in_ok-yes-in-If.ensures.scope ∙ ap behind f))
     ∙ sym (ap (typed_form m bodies s) view)
 
 
-pub form-returns-in-If-clause-scope : goal.form-returns-in-If-clause-scope
-form-returns-in-If-clause-scope t c =
+pub form-returns-in_ok-choice-in-If-clause-scope : goal.form-returns-in_ok-choice-in-If-clause-scope
+form-returns-in_ok-choice-in-If-clause-scope t c =
     let m = c.args.context.now.model in
     let bodies = bodies_in c.args.context.now in
     let s = scope_at c.args.walk.now in
@@ -163,12 +265,12 @@ form-returns-in-If-clause-scope t c =
     let view : form_view c.args.f.now ≡ raw.If e a b =
       ap form_view c.in-If.is ∙ raw_view_of_if c.in-If.test c.in-If.yes c.in-If.no ∙ ap (λ (x : RawStmt). raw.If e (stmt_view x) b) (sym c.deref.ensures) in
     let behind : Scope → Scope = λ y. closed y (after_statement m bodies (opened y) a) in
-    c.in_ok-no.ensures.scope ∙ ap (λ (y : Scope). after_else m bodies y b) (c.in_ok-yes.ensures.scope ∙ ap behind c.in_ok-test.ensures.scope)
+    c.in_ok-no-in-If.ensures.scope ∙ ap (λ (y : Scope). after_else m bodies y b) (c.in_ok-yes-in-If.ensures.scope ∙ ap behind c.in_ok-test-in-If.ensures.scope)
     ∙ sym (ap (after_form m bodies s) view)
 
 
-pub form-returns-in-If-clause-noted : goal.form-returns-in-If-clause-noted
-form-returns-in-If-clause-noted t c =
+pub form-returns-in_ok-choice-in-If-clause-noted : goal.form-returns-in_ok-choice-in-If-clause-noted
+form-returns-in_ok-choice-in-If-clause-noted t c =
     let m = c.args.context.now.model in
     let bodies = bodies_in c.args.context.now in
     let s = scope_at c.args.walk.now in
@@ -183,10 +285,149 @@ form-returns-in-If-clause-noted t c =
     let yes : Scope → List Part = λ y. parts_of_statement m bodies c.args.gives c.args.looped (opened y) a in
     let no : Scope → List Part = λ y. parts_of_else m bodies c.args.gives c.args.looped y b in
     found_then m items (found_at c.args.walk.now) _ _ (first ++ yes s) no (behind s) _
-      (found_then m items (found_at c.args.walk.now) _ _ first yes s _ c.in_ok-test.ensures.noted c.in_ok-test.ensures.scope c.in_ok-yes.ensures.noted)
-      (c.in_ok-yes.ensures.scope ∙ ap behind c.in_ok-test.ensures.scope) c.in_ok-no.ensures.noted
+      (found_then m items (found_at c.args.walk.now) _ _ first yes s _ c.in_ok-test-in-If.ensures.noted c.in_ok-test-in-If.ensures.scope c.in_ok-yes-in-If.ensures.noted)
+      (c.in_ok-yes-in-If.ensures.scope ∙ ap behind c.in_ok-test-in-If.ensures.scope) c.in_ok-no-in-If.ensures.noted
     ∙ ap (λ (x : raw.Form). with_parts m items (found_at c.args.walk.now) (parts_of_form m bodies c.args.gives c.args.looped s c.args.spot x)) (sym view)
 
+pub form-returns-in_ok-form-in-While-clause-typed : goal.form-returns-in_ok-form-in-While-clause-typed
+form-returns-in_ok-form-in-While-clause-typed t c =
+    let m = c.args.context.now.model in
+    let bodies = bodies_in c.args.context.now in
+    let s = scope_at c.args.walk.now in
+    let view : form_view c.args.f.now ≡ raw.While (expr_view c.in-While.test) (stmt_view c.deref-in-While.result.now) =
+      ap form_view c.in-While.is ∙ ap (λ (x : RawStmt). raw.While (expr_view c.in-While.test) (stmt_view x)) (sym c.deref-in-While.ensures) in
+    c.in_ok-form-in-While.ensures.typed ∙ sym (ap (typed_form m bodies s) view)
+
+pub form-returns-in_ok-form-in-While-clause-scope : goal.form-returns-in_ok-form-in-While-clause-scope
+form-returns-in_ok-form-in-While-clause-scope t c =
+    let m = c.args.context.now.model in
+    let bodies = bodies_in c.args.context.now in
+    let s = scope_at c.args.walk.now in
+    let view : form_view c.args.f.now ≡ raw.While (expr_view c.in-While.test) (stmt_view c.deref-in-While.result.now) =
+      ap form_view c.in-While.is ∙ ap (λ (x : RawStmt). raw.While (expr_view c.in-While.test) (stmt_view x)) (sym c.deref-in-While.ensures) in
+    c.in_ok-form-in-While.ensures.scope ∙ sym (ap (after_form m bodies s) view)
+
+pub form-returns-in_ok-form-in-While-clause-noted : goal.form-returns-in_ok-form-in-While-clause-noted
+form-returns-in_ok-form-in-While-clause-noted t c =
+    let m = c.args.context.now.model in
+    let bodies = bodies_in c.args.context.now in
+    let s = scope_at c.args.walk.now in
+    let items = items_in c.args.context.now in
+    let view : form_view c.args.f.now ≡ raw.While (expr_view c.in-While.test) (stmt_view c.deref-in-While.result.now) =
+      ap form_view c.in-While.is ∙ ap (λ (x : RawStmt). raw.While (expr_view c.in-While.test) (stmt_view x)) (sym c.deref-in-While.ensures) in
+    c.in_ok-form-in-While.ensures.noted
+    ∙ ap (λ (x : raw.Form). with_parts m items (found_at c.args.walk.now) (parts_of_form m bodies c.args.gives c.args.looped s c.args.spot x)) (sym view)
+
+pub form-returns-in_ok-form-in-Do-clause-typed : goal.form-returns-in_ok-form-in-Do-clause-typed
+form-returns-in_ok-form-in-Do-clause-typed t c =
+    let m = c.args.context.now.model in
+    let bodies = bodies_in c.args.context.now in
+    let s = scope_at c.args.walk.now in
+    let view : form_view c.args.f.now ≡ raw.DoWhile (stmt_view c.deref-in-Do.result.now) (expr_view c.in-Do.test) =
+      ap form_view c.in-Do.is ∙ ap (λ (x : RawStmt). raw.DoWhile (stmt_view x) (expr_view c.in-Do.test)) (sym c.deref-in-Do.ensures) in
+    c.in_ok-form-in-Do.ensures.typed ∙ sym (ap (typed_form m bodies s) view)
+
+pub form-returns-in_ok-form-in-Do-clause-scope : goal.form-returns-in_ok-form-in-Do-clause-scope
+form-returns-in_ok-form-in-Do-clause-scope t c =
+    let m = c.args.context.now.model in
+    let bodies = bodies_in c.args.context.now in
+    let s = scope_at c.args.walk.now in
+    let view : form_view c.args.f.now ≡ raw.DoWhile (stmt_view c.deref-in-Do.result.now) (expr_view c.in-Do.test) =
+      ap form_view c.in-Do.is ∙ ap (λ (x : RawStmt). raw.DoWhile (stmt_view x) (expr_view c.in-Do.test)) (sym c.deref-in-Do.ensures) in
+    c.in_ok-form-in-Do.ensures.scope ∙ sym (ap (after_form m bodies s) view)
+
+pub form-returns-in_ok-form-in-Do-clause-noted : goal.form-returns-in_ok-form-in-Do-clause-noted
+form-returns-in_ok-form-in-Do-clause-noted t c =
+    let m = c.args.context.now.model in
+    let bodies = bodies_in c.args.context.now in
+    let s = scope_at c.args.walk.now in
+    let items = items_in c.args.context.now in
+    let view : form_view c.args.f.now ≡ raw.DoWhile (stmt_view c.deref-in-Do.result.now) (expr_view c.in-Do.test) =
+      ap form_view c.in-Do.is ∙ ap (λ (x : RawStmt). raw.DoWhile (stmt_view x) (expr_view c.in-Do.test)) (sym c.deref-in-Do.ensures) in
+    c.in_ok-form-in-Do.ensures.noted
+    ∙ ap (λ (x : raw.Form). with_parts m items (found_at c.args.walk.now) (parts_of_form m bodies c.args.gives c.args.looped s c.args.spot x)) (sym view)
+
+pub form-returns-in_ok-form-in-For-clause-typed : goal.form-returns-in_ok-form-in-For-clause-typed
+form-returns-in_ok-form-in-For-clause-typed t c =
+    let m = c.args.context.now.model in
+    let bodies = bodies_in c.args.context.now in
+    let s = scope_at c.args.walk.now in
+    let view : form_view c.args.f.now ≡ raw.For (first_view c.in-For.first) (option_map expr_view c.in-For.test) (option_map expr_view c.in-For.step) (stmt_view c.deref-in-For.result.now) =
+      ap form_view c.in-For.is ∙ ap (λ (x : RawStmt). raw.For (first_view c.in-For.first) (option_map expr_view c.in-For.test) (option_map expr_view c.in-For.step) (stmt_view x)) (sym c.deref-in-For.ensures) in
+    c.in_ok-form-in-For.ensures.typed ∙ sym (ap (typed_form m bodies s) view)
+
+pub form-returns-in_ok-form-in-For-clause-scope : goal.form-returns-in_ok-form-in-For-clause-scope
+form-returns-in_ok-form-in-For-clause-scope t c =
+    let m = c.args.context.now.model in
+    let bodies = bodies_in c.args.context.now in
+    let s = scope_at c.args.walk.now in
+    let view : form_view c.args.f.now ≡ raw.For (first_view c.in-For.first) (option_map expr_view c.in-For.test) (option_map expr_view c.in-For.step) (stmt_view c.deref-in-For.result.now) =
+      ap form_view c.in-For.is ∙ ap (λ (x : RawStmt). raw.For (first_view c.in-For.first) (option_map expr_view c.in-For.test) (option_map expr_view c.in-For.step) (stmt_view x)) (sym c.deref-in-For.ensures) in
+    c.in_ok-form-in-For.ensures.scope ∙ sym (ap (after_form m bodies s) view)
+
+pub form-returns-in_ok-form-in-For-clause-noted : goal.form-returns-in_ok-form-in-For-clause-noted
+form-returns-in_ok-form-in-For-clause-noted t c =
+    let m = c.args.context.now.model in
+    let bodies = bodies_in c.args.context.now in
+    let s = scope_at c.args.walk.now in
+    let items = items_in c.args.context.now in
+    let view : form_view c.args.f.now ≡ raw.For (first_view c.in-For.first) (option_map expr_view c.in-For.test) (option_map expr_view c.in-For.step) (stmt_view c.deref-in-For.result.now) =
+      ap form_view c.in-For.is ∙ ap (λ (x : RawStmt). raw.For (first_view c.in-For.first) (option_map expr_view c.in-For.test) (option_map expr_view c.in-For.step) (stmt_view x)) (sym c.deref-in-For.ensures) in
+    c.in_ok-form-in-For.ensures.noted
+    ∙ ap (λ (x : raw.Form). with_parts m items (found_at c.args.walk.now) (parts_of_form m bodies c.args.gives c.args.looped s c.args.spot x)) (sym view)
+
+pub form-returns-in-Break-clause-noted : goal.form-returns-in-Break-clause-noted
+form-returns-in-Break-clause-noted t c =
+    let m = c.args.context.now.model in
+    let bodies = bodies_in c.args.context.now in
+    let s = scope_at c.args.walk.now in
+    let items = items_in c.args.context.now in
+    let view : form_view c.args.f.now ≡ raw.Break =
+      ap form_view c.in-Break.is in
+    quiet m items (found_at c.args.walk.now) (found_at c.leave.new.walk) (Leaving c.args.looped c.args.spot ∷ []) c.leave.ensures.noted (ap kept_views c.leave.ensures.kept) refl
+    ∙ ap (λ (x : raw.Form). with_parts m items (found_at c.args.walk.now) (parts_of_form m bodies c.args.gives c.args.looped s c.args.spot x)) (sym view)
+
+pub form-returns-in-Continue-clause-noted : goal.form-returns-in-Continue-clause-noted
+form-returns-in-Continue-clause-noted t c =
+    let m = c.args.context.now.model in
+    let bodies = bodies_in c.args.context.now in
+    let s = scope_at c.args.walk.now in
+    let items = items_in c.args.context.now in
+    let view : form_view c.args.f.now ≡ raw.Continue =
+      ap form_view c.in-Continue.is in
+    quiet m items (found_at c.args.walk.now) (found_at c.leave-in-Continue.new.walk) (Leaving c.args.looped c.args.spot ∷ []) c.leave-in-Continue.ensures.noted (ap kept_views c.leave-in-Continue.ensures.kept) refl
+    ∙ ap (λ (x : raw.Form). with_parts m items (found_at c.args.walk.now) (parts_of_form m bodies c.args.gives c.args.looped s c.args.spot x)) (sym view)
+
+pub form-returns-in_ok-form-in-Return-clause-typed : goal.form-returns-in_ok-form-in-Return-clause-typed
+form-returns-in_ok-form-in-Return-clause-typed t c =
+    let m = c.args.context.now.model in
+    let bodies = bodies_in c.args.context.now in
+    let s = scope_at c.args.walk.now in
+    let view : form_view c.args.f.now ≡ raw.Return (option_map expr_view c.in-Return.e) =
+      ap form_view c.in-Return.is in
+    c.in_ok-form-in-Return.ensures.typed ∙ sym (ap (typed_form m bodies s) view)
+
+pub form-returns-in_ok-form-in-Return-clause-scope : goal.form-returns-in_ok-form-in-Return-clause-scope
+form-returns-in_ok-form-in-Return-clause-scope t c =
+    let m = c.args.context.now.model in
+    let bodies = bodies_in c.args.context.now in
+    let s = scope_at c.args.walk.now in
+    let view : form_view c.args.f.now ≡ raw.Return (option_map expr_view c.in-Return.e) =
+      ap form_view c.in-Return.is in
+    c.in_ok-form-in-Return.ensures.scope ∙ sym (ap (after_form m bodies s) view)
+
+pub form-returns-in_ok-form-in-Return-clause-noted : goal.form-returns-in_ok-form-in-Return-clause-noted
+form-returns-in_ok-form-in-Return-clause-noted t c =
+    let m = c.args.context.now.model in
+    let bodies = bodies_in c.args.context.now in
+    let s = scope_at c.args.walk.now in
+    let items = items_in c.args.context.now in
+    let view : form_view c.args.f.now ≡ raw.Return (option_map expr_view c.in-Return.e) =
+      ap form_view c.in-Return.is in
+    c.in_ok-form-in-Return.ensures.noted
+    ∙ ap (λ (x : raw.Form). with_parts m items (found_at c.args.walk.now) (parts_of_form m bodies c.args.gives c.args.looped s c.args.spot x)) (sym view)
+
+-- ---- loops
 
 pub while_loop-returns-clause-typed : goal.while_loop-returns-clause-typed
 while_loop-returns-clause-typed t c =
@@ -294,13 +535,12 @@ for_loop-returns-clause-noted t c =
       (found_then m items opened_at (found_at c.full_if-2.new.walk) (found_at c.arm.new.walk) (p1 o ++ p2 (behind o) ++ p3 (behind o)) p4 (behind o) n3 three u c.in_ok-body.ensures.noted)
       c.close.ensures.found
 
--- ---- forms of which nothing is left to go through
+-- ---- no second arm
 
-pub form-returns-in-Empty-clause-noted : goal.form-returns-in-Empty-clause-noted
-form-returns-in-Empty-clause-noted t c = ?
-
-pub form-returns-in-Break-clause-noted : goal.form-returns-in-Break-clause-noted
-form-returns-in-Break-clause-noted t c = ?
-
-pub form-returns-in-Continue-clause-noted : goal.form-returns-in-Continue-clause-noted
-form-returns-in-Continue-clause-noted t c = ?
+pub other_arm-returns-in-None-clause-noted : goal.other_arm-returns-in-None-clause-noted
+other_arm-returns-in-None-clause-noted t c =
+    let m = c.args.context.now.model in
+    let items = items_in c.args.context.now in
+    let f = found_at c.args.walk.now in
+    with_none m items f
+    ∙ ap (λ (x : Option (Box RawStmt Global)). with_parts m items f (parts_of_else m (bodies_in c.args.context.now) c.args.gives c.args.looped (scope_at c.args.walk.now) (else_if x))) (sym c.in-None.is)
