@@ -6,8 +6,6 @@ mod literals;
 mod nodes;
 mod operators;
 mod own;
-#[cfg(test)]
-mod tests;
 mod trees;
 mod words;
 

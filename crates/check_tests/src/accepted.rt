@@ -4,6 +4,12 @@ use c_core::DataModel;
 use std::test::Fail;
 
 const ACCEPTED: &str = "
+int a[1 ? 2 : 1 / 0]; int main() { } => program
+int a[0 && 1 / 0 || 1]; int main() { } => program
+int a[1 << 30 > 0]; int main() { } => program
+int a[(char)200 < 0]; int main() { } => program
+int a[4294967295u + 1u == 0]; int main() { } => program
+int a[0x80000000 > 0]; int main() { } => program
 int main() { for (int i = 0; i < 3; i++) i; } => program
 int main() { int x; x = 1; } => program
 void f(); int main() { f(); } void f() { } => program

@@ -4,6 +4,10 @@ use c_core::DataModel;
 use std::test::Fail;
 
 const SIZES: &str = "
+int a[1 << 31]; int main() { } => size 1:5
+int a[1 / 0]; int main() { } => size 1:5
+int a[0 ? 2 : 1 / 0]; int main() { } => size 1:5
+int a[2147483647 + 1]; int main() { } => size 1:5
 int main() { int a[n]; } => size 1:18
 int main() { int a[0]; } => size 1:18
 int main() { int a[257]; } => size 1:18
