@@ -1,4 +1,4 @@
-use Rattle.std.proofs.Common.{rules, ◌≡◌, ◌++◌, ◌+◌, ◌∷◌, [], ℕ, Bool, true, List, Option, map, drop, refl, sym, ap, ◌∙◌}
+use Rattle.std.proofs.Common.{rules, ◌≡◌, ◌++◌, ◌+◌, ◌∷◌, [], true, List, Option, map, drop, refl, sym, ap, ◌∙◌}
 use Rattle.std.specs.declared.boxed.Box.{Box}
 use Rattle.std.specs.declared.alloc.Global.{Global}
 use Rattle.std.proofs.lemmas.List.{drop_all}
@@ -10,7 +10,6 @@ use Rattle.c_parser.specs.Tree.{stms}
 use Rattle.c_parser.specs.SourceView.{declared_view, first_view, form_view, stmt_view, else_if}
 use Rattle.c_parser.specs.View.{expr_view}
 use Rattle.c_parser.specs.declared.tree.RawDeclared.{RawDeclared}
-use Rattle.c_parser.specs.declared.tree.RawForm.{RawForm}
 use Rattle.c_parser.specs.declared.tree.RawStmt.{RawStmt}
 use Rattle.c_parser.proofs.SourceViews.{view_of_block}
 use Rattle.c_rules.specs.Checked.{typed_if, typed_first, typed_statement, typed_form, typed_else, typed_block}
