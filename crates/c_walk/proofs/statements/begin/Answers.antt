@@ -1,4 +1,4 @@
-use Rattle.std.proofs.Common.{◌≡◌, ap, sym, ◌∙◌}
+use Rattle.std.proofs.Common.{ap, sym, ◌∙◌}
 use Rattle.c_parser.specs.SourceView.{first_view}
 use Rattle.c_parser.specs.declared.tree.RawFirst.{RawFirst}
 use Rattle.c_rules.specs.Parts.{parts_of_first}
