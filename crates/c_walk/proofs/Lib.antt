@@ -1,6 +1,7 @@
 mod ListLaws
 mod NameLaws
 mod NotedLaws
+mod FailingLaws
 mod FoundLaws
 mod KeptLaws
 mod ScopeLaws

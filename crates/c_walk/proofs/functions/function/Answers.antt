@@ -1,4 +1,4 @@
-use Rattle.std.proofs.Common.{◌≡◌, ◌++◌, ◌∷◌, [], ℕ, Bool, false, List, length, map, Option, refl, ap, sym, ◌∙◌}
+use Rattle.std.proofs.Common.{rules, Err, ◌≡◌, ◌++◌, ◌∷◌, [], ℕ, Bool, false, List, length, map, Option, refl, ap, sym, ◌∙◌}
 use Rattle.c_core.specs.Tree as typ
 use Rattle.c_core.specs.declared.number.IntType.{IntType}
 use Rattle.c_parser.specs.Tree as raw
@@ -7,10 +7,11 @@ use Rattle.c_rules.specs.declared.fault.Refusal.{Refusal}
 use Rattle.c_rules.specs.Checked.{typed_block, numbers_from}
 use Rattle.c_rules.specs.Kept.{kept_of_parts}
 use Rattle.c_rules.specs.Noting.{noted_part, noted_parts}
-use Rattle.c_rules.specs.Parts.{Part, Naming, parts_of_block, parts_of_labels, parts_of_parameters, labels_of}
+use Rattle.c_rules.specs.Parts.{Part, Naming, parts_of_block, parts_of_item, parts_of_labels, parts_of_parameters, labels_of}
 use Rattle.c_rules.specs.Scopes.{Scope, seen, opened, closed, with_entry, after_block, after_parameters, inside, statements_of, entry_of_function}
 use Rattle.c_walk.specs.Items.{kept_views}
 use Rattle.c_walk.specs.Walks.{Found, scope_at, items_in, bodies_in}
+use Rattle.c_walk.proofs.FailingLaws.{fails}
 use Rattle.c_walk.proofs.NotedLaws.{noted_then, noted_within}
 use Rattle.c_walk.proofs.ParameterLaws.{kept_by_parameters}
 use Rattle.c_walk.proofs.ScopeLaws.{kept_by_block, closes, stands_outside}
@@ -98,6 +99,31 @@ returns-clause-noted c =
         (c.in_ok-note_labels.ensures.noted ∙ ap (λ (y : Found). noted_parts m items y.best pl) c.close.ensures.found))
       refl
     ∙ ap (λ (b : Option Refusal). noted_parts m items b (all within)) c.in_ok-declare.ensures.noted
+
+-- ---- no room
+
+pub returns-in_err-declare-clause-noted : goal.returns-in_err-declare-clause-noted
+returns-in_err-declare-clause-noted c =
+    let f = raw.Function c.args.spot c.args.name.now c.args.gives (map param_view c.args.xs.now) (stmt_view c.args.body.now) in
+    let e : c.from_residual.result ≡ Err c.in_err-declare.field-0.0 = search rules in
+    fails (c.declare.new.walk.best ≡ noted_parts c.args.context.now.model (items_in c.args.context.now) c.args.walk.now.best (parts_of_item c.args.context.now.model (bodies_in c.args.context.now) (scope_at c.args.walk.now) f))
+      c.from_residual.result _ e
+
+pub returns-in_err-params-clause-noted : goal.returns-in_err-params-clause-noted
+returns-in_err-params-clause-noted c =
+    let f = raw.Function c.args.spot c.args.name.now c.args.gives (map param_view c.args.xs.now) (stmt_view c.args.body.now) in
+    let e : c.from_residual-in_err-params.result ≡ Err c.in_err-params.field-0.0 = search rules in
+    fails (c.parameters.new.walk.best ≡ noted_parts c.args.context.now.model (items_in c.args.context.now) c.args.walk.now.best (parts_of_item c.args.context.now.model (bodies_in c.args.context.now) (scope_at c.args.walk.now) f))
+      c.from_residual-in_err-params.result _ e
+
+pub returns-in_err-inner-clause-noted : goal.returns-in_err-inner-clause-noted
+returns-in_err-inner-clause-noted c =
+    let f = raw.Function c.args.spot c.args.name.now c.args.gives (map param_view c.args.xs.now) (stmt_view c.args.body.now) in
+    let e : c.from_residual-in_err-inner.result ≡ Err c.in_err-inner.field-0.0 = search rules in
+    fails (c.body_of.new.walk.best ≡ noted_parts c.args.context.now.model (items_in c.args.context.now) c.args.walk.now.best (parts_of_item c.args.context.now.model (bodies_in c.args.context.now) (scope_at c.args.walk.now) f))
+      c.from_residual-in_err-inner.result _ e
+
+-- ---- what is kept
 
 pub returns-clause-kept : goal.returns-clause-kept
 returns-clause-kept c =

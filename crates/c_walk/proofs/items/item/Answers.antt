@@ -14,8 +14,8 @@ use Rattle.c_walk.proofs.items.item.Goals as goal
 
 -- ---- a function
 
-pub returns-in-Function-clause-starts : goal.returns-in-Function-clause-starts
-returns-in-Function-clause-starts c =
+pub returns-in_ok-add_function-in-Function-clause-starts : goal.returns-in_ok-add_function-in-Function-clause-starts
+returns-in_ok-add_function-in-Function-clause-starts c =
     let m = c.args.context.now.model in
     let bodies = bodies_in c.args.context.now in
     let s = scope_at c.args.walk.now in
@@ -23,61 +23,61 @@ returns-in-Function-clause-starts c =
       ap (λ (ys : List RawParam). raw.Function c.in-Function.spot c.in-Function.name c.in-Function.result (map param_view ys) (stmt_view c.in-Function.body)) c.as_slice-xs.ensures ∙ sym (ap item_view c.in-Function.is) in
     sym (append-nil (c.args.starts.now)) ∙ ap (λ (x : raw.Item). c.args.starts.now ++ starts_by m bodies s x) q
 
-pub returns-in-Function-clause-functions : goal.returns-in-Function-clause-functions
-returns-in-Function-clause-functions c =
+pub returns-in_ok-add_function-in-Function-clause-functions : goal.returns-in_ok-add_function-in-Function-clause-functions
+returns-in_ok-add_function-in-Function-clause-functions c =
     let m = c.args.context.now.model in
     let bodies = bodies_in c.args.context.now in
     let s = scope_at c.args.walk.now in
     let q : raw.Function c.in-Function.spot c.in-Function.name c.in-Function.result (map param_view c.as_slice-xs.result.now) (stmt_view c.in-Function.body) ≡ item_view c.args.item.now =
       ap (λ (ys : List RawParam). raw.Function c.in-Function.spot c.in-Function.name c.in-Function.result (map param_view ys) (stmt_view c.in-Function.body)) c.as_slice-xs.ensures ∙ sym (ap item_view c.in-Function.is) in
-    c.in_ok-add_function.ensures.functions ∙ ap (λ (x : raw.Item). functions_view c.args.functions.now ++ functions_by m bodies s x) q
+    c.in_ok-add_function-in-Function.ensures.functions ∙ ap (λ (x : raw.Item). functions_view c.args.functions.now ++ functions_by m bodies s x) q
 
-pub returns-in-Function-clause-names : goal.returns-in-Function-clause-names
-returns-in-Function-clause-names c =
+pub returns-in_ok-add_function-in-Function-clause-names : goal.returns-in_ok-add_function-in-Function-clause-names
+returns-in_ok-add_function-in-Function-clause-names c =
     let q : raw.Function c.in-Function.spot c.in-Function.name c.in-Function.result (map param_view c.as_slice-xs.result.now) (stmt_view c.in-Function.body) ≡ item_view c.args.item.now =
       ap (λ (ys : List RawParam). raw.Function c.in-Function.spot c.in-Function.name c.in-Function.result (map param_view ys) (stmt_view c.in-Function.body)) c.as_slice-xs.ensures ∙ sym (ap item_view c.in-Function.is) in
-    c.in_ok-add_function.ensures.names ∙ ap (λ (x : raw.Item). names_of c.args.functions.now ++ bodies_of (x ∷ [])) q
+    c.in_ok-add_function-in-Function.ensures.names ∙ ap (λ (x : raw.Item). names_of c.args.functions.now ++ bodies_of (x ∷ [])) q
 
-pub returns-in-Function-clause-scope : goal.returns-in-Function-clause-scope
-returns-in-Function-clause-scope c =
+pub returns-in_ok-add_function-in-Function-clause-scope : goal.returns-in_ok-add_function-in-Function-clause-scope
+returns-in_ok-add_function-in-Function-clause-scope c =
     let m = c.args.context.now.model in
     let bodies = bodies_in c.args.context.now in
     let s = scope_at c.args.walk.now in
     let q : raw.Function c.in-Function.spot c.in-Function.name c.in-Function.result (map param_view c.as_slice-xs.result.now) (stmt_view c.in-Function.body) ≡ item_view c.args.item.now =
       ap (λ (ys : List RawParam). raw.Function c.in-Function.spot c.in-Function.name c.in-Function.result (map param_view ys) (stmt_view c.in-Function.body)) c.as_slice-xs.ensures ∙ sym (ap item_view c.in-Function.is) in
-    c.in_ok-add_function.ensures.scope ∙ ap (λ (x : raw.Item). after_item m bodies s x) q
+    c.in_ok-add_function-in-Function.ensures.scope ∙ ap (λ (x : raw.Item). after_item m bodies s x) q
 
-pub returns-in-Function-clause-noted : goal.returns-in-Function-clause-noted
-returns-in-Function-clause-noted c =
+pub returns-in_ok-add_function-in-Function-clause-noted : goal.returns-in_ok-add_function-in-Function-clause-noted
+returns-in_ok-add_function-in-Function-clause-noted c =
     let m = c.args.context.now.model in
     let bodies = bodies_in c.args.context.now in
     let s = scope_at c.args.walk.now in
     let q : raw.Function c.in-Function.spot c.in-Function.name c.in-Function.result (map param_view c.as_slice-xs.result.now) (stmt_view c.in-Function.body) ≡ item_view c.args.item.now =
       ap (λ (ys : List RawParam). raw.Function c.in-Function.spot c.in-Function.name c.in-Function.result (map param_view ys) (stmt_view c.in-Function.body)) c.as_slice-xs.ensures ∙ sym (ap item_view c.in-Function.is) in
-    c.in_ok-add_function.ensures.noted ∙ ap (λ (x : raw.Item). noted_parts m (items_in c.args.context.now) c.args.walk.now.best (parts_of_item m bodies s x)) q
+    c.in_ok-add_function-in-Function.ensures.noted ∙ ap (λ (x : raw.Item). noted_parts m (items_in c.args.context.now) c.args.walk.now.best (parts_of_item m bodies s x)) q
 
-pub returns-in-Function-clause-kept : goal.returns-in-Function-clause-kept
-returns-in-Function-clause-kept c =
+pub returns-in_ok-add_function-in-Function-clause-kept : goal.returns-in_ok-add_function-in-Function-clause-kept
+returns-in_ok-add_function-in-Function-clause-kept c =
     let m = c.args.context.now.model in
     let bodies = bodies_in c.args.context.now in
     let s = scope_at c.args.walk.now in
     let q : raw.Function c.in-Function.spot c.in-Function.name c.in-Function.result (map param_view c.as_slice-xs.result.now) (stmt_view c.in-Function.body) ≡ item_view c.args.item.now =
       ap (λ (ys : List RawParam). raw.Function c.in-Function.spot c.in-Function.name c.in-Function.result (map param_view ys) (stmt_view c.in-Function.body)) c.as_slice-xs.ensures ∙ sym (ap item_view c.in-Function.is) in
-    c.in_ok-add_function.ensures.kept ∙ ap (λ (x : raw.Item). kept_lists c.args.kept.now ++ kept_by m bodies s x) q
+    c.in_ok-add_function-in-Function.ensures.kept ∙ ap (λ (x : raw.Item). kept_lists c.args.kept.now ++ kept_by m bodies s x) q
 
-pub returns-in-Function-clause-outside : goal.returns-in-Function-clause-outside
-returns-in-Function-clause-outside c =
+pub returns-in_ok-add_function-in-Function-clause-outside : goal.returns-in_ok-add_function-in-Function-clause-outside
+returns-in_ok-add_function-in-Function-clause-outside c =
     let m = c.args.context.now.model in
     let bodies = bodies_in c.args.context.now in
     let s = scope_at c.args.walk.now in
     let q : raw.Function c.in-Function.spot c.in-Function.name c.in-Function.result (map param_view c.as_slice-xs.result.now) (stmt_view c.in-Function.body) ≡ item_view c.args.item.now =
       ap (λ (ys : List RawParam). raw.Function c.in-Function.spot c.in-Function.name c.in-Function.result (map param_view ys) (stmt_view c.in-Function.body)) c.as_slice-xs.ensures ∙ sym (ap item_view c.in-Function.is) in
-    c.in_ok-add_function.ensures.outside ∙ sym (append-nil (kept_views c.args.walk.now.kept)) ∙ ap (λ (x : raw.Item). kept_views c.args.walk.now.kept ++ outside_by m bodies s x) q
+    c.in_ok-add_function-in-Function.ensures.outside ∙ sym (append-nil (kept_views c.args.walk.now.kept)) ∙ ap (λ (x : raw.Item). kept_views c.args.walk.now.kept ++ outside_by m bodies s x) q
 
 -- ---- a prototype
 
-pub returns-in-Prototype-clause-starts : goal.returns-in-Prototype-clause-starts
-returns-in-Prototype-clause-starts c =
+pub returns-in_ok-prototype-in-Prototype-clause-starts : goal.returns-in_ok-prototype-in-Prototype-clause-starts
+returns-in_ok-prototype-in-Prototype-clause-starts c =
     let m = c.args.context.now.model in
     let bodies = bodies_in c.args.context.now in
     let s = scope_at c.args.walk.now in
@@ -85,8 +85,8 @@ returns-in-Prototype-clause-starts c =
       sym (ap item_view c.in-Prototype.is) in
     sym (append-nil (c.args.starts.now)) ∙ ap (λ (x : raw.Item). c.args.starts.now ++ starts_by m bodies s x) q
 
-pub returns-in-Prototype-clause-functions : goal.returns-in-Prototype-clause-functions
-returns-in-Prototype-clause-functions c =
+pub returns-in_ok-prototype-in-Prototype-clause-functions : goal.returns-in_ok-prototype-in-Prototype-clause-functions
+returns-in_ok-prototype-in-Prototype-clause-functions c =
     let m = c.args.context.now.model in
     let bodies = bodies_in c.args.context.now in
     let s = scope_at c.args.walk.now in
@@ -94,32 +94,32 @@ returns-in-Prototype-clause-functions c =
       sym (ap item_view c.in-Prototype.is) in
     sym (append-nil (functions_view c.args.functions.now)) ∙ ap (λ (x : raw.Item). functions_view c.args.functions.now ++ functions_by m bodies s x) q
 
-pub returns-in-Prototype-clause-names : goal.returns-in-Prototype-clause-names
-returns-in-Prototype-clause-names c =
+pub returns-in_ok-prototype-in-Prototype-clause-names : goal.returns-in_ok-prototype-in-Prototype-clause-names
+returns-in_ok-prototype-in-Prototype-clause-names c =
     let q : raw.Prototype c.in-Prototype.spot c.in-Prototype.name c.in-Prototype.result c.in-Prototype.params ≡ item_view c.args.item.now =
       sym (ap item_view c.in-Prototype.is) in
     sym (append-nil (names_of c.args.functions.now)) ∙ ap (λ (x : raw.Item). names_of c.args.functions.now ++ bodies_of (x ∷ [])) q
 
-pub returns-in-Prototype-clause-scope : goal.returns-in-Prototype-clause-scope
-returns-in-Prototype-clause-scope c =
+pub returns-in_ok-prototype-in-Prototype-clause-scope : goal.returns-in_ok-prototype-in-Prototype-clause-scope
+returns-in_ok-prototype-in-Prototype-clause-scope c =
     let m = c.args.context.now.model in
     let bodies = bodies_in c.args.context.now in
     let s = scope_at c.args.walk.now in
     let q : raw.Prototype c.in-Prototype.spot c.in-Prototype.name c.in-Prototype.result c.in-Prototype.params ≡ item_view c.args.item.now =
       sym (ap item_view c.in-Prototype.is) in
-    c.in_ok-prototype.ensures.scope ∙ ap (λ (x : raw.Item). after_item m bodies s x) q
+    c.in_ok-prototype-in-Prototype.ensures.scope ∙ ap (λ (x : raw.Item). after_item m bodies s x) q
 
-pub returns-in-Prototype-clause-noted : goal.returns-in-Prototype-clause-noted
-returns-in-Prototype-clause-noted c =
+pub returns-in_ok-prototype-in-Prototype-clause-noted : goal.returns-in_ok-prototype-in-Prototype-clause-noted
+returns-in_ok-prototype-in-Prototype-clause-noted c =
     let m = c.args.context.now.model in
     let bodies = bodies_in c.args.context.now in
     let s = scope_at c.args.walk.now in
     let q : raw.Prototype c.in-Prototype.spot c.in-Prototype.name c.in-Prototype.result c.in-Prototype.params ≡ item_view c.args.item.now =
       sym (ap item_view c.in-Prototype.is) in
-    c.in_ok-prototype.ensures.noted ∙ ap (λ (x : raw.Item). noted_parts m (items_in c.args.context.now) c.args.walk.now.best (parts_of_item m bodies s x)) q
+    c.in_ok-prototype-in-Prototype.ensures.noted ∙ ap (λ (x : raw.Item). noted_parts m (items_in c.args.context.now) c.args.walk.now.best (parts_of_item m bodies s x)) q
 
-pub returns-in-Prototype-clause-kept : goal.returns-in-Prototype-clause-kept
-returns-in-Prototype-clause-kept c =
+pub returns-in_ok-prototype-in-Prototype-clause-kept : goal.returns-in_ok-prototype-in-Prototype-clause-kept
+returns-in_ok-prototype-in-Prototype-clause-kept c =
     let m = c.args.context.now.model in
     let bodies = bodies_in c.args.context.now in
     let s = scope_at c.args.walk.now in
@@ -127,28 +127,28 @@ returns-in-Prototype-clause-kept c =
       sym (ap item_view c.in-Prototype.is) in
     sym (append-nil (kept_lists c.args.kept.now)) ∙ ap (λ (x : raw.Item). kept_lists c.args.kept.now ++ kept_by m bodies s x) q
 
-pub returns-in-Prototype-clause-outside : goal.returns-in-Prototype-clause-outside
-returns-in-Prototype-clause-outside c =
+pub returns-in_ok-prototype-in-Prototype-clause-outside : goal.returns-in_ok-prototype-in-Prototype-clause-outside
+returns-in_ok-prototype-in-Prototype-clause-outside c =
     let m = c.args.context.now.model in
     let bodies = bodies_in c.args.context.now in
     let s = scope_at c.args.walk.now in
     let q : raw.Prototype c.in-Prototype.spot c.in-Prototype.name c.in-Prototype.result c.in-Prototype.params ≡ item_view c.args.item.now =
       sym (ap item_view c.in-Prototype.is) in
-    ap kept_views c.in_ok-prototype.ensures.kept ∙ sym (append-nil (kept_views c.args.walk.now.kept)) ∙ ap (λ (x : raw.Item). kept_views c.args.walk.now.kept ++ outside_by m bodies s x) q
+    ap kept_views c.in_ok-prototype-in-Prototype.ensures.kept ∙ sym (append-nil (kept_views c.args.walk.now.kept)) ∙ ap (λ (x : raw.Item). kept_views c.args.walk.now.kept ++ outside_by m bodies s x) q
 
 -- ---- objects
 
-pub returns-in-Global-clause-starts : goal.returns-in-Global-clause-starts
-returns-in-Global-clause-starts c =
+pub returns-in_ok-globals-in-Global-clause-starts : goal.returns-in_ok-globals-in-Global-clause-starts
+returns-in_ok-globals-in-Global-clause-starts c =
     let m = c.args.context.now.model in
     let bodies = bodies_in c.args.context.now in
     let s = scope_at c.args.walk.now in
     let q : raw.Global (map declared_view c.as_slice-names.result.now) ≡ item_view c.args.item.now =
       ap (λ (ys : List RawDeclared). raw.Global (map declared_view ys)) c.as_slice-names.ensures ∙ sym (ap item_view c.in-Global.is) in
-    c.in_ok-globals.ensures.starts ∙ ap (λ (x : raw.Item). c.args.starts.now ++ starts_by m bodies s x) q
+    c.in_ok-globals-in-Global.ensures.starts ∙ ap (λ (x : raw.Item). c.args.starts.now ++ starts_by m bodies s x) q
 
-pub returns-in-Global-clause-functions : goal.returns-in-Global-clause-functions
-returns-in-Global-clause-functions c =
+pub returns-in_ok-globals-in-Global-clause-functions : goal.returns-in_ok-globals-in-Global-clause-functions
+returns-in_ok-globals-in-Global-clause-functions c =
     let m = c.args.context.now.model in
     let bodies = bodies_in c.args.context.now in
     let s = scope_at c.args.walk.now in
@@ -156,32 +156,32 @@ returns-in-Global-clause-functions c =
       ap (λ (ys : List RawDeclared). raw.Global (map declared_view ys)) c.as_slice-names.ensures ∙ sym (ap item_view c.in-Global.is) in
     sym (append-nil (functions_view c.args.functions.now)) ∙ ap (λ (x : raw.Item). functions_view c.args.functions.now ++ functions_by m bodies s x) q
 
-pub returns-in-Global-clause-names : goal.returns-in-Global-clause-names
-returns-in-Global-clause-names c =
+pub returns-in_ok-globals-in-Global-clause-names : goal.returns-in_ok-globals-in-Global-clause-names
+returns-in_ok-globals-in-Global-clause-names c =
     let q : raw.Global (map declared_view c.as_slice-names.result.now) ≡ item_view c.args.item.now =
       ap (λ (ys : List RawDeclared). raw.Global (map declared_view ys)) c.as_slice-names.ensures ∙ sym (ap item_view c.in-Global.is) in
     sym (append-nil (names_of c.args.functions.now)) ∙ ap (λ (x : raw.Item). names_of c.args.functions.now ++ bodies_of (x ∷ [])) q
 
-pub returns-in-Global-clause-scope : goal.returns-in-Global-clause-scope
-returns-in-Global-clause-scope c =
+pub returns-in_ok-globals-in-Global-clause-scope : goal.returns-in_ok-globals-in-Global-clause-scope
+returns-in_ok-globals-in-Global-clause-scope c =
     let m = c.args.context.now.model in
     let bodies = bodies_in c.args.context.now in
     let s = scope_at c.args.walk.now in
     let q : raw.Global (map declared_view c.as_slice-names.result.now) ≡ item_view c.args.item.now =
       ap (λ (ys : List RawDeclared). raw.Global (map declared_view ys)) c.as_slice-names.ensures ∙ sym (ap item_view c.in-Global.is) in
-    c.in_ok-globals.ensures.scope ∙ ap (λ (x : raw.Item). after_item m bodies s x) q
+    c.in_ok-globals-in-Global.ensures.scope ∙ ap (λ (x : raw.Item). after_item m bodies s x) q
 
-pub returns-in-Global-clause-noted : goal.returns-in-Global-clause-noted
-returns-in-Global-clause-noted c =
+pub returns-in_ok-globals-in-Global-clause-noted : goal.returns-in_ok-globals-in-Global-clause-noted
+returns-in_ok-globals-in-Global-clause-noted c =
     let m = c.args.context.now.model in
     let bodies = bodies_in c.args.context.now in
     let s = scope_at c.args.walk.now in
     let q : raw.Global (map declared_view c.as_slice-names.result.now) ≡ item_view c.args.item.now =
       ap (λ (ys : List RawDeclared). raw.Global (map declared_view ys)) c.as_slice-names.ensures ∙ sym (ap item_view c.in-Global.is) in
-    ap (λ (y : Found). y.best) c.in_ok-globals.ensures.noted ∙ ap (λ (x : raw.Item). noted_parts m (items_in c.args.context.now) c.args.walk.now.best (parts_of_item m bodies s x)) q
+    ap (λ (y : Found). y.best) c.in_ok-globals-in-Global.ensures.noted ∙ ap (λ (x : raw.Item). noted_parts m (items_in c.args.context.now) c.args.walk.now.best (parts_of_item m bodies s x)) q
 
-pub returns-in-Global-clause-kept : goal.returns-in-Global-clause-kept
-returns-in-Global-clause-kept c =
+pub returns-in_ok-globals-in-Global-clause-kept : goal.returns-in_ok-globals-in-Global-clause-kept
+returns-in_ok-globals-in-Global-clause-kept c =
     let m = c.args.context.now.model in
     let bodies = bodies_in c.args.context.now in
     let s = scope_at c.args.walk.now in
@@ -189,19 +189,19 @@ returns-in-Global-clause-kept c =
       ap (λ (ys : List RawDeclared). raw.Global (map declared_view ys)) c.as_slice-names.ensures ∙ sym (ap item_view c.in-Global.is) in
     sym (append-nil (kept_lists c.args.kept.now)) ∙ ap (λ (x : raw.Item). kept_lists c.args.kept.now ++ kept_by m bodies s x) q
 
-pub returns-in-Global-clause-outside : goal.returns-in-Global-clause-outside
-returns-in-Global-clause-outside c =
+pub returns-in_ok-globals-in-Global-clause-outside : goal.returns-in_ok-globals-in-Global-clause-outside
+returns-in_ok-globals-in-Global-clause-outside c =
     let m = c.args.context.now.model in
     let bodies = bodies_in c.args.context.now in
     let s = scope_at c.args.walk.now in
     let q : raw.Global (map declared_view c.as_slice-names.result.now) ≡ item_view c.args.item.now =
       ap (λ (ys : List RawDeclared). raw.Global (map declared_view ys)) c.as_slice-names.ensures ∙ sym (ap item_view c.in-Global.is) in
-    ap (λ (y : Found). y.kept) c.in_ok-globals.ensures.noted ∙ ap (λ (x : raw.Item). kept_views c.args.walk.now.kept ++ outside_by m bodies s x) q
+    ap (λ (y : Found). y.kept) c.in_ok-globals-in-Global.ensures.noted ∙ ap (λ (x : raw.Item). kept_views c.args.walk.now.kept ++ outside_by m bodies s x) q
 
 -- ---- a closed item
 
-pub returns-in-Closed-clause-starts : goal.returns-in-Closed-clause-starts
-returns-in-Closed-clause-starts c =
+pub returns-in_ok-close_name-in-Closed-clause-starts : goal.returns-in_ok-close_name-in-Closed-clause-starts
+returns-in_ok-close_name-in-Closed-clause-starts c =
     let m = c.args.context.now.model in
     let bodies = bodies_in c.args.context.now in
     let s = scope_at c.args.walk.now in
@@ -209,8 +209,8 @@ returns-in-Closed-clause-starts c =
       sym (ap item_view c.in-Closed.is) in
     sym (append-nil (c.args.starts.now)) ∙ ap (λ (x : raw.Item). c.args.starts.now ++ starts_by m bodies s x) q
 
-pub returns-in-Closed-clause-functions : goal.returns-in-Closed-clause-functions
-returns-in-Closed-clause-functions c =
+pub returns-in_ok-close_name-in-Closed-clause-functions : goal.returns-in_ok-close_name-in-Closed-clause-functions
+returns-in_ok-close_name-in-Closed-clause-functions c =
     let m = c.args.context.now.model in
     let bodies = bodies_in c.args.context.now in
     let s = scope_at c.args.walk.now in
@@ -218,32 +218,32 @@ returns-in-Closed-clause-functions c =
       sym (ap item_view c.in-Closed.is) in
     sym (append-nil (functions_view c.args.functions.now)) ∙ ap (λ (x : raw.Item). functions_view c.args.functions.now ++ functions_by m bodies s x) q
 
-pub returns-in-Closed-clause-names : goal.returns-in-Closed-clause-names
-returns-in-Closed-clause-names c =
+pub returns-in_ok-close_name-in-Closed-clause-names : goal.returns-in_ok-close_name-in-Closed-clause-names
+returns-in_ok-close_name-in-Closed-clause-names c =
     let q : raw.Closed c.in-Closed.spot c.in-Closed.name ≡ item_view c.args.item.now =
       sym (ap item_view c.in-Closed.is) in
     sym (append-nil (names_of c.args.functions.now)) ∙ ap (λ (x : raw.Item). names_of c.args.functions.now ++ bodies_of (x ∷ [])) q
 
-pub returns-in-Closed-clause-scope : goal.returns-in-Closed-clause-scope
-returns-in-Closed-clause-scope c =
+pub returns-in_ok-close_name-in-Closed-clause-scope : goal.returns-in_ok-close_name-in-Closed-clause-scope
+returns-in_ok-close_name-in-Closed-clause-scope c =
     let m = c.args.context.now.model in
     let bodies = bodies_in c.args.context.now in
     let s = scope_at c.args.walk.now in
     let q : raw.Closed c.in-Closed.spot c.in-Closed.name ≡ item_view c.args.item.now =
       sym (ap item_view c.in-Closed.is) in
-    c.in_ok-close_name.ensures.scope ∙ ap (λ (x : raw.Item). after_item m bodies s x) q
+    c.in_ok-close_name-in-Closed.ensures.scope ∙ ap (λ (x : raw.Item). after_item m bodies s x) q
 
-pub returns-in-Closed-clause-noted : goal.returns-in-Closed-clause-noted
-returns-in-Closed-clause-noted c =
+pub returns-in_ok-close_name-in-Closed-clause-noted : goal.returns-in_ok-close_name-in-Closed-clause-noted
+returns-in_ok-close_name-in-Closed-clause-noted c =
     let m = c.args.context.now.model in
     let bodies = bodies_in c.args.context.now in
     let s = scope_at c.args.walk.now in
     let q : raw.Closed c.in-Closed.spot c.in-Closed.name ≡ item_view c.args.item.now =
       sym (ap item_view c.in-Closed.is) in
-    c.in_ok-close_name.ensures.best ∙ ap (λ (x : raw.Item). noted_parts m (items_in c.args.context.now) c.args.walk.now.best (parts_of_item m bodies s x)) q
+    c.in_ok-close_name-in-Closed.ensures.best ∙ ap (λ (x : raw.Item). noted_parts m (items_in c.args.context.now) c.args.walk.now.best (parts_of_item m bodies s x)) q
 
-pub returns-in-Closed-clause-kept : goal.returns-in-Closed-clause-kept
-returns-in-Closed-clause-kept c =
+pub returns-in_ok-close_name-in-Closed-clause-kept : goal.returns-in_ok-close_name-in-Closed-clause-kept
+returns-in_ok-close_name-in-Closed-clause-kept c =
     let m = c.args.context.now.model in
     let bodies = bodies_in c.args.context.now in
     let s = scope_at c.args.walk.now in
@@ -251,11 +251,11 @@ returns-in-Closed-clause-kept c =
       sym (ap item_view c.in-Closed.is) in
     sym (append-nil (kept_lists c.args.kept.now)) ∙ ap (λ (x : raw.Item). kept_lists c.args.kept.now ++ kept_by m bodies s x) q
 
-pub returns-in-Closed-clause-outside : goal.returns-in-Closed-clause-outside
-returns-in-Closed-clause-outside c =
+pub returns-in_ok-close_name-in-Closed-clause-outside : goal.returns-in_ok-close_name-in-Closed-clause-outside
+returns-in_ok-close_name-in-Closed-clause-outside c =
     let m = c.args.context.now.model in
     let bodies = bodies_in c.args.context.now in
     let s = scope_at c.args.walk.now in
     let q : raw.Closed c.in-Closed.spot c.in-Closed.name ≡ item_view c.args.item.now =
       sym (ap item_view c.in-Closed.is) in
-    ap kept_views c.in_ok-close_name.ensures.kept ∙ sym (append-nil (kept_views c.args.walk.now.kept)) ∙ ap (λ (x : raw.Item). kept_views c.args.walk.now.kept ++ outside_by m bodies s x) q
+    ap kept_views c.in_ok-close_name-in-Closed.ensures.kept ∙ sym (append-nil (kept_views c.args.walk.now.kept)) ∙ ap (λ (x : raw.Item). kept_views c.args.walk.now.kept ++ outside_by m bodies s x) q
