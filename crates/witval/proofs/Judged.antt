@@ -39,7 +39,7 @@ use Rattle.wv_yaml.specs.declared.tree.Tree.{Tree}
 use Rattle.wv_yaml.specs.declared.fault.YamlFault.{YamlFault}
 use Rattle.wv_yaml.specs.declared.fault.YamlFault.TheVariants.{Bytes, Grammar, Duplicate, OutOfMemory}
 use Rattle.witval.specs.Inputs.{OfFiles, AreInputs, IsWitness, ToldOne}
-use Rattle.witval.specs.Readings.{IsBindRefusal, IsCheckRefusal, IsRefusal, IsSchemaRefusal, IsSyntaxRefusal, IsTaskRefusal, IsTokenRefusal, RightAfterAnswer, RightAfterProperty, RightAfterReading, RightAfterSchema, RightAfterTask, RightByBind, RightByCheck, RightByClaims, RightByParse, RightByTokens, check_code, place_text}
+use Rattle.witval.specs.Readings.{IsBindRefusal, IsCheckRefusal, IsRefusal, IsSchemaRefusal, IsSyntaxRefusal, IsTaskRefusal, IsTokenRefusal, RightAfterAnswer, RightAfterProperty, RightAfterSchema, RightAfterTask, RightByBind, RightByCheck, RightByClaims, RightByParse, RightByTokens, check_code, place_text}
 use Rattle.witval.specs.Tasks.{RightOnInputs, RightOnProgram, RightOnSegments, RightOnSequence, RightOnSource, RightOnText, RightOnTokens, RightOnTree, RightOnWitness, RightUnder, holds_sets}
 use Rattle.witval.specs.Replies.{CanonicalIn, NoReply, NoTreeReply, NoWitnessReply, OnWitness, SummaryIn, RightAlone, RightOnBytes, RightFor, too_long}
 use Rattle.witval.specs.declared.input.Inputs.{Inputs}
@@ -207,7 +207,10 @@ inputs_not_of_length steps program property witness reply right =
 on_files : (steps : ℕ) (program property witness : List ℕ) (inputs : Inputs) (reply : Reply) → AreInputs inputs program property witness
     → RightOnInputs steps inputs.program.items inputs.property.items inputs.witness.items reply → RightOnBytes steps reply program property witness
 on_files steps program property witness inputs reply a right =
-    rw (a.lengths, ← a.program_read, ← a.property_read, ← a.witness_read) right
+    rw a.lengths
+    (subst (λ x. RightOnInputs steps x property witness reply) a.program_read
+    (subst (λ x. RightOnInputs steps inputs.program.items x witness reply) a.property_read
+    (subst (λ x. RightOnInputs steps inputs.program.items inputs.property.items x reply) a.witness_read right)))
 
 told : (command : Command) (steps : ℕ) (files : Option Files) (inputs : Inputs) (reply : Reply) → IfSome files (λ files. OfFiles command files (AreInputs inputs))
     → RightOnInputs steps inputs.program.items inputs.property.items inputs.witness.items reply → IfSome files (λ files. OfFiles command files (RightOnBytes steps reply))

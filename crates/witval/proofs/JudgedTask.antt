@@ -1,11 +1,10 @@
 -- What the readers answer decides the reply, step by step.
-use Rattle.std.proofs.Common.{◌≡◌, ◌∙◌, ℕ, List, Bool, true, Option, Some, None, Result, Ok, Err, IfOk, refl, sym, subst, ap₂}
+use Rattle.std.proofs.Common.{◌≡◌, ℕ, List, Some, Result, Ok, Err, IfOk, refl, sym, subst, ap₂}
 use Rattle.sha2.specs.Sha256.{sha256}
 use Rattle.c_core.specs.declared.number.DataModel.{DataModel}
 use Rattle.c_core.specs.declared.number.Property.{Property}
 use Rattle.wv_report.specs.declared.reply.Reply.{Reply}
 use Rattle.wv_schema.specs.Schema.{IsAnswer, judged as schema_judged, schema_fault, witness_of}
-use Rattle.wv_schema.specs.Values.{witness_in}
 use Rattle.wv_schema.specs.declared.fault.SchemaFault.{SchemaFault}
 use Rattle.wv_schema.specs.declared.fault.SchemaFault.TheVariants as schema
 use Rattle.wv_schema.specs.declared.witness.Witness.{Witness}
@@ -16,7 +15,7 @@ use Rattle.wv_yaml.specs.declared.tree.Tree.{Tree}
 use Rattle.witval.specs.Readings.{IsSchemaRefusal, IsTaskRefusal, RightAfterSchema, RightAfterTask}
 use Rattle.witval.specs.Tasks.{RightOnText, RightOnTree, RightOnWitness}
 use Rattle.wv_show.specs.Show.{summary_of}
-use Rattle.witval.specs.Replies.{NoTreeReply, NoWitnessReply, SummaryOf}
+use Rattle.witval.specs.Replies.{NoWitnessReply, SummaryOf}
 use Rattle.witval.specs.declared.output.Output.TheVariants.{Report, Summary}
 
 -- want of memory gives no reply
