@@ -8,8 +8,8 @@ ghost use Rattle.c_rules.specs.Noting.{noted_parts};
 ghost use Rattle.c_rules.specs.Order.{parts_of_bodies};
 ghost use Rattle.c_rules.specs.Parts.{bodies_of, parts_of_items, parts_of_source};
 ghost use Rattle.c_rules.specs.Scopes.{after_items, outermost};
-ghost use Rattle.c_scope.specs.Sources.{items_of};
 ghost use Rattle.c_walk.specs.Items.{names_of, kept_lists, kept_views};
+ghost use Rattle.c_walk.specs.Walks.{items_in, bodies_in};
 
 use crate::context::Context;
 use crate::items::items;
@@ -36,30 +36,20 @@ pub struct Walked {
 }
 
 // All items, from the outermost scope on.
-fn walk_items(
-    alloc: Global,
-    known: &Functions,
-    source: &[Item],
-    model: DataModel,
-) -> Result<Walked, OutOfMemory>
-    ensures objects { IfOk result (λ w. w.objects ≡ (after_items model (bodies_of (items_of known.now)) outermost (map item_view source.now)).objects) }
-    ensures starts { IfOk result (λ w. w.starts ≡ starts_of model (bodies_of (items_of known.now)) outermost (map item_view source.now)) }
-    ensures functions { IfOk result (λ w. functions_view w.functions ≡ functions_of model (bodies_of (items_of known.now)) outermost (map item_view source.now)) }
+fn walk_items(context: &Context, source: &[Item]) -> Result<Walked, OutOfMemory>
+    ensures objects { IfOk result (λ w. w.objects ≡ (after_items context.now.model (bodies_in context.now) outermost (map item_view source.now)).objects) }
+    ensures starts { IfOk result (λ w. w.starts ≡ starts_of context.now.model (bodies_in context.now) outermost (map item_view source.now)) }
+    ensures functions { IfOk result (λ w. functions_view w.functions ≡ functions_of context.now.model (bodies_in context.now) outermost (map item_view source.now)) }
     ensures names { IfOk result (λ w. names_of w.functions ≡ bodies_of (map item_view source.now)) }
-    ensures kept { IfOk result (λ w. kept_lists w.kept ≡ map (kept_of_parts model (bodies_of (items_of known.now))) (parts_of_bodies model (bodies_of (items_of known.now)) outermost (map item_view source.now))) }
-    ensures outside { IfOk result (λ w. kept_views w.outside ≡ kept_outside model (bodies_of (items_of known.now)) outermost (map item_view source.now)) }
-    ensures best { IfOk result (λ w. w.best ≡ noted_parts model (items_of known.now) None (parts_of_items model (bodies_of (items_of known.now)) outermost (map item_view source.now))) }
+    ensures kept { IfOk result (λ w. kept_lists w.kept ≡ map (kept_of_parts context.now.model (bodies_in context.now)) (parts_of_bodies context.now.model (bodies_in context.now) outermost (map item_view source.now))) }
+    ensures outside { IfOk result (λ w. kept_views w.outside ≡ kept_outside context.now.model (bodies_in context.now) outermost (map item_view source.now)) }
+    ensures best { IfOk result (λ w. w.best ≡ noted_parts context.now.model (items_in context.now) None (parts_of_items context.now.model (bodies_in context.now) outermost (map item_view source.now))) }
 {
-    let context = Context {
-        alloc,
-        functions: known,
-        model,
-    };
-    let mut walk = Walk::new(alloc);
-    let mut starts = Seq::new(alloc);
-    let mut functions = Seq::new(alloc);
-    let mut kept = Seq::new(alloc);
-    items(&context, &mut walk, &mut starts, &mut functions, &mut kept, source)?;
+    let mut walk = Walk::new(context.alloc);
+    let mut starts = Seq::new(context.alloc);
+    let mut functions = Seq::new(context.alloc);
+    let mut kept = Seq::new(context.alloc);
+    items(context, &mut walk, &mut starts, &mut functions, &mut kept, source)?;
     Ok(Walked {
         objects: walk.objects,
         starts,
@@ -85,6 +75,11 @@ pub fn walk_source(
     ensures best { IfOk result (λ w. w.best ≡ noted_parts model (map item_view source.now) None (parts_of_source model (map item_view source.now))) }
 {
     let known = Functions::of(alloc, source)?;
-    let walked = walk_items(alloc, &known, source, model)?;
+    let context = Context {
+        alloc,
+        functions: &known,
+        model,
+    };
+    let walked = walk_items(&context, source)?;
     Ok(walked)
 }

@@ -12,22 +12,21 @@ use Rattle.c_rules.specs.Checked.{starts_of, functions_of}
 use Rattle.c_rules.specs.Noting.{noted_parts}
 use Rattle.c_rules.specs.Parts.{bodies_of, parts_of_items}
 use Rattle.c_rules.specs.Scopes.{Scope, after_items, outermost}
-use Rattle.c_scope.specs.Sources.{items_of}
 use Rattle.c_walk.specs.Items.{names_of, kept_lists, kept_views}
-use Rattle.c_walk.specs.Walks.{Found, scope_at}
+use Rattle.c_walk.specs.Walks.{Found, scope_at, items_in, bodies_in}
 use Rattle.c_walk.proofs.source.walk_items.Goals as goal
 
 pub returns-clause-objects : goal.returns-clause-objects
 returns-clause-objects c =
-    let m = c.args.model in
-    let bodies = bodies_of (items_of c.args.known.now) in
+    let m = c.args.context.now.model in
+    let bodies = bodies_in c.args.context.now in
     let xs = map item_view c.args.source.now in
     ap (λ (y : Scope). y.objects) (c.in_ok-items.ensures.scope ∙ ap (λ (y : Scope). after_items m bodies y xs) c.new-walk.ensures.scope)
 
 pub returns-clause-starts : goal.returns-clause-starts
 returns-clause-starts c =
-    let m = c.args.model in
-    let bodies = bodies_of (items_of c.args.known.now) in
+    let m = c.args.context.now.model in
+    let bodies = bodies_in c.args.context.now in
     let xs = map item_view c.args.source.now in
     c.in_ok-items.ensures.starts
     ∙ ap (λ (y : List Start). y ++ starts_of m bodies (scope_at c.new-walk.result) xs) c.new-starts.ensures
@@ -35,8 +34,8 @@ returns-clause-starts c =
 
 pub returns-clause-functions : goal.returns-clause-functions
 returns-clause-functions c =
-    let m = c.args.model in
-    let bodies = bodies_of (items_of c.args.known.now) in
+    let m = c.args.context.now.model in
+    let bodies = bodies_in c.args.context.now in
     let xs = map item_view c.args.source.now in
     c.in_ok-items.ensures.functions
     ∙ ap (λ (y : List Function). functions_view y ++ functions_of m bodies (scope_at c.new-walk.result) xs) c.new-functions.ensures
@@ -44,8 +43,8 @@ returns-clause-functions c =
 
 pub returns-clause-kept : goal.returns-clause-kept
 returns-clause-kept c =
-    let m = c.args.model in
-    let bodies = bodies_of (items_of c.args.known.now) in
+    let m = c.args.context.now.model in
+    let bodies = bodies_in c.args.context.now in
     let xs = map item_view c.args.source.now in
     c.in_ok-items.ensures.kept
     ∙ ap (λ (y : List (List Kept)). kept_lists y ++ map (kept_of_parts m bodies) (parts_of_bodies m bodies (scope_at c.new-walk.result) xs)) c.new-kept.ensures
@@ -53,8 +52,8 @@ returns-clause-kept c =
 
 pub returns-clause-outside : goal.returns-clause-outside
 returns-clause-outside c =
-    let m = c.args.model in
-    let bodies = bodies_of (items_of c.args.known.now) in
+    let m = c.args.context.now.model in
+    let bodies = bodies_in c.args.context.now in
     let xs = map item_view c.args.source.now in
     c.in_ok-items.ensures.outside
     ∙ ap (λ (y : Found). y.kept ++ kept_outside m bodies (scope_at c.new-walk.result) xs) c.new-walk.ensures.found
@@ -66,10 +65,10 @@ returns-clause-names c =
 
 pub returns-clause-best : goal.returns-clause-best
 returns-clause-best c =
-    let m = c.args.model in
-    let bodies = bodies_of (items_of c.args.known.now) in
+    let m = c.args.context.now.model in
+    let bodies = bodies_in c.args.context.now in
     let xs = map item_view c.args.source.now in
-    let items = items_of c.args.known.now in
+    let items = items_in c.args.context.now in
     c.in_ok-items.ensures.noted
     ∙ ap (λ (y : Found). noted_parts m items y.best (parts_of_items m bodies (scope_at c.new-walk.result) xs)) c.new-walk.ensures.found
     ∙ ap (λ (y : Scope). noted_parts m items None (parts_of_items m bodies y xs)) c.new-walk.ensures.scope
