@@ -32,7 +32,7 @@ type: assumption, location: {line: 2, column: 21}, constraint: {value: "a == 1"}
 type: function_return, location: {line: 8}, constraint: {value: "\\result == 0"} => scope 1
 "#;
 
-/// Two tests fail in each row but the first and the last: the place comes first, then the grammar, the names, and the types.
+/// The place comes first, then the grammar, the names, and the types: two tests fail in each row but the first and the last two.
 const ORDER: &str = r#"
 type: assumption, location: {line: 9}, constraint: {value: "x +"} => expression 1
 type: assumption, location: {line: 99}, constraint: {value: "x +"} => no place 1

@@ -4,6 +4,8 @@
 #[cfg(test)]
 mod bound;
 #[cfg(test)]
+mod few;
+#[cfg(test)]
 mod least;
 #[cfg(test)]
 mod texts;

@@ -1,15 +1,19 @@
 // A source, texts of witnesses about it, and what is told of them.
+use crate::few::bind;
 use c_check::check;
 use c_core::{DataModel, Program, Property, Spot};
-use c_parser::parse;
+use c_parser::{ParseFault, Source, parse};
 use c_tokens::tokens;
 use std::alloc::Global;
 use std::test::Fail;
-use way_bind::{BindFault, bind_violation};
+use way_bind::BindFault;
 use way_match::{Aim, Bound, Point};
 use wv_base::OutOfMemory;
 use wv_schema::{Witness, witness_of};
 use wv_yaml::read;
+
+// The source is shorter.
+const MAX_LENGTH: usize = 1 << 20;
 
 const SOURCE: &str = "int g;
 void quiet(int a) { g = a; }
@@ -55,11 +59,19 @@ pub fn avoid_and_follow(alloc: Global, avoid: &str, follow: &str) -> Result<Stri
     joined(alloc, &[before, avoid, between, follow, "}}]}"])
 }
 
-fn program(alloc: Global) -> Result<Program, Fail> {
-    let Ok(found) = tokens(alloc, SOURCE.as_bytes()) else {
-        return Err("no tokens".into());
+// What a text spells, if it is one of tokens.
+fn parsed(alloc: Global, text: &[u8]) -> Option<Result<Source, ParseFault>> {
+    if text.len() > MAX_LENGTH {
+        return None;
+    }
+    let Ok(found) = tokens(alloc, text) else {
+        return None;
     };
-    let Ok(source) = parse(alloc, &found) else {
+    Some(parse(alloc, &found))
+}
+
+fn program(alloc: Global) -> Result<Program, Fail> {
+    let Some(Ok(source)) = parsed(alloc, SOURCE.as_bytes()) else {
         return Err("no source".into());
     };
     match check(alloc, &source, DataModel::Ilp32, Property::UnreachCall) {
@@ -115,7 +127,7 @@ fn fault(alloc: Global, fault: BindFault) -> Result<String, Fail> {
 pub fn told(alloc: Global, segments: &str) -> Result<String, Fail> {
     let program = program(alloc)?;
     let witness = witness(alloc, segments)?;
-    match bind_violation(alloc, &witness, &program) {
+    match bind(alloc, &witness, &program) {
         Ok(bound) => first(alloc, &bound),
         Err(lack) => fault(alloc, lack),
     }
