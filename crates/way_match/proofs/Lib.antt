@@ -4,3 +4,4 @@ mod ExamplePassing
 mod ExampleVerdicts
 mod Tested
 pub mod GatherLaws
+pub mod StoredLaws

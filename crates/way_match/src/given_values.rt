@@ -172,7 +172,6 @@ fn push_choices(
 }
 
 /// For each input call of the program the values given to it, in witness order.
-#[tactic(auto, using(crate::proofs::GatherLaws::given_is_gathered))]
 pub fn given(alloc: Global, bound: &Bound, program: &Program) -> Result<Choices, OutOfMemory>
     ensures { IfOk result (λ c. c ≡ given_by (program_view program.now) (segments_view bound.now)) }
 {
