@@ -131,11 +131,7 @@ fn gather(
     Ok(list)
 }
 
-fn values_for(
-    alloc: Global,
-    given: &[GivenValue],
-    spot: Spot,
-) -> Result<Seq<i128>, OutOfMemory>
+fn values_for(alloc: Global, given: &[GivenValue], spot: Spot) -> Result<Seq<i128>, OutOfMemory>
     ensures { IfOk result (λ values. values ≡ values_of spot (values_view given.now)) }
 {
     let mut values = Seq::new(alloc);

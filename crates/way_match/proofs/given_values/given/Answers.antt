@@ -11,7 +11,7 @@ use Rattle.way_match.proofs.given_values.given.Goals as goal
 pub returns : goal.returns
 returns c =
     let follows : values_view c.as_slice-2.result.now ≡ gathered (program_view c.args.program.now) (segments_view c.args.bound.now) =
-        ap values_view c.as_slice-2.ensures.value ∙ c.in_ok-gathered.ensures ∙ ap (λ ss. gathered (program_view c.args.program.now) (each_segment_view ss)) c.as_slice.ensures in
+    ap values_view c.as_slice-2.ensures.value ∙ c.in_ok-gathered.ensures ∙ ap (λ ss. gathered (program_view c.args.program.now) (each_segment_view ss)) c.as_slice.ensures in
     let calls : calls_view c.as_slice-3.result.now ≡ input_calls (program_view c.args.program.now) = ap calls_view c.as_slice-3.ensures.value ∙ c.in_ok-calls.ensures in
     ap Given
     (c.in_ok-push_choices.ensures
