@@ -1,12 +1,13 @@
 -- Given values gathered in a list are those of each place.
-use Rattle.std.proofs.Common.{◌≡◌, ℕ, ℤ, refl, ap, ◌∙◌, List, [], ◌∷◌, ◌++◌, Option, Some, None, map}
-use Rattle.c_core.specs.Tree.{Exp, Program}
+use Rattle.std.proofs.Common.{◌≡◌, ℕ, ℤ, refl, ap, ◌∙◌, Bool, true, false, List, [], ◌∷◌, ◌++◌, Option, Some, None, map}
+use Rattle.c_core.specs.Tree.{Exp, Expr, Logic, Program}
 use Rattle.c_core.specs.Places.{InputCall, first_some}
+use Rattle.c_core.specs.declared.number.IntType.{IntType}
 use Rattle.c_core.specs.declared.number.Spot.{Spot}
 use Rattle.c_meaning.specs.declared.run.Choices.TheVariants.{Given}
 use Rattle.c_places.specs.Seeking.{or_else}
 use Rattle.way_match.specs.Gathered.{choices_for, gathered, listed_if, values_of}
-use Rattle.way_match.specs.Given.{GivenValue, constant_compared, first_constant, given_by, given_by_follow, input_calls, value_if_at, values_at}
+use Rattle.way_match.specs.Given.{GivenValue, constant_compared, first_constant, given_by, given_by_follow, input_calls, operands, value_if_at, values_at}
 use Rattle.way_match.specs.Points.{BoundSegment}
 
 pub first_alone : (a : Option Exp) → first_some (a ∷ []) ≡ a
@@ -21,6 +22,12 @@ pub first_both : (o : ℕ) (xs ys : List Exp) → first_constant o (xs ++ ys) �
 first_both o [] ys = refl
 first_both o (x ∷ xs) ys =
     first_more (constant_compared o x) (map (constant_compared o) (xs ++ ys)) (map (constant_compared o) xs) (first_constant o ys) (first_both o xs ys)
+
+-- the operands of a chain are those of its sides
+pub chain_first : (o : ℕ) (spot : Spot) (ty : Option IntType) (both : Bool) (a b : Exp) → both ≡ true
+    → first_constant o (operands (Expr spot ty (Logic both a b))) ≡ or_else (first_constant o (operands a)) (first_constant o (operands b))
+chain_first o spot ty true a b h = first_both o (operands a) (operands b)
+chain_first o spot ty false a b h = absurd (cc)
 
 one_follow : (spot : Spot) (g : Option GivenValue) (gs : List GivenValue) → values_of spot (listed_if g ++ gs) ≡ value_if_at spot g ++ values_of spot gs
 one_follow spot None gs = refl

@@ -11,3 +11,4 @@ mod Turn
 mod Begin
 mod Done
 pub mod GatherLaws
+pub mod StoredLaws

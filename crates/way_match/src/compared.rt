@@ -1,8 +1,9 @@
 // The constant that an object is compared with in a chain of `&&`.
-ghost use Rattle.std.specs.Prelude.{◌≡◌, ◌||◌, ◌++◌, false};
+ghost use Rattle.std.specs.Prelude.{◌≡◌, ◌||◌};
 ghost use Rattle.std.specs.Option.{option_copied};
 ghost use Rattle.c_core.specs.View.{expr_view, expr_view_if, exprs_view, node_view};
 ghost use Rattle.c_meaning.specs.Parts.{some_argument, some_part};
+ghost use Rattle.c_places.specs.Seeking.{or_else};
 ghost use Rattle.way_match.specs.Given.{constant_beside, constant_compared, first_constant, has_names, is_equality, is_object, node_names, operands};
 
 use c_core::{BinOp, Expr, Node};
@@ -91,8 +92,16 @@ fn constant_compared<'a>(object: u32, e: &'a Expr) -> Option<&'a Expr>
     }
 }
 
+fn earlier<'a>(first: Option<&'a Expr>, second: Option<&'a Expr>) -> Option<&'a Expr>
+    ensures { expr_view_if (option_copied result) ≡ or_else (expr_view_if (option_copied first.entry)) (expr_view_if (option_copied second.entry)) }
+{
+    match first {
+        Some(found) => Some(found),
+        None => second,
+    }
+}
+
 /// The constant of the first operand that compares the object with one.
-#[cycle(operands)]
 #[tactic(auto, using(crate::proofs::GatherLaws::first_alone))]
 pub fn first_constant<'a>(object: u32, e: &'a Expr) -> Option<&'a Expr>
     ensures { expr_view_if (option_copied result) ≡ first_constant object (operands (expr_view e.now)) }
@@ -100,22 +109,13 @@ pub fn first_constant<'a>(object: u32, e: &'a Expr) -> Option<&'a Expr>
     match &e.node {
         Node::Logic { both, left, right } => {
             if *both {
-                first_of_two(object, left, right)
+                let first = first_constant(object, left);
+                let second = first_constant(object, right);
+                earlier(first, second)
             } else {
                 None
             }
         }
         _ => constant_compared(object, e),
-    }
-}
-
-#[cycle(operands)]
-#[tactic(auto, using(crate::proofs::GatherLaws::first_both))]
-fn first_of_two<'a>(object: u32, left: &'a Expr, right: &'a Expr) -> Option<&'a Expr>
-    ensures { expr_view_if (option_copied result) ≡ first_constant object (operands (expr_view left.now) ++ operands (expr_view right.now)) }
-{
-    match first_constant(object, left) {
-        Some(found) => Some(found),
-        None => first_constant(object, right),
     }
 }

@@ -131,11 +131,7 @@ fn gather(
     Ok(list)
 }
 
-fn values_for(
-    alloc: Global,
-    given: &[GivenValue],
-    spot: Spot,
-) -> Result<Seq<i128>, OutOfMemory>
+fn values_for(alloc: Global, given: &[GivenValue], spot: Spot) -> Result<Seq<i128>, OutOfMemory>
     ensures { IfOk result (λ values. values ≡ values_of spot (values_view given.now)) }
 {
     let mut values = Seq::new(alloc);
@@ -172,7 +168,6 @@ fn push_choices(
 }
 
 /// For each input call of the program the values given to it, in witness order.
-#[tactic(auto, using(crate::proofs::GatherLaws::given_is_gathered))]
 pub fn given(alloc: Global, bound: &Bound, program: &Program) -> Result<Choices, OutOfMemory>
     ensures { IfOk result (λ c. c ≡ given_by (program_view program.now) (segments_view bound.now)) }
 {

@@ -56,13 +56,15 @@ fn stored_by_init(object: u32, init: &Init) -> Option<StoredInput>
     }
 }
 
+#[tactic(auto, using(crate::proofs::StoredLaws::unless_one, crate::proofs::StoredLaws::of_one))]
 fn stored_by_names(names: &[Declared]) -> Option<StoredInput>
     ensures { option_map stored_view result ≡ stored_by_names (names_view names.now) }
 {
-    match names {
-        [name] => stored_by_init(name.object, &name.init),
-        _ => None,
+    if names.len() != 1 {
+        return None;
     }
+    let name = &names[0];
+    stored_by_init(name.object, &name.init)
 }
 
 /// What `x = input();` and `T x = input();` store, and nothing of another statement.
