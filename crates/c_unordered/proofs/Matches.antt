@@ -204,8 +204,8 @@ module _ (m : DataModel) (items : List raw.Item) (objects : List Object) where
       by_tests (parts es r e) (full None (tree es e) ∷ []) [] (ap kept_fulls (kept_of_expression es r e))
       (λ g. any_one g es r e None s ∙ or_none (list_any g (done (full None (tree es e) ∷ []))))
       (λ list h.
-          subst (AreTestsOf m items objects (parts es r e)) (sym (append-nil (tested (tree es e) ++ []) ∙ append-nil (tested (tree es e))))
-          (same_expression m items objects list es (names_listed objects es r e h) r e))
+      subst (AreTestsOf m items objects (parts es r e)) (sym (append-nil (tested (tree es e) ++ []) ∙ append-nil (tested (tree es e))))
+      (same_expression m items objects list es (names_listed objects es r e h) r e))
 
   -- ---- initializers
 
@@ -220,16 +220,16 @@ module _ (m : DataModel) (items : List raw.Item) (objects : List Object) where
       by_tests (parts_of_value false s e) (start s e ∷ []) [] (ap kept_fulls (kept_of_expression (seen s) Value e))
       (λ g. any_one g (seen s) Value e (Some (length s.objects - 1)) refl ∙ or_none (list_any g (done (start s e ∷ []))))
       (λ list h.
-          subst (AreTestsOf m items objects (parts_of_value false s e)) (sym (append-nil (tests_of (start s e) ++ []) ∙ append-nil (tests_of (start s e))))
-          (same_initializer m items objects list false s (scope_listed false s e h) e))
+      subst (AreTestsOf m items objects (parts_of_value false s e)) (sym (append-nil (tests_of (start s e) ++ []) ∙ append-nil (tests_of (start s e))))
+      (same_initializer m items objects list false s (scope_listed false s e h) e))
 
   pub fixed_initializer : (s : Scope) (e : Exp) → Match (parts_of_value true s e) []
   fixed_initializer s e =
       by_tests (parts_of_value true s e) [] (start s e ∷ []) (ap (λ ks. start s e ∷ kept_fulls ks) (kept_of_expression (seen s) Value e))
       (λ g. any_one g (seen s) Value e (Some (length s.objects - 1)) refl)
       (λ list h.
-          subst (AreTestsOf m items objects (parts_of_value true s e)) (sym (append-nil (tests_of (start s e))))
-          (same_initializer m items objects list true s (scope_listed true s e h) e))
+      subst (AreTestsOf m items objects (parts_of_value true s e)) (sym (append-nil (tests_of (start s e))))
+      (same_initializer m items objects list true s (scope_listed true s e h) e))
 
   -- ---- the size of a declared name
 
@@ -242,9 +242,9 @@ module _ (m : DataModel) (items : List raw.Item) (objects : List Object) where
       (kept_append ps (Declaring fixed s d ∷ []) ∙ ap (λ ks. kept_fulls ks ++ kept_of (Declaring fixed s d ∷ [])) (kept_of_expression (seen s) Value v) ∙ ap (λ o. kept_fulls (kept_size m (bodies_of items) (seen s) o ++ [])) e)
       (λ g. any_effs g ps (Declaring fixed s d ∷ []) ∙ sym (or_none (list_any g (effs ps))) ∙ any_one g (seen s) Value v None refl)
       (λ list h.
-          same_both m items objects ps (Declaring fixed s d ∷ []) (tested (tree (seen s) v)) []
-          (same_expression m items objects list (seen s) (names_listed objects (seen s) Value v (listed_front objects ps (Declaring fixed s d ∷ []) h)) Value v)
-          (same_other m items objects (Declaring fixed s d) [] [] (λ u. u) (same_none m items objects)))
+      same_both m items objects ps (Declaring fixed s d ∷ []) (tested (tree (seen s) v)) []
+      (same_expression m items objects list (seen s) (names_listed objects (seen s) Value v (listed_front objects ps (Declaring fixed s d ∷ []) h)) Value v)
+      (same_other m items objects (Declaring fixed s d) [] [] (λ u. u) (same_none m items objects)))
 
   pub sized : (fixed : Bool) (s : Scope) (d : raw.Declared) → Match (parts_if (seen s) Value d.size ++ Declaring fixed s d ∷ []) []
   sized fixed s d = sized_as fixed s d d.size refl

@@ -78,7 +78,7 @@ pub places : (objects : List Object) (functions : List Function) (kept : List (L
     → Lists objects (length functions) (functions_view functions) (map kept_views kept) (kept_views outside) spots → ListsUnordered objects functions kept outside spots
 places objects functions kept outside spots l m items typed =
     let many : length functions ≡ count m items objects =
-        sym (many_viewed functions) ∙ ap length typed.functions ∙ many_functions m items objects outermost items in
+    sym (many_viewed functions) ∙ ap length typed.functions ∙ many_functions m items objects outermost items in
     places_of m items objects spots typed.objects typed.few
     (subst (λ n. Lists objects n (functions_of m (bodies_of items) outermost items) (kept_in_bodies m items) (kept_outside m (bodies_of items) outermost items) spots) many
     (subst (λ fs. Lists objects (length functions) fs (kept_in_bodies m items) (kept_outside m (bodies_of items) outermost items) spots) typed.functions

@@ -38,6 +38,9 @@ pub fn unordered(
     let mut walk = Walk::new(alloc, declared, bodies.as_slice());
     walk_functions(&mut walk, functions, kept)?;
     walk_kept(&mut walk, outside)?;
-    let Walk { source: _, unordered } = walk;
+    let Walk {
+        source: _,
+        unordered,
+    } = walk;
     Ok(unordered)
 }

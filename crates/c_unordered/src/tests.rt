@@ -126,10 +126,7 @@ fn through_two_calls(rt: HostRuntime) -> Result<(), Fail> {
         count(alloc, step(alloc)?, Seq::new(alloc), Seq::new(alloc))?,
         1
     );
-    assert_eq!(rt;
-        count(alloc, read(), Seq::new(alloc), Seq::new(alloc))?,
-        0
-    );
+    assert_eq!(rt; count(alloc, read(), Seq::new(alloc), Seq::new(alloc))?, 0);
     Ok(())
 }
 

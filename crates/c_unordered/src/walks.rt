@@ -32,11 +32,7 @@ pub fn walk_kept(walk: &mut Walk<'_>, kept: &[Kept]) -> Result<(), OutOfMemory>
     Ok(())
 }
 
-fn walk_kept_at(
-    walk: &mut Walk<'_>,
-    kept: &[Seq<Kept>],
-    at: usize,
-) -> Result<(), OutOfMemory>
+fn walk_kept_at(walk: &mut Walk<'_>, kept: &[Seq<Kept>], at: usize) -> Result<(), OutOfMemory>
     requires { IsReady walk.old }
     ensures same { IsSameWalk walk.old walk.new }
     ensures gone { OnOk result (IsGone walk.old walk.new (tested_fulls (kept_fulls (kept_views (get_or kept.now at []))))) }

@@ -19,7 +19,7 @@ use Rattle.c_parser.specs.declared.tree.RawForm.TheVariants as raw_form
 use Rattle.c_walk.specs.Walks.{else_of}
 
 pub next_statement : (ss : List RawStmt) (i : ℕ) (s : RawStmt) → i < length ss → s ≡ get_or ss i s
-  → stms (map stmt_view (drop i ss)) ≡ raw.MoreStm (stmt_view s) (stms (map stmt_view (drop (i + 1) ss)))
+    → stms (map stmt_view (drop i ss)) ≡ raw.MoreStm (stmt_view s) (stms (map stmt_view (drop (i + 1) ss)))
 next_statement ss i s h q = ap (λ (x : List RawStmt). stms (map stmt_view x)) (drop_more ss i s h ∙ ap (λ (x : RawStmt). x ∷ drop (i + 1) ss) (sym q))
 
 -- these statements, and then the rest

@@ -22,45 +22,45 @@ module _ (m : DataModel) (items : List Item) where
   with_append : (f : Found) (ps qs : List Part) → with_parts m items f (ps ++ qs) ≡ with_parts m items (with_parts m items f ps) qs
   with_append f ps qs =
       same_found (noted_parts m items f.best (ps ++ qs)) (noted_parts m items (noted_parts m items f.best ps) qs)
-        (f.kept ++ kept_of_parts m (bodies_of items) (ps ++ qs)) ((f.kept ++ kept_of_parts m (bodies_of items) ps) ++ kept_of_parts m (bodies_of items) qs)
-        (noted_parts-append m items f.best ps qs)
-        (ap (λ (x : List Kept). f.kept ++ x) (flat_map-append (kept_of_part m (bodies_of items)) ps qs)
-          ∙ sym (append_assoc f.kept (kept_of_parts m (bodies_of items) ps) (kept_of_parts m (bodies_of items) qs)))
+      (f.kept ++ kept_of_parts m (bodies_of items) (ps ++ qs)) ((f.kept ++ kept_of_parts m (bodies_of items) ps) ++ kept_of_parts m (bodies_of items) qs)
+      (noted_parts-append m items f.best ps qs)
+      (ap (λ (x : List Kept). f.kept ++ x) (flat_map-append (kept_of_part m (bodies_of items)) ps qs)
+      ∙ sym (append_assoc f.kept (kept_of_parts m (bodies_of items) ps) (kept_of_parts m (bodies_of items) qs)))
 
   -- these parts, and then those, in the scope that stands there
   pub found_then : (b c d : Found) (ps : List Part) (qs : Scope → List Part) (s t : Scope)
-    → c ≡ with_parts m items b ps → t ≡ s → d ≡ with_parts m items c (qs t) → d ≡ with_parts m items b (ps ++ qs s)
+      → c ≡ with_parts m items b ps → t ≡ s → d ≡ with_parts m items c (qs t) → d ≡ with_parts m items b (ps ++ qs s)
   found_then b c d ps qs s t f e g =
       g ∙ ap (λ (x : Scope). with_parts m items c (qs x)) e ∙ ap (λ (x : Found). with_parts m items x (qs s)) f ∙ sym (with_append b ps (qs s))
 
   -- parts in a scope that was opened for them and is closed behind them
   pub found_within : (b c d e : Found) (qs : Scope → List Part) (s t : Scope)
-    → c ≡ b → t ≡ s → d ≡ with_parts m items c (qs t) → e ≡ d → e ≡ with_parts m items b (qs s)
+      → c ≡ b → t ≡ s → d ≡ with_parts m items c (qs t) → e ≡ d → e ≡ with_parts m items b (qs s)
   found_within b c d e qs s t f g h k = k ∙ h ∙ ap (λ (x : Scope). with_parts m items c (qs x)) g ∙ ap (λ (x : Found). with_parts m items x (qs s)) f
 
   -- one step of a loop over parts: these are looked at, those are left
   pub found_on : (b c n : Found) (ps : List Part) (qs : Scope → List Part) (s t : Scope)
-    → c ≡ with_parts m items b ps → t ≡ s → with_parts m items b (ps ++ qs s) ≡ n → with_parts m items c (qs t) ≡ n
+      → c ≡ with_parts m items b ps → t ≡ s → with_parts m items b (ps ++ qs s) ≡ n → with_parts m items c (qs t) ≡ n
   found_on b c n ps qs s t f e g =
       ap (λ (x : Scope). with_parts m items c (qs x)) e ∙ ap (λ (x : Found). with_parts m items x (qs s)) f ∙ sym (with_append b ps (qs s)) ∙ g
 
   -- parts of which nothing is kept
   pub quiet : (b c : Found) (ps : List Part) → c.best ≡ noted_parts m items b.best ps → c.kept ≡ b.kept → kept_of_parts m (bodies_of items) ps ≡ []
-    → c ≡ with_parts m items b ps
+      → c ≡ with_parts m items b ps
   quiet b c ps e f g =
       same_found c.best (noted_parts m items b.best ps) c.kept (b.kept ++ kept_of_parts m (bodies_of items) ps) e
-        (f ∙ sym (ap (λ (x : List Kept). b.kept ++ x) g ∙ append-nil b.kept))
+      (f ∙ sym (ap (λ (x : List Kept). b.kept ++ x) g ∙ append-nil b.kept))
 
   -- parts of which this is kept
   pub kept_so : (b c : Found) (ps : List Part) (ks : List Kept) → c.best ≡ noted_parts m items b.best ps → c.kept ≡ b.kept ++ ks → kept_of_parts m (bodies_of items) ps ≡ ks
-    → c ≡ with_parts m items b ps
+      → c ≡ with_parts m items b ps
   kept_so b c ps ks e f g =
       same_found c.best (noted_parts m items b.best ps) c.kept (b.kept ++ kept_of_parts m (bodies_of items) ps) e
-        (f ∙ sym (ap (λ (x : List Kept). b.kept ++ x) g))
+      (f ∙ sym (ap (λ (x : List Kept). b.kept ++ x) g))
 
   -- a part of which nothing is kept, and then those parts
   pub before_quiet : (b c d : Found) (p : Part) (qs : Scope → List Part) (s t : Scope)
-    → c.best ≡ noted_part m items b.best p → c.kept ≡ b.kept → kept_of_part m (bodies_of items) p ≡ [] → t ≡ s → d ≡ with_parts m items c (qs t)
-    → d ≡ with_parts m items b (p ∷ qs s)
+      → c.best ≡ noted_part m items b.best p → c.kept ≡ b.kept → kept_of_part m (bodies_of items) p ≡ [] → t ≡ s → d ≡ with_parts m items c (qs t)
+      → d ≡ with_parts m items b (p ∷ qs s)
   before_quiet b c d p qs s t e f g h k =
       found_then b c d (p ∷ []) qs s t (quiet b c (p ∷ []) e f (ap (λ (x : List Kept). x ++ []) g)) h k

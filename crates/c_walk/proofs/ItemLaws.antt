@@ -56,7 +56,7 @@ module _ (m : DataModel) (bodies : List (List ℕ)) where
   by_functions s (raw.Closed p name) rest = refl
 
   pub starts_of-next : (before now : List Start) (s u : Scope) (x : raw.Item) (rest : List raw.Item) → u ≡ after_item m bodies s x → now ≡ before ++ starts_by m bodies s x
-    → now ++ starts_of m bodies u rest ≡ before ++ starts_of m bodies s (x ∷ rest)
+      → now ++ starts_of m bodies u rest ≡ before ++ starts_of m bodies s (x ∷ rest)
   starts_of-next before now s u x rest e f =
       ap (λ (y : Scope). now ++ starts_of m bodies y rest) e
       ∙ ap (λ (y : List Start). y ++ starts_of m bodies (after_item m bodies s x) rest) f
@@ -64,7 +64,7 @@ module _ (m : DataModel) (bodies : List (List ℕ)) where
       ∙ ap (λ (y : List Start). before ++ y) (sym (by_starts s x rest))
 
   pub functions_of-next : (before now : List t.Function) (s u : Scope) (x : raw.Item) (rest : List raw.Item) → u ≡ after_item m bodies s x → now ≡ before ++ functions_by m bodies s x
-    → now ++ functions_of m bodies u rest ≡ before ++ functions_of m bodies s (x ∷ rest)
+      → now ++ functions_of m bodies u rest ≡ before ++ functions_of m bodies s (x ∷ rest)
   functions_of-next before now s u x rest e f =
       ap (λ (y : Scope). now ++ functions_of m bodies y rest) e
       ∙ ap (λ (y : List t.Function). y ++ functions_of m bodies (after_item m bodies s x) rest) f
@@ -81,14 +81,14 @@ module _ (m : DataModel) (bodies : List (List ℕ)) where
   by_kept s (raw.Closed p name) rest = refl
 
   by_outside : (s : Scope) (x : raw.Item) (rest : List raw.Item)
-    → rule.kept_outside m bodies s (x ∷ rest) ≡ outside_by m bodies s x ++ rule.kept_outside m bodies (after_item m bodies s x) rest
+      → rule.kept_outside m bodies s (x ∷ rest) ≡ outside_by m bodies s x ++ rule.kept_outside m bodies (after_item m bodies s x) rest
   by_outside s (raw.Function p name result xs body) rest = refl
   by_outside s (raw.Prototype p name result types) rest = refl
   by_outside s (raw.Global ds) rest = refl
   by_outside s (raw.Closed p name) rest = refl
 
   pub kept-next : (before now : List (List rule.Kept)) (s u : Scope) (x : raw.Item) (rest : List raw.Item) → u ≡ after_item m bodies s x → now ≡ before ++ kept_by m bodies s x
-    → now ++ kept_of_items u rest ≡ before ++ kept_of_items s (x ∷ rest)
+      → now ++ kept_of_items u rest ≡ before ++ kept_of_items s (x ∷ rest)
   kept-next before now s u x rest e f =
       ap (λ (y : Scope). now ++ kept_of_items y rest) e
       ∙ ap (λ (y : List (List rule.Kept)). y ++ kept_of_items (after_item m bodies s x) rest) f
@@ -96,7 +96,7 @@ module _ (m : DataModel) (bodies : List (List ℕ)) where
       ∙ ap (λ (y : List (List rule.Kept)). before ++ y) (sym (by_kept s x rest))
 
   pub outside-next : (before now : List rule.Kept) (s u : Scope) (x : raw.Item) (rest : List raw.Item) → u ≡ after_item m bodies s x → now ≡ before ++ outside_by m bodies s x
-    → now ++ rule.kept_outside m bodies u rest ≡ before ++ rule.kept_outside m bodies s (x ∷ rest)
+      → now ++ rule.kept_outside m bodies u rest ≡ before ++ rule.kept_outside m bodies s (x ∷ rest)
   outside-next before now s u x rest e f =
       ap (λ (y : Scope). now ++ rule.kept_outside m bodies y rest) e
       ∙ ap (λ (y : List rule.Kept). y ++ rule.kept_outside m bodies (after_item m bodies s x) rest) f

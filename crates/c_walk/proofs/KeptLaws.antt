@@ -38,7 +38,7 @@ module _ (m : DataModel) (bodies : List (List ℕ)) where
       kept_in_node (Logic both a b) = neither (parts es Value a) (parts es Value b) (kept_of_expression Value a) (kept_of_expression Value b)
       kept_in_node (Choose mark e a b) =
           neither (parts es Value e ++ parts es Effect a) (parts es Effect b)
-            (neither (parts es Value e) (parts es Effect a) (kept_of_expression Value e) (kept_of_expression Effect a)) (kept_of_expression Effect b)
+          (neither (parts es Value e) (parts es Effect a) (kept_of_expression Value e) (kept_of_expression Effect a)) (kept_of_expression Effect b)
       kept_in_node (Comma a b) = neither (parts es Effect a) (parts es Effect b) (kept_of_expression Effect a) (kept_of_expression Effect b)
       kept_in_node (Assign op a b) = neither (parts es Target a) (parts es Value b) (kept_of_expression Target a) (kept_of_expression Value b)
       kept_in_node (Call f w gs close) = kept_of_arguments gs
@@ -60,9 +60,9 @@ module _ (m : DataModel) (bodies : List (List ℕ)) where
 
 -- a value of an object of static storage: its own part may be looked at behind its expression, and it is kept
 pub value_found : (m : DataModel) (items : List raw.Item) (b f : Found) (s t : Scope) (e : Exp) (best : Option Refusal) (ks : List Kept) (n : ℕ) (x : typ.Exp)
-  → f ≡ with_parts m items b (parts (seen s) Value e) → t ≡ s → best ≡ noted_part m items f.best (Initializing true t e)
-  → n ≡ length s.objects - 1 → x ≡ typed m (bodies_of items) (seen s) e → ks ≡ f.kept ++ kept (Some n) x ∷ []
-  → found best ks ≡ with_parts m items b (parts_of_value true s e)
+    → f ≡ with_parts m items b (parts (seen s) Value e) → t ≡ s → best ≡ noted_part m items f.best (Initializing true t e)
+    → n ≡ length s.objects - 1 → x ≡ typed m (bodies_of items) (seen s) e → ks ≡ f.kept ++ kept (Some n) x ∷ []
+    → found best ks ≡ with_parts m items b (parts_of_value true s e)
 value_found m items b f s t e best ks n x ef et eb en ex ek =
     let bodies = bodies_of items in
     let none : kept_of_parts m bodies (parts (seen s) Value e) ≡ [] = kept_of_expression m bodies (seen s) Value e in
@@ -70,7 +70,7 @@ value_found m items b f s t e best ks n x ef et eb en ex ek =
     let last = length s.objects - 1 in
     let tree = typed m bodies (seen s) e in
     same_found best (noted_parts m items b.best (parts_of_value true s e)) ks (b.kept ++ kept_of_parts m bodies (parts_of_value true s e))
-      (noted_behind m items b.best f.best best (parts (seen s) Value e) (Initializing true s e) (ap (λ (y : Found). y.best) ef)
-        (eb ∙ ap (λ (y : Scope). noted_part m items f.best (Initializing true y e)) et))
-      (ek ∙ ap (λ (y : List Kept). y ++ kept (Some n) x ∷ []) same ∙ ap (λ (y : ℕ). b.kept ++ kept (Some y) x ∷ []) en
-        ∙ ap (λ (y : typ.Exp). b.kept ++ kept (Some last) y ∷ []) ex ∙ ap (λ (y : List Kept). b.kept ++ kept (Some last) tree ∷ y) (sym none))
+    (noted_behind m items b.best f.best best (parts (seen s) Value e) (Initializing true s e) (ap (λ (y : Found). y.best) ef)
+    (eb ∙ ap (λ (y : Scope). noted_part m items f.best (Initializing true y e)) et))
+    (ek ∙ ap (λ (y : List Kept). y ++ kept (Some n) x ∷ []) same ∙ ap (λ (y : ℕ). b.kept ++ kept (Some y) x ∷ []) en
+    ∙ ap (λ (y : typ.Exp). b.kept ++ kept (Some last) y ∷ []) ex ∙ ap (λ (y : List Kept). b.kept ++ kept (Some last) tree ∷ y) (sym none))

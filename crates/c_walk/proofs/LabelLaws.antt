@@ -73,15 +73,15 @@ names_taken : (ls : List Label) (i : ℕ) (d : Label) → i < length ls → name
 names_taken ls i d h = ap names_seen (take_more ls i d h) ∙ names_one_more (take i ls) (get_or ls i d)
 
 pub known_next : (ls : List Label) (i : ℕ) (d : Label) (w : List ℕ) (a b : Bool) → i < length ls → b ≡ (a || bytes_eq w (get_or ls i d).name.now) → a ≡ is_among (names_seen (take i ls)) w
-  → b ≡ is_among (names_seen (take (i + 1) ls)) w
+    → b ≡ is_among (names_seen (take (i + 1) ls)) w
 known_next ls i d w a b h e f =
     let l = get_or ls i d in
     e ∙ ap (λ (x : Bool). x || bytes_eq w l.name.now) f ∙ sym (among_one_more (names_seen (take i ls)) l.name.now w) ∙ sym (ap (λ (xs : List (List ℕ)). is_among xs w) (names_taken ls i d h))
 
 pub labels_next : (m : DataModel) (items : List Item) (ls : List Label) (i : ℕ) (d : Label) (best new n : Option Refusal) (doubled : Bool) → i < length ls
-  → new ≡ noted best doubled (refusal code.Again (get_or ls i d).spot) → doubled ≡ is_among (names_seen (take i ls)) (get_or ls i d).name.now
-  → noted_parts m items best (parts_of_labels (names_seen (take i ls)) (labels_seen (drop i ls))) ≡ n
-  → noted_parts m items new (parts_of_labels (names_seen (take (i + 1) ls)) (labels_seen (drop (i + 1) ls))) ≡ n
+    → new ≡ noted best doubled (refusal code.Again (get_or ls i d).spot) → doubled ≡ is_among (names_seen (take i ls)) (get_or ls i d).name.now
+    → noted_parts m items best (parts_of_labels (names_seen (take i ls)) (labels_seen (drop i ls))) ≡ n
+    → noted_parts m items new (parts_of_labels (names_seen (take (i + 1) ls)) (labels_seen (drop (i + 1) ls))) ≡ n
 labels_next m items ls i d best new n doubled h e f g =
     let l = get_or ls i d in
     let before = names_seen (take i ls) in

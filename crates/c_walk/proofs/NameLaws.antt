@@ -16,7 +16,7 @@ use Rattle.c_rules.specs.Scopes.{Scope, seen, after_name}
 use Rattle.std.specs.Option.{option_map}
 
 pub next_declared : (ds : List RawDeclared) (i : ℕ) (d : RawDeclared) → i < length ds → d ≡ get_or ds i d
-  → map declared_view (drop i ds) ≡ declared_view d ∷ map declared_view (drop (i + 1) ds)
+    → map declared_view (drop i ds) ≡ declared_view d ∷ map declared_view (drop (i + 1) ds)
 next_declared ds i d h q = ap (map declared_view) (drop_more ds i d h ∙ ap (λ (x : RawDeclared). x ∷ drop (i + 1) ds) (sym q))
 
 -- these names, and then the rest
@@ -29,7 +29,7 @@ names_before-none [] = refl
 names_before-none (d ∷ ds) = ap (t.MoreName d.spot d.object (init_view d.init)) (names_before-none ds)
 
 pub names_before-one_more : (ds : List Declared) (d : Declared) (rest : t.Names)
-  → names_before (ds ++ d ∷ []) rest ≡ names_before ds (t.MoreName d.spot d.object (init_view d.init) rest)
+    → names_before (ds ++ d ∷ []) rest ≡ names_before ds (t.MoreName d.spot d.object (init_view d.init) rest)
 names_before-one_more [] d rest = refl
 names_before-one_more (x ∷ ds) d rest = ap (t.MoreName x.spot x.object (init_view x.init)) (names_before-one_more ds d rest)
 
@@ -39,8 +39,8 @@ same_more p q n k i j xs ys e f g h =
 
 -- one name more is typed, and the rest follows in the scope behind it
 pub names_typed-next : (m : DataModel) (bodies : List (List ℕ)) (all : List Declared) (x : Declared) (s u : Scope) (d : raw.Declared) (rest : List raw.Declared)
-  → x.spot ≡ d.spot → x.object ≡ length s.objects → init_view x.init ≡ typed_init m bodies (seen (after_name m bodies false s d)) d.init → u ≡ after_name m bodies false s d
-  → names_before (all ++ x ∷ []) (typed_names m bodies u rest) ≡ names_before all (typed_names m bodies s (d ∷ rest))
+    → x.spot ≡ d.spot → x.object ≡ length s.objects → init_view x.init ≡ typed_init m bodies (seen (after_name m bodies false s d)) d.init → u ≡ after_name m bodies false s d
+    → names_before (all ++ x ∷ []) (typed_names m bodies u rest) ≡ names_before all (typed_names m bodies s (d ∷ rest))
 names_typed-next m bodies all x s u d rest p n i e =
     names_before-one_more all x (typed_names m bodies u rest)
     ∙ ap (names_before all) (same_more x.spot d.spot x.object (length s.objects) (init_view x.init) (typed_init m bodies (seen (after_name m bodies false s d)) d.init) (typed_names m bodies u rest) (typed_names m bodies (after_name m bodies false s d) rest) p n i (ap (λ y. typed_names m bodies y rest) e))

@@ -9,12 +9,12 @@ use Rattle.c_rules.specs.Checked.{numbers_from}
 use Rattle.c_rules.specs.Scopes.{Scope, with_object, parameter, after_parameters}
 
 pub next_parameter : (xs : List RawParam) (i : ℕ) (x : RawParam) → i < length xs → x ≡ get_or xs i x
-  → map param_view (drop i xs) ≡ param_view x ∷ map param_view (drop (i + 1) xs)
+    → map param_view (drop i xs) ≡ param_view x ∷ map param_view (drop (i + 1) xs)
 next_parameter xs i x h q = ap (map param_view) (drop_more xs i x h ∙ ap (λ (y : RawParam). y ∷ drop (i + 1) xs) (sym q))
 
 pub numbers-next : (m : DataModel) (bodies : List (List ℕ)) (all : List ℕ) (n : ℕ) (s u : Scope) (x : raw.Param) (rest : List raw.Param)
-  → n ≡ length s.objects → u ≡ with_object s (parameter x)
-  → (all ++ n ∷ []) ++ numbers_from m bodies (length u.objects) rest ≡ all ++ numbers_from m bodies (length s.objects) (x ∷ rest)
+    → n ≡ length s.objects → u ≡ with_object s (parameter x)
+    → (all ++ n ∷ []) ++ numbers_from m bodies (length u.objects) rest ≡ all ++ numbers_from m bodies (length s.objects) (x ∷ rest)
 numbers-next m bodies all n s u x rest e f =
     let k : length u.objects ≡ length s.objects + 1 = ap (λ (y : Scope). length y.objects) f ∙ length-append s.objects (parameter x ∷ []) in
     append_assoc all (n ∷ []) (numbers_from m bodies (length u.objects) rest)

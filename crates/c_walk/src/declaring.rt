@@ -108,11 +108,7 @@ fn value(context: &Context, walk: &mut Walk, e: &RawExpr) -> Result<Expr, OutOfM
     Ok(typed)
 }
 
-fn values(
-    context: &Context,
-    walk: &mut Walk,
-    es: &[RawExpr],
-) -> Result<Seq<Expr>, OutOfMemory>
+fn values(context: &Context, walk: &mut Walk, es: &[RawExpr]) -> Result<Seq<Expr>, OutOfMemory>
     ensures typed { IfOk result (λ r. typed_views r ≡ typing.typed_all context.now.model (bodies_in context.now) (seen (scope_at walk.old)) (exps (exprs_view es.now))) }
     ensures scope { OnOk result (scope_at walk.new ≡ scope_at walk.old) }
     ensures noted { OnOk result (IsNoted context.now walk.old walk.new (part.parts_of_values false (scope_at walk.old) (exps (exprs_view es.now)))) }
@@ -126,11 +122,7 @@ fn values(
 }
 
 // The initializer of the last name of the scope.
-fn initializer(
-    context: &Context,
-    walk: &mut Walk,
-    init: &RawInit,
-) -> Result<Init, OutOfMemory>
+fn initializer(context: &Context, walk: &mut Walk, init: &RawInit) -> Result<Init, OutOfMemory>
     ensures typed { IfOk result (λ r. typed_init_view r ≡ checked.typed_init context.now.model (bodies_in context.now) (seen (scope_at walk.old)) (init_view init.now)) }
     ensures scope { OnOk result (scope_at walk.new ≡ scope_at walk.old) }
     ensures noted { OnOk result (IsNoted context.now walk.old walk.new (part.parts_of_init false (scope_at walk.old) (init_view init.now))) }

@@ -19,7 +19,12 @@ use c_typing::expression;
 use wv_base::OutOfMemory;
 
 /// An expression that is part of no other.
-pub fn full(context: &Context, walk: &mut Walk, role: Role, e: &RawExpr) -> Result<Expr, OutOfMemory>
+pub fn full(
+    context: &Context,
+    walk: &mut Walk,
+    role: Role,
+    e: &RawExpr,
+) -> Result<Expr, OutOfMemory>
     ensures typed { IfOk result (λ r. typed_view r ≡ typing.typed context.now.model (bodies_in context.now) (seen (scope_at walk.old)) (expr_view e.now)) }
     ensures scope { OnOk result (scope_at walk.new ≡ scope_at walk.old) }
     ensures noted { OnOk result (IsNoted context.now walk.old walk.new (part.parts (seen (scope_at walk.old)) (role_of role) (expr_view e.now))) }

@@ -105,7 +105,9 @@ fn item<'a>(
             body,
         } => {
             let xs = params.as_slice();
-            add_function(context, walk, functions, kept, *spot, name, *result, xs, body)?;
+            add_function(
+                context, walk, functions, kept, *spot, name, *result, xs, body,
+            )?;
             Ok(())
         }
         Item::Prototype {

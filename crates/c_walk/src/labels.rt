@@ -80,10 +80,7 @@ fn gather_labelled<'a>(
 }
 
 #[cycle(gather)]
-fn gather_else<'a>(
-    all: &mut Vec<Label<'a>>,
-    s: &'a Option<Box<RawStmt>>,
-) -> Result<(), OutOfMemory>
+fn gather_else<'a>(all: &mut Vec<Label<'a>>, s: &'a Option<Box<RawStmt>>) -> Result<(), OutOfMemory>
     ensures { OnOk result (labels_seen all.new.items ≡ labels_seen all.old.items ++ part.labels_of_else (else_if s.now)) }
 {
     match s {
@@ -121,11 +118,7 @@ fn first_doubled(
 }
 
 /// What is refused of the labels of a function's body.
-pub fn note_labels(
-    context: &Context,
-    walk: &mut Walk,
-    body: &RawStmt,
-) -> Result<(), OutOfMemory>
+pub fn note_labels(context: &Context, walk: &mut Walk, body: &RawStmt) -> Result<(), OutOfMemory>
     ensures scope { OnOk result (scope_at walk.new ≡ scope_at walk.old) }
     ensures noted { OnOk result (IsJudged context.now walk.old walk.new (part.parts_of_labels [] (part.labels_of (stmt_view body.now)))) }
     ensures kept { OnOk result (walk.new.kept ≡ walk.old.kept) }

@@ -52,7 +52,9 @@ fn alters(built: Option<Callee>, known: Known) -> bool
         (
             Some(callee),
             Known::Function {
-                result, has_body, ..
+                result,
+                has_body,
+                ..
             },
         ) => has_body || !same_result(result_of(callee), result),
         _ => false,

@@ -69,7 +69,10 @@ impl<'a> Walk<'a> {
         ensures best { self.new.best ≡ self.old.best }
         ensures kept { self.new.kept ≡ self.old.kept }
     {
-        let cells = self.cells.checked_add(u64::from(object.cells)).ok_or(OutOfMemory)?;
+        let cells = self
+            .cells
+            .checked_add(u64::from(object.cells))
+            .ok_or(OutOfMemory)?;
         self.objects.push(object)?;
         self.cells = cells;
         Ok(())

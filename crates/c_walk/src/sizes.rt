@@ -70,7 +70,11 @@ fn size_of(context: &Context, walk: &mut Walk, e: &RawExpr) -> Result<Option<u32
 }
 
 /// The size that a declaration states, where it states one that fits.
-pub fn size(context: &Context, walk: &mut Walk, e: &Option<RawExpr>) -> Result<Option<u32>, OutOfMemory>
+pub fn size(
+    context: &Context,
+    walk: &mut Walk,
+    e: &Option<RawExpr>,
+) -> Result<Option<u32>, OutOfMemory>
     ensures size { IfOk result (λ r. r ≡ size_stated context.now.model (bodies_in context.now) (seen (scope_at walk.old)) (option_map expr_view e.now)) }
     ensures scope { OnOk result (scope_at walk.new ≡ scope_at walk.old) }
     ensures noted { OnOk result (IsJudged context.now walk.old walk.new (part.parts_if (seen (scope_at walk.old)) part.Value (option_map expr_view e.now))) }

@@ -49,7 +49,14 @@ fn walk_items(context: &Context, source: &[Item]) -> Result<Walked, OutOfMemory>
     let mut starts = Seq::new(context.alloc);
     let mut functions = Seq::new(context.alloc);
     let mut kept = Seq::new(context.alloc);
-    items(context, &mut walk, &mut starts, &mut functions, &mut kept, source)?;
+    items(
+        context,
+        &mut walk,
+        &mut starts,
+        &mut functions,
+        &mut kept,
+        source,
+    )?;
     Ok(Walked {
         objects: walk.objects,
         starts,
@@ -61,11 +68,7 @@ fn walk_items(context: &Context, source: &[Item]) -> Result<Walked, OutOfMemory>
 }
 
 /// Goes through all parts of a source.
-pub fn walk_source(
-    alloc: Global,
-    source: &[Item],
-    model: DataModel,
-) -> Result<Walked, OutOfMemory>
+pub fn walk_source(alloc: Global, source: &[Item], model: DataModel) -> Result<Walked, OutOfMemory>
     ensures objects { IfOk result (λ w. w.objects ≡ (after_items model (bodies_of (map item_view source.now)) outermost (map item_view source.now)).objects) }
     ensures starts { IfOk result (λ w. w.starts ≡ starts_of model (bodies_of (map item_view source.now)) outermost (map item_view source.now)) }
     ensures functions { IfOk result (λ w. functions_view w.functions ≡ functions_of model (bodies_of (map item_view source.now)) outermost (map item_view source.now)) }

@@ -27,7 +27,11 @@ fn parsed(alloc: Global, text: &[u8]) -> Option<Source> {
 }
 
 fn report_program(rt: &HostRuntime, program: &Program) -> io::Result<()> {
-    println!(rt; "{} objects, {} functions", program.objects.len(), program.functions.len())
+    println!(rt;
+        "{} objects, {} functions",
+        program.objects.len(),
+        program.functions.len()
+    )
 }
 
 fn word(code: CheckCode) -> &'static str {

@@ -89,8 +89,14 @@ fn all_cells_are_at_most_a_hundred_thousand(rt: HostRuntime) -> Result<(), Fail>
         ("int b[161]; int main() { }", "cells 391:5"),
         ("int b[160]; int main() { int c; }", "cells 391:30"),
         ("int b[159]; void f(int c) { } int main() { }", "program"),
-        ("int b[159]; void f(int c, int d) { } int main() { }", "cells 391:31"),
-        ("int b[160]; void f(int c, int d); int main() { }", "program"),
+        (
+            "int b[159]; void f(int c, int d) { } int main() { }",
+            "cells 391:31",
+        ),
+        (
+            "int b[160]; void f(int c, int d); int main() { }",
+            "program",
+        ),
         ("int b[161], b; int main() { }", "cells 391:5"),
         ("int b[160], b; int main() { }", "again 391:13"),
     ];

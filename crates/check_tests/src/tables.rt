@@ -58,12 +58,7 @@ pub fn told(alloc: Global, model: DataModel, text: &str) -> Result<String, Alloc
 }
 
 /// Tries each row of a table.
-pub fn try_rows(
-    rt: &impl Abort,
-    alloc: Global,
-    model: DataModel,
-    table: &str,
-) -> Result<(), Fail> {
+pub fn try_rows(rt: &impl Abort, alloc: Global, model: DataModel, table: &str) -> Result<(), Fail> {
     for row in table.split('\n') {
         let Some((text, wanted)) = row.split_once(" => ") else {
             continue;

@@ -20,8 +20,8 @@ returns-clause-noted c =
     let noted = c.note_declared.new.walk in
     c.in_ok-declare.ensures.found
     ∙ kept_so m items (found_at c.args.walk.now) (found_at noted) (declarator c.args.fixed s d) (kept_size m (bodies_in c.args.context.now) (seen s) d.size)
-        (noted_then m items c.args.walk.now.best c.size.new.walk.best noted.best
-          (parts_if (seen s) Value d.size) (λ (x : Scope). Declaring c.args.fixed x d ∷ []) s (scope_at c.size.new.walk)
-          c.in_ok-size.ensures.noted c.in_ok-size.ensures.scope c.note_declared.ensures.noted)
-        (ap kept_views c.note_declared.ensures.kept ∙ c.in_ok-size.ensures.kept)
-        (kept_of_declarator m (bodies_in c.args.context.now) c.args.fixed s d)
+    (noted_then m items c.args.walk.now.best c.size.new.walk.best noted.best
+    (parts_if (seen s) Value d.size) (λ (x : Scope). Declaring c.args.fixed x d ∷ []) s (scope_at c.size.new.walk)
+    c.in_ok-size.ensures.noted c.in_ok-size.ensures.scope c.note_declared.ensures.noted)
+    (ap kept_views c.note_declared.ensures.kept ∙ c.in_ok-size.ensures.kept)
+    (kept_of_declarator m (bodies_in c.args.context.now) c.args.fixed s d)

@@ -14,6 +14,6 @@ returns-clause-noted c =
     let d = declared_view c.args.d.now in
     let behind = after_name m (bodies_in c.args.context.now) false s d in
     found_then m items (found_at c.args.walk.now) (found_at c.declare.new.walk) _
-      (declarator false s d) (λ (x : Scope). parts_of_init false x d.init) behind (scope_at c.declare.new.walk)
-      c.in_ok-object.ensures.noted c.in_ok-object.ensures.scope c.in_ok-init.ensures.noted
+    (declarator false s d) (λ (x : Scope). parts_of_init false x d.init) behind (scope_at c.declare.new.walk)
+    c.in_ok-object.ensures.noted c.in_ok-object.ensures.scope c.in_ok-init.ensures.noted
     ∙ ap (with_parts m items (found_at c.args.walk.now)) (append_assoc (parts_if (seen s) Value d.size) (Declaring false s d ∷ []) (parts_of_init false behind d.init))

@@ -27,15 +27,15 @@ loop-d-preserved c =
     let pushed : c.push.new.self ≡ c.loop-d.all ++ x ∷ [] = search rules in
     record {
       typed = ap (λ (xs : List Declared). names_before xs (typed_names m bodies u rest)) pushed
-        ∙ names_typed-next m bodies c.loop-d.all x s u d rest c.in_ok-declared.ensures.spot c.in_ok-declared.ensures.number c.in_ok-declared.ensures.typed c.in_ok-declared.ensures.scope
-        ∙ sym (ap (λ (xs : List raw.Declared). names_before c.loop-d.all (typed_names m bodies s xs)) next)
-        ∙ c.loop-d.invariant.typed;
+          ∙ names_typed-next m bodies c.loop-d.all x s u d rest c.in_ok-declared.ensures.spot c.in_ok-declared.ensures.number c.in_ok-declared.ensures.typed c.in_ok-declared.ensures.scope
+          ∙ sym (ap (λ (xs : List raw.Declared). names_before c.loop-d.all (typed_names m bodies s xs)) next)
+          ∙ c.loop-d.invariant.typed;
       scope = ap (λ (y : Scope). after_names m bodies false y rest) c.in_ok-declared.ensures.scope
-        ∙ sym (ap (after_names m bodies false s) next)
-        ∙ c.loop-d.invariant.scope;
+          ∙ sym (ap (after_names m bodies false s) next)
+          ∙ c.loop-d.invariant.scope;
       noted = found_on m items (found_at c.loop-d.walk) (found_at c.name.new.walk) _ (parts_of_name m bodies false s d) (λ (y : Scope). parts_of_names m bodies false y rest) (after_name m bodies false s d) u
-        c.in_ok-declared.ensures.noted c.in_ok-declared.ensures.scope
-        (sym (ap (λ (xs : List raw.Declared). with_parts m items (found_at c.loop-d.walk) (parts_of_names m bodies false s xs)) next) ∙ c.loop-d.invariant.noted);
+          c.in_ok-declared.ensures.noted c.in_ok-declared.ensures.scope
+          (sym (ap (λ (xs : List raw.Declared). with_parts m items (found_at c.loop-d.walk) (parts_of_names m bodies false s xs)) next) ∙ c.loop-d.invariant.noted);
     }
 
 pub returns-clause-typed : goal.returns-clause-typed

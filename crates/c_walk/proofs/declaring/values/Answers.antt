@@ -26,15 +26,15 @@ loop-e-preserved c =
     let pushed : c.push.new.self ≡ c.loop-e.all ++ c.in_ok-typed.typed ∷ [] = search rules in
     record {
       typed = ap (λ (xs : List Expr). before xs (typed_all m bodies (seen s) rest)) pushed
-        ∙ before_one_more c.loop-e.all c.in_ok-typed.typed (typed_all m bodies (seen s) rest)
-        ∙ ap (λ (x : t.Exp). before c.loop-e.all (t.MoreExp x (typed_all m bodies (seen s) rest)))
-            (c.in_ok-typed.ensures.typed ∙ ap (λ (x : Scope). typed m bodies (seen x) e) c.loop-e.invariant.scope)
-        ∙ sym (ap (λ (x : raw.Exps). before c.loop-e.all (typed_all m bodies (seen s) x)) next)
-        ∙ c.loop-e.invariant.typed;
+          ∙ before_one_more c.loop-e.all c.in_ok-typed.typed (typed_all m bodies (seen s) rest)
+          ∙ ap (λ (x : t.Exp). before c.loop-e.all (t.MoreExp x (typed_all m bodies (seen s) rest)))
+          (c.in_ok-typed.ensures.typed ∙ ap (λ (x : Scope). typed m bodies (seen x) e) c.loop-e.invariant.scope)
+          ∙ sym (ap (λ (x : raw.Exps). before c.loop-e.all (typed_all m bodies (seen s) x)) next)
+          ∙ c.loop-e.invariant.typed;
       scope = c.in_ok-typed.ensures.scope ∙ c.loop-e.invariant.scope;
       noted = found_on m items (found_at c.loop-e.walk) (found_at c.value.new.walk) _ (parts_of_value false s e) (λ (x : Scope). parts_of_values false s rest) s s
-        (c.in_ok-typed.ensures.noted ∙ ap (λ (x : Scope). with_parts m items (found_at c.loop-e.walk) (parts_of_value false x e)) c.loop-e.invariant.scope) refl
-        (sym (ap (λ (x : raw.Exps). with_parts m items (found_at c.loop-e.walk) (parts_of_values false s x)) next) ∙ c.loop-e.invariant.noted);
+          (c.in_ok-typed.ensures.noted ∙ ap (λ (x : Scope). with_parts m items (found_at c.loop-e.walk) (parts_of_value false x e)) c.loop-e.invariant.scope) refl
+          (sym (ap (λ (x : raw.Exps). with_parts m items (found_at c.loop-e.walk) (parts_of_values false s x)) next) ∙ c.loop-e.invariant.noted);
     }
 
 pub returns-clause-typed : goal.returns-clause-typed

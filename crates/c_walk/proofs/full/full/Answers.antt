@@ -14,4 +14,4 @@ returns-clause-noted c =
     let m = c.args.context.now.model in
     let es = seen (scope_at c.args.walk.now) in
     quiet m (items_in c.args.context.now) (found_at c.args.walk.now) (found c.expression.new.best (kept_views c.args.walk.now.kept)) (parts es (role_of c.args.role) (expr_view c.args.e.now))
-      c.in_ok-typed.ensures.noted refl (kept_of_expression m (bodies_in c.args.context.now) es (role_of c.args.role) (expr_view c.args.e.now))
+    c.in_ok-typed.ensures.noted refl (kept_of_expression m (bodies_in c.args.context.now) es (role_of c.args.role) (expr_view c.args.e.now))

@@ -51,7 +51,7 @@ returns-clause-kept c =
     ap kept_views c.set_kept-kept.ensures.given
     ∙ ap (λ (y : Found). y.kept) c.in_ok-statements.ensures.noted
     ∙ ap (λ (y : List Kept). kept_views y ++ kept_of_parts m bodies (parts_of_block m bodies c.args.gives false t (stms (map stmt_view c.statements_in.result.now))))
-        (c.set_kept-outside.ensures.kept ∙ c.new-empty.ensures)
+    (c.set_kept-outside.ensures.kept ∙ c.new-empty.ensures)
     ∙ ap (λ y. kept_of_parts m bodies (parts_of_block m bodies c.args.gives false t y)) c.statements_in.ensures
     ∙ ap (λ (y : Scope). kept_of_parts m bodies (parts_of_block m bodies c.args.gives false y b)) c.set_kept-outside.ensures.scope
 

@@ -1,5 +1,4 @@
 use Rattle.std.proofs.Common.{◌≡◌, ◌++◌, ◌∷◌, [], ℕ, List, length, true, append_assoc, ap, ◌∙◌}
-
 use Rattle.c_parser.specs.SourceView.{declared_view}
 use Rattle.c_rules.specs.Checked.{start_of_init}
 use Rattle.c_rules.specs.Parts.{Value, Declaring, parts_if, parts_of_init}
@@ -25,6 +24,6 @@ returns-clause-noted c =
     let d = declared_view c.args.d.now in
     let behind = after_name m (bodies_in c.args.context.now) true s d in
     found_then m items (found_at c.args.walk.now) (found_at c.declare.new.walk) _
-      (declarator true s d) (λ (x : Scope). parts_of_init true x d.init) behind (scope_at c.declare.new.walk)
-      c.in_ok-number.ensures.noted c.in_ok-number.ensures.scope c.in_ok-initializer.ensures.noted
+    (declarator true s d) (λ (x : Scope). parts_of_init true x d.init) behind (scope_at c.declare.new.walk)
+    c.in_ok-number.ensures.noted c.in_ok-number.ensures.scope c.in_ok-initializer.ensures.noted
     ∙ ap (with_parts m items (found_at c.args.walk.now)) (append_assoc (parts_if (seen s) Value d.size) (Declaring true s d ∷ []) (parts_of_init true behind d.init))

@@ -25,15 +25,15 @@ loop-d-preserved c =
     let next = next_declared c.args.ds.now c.loop-d.d-index c.d-item.result c.loop-d-test.true c.d-item.is in
     record {
       starts = ap (λ (xs : List Start). xs ++ starts_of_names m bodies u rest) c.in_ok-global.ensures.starts
-        ∙ starts-next m bodies c.loop-d.starts s u d rest c.in_ok-global.ensures.scope
-        ∙ sym (ap (λ (xs : List raw.Declared). c.loop-d.starts ++ starts_of_names m bodies s xs) next)
-        ∙ c.loop-d.invariant.starts;
+          ∙ starts-next m bodies c.loop-d.starts s u d rest c.in_ok-global.ensures.scope
+          ∙ sym (ap (λ (xs : List raw.Declared). c.loop-d.starts ++ starts_of_names m bodies s xs) next)
+          ∙ c.loop-d.invariant.starts;
       scope = ap (λ (y : Scope). after_names m bodies true y rest) c.in_ok-global.ensures.scope
-        ∙ sym (ap (after_names m bodies true s) next)
-        ∙ c.loop-d.invariant.scope;
+          ∙ sym (ap (after_names m bodies true s) next)
+          ∙ c.loop-d.invariant.scope;
       noted = found_on m items (found_at c.loop-d.walk) (found_at c.global.new.walk) _ (parts_of_name m bodies true s d) (λ (y : Scope). parts_of_names m bodies true y rest) (after_name m bodies true s d) u
-        c.in_ok-global.ensures.noted c.in_ok-global.ensures.scope
-        (sym (ap (λ (xs : List raw.Declared). with_parts m items (found_at c.loop-d.walk) (parts_of_names m bodies true s xs)) next) ∙ c.loop-d.invariant.noted);
+          c.in_ok-global.ensures.noted c.in_ok-global.ensures.scope
+          (sym (ap (λ (xs : List raw.Declared). with_parts m items (found_at c.loop-d.walk) (parts_of_names m bodies true s xs)) next) ∙ c.loop-d.invariant.noted);
     }
 
 pub returns-clause-starts : goal.returns-clause-starts

@@ -13,6 +13,6 @@ returns-clause-noted c =
     let typed = c.in_ok-typed.typed in
     let last = c.keep.new.walk in
     value_found c.args.context.now.model (items_in c.args.context.now) (found_at c.args.walk.now) (found_at c.full.new.walk) (scope_at c.args.walk.now) (scope_at c.full.new.walk) e
-      last.best (kept_views last.kept) c.args.number (typed_view typed)
-      c.in_ok-typed.ensures.noted c.in_ok-typed.ensures.scope (c.in_ok-keep.ensures.best ∙ c.note_value.ensures.noted) c.requires c.in_ok-typed.ensures.typed
-      (c.in_ok-keep.ensures.kept ∙ ap (λ (ks : List Kept). ks ++ kept (Some c.args.number) (typed_view typed) ∷ []) (ap kept_views c.note_value.ensures.kept))
+    last.best (kept_views last.kept) c.args.number (typed_view typed)
+    c.in_ok-typed.ensures.noted c.in_ok-typed.ensures.scope (c.in_ok-keep.ensures.best ∙ c.note_value.ensures.noted) c.requires c.in_ok-typed.ensures.typed
+    (c.in_ok-keep.ensures.kept ∙ ap (λ (ks : List Kept). ks ++ kept (Some c.args.number) (typed_view typed) ∷ []) (ap kept_views c.note_value.ensures.kept))

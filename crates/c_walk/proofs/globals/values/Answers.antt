@@ -27,15 +27,15 @@ loop-e-preserved c =
     let pushed : c.push.new.self ≡ c.loop-e.all ++ c.in_ok-start.start ∷ [] = search rules in
     record {
       values = ap (λ (xs : List ℤ). xs ++ start_values m bodies (seen s) c.args.ty rest) pushed
-        ∙ append_assoc c.loop-e.all (c.in_ok-start.start ∷ []) (start_values m bodies (seen s) c.args.ty rest)
-        ∙ ap (λ (x : ℤ). c.loop-e.all ++ x ∷ start_values m bodies (seen s) c.args.ty rest)
-            (c.in_ok-start.ensures.value ∙ ap (λ (x : Scope). start_value m bodies (seen x) c.args.ty e) c.loop-e.invariant.scope)
-        ∙ sym (ap (λ (x : raw.Exps). c.loop-e.all ++ start_values m bodies (seen s) c.args.ty x) next)
-        ∙ c.loop-e.invariant.values;
+          ∙ append_assoc c.loop-e.all (c.in_ok-start.start ∷ []) (start_values m bodies (seen s) c.args.ty rest)
+          ∙ ap (λ (x : ℤ). c.loop-e.all ++ x ∷ start_values m bodies (seen s) c.args.ty rest)
+          (c.in_ok-start.ensures.value ∙ ap (λ (x : Scope). start_value m bodies (seen x) c.args.ty e) c.loop-e.invariant.scope)
+          ∙ sym (ap (λ (x : raw.Exps). c.loop-e.all ++ start_values m bodies (seen s) c.args.ty x) next)
+          ∙ c.loop-e.invariant.values;
       scope = c.in_ok-start.ensures.scope ∙ c.loop-e.invariant.scope;
       noted = found_on m items (found_at c.loop-e.walk) (found_at c.value.new.walk) _ (parts_of_value true s e) (λ (x : Scope). parts_of_values true s rest) s s
-        (c.in_ok-start.ensures.noted ∙ ap (λ (x : Scope). with_parts m items (found_at c.loop-e.walk) (parts_of_value true x e)) c.loop-e.invariant.scope) refl
-        (sym (ap (λ (x : raw.Exps). with_parts m items (found_at c.loop-e.walk) (parts_of_values true s x)) next) ∙ c.loop-e.invariant.noted);
+          (c.in_ok-start.ensures.noted ∙ ap (λ (x : Scope). with_parts m items (found_at c.loop-e.walk) (parts_of_value true x e)) c.loop-e.invariant.scope) refl
+          (sym (ap (λ (x : raw.Exps). with_parts m items (found_at c.loop-e.walk) (parts_of_values true s x)) next) ∙ c.loop-e.invariant.noted);
     }
 
 pub returns-clause-values : goal.returns-clause-values

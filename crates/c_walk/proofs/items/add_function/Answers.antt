@@ -38,18 +38,18 @@ returns-in_err-walked-clause-noted c =
     let f = raw.Function c.args.spot c.args.name.now c.args.gives (map param_view c.args.xs.now) (stmt_view c.args.body.now) in
     let e : c.from_residual.result ≡ Err c.in_err-walked.field-0.0 = search rules in
     fails (c.function.new.walk.best ≡ noted_parts c.args.context.now.model (items_in c.args.context.now) c.args.walk.now.best (parts_of_item c.args.context.now.model (bodies_in c.args.context.now) (scope_at c.args.walk.now) f))
-      c.from_residual.result _ e
+    c.from_residual.result _ e
 
 pub returns-in_err-push-clause-noted : goal.returns-in_err-push-clause-noted
 returns-in_err-push-clause-noted c =
     let f = raw.Function c.args.spot c.args.name.now c.args.gives (map param_view c.args.xs.now) (stmt_view c.args.body.now) in
     let e : c.from_residual-in_err-push.result ≡ Err c.in_err-push.field-0.0 = search rules in
     fails (c.function.new.walk.best ≡ noted_parts c.args.context.now.model (items_in c.args.context.now) c.args.walk.now.best (parts_of_item c.args.context.now.model (bodies_in c.args.context.now) (scope_at c.args.walk.now) f))
-      c.from_residual-in_err-push.result _ e
+    c.from_residual-in_err-push.result _ e
 
 pub returns-in_err-push-2-clause-noted : goal.returns-in_err-push-2-clause-noted
 returns-in_err-push-2-clause-noted c =
     let f = raw.Function c.args.spot c.args.name.now c.args.gives (map param_view c.args.xs.now) (stmt_view c.args.body.now) in
     let e : c.from_residual-in_err-push-2.result ≡ Err c.in_err-push-2.field-0.0 = search rules in
     fails (c.function.new.walk.best ≡ noted_parts c.args.context.now.model (items_in c.args.context.now) c.args.walk.now.best (parts_of_item c.args.context.now.model (bodies_in c.args.context.now) (scope_at c.args.walk.now) f))
-      c.from_residual-in_err-push-2.result _ e
+    c.from_residual-in_err-push-2.result _ e

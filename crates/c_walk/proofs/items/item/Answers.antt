@@ -20,7 +20,7 @@ returns-in_ok-add_function-in-Function-clause-starts c =
     let bodies = bodies_in c.args.context.now in
     let s = scope_at c.args.walk.now in
     let q : raw.Function c.in-Function.spot c.in-Function.name c.in-Function.result (map param_view c.as_slice-xs.result.now) (stmt_view c.in-Function.body) ≡ item_view c.args.item.now =
-      ap (λ (ys : List RawParam). raw.Function c.in-Function.spot c.in-Function.name c.in-Function.result (map param_view ys) (stmt_view c.in-Function.body)) c.as_slice-xs.ensures ∙ sym (ap item_view c.in-Function.is) in
+    ap (λ (ys : List RawParam). raw.Function c.in-Function.spot c.in-Function.name c.in-Function.result (map param_view ys) (stmt_view c.in-Function.body)) c.as_slice-xs.ensures ∙ sym (ap item_view c.in-Function.is) in
     sym (append-nil (c.args.starts.now)) ∙ ap (λ (x : raw.Item). c.args.starts.now ++ starts_by m bodies s x) q
 
 pub returns-in_ok-add_function-in-Function-clause-functions : goal.returns-in_ok-add_function-in-Function-clause-functions
@@ -29,13 +29,13 @@ returns-in_ok-add_function-in-Function-clause-functions c =
     let bodies = bodies_in c.args.context.now in
     let s = scope_at c.args.walk.now in
     let q : raw.Function c.in-Function.spot c.in-Function.name c.in-Function.result (map param_view c.as_slice-xs.result.now) (stmt_view c.in-Function.body) ≡ item_view c.args.item.now =
-      ap (λ (ys : List RawParam). raw.Function c.in-Function.spot c.in-Function.name c.in-Function.result (map param_view ys) (stmt_view c.in-Function.body)) c.as_slice-xs.ensures ∙ sym (ap item_view c.in-Function.is) in
+    ap (λ (ys : List RawParam). raw.Function c.in-Function.spot c.in-Function.name c.in-Function.result (map param_view ys) (stmt_view c.in-Function.body)) c.as_slice-xs.ensures ∙ sym (ap item_view c.in-Function.is) in
     c.in_ok-add_function-in-Function.ensures.functions ∙ ap (λ (x : raw.Item). functions_view c.args.functions.now ++ functions_by m bodies s x) q
 
 pub returns-in_ok-add_function-in-Function-clause-names : goal.returns-in_ok-add_function-in-Function-clause-names
 returns-in_ok-add_function-in-Function-clause-names c =
     let q : raw.Function c.in-Function.spot c.in-Function.name c.in-Function.result (map param_view c.as_slice-xs.result.now) (stmt_view c.in-Function.body) ≡ item_view c.args.item.now =
-      ap (λ (ys : List RawParam). raw.Function c.in-Function.spot c.in-Function.name c.in-Function.result (map param_view ys) (stmt_view c.in-Function.body)) c.as_slice-xs.ensures ∙ sym (ap item_view c.in-Function.is) in
+    ap (λ (ys : List RawParam). raw.Function c.in-Function.spot c.in-Function.name c.in-Function.result (map param_view ys) (stmt_view c.in-Function.body)) c.as_slice-xs.ensures ∙ sym (ap item_view c.in-Function.is) in
     c.in_ok-add_function-in-Function.ensures.names ∙ ap (λ (x : raw.Item). names_of c.args.functions.now ++ bodies_of (x ∷ [])) q
 
 pub returns-in_ok-add_function-in-Function-clause-scope : goal.returns-in_ok-add_function-in-Function-clause-scope
@@ -44,7 +44,7 @@ returns-in_ok-add_function-in-Function-clause-scope c =
     let bodies = bodies_in c.args.context.now in
     let s = scope_at c.args.walk.now in
     let q : raw.Function c.in-Function.spot c.in-Function.name c.in-Function.result (map param_view c.as_slice-xs.result.now) (stmt_view c.in-Function.body) ≡ item_view c.args.item.now =
-      ap (λ (ys : List RawParam). raw.Function c.in-Function.spot c.in-Function.name c.in-Function.result (map param_view ys) (stmt_view c.in-Function.body)) c.as_slice-xs.ensures ∙ sym (ap item_view c.in-Function.is) in
+    ap (λ (ys : List RawParam). raw.Function c.in-Function.spot c.in-Function.name c.in-Function.result (map param_view ys) (stmt_view c.in-Function.body)) c.as_slice-xs.ensures ∙ sym (ap item_view c.in-Function.is) in
     c.in_ok-add_function-in-Function.ensures.scope ∙ ap (λ (x : raw.Item). after_item m bodies s x) q
 
 pub returns-in_ok-add_function-in-Function-clause-noted : goal.returns-in_ok-add_function-in-Function-clause-noted
@@ -53,7 +53,7 @@ returns-in_ok-add_function-in-Function-clause-noted c =
     let bodies = bodies_in c.args.context.now in
     let s = scope_at c.args.walk.now in
     let q : raw.Function c.in-Function.spot c.in-Function.name c.in-Function.result (map param_view c.as_slice-xs.result.now) (stmt_view c.in-Function.body) ≡ item_view c.args.item.now =
-      ap (λ (ys : List RawParam). raw.Function c.in-Function.spot c.in-Function.name c.in-Function.result (map param_view ys) (stmt_view c.in-Function.body)) c.as_slice-xs.ensures ∙ sym (ap item_view c.in-Function.is) in
+    ap (λ (ys : List RawParam). raw.Function c.in-Function.spot c.in-Function.name c.in-Function.result (map param_view ys) (stmt_view c.in-Function.body)) c.as_slice-xs.ensures ∙ sym (ap item_view c.in-Function.is) in
     c.in_ok-add_function-in-Function.ensures.noted ∙ ap (λ (x : raw.Item). noted_parts m (items_in c.args.context.now) c.args.walk.now.best (parts_of_item m bodies s x)) q
 
 pub returns-in_ok-add_function-in-Function-clause-kept : goal.returns-in_ok-add_function-in-Function-clause-kept
@@ -62,7 +62,7 @@ returns-in_ok-add_function-in-Function-clause-kept c =
     let bodies = bodies_in c.args.context.now in
     let s = scope_at c.args.walk.now in
     let q : raw.Function c.in-Function.spot c.in-Function.name c.in-Function.result (map param_view c.as_slice-xs.result.now) (stmt_view c.in-Function.body) ≡ item_view c.args.item.now =
-      ap (λ (ys : List RawParam). raw.Function c.in-Function.spot c.in-Function.name c.in-Function.result (map param_view ys) (stmt_view c.in-Function.body)) c.as_slice-xs.ensures ∙ sym (ap item_view c.in-Function.is) in
+    ap (λ (ys : List RawParam). raw.Function c.in-Function.spot c.in-Function.name c.in-Function.result (map param_view ys) (stmt_view c.in-Function.body)) c.as_slice-xs.ensures ∙ sym (ap item_view c.in-Function.is) in
     c.in_ok-add_function-in-Function.ensures.kept ∙ ap (λ (x : raw.Item). kept_lists c.args.kept.now ++ kept_by m bodies s x) q
 
 pub returns-in_ok-add_function-in-Function-clause-outside : goal.returns-in_ok-add_function-in-Function-clause-outside
@@ -71,7 +71,7 @@ returns-in_ok-add_function-in-Function-clause-outside c =
     let bodies = bodies_in c.args.context.now in
     let s = scope_at c.args.walk.now in
     let q : raw.Function c.in-Function.spot c.in-Function.name c.in-Function.result (map param_view c.as_slice-xs.result.now) (stmt_view c.in-Function.body) ≡ item_view c.args.item.now =
-      ap (λ (ys : List RawParam). raw.Function c.in-Function.spot c.in-Function.name c.in-Function.result (map param_view ys) (stmt_view c.in-Function.body)) c.as_slice-xs.ensures ∙ sym (ap item_view c.in-Function.is) in
+    ap (λ (ys : List RawParam). raw.Function c.in-Function.spot c.in-Function.name c.in-Function.result (map param_view ys) (stmt_view c.in-Function.body)) c.as_slice-xs.ensures ∙ sym (ap item_view c.in-Function.is) in
     c.in_ok-add_function-in-Function.ensures.outside ∙ sym (append-nil (kept_views c.args.walk.now.kept)) ∙ ap (λ (x : raw.Item). kept_views c.args.walk.now.kept ++ outside_by m bodies s x) q
 
 -- ---- a prototype
@@ -82,7 +82,7 @@ returns-in_ok-prototype-in-Prototype-clause-starts c =
     let bodies = bodies_in c.args.context.now in
     let s = scope_at c.args.walk.now in
     let q : raw.Prototype c.in-Prototype.spot c.in-Prototype.name c.in-Prototype.result c.in-Prototype.params ≡ item_view c.args.item.now =
-      sym (ap item_view c.in-Prototype.is) in
+    sym (ap item_view c.in-Prototype.is) in
     sym (append-nil (c.args.starts.now)) ∙ ap (λ (x : raw.Item). c.args.starts.now ++ starts_by m bodies s x) q
 
 pub returns-in_ok-prototype-in-Prototype-clause-functions : goal.returns-in_ok-prototype-in-Prototype-clause-functions
@@ -91,13 +91,13 @@ returns-in_ok-prototype-in-Prototype-clause-functions c =
     let bodies = bodies_in c.args.context.now in
     let s = scope_at c.args.walk.now in
     let q : raw.Prototype c.in-Prototype.spot c.in-Prototype.name c.in-Prototype.result c.in-Prototype.params ≡ item_view c.args.item.now =
-      sym (ap item_view c.in-Prototype.is) in
+    sym (ap item_view c.in-Prototype.is) in
     sym (append-nil (functions_view c.args.functions.now)) ∙ ap (λ (x : raw.Item). functions_view c.args.functions.now ++ functions_by m bodies s x) q
 
 pub returns-in_ok-prototype-in-Prototype-clause-names : goal.returns-in_ok-prototype-in-Prototype-clause-names
 returns-in_ok-prototype-in-Prototype-clause-names c =
     let q : raw.Prototype c.in-Prototype.spot c.in-Prototype.name c.in-Prototype.result c.in-Prototype.params ≡ item_view c.args.item.now =
-      sym (ap item_view c.in-Prototype.is) in
+    sym (ap item_view c.in-Prototype.is) in
     sym (append-nil (names_of c.args.functions.now)) ∙ ap (λ (x : raw.Item). names_of c.args.functions.now ++ bodies_of (x ∷ [])) q
 
 pub returns-in_ok-prototype-in-Prototype-clause-scope : goal.returns-in_ok-prototype-in-Prototype-clause-scope
@@ -106,7 +106,7 @@ returns-in_ok-prototype-in-Prototype-clause-scope c =
     let bodies = bodies_in c.args.context.now in
     let s = scope_at c.args.walk.now in
     let q : raw.Prototype c.in-Prototype.spot c.in-Prototype.name c.in-Prototype.result c.in-Prototype.params ≡ item_view c.args.item.now =
-      sym (ap item_view c.in-Prototype.is) in
+    sym (ap item_view c.in-Prototype.is) in
     c.in_ok-prototype-in-Prototype.ensures.scope ∙ ap (λ (x : raw.Item). after_item m bodies s x) q
 
 pub returns-in_ok-prototype-in-Prototype-clause-noted : goal.returns-in_ok-prototype-in-Prototype-clause-noted
@@ -115,7 +115,7 @@ returns-in_ok-prototype-in-Prototype-clause-noted c =
     let bodies = bodies_in c.args.context.now in
     let s = scope_at c.args.walk.now in
     let q : raw.Prototype c.in-Prototype.spot c.in-Prototype.name c.in-Prototype.result c.in-Prototype.params ≡ item_view c.args.item.now =
-      sym (ap item_view c.in-Prototype.is) in
+    sym (ap item_view c.in-Prototype.is) in
     c.in_ok-prototype-in-Prototype.ensures.noted ∙ ap (λ (x : raw.Item). noted_parts m (items_in c.args.context.now) c.args.walk.now.best (parts_of_item m bodies s x)) q
 
 pub returns-in_ok-prototype-in-Prototype-clause-kept : goal.returns-in_ok-prototype-in-Prototype-clause-kept
@@ -124,7 +124,7 @@ returns-in_ok-prototype-in-Prototype-clause-kept c =
     let bodies = bodies_in c.args.context.now in
     let s = scope_at c.args.walk.now in
     let q : raw.Prototype c.in-Prototype.spot c.in-Prototype.name c.in-Prototype.result c.in-Prototype.params ≡ item_view c.args.item.now =
-      sym (ap item_view c.in-Prototype.is) in
+    sym (ap item_view c.in-Prototype.is) in
     sym (append-nil (kept_lists c.args.kept.now)) ∙ ap (λ (x : raw.Item). kept_lists c.args.kept.now ++ kept_by m bodies s x) q
 
 pub returns-in_ok-prototype-in-Prototype-clause-outside : goal.returns-in_ok-prototype-in-Prototype-clause-outside
@@ -133,7 +133,7 @@ returns-in_ok-prototype-in-Prototype-clause-outside c =
     let bodies = bodies_in c.args.context.now in
     let s = scope_at c.args.walk.now in
     let q : raw.Prototype c.in-Prototype.spot c.in-Prototype.name c.in-Prototype.result c.in-Prototype.params ≡ item_view c.args.item.now =
-      sym (ap item_view c.in-Prototype.is) in
+    sym (ap item_view c.in-Prototype.is) in
     ap kept_views c.in_ok-prototype-in-Prototype.ensures.kept ∙ sym (append-nil (kept_views c.args.walk.now.kept)) ∙ ap (λ (x : raw.Item). kept_views c.args.walk.now.kept ++ outside_by m bodies s x) q
 
 -- ---- objects
@@ -144,7 +144,7 @@ returns-in_ok-globals-in-Global-clause-starts c =
     let bodies = bodies_in c.args.context.now in
     let s = scope_at c.args.walk.now in
     let q : raw.Global (map declared_view c.as_slice-names.result.now) ≡ item_view c.args.item.now =
-      ap (λ (ys : List RawDeclared). raw.Global (map declared_view ys)) c.as_slice-names.ensures ∙ sym (ap item_view c.in-Global.is) in
+    ap (λ (ys : List RawDeclared). raw.Global (map declared_view ys)) c.as_slice-names.ensures ∙ sym (ap item_view c.in-Global.is) in
     c.in_ok-globals-in-Global.ensures.starts ∙ ap (λ (x : raw.Item). c.args.starts.now ++ starts_by m bodies s x) q
 
 pub returns-in_ok-globals-in-Global-clause-functions : goal.returns-in_ok-globals-in-Global-clause-functions
@@ -153,13 +153,13 @@ returns-in_ok-globals-in-Global-clause-functions c =
     let bodies = bodies_in c.args.context.now in
     let s = scope_at c.args.walk.now in
     let q : raw.Global (map declared_view c.as_slice-names.result.now) ≡ item_view c.args.item.now =
-      ap (λ (ys : List RawDeclared). raw.Global (map declared_view ys)) c.as_slice-names.ensures ∙ sym (ap item_view c.in-Global.is) in
+    ap (λ (ys : List RawDeclared). raw.Global (map declared_view ys)) c.as_slice-names.ensures ∙ sym (ap item_view c.in-Global.is) in
     sym (append-nil (functions_view c.args.functions.now)) ∙ ap (λ (x : raw.Item). functions_view c.args.functions.now ++ functions_by m bodies s x) q
 
 pub returns-in_ok-globals-in-Global-clause-names : goal.returns-in_ok-globals-in-Global-clause-names
 returns-in_ok-globals-in-Global-clause-names c =
     let q : raw.Global (map declared_view c.as_slice-names.result.now) ≡ item_view c.args.item.now =
-      ap (λ (ys : List RawDeclared). raw.Global (map declared_view ys)) c.as_slice-names.ensures ∙ sym (ap item_view c.in-Global.is) in
+    ap (λ (ys : List RawDeclared). raw.Global (map declared_view ys)) c.as_slice-names.ensures ∙ sym (ap item_view c.in-Global.is) in
     sym (append-nil (names_of c.args.functions.now)) ∙ ap (λ (x : raw.Item). names_of c.args.functions.now ++ bodies_of (x ∷ [])) q
 
 pub returns-in_ok-globals-in-Global-clause-scope : goal.returns-in_ok-globals-in-Global-clause-scope
@@ -168,7 +168,7 @@ returns-in_ok-globals-in-Global-clause-scope c =
     let bodies = bodies_in c.args.context.now in
     let s = scope_at c.args.walk.now in
     let q : raw.Global (map declared_view c.as_slice-names.result.now) ≡ item_view c.args.item.now =
-      ap (λ (ys : List RawDeclared). raw.Global (map declared_view ys)) c.as_slice-names.ensures ∙ sym (ap item_view c.in-Global.is) in
+    ap (λ (ys : List RawDeclared). raw.Global (map declared_view ys)) c.as_slice-names.ensures ∙ sym (ap item_view c.in-Global.is) in
     c.in_ok-globals-in-Global.ensures.scope ∙ ap (λ (x : raw.Item). after_item m bodies s x) q
 
 pub returns-in_ok-globals-in-Global-clause-noted : goal.returns-in_ok-globals-in-Global-clause-noted
@@ -177,7 +177,7 @@ returns-in_ok-globals-in-Global-clause-noted c =
     let bodies = bodies_in c.args.context.now in
     let s = scope_at c.args.walk.now in
     let q : raw.Global (map declared_view c.as_slice-names.result.now) ≡ item_view c.args.item.now =
-      ap (λ (ys : List RawDeclared). raw.Global (map declared_view ys)) c.as_slice-names.ensures ∙ sym (ap item_view c.in-Global.is) in
+    ap (λ (ys : List RawDeclared). raw.Global (map declared_view ys)) c.as_slice-names.ensures ∙ sym (ap item_view c.in-Global.is) in
     ap (λ (y : Found). y.best) c.in_ok-globals-in-Global.ensures.noted ∙ ap (λ (x : raw.Item). noted_parts m (items_in c.args.context.now) c.args.walk.now.best (parts_of_item m bodies s x)) q
 
 pub returns-in_ok-globals-in-Global-clause-kept : goal.returns-in_ok-globals-in-Global-clause-kept
@@ -186,7 +186,7 @@ returns-in_ok-globals-in-Global-clause-kept c =
     let bodies = bodies_in c.args.context.now in
     let s = scope_at c.args.walk.now in
     let q : raw.Global (map declared_view c.as_slice-names.result.now) ≡ item_view c.args.item.now =
-      ap (λ (ys : List RawDeclared). raw.Global (map declared_view ys)) c.as_slice-names.ensures ∙ sym (ap item_view c.in-Global.is) in
+    ap (λ (ys : List RawDeclared). raw.Global (map declared_view ys)) c.as_slice-names.ensures ∙ sym (ap item_view c.in-Global.is) in
     sym (append-nil (kept_lists c.args.kept.now)) ∙ ap (λ (x : raw.Item). kept_lists c.args.kept.now ++ kept_by m bodies s x) q
 
 pub returns-in_ok-globals-in-Global-clause-outside : goal.returns-in_ok-globals-in-Global-clause-outside
@@ -195,7 +195,7 @@ returns-in_ok-globals-in-Global-clause-outside c =
     let bodies = bodies_in c.args.context.now in
     let s = scope_at c.args.walk.now in
     let q : raw.Global (map declared_view c.as_slice-names.result.now) ≡ item_view c.args.item.now =
-      ap (λ (ys : List RawDeclared). raw.Global (map declared_view ys)) c.as_slice-names.ensures ∙ sym (ap item_view c.in-Global.is) in
+    ap (λ (ys : List RawDeclared). raw.Global (map declared_view ys)) c.as_slice-names.ensures ∙ sym (ap item_view c.in-Global.is) in
     ap (λ (y : Found). y.kept) c.in_ok-globals-in-Global.ensures.noted ∙ ap (λ (x : raw.Item). kept_views c.args.walk.now.kept ++ outside_by m bodies s x) q
 
 -- ---- a closed item
@@ -206,7 +206,7 @@ returns-in_ok-close_name-in-Closed-clause-starts c =
     let bodies = bodies_in c.args.context.now in
     let s = scope_at c.args.walk.now in
     let q : raw.Closed c.in-Closed.spot c.in-Closed.name ≡ item_view c.args.item.now =
-      sym (ap item_view c.in-Closed.is) in
+    sym (ap item_view c.in-Closed.is) in
     sym (append-nil (c.args.starts.now)) ∙ ap (λ (x : raw.Item). c.args.starts.now ++ starts_by m bodies s x) q
 
 pub returns-in_ok-close_name-in-Closed-clause-functions : goal.returns-in_ok-close_name-in-Closed-clause-functions
@@ -215,13 +215,13 @@ returns-in_ok-close_name-in-Closed-clause-functions c =
     let bodies = bodies_in c.args.context.now in
     let s = scope_at c.args.walk.now in
     let q : raw.Closed c.in-Closed.spot c.in-Closed.name ≡ item_view c.args.item.now =
-      sym (ap item_view c.in-Closed.is) in
+    sym (ap item_view c.in-Closed.is) in
     sym (append-nil (functions_view c.args.functions.now)) ∙ ap (λ (x : raw.Item). functions_view c.args.functions.now ++ functions_by m bodies s x) q
 
 pub returns-in_ok-close_name-in-Closed-clause-names : goal.returns-in_ok-close_name-in-Closed-clause-names
 returns-in_ok-close_name-in-Closed-clause-names c =
     let q : raw.Closed c.in-Closed.spot c.in-Closed.name ≡ item_view c.args.item.now =
-      sym (ap item_view c.in-Closed.is) in
+    sym (ap item_view c.in-Closed.is) in
     sym (append-nil (names_of c.args.functions.now)) ∙ ap (λ (x : raw.Item). names_of c.args.functions.now ++ bodies_of (x ∷ [])) q
 
 pub returns-in_ok-close_name-in-Closed-clause-scope : goal.returns-in_ok-close_name-in-Closed-clause-scope
@@ -230,7 +230,7 @@ returns-in_ok-close_name-in-Closed-clause-scope c =
     let bodies = bodies_in c.args.context.now in
     let s = scope_at c.args.walk.now in
     let q : raw.Closed c.in-Closed.spot c.in-Closed.name ≡ item_view c.args.item.now =
-      sym (ap item_view c.in-Closed.is) in
+    sym (ap item_view c.in-Closed.is) in
     c.in_ok-close_name-in-Closed.ensures.scope ∙ ap (λ (x : raw.Item). after_item m bodies s x) q
 
 pub returns-in_ok-close_name-in-Closed-clause-noted : goal.returns-in_ok-close_name-in-Closed-clause-noted
@@ -239,7 +239,7 @@ returns-in_ok-close_name-in-Closed-clause-noted c =
     let bodies = bodies_in c.args.context.now in
     let s = scope_at c.args.walk.now in
     let q : raw.Closed c.in-Closed.spot c.in-Closed.name ≡ item_view c.args.item.now =
-      sym (ap item_view c.in-Closed.is) in
+    sym (ap item_view c.in-Closed.is) in
     c.in_ok-close_name-in-Closed.ensures.best ∙ ap (λ (x : raw.Item). noted_parts m (items_in c.args.context.now) c.args.walk.now.best (parts_of_item m bodies s x)) q
 
 pub returns-in_ok-close_name-in-Closed-clause-kept : goal.returns-in_ok-close_name-in-Closed-clause-kept
@@ -248,7 +248,7 @@ returns-in_ok-close_name-in-Closed-clause-kept c =
     let bodies = bodies_in c.args.context.now in
     let s = scope_at c.args.walk.now in
     let q : raw.Closed c.in-Closed.spot c.in-Closed.name ≡ item_view c.args.item.now =
-      sym (ap item_view c.in-Closed.is) in
+    sym (ap item_view c.in-Closed.is) in
     sym (append-nil (kept_lists c.args.kept.now)) ∙ ap (λ (x : raw.Item). kept_lists c.args.kept.now ++ kept_by m bodies s x) q
 
 pub returns-in_ok-close_name-in-Closed-clause-outside : goal.returns-in_ok-close_name-in-Closed-clause-outside
@@ -257,5 +257,5 @@ returns-in_ok-close_name-in-Closed-clause-outside c =
     let bodies = bodies_in c.args.context.now in
     let s = scope_at c.args.walk.now in
     let q : raw.Closed c.in-Closed.spot c.in-Closed.name ≡ item_view c.args.item.now =
-      sym (ap item_view c.in-Closed.is) in
+    sym (ap item_view c.in-Closed.is) in
     ap kept_views c.in_ok-close_name-in-Closed.ensures.kept ∙ sym (append-nil (kept_views c.args.walk.now.kept)) ∙ ap (λ (x : raw.Item). kept_views c.args.walk.now.kept ++ outside_by m bodies s x) q

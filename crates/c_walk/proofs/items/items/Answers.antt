@@ -29,19 +29,19 @@ loop-x-preserved c =
     let next = next_item c.args.items.now c.loop-x.x-index c.x-item.result c.loop-x-test.true c.x-item.is in
     record {
       starts = starts_of-next m bodies c.loop-x.starts c.item.new.starts s u x rest c.in_ok-item.ensures.scope c.in_ok-item.ensures.starts
-        ∙ sym (ap (λ (ys : List raw.Item). c.loop-x.starts ++ starts_of m bodies s ys) next) ∙ c.loop-x.invariant.starts;
+          ∙ sym (ap (λ (ys : List raw.Item). c.loop-x.starts ++ starts_of m bodies s ys) next) ∙ c.loop-x.invariant.starts;
       functions = functions_of-next m bodies (functions_view c.loop-x.functions) (functions_view c.item.new.functions) s u x rest c.in_ok-item.ensures.scope c.in_ok-item.ensures.functions
-        ∙ sym (ap (λ (ys : List raw.Item). functions_view c.loop-x.functions ++ functions_of m bodies s ys) next) ∙ c.loop-x.invariant.functions;
+          ∙ sym (ap (λ (ys : List raw.Item). functions_view c.loop-x.functions ++ functions_of m bodies s ys) next) ∙ c.loop-x.invariant.functions;
       kept = kept-next m bodies (kept_lists c.loop-x.kept) (kept_lists c.item.new.kept) s u x rest c.in_ok-item.ensures.scope c.in_ok-item.ensures.kept
-        ∙ sym (ap (λ (ys : List raw.Item). kept_lists c.loop-x.kept ++ kept_of_items m bodies s ys) next) ∙ c.loop-x.invariant.kept;
+          ∙ sym (ap (λ (ys : List raw.Item). kept_lists c.loop-x.kept ++ kept_of_items m bodies s ys) next) ∙ c.loop-x.invariant.kept;
       outside = outside-next m bodies (kept_views c.loop-x.walk.kept) (kept_views c.item.new.walk.kept) s u x rest c.in_ok-item.ensures.scope c.in_ok-item.ensures.outside
-        ∙ sym (ap (λ (ys : List raw.Item). kept_views c.loop-x.walk.kept ++ kept_outside m bodies s ys) next) ∙ c.loop-x.invariant.outside;
+          ∙ sym (ap (λ (ys : List raw.Item). kept_views c.loop-x.walk.kept ++ kept_outside m bodies s ys) next) ∙ c.loop-x.invariant.outside;
       names = bodies-next (names_of c.loop-x.functions) (names_of c.item.new.functions) x rest c.in_ok-item.ensures.names
-        ∙ sym (ap (λ (ys : List raw.Item). names_of c.loop-x.functions ++ bodies_of ys) next) ∙ c.loop-x.invariant.names;
+          ∙ sym (ap (λ (ys : List raw.Item). names_of c.loop-x.functions ++ bodies_of ys) next) ∙ c.loop-x.invariant.names;
       scope = ap (λ (y : Scope). after_items m bodies y rest) c.in_ok-item.ensures.scope ∙ sym (ap (after_items m bodies s) next) ∙ c.loop-x.invariant.scope;
       noted = noted_on m known c.loop-x.walk.best c.item.new.walk.best _ (parts_of_item m bodies s x) (λ (y : Scope). parts_of_items m bodies y rest) (after_item m bodies s x) u
-        c.in_ok-item.ensures.noted c.in_ok-item.ensures.scope
-        (sym (ap (λ (ys : List raw.Item). noted_parts m known c.loop-x.walk.best (parts_of_items m bodies s ys)) next) ∙ c.loop-x.invariant.noted);
+          c.in_ok-item.ensures.noted c.in_ok-item.ensures.scope
+          (sym (ap (λ (ys : List raw.Item). noted_parts m known c.loop-x.walk.best (parts_of_items m bodies s ys)) next) ∙ c.loop-x.invariant.noted);
     }
 
 pub returns-clause-starts : goal.returns-clause-starts

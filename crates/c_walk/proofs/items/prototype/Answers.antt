@@ -12,13 +12,13 @@ pub returns-clause-scope : goal.returns-clause-scope
 returns-clause-scope c =
     let s = scope_at c.args.walk.now in
     let e : types_stated c.stated_by-stated.result ≡ stated_by c.args.name.now c.args.types.now =
-      c.stated_by-stated.ensures ∙ ap (λ (x : List ℕ). stated_by x c.args.types.now) c.as_str.ensures in
+    c.stated_by-stated.ensures ∙ ap (λ (x : List ℕ). stated_by x c.args.types.now) c.as_str.ensures in
     c.in_ok-declare.ensures.scope ∙ ap (λ (x : Option (List IntType)). with_entry s (entry c.args.name.now (Function c.args.gives x false))) e
 
 pub returns-clause-noted : goal.returns-clause-noted
 returns-clause-noted c =
     let s = scope_at c.args.walk.now in
     let e : types_stated c.stated_by-stated.result ≡ stated_by c.args.name.now c.args.types.now =
-      c.stated_by-stated.ensures ∙ ap (λ (x : List ℕ). stated_by x c.args.types.now) c.as_str.ensures in
+    c.stated_by-stated.ensures ∙ ap (λ (x : List ℕ). stated_by x c.args.types.now) c.as_str.ensures in
     c.in_ok-declare.ensures.noted
     ∙ ap (λ (x : Option (List IntType)). noted_part c.args.context.now.model (items_in c.args.context.now) c.args.walk.now.best (Naming s (entry c.args.name.now (Function c.args.gives x false)) c.args.spot)) e

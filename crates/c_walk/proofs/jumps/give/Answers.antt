@@ -15,4 +15,4 @@ returns-clause-noted c =
     let e = option_map expr_view c.args.e.now in
     let s = scope_at c.args.walk.now in
     before_quiet m items (found_at c.args.walk.now) (found_at c.note_return.new.walk) (found_at c.full_if.new.walk) (Returning c.args.gives c.args.spot (is_some e)) (λ (y : Scope). parts_if (seen y) Value e) s (scope_at c.note_return.new.walk)
-      c.note_return.ensures.noted (ap kept_views c.note_return.ensures.kept) refl c.note_return.ensures.scope c.in_ok-e.ensures.noted
+    c.note_return.ensures.noted (ap kept_views c.note_return.ensures.kept) refl c.note_return.ensures.scope c.in_ok-e.ensures.noted

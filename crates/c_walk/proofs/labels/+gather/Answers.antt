@@ -25,12 +25,12 @@ gather-returns-in-Block t c =
     let p = c.args.s.now.spot in
     let old = labels_seen c.args.all.now.items in
     subst (λ (x : List Label). OnOk c.gather_block.result (labels_seen c.gather_block.new.all.items ≡ old ++ x))
-      (ap (λ (xs : List RawStmt). labels_of_block (stms (map stmt_view xs))) c.as_slice.ensures
-       ∙ sym (ap (labels_in p) (view_of_block c.in-Block.ss)) ∙ sym (ap (λ (f : RawForm). labels_in p (form_view f)) c.in-Block.is))
-      c.gather_block.ensures
+    (ap (λ (xs : List RawStmt). labels_of_block (stms (map stmt_view xs))) c.as_slice.ensures
+    ∙ sym (ap (labels_in p) (view_of_block c.in-Block.ss)) ∙ sym (ap (λ (f : RawForm). labels_in p (form_view f)) c.in-Block.is))
+    c.gather_block.ensures
 
 labels_of_if : (p : Spot) (f : RawForm) {e : RawExpr} (a : Box RawStmt Global) (b : Option (Box RawStmt Global)) → f ≡ form.If e a b
-  → labels_in p (form_view f) ≡ labels_of (stmt_view a.value) ++ labels_of_else (else_if b)
+    → labels_in p (form_view f) ≡ labels_of (stmt_view a.value) ++ labels_of_else (else_if b)
 labels_of_if p f {e} a b h = ap (λ (x : RawForm). labels_in p (form_view x)) h ∙ ap (labels_in p) (raw_view_of_if e a b)
 
 pub gather-returns-in_ok-gather_else-in-If : goal.gather-returns-in_ok-gather_else-in-If

@@ -21,7 +21,7 @@ loop-label-preserved c =
     record {
       known = λ w. known_next ls i _ w _ _ below (c.in_ok-add_name.ensures w) (c.loop-label.invariant.known w);
       noted = labels_next c.args.context.now.model (items_in c.args.context.now) ls i _ c.loop-label.best _ _ _ below c.noted-best.ensures
-        (c.is_known-doubled.ensures ∙ c.loop-label.invariant.known _) c.loop-label.invariant.noted;
+          (c.is_known-doubled.ensures ∙ c.loop-label.invariant.known _) c.loop-label.invariant.noted;
     }
 
 pub returns : goal.returns

@@ -26,13 +26,13 @@ loop-x-preserved c =
     let pushed : c.push.new.self ≡ c.loop-x.numbers ++ n ∷ [] = search rules in
     record {
       numbers = ap (λ (ns : List ℕ). ns ++ numbers_from m bodies (length u.objects) rest) pushed
-        ∙ numbers-next m bodies c.loop-x.numbers n s u x rest c.in_ok-number.ensures.number c.in_ok-number.ensures.scope
-        ∙ sym (ap (λ (ys : List raw.Param). c.loop-x.numbers ++ numbers_from m bodies (length s.objects) ys) next)
-        ∙ c.loop-x.invariant.numbers;
+          ∙ numbers-next m bodies c.loop-x.numbers n s u x rest c.in_ok-number.ensures.number c.in_ok-number.ensures.scope
+          ∙ sym (ap (λ (ys : List raw.Param). c.loop-x.numbers ++ numbers_from m bodies (length s.objects) ys) next)
+          ∙ c.loop-x.invariant.numbers;
       scope = ap (λ (y : Scope). after_parameters y rest) c.in_ok-number.ensures.scope ∙ sym (ap (after_parameters s) next) ∙ c.loop-x.invariant.scope;
       noted = noted_on m items c.loop-x.walk.best c.parameter.new.walk.best _ (parts_of_parameters s (x ∷ [])) (λ (y : Scope). parts_of_parameters y rest) (with_object s (parameter x)) u
-        c.in_ok-number.ensures.noted c.in_ok-number.ensures.scope
-        (sym (ap (λ (ys : List raw.Param). noted_parts m items c.loop-x.walk.best (parts_of_parameters s ys)) next) ∙ c.loop-x.invariant.noted);
+          c.in_ok-number.ensures.noted c.in_ok-number.ensures.scope
+          (sym (ap (λ (ys : List raw.Param). noted_parts m items c.loop-x.walk.best (parts_of_parameters s ys)) next) ∙ c.loop-x.invariant.noted);
       kept = c.in_ok-number.ensures.kept ∙ c.loop-x.invariant.kept;
     }
 
