@@ -6,3 +6,4 @@ mod NamedLaws
 mod ReturnLaws
 mod PointAnswers
 mod AnswerLaws
+pub mod ExpressionLaws
