@@ -1,0 +1,84 @@
+// `int x = __VERIFIER_nondet_int();`, `if (x == 5) {`, `  reach_error();`, `}`, `return 0;`, from line 4 on.
+ghost use Rattle.std.specs.Prelude.{◌≡◌};
+ghost use Rattle.c_core.specs.View.{program_view};
+ghost use Rattle.c_meaning.specs.Examples.{branch_on_input};
+
+use c_core::{Place, PlaceKind, Program, Spot};
+use c_places::{aim_fits, call_at, input_calls, names_at, place_at, places, stmt_before};
+use run_examples::branch_on_input;
+use std::alloc::Global;
+use std::test::Fail;
+use wv_base::{OutOfMemory, Seq};
+
+fn at(line: u32, column: u32) -> Spot
+    ensures line { result.line ≡ line }
+    ensures column { result.column ≡ column }
+{
+    Spot { line, column }
+}
+
+fn place(kind: PlaceKind, line: u32, column: u32) -> Place {
+    Place {
+        kind,
+        spot: Spot { line, column },
+    }
+}
+
+#[test]
+fn every_place(rt: HostRuntime) -> Result<(), Fail> {
+    let program = branch_on_input(rt.alloc(), 5)?;
+    let found = places(rt.alloc(), &program)?;
+    let expected = [
+        place(PlaceKind::Statement, 4, 3),
+        place(PlaceKind::CallEnd, 4, 33),
+        place(PlaceKind::Statement, 5, 3),
+        place(PlaceKind::Branch, 5, 3),
+        place(PlaceKind::Statement, 5, 15),
+        place(PlaceKind::Statement, 6, 5),
+        place(PlaceKind::CallEnd, 6, 17),
+        place(PlaceKind::Statement, 8, 3),
+    ];
+    assert_eq!(rt; found.as_slice(), expected.as_slice());
+    Ok(())
+}
+
+#[test]
+fn place_of_a_location(rt: HostRuntime) -> Result<(), Fail> {
+    let program = branch_on_input(rt.alloc(), 5)?;
+    assert_eq!(rt; place_at(&program, PlaceKind::Statement, 5, None), Some(at(5, 3)));
+    assert_eq!(rt; place_at(&program, PlaceKind::CallEnd, 4, Some(32)), None);
+    Ok(())
+}
+
+#[test]
+fn target(rt: HostRuntime) -> Result<(), Fail> {
+    let program = branch_on_input(rt.alloc(), 5)?;
+    assert!(rt; aim_fits(&program, 6, Some(5)));
+    assert!(rt; !aim_fits(&program, 5, Some(12)));
+    Ok(())
+}
+
+#[test]
+fn call_and_statement(rt: HostRuntime) -> Result<(), Fail> {
+    let program = branch_on_input(rt.alloc(), 5)?;
+    let call = call_at(&program, at(4, 33)).ok_or("no call")?;
+    assert_eq!(rt; call.spot, at(4, 11));
+    let before = stmt_before(&program, at(5, 3)).ok_or("no statement")?;
+    assert_eq!(rt; before.spot, at(4, 3));
+    assert_eq!(rt; input_calls(rt.alloc(), &program)?.len(), 1);
+    Ok(())
+}
+
+fn names_before(alloc: Global, program: &Program) -> Result<Seq<u32>, OutOfMemory>
+    requires { program_view program.now ≡ branch_on_input 5 }
+{
+    names_at(alloc, program, PlaceKind::Statement, Spot { line: 5, column: 3 })
+}
+
+#[test]
+fn visible_names(rt: HostRuntime) -> Result<(), Fail> {
+    let program = branch_on_input(rt.alloc(), 5)?;
+    let names = names_before(rt.alloc(), &program)?;
+    assert_eq!(rt; names.as_slice(), [0].as_slice());
+    Ok(())
+}

@@ -1,0 +1,5 @@
+//! The calls on places, each on a program that an input branches. The crate has tests alone, above `c_places`.
+#![tactic(auto)]
+
+#[cfg(test)]
+mod calls;
