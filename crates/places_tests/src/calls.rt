@@ -45,7 +45,10 @@ fn every_place(rt: HostRuntime) -> Result<(), Fail> {
 #[test]
 fn place_of_a_location(rt: HostRuntime) -> Result<(), Fail> {
     let program = branch_on_input(rt.alloc(), 5)?;
-    assert_eq!(rt; place_at(&program, PlaceKind::Statement, 5, None), Some(at(5, 3)));
+    assert_eq!(rt;
+        place_at(&program, PlaceKind::Statement, 5, None),
+        Some(at(5, 3))
+    );
     assert_eq!(rt; place_at(&program, PlaceKind::CallEnd, 4, Some(32)), None);
     Ok(())
 }
@@ -72,7 +75,12 @@ fn call_and_statement(rt: HostRuntime) -> Result<(), Fail> {
 fn names_before(alloc: Global, program: &Program) -> Result<Seq<u32>, OutOfMemory>
     requires { program_view program.now ≡ branch_on_input 5 }
 {
-    names_at(alloc, program, PlaceKind::Statement, Spot { line: 5, column: 3 })
+    names_at(
+        alloc,
+        program,
+        PlaceKind::Statement,
+        Spot { line: 5, column: 3 },
+    )
 }
 
 #[test]
