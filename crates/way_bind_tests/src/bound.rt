@@ -1,5 +1,5 @@
 // One waypoint: the place of its kind, and the four tests in their order.
-use crate::texts::{follow, told};
+use crate::texts::{follow, joined, told, told_alone};
 use std::test::Fail;
 
 /// A waypoint, and what is told.
@@ -18,6 +18,33 @@ type: branching, location: {line: 6}, constraint: {value: true} => branch taken 
 type: branching, location: {line: 7, column: 3}, constraint: {value: false} => branch passed by 7:3
 type: branching, location: {line: 9}, constraint: {value: false} => branch passed by 9:9
 type: branching, location: {line: 9, column: 7}, constraint: {value: true} => no place 1
+"#;
+
+/// Where a target may stand: at a statement, at a full expression, at a call of `reach_error`; without a column, on a line of such.
+const TARGETS: &str = r#"
+{line: 10} => target 10
+{line: 10, column: 3} => target 10:3
+{line: 10, column: 10} => target 10:10
+{line: 10, column: 4} => no place 1
+{line: 11} => no place 1
+{line: 11, column: 1} => no place 1
+{line: 1} => no place 1
+{line: 2} => target 2
+{line: 2, column: 19} => no place 1
+{line: 5, column: 3} => target 5:3
+{line: 5, column: 7} => no place 1
+{line: 5, column: 11} => target 5:11
+{line: 5, column: 43} => target 5:43
+{line: 5, column: 49} => no place 1
+{line: 6, column: 7} => target 6:7
+{line: 6, column: 10} => target 6:10
+{line: 7, column: 8} => no place 1
+{line: 7, column: 16} => target 7:16
+{line: 7, column: 19} => target 7:19
+{line: 7, column: 26} => target 7:26
+{line: 9, column: 7} => no place 1
+{line: 12, column: 20} => target 12:20
+{line: 12, column: 35} => no place 1
 "#;
 
 /// Names in scope at a place: those declared before it, and those of the blocks and loops around it.
@@ -54,6 +81,22 @@ fn places_are_found_by_kind_line_and_column(rt: HostRuntime) -> Result<(), Fail>
             continue;
         };
         let told = told(alloc, follow(alloc, waypoint)?.as_str())?;
+        assert_eq!(rt; told.as_str(), wanted, "{row}");
+    }
+    Ok(())
+}
+
+#[test]
+fn targets_stand_where_a_statement_or_a_full_expression_starts(
+    rt: HostRuntime,
+) -> Result<(), Fail> {
+    let alloc = rt.alloc();
+    for row in TARGETS.split('\n') {
+        let Some((location, wanted)) = row.split_once(" => ") else {
+            continue;
+        };
+        let waypoint = joined(alloc, &["type: target, location: ", location])?;
+        let told = told_alone(alloc, follow(alloc, waypoint.as_str())?.as_str())?;
         assert_eq!(rt; told.as_str(), wanted, "{row}");
     }
     Ok(())

@@ -1,5 +1,5 @@
 // Several waypoints: the least that isn't bound is told.
-use crate::texts::{avoid_and_follow, follow, joined, told};
+use crate::texts::{avoid_and_follow, follow, joined, told, told_alone};
 use std::test::Fail;
 
 const FINE: &str = "type: function_enter, location: {line: 8}";
@@ -9,6 +9,10 @@ const PLACELESS: &str = "type: function_enter, location: {line: 9}";
 const SCOPELESS: &str = "type: assumption, location: {line: 9}, constraint: {value: \"z\"}";
 
 const UNREAD: &str = "type: assumption, location: {line: 9}, constraint: {value: \"z +\"}";
+
+const TARGET: &str = "type: target, location: {line: 10}";
+
+const STRAY_TARGET: &str = "type: target, location: {line: 9, column: 7}";
 
 #[test]
 fn waypoints_to_avoid_come_before_the_follow(rt: HostRuntime) -> Result<(), Fail> {
@@ -40,5 +44,25 @@ fn segments_are_numbered_on(rt: HostRuntime) -> Result<(), Fail> {
     let parts = [first.as_str(), ", ", second.as_str(), ", ", third.as_str()];
     let all = joined(alloc, &parts)?;
     assert_eq!(rt; told(alloc, all.as_str())?.as_str(), "expression 4");
+    Ok(())
+}
+
+#[test]
+fn a_target_counts_as_the_last_waypoint(rt: HostRuntime) -> Result<(), Fail> {
+    let alloc = rt.alloc();
+    let rows = [
+        (FINE, FINE, TARGET, "enter 8:10"),
+        (FINE, FINE, STRAY_TARGET, "no place 3"),
+        (SCOPELESS, FINE, STRAY_TARGET, "scope 1"),
+        (FINE, UNREAD, STRAY_TARGET, "expression 2"),
+        (FINE, PLACELESS, TARGET, "no place 2"),
+    ];
+    for (first, avoid, target, wanted) in rows {
+        let before = follow(alloc, first)?;
+        let last = avoid_and_follow(alloc, avoid, target)?;
+        let all = joined(alloc, &[before.as_str(), ", ", last.as_str()])?;
+        let told = told_alone(alloc, all.as_str())?;
+        assert_eq!(rt; told.as_str(), wanted);
+    }
     Ok(())
 }

@@ -1,10 +1,13 @@
-//! Waypoints over one small source beside what `bind_violation` tells of them, written down by hand. The crate has tests alone.
+//! Waypoints over small sources beside what `bind_violation` tells of them, and what `given` makes of what it binds, written down
+//! by hand. The crate has tests alone.
 #![tactic(auto)]
 
 #[cfg(test)]
 mod bound;
 #[cfg(test)]
 mod few;
+#[cfg(test)]
+mod given;
 #[cfg(test)]
 mod least;
 #[cfg(test)]

@@ -26,6 +26,7 @@ int main() {
   g = x ? 4 : 5;
   return 0;
 }
+void stop() { g = (reach_error(), 1); }
 ";
 
 const HEAD: &str = "[{entry_type: violation_sequence,
@@ -35,8 +36,10 @@ const HEAD: &str = "[{entry_type: violation_sequence,
       specification: s, data_model: m, language: C}},
   content: [";
 
+const TAIL: &str = "]}]\n";
+
 const LAST: &str =
-    ", {segment: [{waypoint: {type: target, action: follow, location: {line: 10}}}]}]}]\n";
+    ", {segment: [{waypoint: {type: target, action: follow, location: {line: 10}}}]}";
 
 pub fn joined(alloc: Global, parts: &[&str]) -> Result<String, OutOfMemory> {
     let mut text = String::new(alloc);
@@ -70,8 +73,8 @@ fn parsed(alloc: Global, text: &[u8]) -> Option<Result<Source, ParseFault>> {
     Some(parse(alloc, &found))
 }
 
-fn program(alloc: Global) -> Result<Program, Fail> {
-    let Some(Ok(source)) = parsed(alloc, SOURCE.as_bytes()) else {
+pub fn program(alloc: Global, text: &str) -> Result<Program, Fail> {
+    let Some(Ok(source)) = parsed(alloc, text.as_bytes()) else {
         return Err("no source".into());
     };
     match check(alloc, &source, DataModel::Ilp32, Property::UnreachCall) {
@@ -80,8 +83,9 @@ fn program(alloc: Global) -> Result<Program, Fail> {
     }
 }
 
-fn witness(alloc: Global, segments: &str) -> Result<Witness, Fail> {
-    let text = joined(alloc, &[HEAD, segments, LAST])?;
+/// The witness of these segments.
+pub fn witness(alloc: Global, segments: &str) -> Result<Witness, Fail> {
+    let text = joined(alloc, &[HEAD, segments, TAIL])?;
     let tree = read(alloc, text.as_bytes())?;
     match witness_of(alloc, &tree) {
         Ok(witness) => Ok(witness),
@@ -123,9 +127,19 @@ fn fault(alloc: Global, fault: BindFault) -> Result<String, Fail> {
     }
 }
 
+/// These segments and one with a target behind them.
+pub fn with_target(alloc: Global, segments: &str) -> Result<String, OutOfMemory> {
+    joined(alloc, &[segments, LAST])
+}
+
 /// What is told of these segments, with a target behind them.
 pub fn told(alloc: Global, segments: &str) -> Result<String, Fail> {
-    let program = program(alloc)?;
+    told_alone(alloc, with_target(alloc, segments)?.as_str())
+}
+
+/// What is told of these segments, the last of which ends with a target.
+pub fn told_alone(alloc: Global, segments: &str) -> Result<String, Fail> {
+    let program = program(alloc, SOURCE)?;
     let witness = witness(alloc, segments)?;
     match bind(alloc, &witness, &program) {
         Ok(bound) => first(alloc, &bound),
