@@ -12,6 +12,7 @@ int a[4294967295u + 1u == 0]; int main() { } => program
 int a[0x80000000 > 0]; int main() { } => program
 int main() { for (int i = 0; i < 3; i++) i; } => program
 int main() { int x; x = 1; } => program
+int main() { short x; x + x; } => program
 void f(); int main() { f(); } void f() { } => program
 int x; int main() { int x; x = 1; { int x; x = 2; } } => program
 int f(int x) { return x; } int x; int main() { return f(x); } => program

@@ -4,6 +4,8 @@
 #[cfg(test)]
 mod accepted;
 #[cfg(test)]
+mod constants;
+#[cfg(test)]
 mod models;
 #[cfg(test)]
 mod names;

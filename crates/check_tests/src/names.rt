@@ -5,6 +5,7 @@ use std::test::Fail;
 
 const NAMELESS: &str = "
 int main() { x; } => name 1:14
+int main() { y + z; } => name 1:14
 int main() { f(); } => name 1:14
 int main() { a[0]; } => name 1:14
 int main() { { int x = 1; } x; } => name 1:29
@@ -111,6 +112,7 @@ int f(); int main(int a) { f(); } => body 1:28
 int f(); int main() { f() + f(); } => body 1:23
 int g(const char *); int main() { 1 + g(); } => body 1:39
 int f(); int main() { f(); break; } => body 1:23
+void f(int); int main() { short x; f(x); } => body 1:36
 ";
 
 #[test]

@@ -139,6 +139,10 @@ long main() { break; } => typing 1:15
 int f(const char *); int main() { f(1); } int f() { }  => typing 1:35
 int x = -9223372036854775808; int main() { } => typing 1:10
 long x = 1l << 31; int main() { } => typing 1:10
+int main() { short x; int a[2]; x + a; } => typing 1:37
+void f(int); int main() { short x; x = f(x); } => typing 1:40
+void f(int); int main() { short x; x + f(a); } => typing 1:40
+int main() { short x; abort(x); } => typing 1:23
 ";
 
 #[test]
