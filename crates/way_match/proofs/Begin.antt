@@ -1,14 +1,8 @@
 -- A matcher before all events.
 use Rattle.std.proofs.Common.{◌≡◌, ℕ, zero, suc, ◌+◌, ◌≤◌, List, [], ◌∷◌, ◌++◌, length, get_or, replicate, Option, Some, None, refl, sym, ◌∙◌, ap, subst, arith, add-one}
 use Rattle.std.proofs.lemmas.List.{length-replicate, replicate_more}
-use Rattle.c_core.specs.Tree.{Program}
-use Rattle.way_match.specs.Prepared.{all_prepared}
-use Rattle.way_match.specs.View.{each_segment_view}
-use Rattle.way_match.specs.declared.point.BoundSegment.{BoundSegment}
-use Rattle.way_match.specs.declared.prepared.Prepared.{Prepared}
 use Rattle.way_match.specs.declared.states.Node.{Node}
-use Rattle.way_match.specs.Arena.{way_of, IsHeld, ways_of, AreHeld}
-use Rattle.way_match.specs.Shape.{Shaped}
+use Rattle.way_match.specs.Arena.{ways_of, AreHeld, IsBlank}
 
 nones_held : (ns : List Node) (k n : ℕ) → AreHeld ns k (replicate n None)
 nones_held ns k zero = tt
@@ -21,7 +15,7 @@ nones_ways ns k (suc n) = ap (λ (t : List (Option (List ℕ))). None ∷ t) (no
 pub begins_more : (live more : List (Option ℕ)) (n : ℕ) → live ≡ Some 0 ∷ replicate n None → more ≡ live ++ None ∷ [] → more ≡ Some 0 ∷ replicate (n + 1) None
 begins_more live more n e f = f ∙ ap (λ (t : List (Option ℕ)). t ++ None ∷ []) e ∙ ap (λ (t : List (Option ℕ)). Some 0 ∷ t) (replicate_more n None)
 
-length_begun : (live : List (Option ℕ)) (n : ℕ) → live ≡ Some 0 ∷ replicate n None → length live ≡ n + 1
+pub length_begun : (live : List (Option ℕ)) (n : ℕ) → live ≡ Some 0 ∷ replicate n None → length live ≡ n + 1
 length_begun live n e = ap length e ∙ ap suc (length-replicate n None) ∙ sym (add-one n)
 
 nones_at : (n k : ℕ) → ◌≡◌ {A = Option ℕ} (get_or (replicate n None) k None) None
@@ -33,15 +27,11 @@ nones_blank : (n k : ℕ) → 1 ≤ k → get_or {A = Option ℕ} (Some 0 ∷ re
 nones_blank n zero h = absurd (omega arith)
 nones_blank n (suc k) h = nones_at n k
 
-pub begins_shaped : (p : Program) (ss : List BoundSegment) (prepared : List Prepared) (ns : List Node) (live : List (Option ℕ)) (room : List ℕ) (n : ℕ) →
-    prepared ≡ all_prepared p (each_segment_view ss) → live ≡ Some 0 ∷ replicate n None → n ≡ length ss → length room ≡ n → Shaped p ss prepared ns live room 1
-begins_shaped p ss prepared ns live room n q e l r = record {
-  prepares = q;
-  states = length_begun live n e ∙ ap (λ (j : ℕ). j + 1) l;
-  rooms = r ∙ l;
-  blank = λ k h. subst (λ (xs : List (Option ℕ)). get_or xs k None ≡ None) (sym e) (nones_blank n k h);
-  held = subst (AreHeld ns 0) (sym e) (tt, nones_held ns 1 n);
-}
+pub begins_held : (ns : List Node) (live : List (Option ℕ)) (n : ℕ) → live ≡ Some 0 ∷ replicate n None → AreHeld ns 0 live
+begins_held ns live n e = subst (AreHeld ns 0) (sym e) (tt, nones_held ns 1 n)
+
+pub begins_blank : (live : List (Option ℕ)) (n : ℕ) → live ≡ Some 0 ∷ replicate n None → IsBlank 1 live
+begins_blank live n e k h = subst (λ (xs : List (Option ℕ)). get_or xs k None ≡ None) (sym e) (nones_blank n k h)
 
 pub begins_ways : (ns : List Node) (live : List (Option ℕ)) (n m : ℕ) → live ≡ Some 0 ∷ replicate n None → n ≡ m → ways_of ns 0 live ≡ Some [] ∷ replicate m None
 begins_ways ns live n m e l = ap (ways_of ns 0) e ∙ ap (λ (t : List (Option (List ℕ))). Some [] ∷ t) (nones_ways ns 1 n ∙ ap (λ (j : ℕ). replicate j None) l)

@@ -4,13 +4,13 @@ use Rattle.c_core.specs.View.{program_view}
 use Rattle.c_core.specs.declared.program.Program as declared
 use Rattle.way_match.specs.View.{segments_view}
 use Rattle.way_match.specs.declared.point.Bound.{Bound}
-use Rattle.std.proofs.Common.{◌≡◌, ℕ, zero, suc, ◌+◌, ◌<◌, ◌≤◌, Bool, true, false, List, [], ◌∷◌, ◌++◌, length, replicate, Option, Some, None, slice_get, refl, sym, ◌∙◌, ap, subst, arith, nat_lt, cond}
+use Rattle.std.proofs.Common.{◌≡◌, ℕ, suc, ◌+◌, false, List, [], ◌∷◌, ◌++◌, length, replicate, Option, Some, None, slice_get, refl, sym, ◌∙◌, ap, subst, arith}
 use Rattle.std.proofs.lemmas.List.{append-nil}
 use Rattle.way_match.specs.Points.{BoundSegment}
 use Rattle.way_match.specs.Passing.{is_assumption}
 use Rattle.way_match.specs.Matching.{Seen, Matches, MatchesFrom, Finds}
-use Rattle.way_match.specs.Steps.{step, Matching, begun, after, after_all, last_way, onto, positions_of}
-use Rattle.way_match.proofs.Ways.{next, assumed, Way, Live, Right, Rights, Exactly, steps}
+use Rattle.way_match.specs.Steps.{step, begun, after_all, last_way, onto, positions_of}
+use Rattle.way_match.proofs.Ways.{next, assumed, Way, Right, Rights, steps}
 
 none_yet : (pr : Program) (es : List Seen) (ss rs : List BoundSegment) (r : BoundSegment) → Right pr es 0 (r ∷ rs) ss None
 none_yet pr es ss rs r [] l = absurd l.way

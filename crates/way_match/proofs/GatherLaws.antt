@@ -1,5 +1,5 @@
 -- Given values gathered in a list are those of each place.
-use Rattle.std.proofs.Common.{◌≡◌, ℕ, ℤ, refl, ap, ◌∙◌, Bool, true, false, List, [], ◌∷◌, ◌++◌, Option, Some, None, map}
+use Rattle.std.proofs.Common.{◌≡◌, ℕ, refl, ap, ◌∙◌, Bool, true, false, List, [], ◌∷◌, ◌++◌, Option, Some, None, map}
 use Rattle.c_core.specs.Tree.{Exp, Expr, Logic, Program}
 use Rattle.c_core.specs.Places.{InputCall, first_some}
 use Rattle.c_core.specs.declared.number.IntType.{IntType}

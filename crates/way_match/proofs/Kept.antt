@@ -1,10 +1,10 @@
 -- Chains of nodes stay as they are where nodes are added.
-use Rattle.std.proofs.Common.{◌≡◌, ℕ, zero, suc, ◌+◌, ◌<◌, ◌≤◌, Bool, true, false, not, ◌&&◌, ◌||◌, List, [], ◌∷◌, ◌++◌, length, take, drop, get_or, Option, Some, None, refl, sym, ◌∙◌, ap, subst, arith, is_some, add-one}
+use Rattle.std.proofs.Common.{◌≡◌, ℕ, zero, suc, ◌<◌, ◌≤◌, false, List, [], ◌∷◌, ◌++◌, length, drop, Option, Some, None, refl, sym, ◌∙◌, ap, subst, arith, is_some, add-one}
 use Rattle.std.proofs.Math.ListN.{get_or-append, length-append, set}
 use Rattle.std.proofs.lemmas.List.{drop-set}
 use Rattle.std.proofs.Math.Seq.{get_or-append_seam}
 use Rattle.way_match.specs.declared.states.Node.{Node}
-use Rattle.way_match.specs.Steps.{is_there, only_if, way_now, onto, step}
+use Rattle.way_match.specs.Steps.{way_now, onto}
 use Rattle.way_match.specs.Arena.{node_at, chain, Held, way_of, IsHeld, ways_of, AreHeld, came_of, IsFrom, Grown}
 
 longer : (ns xs ms : List Node) → ms ≡ ns ++ xs → length ns ≤ length ms

@@ -8,6 +8,9 @@ mod Ways
 mod Found
 mod Kept
 mod Turn
+mod Skips
+mod Numbers
+pub mod PlaceLaws
 mod Begin
 mod Done
 pub mod GatherLaws

@@ -1,5 +1,5 @@
 -- A declaration of one object, or of another number of them.
-use Rattle.std.proofs.Common.{◌≡◌, ◌≢◌, ℕ, ◌+◌, suc, refl, sym, ap, ◌∙◌, List, [], ◌∷◌, length, get_or, None, arith}
+use Rattle.std.proofs.Common.{◌≡◌, ◌≢◌, refl, sym, ap, List, [], ◌∷◌, length, get_or, None, arith}
 use Rattle.c_core.specs.TreeView.{init_view, names_view}
 use Rattle.c_core.specs.declared.tree.Declared.{Declared}
 use Rattle.way_match.specs.Given.{stored_by_init, stored_by_names}

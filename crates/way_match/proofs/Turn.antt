@@ -1,8 +1,8 @@
--- One segment's part of a step, in the lists of a matcher.
+-- One segment's part of a step, in the states of a matcher.
 use Rattle.c_core.specs.Tree.{Program}
 use Rattle.std.proofs.Common.{◌≡◌, ◌⊎◌, inl, inr, ℕ, zero, suc, ◌+◌, ◌<◌, ◌≤◌, Bool, true, false, not, ◌&&◌, ◌||◌, List, [], ◌∷◌, ◌++◌, length, take, drop, get_or, Option, Some, None, refl, sym, ◌∙◌, ap, subst, arith, add-one, is_some}
-use Rattle.std.proofs.Math.ListN.{length-append, set}
-use Rattle.std.proofs.lemmas.List.{take_more_set, set_split, drop-set-lt, append_assoc, length-take-le, length-drop, get_or-drop, take-append-drop}
+use Rattle.std.proofs.Math.ListN.{set}
+use Rattle.std.proofs.lemmas.List.{take_more_set, set_split, drop-set-lt, append_assoc, length-take-le}
 use Rattle.std.proofs.Math.Seq.{drop-cons}
 use Rattle.way_match.specs.Points.{BoundSegment}
 use Rattle.way_match.specs.declared.states.Node.{Node}
@@ -12,15 +12,11 @@ use Rattle.way_match.specs.Steps.{is_there, only_if, way_now, step}
 use Rattle.way_match.specs.Arena.{way_of, IsHeld, ways_of, AreHeld, came_of, IsFrom, Grown, IsBlank}
 use Rattle.way_match.proofs.Kept.{ways_stay, are_held_stay}
 
--- before segment i
-pub record Turning (pr : Program) (e : Seen) (n : ℕ) (ns : List Node) (ss : List BoundSegment) (live : List (Option ℕ)) (i : ℕ) (c : Option ℕ) (sh : Bool) (reach : ℕ)
-    (whole : List (Option (List ℕ))) : Type 0 where
-  pub held : AreHeld ns 0 live
-  pub from : IsFrom ns i c
-  pub blank : IsBlank reach live
-  pub value : ways_of ns 0 (take i live) ++ step pr e n (came_of ns i c) sh (drop i ss) (ways_of ns i (drop i live)) ≡ whole
+-- the ways after an event: those before segment i are past it
+abbrev pub value : Program → Seen → ℕ → List Node → List BoundSegment → List (Option ℕ) → ℕ → Option ℕ → Bool → List (Option (List ℕ))
+value pr e n ns ss live i c sh = ways_of ns 0 (take i live) ++ step pr e n (came_of ns i c) sh (drop i ss) (ways_of ns i (drop i live))
 
-drop_past : {A : Type 0} (i : ℕ) (xs : List A) → length xs ≤ i → drop i xs ≡ []
+pub drop_past : {A : Type 0} (i : ℕ) (xs : List A) → length xs ≤ i → drop i xs ≡ []
 drop_past zero [] h = refl
 drop_past zero (x ∷ xs) h = absurd (omega arith)
 drop_past (suc i) [] h = refl
@@ -38,7 +34,7 @@ held_only_if : (ns : List Node) (k : ℕ) (b : Bool) (w : Option ℕ) → IsHeld
 held_only_if ns k true w h = h
 held_only_if ns k false w h = tt
 
-ways_append : (ns : List Node) (k : ℕ) (xs ys : List (Option ℕ)) → ways_of ns k (xs ++ ys) ≡ ways_of ns k xs ++ ways_of ns (k + length xs) ys
+pub ways_append : (ns : List Node) (k : ℕ) (xs ys : List (Option ℕ)) → ways_of ns k (xs ++ ys) ≡ ways_of ns k xs ++ ways_of ns (k + length xs) ys
 ways_append ns k [] ys = let z : k ≡ k + 0 = omega arith in ap (λ (j : ℕ). ways_of ns j ys) z
 ways_append ns k (x ∷ xs) ys =
     let z : suc k + length xs ≡ k + suc (length xs) = omega arith in
@@ -104,7 +100,7 @@ set_same [] i w h = absurd (omega arith)
 set_same (x ∷ xs) zero w h = refl
 set_same (x ∷ xs) (suc i) w h = set_same xs i w (omega arith)
 
-eq_or : (k i : ℕ) → (k ≡ i) ⊎ (k ≡ i → ⊥)
+pub eq_or : (k i : ℕ) → (k ≡ i) ⊎ (k ≡ i → ⊥)
 eq_or zero zero = inl refl
 eq_or zero (suc i) = inr (λ e. absurd (omega arith))
 eq_or (suc k) zero = inr (λ e. absurd (omega arith))
@@ -117,117 +113,78 @@ blank_set live i now reach reach1 lt b rr rn k h = elim (eq_or k i) as (λ v. ge
   | inr ne ↦ set_other live i k now ne ∙ b k (omega arith)
 ]
 
-Nones : List (Option ℕ) → Type 0
-Nones [] = Unit {0}
-Nones (w ∷ ws) = (w ≡ None) × Nones ws
+pub turned_held : (ns ms : List Node) (live : List (Option ℕ)) (i : ℕ) (now : Option ℕ) → AreHeld ns 0 live → Grown ns ms → IsHeld ms i now → AreHeld ms 0 (set live i now)
+turned_held ns ms live i now h g hn =
+    let z : i ≡ 0 + i = omega arith in held_set ms 0 i live now (are_held_stay ns ms 0 live g h) (subst (λ (j : ℕ). IsHeld ms j now) z hn)
 
-nones_of : (xs : List (Option ℕ)) → ((k : ℕ) → get_or xs k None ≡ None) → Nones xs
-unfolding Nones
-nones_of [] f = tt
-nones_of (x ∷ xs) f = (f zero, nones_of xs (λ k. f (suc k)))
+pub or_none : (xs : List (Option ℕ)) (i : ℕ) (w : Option ℕ) → i < length xs → w ≡ get_or xs i w → w ≡ get_or xs i None
+or_none [] i w h e = absurd (omega arith)
+or_none (x ∷ xs) zero w h e = e
+or_none (x ∷ xs) (suc i) w h e = or_none xs i w (omega arith) e
 
-not_none : (x : ℕ) → Some x ≡ None → ⊥
-not_none x e = cc
+pub held_at : (ns : List Node) (live : List (Option ℕ)) (i : ℕ) (was : Option ℕ) → AreHeld ns 0 live → i < length live → was ≡ get_or live i None → IsHeld ns i was
+held_at ns live i was h lt wis =
+    let z : 0 + i ≡ i = omega arith in
+    let dc : drop i live ≡ was ∷ drop (suc i) live = drop-cons live i None lt ∙ ap (λ (w : Option ℕ). w ∷ drop (suc i) live) (sym wis) in
+    (subst (λ (xs : List (Option ℕ)). AreHeld ns i xs) dc (subst (λ (j : ℕ). AreHeld ns j (drop i live)) z (held_drop ns 0 i live h))).0
 
-came_none : (ns : List Node) (k : ℕ) → came_of ns k None ≡ None
-came_none ns zero = refl
-came_none ns (suc k) = refl
-
-only_if_none : (b : Bool) → ◌≡◌ {A = Option (List ℕ)} (only_if b None) None
-only_if_none true = refl
-only_if_none false = refl
-
--- where no state is live and none comes, nothing moves
-stopped : (pr : Program) (e : Seen) (n : ℕ) (ns : List Node) (k : ℕ) (sh : Bool) (ss : List BoundSegment) (live : List (Option ℕ)) → Nones live → length live ≡ length ss + 1 →
-    step pr e n None sh ss (ways_of ns k live) ≡ ways_of ns k live
-unfolding Nones
-stopped pr e n ns k sh ss [] h l = absurd (omega arith)
-stopped pr e n ns k sh [] (w ∷ v ∷ ws) h l = absurd (omega arith)
-stopped pr e n ns k sh [] (None ∷ []) h l = refl
-stopped pr e n ns k sh [] (Some x ∷ []) h l = absurd (not_none x h.0)
-stopped pr e n ns k sh (s ∷ ss) (Some x ∷ ws) h l = absurd (not_none x h.0)
-stopped pr e n ns k sh (s ∷ ss) (None ∷ ws) h l =
-    let b : Bool = not (passes_any pr s.avoids e.event e.cells) in
-    let m : length ws ≡ length ss + 1 = omega arith in
-    rw (only_if_none b, only_if_none (passes pr s.follow e.event e.cells && (sh && is_assumption s.follow)))
-    (ap (λ (t : List (Option (List ℕ))). None ∷ t) (stopped pr e n ns (suc k) (is_assumption s.follow) ss ws h.1 m))
-
-pub unmoved : (pr : Program) (e : Seen) (n : ℕ) (ns : List Node) (ss : List BoundSegment) (live : List (Option ℕ)) (i : ℕ) (c : Option ℕ) (sh : Bool) (reach : ℕ)
-    (whole : List (Option (List ℕ))) → Turning pr e n ns ss live i c sh reach whole → i < length ss → length live ≡ length ss + 1 → reach ≤ i → c ≡ None →
-    ways_of ns 0 live ≡ whole
-unmoved pr e n ns ss live i c sh reach whole t ls ll rr cn =
-    let lf : length (take i live) ≡ i = length-take-le i live (omega arith) in
-    let z : 0 + length (take i live) ≡ i = omega (arith, lf) in
-    let f = λ (k : ℕ). get_or-drop i live k None ∙ t.blank (i + k) (omega arith) in
-    let l1 = length-drop i live in
-    let l2 = length-drop i ss in
-    let l : length (drop i live) ≡ length (drop i ss) + 1 = omega (arith, l1, l2) in
-    let cc0 : came_of ns i c ≡ None = ap (came_of ns i) cn ∙ came_none ns i in
-    let st = stopped pr e n ns i sh (drop i ss) (drop i live) (nones_of (drop i live) f) l in
-    let v : ways_of ns 0 (take i live) ++ ways_of ns i (drop i live) ≡ whole =
-    ap (λ (xs : List (Option (List ℕ))). ways_of ns 0 (take i live) ++ xs) (sym (ap (λ (o : Option (List ℕ)). step pr e n o sh (drop i ss) (ways_of ns i (drop i live))) cc0 ∙ st)) ∙ t.value in
-    ap (ways_of ns 0) (sym (take-append-drop i live)) ∙ ways_append ns 0 (take i live) (drop i live) ∙
-    ap (λ (j : ℕ). ways_of ns 0 (take i live) ++ ways_of ns j (drop i live)) z ∙ v
+pub kept_held : (ns : List Node) (live : List (Option ℕ)) (i : ℕ) (b : Bool) (was kept : Option ℕ) → AreHeld ns 0 live → i < length live → was ≡ get_or live i None →
+    kept ≡ only_if b was → IsHeld ns i kept
+kept_held ns live i b was kept h lt wis e = subst (IsHeld ns i) (sym e) (held_only_if ns i b was (held_at ns live i was h lt wis))
 
 pub turned : (pr : Program) (e : Seen) (n : ℕ) (ns ms : List Node) (ss : List BoundSegment) (live : List (Option ℕ)) (i : ℕ) (s : BoundSegment)
-    (was kept c now d : Option ℕ) (sh : Bool) (reach reach1 : ℕ) (whole : List (Option (List ℕ))) →
-    Turning pr e n ns ss live i c sh reach whole → reach ≤ reach1 → (reach1 ≤ i → now ≡ None) →
-    i < length live → was ≡ get_or live i None → i < length ss → s ≡ get_or ss i s → Grown ns ms →
+    (was kept c now d : Option ℕ) (sh : Bool) → AreHeld ns 0 live → i < length live → was ≡ get_or live i None → i < length ss → s ≡ get_or ss i s → Grown ns ms →
     kept ≡ only_if (not (passes_any pr s.avoids e.event e.cells)) was →
-    ((k : ℕ) → IsHeld ns k kept → IsFrom ns k c → way_of ms k now ≡ way_now n (way_of ns k kept) (came_of ns k c)) →
-    ((k : ℕ) → IsHeld ns k kept → IsFrom ns k c → IsHeld ms k now) →
+    way_of ms i now ≡ way_now n (way_of ns i kept) (came_of ns i c) →
     d ≡ only_if (passes pr s.follow e.event e.cells && (is_there kept || (sh && is_assumption s.follow))) now →
-    Turning pr e n ms ss (set live i now) (i + 1) d (is_assumption s.follow) reach1 whole
-turned pr e n ns ms ss live i s was kept c now d sh reach reach1 whole t rr rn lt wis ls eis g ke wk hk de =
-    let b0 : AreHeld ns (0 + i) (drop i live) = held_drop ns 0 i live t.held in
+    value pr e n ms ss (set live i now) (i + 1) d (is_assumption s.follow) ≡ value pr e n ns ss live i c sh
+turned pr e n ns ms ss live i s was kept c now d sh h lt wis ls eis g ke wk de =
+    let b0 : AreHeld ns (0 + i) (drop i live) = held_drop ns 0 i live h in
     let z : 0 + i ≡ i = omega arith in
     let dc : drop i live ≡ was ∷ drop (suc i) live = drop-cons live i None lt ∙ ap (λ (w : Option ℕ). w ∷ drop (suc i) live) (sym wis) in
     let b : AreHeld ns i (was ∷ drop (suc i) live) = subst (λ (xs : List (Option ℕ)). AreHeld ns i xs) dc (subst (λ (j : ℕ). AreHeld ns j (drop i live)) z b0) in
     let next : suc i ≡ i + 1 = omega arith in
     let sis : drop i ss ≡ s ∷ drop (i + 1) ss = drop-cons ss i s ls ∙ ap (λ (x : BoundSegment). x ∷ drop (suc i) ss) (sym eis) ∙ ap (λ (j : ℕ). s ∷ drop j ss) next in
-    let hk0 : IsHeld ns i kept = subst (IsHeld ns i) (sym ke) (held_only_if ns i (not (passes_any pr s.avoids e.event e.cells)) was b.0) in
-    let hn : IsHeld ms i now = hk i hk0 t.from in
     let lf : length (take i live) ≡ i = length-take-le i live (omega arith) in
+    let whole : List (Option (List ℕ)) = value pr e n ns ss live i c sh in
     let v : ways_of ns 0 (take i live) ++ step pr e n (came_of ns i c) sh (s ∷ drop (i + 1) ss) (way_of ns i was ∷ ways_of ns (suc i) (drop (suc i) live)) ≡ whole =
     subst (λ (xs : List (Option ℕ)). ways_of ns 0 (take i live) ++ step pr e n (came_of ns i c) sh (s ∷ drop (i + 1) ss) (ways_of ns i xs) ≡ whole) dc
-    (subst (λ (xs : List BoundSegment). ways_of ns 0 (take i live) ++ step pr e n (came_of ns i c) sh xs (ways_of ns i (drop i live)) ≡ whole) sis t.value) in
-    let u = core pr e n ns ms (take i live) (drop (suc i) live) i s (drop (i + 1) ss) was kept c now d sh whole lf (held_take ns 0 i live t.held) b.1 g ke
-    (wk i hk0 t.from) de v in
-    record {
-      held = held_set ms 0 i live now (are_held_stay ns ms 0 live g t.held) (subst (λ (j : ℕ). IsHeld ms j now) (sym z) hn);
-      blank = blank_set live i now reach reach1 lt t.blank rr rn;
-      from = rw add-one (subst (IsHeld ms i) (sym de) (held_only_if ms i (passes pr s.follow e.event e.cells && (is_there kept || (sh && is_assumption s.follow))) now hn));
-      value = rw (take_more_set live i now lt, set_is live i now lt, add-one) (rw add-one at u);
-    }
+    (subst (λ (xs : List BoundSegment). ways_of ns 0 (take i live) ++ step pr e n (came_of ns i c) sh xs (ways_of ns i (drop i live)) ≡ whole) sis refl) in
+    let u = core pr e n ns ms (take i live) (drop (suc i) live) i s (drop (i + 1) ss) was kept c now d sh whole lf (held_take ns 0 i live h) b.1 g ke wk de v in
+    rw (take_more_set live i now lt, set_is live i now lt, add-one) (rw add-one at u)
 
-pub finished_held : (ns ms : List Node) (live : List (Option ℕ)) (i : ℕ) (last : Option ℕ) → AreHeld ns 0 live → Grown ns ms → IsHeld ms i last → AreHeld ms 0 (set live i last)
-finished_held ns ms live i last h g hl =
-    let z : i ≡ 0 + i = omega arith in held_set ms 0 i live last (are_held_stay ns ms 0 live g h) (subst (λ (j : ℕ). IsHeld ms j last) z hl)
+pub turned_from : (ms : List Node) (i : ℕ) (b : Bool) (now d : Option ℕ) → IsHeld ms i now → d ≡ only_if b now → IsFrom ms (i + 1) d
+turned_from ms i b now d h e = rw add-one (subst (IsHeld ms i) (sym e) (held_only_if ms i b now h))
 
-pub finished : (pr : Program) (e : Seen) (n : ℕ) (ns ms : List Node) (ss : List BoundSegment) (live : List (Option ℕ)) (i j : ℕ) (c last : Option ℕ) (sh : Bool) (reach : ℕ)
-    (whole : List (Option (List ℕ))) → Turning pr e n ns ss live i c sh reach whole → i ≡ length ss → j ≡ length ss → length live ≡ length ss + 1 → Grown ns ms →
-    ((k : ℕ) → IsHeld ns k None → IsFrom ns k c → way_of ms k last ≡ way_now n (way_of ns k None) (came_of ns k c)) →
-    ways_of ms 0 (set live j last) ≡ whole
-finished pr e n ns ms ss live i j c last sh reach whole t is js ll g wk =
-    let lt : i < length live = omega arith in
-    let w : way_of ms i last ≡ way_now n None (came_of ns i c) = wk i tt t.from in
-    let none_left : drop i ss ≡ [] = drop_past i ss (omega arith) in
-    let no_more : drop (suc i) live ≡ [] = drop_past (suc i) live (omega arith) in
-    let dc : drop i live ≡ get_or live i None ∷ [] = drop-cons live i None lt ∙ ap (λ (xs : List (Option ℕ)). get_or live i None ∷ xs) no_more in
-    let lf : length (take i live) ≡ i = length-take-le i live (omega arith) in
-    let z : 0 + length (take i live) ≡ i = omega (arith, lf) in
-    let v : ways_of ns 0 (take i live) ++ way_now n None (came_of ns i c) ∷ [] ≡ whole =
-    subst (λ (xs : List (Option ℕ)). ways_of ns 0 (take i live) ++ step pr e n (came_of ns i c) sh [] (ways_of ns i xs) ≡ whole) dc
-    (subst (λ (xs : List BoundSegment). ways_of ns 0 (take i live) ++ step pr e n (came_of ns i c) sh xs (ways_of ns i (drop i live)) ≡ whole) none_left t.value) in
-    let ij : i ≡ j = is ∙ sym js in
-    let sp : set live j last ≡ take i live ++ last ∷ [] =
-    ap (λ (k : ℕ). set live k last) (sym ij) ∙ set_split live i last lt ∙ ap (λ (xs : List (Option ℕ)). take i live ++ last ∷ xs) no_more in
-    ap (ways_of ms 0) sp ∙ ways_append ms 0 (take i live) (last ∷ []) ∙
-    ap (λ (xs : List (Option (List ℕ))). xs ++ way_of ms (0 + length (take i live)) last ∷ []) (ways_stay ns ms 0 (take i live) g (held_take ns 0 i live t.held)) ∙
-    ap (λ (k : ℕ). ways_of ns 0 (take i live) ++ way_of ms k last ∷ []) z ∙
-    ap (λ (x : Option (List ℕ)). ways_of ns 0 (take i live) ++ x ∷ []) w ∙ v
+pub from_none : (ns : List Node) (k : ℕ) → IsFrom ns k None
+from_none ns zero = tt
+from_none ns (suc k) = tt
 
-pub none_is : (c : Option ℕ) (r : Bool) → is_some c ≡ not r → r ≡ true → c ≡ None
-none_is None r e t = refl
-none_is (Some x) true e t = cc
-none_is (Some x) false e t = cc
+pub came_none : (ns : List Node) (k : ℕ) → came_of ns k None ≡ None
+came_none ns zero = refl
+came_none ns (suc k) = refl
+
+pub finished : (pr : Program) (e : Seen) (n : ℕ) (ns ms : List Node) (ss : List BoundSegment) (live : List (Option ℕ)) (j : ℕ) (c last : Option ℕ) (sh : Bool) →
+    AreHeld ns 0 live → j ≡ length ss → length live ≡ length ss + 1 → Grown ns ms →
+    way_of ms j last ≡ way_now n None (came_of ns j c) →
+    ways_of ms 0 (set live j last) ≡ value pr e n ns ss live j c sh
+finished pr e n ns ms ss live j c last sh h js ll g w =
+    let lt : j < length live = omega arith in
+    let none_left : drop j ss ≡ [] = drop_past j ss (omega arith) in
+    let no_more : drop (suc j) live ≡ [] = drop_past (suc j) live (omega arith) in
+    let dc : drop j live ≡ get_or live j None ∷ [] = drop-cons live j None lt ∙ ap (λ (xs : List (Option ℕ)). get_or live j None ∷ xs) no_more in
+    let lf : length (take j live) ≡ j = length-take-le j live (omega arith) in
+    let z : 0 + length (take j live) ≡ j = omega (arith, lf) in
+    let whole : List (Option (List ℕ)) = value pr e n ns ss live j c sh in
+    let v : ways_of ns 0 (take j live) ++ way_now n None (came_of ns j c) ∷ [] ≡ whole =
+    subst (λ (xs : List (Option ℕ)). ways_of ns 0 (take j live) ++ step pr e n (came_of ns j c) sh [] (ways_of ns j xs) ≡ whole) dc
+    (subst (λ (xs : List BoundSegment). ways_of ns 0 (take j live) ++ step pr e n (came_of ns j c) sh xs (ways_of ns j (drop j live)) ≡ whole) none_left refl) in
+    let sp : set live j last ≡ take j live ++ last ∷ [] = set_split live j last lt ∙ ap (λ (xs : List (Option ℕ)). take j live ++ last ∷ xs) no_more in
+    ap (ways_of ms 0) sp ∙ ways_append ms 0 (take j live) (last ∷ []) ∙
+    ap (λ (xs : List (Option (List ℕ))). xs ++ way_of ms (0 + length (take j live)) last ∷ []) (ways_stay ns ms 0 (take j live) g (held_take ns 0 j live h)) ∙
+    ap (λ (k : ℕ). ways_of ns 0 (take j live) ++ way_of ms k last ∷ []) z ∙
+    ap (λ (x : Option (List ℕ)). ways_of ns 0 (take j live) ++ x ∷ []) w ∙ v
+
+pub none_of : (c : Option ℕ) (r : Bool) → r ≡ is_some c → r ≡ false → c ≡ None
+none_of None r e f = refl
+none_of (Some x) r e f = absurd (cc)

@@ -1,9 +1,9 @@
 -- The steps keep exactly the segments that some fitting positions have completed.
 use Rattle.c_core.specs.Tree.{Program}
-use Rattle.std.proofs.Common.{◌≡◌, ◌⊎◌, inl, inr, ℕ, zero, suc, ◌+◌, ◌<◌, ◌≤◌, Bool, true, false, not, ◌&&◌, ◌||◌, List, [], ◌∷◌, length, Option, Some, None, slice_get, refl, sym, ◌∙◌, ap, subst, arith}
+use Rattle.std.proofs.Common.{◌≡◌, ◌⊎◌, inl, inr, ℕ, suc, ◌<◌, ◌≤◌, Bool, true, false, not, ◌&&◌, ◌||◌, List, [], ◌∷◌, Option, Some, None, slice_get, refl, sym, ◌∙◌, ap, subst, arith}
 use Rattle.way_match.specs.Points.{Point, BoundSegment}
-use Rattle.way_match.specs.Passing.{passes, passes_any, is_assumption}
-use Rattle.way_match.specs.Matching.{Seen, seen_passes, seen_passes_any, Before, Rises, Avoids}
+use Rattle.way_match.specs.Passing.{passes_any, is_assumption}
+use Rattle.way_match.specs.Matching.{Seen, seen_passes, seen_passes_any, Rises, Avoids}
 use Rattle.way_match.specs.Steps.{is_there, only_if, way_now, step}
 
 -- the number of events up to the last position, positions being last first

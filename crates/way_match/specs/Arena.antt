@@ -1,6 +1,8 @@
 -- Ways kept as chains of nodes, each with the place of the one before.
 use Rattle.std.specs.Prelude.{◌≡◌, ℕ, zero, suc, ◌<◌, ◌≤◌, List, [], ◌∷◌, ◌++◌, length, Option, Some, None, slice_index_or}
 use Rattle.way_match.specs.declared.states.Node.{Node}
+use mathlib.Core.HLevel.{×_prop, Unit-prop}
+use native.Mathlib.Bridge.{le_prop}
 
 abbrev pub node_at : List Node → ℕ → Node
 node_at ns at = slice_index_or ns at (record { event = 0; previous = 0 })
@@ -47,3 +49,16 @@ Grown ns ms = (xs : List Node) × (ms ≡ ns ++ xs)
 -- no state from that number on is live
 abbrev pub IsBlank : ℕ → List (Option ℕ) → Type 0
 IsBlank from live = (k : ℕ) → from ≤ k → slice_index_or live k None ≡ None
+
+-- a state of held chains is a fact, with one proof at most
+Held-prop : (ns : List Node) (k at : ℕ) → IsProp (Held ns k at)
+Held-prop ns zero at = Unit-prop
+Held-prop ns (suc k) at = ×_prop le_prop (Held-prop ns k (node_at ns at).previous)
+
+IsHeld-prop : (ns : List Node) (k : ℕ) (w : Option ℕ) → IsProp (IsHeld ns k w)
+IsHeld-prop ns k None = Unit-prop
+IsHeld-prop ns k (Some at) = Held-prop ns k at
+
+pub AreHeld-prop : (ns : List Node) (k : ℕ) (ws : List (Option ℕ)) → IsProp (AreHeld ns k ws)
+AreHeld-prop ns k [] = Unit-prop
+AreHeld-prop ns k (w ∷ ws) = ×_prop (IsHeld-prop ns k w) (AreHeld-prop ns (suc k) ws)

@@ -5,6 +5,8 @@ pub mod Matching
 pub mod Prepared
 pub mod Steps
 pub mod Arena
+pub mod ByPlace
+pub mod Turning
 pub mod Shape
 pub mod Given
 pub mod Verdicts

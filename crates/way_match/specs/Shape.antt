@@ -1,18 +1,18 @@
--- What is always true of a matcher's lists.
+-- What is always true of a matcher's parts.
 use Rattle.std.specs.Prelude.{◌≡◌, ℕ, ◌+◌, List, length, Option}
 use Rattle.c_core.specs.Tree.{Program}
-use Rattle.way_match.specs.Points as pure
+use Rattle.c_core.specs.declared.number.Spot.{Spot}
+use Rattle.way_match.specs.ByPlace.{moved, numbers_in}
 use Rattle.way_match.specs.Prepared.{all_prepared}
 use Rattle.way_match.specs.View.{each_segment_view}
-use Rattle.way_match.specs.Arena.{AreHeld, IsBlank}
+use Rattle.way_match.specs.declared.by_place.ByPlace.{ByPlace}
 use Rattle.way_match.specs.declared.point.BoundSegment.{BoundSegment}
 use Rattle.way_match.specs.declared.prepared.Prepared.{Prepared}
-use Rattle.way_match.specs.declared.states.Node.{Node}
+use Rattle.way_match.specs.declared.states.States.{States}
 
-pub record Shaped (p : Program) (ss : List BoundSegment) (prepared : List Prepared) (ns : List Node) (live : List (Option ℕ)) (room : List ℕ) (reach : ℕ) : Type 0 where
+pub record Shaped (p : Program) (ss : List BoundSegment) (prepared : List Prepared) (by_place : ByPlace) (states : States) (room : List ℕ) : Type 0 where
   pub prepares : prepared ≡ all_prepared p (each_segment_view ss)
-  -- a state for each number of completed segments, and a place for each position
-  pub states : length live ≡ length ss + 1
+  pub places : (at : Option Spot) → numbers_in by_place at ≡ moved at 0 (each_segment_view ss)
+  -- a state for each number of completed segments, and room for each position
+  pub states_each : length states.live.items ≡ length ss + 1
   pub rooms : length room ≡ length ss
-  pub held : AreHeld ns 0 live
-  pub blank : IsBlank reach live

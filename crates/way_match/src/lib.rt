@@ -2,6 +2,7 @@
 //! segments, which values a witness gives, and which verdict is right.
 #![tactic(auto)]
 
+mod by_place;
 mod compared;
 mod examples;
 mod given_values;
@@ -10,6 +11,7 @@ mod matcher;
 mod passing;
 mod point;
 mod prepared;
+mod sight;
 mod states;
 mod stored;
 

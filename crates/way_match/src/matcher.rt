@@ -6,9 +6,10 @@ ghost use Rattle.way_match.specs.Steps.{Matching, begun, after, after_all, last_
 ghost use Rattle.way_match.specs.View.{segments_view};
 ghost use Rattle.way_match.specs.declared.point.Bound.{Bound};
 
+use crate::by_place::ByPlace;
 use crate::point::Bound;
 use crate::prepared::{Prepared, prepare};
-use crate::states::{Node, advance, fill};
+use crate::states::{States, fill};
 use c_core::Program;
 use c_meaning::{Event, Memory, Watcher};
 use std::alloc::Global;
@@ -21,11 +22,10 @@ pub struct Matcher<'a> {
     program: &'a Program,
     bound: &'a Bound,
     prepared: Seq<Prepared>,
-    nodes: Vec<Node>,
-    live: Vec<Option<usize>>,
+    by_place: ByPlace,
+    states: States,
     room: Vec<u64>,
     count: u64,
-    reach: usize,
 }
 
 impl<'a> Model for Matcher<'a> {
@@ -41,9 +41,9 @@ impl<'a> Model for Matcher<'a> {
 
     ghost coded = { Prim.hlevel (codes, expression.the_row.coded, statement.the_row.coded) };
 
-    ghost view = { λ m. record { program = m.program.now; bound = m.bound.now; count = m.count; ways = ways_of m.nodes.items 0 m.live.items } };
+    ghost view = { λ m. record { program = m.program.now; bound = m.bound.now; count = m.count; ways = ways_of m.states.nodes.items 0 m.states.live.items } };
 
-    ghost invariant = { λ m. Shaped (program_view m.program.now) m.bound.now.segments m.prepared m.nodes.items m.live.items m.room.items m.reach };
+    ghost invariant = { λ m. Shaped (program_view m.program.now) m.bound.now.segments m.prepared m.by_place m.states m.room.items };
 }
 
 impl<'a> Matcher<'a> {
@@ -55,23 +55,19 @@ impl<'a> Matcher<'a> {
     ) -> Result<Matcher<'a>, OutOfMemory>
         ensures { IfOk result (λ m. m ≡ begun program.now bound.now) }
     {
-        let prepared = prepare(alloc, program, bound.segments.as_slice())?;
-        let mut live = Vec::new(alloc);
+        let segments = bound.segments.as_slice();
         let mut room = Vec::new(alloc);
-        live.push(Some(0))?;
-        for _ in bound.segments.as_slice() {
-            live.push(None)?;
+        for _ in segments {
             room.push(0)?;
         }
         Ok(Matcher {
             program,
             bound,
-            prepared,
-            nodes: Vec::new(alloc),
-            live,
+            prepared: prepare(alloc, program, segments)?,
+            by_place: ByPlace::of(alloc, segments)?,
+            states: States::new(alloc, segments.len())?,
             room,
             count: 0,
-            reach: 1,
         })
     }
 
@@ -81,14 +77,13 @@ impl<'a> Matcher<'a> {
         ensures exact { (p : Program) (b : Bound) (es : List Seen) → self.entry ≡ after_all (begun p b) es → Finds (program_view p) (segments_view b) es result }
     {
         let Matcher {
-            nodes,
-            live,
+            states,
             mut room,
             ..
         } = self;
-        match live[room.len()] {
+        match states.live[room.len()] {
             Some(last) => {
-                fill(nodes.as_slice(), last, room.as_mut_slice());
+                fill(states.nodes.as_slice(), last, room.as_mut_slice());
                 Some(Seq::from_vec(room))
             }
             None => None,
@@ -108,18 +103,15 @@ impl<'a> Watcher for Matcher<'a> {
         let Some(count) = self.count.checked_add(1) else {
             return Err(OutOfMemory);
         };
-        self.nodes.reserve(self.live.len())?;
-        self.reach = advance(
+        self.states.pass(
             self.program,
             self.bound.segments.as_slice(),
             self.prepared.as_slice(),
+            &self.by_place,
             event,
             memory,
             self.count,
-            &mut self.nodes,
-            self.live.as_mut_slice(),
-            self.reach,
-        );
+        )?;
         self.count = count;
         Ok(())
     }

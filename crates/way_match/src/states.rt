@@ -1,18 +1,23 @@
 // For each number of completed segments whether some positions complete them, and these positions as a chain of nodes.
-ghost use Rattle.std.specs.Prelude.{◌≡◌, ℕ, ◌+◌, ◌<◌, ◌≤◌, false, not, ◌&&◌, ◌||◌, [], length, None, vec_len, vec_capacity};
+ghost use Rattle.std.specs.Prelude.{◌≡◌, ℕ, ◌+◌, ◌<◌, ◌≤◌, true, false, not, ◌&&◌, ◌||◌, [], ◌∷◌, length, replicate, List, None, Some, IfOk, OnErr, OnOk, vec_len, vec_capacity};
 ghost use Rattle.c_core.specs.View.{program_view};
-ghost use Rattle.way_match.specs.Arena.{chain, Held, way_of, IsHeld, ways_of, AreHeld, came_of, IsFrom, Grown, IsBlank};
-ghost use Rattle.way_match.specs.Matching.{Seen};
+ghost use Rattle.way_match.specs.Arena.{chain, Held, way_of, IsHeld, ways_of, AreHeld, AreHeld-prop, came_of, IsFrom, Grown, IsBlank};
+ghost use Rattle.way_match.specs.ByPlace.{event_spot, moved, numbers_in};
 ghost use Rattle.way_match.specs.Passing as passing;
 ghost use Rattle.way_match.specs.Prepared.{all_prepared, prepared_of};
 ghost use Rattle.way_match.specs.Steps.{is_there, only_if, way_now, step, onto};
+ghost use Rattle.way_match.specs.Turning.{IsSettled, assumes_at, outcome, seen_by, sighted};
 ghost use Rattle.way_match.specs.View.{each_segment_view, segment_view};
 
+use crate::by_place::ByPlace;
 use crate::passing::{is_assumption, passes, passes_any};
 use crate::point::BoundSegment;
 use crate::prepared::Prepared;
+use crate::sight::Sight;
 use c_core::Program;
 use c_meaning::{Event, Memory};
+use std::alloc::Global;
+use wv_base::OutOfMemory;
 
 /// The position of a segment's follow, and the place of the node of the segment before.
 #[derive(Clone, Copy, Debug, PartialEq, Eq)]
@@ -21,25 +26,33 @@ pub struct Node {
     pub previous: usize,
 }
 
+/// A state for each number of completed segments. No state from number `reach` on was ever live.
+#[derive(Drop)]
+pub struct States {
+    pub nodes: Vec<Node>,
+    pub live: Vec<Option<usize>>,
+    pub reach: usize,
+    ghost held: { AreHeld nodes.items 0 live.items } by { AreHeld-prop nodes.items 0 live.items },
+    ghost blank: { IsBlank reach live.items },
+}
+
 // A state stays live unless the event passes an avoid of the next segment.
 fn stays(
-    program: &Program,
+    sight: &Sight,
     was: Option<usize>,
     segment: &BoundSegment,
     prepared: &Prepared,
-    event: Event,
-    memory: &Memory,
 ) -> Option<usize>
-    requires { prepared.now ≡ prepared_of (program_view program.now) (segment_view segment.now) }
-    ensures { result ≡ only_if (not (passing.passes_any (program_view program.now) (segment_view segment.now).avoids event memory.now.cells)) was }
+    requires { prepared.now ≡ prepared_of (program_view sight.now.program.now) (segment_view segment.now) }
+    ensures { result ≡ only_if (not (passing.passes_any (program_view sight.now.program.now) (segment_view segment.now).avoids sight.now.event sight.now.memory.now.cells)) was }
 {
     if was.is_some()
         && passes_any(
-            program,
+            sight.program,
             segment.avoids.as_slice(),
             prepared.avoids.as_slice(),
-            event,
-            memory,
+            sight.event,
+            sight.memory,
         )
     {
         None
@@ -57,17 +70,15 @@ fn may_pass(kept: Option<usize>, shares: bool, segment: &BoundSegment) -> bool
 
 // The way that the event takes past the next segment.
 fn goes(
-    program: &Program,
+    sight: &Sight,
     kept: Option<usize>,
     now: Option<usize>,
     shares: bool,
     segment: &BoundSegment,
     prepared: &Prepared,
-    event: Event,
-    memory: &Memory,
 ) -> Option<usize>
-    requires { prepared.now ≡ prepared_of (program_view program.now) (segment_view segment.now) }
-    ensures { result ≡ only_if (passing.passes (program_view program.now) (segment_view segment.now).follow event memory.now.cells && (is_there kept || (shares && passing.is_assumption (segment_view segment.now).follow))) now }
+    requires { prepared.now ≡ prepared_of (program_view sight.now.program.now) (segment_view segment.now) }
+    ensures { result ≡ only_if (passing.passes (program_view sight.now.program.now) (segment_view segment.now).follow sight.now.event sight.now.memory.now.cells && (is_there kept || (shares && passing.is_assumption (segment_view segment.now).follow))) now }
 {
     if now.is_none() {
         return None;
@@ -75,7 +86,14 @@ fn goes(
     if !may_pass(kept, shares, segment) {
         return None;
     }
-    if passes(program, &segment.follow, prepared.follow, event, memory) {
+    let follow = &segment.follow;
+    if passes(
+        sight.program,
+        follow,
+        prepared.follow,
+        sight.event,
+        sight.memory,
+    ) {
         now
     } else {
         None
@@ -111,6 +129,19 @@ fn arrives(
     }
 }
 
+// The number of states up to the last that was ever live.
+fn reached(reach: usize, i: usize, now: Option<usize>) -> usize
+    requires { i < 18446744073709551615 }
+    ensures more { reach ≤ result }
+    ensures this { result ≤ i → now ≡ None }
+{
+    if now.is_some() && i >= reach {
+        i + 1
+    } else {
+        reach
+    }
+}
+
 /// Writes the positions of a chain into the room for them, the last position last.
 pub fn fill(nodes: &[Node], last: usize, room: &mut [u64])
     requires { Held nodes.now (length room.old) last }
@@ -126,58 +157,151 @@ pub fn fill(nodes: &[Node], last: usize, room: &mut [u64])
     }
 }
 
-// The number of states up to the last that was ever live.
-fn reached(reach: usize, i: usize, now: Option<usize>) -> usize
-    requires { i < 18446744073709551615 }
-    ensures more { reach ≤ result }
-    ensures this { result ≤ i → now ≡ None }
+// Whether a state stays live past every event, so that no way to it matters.
+fn is_settled(segments: &[BoundSegment], live: &[Option<usize>], i: usize) -> bool
+    requires { length live.now ≡ length segments.now + 1 }
+    ensures { result ≡ true → IsSettled (each_segment_view segments.now) live.now i }
 {
-    if now.is_some() && i >= reach {
-        i + 1
-    } else {
-        reach
+    if i >= segments.len() {
+        return false;
     }
+    let segment = &segments[i];
+    segment.avoids.len() == 0 && live[i].is_some()
 }
 
-/// Takes all states past an event. No state from number `reach` on was ever live; the answer is the same for the states after.
-pub fn advance(
-    program: &Program,
-    segments: &[BoundSegment],
-    prepared: &[Prepared],
-    event: Event,
-    memory: &Memory,
-    count: u64,
-    nodes: &mut Vec<Node>,
-    live: &mut [Option<usize>],
-    reach: usize,
-) -> usize
-    requires prepares { prepared.now ≡ all_prepared (program_view program.now) (each_segment_view segments.now) }
-    requires one_each { length prepared.now ≡ length segments.now }
-    requires room { vec_len nodes.old + length segments.now + 1 ≤ vec_capacity nodes.old }
-    requires states { length live.old ≡ length segments.now + 1 }
-    requires held { AreHeld nodes.old.items 0 live.old }
-    requires blank { IsBlank reach live.old }
-    ensures ways { ways_of nodes.new.items 0 live.new ≡ step (program_view program.now) (record { event = event; cells = memory.now.cells }) count None false (each_segment_view segments.now) (ways_of nodes.old.items 0 live.old) }
-    ensures held { AreHeld nodes.new.items 0 live.new }
-    ensures blank { IsBlank result live.new }
-{
-    let mut reach = reach;
-    let mut came: Option<usize> = None;
-    let mut shares = false;
-    for (i, segment) in segments.iter().enumerate() {
-        if i >= reach && came.is_none() {
-            return reach;
+impl States {
+    /// No segment is completed yet.
+    pub fn new(alloc: Global, count: usize) -> Result<States, OutOfMemory>
+        ensures { IfOk result (λ states. (states.nodes.items ≡ []) × (states.live.items ≡ Some 0 ∷ replicate count None)) }
+    {
+        let mut live = Vec::new(alloc);
+        live.push(Some(0))?;
+        for _ in 0..count {
+            live.push(None)?;
         }
-        let was = live[i];
-        let compared = &prepared[i];
-        let kept = stays(program, was, segment, compared, event, memory);
-        let now = arrives(kept, came, count, nodes);
-        live[i] = now;
-        reach = reached(reach, i, now);
-        came = goes(program, kept, now, shares, segment, compared, event, memory);
-        shares = is_assumption(&segment.follow);
+        Ok(States {
+            nodes: Vec::new(alloc),
+            live,
+            reach: 1,
+        })
     }
-    let last = arrives(None, came, count, nodes);
-    live[segments.len()] = last;
-    reached(reach, segments.len(), last)
+
+    /// Takes the state of segment number `i` past an event, and gives what comes to the next one, if that matters there.
+    fn turn(&mut self, sight: &Sight, i: usize, came: Option<usize>, shares: bool) -> Option<usize>
+        requires within { i < length sight.now.segments.now }
+        requires states { length self.old.live.items ≡ length sight.now.segments.now + 1 }
+        requires room { vec_len self.old.nodes < vec_capacity self.old.nodes }
+        requires from { IsFrom self.old.nodes.items i came }
+        ensures value { outcome sight.now self.new.nodes.items self.new.live.items (i + 1) result (assumes_at sight.now i) ≡ outcome sight.now self.old.nodes.items self.old.live.items i came shares }
+        ensures from { IsFrom self.new.nodes.items (i + 1) result }
+        ensures states { length self.new.live.items ≡ length self.old.live.items }
+        ensures len { vec_len self.new.nodes ≤ vec_len self.old.nodes + 1 }
+        ensures capacity { vec_capacity self.old.nodes ≤ vec_capacity self.new.nodes }
+    {
+        let segment = &sight.segments[i];
+        let compared = &sight.prepared[i];
+        let was = self.live[i];
+        let kept = stays(sight, was, segment, compared);
+        let now = arrives(kept, came, sight.count, &mut self.nodes);
+        self.live[i] = now;
+        self.reach = reached(self.reach, i, now);
+        if is_settled(sight.segments, self.live.as_slice(), i + 1) {
+            None
+        } else {
+            goes(sight, kept, now, shares, segment, compared)
+        }
+    }
+
+    /// Takes the state of segment number `from` past an event, and then those that a way comes to. The answer has the number of the
+    /// segment behind, and the way that comes behind the last.
+    fn carry(&mut self, sight: &Sight, from: usize) -> (usize, Option<usize>)
+        requires within { from < length sight.now.segments.now }
+        requires states { length self.old.live.items ≡ length sight.now.segments.now + 1 }
+        requires room { vec_len self.old.nodes + length sight.now.segments.now + 1 ≤ vec_capacity self.old.nodes + from }
+        ensures value { outcome sight.now self.new.nodes.items self.new.live.items result.0 result.1 false ≡ outcome sight.now self.old.nodes.items self.old.live.items from None false }
+        ensures more { from < result.0 }
+        ensures within { result.0 ≤ length sight.now.segments.now }
+        ensures ends { result.0 < length sight.now.segments.now → result.1 ≡ None }
+        ensures from { IsFrom self.new.nodes.items result.0 result.1 }
+        ensures states { length self.new.live.items ≡ length self.old.live.items }
+        ensures room { vec_len self.new.nodes + length sight.now.segments.now + 1 ≤ vec_capacity self.new.nodes + result.0 }
+    {
+        let mut came = self.turn(sight, from, None, false);
+        let mut i = from + 1;
+        while came.is_some() {
+            if i == sight.segments.len() {
+                return (i, came);
+            }
+            let shares = is_assumption(&sight.segments[i - 1].follow);
+            came = self.turn(sight, i, came, shares);
+            i += 1;
+        }
+        (i, came)
+    }
+
+    /// The state behind all segments is live only where a way came.
+    fn finish(&mut self, sight: &Sight, came: Option<usize>)
+        requires states { length self.old.live.items ≡ length sight.now.segments.now + 1 }
+        requires room { vec_len self.old.nodes < vec_capacity self.old.nodes }
+        requires from { IsFrom self.old.nodes.items (length sight.now.segments.now) came }
+        ensures ways { ways_of self.new.nodes.items 0 self.new.live.items ≡ outcome sight.now self.old.nodes.items self.old.live.items (length sight.now.segments.now) came false }
+        ensures states { length self.new.live.items ≡ length self.old.live.items }
+    {
+        let last = sight.segments.len();
+        let now = arrives(None, came, sight.count, &mut self.nodes);
+        self.live[last] = now;
+        self.reach = reached(self.reach, last, now);
+    }
+
+    /// Takes all states past an event, which can move the segments of these numbers alone.
+    fn advance(&mut self, sight: &Sight, numbers: &[usize])
+        requires states { length self.old.live.items ≡ length sight.now.segments.now + 1 }
+        requires room { vec_len self.old.nodes + length sight.now.segments.now + 1 ≤ vec_capacity self.old.nodes }
+        requires moved { numbers.now ≡ moved (event_spot sight.now.event) 0 (sighted sight.now) }
+        ensures ways { ways_of self.new.nodes.items 0 self.new.live.items ≡ step (program_view sight.now.program.now) (seen_by sight.now) sight.now.count None false (sighted sight.now) (ways_of self.old.nodes.items 0 self.old.live.items) }
+        ensures states { length self.new.live.items ≡ length self.old.live.items }
+    {
+        let mut next = 0;
+        let mut came: Option<usize> = None;
+        for number in numbers {
+            if *number >= self.reach {
+                self.finish(sight, came);
+                return;
+            }
+            if *number >= next {
+                (next, came) = self.carry(sight, *number);
+            }
+        }
+        self.finish(sight, came);
+    }
+    /// Takes all states past an event of a number.
+    pub fn pass(
+        &mut self,
+        program: &Program,
+        segments: &[BoundSegment],
+        prepared: &[Prepared],
+        by_place: &ByPlace,
+        event: Event,
+        memory: &Memory,
+        count: u64,
+    ) -> Result<(), OutOfMemory>
+        requires prepares { prepared.now ≡ all_prepared (program_view program.now) (each_segment_view segments.now) }
+        requires places { numbers_in by_place.now (event_spot event) ≡ moved (event_spot event) 0 (each_segment_view segments.now) }
+        requires states { length self.old.live.items ≡ length segments.now + 1 }
+        ensures ways { OnOk result (ways_of self.new.nodes.items 0 self.new.live.items ≡ step (program_view program.now) (record { event = event; cells = memory.now.cells }) count None false (each_segment_view segments.now) (ways_of self.old.nodes.items 0 self.old.live.items)) }
+        ensures refused { OnErr result (ways_of self.new.nodes.items 0 self.new.live.items ≡ ways_of self.old.nodes.items 0 self.old.live.items) }
+        ensures states { length self.new.live.items ≡ length self.old.live.items }
+    {
+        self.nodes.reserve(self.live.len())?;
+        let sight = Sight {
+            program,
+            segments,
+            prepared,
+            event,
+            memory,
+            count,
+        };
+        self.advance(&sight, by_place.numbers(event));
+        Ok(())
+    }
 }

@@ -1,4 +1,4 @@
-use Rattle.std.proofs.Common.{◌≡◌, ◌<◌, List, length, get_or, Option, None, ◌∙◌, ap, arith}
+use Rattle.std.proofs.Common.{◌<◌, List, length, get_or, Option, None, ◌∙◌, ap, arith}
 use Rattle.c_core.specs.View.{program_view}
 use Rattle.way_match.specs.declared.prepared.Comparison.{Comparison}
 use Rattle.way_match.proofs.Views.{comparison_at}

@@ -1,4 +1,4 @@
-use Rattle.std.proofs.Common.{◌≡◌, sym, ◌∙◌, rules, length, arith}
+use Rattle.std.proofs.Common.{◌≡◌, sym, ◌∙◌, rules, length}
 use Rattle.way_match.proofs.Kept.{arrived, arrived_held}
 use Rattle.way_match.proofs.states.arrives.Goals as goal
 

@@ -1,6 +1,5 @@
-use Rattle.std.proofs.Common.{◌≡◌, ℕ, suc, ◌+◌, ◌-◌, ◌≤◌, length, arith}
+use Rattle.std.proofs.Common.{◌≡◌, suc, ◌-◌, ◌≤◌, length, arith}
 use Rattle.std.proofs.Math.ListN.{length-set}
-use Rattle.way_match.specs.Arena.{node_at}
 use Rattle.way_match.proofs.Kept.{filled, held_below}
 use Rattle.way_match.proofs.states.fill.Goals as goal
 

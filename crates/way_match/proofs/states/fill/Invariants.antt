@@ -1,4 +1,4 @@
-use Rattle.std.proofs.Common.{◌≡◌, ℕ, ◌≤◌, [], length, drop}
+use Rattle.std.proofs.Common.{◌≡◌, ◌≤◌, [], length, drop}
 use Rattle.way_match.specs.Steps.{onto}
 use Rattle.way_match.specs.Arena.{chain, Held}
 use Rattle.way_match.proofs.states.fill.Given as goal

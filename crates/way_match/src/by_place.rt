@@ -1,0 +1,106 @@
+// Which segments an event can move, found by its place.
+ghost use Rattle.std.specs.Prelude.{◌≡◌, ℕ, [], ◌∷◌, ◌++◌, cond, Option, None, Some, IfOk, OnOk};
+ghost use Rattle.c_core.specs.declared.number.Spot.{Spot};
+ghost use Rattle.way_match.specs.ByPlace.{event_spot, moved, numbers_for, numbers_in, same_place};
+ghost use Rattle.way_match.specs.View.{each_segment_view, point_view, points_view};
+
+use crate::point::{BoundSegment, Point};
+use c_core::Spot;
+use c_meaning::Event;
+use std::alloc::Global;
+use std::collections::BTreeMap;
+use wv_base::OutOfMemory;
+
+/// The numbers of the segments that have a waypoint at a place, by its line and column, and of those that have a target.
+#[derive(Drop)]
+pub struct ByPlace {
+    placed: BTreeMap<(u32, u32), Vec<usize>>,
+    targets: Vec<usize>,
+}
+
+impl ByPlace {
+    fn new(alloc: Global) -> ByPlace
+        ensures { (at : Option Spot) → numbers_in result at ≡ [] }
+    {
+        ByPlace {
+            placed: BTreeMap::new(alloc),
+            targets: Vec::new(alloc),
+        }
+    }
+
+    fn add_at(&mut self, alloc: Global, spot: Spot, number: usize) -> Result<(), OutOfMemory>
+        ensures { OnOk result ((at : Option Spot) → numbers_in self.new at ≡ numbers_in self.old at ++ cond (same_place (Some spot) at) (number ∷ []) []) }
+    {
+        let place = (spot.line, spot.column);
+        let mut numbers = match self.placed.remove(&place) {
+            Some(numbers) => numbers,
+            None => Vec::new(alloc),
+        };
+        numbers.push(number)?;
+        self.placed.insert(place, numbers)?;
+        Ok(())
+    }
+
+    fn add(&mut self, alloc: Global, point: &Point, number: usize) -> Result<(), OutOfMemory>
+        ensures { OnOk result ((at : Option Spot) → numbers_in self.new at ≡ numbers_in self.old at ++ numbers_for at number (point_view point.now ∷ [])) }
+    {
+        match point {
+            Point::Assume(spot, _) => self.add_at(alloc, *spot, number),
+            Point::Target(_) => {
+                self.targets.push(number)?;
+                Ok(())
+            }
+            Point::Enter(close) => self.add_at(alloc, *close, number),
+            Point::Return(close, _) => self.add_at(alloc, *close, number),
+            Point::Branch(spot, _) => self.add_at(alloc, *spot, number),
+        }
+    }
+
+    fn add_each(
+        &mut self,
+        alloc: Global,
+        points: &[Point],
+        number: usize,
+    ) -> Result<(), OutOfMemory>
+        ensures { OnOk result ((at : Option Spot) → numbers_in self.new at ≡ numbers_in self.old at ++ numbers_for at number (points_view points.now)) }
+    {
+        for point in points {
+            self.add(alloc, point, number)?;
+        }
+        Ok(())
+    }
+
+    /// The segments by the places of their waypoints.
+    pub fn of(alloc: Global, segments: &[BoundSegment]) -> Result<ByPlace, OutOfMemory>
+        ensures { IfOk result (λ found. (at : Option Spot) → numbers_in found at ≡ moved at 0 (each_segment_view segments.now)) }
+    {
+        let mut found = ByPlace::new(alloc);
+        for (number, segment) in segments.iter().enumerate() {
+            found.add_each(alloc, segment.avoids.as_slice(), number)?;
+            found.add(alloc, &segment.follow, number)?;
+        }
+        Ok(found)
+    }
+
+    fn at(&self, spot: Spot) -> &[usize]
+        ensures { result.now ≡ numbers_in self.now (Some spot) }
+    {
+        match self.placed.get(&(spot.line, spot.column)) {
+            Some(numbers) => numbers.as_slice(),
+            None => &[],
+        }
+    }
+
+    /// The numbers of the segments that an event can move, ascending; one may come more than once.
+    pub fn numbers(&self, event: Event) -> &[usize]
+        ensures { result.now ≡ numbers_in self.now (event_spot event) }
+    {
+        match event {
+            Event::At(spot) => self.at(spot),
+            Event::Enter(close) => self.at(close),
+            Event::Return(close, _) => self.at(close),
+            Event::Branch(spot, _) => self.at(spot),
+            Event::Fail { .. } => self.targets.as_slice(),
+        }
+    }
+}
