@@ -1,11 +1,11 @@
 -- A checked program has few objects.
-use Rattle.std.proofs.Common.{◌≡◌, ℕ, ◌≤◌, ◌+◌, refl, true, false, cond, Bool, ◌&&◌, List, [], ◌∷◌, length, IsTrue, nat_le, nat_eq, arith}
+use Rattle.std.proofs.Common.{ℕ, ◌≤◌, refl, true, false, cond, Bool, ◌&&◌, List, [], ◌∷◌, length, IsTrue, nat_le, nat_eq, arith}
 use Rattle.std.proofs.lemmas.Bool.{false≢true}
 use Rattle.std.specs.List.{list_all, sum_by}
 use Rattle.std.proofs.lemmas.Bool.Decides.{nat_tests}
 use Rattle.std.proofs.lemmas.List.Sums.{sum_by-cons}
 use Rattle.c_core.specs.Tree.{Program}
-use Rattle.c_core.specs.Program.{IsProgram, object_fits, objects_fit, cells_fit}
+use Rattle.c_core.specs.Program.{IsProgram, object_fits}
 use Rattle.c_core.specs.declared.tree.Object.{Object}
 
 one_at_least : (array : Bool) (cells : ℕ) → IsTrue (cond array (nat_le 1 cells) (nat_eq cells 1)) → 1 ≤ cells

@@ -1,5 +1,5 @@
 -- What walks keep over two lists, one after the other, and what they find over a program.
-use Rattle.std.proofs.Common.{◌≡◌, ℕ, suc, ◌+◌, ◌<◌, refl, sym, ap, ◌∙◌, Bool, cond, List, [], ◌∷◌, ◌++◌, get_or, length, drop, drop-cons, add-one, Option, Some, None}
+use Rattle.std.proofs.Common.{◌≡◌, ℕ, suc, ◌+◌, ◌<◌, refl, sym, ap, ◌∙◌, Bool, cond, List, [], ◌∷◌, ◌++◌, get_or, length, drop, drop-cons, add-one, Option, Some}
 use Rattle.c_core.specs.Tree.{Exp, Stm}
 use Rattle.c_core.specs.Places.{before_in_statement}
 use Rattle.c_core.specs.declared.number.Spot.{Spot}

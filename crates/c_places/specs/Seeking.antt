@@ -1,5 +1,5 @@
 -- Walks that keep what they found so far.
-use Rattle.std.specs.Prelude.{ℕ, nat_eq, nat_lt, Bool, true, false, cond, ◌&&◌, List, [], ◌∷◌, ◌++◌, Option, Some, None}
+use Rattle.std.specs.Prelude.{ℕ, nat_lt, Bool, cond, ◌&&◌, List, [], ◌∷◌, ◌++◌, Option, Some, None}
 use Rattle.c_core.specs.Tree.{Exp, Stm, Stms, MoreStm, Function}
 use Rattle.c_core.specs.Parts.{spot_of, statements_of}
 use Rattle.c_core.specs.Places.{is_named, same_kind, places_of_body, calls_reach_error, ends_at, before_in, before_in_statement}

@@ -1,5 +1,5 @@
 -- What a walk over bodies takes from each full expression, in its order.
-use Rattle.std.specs.Prelude.{ℕ, Bool, false, true, ◌&&◌, List, [], ◌∷◌, ◌++◌, Option, Some, None}
+use Rattle.std.specs.Prelude.{Bool, false, true, List, [], ◌∷◌, ◌++◌, Option, Some, None}
 use Rattle.c_core.specs.Tree.{Exp, Exps, NoExp, MoreExp, Init, Absent, One, Many, Names, NoName, MoreName, First, NoFirst, FirstExp, FirstNames, Stm, Stmt, Form, Empty, Do, Declare, Block, If, While, DoWhile, For, Break, Continue, Return, Label, Else, NoElse, OrElse, Stms, NoStm, MoreStm, Function, Program}
 use Rattle.c_core.specs.Parts.{exps_of}
 use Rattle.c_core.specs.declared.number.Property.{Property}

@@ -1,7 +1,7 @@
 -- The objects that are visible at a place (C11 6.2.1p4), innermost last.
 use Rattle.std.specs.Prelude.{ℕ, suc, Bool, true, false, cond, ◌&&◌, List, [], ◌∷◌, ◌++◌, Option, Some, None}
-use Rattle.std.specs.List.{flat_map, list_any}
-use Rattle.c_core.specs.Tree.{Exp, First, Stm, Stmt, Form, Empty, Do, Declare, Block, If, While, DoWhile, For, Break, Continue, Return, Label, Else, NoElse, OrElse, Stms, NoStm, MoreStm, Function, Program}
+use Rattle.std.specs.List.{list_any}
+use Rattle.c_core.specs.Tree.{Stm, Stmt, Form, Empty, Do, Declare, Block, If, While, DoWhile, For, Break, Continue, Return, Label, Else, NoElse, OrElse, Stms, NoStm, MoreStm, Function, Program}
 use Rattle.c_core.specs.Parts.{same_spot, declared_by, objects_of_first}
 use Rattle.c_core.specs.TextOrder.{is_before}
 use Rattle.c_core.specs.Places.{spots_of_kind}

@@ -1,4 +1,4 @@
-use Rattle.std.proofs.Common.{◌≡◌, ap, ◌∙◌, None}
+use Rattle.std.proofs.Common.{ap, ◌∙◌, None}
 use Rattle.c_core.specs.View.{functions_view, program_view}
 use Rattle.c_places.specs.Seeking.{before_of, statements_of_functions}
 use Rattle.c_places.proofs.BeforeLaws.{before_is_found}

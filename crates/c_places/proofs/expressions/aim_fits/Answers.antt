@@ -1,4 +1,4 @@
-use Rattle.std.proofs.Common.{◌≡◌, ap, ◌∙◌, is_some}
+use Rattle.std.proofs.Common.{ap, ◌∙◌, is_some}
 use Rattle.c_core.specs.View.{program_view}
 use Rattle.c_places.proofs.SoughtLaws.{aim_by}
 use Rattle.c_places.proofs.expressions.aim_fits.Goals as goal

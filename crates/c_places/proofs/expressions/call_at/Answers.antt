@@ -1,4 +1,4 @@
-use Rattle.std.proofs.Common.{◌≡◌, ap, ◌∙◌, None}
+use Rattle.std.proofs.Common.{ap, ◌∙◌, None}
 use Rattle.c_core.specs.View.{functions_view, program_view}
 use Rattle.c_places.specs.Seeking.{first_of, is_wanted}
 use Rattle.c_places.specs.Sought.{each_in_functions, parts_of}

@@ -1,4 +1,4 @@
-use Rattle.std.proofs.Common.{◌≡◌, ◌+◌, ◌++◌, ap, sym, ◌∙◌, drop}
+use Rattle.std.proofs.Common.{◌+◌, ap, sym, ◌∙◌, drop}
 use Rattle.std.specs.Option.{option_copied}
 use Rattle.c_core.specs.TreeView.{expr_view, expr_view_if, exprs_view}
 use Rattle.c_places.specs.Sought.{each_in_list, parts_of}

@@ -1,4 +1,4 @@
-use Rattle.std.proofs.Common.{◌≡◌, ap, ◌∙◌, None}
+use Rattle.std.proofs.Common.{ap, ◌∙◌, None}
 use Rattle.c_core.specs.View.{functions_view, program_view}
 use Rattle.c_places.specs.Seeking.{best_of, places_of_functions}
 use Rattle.c_places.proofs.PlaceLaws.{best_is_place}

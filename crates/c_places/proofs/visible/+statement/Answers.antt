@@ -1,4 +1,4 @@
-use Rattle.std.proofs.Common.{◌≡◌, ◌++◌, ap, sym, subst, ◌∙◌, cond, List, Some, None, IfOk}
+use Rattle.std.proofs.Common.{◌≡◌, ap, sym, subst, ◌∙◌, cond, List, Some, None, IfOk}
 use Rattle.c_core.specs.Tree.{Block}
 use Rattle.c_core.specs.TreeView.{form_view, stmt_view, stmts_view}
 use Rattle.c_core.specs.Parts.{declared_by}

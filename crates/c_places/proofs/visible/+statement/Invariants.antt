@@ -1,4 +1,4 @@
-use Rattle.std.proofs.Common.{◌≡◌, ◌++◌, drop, take, length}
+use Rattle.std.proofs.Common.{◌≡◌, drop, take, length}
 use Rattle.c_core.specs.TreeView.{stmts_view}
 use Rattle.c_places.specs.Visible.{seen_from, sights_in_block}
 use Rattle.c_places.proofs.visible.+statement.Given as goal

@@ -1,4 +1,4 @@
-use Rattle.std.proofs.Common.{◌≡◌, sym, ◌∙◌}
+use Rattle.std.proofs.Common.{sym, ◌∙◌}
 use Rattle.c_places.proofs.VisibleLaws.{function_found, function_past, names_kept}
 use Rattle.c_places.proofs.visible.in_functions.Goals as goal
 

@@ -1,4 +1,4 @@
-use Rattle.std.proofs.Common.{◌≡◌, ◌++◌, drop}
+use Rattle.std.proofs.Common.{◌≡◌, drop}
 use Rattle.c_core.specs.TreeView.{functions_view}
 use Rattle.c_places.specs.Visible.{seen_from, sights_in_functions}
 use Rattle.c_places.proofs.visible.in_functions.Given as goal

@@ -1,4 +1,4 @@
-use Rattle.std.proofs.Common.{◌≡◌, ◌≤◌, ap, length, subst, sym, arith}
+use Rattle.std.proofs.Common.{◌≡◌, ◌≤◌, ap, length, arith}
 use Rattle.c_core.specs.View.{program_view}
 use Rattle.c_places.proofs.ObjectLaws.{few_objects}
 use Rattle.c_places.proofs.visible.names_at.Goals as goal

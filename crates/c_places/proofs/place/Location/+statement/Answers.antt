@@ -1,4 +1,4 @@
-use Rattle.std.proofs.Common.{◌≡◌, ◌+◌, ◌++◌, ap, sym, ◌∙◌, drop}
+use Rattle.std.proofs.Common.{◌≡◌, ◌+◌, ap, sym, ◌∙◌, drop}
 use Rattle.c_core.specs.TreeView.{form_view, stmt_view, stmts_view}
 use Rattle.c_core.specs.Tree.{Block}
 use Rattle.c_core.specs.Places.{places_of_block, places_of_form, places_of_statement}

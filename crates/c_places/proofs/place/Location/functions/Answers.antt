@@ -1,4 +1,4 @@
-use Rattle.std.proofs.Common.{◌≡◌, ◌+◌, ◌++◌, ap, sym, ◌∙◌, drop}
+use Rattle.std.proofs.Common.{◌+◌, ap, sym, ◌∙◌, drop}
 use Rattle.c_core.specs.TreeView.{functions_view, stmt_view}
 use Rattle.c_core.specs.Places.{places_of_body}
 use Rattle.c_places.specs.Seeking.{best_of, places_of_functions}

@@ -1,4 +1,4 @@
-use Rattle.std.proofs.Common.{◌≡◌, ◌+◌, ◌++◌, ap, sym, ◌∙◌, drop}
+use Rattle.std.proofs.Common.{◌+◌, ap, sym, ◌∙◌, drop}
 use Rattle.c_core.specs.TreeView.{init_view, names_view}
 use Rattle.c_core.specs.Places.{places_in_init, places_in_names}
 use Rattle.c_places.specs.Seeking.{best_of}
