@@ -5,7 +5,7 @@ use Rattle.c_core.specs.Tree.{Stm, Function, Program}
 use Rattle.c_core.specs.Parts.{statements_of, statements_of_program}
 use Rattle.c_core.specs.Places.{before_in_statement, first_some, stmt_before}
 use Rattle.c_core.specs.declared.number.Spot.{Spot}
-use Rattle.c_places.specs.Seeking.{before_of, or_else, statements_of_functions}
+use Rattle.c_places.specs.Seeking.{before_of, statements_of_functions}
 
 before_stays : (spot : Spot) (s : Stm) (ss : List Stm) → before_of spot (Some s) ss ≡ Some s
 before_stays spot s [] = refl
@@ -20,7 +20,7 @@ before_is_first : (spot : Spot) (ss : List Stm) → before_of spot None ss ≡ f
 before_is_first spot [] = refl
 before_is_first spot (s ∷ ss) = before_one spot (before_in_statement spot s) ss (before_is_first spot ss)
 
-statements_of_all : (fs : List Function) → statements_of_functions fs ≡ flat_map (λ f. statements_of f.body) fs
+pub statements_of_all : (fs : List Function) → statements_of_functions fs ≡ flat_map (λ f. statements_of f.body) fs
 statements_of_all [] = refl
 statements_of_all (f ∷ fs) = ap (λ l. statements_of f.body ++ l) (statements_of_all fs)
 

@@ -1,8 +1,12 @@
 pub mod SeekingLaws
 pub mod PlaceLaws
 pub mod SoughtLaws
-pub mod InputLaws
+pub mod CallLaws
 pub mod BeforeLaws
 pub mod VisibleLaws
 pub mod ObjectLaws
 pub mod OrderLaws
+pub mod FirstLaws
+pub mod LeftmostLaws
+pub mod NeighbourLaws
+pub mod IndexLaws

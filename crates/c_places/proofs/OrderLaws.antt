@@ -1,7 +1,6 @@
 -- The places of a program follow the order of its text, those at one place the order of their kinds.
 use Rattle.std.proofs.Common.{◌≡◌, refl, sym, ap, ◌∙◌, subst, Bool, true, false, cond, ◌&&◌, ◌||◌, List, [], ◌∷◌, ◌++◌, Option, Some, None, nat_lt, nat_eq, eqb-true}
 use Rattle.std.proofs.Math.Bool.{or-true}
-use Rattle.std.proofs.lemmas.Bool.{false≢true}
 use Rattle.std.specs.List.{list_all, flat_map}
 use Rattle.c_core.specs.Operators.{is_prefix}
 use Rattle.c_core.specs.Parts.{same_spot}
@@ -54,7 +53,7 @@ laid ps _ (skips a _ ss p) = past a ps ss (laid ps ss p)
 laid _ _ (branches a ps ss p) = one Branch a ps ss (laid ps ss p)
 laid _ _ (comes_back a ps ss p) = one CallEnd a ps ss (laid ps ss p)
 
-one_spot : (a b : Spot) → same_spot a b ≡ true → a ≡ b
+pub one_spot : (a b : Spot) → same_spot a b ≡ true → a ≡ b
 one_spot a b h =
     let l : a.line ≡ b.line = eqb-true a.line b.line (left _ _ h) in
     let c : a.column ≡ b.column = eqb-true a.column b.column (right (nat_eq a.line b.line) _ h) in

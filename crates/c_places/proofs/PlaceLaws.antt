@@ -3,13 +3,13 @@ use Rattle.std.proofs.Common.{◌≡◌, ℕ, refl, sym, ap, ◌∙◌, Bool, tr
 use Rattle.std.specs.List.{filter, flat_map}
 use Rattle.std.proofs.lemmas.Bool.Decides.{nat_tests}
 use Rattle.c_core.specs.Tree.{Function, Program}
-use Rattle.c_core.specs.Places.{is_named, same_kind, of_kind, lefter, leftmost, place_at, places_of_body, places_of}
+use Rattle.c_core.specs.Places.{is_named, same_kind, of_kind, lefter, leftmost, place_at, places_of_body}
 use Rattle.c_core.specs.declared.number.Spot.{Spot}
 use Rattle.c_core.specs.declared.place.PlaceKind.{PlaceKind}
 use Rattle.c_core.specs.declared.place.Place.{Place}
 use Rattle.c_places.specs.Seeking.{nearer, is_sought, best_of, places_of_functions}
 
-abbrev join : Option Spot → Option Spot → Option Spot
+abbrev pub join : Option Spot → Option Spot → Option Spot
 join None b = b
 join (Some a) b = Some (lefter a b)
 
@@ -35,15 +35,15 @@ join_more : (best : Option Spot) (s : Spot) (rest : Option Spot) → join (Some 
 join_more None s rest = refl
 join_more (Some b) s rest = ap Some (lefter_both b s rest)
 
-join_none : (best : Option Spot) → best ≡ join best None
+pub join_none : (best : Option Spot) → best ≡ join best None
 join_none None = refl
 join_none (Some b) = refl
 
-abbrev sought : ℕ → Option ℕ → List Spot → Option Spot
+abbrev pub sought : ℕ → Option ℕ → List Spot → Option Spot
 sought line column spots = leftmost (filter (is_named line column) spots)
 
 -- one more place, of the kind or not, named or not
-one_more : (line : ℕ) (column : Option ℕ) (x y : Bool) (best : Option Spot) (s : Spot) (spots : List Spot) → is_named line column s ≡ y
+pub one_more : (line : ℕ) (column : Option ℕ) (x y : Bool) (best : Option Spot) (s : Spot) (spots : List Spot) → is_named line column s ≡ y
     → join (cond (x && y) (Some (nearer best s)) best) (sought line column spots) ≡ join best (sought line column (cond x (s ∷ spots) spots))
 one_more line column true true best s spots h =
     join_more best s (sought line column spots) ∙ sym (ap (λ t. join best (leftmost (cond t (s ∷ filter (is_named line column) spots) (filter (is_named line column) spots)))) h)

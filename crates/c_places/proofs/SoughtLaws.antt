@@ -6,14 +6,13 @@ use Rattle.std.proofs.lemmas.Grind.{flat_map-append}
 use Rattle.std.proofs.lemmas.List.{append-nil}
 use Rattle.c_core.specs.Tree.{Exp, Exps, NoExp, MoreExp, Init, Absent, One, Many, Names, NoName, MoreName, First, NoFirst, FirstExp, FirstNames, Stm, Stmt, Form, Empty, Do, Declare, Block, If, While, DoWhile, For, Break, Continue, Return, Label, Else, NoElse, OrElse, Stms, NoStm, MoreStm, Function, Program}
 use Rattle.c_core.specs.Parts.{exp_if, exps_in, exps_of, exps_of_program, fulls_of_first, fulls_of_init, fulls_of_names, fulls_of_program, own_fulls, own_fulls_of, spot_of, statements_of, statements_of_block, statements_of_else, statements_of_form}
-use Rattle.c_core.specs.Places.{aim_fits, aims_of, call_at, calls_reach_error, ends_at, is_named, leftmost, place_at, spots_of_kind, starts_of_reach_error}
+use Rattle.c_core.specs.Places.{aim_fits, call_at, calls_reach_error, ends_at, is_named, leftmost, place_at, spots_of_kind, starts_of_reach_error}
 use Rattle.c_core.specs.declared.number.Property.{Property}
 use Rattle.c_core.specs.declared.number.Property.TheVariants.{UnreachCall, NoOverflow}
 use Rattle.c_core.specs.declared.number.Spot.{Spot}
 use Rattle.c_core.specs.declared.place.PlaceKind.TheVariants.{Statement}
-use Rattle.c_places.specs.Seeking.{first_of, is_wanted, or_this}
+use Rattle.c_places.specs.Seeking.{first_of, is_wanted}
 use Rattle.c_places.specs.Sought.{found_by, is_reachability, parts_of, each_if, each_in, each_in_block, each_in_else, each_in_first, each_in_form, each_in_functions, each_in_init, each_in_list, each_in_names}
-use Rattle.c_places.specs.declared.expressions.Wanted.{Wanted}
 use Rattle.c_places.specs.declared.expressions.Wanted.TheVariants.{EndsAt, Starts, ReachesError}
 
 -- what is sought in these full expressions
@@ -168,7 +167,7 @@ leftmost_one : (b c : Bool) (s : Spot) (spots : List Spot) → is_some (leftmost
 leftmost_one true c s spots h = refl
 leftmost_one false c s spots h = h
 
-leftmost_found : (line : ℕ) (column : Option ℕ) (spots : List Spot) → is_some (leftmost (filter (is_named line column) spots)) ≡ list_any (is_named line column) spots
+pub leftmost_found : (line : ℕ) (column : Option ℕ) (spots : List Spot) → is_some (leftmost (filter (is_named line column) spots)) ≡ list_any (is_named line column) spots
 leftmost_found line column [] = refl
 leftmost_found line column (s ∷ spots) =
     leftmost_one (is_named line column s) (list_any (is_named line column) spots) s (filter (is_named line column) spots) (leftmost_found line column spots)

@@ -1,6 +1,11 @@
 pub mod Seeking
 pub mod Sought
+pub mod Aims
+pub mod Calls
+pub mod Indexed
 pub mod Inputs
+pub mod Maps
+pub mod Neighbours
 pub mod Ordered
 pub mod Visible
 pub mod WorkedNames

@@ -17,7 +17,7 @@ pub fn names(line: u32, column: Option<u32>, spot: Spot) -> bool
     }
 }
 
-fn is_same(a: PlaceKind, b: PlaceKind) -> bool
+pub fn is_same(a: PlaceKind, b: PlaceKind) -> bool
     ensures { result ≡ same_kind a b }
 {
     match a {
