@@ -15,3 +15,4 @@ mod Begin
 mod Done
 pub mod GatherLaws
 pub mod StoredLaws
+pub mod ValueLaws

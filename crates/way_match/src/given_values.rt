@@ -3,19 +3,19 @@ ghost use Rattle.std.specs.Prelude.{◌≡◌, ◌++◌, IfOk, OnOk};
 ghost use Rattle.std.specs.Option.{option_map};
 ghost use Rattle.c_core.specs.Places.{input_at, stmt_before};
 ghost use Rattle.c_core.specs.View.{expr_view, program_view};
-ghost use Rattle.c_meaning.specs.Objects.{same_spot};
 ghost use Rattle.c_meaning.specs.Value.{and_then};
 ghost use Rattle.c_places.specs.Inputs.{call_view, calls_view};
-ghost use Rattle.way_match.specs.Gathered.{choices_for, gathered, stored_view, value_view, values_of, values_view};
+ghost use Rattle.way_match.specs.Gathered.{choices_in, gathered, stored_view, value_view, values_view};
 ghost use Rattle.way_match.specs.Given.{given_by, given_by_assumption, given_by_constant, given_by_follow, given_by_return, stored_by};
 ghost use Rattle.way_match.specs.View.{each_segment_view, point_view, segments_view, test_view_if};
 
 use crate::compared::{first_constant, is_equality};
 use crate::point::{Bound, BoundSegment, Point, ReturnTest};
 use crate::stored::{StoredInput, stored_by};
+use crate::values::{Values, values_at, values_by_place};
 use c_core::{Expr, Program, Spot, convert};
 use c_meaning::{Choices, Given, Memory, value_in};
-use c_places::{InputCall, call_at, input_calls, input_of, stmt_before};
+use c_places::{Index, InputCall, input_calls, input_of};
 use std::alloc::Global;
 use wv_base::{OutOfMemory, Seq};
 
@@ -44,10 +44,16 @@ fn given_by_constant(
     }
 }
 
-fn input_at(program: &Program, close: Spot) -> Option<InputCall>
-    ensures { option_map call_view result ≡ input_at (program_view program.now) close }
+fn given_in(alloc: Global, index: &Index, call: InputCall, constant: &Expr) -> Option<GivenValue>
+    ensures { option_map value_view result ≡ given_by_constant (program_view index.now) (call_view call) (expr_view constant.now) }
 {
-    match call_at(program, close) {
+    given_by_constant(alloc, index.program(), call, constant)
+}
+
+fn input_at(index: &Index, close: Spot) -> Option<InputCall>
+    ensures { option_map call_view result ≡ input_at (program_view index.now) close }
+{
+    match index.call_at(close) {
         None => None,
         Some(e) => input_of(e),
     }
@@ -55,19 +61,19 @@ fn input_at(program: &Program, close: Spot) -> Option<InputCall>
 
 fn given_by_return(
     alloc: Global,
-    program: &Program,
+    index: &Index,
     close: Spot,
     test: &Option<ReturnTest>,
 ) -> Option<GivenValue>
-    ensures { option_map value_view result ≡ given_by_return (program_view program.now) (input_at (program_view program.now) close) (test_view_if test.now) }
+    ensures { option_map value_view result ≡ given_by_return (program_view index.now) (input_at (program_view index.now) close) (test_view_if test.now) }
 {
-    match input_at(program, close) {
+    match input_at(index, close) {
         None => None,
         Some(call) => match test {
             None => None,
             Some(test) => {
                 if is_equality(test.op) {
-                    given_by_constant(alloc, program, call, &test.constant)
+                    given_in(alloc, index, call, &test.constant)
                 } else {
                     None
                 }
@@ -76,38 +82,33 @@ fn given_by_return(
     }
 }
 
-fn stored_before(program: &Program, spot: Spot) -> Option<StoredInput>
-    ensures { option_map stored_view result ≡ and_then (stmt_before (program_view program.now) spot) stored_by }
+fn stored_before(index: &Index, spot: Spot) -> Option<StoredInput>
+    ensures { option_map stored_view result ≡ and_then (stmt_before (program_view index.now) spot) stored_by }
 {
-    match stmt_before(program, spot) {
+    match index.stmt_before(spot) {
         None => None,
         Some(s) => stored_by(s),
     }
 }
 
-fn given_by_assumption(
-    alloc: Global,
-    program: &Program,
-    spot: Spot,
-    test: &Expr,
-) -> Option<GivenValue>
-    ensures { option_map value_view result ≡ given_by_assumption (program_view program.now) (and_then (stmt_before (program_view program.now) spot) stored_by) (expr_view test.now) }
+fn given_by_assumption(alloc: Global, index: &Index, spot: Spot, test: &Expr) -> Option<GivenValue>
+    ensures { option_map value_view result ≡ given_by_assumption (program_view index.now) (and_then (stmt_before (program_view index.now) spot) stored_by) (expr_view test.now) }
 {
-    match stored_before(program, spot) {
+    match stored_before(index, spot) {
         None => None,
         Some(stored) => match first_constant(stored.object, test) {
             None => None,
-            Some(constant) => given_by_constant(alloc, program, stored.call, constant),
+            Some(constant) => given_in(alloc, index, stored.call, constant),
         },
     }
 }
 
-fn given_by_follow(alloc: Global, program: &Program, follow: &Point) -> Option<GivenValue>
-    ensures { option_map value_view result ≡ given_by_follow (program_view program.now) (point_view follow.now) }
+fn given_by_follow(alloc: Global, index: &Index, follow: &Point) -> Option<GivenValue>
+    ensures { option_map value_view result ≡ given_by_follow (program_view index.now) (point_view follow.now) }
 {
     match follow {
-        Point::Return(close, test) => given_by_return(alloc, program, *close, test),
-        Point::Assume(spot, test) => given_by_assumption(alloc, program, *spot, test),
+        Point::Return(close, test) => given_by_return(alloc, index, *close, test),
+        Point::Assume(spot, test) => given_by_assumption(alloc, index, *spot, test),
         Point::Target(_) => None,
         Point::Enter(_) => None,
         Point::Branch(_, _) => None,
@@ -117,51 +118,33 @@ fn given_by_follow(alloc: Global, program: &Program, follow: &Point) -> Option<G
 /// What the follows give, in witness order.
 fn gather(
     alloc: Global,
-    program: &Program,
+    index: &Index,
     segments: &[BoundSegment],
 ) -> Result<Vec<GivenValue>, OutOfMemory>
-    ensures { IfOk result (λ list. values_view list.items ≡ gathered (program_view program.now) (each_segment_view segments.now)) }
+    ensures { IfOk result (λ list. values_view list.items ≡ gathered (program_view index.now) (each_segment_view segments.now)) }
 {
     let mut list = Vec::new(alloc);
     for segment in segments {
-        if let Some(value) = given_by_follow(alloc, program, &segment.follow) {
+        if let Some(value) = given_by_follow(alloc, index, &segment.follow) {
             list.push(value)?;
         }
     }
     Ok(list)
 }
 
-fn values_for(alloc: Global, given: &[GivenValue], spot: Spot) -> Result<Seq<i128>, OutOfMemory>
-    ensures { IfOk result (λ values. values ≡ values_of spot (values_view given.now)) }
-{
-    let mut values = Seq::new(alloc);
-    for value in given {
-        if is_same(value.spot, spot) {
-            values.push(value.value)?;
-        }
-    }
-    Ok(values)
-}
-
-fn is_same(a: Spot, b: Spot) -> bool
-    ensures { result ≡ same_spot a b }
-{
-    a.line == b.line && a.column == b.column
-}
-
 fn push_choices(
     alloc: Global,
-    given: &[GivenValue],
+    values: &Values,
     calls: &[InputCall],
     list: &mut Seq<Given>,
 ) -> Result<(), OutOfMemory>
-    ensures { OnOk result (list.new ≡ list.old ++ choices_for (values_view given.now) (calls_view calls.now)) }
+    ensures { OnOk result (list.new ≡ list.old ++ choices_in values.now (calls_view calls.now)) }
 {
     for call in calls {
-        let values = values_for(alloc, given, call.spot)?;
+        let there = values_at(alloc, values, call.spot)?;
         list.push(Given {
             spot: call.spot,
-            values,
+            values: there,
         })?;
     }
     Ok(())
@@ -171,9 +154,11 @@ fn push_choices(
 pub fn given(alloc: Global, bound: &Bound, program: &Program) -> Result<Choices, OutOfMemory>
     ensures { IfOk result (λ c. c ≡ given_by (program_view program.now) (segments_view bound.now)) }
 {
-    let gathered = gather(alloc, program, bound.segments.as_slice())?;
+    let index = Index::new(alloc, program)?;
+    let gathered = gather(alloc, &index, bound.segments.as_slice())?;
+    let values = values_by_place(alloc, gathered.as_slice())?;
     let calls = input_calls(alloc, program)?;
     let mut list = Seq::new(alloc);
-    push_choices(alloc, gathered.as_slice(), calls.as_slice(), &mut list)?;
+    push_choices(alloc, &values, calls.as_slice(), &mut list)?;
     Ok(Choices::Given(list))
 }

@@ -14,6 +14,7 @@ mod prepared;
 mod sight;
 mod states;
 mod stored;
+mod values;
 
 pub use given_values::given;
 pub use laws::{confirmed_violates, confirms_exactly, test_matches};

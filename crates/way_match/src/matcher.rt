@@ -12,6 +12,7 @@ use crate::prepared::{Prepared, prepare};
 use crate::states::{States, fill};
 use c_core::Program;
 use c_meaning::{Event, Memory, Watcher};
+use c_places::Index;
 use std::alloc::Global;
 use std::marker::Model;
 use wv_base::{OutOfMemory, Seq};
@@ -56,6 +57,7 @@ impl<'a> Matcher<'a> {
         ensures { IfOk result (λ m. m ≡ begun program.now bound.now) }
     {
         let segments = bound.segments.as_slice();
+        let places = Index::new(alloc, program)?;
         let mut room = Vec::new(alloc);
         for _ in segments {
             room.push(0)?;
@@ -63,7 +65,7 @@ impl<'a> Matcher<'a> {
         Ok(Matcher {
             program,
             bound,
-            prepared: prepare(alloc, program, segments)?,
+            prepared: prepare(alloc, &places, segments)?,
             by_place: ByPlace::of(alloc, segments)?,
             states: States::new(alloc, segments.len())?,
             room,

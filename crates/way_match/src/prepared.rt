@@ -11,7 +11,7 @@ ghost use Rattle.way_match.specs.View.{each_segment_view, point_view, points_vie
 use crate::point::{BoundSegment, Point, ReturnTest};
 use c_core::{Expr, IntType, Program, Spot};
 use c_meaning::{Memory, value_in};
-use c_places::call_at;
+use c_places::Index;
 use std::alloc::Global;
 use wv_base::{OutOfMemory, Seq};
 
@@ -39,10 +39,10 @@ pub fn type_of(e: &Expr) -> IntType
     }
 }
 
-fn type_of_call(program: &Program, close: Spot) -> IntType
-    ensures { result ≡ passing.type_of_call (call_there (program_view program.now) close) }
+fn type_of_call(index: &Index, close: Spot) -> IntType
+    ensures { result ≡ passing.type_of_call (call_there (program_view index.now) close) }
 {
-    match call_at(program, close) {
+    match index.call_at(close) {
         Some(call) => type_of(call),
         None => IntType::Int,
     }
@@ -55,42 +55,48 @@ fn constant(alloc: Global, program: &Program, e: &Expr) -> Option<i128>
     value_in(program, e, &memory)
 }
 
+fn constant_in(alloc: Global, index: &Index, e: &Expr) -> Option<i128>
+    ensures { result ≡ passing.constant_of (program_view index.now) (expr_view e.now) }
+{
+    constant(alloc, index.program(), e)
+}
+
 fn comparison_at(
     alloc: Global,
-    program: &Program,
+    index: &Index,
     close: Spot,
     test: &Option<ReturnTest>,
 ) -> Option<Comparison>
-    ensures { result ≡ comparison_of (program_view program.now) (Return close (test_view_if test.now)) }
+    ensures { result ≡ comparison_of (program_view index.now) (Return close (test_view_if test.now)) }
 {
     match test {
         Some(test) => Some(Comparison {
-            ty: type_of_call(program, close),
-            constant: constant(alloc, program, &test.constant),
+            ty: type_of_call(index, close),
+            constant: constant_in(alloc, index, &test.constant),
         }),
         None => None,
     }
 }
 
-fn comparison_for(alloc: Global, program: &Program, point: &Point) -> Option<Comparison>
-    ensures { result ≡ comparison_of (program_view program.now) (point_view point.now) }
+fn comparison_for(alloc: Global, index: &Index, point: &Point) -> Option<Comparison>
+    ensures { result ≡ comparison_of (program_view index.now) (point_view point.now) }
 {
     match point {
-        Point::Return(close, test) => comparison_at(alloc, program, *close, test),
+        Point::Return(close, test) => comparison_at(alloc, index, *close, test),
         _ => None,
     }
 }
 
 fn comparisons(
     alloc: Global,
-    program: &Program,
+    index: &Index,
     points: &[Point],
 ) -> Result<Seq<Option<Comparison>>, OutOfMemory>
-    ensures { IfOk result (λ found. found ≡ comparisons_of (program_view program.now) (points_view points.now)) }
+    ensures { IfOk result (λ found. found ≡ comparisons_of (program_view index.now) (points_view points.now)) }
 {
     let mut found = Seq::new(alloc);
     for point in points {
-        found.push(comparison_for(alloc, program, point))?;
+        found.push(comparison_for(alloc, index, point))?;
     }
     Ok(found)
 }
@@ -98,15 +104,15 @@ fn comparisons(
 /// The comparisons of all segments.
 pub fn prepare(
     alloc: Global,
-    program: &Program,
+    index: &Index,
     segments: &[BoundSegment],
 ) -> Result<Seq<Prepared>, OutOfMemory>
-    ensures { IfOk result (λ prepared. prepared ≡ all_prepared (program_view program.now) (each_segment_view segments.now)) }
+    ensures { IfOk result (λ prepared. prepared ≡ all_prepared (program_view index.now) (each_segment_view segments.now)) }
 {
     let mut prepared = Seq::new(alloc);
     for segment in segments {
-        let avoids = comparisons(alloc, program, segment.avoids.as_slice())?;
-        let follow = comparison_for(alloc, program, &segment.follow);
+        let avoids = comparisons(alloc, index, segment.avoids.as_slice())?;
+        let follow = comparison_for(alloc, index, &segment.follow);
         prepared.push(Prepared { avoids, follow })?;
     }
     Ok(prepared)

@@ -5,4 +5,4 @@ use Rattle.way_match.specs.View.{points_view}
 use Rattle.way_match.proofs.prepared.comparisons.Given as goal
 
 abbrev pub invariant-loop-point : goal.invariant-loop-point
-invariant-loop-point l = l.found ++ comparisons_of (program_view l.program) (points_view (drop l.point-index l.points)) ≡ comparisons_of (program_view l.program) (points_view l.points)
+invariant-loop-point l = l.found ++ comparisons_of (program_view l.index) (points_view (drop l.point-index l.points)) ≡ comparisons_of (program_view l.index) (points_view l.points)

@@ -5,4 +5,4 @@ use Rattle.way_match.specs.View.{each_segment_view}
 use Rattle.way_match.proofs.prepared.prepare.Given as goal
 
 abbrev pub invariant-loop-segment : goal.invariant-loop-segment
-invariant-loop-segment l = l.prepared ++ all_prepared (program_view l.program) (each_segment_view (drop l.segment-index l.segments)) ≡ all_prepared (program_view l.program) (each_segment_view l.segments)
+invariant-loop-segment l = l.prepared ++ all_prepared (program_view l.index) (each_segment_view (drop l.segment-index l.segments)) ≡ all_prepared (program_view l.index) (each_segment_view l.segments)
