@@ -7,6 +7,7 @@ ghost use Rattle.way_bind.specs.Steps.{BindsAll, BindsSegment, BindsSegments, to
 use crate::fault::{BindFault, Unbound};
 use crate::waypoint::bind_point;
 use c_core::Program;
+use c_places::Index;
 use std::alloc::Global;
 use way_match::{Bound, BoundSegment, Point};
 use wv_base::Seq;
@@ -27,18 +28,18 @@ fn told(number: u32, lack: Unbound) -> BindFault
 /// The points of waypoints to avoid, numbered from `first` on.
 fn bind_avoids(
     alloc: Global,
-    program: &Program,
+    index: &Index,
     first: usize,
     waypoints: &[Waypoint],
 ) -> Result<Seq<Point>, BindFault>
     requires { first + length waypoints.now < 2 ^ 32 }
-    ensures { BindsAll (program_view program.now) first waypoints.now result }
+    ensures { BindsAll (program_view index.now) first waypoints.now result }
 {
     let mut points = Seq::new(alloc);
-    for (index, waypoint) in waypoints.iter().enumerate() {
-        match bind_point(alloc, program, waypoint) {
+    for (nth, waypoint) in waypoints.iter().enumerate() {
+        match bind_point(alloc, index, waypoint) {
             Ok(point) => points.push(point)?,
-            Err(lack) => return Err(told((first + index) as u32, lack)),
+            Err(lack) => return Err(told((first + nth) as u32, lack)),
         }
     }
     Ok(points)
@@ -47,16 +48,16 @@ fn bind_avoids(
 /// A segment bound, its waypoints numbered from `first` on.
 fn bind_segment(
     alloc: Global,
-    program: &Program,
+    index: &Index,
     first: usize,
     segment: &Segment,
 ) -> Result<BoundSegment, BindFault>
     requires { first + length (waypoints_of segment.now) < 2 ^ 32 }
-    ensures { BindsSegment (program_view program.now) first segment.now result }
+    ensures { BindsSegment (program_view index.now) first segment.now result }
 {
     let waypoints = segment.avoids.as_slice();
-    let avoids = bind_avoids(alloc, program, first, waypoints)?;
-    match bind_point(alloc, program, &segment.follow) {
+    let avoids = bind_avoids(alloc, index, first, waypoints)?;
+    match bind_point(alloc, index, &segment.follow) {
         Ok(follow) => Ok(BoundSegment { avoids, follow }),
         Err(lack) => Err(told((first + waypoints.len()) as u32, lack)),
     }
@@ -65,16 +66,16 @@ fn bind_segment(
 /// All segments bound, their waypoints numbered from 1.
 fn bind_segments(
     alloc: Global,
-    program: &Program,
+    index: &Index,
     segments: &[Segment],
 ) -> Result<Seq<BoundSegment>, BindFault>
     requires { length (waypoints_in segments.now) < 2 ^ 30 }
-    ensures { BindsSegments (program_view program.now) 1 segments.now result }
+    ensures { BindsSegments (program_view index.now) 1 segments.now result }
 {
     let mut bound = Seq::new(alloc);
     let mut first: usize = 1;
     for segment in segments {
-        bound.push(bind_segment(alloc, program, first, segment)?)?;
+        bound.push(bind_segment(alloc, index, first, segment)?)?;
         first += segment.avoids.len() + 1;
     }
     Ok(bound)
@@ -103,6 +104,7 @@ pub fn bind_violation(
     requires { length (waypoints_in (segments_of witness.now)) < 2 ^ 30 }
     ensures { Binds (program_view program.now) witness.now result }
 {
-    let segments = bind_segments(alloc, program, segments_of(witness))?;
+    let index = Index::new(alloc, program)?;
+    let segments = bind_segments(alloc, &index, segments_of(witness))?;
     Ok(Bound { segments })
 }

@@ -12,7 +12,7 @@ use crate::fault::Unbound;
 use c_constraint::check_expr;
 use c_core::{Expr, PlaceKind, Program, Spot};
 use c_parser::{ExprFault, RawExpr, parse_expr, parse_result};
-use c_places::{aim_fits, call_at, names_at, place_at};
+use c_places::{Index, names_at};
 use std::alloc::Global;
 use way_match::{Aim, Point, ReturnTest};
 use wv_base::Seq;
@@ -47,10 +47,10 @@ fn aim_of(location: &Location) -> Aim
 }
 
 /// Whether the call that ends there has a value.
-fn is_valued(program: &Program, close: Spot) -> bool
-    ensures { result ≡ is_valued (program_view program.now) close }
+fn is_valued(index: &Index, close: Spot) -> bool
+    ensures { result ≡ is_valued (program_view index.now) close }
 {
-    match call_at(program, close) {
+    match index.call_at(close) {
         Some(call) => call.ty.is_some(),
         None => false,
     }
@@ -108,16 +108,11 @@ fn assumption_at(alloc: Global, program: &Program, text: &str, spot: Spot) -> Re
     Ok(Point::Assume(spot, test))
 }
 
-fn tested_return(
-    alloc: Global,
-    program: &Program,
-    text: &str,
-    close: Spot,
-) -> Result<Point, Unbound>
-    ensures { BindsTested (program_view program.now) text.now close (seen point_view result) }
+fn tested_return(alloc: Global, index: &Index, text: &str, close: Spot) -> Result<Point, Unbound>
+    ensures { BindsTested (program_view index.now) text.now close (seen point_view result) }
 {
-    let valued = is_valued(program, close);
-    match test_of(alloc, program, valued, text) {
+    let valued = is_valued(index, close);
+    match test_of(alloc, index.program(), valued, text) {
         Ok(test) => Ok(Point::Return(close, Some(test))),
         Err(lack) => Err(lack),
     }
@@ -125,90 +120,90 @@ fn tested_return(
 
 fn return_at(
     alloc: Global,
-    program: &Program,
+    index: &Index,
     constraint: &Option<Constraint>,
     close: Spot,
 ) -> Result<Point, Unbound>
-    ensures { BindsReturn (program_view program.now) constraint.now close (seen point_view result) }
+    ensures { BindsReturn (program_view index.now) constraint.now close (seen point_view result) }
 {
     match constraint {
         None => Ok(Point::Return(close, None)),
-        Some(constraint) => tested_return(alloc, program, constraint.value.as_str(), close),
+        Some(constraint) => tested_return(alloc, index, constraint.value.as_str(), close),
     }
 }
 
 /// The place of a kind that a location names.
-fn place_named(program: &Program, kind: PlaceKind, location: &Location) -> Option<Spot>
-    ensures { result ≡ place_named (program_view program.now) kind location.now }
+fn place_named(index: &Index, kind: PlaceKind, location: &Location) -> Option<Spot>
+    ensures { result ≡ place_named (program_view index.now) kind location.now }
 {
-    place_at(program, kind, location.line, location.column)
+    index.place_at(kind, location.line, location.column)
 }
 
-fn is_suitable(program: &Program, location: &Location) -> bool
-    ensures { result ≡ is_suitable (program_view program.now) location.now }
+fn is_suitable(index: &Index, location: &Location) -> bool
+    ensures { result ≡ is_suitable (program_view index.now) location.now }
 {
-    aim_fits(program, location.line, location.column)
+    index.aim_fits(location.line, location.column)
 }
 
-fn target_at(program: &Program, location: &Location) -> Result<Point, Unbound>
-    ensures { seen point_view result ≡ target_at (program_view program.now) location.now }
+fn target_at(index: &Index, location: &Location) -> Result<Point, Unbound>
+    ensures { seen point_view result ≡ target_at (program_view index.now) location.now }
 {
-    if is_suitable(program, location) {
+    if is_suitable(index, location) {
         Ok(Point::Target(aim_of(location)))
     } else {
         Err(Unbound::NoPlace)
     }
 }
 
-fn assumption(alloc: Global, program: &Program, waypoint: &Waypoint) -> Result<Point, Unbound>
-    ensures { WherePlaced (place_named (program_view program.now) Statement waypoint.now.location)
-        (BindsAssumption (program_view program.now) (text_of waypoint.now.constraint)) (seen point_view result) }
+fn assumption(alloc: Global, index: &Index, waypoint: &Waypoint) -> Result<Point, Unbound>
+    ensures { WherePlaced (place_named (program_view index.now) Statement waypoint.now.location)
+        (BindsAssumption (program_view index.now) (text_of waypoint.now.constraint)) (seen point_view result) }
 {
-    match place_named(program, PlaceKind::Statement, &waypoint.location) {
+    match place_named(index, PlaceKind::Statement, &waypoint.location) {
         None => Err(Unbound::NoPlace),
-        Some(spot) => assumption_at(alloc, program, text_of(&waypoint.constraint), spot),
+        Some(spot) => assumption_at(alloc, index.program(), text_of(&waypoint.constraint), spot),
     }
 }
 
-fn entry(program: &Program, waypoint: &Waypoint) -> Result<Point, Unbound>
-    ensures { WherePlaced (place_named (program_view program.now) CallEnd waypoint.now.location)
+fn entry(index: &Index, waypoint: &Waypoint) -> Result<Point, Unbound>
+    ensures { WherePlaced (place_named (program_view index.now) CallEnd waypoint.now.location)
         BindsEntry (seen point_view result) }
 {
-    match place_named(program, PlaceKind::CallEnd, &waypoint.location) {
+    match place_named(index, PlaceKind::CallEnd, &waypoint.location) {
         None => Err(Unbound::NoPlace),
         Some(close) => Ok(Point::Enter(close)),
     }
 }
 
-fn function_return(alloc: Global, program: &Program, waypoint: &Waypoint) -> Result<Point, Unbound>
-    ensures { WherePlaced (place_named (program_view program.now) CallEnd waypoint.now.location)
-        (BindsReturn (program_view program.now) waypoint.now.constraint) (seen point_view result) }
+fn function_return(alloc: Global, index: &Index, waypoint: &Waypoint) -> Result<Point, Unbound>
+    ensures { WherePlaced (place_named (program_view index.now) CallEnd waypoint.now.location)
+        (BindsReturn (program_view index.now) waypoint.now.constraint) (seen point_view result) }
 {
-    match place_named(program, PlaceKind::CallEnd, &waypoint.location) {
+    match place_named(index, PlaceKind::CallEnd, &waypoint.location) {
         None => Err(Unbound::NoPlace),
-        Some(close) => return_at(alloc, program, &waypoint.constraint, close),
+        Some(close) => return_at(alloc, index, &waypoint.constraint, close),
     }
 }
 
-fn branching(program: &Program, waypoint: &Waypoint) -> Result<Point, Unbound>
-    ensures { WherePlaced (place_named (program_view program.now) Branch waypoint.now.location)
+fn branching(index: &Index, waypoint: &Waypoint) -> Result<Point, Unbound>
+    ensures { WherePlaced (place_named (program_view index.now) Branch waypoint.now.location)
         (BindsBranching (way_of waypoint.now.constraint)) (seen point_view result) }
 {
-    match place_named(program, PlaceKind::Branch, &waypoint.location) {
+    match place_named(index, PlaceKind::Branch, &waypoint.location) {
         None => Err(Unbound::NoPlace),
         Some(spot) => Ok(Point::Branch(spot, way_of(&waypoint.constraint))),
     }
 }
 
 /// A waypoint bound to a point of the program, or the first test that it fails.
-pub fn bind_point(alloc: Global, program: &Program, waypoint: &Waypoint) -> Result<Point, Unbound>
-    ensures { BindsPoint (program_view program.now) waypoint.now (seen point_view result) }
+pub fn bind_point(alloc: Global, index: &Index, waypoint: &Waypoint) -> Result<Point, Unbound>
+    ensures { BindsPoint (program_view index.now) waypoint.now (seen point_view result) }
 {
     match waypoint.kind {
-        WayKind::Assumption => assumption(alloc, program, waypoint),
-        WayKind::Target => target_at(program, &waypoint.location),
-        WayKind::FunctionEnter => entry(program, waypoint),
-        WayKind::FunctionReturn => function_return(alloc, program, waypoint),
-        WayKind::Branching => branching(program, waypoint),
+        WayKind::Assumption => assumption(alloc, index, waypoint),
+        WayKind::Target => target_at(index, &waypoint.location),
+        WayKind::FunctionEnter => entry(index, waypoint),
+        WayKind::FunctionReturn => function_return(alloc, index, waypoint),
+        WayKind::Branching => branching(index, waypoint),
     }
 }

@@ -4,5 +4,5 @@ use Rattle.way_match.specs.View.{points_view}
 use Rattle.way_bind.specs.Binding.{AreBound}
 use Rattle.way_bind.proofs.binding.bind_avoids.Given as goal
 
-abbrev pub invariant-loop-index : goal.invariant-loop-index
-invariant-loop-index l = AreBound (program_view l.program) (take l.index l.waypoints) (points_view l.points)
+abbrev pub invariant-loop-nth : goal.invariant-loop-nth
+invariant-loop-nth l = AreBound (program_view l.index) (take l.nth l.waypoints) (points_view l.points)

@@ -1,17 +1,21 @@
-use Rattle.std.proofs.Common.{sym, ◌∙◌}
+use Rattle.std.proofs.Common.{IsTrue, sym, subst, ◌∙◌}
 use Rattle.c_core.specs.View.{program_view}
 use Rattle.c_core.specs.declared.place.PlaceKind.TheVariants.{Statement}
+use Rattle.c_core.specs.declared.program.Program.{Program}
+use Rattle.c_places.specs.Visible.{is_scoped}
 use Rattle.way_match.specs.View.{point_view}
-use Rattle.way_bind.specs.Binding.{place_named, seen, text_of}
+use Rattle.way_bind.specs.Binding.{BindsAssumption, place_named, seen, text_of}
 use Rattle.way_bind.proofs.ExpressionLaws.{placed_assumption}
 use Rattle.way_bind.proofs.NamedLaws.{named_is_one}
 use Rattle.way_bind.proofs.waypoint.assumption.Goals as goal
 
 pub assumption_at-requires : goal.assumption_at-requires
 assumption_at-requires c =
-    named_is_one (program_view c.args.program.now) Statement c.args.waypoint.now.location c.in-Some.spot (sym c.place_named.ensures ∙ c.in-Some.is)
+    subst (λ (p : Program). IsTrue (is_scoped (program_view p) Statement c.in-Some.spot)) (sym c.program.ensures)
+    (named_is_one (program_view c.args.index.now) Statement c.args.waypoint.now.location c.in-Some.spot (sym c.place_named.ensures ∙ c.in-Some.is))
 
 pub returns-in-Some : goal.returns-in-Some
 returns-in-Some c =
-    placed_assumption (program_view c.args.program.now) c.text_of.result.now (text_of c.args.waypoint.now.constraint) (place_named (program_view c.args.program.now) Statement c.args.waypoint.now.location) c.in-Some.spot (seen point_view c.assumption_at.result)
-    (sym c.place_named.ensures ∙ c.in-Some.is) c.text_of.ensures c.assumption_at.ensures
+    placed_assumption (program_view c.args.index.now) c.text_of.result.now (text_of c.args.waypoint.now.constraint) (place_named (program_view c.args.index.now) Statement c.args.waypoint.now.location) c.in-Some.spot (seen point_view c.assumption_at.result)
+    (sym c.place_named.ensures ∙ c.in-Some.is) c.text_of.ensures
+    (subst (λ (p : Program). BindsAssumption (program_view p) c.text_of.result.now c.in-Some.spot (seen point_view c.assumption_at.result)) c.program.ensures c.assumption_at.ensures)

@@ -7,11 +7,11 @@ use Rattle.way_bind.proofs.waypoint.is_valued.Goals as goal
 pub returns-in-Some : goal.returns-in-Some
 unfolding is_valued
 returns-in-Some c =
-    let e : has_value (call_at (program_view c.args.program.now) c.args.close) ≡ is_some c.in-Some.call.now.ty = ap has_value (sym c.in-Some.ensures) in
+    let e : has_value (call_at (program_view c.args.index.now) c.args.close) ≡ is_some c.in-Some.call.now.ty = ap has_value (sym c.in-Some.ensures) in
     cc
 
 pub returns-in-None : goal.returns-in-None
 unfolding is_valued
 returns-in-None c =
-    let e : has_value (call_at (program_view c.args.program.now) c.args.close) ≡ false = ap has_value (sym c.in-None.ensures) in
+    let e : has_value (call_at (program_view c.args.index.now) c.args.close) ≡ false = ap has_value (sym c.in-None.ensures) in
     sym e

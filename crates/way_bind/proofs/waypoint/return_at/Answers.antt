@@ -6,4 +6,4 @@ use Rattle.way_bind.proofs.waypoint.return_at.Goals as goal
 
 pub returns-in-Some : goal.returns-in-Some
 returns-in-Some c =
-    constrained (program_view c.args.program.now) c.args.constraint.now c.in-Some.constraint c.as_str.result.now c.args.close (seen point_view c.tested_return.result) c.in-Some.is c.as_str.ensures c.tested_return.ensures
+    constrained (program_view c.args.index.now) c.args.constraint.now c.in-Some.constraint c.as_str.result.now c.args.close (seen point_view c.tested_return.result) c.in-Some.is c.as_str.ensures c.tested_return.ensures
