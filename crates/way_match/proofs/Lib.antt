@@ -10,6 +10,7 @@ mod Kept
 mod Turn
 mod Skips
 mod Numbers
+mod Passed
 pub mod PlaceLaws
 mod Begin
 mod Done

@@ -181,6 +181,9 @@ all_ahead at ss =
     from_zero : (k : ℕ) → k ≡ 0 + k
     from_zero k = omega arith
 
+pub ahead_from : (at : Option Spot) (ss : List BoundSegment) (low : ℕ) (numbers : List ℕ) → Ahead at ss 0 numbers → Ahead at ss low numbers
+ahead_from at ss low numbers h = ((λ k g a. h.0 k (omega arith) a), h.1, h.2)
+
 -- the next number, and those behind it
 pub next_ahead : (at : Option Spot) (ss : List BoundSegment) (next i : ℕ) (numbers : List ℕ) → i < length numbers → Ahead at ss next (drop i numbers) →
     Ahead at ss next (get_or numbers i 0 ∷ drop (i + 1) numbers)

@@ -1,6 +1,6 @@
 -- Segments that an event leaves as they are.
 use Rattle.c_core.specs.Tree.{Program}
-use Rattle.std.proofs.Common.{◌≡◌, ◌⊎◌, inl, inr, ℕ, zero, suc, ◌+◌, ◌<◌, ◌≤◌, Bool, true, false, not, ◌&&◌, ◌||◌, List, [], ◌∷◌, ◌++◌, length, take, drop, get_or, slice_get, Option, Some, None, refl, sym, ◌∙◌, ap, subst, arith, is_some}
+use Rattle.std.proofs.Common.{◌≡◌, ◌⊎◌, inl, inr, ℕ, zero, suc, ◌+◌, ◌<◌, ◌≤◌, Bool, true, false, not, ◌&&◌, ◌||◌, List, [], ◌∷◌, ◌++◌, length, take, drop, get_or, slice_get, Option, Some, None, refl, sym, ◌∙◌, ap, arith, is_some}
 use Rattle.std.proofs.lemmas.List.{append_assoc, length-take-le}
 use Rattle.std.proofs.Math.Seq.{drop-cons}
 use Rattle.way_match.specs.Points.{BoundSegment}
@@ -58,12 +58,12 @@ settled_step : (pr : Program) (e : Seen) (n : ℕ) (s : BoundSegment) (ss : List
     s.avoids ≡ [] → step pr e n a sh (s ∷ ss) (Some w ∷ ws) ≡ step pr e n b sh' (s ∷ ss) (Some w ∷ ws)
 settled_step pr e n s ss w ws a b sh sh' h = rw h refl
 
-first_of : (ss : List BoundSegment) (i : ℕ) → avoids_none (slice_get ss i) → (s : BoundSegment) × (drop i ss ≡ s ∷ drop (suc i) ss) × (s.avoids ≡ [])
+pub first_of : (ss : List BoundSegment) (i : ℕ) → avoids_none (slice_get ss i) → (s : BoundSegment) × (drop i ss ≡ s ∷ drop (suc i) ss) × (s.avoids ≡ [])
 first_of [] i h = absurd h
 first_of (s ∷ ss) zero h = (s, refl, h)
 first_of (s ∷ ss) (suc i) h = first_of ss i h
 
-live_of : (live : List (Option ℕ)) (i : ℕ) → is_some (get_or live i None) ≡ true → (at : ℕ) × (drop i live ≡ Some at ∷ drop (suc i) live)
+pub live_of : (live : List (Option ℕ)) (i : ℕ) → is_some (get_or live i None) ≡ true → (at : ℕ) × (drop i live ≡ Some at ∷ drop (suc i) live)
 live_of [] i h = absurd (cc)
 live_of (Some at ∷ live) zero h = (at, refl)
 live_of (None ∷ live) zero h = absurd (cc)
@@ -116,7 +116,7 @@ idle_step : (pr : Program) (e : Seen) (n : ℕ) (ns : List Node) (k : ℕ) (sh :
 idle_step pr e n ns k sh s ss w ws (inl u) = stays_there pr e n sh s ss (way_of ns k w) (ways_of ns (suc k) ws) u
 idle_step pr e n ns k sh s ss w ws (inr z) = rw z (stays_away pr e n sh s ss (ways_of ns (suc k) ws))
 
-take_more : (xs : List (Option ℕ)) (i : ℕ) → i < length xs → take (suc i) xs ≡ take i xs ++ get_or xs i None ∷ []
+pub take_more : (xs : List (Option ℕ)) (i : ℕ) → i < length xs → take (suc i) xs ≡ take i xs ++ get_or xs i None ∷ []
 take_more [] i h = absurd (omega arith)
 take_more (x ∷ xs) zero h = refl
 take_more (x ∷ xs) (suc i) h = ap (λ (ys : List (Option ℕ)). x ∷ ys) (take_more xs i (omega arith))

@@ -4,6 +4,7 @@ use Rattle.c_core.specs.Tree.{Program}
 use Rattle.c_core.specs.declared.number.Spot.{Spot}
 use Rattle.way_match.specs.ByPlace.{moved, numbers_in}
 use Rattle.way_match.specs.Prepared.{all_prepared}
+use Rattle.way_match.specs.Turning.{ArePassed}
 use Rattle.way_match.specs.View.{each_segment_view}
 use Rattle.way_match.specs.declared.by_place.ByPlace.{ByPlace}
 use Rattle.way_match.specs.declared.point.BoundSegment.{BoundSegment}
@@ -16,3 +17,4 @@ pub record Shaped (p : Program) (ss : List BoundSegment) (prepared : List Prepar
   -- a state for each number of completed segments, and room for each position
   pub states_each : length states.live.items ≡ length ss + 1
   pub rooms : length room ≡ length ss
+  pub passed : ArePassed (each_segment_view ss) states.live.items states.low

@@ -1,5 +1,5 @@
 -- The ways after an event, as they come out of the states from one number on.
-use Rattle.std.specs.Prelude.{◌≡◌, ℕ, Bool, true, false, List, [], ◌++◌, take, drop, Option, Some, None, is_some, slice_get, slice_index_or}
+use Rattle.std.specs.Prelude.{◌≡◌, ℕ, ◌+◌, ◌<◌, Bool, true, false, List, [], ◌++◌, take, drop, Option, Some, None, is_some, slice_get, slice_index_or}
 use Rattle.c_core.specs.View.{program_view}
 use Rattle.way_match.specs.Points.{BoundSegment}
 use Rattle.way_match.specs.Passing.{is_assumption}
@@ -37,3 +37,11 @@ avoids_none (Some s) = s.avoids ≡ []
 
 abbrev pub IsSettled : List BoundSegment → List (Option ℕ) → ℕ → Type 0
 IsSettled ss live i = avoids_none (slice_get ss i) × (is_some (slice_index_or live i None) ≡ true)
+
+-- no event can move the segment any more: it has no waypoint to avoid, and the state behind it stays live
+abbrev pub IsPassed : List BoundSegment → List (Option ℕ) → ℕ → Type 0
+IsPassed ss live i = avoids_none (slice_get ss i) × IsSettled ss live (i + 1)
+
+-- the segments before a number
+abbrev pub ArePassed : List BoundSegment → List (Option ℕ) → ℕ → Type 0
+ArePassed ss live low = (k : ℕ) → k < low → IsPassed ss live k

@@ -6,7 +6,7 @@ ghost use Rattle.way_match.specs.ByPlace.{event_spot, moved, numbers_in};
 ghost use Rattle.way_match.specs.Passing as passing;
 ghost use Rattle.way_match.specs.Prepared.{all_prepared, prepared_of};
 ghost use Rattle.way_match.specs.Steps.{is_there, only_if, way_now, step, onto};
-ghost use Rattle.way_match.specs.Turning.{IsSettled, assumes_at, outcome, seen_by, sighted};
+ghost use Rattle.way_match.specs.Turning.{ArePassed, IsPassed, IsSettled, assumes_at, outcome, seen_by, sighted};
 ghost use Rattle.way_match.specs.View.{each_segment_view, segment_view};
 
 use crate::by_place::ByPlace;
@@ -26,12 +26,14 @@ pub struct Node {
     pub previous: usize,
 }
 
-/// A state for each number of completed segments. No state from number `reach` on was ever live.
+/// A state for each number of completed segments. No state from number `reach` on was ever live; no event can move the segments
+/// before number `low` any more.
 #[derive(Drop)]
 pub struct States {
     pub nodes: Vec<Node>,
     pub live: Vec<Option<usize>>,
     pub reach: usize,
+    pub low: usize,
     ghost held: { AreHeld nodes.items 0 live.items } by { AreHeld-prop nodes.items 0 live.items },
     ghost blank: { IsBlank reach live.items },
 }
@@ -169,10 +171,23 @@ fn is_settled(segments: &[BoundSegment], live: &[Option<usize>], i: usize) -> bo
     segment.avoids.len() == 0 && live[i].is_some()
 }
 
+// Whether no event can move a segment any more: it has no waypoint to avoid, and the state behind it stays live.
+fn is_passed(segments: &[BoundSegment], live: &[Option<usize>], i: usize) -> bool
+    requires { length live.now ≡ length segments.now + 1 }
+    ensures within { result ≡ true → i < length segments.now }
+    ensures passed { result ≡ true → IsPassed (each_segment_view segments.now) live.now i }
+{
+    if i >= segments.len() {
+        return false;
+    }
+    let segment = &segments[i];
+    segment.avoids.len() == 0 && is_settled(segments, live, i + 1)
+}
+
 impl States {
     /// No segment is completed yet.
     pub fn new(alloc: Global, count: usize) -> Result<States, OutOfMemory>
-        ensures { IfOk result (λ states. (states.nodes.items ≡ []) × (states.live.items ≡ Some 0 ∷ replicate count None)) }
+        ensures { IfOk result (λ states. (states.nodes.items ≡ []) × (states.live.items ≡ Some 0 ∷ replicate count None) × (states.low ≡ 0)) }
     {
         let mut live = Vec::new(alloc);
         live.push(Some(0))?;
@@ -183,6 +198,7 @@ impl States {
             nodes: Vec::new(alloc),
             live,
             reach: 1,
+            low: 0,
         })
     }
 
@@ -197,6 +213,7 @@ impl States {
         ensures states { length self.new.live.items ≡ length self.old.live.items }
         ensures len { vec_len self.new.nodes ≤ vec_len self.old.nodes + 1 }
         ensures capacity { vec_capacity self.old.nodes ≤ vec_capacity self.new.nodes }
+        ensures low { self.new.low ≡ self.old.low }
     {
         let segment = &sight.segments[i];
         let compared = &sight.prepared[i];
@@ -225,6 +242,7 @@ impl States {
         ensures from { IsFrom self.new.nodes.items result.0 result.1 }
         ensures states { length self.new.live.items ≡ length self.old.live.items }
         ensures room { vec_len self.new.nodes + length sight.now.segments.now + 1 ≤ vec_capacity self.new.nodes + result.0 }
+        ensures low { self.new.low ≡ self.old.low }
     {
         let mut came = self.turn(sight, from, None, false);
         let mut i = from + 1;
@@ -246,6 +264,7 @@ impl States {
         requires from { IsFrom self.old.nodes.items (length sight.now.segments.now) came }
         ensures ways { ways_of self.new.nodes.items 0 self.new.live.items ≡ outcome sight.now self.old.nodes.items self.old.live.items (length sight.now.segments.now) came false }
         ensures states { length self.new.live.items ≡ length self.old.live.items }
+        ensures low { self.new.low ≡ self.old.low }
     {
         let last = sight.segments.len();
         let now = arrives(None, came, sight.count, &mut self.nodes);
@@ -257,11 +276,13 @@ impl States {
     fn advance(&mut self, sight: &Sight, numbers: &[usize])
         requires states { length self.old.live.items ≡ length sight.now.segments.now + 1 }
         requires room { vec_len self.old.nodes + length sight.now.segments.now + 1 ≤ vec_capacity self.old.nodes }
+        requires passed { ArePassed (sighted sight.now) self.old.live.items self.old.low }
         requires moved { numbers.now ≡ moved (event_spot sight.now.event) 0 (sighted sight.now) }
         ensures ways { ways_of self.new.nodes.items 0 self.new.live.items ≡ step (program_view sight.now.program.now) (seen_by sight.now) sight.now.count None false (sighted sight.now) (ways_of self.old.nodes.items 0 self.old.live.items) }
         ensures states { length self.new.live.items ≡ length self.old.live.items }
+        ensures low { self.new.low ≡ self.old.low }
     {
-        let mut next = 0;
+        let mut next = self.low;
         let mut came: Option<usize> = None;
         for number in numbers {
             if *number >= self.reach {
@@ -274,6 +295,19 @@ impl States {
         }
         self.finish(sight, came);
     }
+    /// Goes on past segments that no event can move any more.
+    fn raise(&mut self, segments: &[BoundSegment])
+        requires states { length self.old.live.items ≡ length segments.now + 1 }
+        requires passed { ArePassed (each_segment_view segments.now) self.old.live.items self.old.low }
+        ensures passed { ArePassed (each_segment_view segments.now) self.new.live.items self.new.low }
+        ensures nodes { self.new.nodes.items ≡ self.old.nodes.items }
+        ensures live { self.new.live.items ≡ self.old.live.items }
+    {
+        while is_passed(segments, self.live.as_slice(), self.low) {
+            self.low += 1;
+        }
+    }
+
     /// Takes all states past an event of a number.
     pub fn pass(
         &mut self,
@@ -288,8 +322,10 @@ impl States {
         requires prepares { prepared.now ≡ all_prepared (program_view program.now) (each_segment_view segments.now) }
         requires places { numbers_in by_place.now (event_spot event) ≡ moved (event_spot event) 0 (each_segment_view segments.now) }
         requires states { length self.old.live.items ≡ length segments.now + 1 }
+        requires passed { ArePassed (each_segment_view segments.now) self.old.live.items self.old.low }
         ensures ways { OnOk result (ways_of self.new.nodes.items 0 self.new.live.items ≡ step (program_view program.now) (record { event = event; cells = memory.now.cells }) count None false (each_segment_view segments.now) (ways_of self.old.nodes.items 0 self.old.live.items)) }
         ensures refused { OnErr result (ways_of self.new.nodes.items 0 self.new.live.items ≡ ways_of self.old.nodes.items 0 self.old.live.items) }
+        ensures passed { ArePassed (each_segment_view segments.now) self.new.live.items self.new.low }
         ensures states { length self.new.live.items ≡ length self.old.live.items }
     {
         self.nodes.reserve(self.live.len())?;
@@ -302,6 +338,7 @@ impl States {
             count,
         };
         self.advance(&sight, by_place.numbers(event));
+        self.raise(segments);
         Ok(())
     }
 }

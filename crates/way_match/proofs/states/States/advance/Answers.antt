@@ -2,24 +2,31 @@ use Rattle.std.proofs.Common.{◌≡◌, inl, ℕ, ◌+◌, ◌<◌, List, [], l
 use Rattle.c_core.specs.View.{program_view}
 use Rattle.way_match.specs.ByPlace.{event_spot}
 use Rattle.way_match.specs.Turning.{seen_by, sighted}
-use Rattle.way_match.proofs.Numbers.{Ahead, ahead_between, ahead_more, all_ahead, idle_if, idle_on, next_ahead}
+use Rattle.way_match.proofs.Numbers.{Ahead, ahead_between, ahead_from, ahead_more, all_ahead, idle_if, idle_on, next_ahead}
+use Rattle.way_match.proofs.Passed.{passed_to, passed_within}
 use Rattle.way_match.proofs.Skips.{skipped_all, skipped_to}
-use Rattle.way_match.proofs.Turn.{drop_past}
+use Rattle.way_match.proofs.Turn.{drop_past, from_none}
 use Rattle.way_match.proofs.Views.{segments_length}
 use Rattle.way_match.proofs.states.States.advance.Goals as goal
 use Rattle.way_match.proofs.states.States.advance.Goals.{then-number-next, else-number-next}
 
 pub loop-number-init : goal.loop-number-init
-loop-number-init c = record {
-  within = omega arith;
-  ends = λ h. refl;
-  states = c.requires.states;
-  room = omega (arith, c.requires.room);
-  from = tt;
-  ahead = subst (λ (ns : List ℕ). Ahead (event_spot c.args.sight.now.event) (sighted c.args.sight.now) 0 ns) (sym c.requires.moved)
-      (all_ahead (event_spot c.args.sight.now.event) (sighted c.args.sight.now));
-  value = refl;
-}
+loop-number-init c =
+    let l = segments_length c.args.sight.now.segments.now in
+    let ss = sighted c.args.sight.now in
+    let at = event_spot c.args.sight.now.event in
+    let within = passed_within ss c.args.self.now.live.items c.args.self.now.low c.requires.passed in
+    let lt : c.args.self.now.low < length c.args.self.now.live.items = omega (arith, within, l, c.requires.states) in
+    record {
+      low = refl;
+      within = omega (arith, within, l);
+      ends = λ h. refl;
+      states = c.requires.states;
+      room = omega (arith, c.requires.room);
+      from = from_none c.args.self.now.nodes.items c.args.self.now.low;
+      ahead = ahead_from at ss c.args.self.now.low c.args.numbers.now (subst (λ (ns : List ℕ). Ahead at ss 0 ns) (sym c.requires.moved) (all_ahead at ss));
+      value = sym (passed_to (program_view c.args.sight.now.program.now) (seen_by c.args.sight.now) c.args.sight.now.count c.args.self.now.nodes.items ss c.args.self.now.live.items c.args.self.now.low lt c.requires.passed);
+    }
 
 pub returns-then-number-self-clause-ways : goal.returns-then-number-self-clause-ways
 returns-then-number-self-clause-ways c =
@@ -61,6 +68,7 @@ loop-number-preserved c =
           w.if-number-next.true (omega (arith, ahead.2.0)) states (λ h. inv.ends (omega (arith, l, h)))
           (λ k a b. idle_if p e ss k (get_or c.loop-number.self.live.items k None) (omega (arith, b, ahead.2.0)) (inl (ahead_between at ss c.loop-number.next number rest ahead k a b))) lt in
           rw (w.self-is, w.next-is, w.came-is) (record {
+            low = w.carry.ensures.low ∙ inv.low;
             within = w.carry.ensures.within;
             ends = w.carry.ensures.ends;
             states = w.carry.ensures.states ∙ inv.states;
@@ -71,6 +79,7 @@ loop-number-preserved c =
           })
       | else-number-next w ↦
           rw (w.self-is, w.next-is, w.came-is) (record {
+            low = inv.low;
             within = inv.within;
             ends = inv.ends;
             states = inv.states;

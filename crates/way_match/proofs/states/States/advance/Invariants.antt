@@ -7,6 +7,7 @@ use Rattle.way_match.proofs.states.States.advance.Given as goal
 
 abbrev pub invariant-loop-number : goal.invariant-loop-number
 invariant-loop-number l = record {
+  low : l.self.low ≡ l.fn.self.low;
   within : l.next ≤ length l.sight.segments.now;
   ends : l.next < length l.sight.segments.now → l.came ≡ None;
   states : length l.self.live.items ≡ length l.sight.segments.now + 1;

@@ -24,6 +24,7 @@ loop-came-preserved c =
     let value = c.turn-came-in-loop-came.ensures.value ∙
     ap (λ (b : Bool). outcome c.args.sight.now c.loop-came.self.nodes.items c.loop-came.self.live.items c.loop-came.i c.loop-came.came b) shares ∙ c.loop-came.invariant.value in
     record {
+      low = c.turn-came-in-loop-came.ensures.low ∙ c.loop-came.invariant.low;
       more = omega (arith, c.loop-came.invariant.more);
       within = omega (arith, c.loop-came.invariant.within, c.if-i-sight.false);
       states = c.turn-came-in-loop-came.ensures.states ∙ c.loop-came.invariant.states;

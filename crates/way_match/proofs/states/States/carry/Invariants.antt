@@ -5,6 +5,7 @@ use Rattle.way_match.proofs.states.States.carry.Given as goal
 
 abbrev pub invariant-loop-came : goal.invariant-loop-came
 invariant-loop-came l = record {
+  low : l.self.low ≡ l.fn.self.low;
   more : l.from < l.i;
   within : l.i ≤ length l.sight.segments.now;
   states : length l.self.live.items ≡ length l.sight.segments.now + 1;
