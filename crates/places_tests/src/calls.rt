@@ -4,7 +4,7 @@ ghost use Rattle.c_core.specs.View.{program_view};
 ghost use Rattle.c_meaning.specs.Examples.{branch_on_input};
 
 use c_core::{Place, PlaceKind, Program, Spot};
-use c_places::{aim_fits, call_at, input_calls, names_at, place_at, places, stmt_before};
+use c_places::{Index, aim_fits, call_at, input_calls, names_at, place_at, places, stmt_before};
 use run_examples::branch_on_input;
 use std::alloc::Global;
 use std::test::Fail;
@@ -69,6 +69,30 @@ fn call_and_statement(rt: HostRuntime) -> Result<(), Fail> {
     let before = stmt_before(&program, at(5, 3)).ok_or("no statement")?;
     assert_eq!(rt; before.spot, at(4, 3));
     assert_eq!(rt; input_calls(rt.alloc(), &program)?.len(), 1);
+    Ok(())
+}
+
+#[test]
+fn an_index_answers_the_same(rt: HostRuntime) -> Result<(), Fail> {
+    let program = branch_on_input(rt.alloc(), 5)?;
+    let index = Index::new(rt.alloc(), &program)?;
+    assert_eq!(rt;
+        index.place_at(PlaceKind::Statement, 5, None),
+        Some(at(5, 3))
+    );
+    assert_eq!(rt;
+        index.place_at(PlaceKind::Branch, 5, Some(3)),
+        Some(at(5, 3))
+    );
+    assert_eq!(rt; index.place_at(PlaceKind::Loop, 5, None), None);
+    assert_eq!(rt; index.place_at(PlaceKind::CallEnd, 4, Some(32)), None);
+    assert!(rt; index.aim_fits(6, Some(5)));
+    assert!(rt; !index.aim_fits(5, Some(12)));
+    let call = index.call_at(at(4, 33)).ok_or("no call")?;
+    assert_eq!(rt; call.spot, at(4, 11));
+    let before = index.stmt_before(at(5, 3)).ok_or("no statement")?;
+    assert_eq!(rt; before.spot, at(4, 3));
+    assert!(rt; index.stmt_before(at(4, 3)).is_none());
     Ok(())
 }
 
