@@ -6,13 +6,13 @@ use Rattle.c_core.specs.declared.number.Property.{Property}
 use Rattle.c_core.specs.declared.number.Spot.{Spot}
 use Rattle.c_core.specs.declared.program.Program.{Program}
 use Rattle.c_parser.specs.Tree as raw
-use Rattle.c_rules.proofs.NotingLaws.{neither_first}
-use Rattle.c_rules.specs.declared.fault.CheckCode.TheVariants as code
-use Rattle.c_rules.specs.declared.fault.CheckFault.{CheckFault}
-use Rattle.c_rules.specs.declared.fault.CheckFault.TheVariants.{Refused, OutOfMemory}
-use Rattle.c_rules.specs.declared.fault.Refusal.{Refusal}
-use Rattle.c_rules.specs.Checked.{HasProgram}
-use Rattle.c_rules.specs.First.{OfMain, OfPart, Refuses, refusal, wrong_main}
+use Rattle.check_rules.proofs.NotingLaws.{neither_first}
+use Rattle.check_rules.specs.declared.fault.CheckCode.TheVariants as code
+use Rattle.check_rules.specs.declared.fault.CheckFault.{CheckFault}
+use Rattle.check_rules.specs.declared.fault.CheckFault.TheVariants.{Refused, OutOfMemory}
+use Rattle.check_rules.specs.declared.fault.Refusal.{Refusal}
+use Rattle.check_rules.specs.Checked.{HasProgram}
+use Rattle.check_rules.specs.First.{OfMain, OfPart, Refuses, refusal, wrong_main}
 use Rattle.c_check.specs.Checking.{Answers, AreSame}
 
 module _ (m : DataModel) (items : List raw.Item) where

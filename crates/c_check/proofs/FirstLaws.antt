@@ -6,14 +6,14 @@ use Rattle.std.proofs.lemmas.Bool.{false≢true, false_from_ne_true}
 use Rattle.c_core.specs.declared.number.DataModel.{DataModel}
 use Rattle.c_core.specs.declared.number.Spot.{Spot}
 use Rattle.c_parser.specs.Tree as raw
-use Rattle.c_rules.specs.declared.fault.CheckCode.{CheckCode}
-use Rattle.c_rules.specs.declared.fault.CheckCode.TheVariants as code
-use Rattle.c_rules.specs.declared.fault.Refusal.{Refusal}
-use Rattle.c_rules.specs.Parts.{Part}
-use Rattle.c_rules.specs.Codes.{nameless, doubled, mistyped, missized, bodiless, crowded, place_of, place_of_name}
-use Rattle.c_rules.specs.First.{refusal, comes_first, Holds, place}
-use Rattle.c_rules.specs.Noting.{noted, noted_part, noted_parts}
-use Rattle.c_rules.proofs.NotingLaws.{comes_first-not_itself, comes_first-then}
+use Rattle.check_rules.specs.declared.fault.CheckCode.{CheckCode}
+use Rattle.check_rules.specs.declared.fault.CheckCode.TheVariants as code
+use Rattle.check_rules.specs.declared.fault.Refusal.{Refusal}
+use Rattle.check_rules.specs.Parts.{Part}
+use Rattle.check_rules.specs.Codes.{nameless, doubled, mistyped, missized, bodiless, crowded, place_of, place_of_name}
+use Rattle.check_rules.specs.First.{refusal, comes_first, Holds, place}
+use Rattle.check_rules.specs.Noting.{noted, noted_part, noted_parts}
+use Rattle.check_rules.proofs.NotingLaws.{comes_first-not_itself, comes_first-then}
 
 -- of these refusals that one comes first, or there is none
 abbrev pub Best : (Refusal → Type 0) → Option Refusal → Type 0

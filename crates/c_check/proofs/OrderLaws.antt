@@ -5,13 +5,13 @@ use Rattle.c_core.specs.declared.number.DataModel.{DataModel}
 use Rattle.c_core.specs.declared.number.Spot.{Spot}
 use Rattle.c_core.specs.declared.tree.Object.{Object}
 use Rattle.c_parser.specs.Tree as raw
-use Rattle.c_rules.specs.declared.fault.CheckCode.{CheckCode}
-use Rattle.c_rules.specs.declared.fault.CheckCode.TheVariants as code
-use Rattle.c_rules.specs.declared.fault.Refusal.{Refusal}
-use Rattle.c_rules.specs.First.{Holds, IsRefused, refusal}
-use Rattle.c_rules.specs.Noting.{noted_order, noted_parts}
-use Rattle.c_rules.specs.Parts.{Part, parts_of_source}
-use Rattle.c_unordered.specs.Unordered.{ArePlaces}
+use Rattle.check_rules.specs.declared.fault.CheckCode.{CheckCode}
+use Rattle.check_rules.specs.declared.fault.CheckCode.TheVariants as code
+use Rattle.check_rules.specs.declared.fault.Refusal.{Refusal}
+use Rattle.check_rules.specs.First.{Holds, IsRefused, refusal}
+use Rattle.check_rules.specs.Noting.{noted_order, noted_parts}
+use Rattle.check_rules.specs.Parts.{Part, parts_of_source}
+use Rattle.check_unsequenced.specs.Unordered.{ArePlaces}
 use Rattle.c_check.specs.Finding.{IsFirstOf, orders_noted}
 use Rattle.c_check.proofs.FirstLaws.{Best, One, OfSome, Or, Shows, all_best, among_some, best_same, noted_best, of_some}
 

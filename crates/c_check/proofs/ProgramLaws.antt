@@ -10,11 +10,11 @@ use Rattle.c_core.specs.declared.number.Property.{Property}
 use Rattle.c_core.specs.declared.tree.Object.{Object}
 use Rattle.c_core.specs.declared.tree.Start.{Start}
 use Rattle.c_parser.specs.Tree as raw
-use Rattle.c_rules.specs.Checked.{HasProgram, functions_of, program_of, starts_of}
-use Rattle.c_rules.specs.First.{IsUnrefused, wrong_main}
-use Rattle.c_rules.specs.Parts.{bodies_of}
-use Rattle.c_rules.specs.Scopes.{after_items, outermost}
-use Rattle.c_walk.specs.declared.source.Walked.{Walked}
+use Rattle.check_rules.specs.Checked.{HasProgram, functions_of, program_of, starts_of}
+use Rattle.check_rules.specs.First.{IsUnrefused, wrong_main}
+use Rattle.check_rules.specs.Parts.{bodies_of}
+use Rattle.check_rules.specs.Scopes.{after_items, outermost}
+use Rattle.check_elaborate.specs.declared.source.Walked.{Walked}
 use Rattle.c_check.specs.Checking.{names_of}
 use Rattle.c_check.specs.Finding.{IsWalk}
 

@@ -6,10 +6,10 @@ use Rattle.c_core.specs.declared.number.Property.{Property}
 use Rattle.c_core.specs.declared.program.Program.{Program}
 use Rattle.c_core.specs.declared.tree.Function.{Function}
 use Rattle.c_parser.specs.Tree as raw
-use Rattle.c_rules.specs.Checked.{HasProgram}
-use Rattle.c_rules.specs.First.{Refuses, refusal}
-use Rattle.c_rules.specs.declared.fault.CheckFault.{CheckFault}
-use Rattle.c_rules.specs.declared.fault.CheckFault.TheVariants.{Refused, OutOfMemory}
+use Rattle.check_rules.specs.Checked.{HasProgram}
+use Rattle.check_rules.specs.First.{Refuses, refusal}
+use Rattle.check_rules.specs.declared.fault.CheckFault.{CheckFault}
+use Rattle.check_rules.specs.declared.fault.CheckFault.TheVariants.{Refused, OutOfMemory}
 
 abbrev pub names_of : List Function → List (List ℕ)
 names_of functions = map (λ f. f.name) functions

@@ -5,15 +5,15 @@ use Rattle.c_core.specs.View.{functions_view}
 use Rattle.c_core.specs.declared.number.DataModel.{DataModel}
 use Rattle.c_core.specs.declared.number.Spot.{Spot}
 use Rattle.c_parser.specs.Tree as raw
-use Rattle.c_rules.specs.declared.fault.Refusal.{Refusal}
-use Rattle.c_rules.specs.Checked.{functions_of, starts_of}
-use Rattle.c_rules.specs.First.{IsFirst, IsUnrefused}
-use Rattle.c_rules.specs.Kept.{kept_in_bodies, kept_outside}
-use Rattle.c_rules.specs.Noting.{noted_order, noted_parts}
-use Rattle.c_rules.specs.Parts.{bodies_of, parts_of_source}
-use Rattle.c_rules.specs.Scopes.{after_items, outermost}
-use Rattle.c_walk.specs.Items.{kept_lists, kept_views}
-use Rattle.c_walk.specs.declared.source.Walked.{Walked}
+use Rattle.check_rules.specs.declared.fault.Refusal.{Refusal}
+use Rattle.check_rules.specs.Checked.{functions_of, starts_of}
+use Rattle.check_rules.specs.First.{IsFirst, IsUnrefused}
+use Rattle.check_rules.specs.Kept.{kept_in_bodies, kept_outside}
+use Rattle.check_rules.specs.Noting.{noted_order, noted_parts}
+use Rattle.check_rules.specs.Parts.{bodies_of, parts_of_source}
+use Rattle.check_rules.specs.Scopes.{after_items, outermost}
+use Rattle.check_elaborate.specs.Items.{kept_lists, kept_views}
+use Rattle.check_elaborate.specs.declared.source.Walked.{Walked}
 
 -- the first of the one so far and of those by the order of operands at these places
 abbrev pub orders_noted : Option Refusal → List Spot → Option Refusal

@@ -2,13 +2,13 @@
 ghost use Rattle.c_check.specs.Checking.{Answers};
 ghost use Rattle.c_check.specs.Finding.{IsWalk};
 ghost use Rattle.c_parser.specs.Parsing.{source_view};
-ghost use Rattle.c_rules.specs.First.{IsUnrefused};
+ghost use Rattle.check_rules.specs.First.{IsUnrefused};
 
 use crate::main_function::{number_of_main, wrong_main};
 use c_core::{DataModel, Program, Property};
 use c_parser::Source;
-use c_rules::{CheckCode, CheckFault};
-use c_walk::Walked;
+use check_elaborate::Walked;
+use check_rules::{CheckCode, CheckFault};
 
 /// The program of a source no part of which is refused, unless its `main` is.
 pub fn checked_program(

@@ -5,8 +5,8 @@ use crate::checked::checked_program;
 use crate::refusals::first_refusal;
 use c_core::{DataModel, Program, Property};
 use c_parser::Source;
-use c_rules::CheckFault;
-use c_walk::walk_source;
+use check_elaborate::walk_source;
+use check_rules::CheckFault;
 use std::alloc::Global;
 
 /// The program of a source in a data model and under a property, or the first refusal by place.

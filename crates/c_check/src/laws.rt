@@ -5,7 +5,7 @@ ghost use Rattle.c_core.specs.declared.number.DataModel.{DataModel};
 ghost use Rattle.c_core.specs.declared.number.Property.{Property};
 ghost use Rattle.c_core.specs.declared.program.Program.{Program};
 ghost use Rattle.c_parser.specs.Tree as raw;
-ghost use Rattle.c_rules.specs.declared.fault.CheckFault.{CheckFault};
+ghost use Rattle.check_rules.specs.declared.fault.CheckFault.{CheckFault};
 
 /// A source has one answer in a data model and under a property, other than want of memory.
 pub fn one_answer()

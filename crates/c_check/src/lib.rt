@@ -9,6 +9,6 @@ mod refusals;
 #[cfg(test)]
 mod tests;
 
-pub use c_rules::{CheckCode, CheckFault};
+pub use check_rules::{CheckCode, CheckFault};
 pub use checking::check;
 pub use laws::one_answer;

@@ -4,7 +4,7 @@ ghost use Rattle.std.specs.List.{position_or_len};
 ghost use Rattle.std.specs.Str.{bytes_eq};
 ghost use Rattle.c_check.specs.Checking.{names_of};
 ghost use Rattle.c_parser.specs.SourceView.{item_view, param_view};
-ghost use Rattle.c_rules.specs.First as first;
+ghost use Rattle.check_rules.specs.First as first;
 
 use c_core::{Function, IntType, Spot};
 use c_parser::{Item, RawParam};

@@ -5,9 +5,9 @@ ghost use Rattle.c_parser.specs.Tree as raw;
 ghost use Rattle.c_check.specs.Finding.{IsFirstOf, IsWalk, orders_noted};
 
 use c_core::Spot;
-use c_rules::{CheckCode, Refusal, noted};
-use c_unordered::unordered;
-use c_walk::Walked;
+use check_elaborate::Walked;
+use check_rules::{CheckCode, Refusal, noted};
+use check_unsequenced::unordered;
 use std::alloc::Global;
 use wv_base::OutOfMemory;
 

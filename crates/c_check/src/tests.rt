@@ -2,8 +2,8 @@
 use crate::check;
 use c_core::{DataModel, Program, Property, Spot};
 use c_parser::parse;
-use c_rules::{CheckCode, CheckFault, Refusal};
 use c_tokens::tokens;
+use check_rules::{CheckCode, CheckFault, Refusal};
 use std::alloc::Global;
 use std::test::Fail;
 

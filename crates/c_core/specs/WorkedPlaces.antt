@@ -4,7 +4,6 @@ use Rattle.std.specs.Option.{option_map}
 use Rattle.c_core.specs.Parts.{spot_of, spot_of_statement}
 use Rattle.c_core.specs.Places.{place, places_of, place_at, aims_at, aim_fits, call_at, input_at, stmt_before}
 use Rattle.c_core.specs.Program.{IsProgram}
-use Rattle.c_core.specs.Thin.{is_thin}
 use Rattle.c_core.specs.WorkedPrograms.{at, one_input, a_loop, a_recursion, a_comma}
 use Rattle.c_core.specs.declared.number.IntType.TheVariants.{Int}
 use Rattle.c_core.specs.declared.number.Property.TheVariants.{NoOverflow}
@@ -16,8 +15,6 @@ pub record WorkedPlaces : Type 0 where
   pub checked_a_loop : IsProgram a_loop
   pub checked_a_recursion : IsProgram a_recursion
   pub checked_a_comma : IsProgram a_comma
-  pub thin_one_input : is_thin one_input ≡ true
-  pub thin_not_a_loop : is_thin a_loop ≡ false
   pub places_of_one_input : places_of one_input ≡ place k.Statement (at 4 3) ∷ place k.CallEnd (at 4 33) ∷ place k.Statement (at 5 3) ∷ place k.Branch (at 5 3) ∷ place k.Statement (at 5 15) ∷ place k.Statement (at 6 5) ∷ place k.CallEnd (at 6 17) ∷ place k.Statement (at 8 3) ∷ []
   pub places_of_a_loop : places_of a_loop ≡ place k.Statement (at 3 3) ∷ place k.Statement (at 4 3) ∷ place k.Loop (at 4 3) ∷ place k.Branch (at 4 3) ∷ place k.Statement (at 4 17) ∷ place k.Statement (at 5 5) ∷ place k.Statement (at 6 5) ∷ place k.Statement (at 8 3) ∷ place k.CallEnd (at 8 15) ∷ place k.Statement (at 9 3) ∷ []
   pub places_of_a_recursion : places_of a_recursion ≡ place k.Statement (at 2 16) ∷ place k.Branch (at 2 16) ∷ place k.Statement (at 2 28) ∷ place k.Statement (at 2 30) ∷ place k.Statement (at 2 42) ∷ place k.CallEnd (at 2 56) ∷ place k.Statement (at 4 3) ∷ place k.CallEnd (at 4 6) ∷ place k.Statement (at 5 3) ∷ place k.CallEnd (at 5 15) ∷ place k.Statement (at 6 3) ∷ []

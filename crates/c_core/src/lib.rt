@@ -21,6 +21,6 @@ pub use number::{BinOp, DataModel, Done, IntType, Property, Spot, StepOp, UnOp};
 pub use operate::{apply, apply_one};
 pub use place::{Place, PlaceKind};
 pub use program::Program;
-pub use program_laws::{places_of_a_kind_rise, thin_programs_are_checked};
+pub use program_laws::places_of_a_kind_rise;
 pub use tree::{Callee, Declared, Expr, First, Form, Function, Init, Node, Object, Start, Stmt};
 pub use types::{common, convert, promote, signed, width};

@@ -1,16 +1,10 @@
 // Laws of programs, each the contract of a function without a body.
 ghost use Rattle.std.specs.Prelude.{◌≡◌, true};
 ghost use Rattle.c_core.specs.Tree as t;
-ghost use Rattle.c_core.specs.Thin.{IsPlaced, is_thin};
-ghost use Rattle.c_core.specs.Program.{IsProgram, places_rise};
+ghost use Rattle.c_core.specs.Program.{places_rise};
 ghost use Rattle.c_core.specs.TextOrder.{rises};
 ghost use Rattle.c_core.specs.Places.{spots_of_kind};
 ghost use Rattle.c_core.specs.declared.place.PlaceKind.{PlaceKind};
-
-/// A thin program whose places follow the order of the text is a checked program.
-pub fn thin_programs_are_checked()
-    ensures { (p : t.Program) → is_thin p ≡ true → IsPlaced p → IsProgram p }
-{}
 
 /// The places of a kind rise, so that two of them differ.
 pub fn places_of_a_kind_rise()

@@ -4,10 +4,10 @@ ghost use Rattle.c_core.specs.View.{program_view};
 ghost use Rattle.c_meaning.specs.Examples.{branch_on_input};
 
 use c_core::{Place, PlaceKind, Program, Spot};
-use c_places::{Index, aim_fits, call_at, input_calls, names_at, place_at, places, stmt_before};
 use run_examples::branch_on_input;
 use std::alloc::Global;
 use std::test::Fail;
+use way_places::{Index, aim_fits, call_at, input_calls, names_at, place_at, places, stmt_before};
 use wv_base::{OutOfMemory, Seq};
 
 fn at(line: u32, column: u32) -> Spot

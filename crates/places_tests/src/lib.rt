@@ -1,4 +1,4 @@
-//! The calls on places, each on a program that an input branches. The crate has tests alone, above `c_places`.
+//! The calls on places, each on a program that an input branches. The crate has tests alone, above `way_places`.
 #![tactic(auto)]
 
 #[cfg(test)]

@@ -8,7 +8,7 @@ use Rattle.c_parser.specs.Witness.{AnswersTest}
 use Rattle.c_parser.specs.declared.tree.ResultTest.{ResultTest}
 use Rattle.c_parser.specs.declared.fault.ExprFault.{ExprFault}
 use Rattle.c_parser.specs.declared.fault.ExprFault.TheVariants as expr
-use Rattle.c_constraint.specs.Constraints.{AnswersConstraint}
+use Rattle.way_constraint.specs.Constraints.{AnswersConstraint}
 use Rattle.way_match.specs.View.{test_view}
 use Rattle.way_match.specs.declared.point.ReturnTest.{ReturnTest}
 use Rattle.way_bind.specs.declared.fault.Unbound.{Unbound}

@@ -7,9 +7,9 @@ ghost use Rattle.way_bind.specs.Steps.{BindsAll, BindsSegment, BindsSegments, to
 use crate::fault::{BindFault, Unbound};
 use crate::waypoint::bind_point;
 use c_core::Program;
-use c_places::Index;
 use std::alloc::Global;
 use way_match::{Bound, BoundSegment, Point};
+use way_places::Index;
 use wv_base::Seq;
 use wv_schema::{Content, Segment, Waypoint, Witness};
 

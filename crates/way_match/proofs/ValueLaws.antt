@@ -9,11 +9,11 @@ use Rattle.c_core.specs.Places as places
 use Rattle.c_core.specs.declared.number.Spot.{Spot}
 use Rattle.c_meaning.specs.Objects.{same_spot}
 use Rattle.c_meaning.specs.declared.run.Given.{Given}
-use Rattle.c_places.specs.Inputs.{calls_view}
-use Rattle.c_places.specs.Maps.{found_at}
-use Rattle.c_places.proofs.FirstLaws.{pair_cmp}
-use Rattle.c_places.proofs.OrderLaws.{one_spot}
-use Rattle.c_places.specs.declared.inputs.InputCall.{InputCall}
+use Rattle.way_places.specs.Inputs.{calls_view}
+use Rattle.way_places.specs.Maps.{found_at}
+use Rattle.way_places.proofs.FirstLaws.{pair_cmp}
+use Rattle.way_places.proofs.OrderLaws.{one_spot}
+use Rattle.way_places.specs.declared.inputs.InputCall.{InputCall}
 use Rattle.way_match.specs.Gathered.{choices_for, choices_in, values_if, values_in, values_of}
 use Rattle.way_match.specs.Given.{GivenValue}
 

@@ -9,8 +9,8 @@ use Rattle.way_match.specs.Given as pure
 use Rattle.way_match.specs.Given.{given_by_follow, value_if_at}
 use Rattle.way_match.specs.Points.{BoundSegment}
 use Rattle.way_match.specs.declared.given_values.GivenValue.{GivenValue}
-use Rattle.c_places.specs.Inputs.{call_view}
-use Rattle.c_places.specs.Maps.{found_at}
+use Rattle.way_places.specs.Inputs.{call_view}
+use Rattle.way_places.specs.Maps.{found_at}
 use Rattle.way_match.specs.declared.stored.StoredInput.{StoredInput}
 
 abbrev pub stored_view : StoredInput → pure.StoredInput

@@ -3,7 +3,7 @@ ghost use Rattle.std.specs.Prelude.{◌≡◌, ◌||◌};
 ghost use Rattle.std.specs.Option.{option_copied};
 ghost use Rattle.c_core.specs.View.{expr_view, expr_view_if, exprs_view, node_view};
 ghost use Rattle.c_meaning.specs.Parts.{some_argument, some_part};
-ghost use Rattle.c_places.specs.Seeking.{or_else};
+ghost use Rattle.way_places.specs.Seeking.{or_else};
 ghost use Rattle.way_match.specs.Given.{constant_beside, constant_compared, first_constant, has_names, is_equality, is_object, node_names, operands};
 
 use c_core::{BinOp, Expr, Node};

@@ -12,9 +12,9 @@ use crate::prepared::{Prepared, prepare};
 use crate::states::{States, fill};
 use c_core::Program;
 use c_meaning::{Event, Memory, Watcher};
-use c_places::Index;
 use std::alloc::Global;
 use std::marker::Model;
+use way_places::Index;
 use wv_base::{OutOfMemory, Seq};
 
 /// Sees the events of a run and keeps which segments some fitting positions among them have completed.

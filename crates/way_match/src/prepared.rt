@@ -11,8 +11,8 @@ ghost use Rattle.way_match.specs.View.{each_segment_view, point_view, points_vie
 use crate::point::{BoundSegment, Point, ReturnTest};
 use c_core::{Expr, IntType, Program, Spot};
 use c_meaning::{Memory, value_in};
-use c_places::Index;
 use std::alloc::Global;
+use way_places::Index;
 use wv_base::{OutOfMemory, Seq};
 
 /// Of `\result op constant`: the type of the call that returns, and the constant's value, if it is defined.

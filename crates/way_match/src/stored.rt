@@ -7,7 +7,7 @@ ghost use Rattle.way_match.specs.Gathered.{stored_view};
 ghost use Rattle.way_match.specs.Given.{stored_by, stored_by_exp, stored_by_init, stored_by_names, stored_by_target, stored_input};
 
 use c_core::{Declared, Expr, Form, Init, Node, Stmt};
-use c_places::{InputCall, input_of};
+use way_places::{InputCall, input_of};
 
 /// An object and the input call whose value it takes.
 #[derive(Clone, Copy)]

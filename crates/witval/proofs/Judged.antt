@@ -10,10 +10,10 @@ use Rattle.c_parser.specs.Tree as raw
 use Rattle.c_parser.specs.declared.fault.ParseFault.{ParseFault}
 use Rattle.c_parser.specs.declared.fault.ParseFault.TheVariants as parse
 use Rattle.c_parser.specs.declared.item.Source.{Source}
-use Rattle.c_rules.specs.declared.fault.CheckCode.{CheckCode}
-use Rattle.c_rules.specs.declared.fault.CheckCode.TheVariants as code
-use Rattle.c_rules.specs.declared.fault.CheckFault.{CheckFault}
-use Rattle.c_rules.specs.declared.fault.CheckFault.TheVariants as check
+use Rattle.check_rules.specs.declared.fault.CheckCode.{CheckCode}
+use Rattle.check_rules.specs.declared.fault.CheckCode.TheVariants as code
+use Rattle.check_rules.specs.declared.fault.CheckFault.{CheckFault}
+use Rattle.check_rules.specs.declared.fault.CheckFault.TheVariants as check
 use Rattle.c_tokens.specs.declared.token.Token.{Token}
 use Rattle.c_tokens.specs.declared.token.TokenFault.{TokenFault}
 use Rattle.c_tokens.specs.declared.token.TokenFault.TheVariants as tokens
@@ -34,7 +34,7 @@ use Rattle.wv_task.specs.PropertyText.{property_of}
 use Rattle.wv_task.specs.Task.{judged as task_judged}
 use Rattle.wv_task.specs.declared.fault.TaskFault.{TaskFault}
 use Rattle.wv_task.specs.declared.fault.TaskFault.TheVariants as task
-use Rattle.wv_words.specs.Words.{Command}
+use Rattle.wv_arguments.specs.Words.{Command}
 use Rattle.wv_yaml.specs.declared.tree.Tree.{Tree}
 use Rattle.wv_yaml.specs.declared.fault.YamlFault.{YamlFault}
 use Rattle.wv_yaml.specs.declared.fault.YamlFault.TheVariants.{Bytes, Grammar, Duplicate, OutOfMemory}

@@ -2,7 +2,7 @@
 use Rattle.std.specs.Prelude.{◌≡◌, ℕ, ◌+◌, ◌-◌, ◌^◌, ◌≤◌, min, List, length, Option, Some, None, IfSome, if◌then◌else◌, nat_lt, codes}
 use Rattle.wv_base.specs.Causes.{Rose}
 use Rattle.wv_base.specs.Shelf.{ShelfState, Files, file_of}
-use Rattle.wv_words.specs.Words.{Command}
+use Rattle.wv_arguments.specs.Words.{Command}
 use Rattle.witval.specs.declared.input.File.{File}
 use Rattle.witval.specs.declared.input.File.TheVariants.{Program, Property, Witness}
 use Rattle.witval.specs.declared.input.Stop.{Stop}

@@ -12,10 +12,10 @@ use Rattle.c_parser.specs.Tree as raw
 use Rattle.c_parser.specs.declared.fault.ParseFault.{ParseFault}
 use Rattle.c_parser.specs.declared.fault.ParseFault.TheVariants as parse
 use Rattle.c_parser.specs.declared.item.Source.{Source}
-use Rattle.c_rules.specs.declared.fault.CheckCode.{CheckCode}
-use Rattle.c_rules.specs.declared.fault.CheckCode.TheVariants as code
-use Rattle.c_rules.specs.declared.fault.CheckFault.{CheckFault}
-use Rattle.c_rules.specs.declared.fault.CheckFault.TheVariants as check
+use Rattle.check_rules.specs.declared.fault.CheckCode.{CheckCode}
+use Rattle.check_rules.specs.declared.fault.CheckCode.TheVariants as code
+use Rattle.check_rules.specs.declared.fault.CheckFault.{CheckFault}
+use Rattle.check_rules.specs.declared.fault.CheckFault.TheVariants as check
 use Rattle.c_tokens.specs.Reading.{Answers as TokensAnswers}
 use Rattle.c_tokens.specs.declared.token.Token.{Token}
 use Rattle.c_tokens.specs.declared.token.TokenFault.{TokenFault}

@@ -7,7 +7,7 @@ use Rattle.wv_report.specs.declared.reply.Reply.TheVariants.{Verdict as Judged, 
 use Rattle.wv_schema.specs.Schema.{witness_of}
 use Rattle.wv_schema.specs.declared.witness.Witness.{Witness}
 use Rattle.wv_show.specs.Show.{summary_of}
-use Rattle.wv_words.specs.Words.{Command, Wanted, Validate, Show, Normalise, Demo}
+use Rattle.wv_arguments.specs.Words.{Command, Wanted, Validate, Show, Normalise, Demo}
 use Rattle.wv_yaml.specs.declared.tree.Tree.{Tree}
 use Rattle.wv_yaml.specs.Canon.{canon}
 use Rattle.wv_yaml.specs.Reading.{IsAnswer}

@@ -6,7 +6,7 @@ use Rattle.wv_base.specs.Sink.{SinkState, Gained}
 use Rattle.wv_report.specs.Json.{HasJsonIntegers, json_of}
 use Rattle.wv_report.specs.Report.{status_of, text_of}
 use Rattle.wv_report.specs.declared.reply.Reply.{Reply}
-use Rattle.wv_words.specs.Words.{Asked, Wanted, Validate, Show, Normalise, Demo, asked_by}
+use Rattle.wv_arguments.specs.Words.{Asked, Wanted, Validate, Show, Normalise, Demo, asked_by}
 use Rattle.witval.specs.Inputs.{OfFiles}
 use Rattle.witval.specs.Replies.{Right, RightOnBytes, CanonicalIn, SummaryIn, OnWitness, unbuilt_words}
 use Rattle.witval.specs.declared.output.Output.{Output}

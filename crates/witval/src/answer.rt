@@ -2,7 +2,7 @@ ghost use Rattle.std.specs.Prelude.{◌≡◌, IfOk};
 ghost use Rattle.wv_report.specs.Json.{HasJsonIntegers};
 ghost use Rattle.witval.specs.Replies.{CanonicalIn, Right, RightAlone, RightFor, SummaryIn};
 ghost use Rattle.witval.specs.Running.{HasIntegers};
-ghost use Rattle.wv_words.specs.Requests.{named, stated};
+ghost use Rattle.wv_arguments.specs.Requests.{named, stated};
 
 use crate::canonical::canonical;
 use crate::input::{Stop, read_one, read_three};
@@ -11,9 +11,9 @@ use crate::output::Output;
 use crate::refusal::{read_fault, refuse_plainly, refuse_too_long, refuse_unbuilt};
 use crate::shown::shown;
 use std::alloc::Global;
+use wv_arguments::{Asked, Names, Request};
 use wv_base::{OutOfMemory, Shelf};
 use wv_report::Reply;
-use wv_words::{Asked, Names, Request};
 
 /// The reply to a program, a property and a witness.
 fn validate<S: Shelf>(

@@ -1,10 +1,10 @@
 ghost use Rattle.std.specs.Prelude.{◌≡◌, IfOk, IfErr};
 ghost use Rattle.witval.specs.Inputs.{AreInputs, AreWithin, IsWitness, RightStop, RightStopAlone, Told, ToldOne};
-ghost use Rattle.wv_words.specs.Requests.{named};
+ghost use Rattle.wv_arguments.specs.Requests.{named};
 
 use std::alloc::Global;
+use wv_arguments::Names;
 use wv_base::{ReadFault, Shelf, read_all};
-use wv_words::Names;
 
 /// The input files, in the order in which they are read.
 #[derive(Clone, Copy, Debug, PartialEq, Eq)]

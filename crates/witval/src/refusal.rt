@@ -7,8 +7,8 @@ ghost use Rattle.witval.specs.Replies.{too_long};
 
 use crate::input::File;
 use c_parser::ParseFault;
-use c_rules::{CheckCode, CheckFault};
 use c_tokens::TokenFault;
+use check_rules::{CheckCode, CheckFault};
 use std::alloc::Global;
 use way_bind::BindFault;
 use wv_base::{OutOfMemory, Text};

@@ -1,12 +1,12 @@
 ghost use Rattle.std.specs.Prelude.{map, string_bytes};
 ghost use Rattle.witval.specs.Running.{Complete, CompleteFor, Runs, RunsFor};
-ghost use Rattle.wv_words.specs.Requests.{stated};
+ghost use Rattle.wv_arguments.specs.Requests.{stated};
 
 use crate::answer::answer;
 use crate::output::{bytes_of, status_of};
 use std::alloc::Global;
+use wv_arguments::{Asked, read_words};
 use wv_base::{Shelf, Sink, write_all};
-use wv_words::{Asked, read_words};
 
 /// What is asked for is read, judged, shown or brought into canonical form, and written.
 fn run_asked<S: Shelf, O: Sink>(alloc: Global, asked: &Asked<'_>, shelf: &mut S, out: &mut O) -> u8

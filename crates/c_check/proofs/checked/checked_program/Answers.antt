@@ -2,11 +2,11 @@ use Rattle.std.proofs.Common.{◌≡◌, List, None, Some, map, codes, ap, sym, 
 use Rattle.std.specs.List.{position_or_len}
 use Rattle.std.specs.Str.{bytes_eq}
 use Rattle.c_core.specs.declared.tree.Function.{Function}
-use Rattle.c_lawful.proofs.Law.{checked_program}
+use Rattle.check_wellformed.proofs.Law.{checked_program}
 use Rattle.c_parser.specs.Parsing.{source_view}
 use Rattle.c_parser.specs.SourceView.{item_view}
 use Rattle.c_parser.specs.declared.item.Item.{Item}
-use Rattle.c_rules.specs.First.{OfMain, wrong_main}
+use Rattle.check_rules.specs.First.{OfMain, wrong_main}
 use Rattle.c_check.specs.Checking.{names_of}
 use Rattle.c_check.proofs.ProgramLaws.{program_fits}
 use Rattle.c_check.proofs.checked.checked_program.Goals as goal

@@ -1,6 +1,6 @@
 use Rattle.std.proofs.Common.{rules, subst}
 use Rattle.c_parser.specs.Parsing.{source_view}
-use Rattle.c_rules.specs.First.{OfPart}
+use Rattle.check_rules.specs.First.{OfPart}
 use Rattle.c_check.specs.Finding.{IsFirstOf, IsWalk}
 use Rattle.c_check.proofs.checking.check.Goals as goal
 

@@ -1,6 +1,6 @@
 use Rattle.std.proofs.Common.{◌≡◌, drop, map}
 use Rattle.c_parser.specs.SourceView.{item_view}
-use Rattle.c_rules.specs.First.{wrong_main}
+use Rattle.check_rules.specs.First.{wrong_main}
 use Rattle.c_check.proofs.main_function.wrong_main.Given as goal
 
 abbrev pub invariant-loop-item : goal.invariant-loop-item

@@ -1,7 +1,7 @@
 use Rattle.std.proofs.Common.{arith, length, map, ap, sym, subst, ◌∙◌}
 use Rattle.c_core.specs.View.{functions_view}
-use Rattle.c_unordered.specs.Bodies.{kept_views}
-use Rattle.c_unordered.specs.Unordered.{ArePlaces}
+use Rattle.check_unsequenced.specs.Bodies.{kept_views}
+use Rattle.check_unsequenced.specs.Unordered.{ArePlaces}
 use Rattle.c_check.specs.Finding.{IsFirstOf, orders_noted}
 use Rattle.c_check.proofs.OrderLaws.{first_found}
 use Rattle.c_check.proofs.refusals.first_refusal.Goals as goal

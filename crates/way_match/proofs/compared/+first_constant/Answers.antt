@@ -2,7 +2,7 @@ use Rattle.std.proofs.Common.{◌≡◌, ap, sym, ◌∙◌}
 use Rattle.std.specs.Option.{option_copied}
 use Rattle.c_core.specs.Tree.{Expr, Logic}
 use Rattle.c_core.specs.TreeView.{expr_view, expr_view_if, node_view}
-use Rattle.c_places.specs.Seeking.{or_else}
+use Rattle.way_places.specs.Seeking.{or_else}
 use Rattle.way_match.specs.Given.{first_constant, operands}
 use Rattle.way_match.proofs.GatherLaws.{chain_first}
 use Rattle.way_match.proofs.compared.+first_constant.Goals as goal

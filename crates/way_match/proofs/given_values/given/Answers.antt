@@ -2,7 +2,7 @@ use Rattle.std.proofs.Common.{◌≡◌, ◌++◌, ap, ◌∙◌}
 use Rattle.c_core.specs.View.{program_view}
 use Rattle.c_core.specs.declared.program.Program.{Program}
 use Rattle.c_meaning.specs.declared.run.Choices.TheVariants.{Given}
-use Rattle.c_places.specs.Inputs.{calls_view}
+use Rattle.way_places.specs.Inputs.{calls_view}
 use Rattle.way_match.specs.Gathered.{choices_for, choices_in, gathered, values_view}
 use Rattle.way_match.specs.Given.{input_calls}
 use Rattle.way_match.specs.View.{each_segment_view, segments_view}

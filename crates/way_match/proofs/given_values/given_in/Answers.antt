@@ -1,7 +1,7 @@
 use Rattle.std.proofs.Common.{ap, ◌∙◌}
 use Rattle.c_core.specs.View.{expr_view, program_view}
 use Rattle.c_core.specs.declared.program.Program.{Program}
-use Rattle.c_places.specs.Inputs.{call_view}
+use Rattle.way_places.specs.Inputs.{call_view}
 use Rattle.way_match.specs.Given.{given_by_constant}
 use Rattle.way_match.proofs.given_values.given_in.Goals as goal
 

@@ -1,5 +1,5 @@
 use Rattle.std.proofs.Common.{◌≡◌, ◌++◌, drop}
-use Rattle.c_places.specs.Inputs.{calls_view}
+use Rattle.way_places.specs.Inputs.{calls_view}
 use Rattle.way_match.specs.Gathered.{choices_in}
 use Rattle.way_match.proofs.given_values.push_choices.Given as goal
 

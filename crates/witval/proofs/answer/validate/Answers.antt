@@ -1,4 +1,4 @@
-use Rattle.wv_words.specs.Requests.{named}
+use Rattle.wv_arguments.specs.Requests.{named}
 use Rattle.witval.proofs.Judged.{integers_if, judged_if}
 use Rattle.witval.proofs.answer.validate.Goals as goal
 

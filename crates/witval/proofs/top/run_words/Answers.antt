@@ -1,5 +1,5 @@
 use Rattle.std.proofs.Common.{subst}
-use Rattle.wv_words.specs.Words.{Asked}
+use Rattle.wv_arguments.specs.Words.{Asked}
 use Rattle.witval.specs.Running.{CompleteFor, RunsFor}
 use Rattle.witval.proofs.top.run_words.Goals as goal
 

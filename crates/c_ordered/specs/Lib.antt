@@ -1,3 +1,0 @@
-pub mod PartEffects
-pub mod Agreement
-pub mod PartsFound

@@ -1,6 +1,0 @@
-// Worked programs, and the names that are visible at their places.
-ghost use Rattle.c_places.specs.WorkedNames.{WorkedNames};
-
-fn worked_names()
-    ensures { WorkedNames }
-{}

@@ -1,5 +1,0 @@
-use Rattle.c_core.proofs.View.{view_of_block}
-use Rattle.c_walk.proofs.forms.block_of.Goals as goal
-
-pub returns : goal.returns
-returns c = view_of_block c.args.statements

@@ -1,9 +1,0 @@
-use Rattle.std.proofs.Common.{◌≡◌, ◌∙◌, sym, ap}
-use Rattle.c_parser.specs.SourceView.{init_view}
-use Rattle.c_parser.specs.declared.tree.RawInit.{RawInit}
-use Rattle.c_rules.specs.Codes.{count_of_init}
-use Rattle.c_walk.proofs.ListLaws.{count_of_views}
-use Rattle.c_walk.proofs.sizes.count.Goals as goal
-
-pub returns-in-Many : goal.returns-in-Many
-returns-in-Many c = c.len.ensures ∙ sym (count_of_views c.in-Many.es) ∙ sym (ap (λ (i : RawInit). count_of_init (init_view i)) c.in-Many.is)

@@ -1,0 +1,14 @@
+use Rattle.std.proofs.Common.{◌≡◌, ◌++◌, drop, map, true}
+use Rattle.c_parser.specs.SourceView.{declared_view}
+use Rattle.check_rules.specs.Checked.{starts_of_names}
+use Rattle.check_rules.specs.Parts.{parts_of_names}
+use Rattle.check_rules.specs.Scopes.{after_names}
+use Rattle.check_elaborate.specs.Walks.{scope_at, items_in, bodies_in, found_at, with_parts}
+use Rattle.check_elaborate.proofs.globals.globals.Given as goal
+
+abbrev pub invariant-loop-d : goal.invariant-loop-d
+invariant-loop-d l = record {
+  starts : l.starts ++ starts_of_names l.context.model (bodies_in l.context) (scope_at l.walk) (map declared_view (drop l.d-index l.ds)) ≡ l.fn.starts ++ starts_of_names l.context.model (bodies_in l.context) (scope_at l.fn.walk) (map declared_view l.ds);
+  scope : after_names l.context.model (bodies_in l.context) true (scope_at l.walk) (map declared_view (drop l.d-index l.ds)) ≡ after_names l.context.model (bodies_in l.context) true (scope_at l.fn.walk) (map declared_view l.ds);
+  noted : with_parts l.context.model (items_in l.context) (found_at l.walk) (parts_of_names l.context.model (bodies_in l.context) true (scope_at l.walk) (map declared_view (drop l.d-index l.ds))) ≡ with_parts l.context.model (items_in l.context) (found_at l.fn.walk) (parts_of_names l.context.model (bodies_in l.context) true (scope_at l.fn.walk) (map declared_view l.ds));
+}

@@ -1,0 +1,199 @@
+// Declared names: what is refused of them, and their initializers.
+ghost use Rattle.std.specs.Prelude.{◌≡◌, ◌&&◌, false, List, length, map, is_some, IfOk, OnOk};
+ghost use Rattle.std.specs.Option.{option_map};
+ghost use Rattle.c_core.specs.View.{expr_view as typed_view, exprs_view as typed_views, init_view as typed_init_view, names_view};
+ghost use Rattle.c_parser.specs.SourceView.{init_view, declared_view};
+ghost use Rattle.c_parser.specs.Tree.{exps};
+ghost use Rattle.c_parser.specs.View.{expr_view, exprs_view};
+ghost use Rattle.check_rules.specs.Checked as checked;
+ghost use Rattle.check_rules.specs.Codes as codes;
+ghost use Rattle.check_rules.specs.Names.{Entry};
+ghost use Rattle.check_rules.specs.Noting.{noted_part};
+ghost use Rattle.check_rules.specs.Parts as part;
+ghost use Rattle.check_rules.specs.Scopes as scopes;
+ghost use Rattle.check_rules.specs.Scopes.{seen};
+ghost use Rattle.check_rules.specs.Typed as typing;
+ghost use Rattle.check_elaborate.specs.Walks.{scope_at, bodies_in, items_in, IsNoted, size_stated, declarator};
+
+use crate::context::Context;
+use crate::full::full;
+use crate::sizes::{cells, is_too_small, size};
+use crate::walk::Walk;
+use c_core::{Declared, Expr, Init, Object};
+use c_parser::{RawDeclared, RawExpr, RawInit};
+use check_rules::{CheckCode, Role, noted};
+use check_scope::Known;
+use wv_base::{OutOfMemory, Seq, Text};
+
+const MOST_CELLS: u64 = 100_000;
+
+// A list for a scalar, or a single value for an array.
+fn is_wrong_init(d: &RawDeclared) -> bool
+    ensures { result ≡ codes.is_wrong_init (declared_view d.now).size (declared_view d.now).init }
+{
+    match &d.init {
+        RawInit::Absent => false,
+        RawInit::One(_) => d.size.is_some(),
+        RawInit::Many(_) => d.size.is_none(),
+    }
+}
+
+fn is_wrong_size(d: &RawDeclared, size: Option<u32>) -> bool
+    ensures { result ≡ (is_some (declared_view d.now).size && codes.is_too_small (codes.count_of_init (declared_view d.now).init) size) }
+{
+    d.size.is_some() && is_too_small(&d.init, size)
+}
+
+/// Does this object bring the cells of all over the limit?
+pub fn is_crowded(walk: &Walk, cells: u32) -> bool
+    ensures { result ≡ codes.passes_limit (codes.cells_in walk.now.objects) cells }
+{
+    walk.cells <= MOST_CELLS && MOST_CELLS < walk.cells + u64::from(cells)
+}
+
+// What is refused of a declared name itself.
+fn note_declared(
+    context: &Context,
+    walk: &mut Walk,
+    fixed: bool,
+    number: u32,
+    size: Option<u32>,
+    d: &RawDeclared,
+)
+    requires number { number ≡ length walk.old.objects }
+    requires size { size ≡ size_stated context.now.model (bodies_in context.now) (seen (scope_at walk.old)) (option_map expr_view d.now.size) }
+    ensures scope { scope_at walk.new ≡ scope_at walk.old }
+    ensures noted { walk.new.best ≡ noted_part context.now.model (items_in context.now) walk.old.best (part.Declaring fixed (scope_at walk.old) (declared_view d.now)) }
+    ensures kept { walk.new.kept ≡ walk.old.kept }
+{
+    let known = Known::Object {
+        number,
+        ty: d.ty,
+        array: d.size.is_some(),
+        fixed,
+    };
+    let again = walk.table.is_again(d.name.as_str(), known);
+    let best = noted(walk.best, again, CheckCode::Again, d.spot);
+    let best = noted(best, is_wrong_init(d), CheckCode::Typing, d.spot);
+    let best = noted(best, is_wrong_size(d, size), CheckCode::Size, d.spot);
+    let crowded = is_crowded(walk, cells(size));
+    walk.best = noted(best, crowded, CheckCode::Cells, d.spot);
+}
+
+fn object(
+    context: &Context,
+    fixed: bool,
+    size: Option<u32>,
+    d: &RawDeclared,
+) -> Result<Object, OutOfMemory>
+    ensures { (es : List Entry) → size ≡ size_stated context.now.model (bodies_in context.now) es (option_map expr_view d.now.size) → IfOk result (λ o. o ≡ scopes.object_of context.now.model (bodies_in context.now) fixed es (declared_view d.now)) }
+{
+    Ok(Object {
+        name: Text::of(context.alloc, d.name.as_str())?,
+        ty: d.ty,
+        cells: cells(size),
+        array: d.size.is_some(),
+        fixed,
+        spot: d.spot,
+    })
+}
+
+// An initializer in a function, which may be any value.
+fn value(context: &Context, walk: &mut Walk, e: &RawExpr) -> Result<Expr, OutOfMemory>
+    ensures typed { IfOk result (λ r. typed_view r ≡ typing.typed context.now.model (bodies_in context.now) (seen (scope_at walk.old)) (expr_view e.now)) }
+    ensures scope { OnOk result (scope_at walk.new ≡ scope_at walk.old) }
+    ensures noted { OnOk result (IsNoted context.now walk.old walk.new (part.parts_of_value false (scope_at walk.old) (expr_view e.now))) }
+{
+    let typed = full(context, walk, Role::Value, e)?;
+    Ok(typed)
+}
+
+fn values(context: &Context, walk: &mut Walk, es: &[RawExpr]) -> Result<Seq<Expr>, OutOfMemory>
+    ensures typed { IfOk result (λ r. typed_views r ≡ typing.typed_all context.now.model (bodies_in context.now) (seen (scope_at walk.old)) (exps (exprs_view es.now))) }
+    ensures scope { OnOk result (scope_at walk.new ≡ scope_at walk.old) }
+    ensures noted { OnOk result (IsNoted context.now walk.old walk.new (part.parts_of_values false (scope_at walk.old) (exps (exprs_view es.now)))) }
+{
+    let mut all = Seq::new(context.alloc);
+    for e in es {
+        let typed = value(context, walk, e)?;
+        all.push(typed)?;
+    }
+    Ok(all)
+}
+
+// The initializer of the last name of the scope.
+fn initializer(context: &Context, walk: &mut Walk, init: &RawInit) -> Result<Init, OutOfMemory>
+    ensures typed { IfOk result (λ r. typed_init_view r ≡ checked.typed_init context.now.model (bodies_in context.now) (seen (scope_at walk.old)) (init_view init.now)) }
+    ensures scope { OnOk result (scope_at walk.new ≡ scope_at walk.old) }
+    ensures noted { OnOk result (IsNoted context.now walk.old walk.new (part.parts_of_init false (scope_at walk.old) (init_view init.now))) }
+{
+    match init {
+        RawInit::Absent => Ok(Init::Absent),
+        RawInit::One(e) => {
+            let typed = value(context, walk, e)?;
+            Ok(Init::One(typed))
+        }
+        RawInit::Many(es) => {
+            let typed = values(context, walk, es.as_slice())?;
+            Ok(Init::Many(typed))
+        }
+    }
+}
+
+/// A declared name up to its initializer, and its number.
+pub fn declare<'a>(
+    context: &Context,
+    walk: &mut Walk<'a>,
+    fixed: bool,
+    d: &'a RawDeclared,
+) -> Result<u32, OutOfMemory>
+    ensures number { IfOk result (λ n. n ≡ length walk.old.objects) }
+    ensures scope { OnOk result (scope_at walk.new ≡ scopes.after_name context.now.model (bodies_in context.now) fixed (scope_at walk.old) (declared_view d.now)) }
+    ensures noted { OnOk result (IsNoted context.now walk.old walk.new (declarator fixed (scope_at walk.old) (declared_view d.now))) }
+{
+    let size = size(context, walk, &d.size)?;
+    let number = walk.next_number()?;
+    note_declared(context, walk, fixed, number, size, d);
+    let object = object(context, fixed, size, d)?;
+    walk.declare(d.name.as_str(), object)?;
+    Ok(number)
+}
+
+// A name in a function, with its initializer.
+fn name<'a>(
+    context: &Context,
+    walk: &mut Walk<'a>,
+    d: &'a RawDeclared,
+) -> Result<Declared, OutOfMemory>
+    ensures spot { IfOk result (λ r. r.spot ≡ d.now.spot) }
+    ensures number { IfOk result (λ r. r.object ≡ length walk.old.objects) }
+    ensures typed { IfOk result (λ r. typed_init_view r.init ≡ checked.typed_init context.now.model (bodies_in context.now) (seen (scopes.after_name context.now.model (bodies_in context.now) false (scope_at walk.old) (declared_view d.now))) (init_view d.now.init)) }
+    ensures scope { OnOk result (scope_at walk.new ≡ scopes.after_name context.now.model (bodies_in context.now) false (scope_at walk.old) (declared_view d.now)) }
+    ensures noted { OnOk result (IsNoted context.now walk.old walk.new (part.parts_of_name context.now.model (bodies_in context.now) false (scope_at walk.old) (declared_view d.now))) }
+{
+    let object = declare(context, walk, false, d)?;
+    let init = initializer(context, walk, &d.init)?;
+    Ok(Declared {
+        spot: d.spot,
+        object,
+        init,
+    })
+}
+
+/// The names of one declaration in a function.
+pub fn names<'a>(
+    context: &Context,
+    walk: &mut Walk<'a>,
+    ds: &'a [RawDeclared],
+) -> Result<Seq<Declared>, OutOfMemory>
+    ensures typed { IfOk result (λ r. names_view r ≡ checked.typed_names context.now.model (bodies_in context.now) (scope_at walk.old) (map declared_view ds.now)) }
+    ensures scope { OnOk result (scope_at walk.new ≡ scopes.after_names context.now.model (bodies_in context.now) false (scope_at walk.old) (map declared_view ds.now)) }
+    ensures noted { OnOk result (IsNoted context.now walk.old walk.new (part.parts_of_names context.now.model (bodies_in context.now) false (scope_at walk.old) (map declared_view ds.now))) }
+{
+    let mut all = Seq::new(context.alloc);
+    for d in ds {
+        let declared = name(context, walk, d)?;
+        all.push(declared)?;
+    }
+    Ok(all)
+}

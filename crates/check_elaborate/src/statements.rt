@@ -1,0 +1,283 @@
+// Statements: one function for each form.
+ghost use Rattle.std.specs.Prelude.{◌≡◌, map, IfOk, OnOk, true};
+ghost use Rattle.std.specs.Option.{option_map};
+ghost use Rattle.c_core.specs.View.{first_view as typed_first_view, form_view as typed_form_view, stmt_view as typed_stmt_view, stmts_view as typed_stmts_view};
+ghost use Rattle.c_parser.specs.SourceView.{declared_view, first_view, form_view, stmt_view, else_if};
+ghost use Rattle.c_parser.specs.Tree as raw;
+ghost use Rattle.c_parser.specs.Tree.{stms};
+ghost use Rattle.c_parser.specs.View.{expr_view};
+ghost use Rattle.check_rules.specs.Checked as checked;
+ghost use Rattle.check_rules.specs.Parts as part;
+ghost use Rattle.check_rules.specs.Scopes as scopes;
+ghost use Rattle.check_elaborate.specs.Walks.{scope_at, bodies_in, IsNoted, else_of};
+
+use crate::context::Context;
+use crate::declaring::names;
+use crate::forms::{block_of, boxed, choice_of, do_of, for_of, label_of, while_of};
+use crate::full::{full, full_if};
+use crate::jumps::{give, leave};
+use crate::walk::Walk;
+use c_core::{First, Form, IntType, Spot, Stmt};
+use c_parser::{RawExpr, RawFirst, RawForm, RawStmt};
+use check_rules::Role;
+use wv_base::{OutOfMemory, Seq};
+
+/// A statement in a function of this result; `looped`: a loop is around it.
+#[cycle(statement)]
+fn statement<'a>(
+    context: &Context,
+    walk: &mut Walk<'a>,
+    gives: Option<IntType>,
+    looped: bool,
+    s: &'a RawStmt,
+) -> Result<Stmt, OutOfMemory>
+    ensures typed { IfOk result (λ r. typed_stmt_view r ≡ checked.typed_statement context.now.model (bodies_in context.now) (scope_at walk.old) (stmt_view s.now)) }
+    ensures scope { OnOk result (scope_at walk.new ≡ scopes.after_statement context.now.model (bodies_in context.now) (scope_at walk.old) (stmt_view s.now)) }
+    ensures noted { OnOk result (IsNoted context.now walk.old walk.new (part.parts_of_statement context.now.model (bodies_in context.now) gives looped (scope_at walk.old) (stmt_view s.now))) }
+{
+    let form = form(context, walk, gives, looped, s.spot, &s.form)?;
+    Ok(Stmt { spot: s.spot, form })
+}
+
+#[cycle(statement)]
+fn form<'a>(
+    context: &Context,
+    walk: &mut Walk<'a>,
+    gives: Option<IntType>,
+    looped: bool,
+    spot: Spot,
+    f: &'a RawForm,
+) -> Result<Form, OutOfMemory>
+    ensures typed { IfOk result (λ r. typed_form_view r ≡ checked.typed_form context.now.model (bodies_in context.now) (scope_at walk.old) (form_view f.now)) }
+    ensures scope { OnOk result (scope_at walk.new ≡ scopes.after_form context.now.model (bodies_in context.now) (scope_at walk.old) (form_view f.now)) }
+    ensures noted { OnOk result (IsNoted context.now walk.old walk.new (part.parts_of_form context.now.model (bodies_in context.now) gives looped (scope_at walk.old) spot (form_view f.now))) }
+{
+    match f {
+        RawForm::Empty => Ok(Form::Empty),
+        RawForm::Expr(e) => {
+            let e = full(context, walk, Role::Effect, e)?;
+            Ok(Form::Expr(e))
+        }
+        RawForm::Declare(ds) => {
+            let names = names(context, walk, ds.as_slice())?;
+            Ok(Form::Declare(names))
+        }
+        RawForm::Block(ss) => {
+            let ss = block(context, walk, gives, looped, ss.as_slice())?;
+            Ok(block_of(ss))
+        }
+        RawForm::If { test, yes, no } => {
+            let test = full(context, walk, Role::Value, test)?;
+            let yes = arm(context, walk, gives, looped, yes)?;
+            let no = other_arm(context, walk, gives, looped, no)?;
+            let choice = choice_of(context.alloc, test, yes, no)?;
+            Ok(choice)
+        }
+        RawForm::While { test, body } => {
+            let form = while_loop(context, walk, gives, looped, spot, body, test)?;
+            Ok(form)
+        }
+        RawForm::Do { body, test } => {
+            let form = do_loop(context, walk, gives, looped, spot, body, test)?;
+            Ok(form)
+        }
+        RawForm::For {
+            first,
+            test,
+            step,
+            body,
+        } => {
+            let form = for_loop(context, walk, gives, looped, spot, body, first, test, step)?;
+            Ok(form)
+        }
+        RawForm::Break => {
+            leave(context, walk, looped, spot);
+            Ok(Form::Break)
+        }
+        RawForm::Continue => {
+            leave(context, walk, looped, spot);
+            Ok(Form::Continue)
+        }
+        RawForm::Return(e) => {
+            let form = give(context, walk, gives, looped, spot, e)?;
+            Ok(form)
+        }
+        RawForm::Label { of, .. } => {
+            let of = arm(context, walk, gives, looped, of)?;
+            let form = label_of(context.alloc, of)?;
+            Ok(form)
+        }
+    }
+}
+
+// In the loops the body comes first, by which the recursion ends.
+#[cycle(statement)]
+fn while_loop<'a>(
+    context: &Context,
+    walk: &mut Walk<'a>,
+    gives: Option<IntType>,
+    looped: bool,
+    spot: Spot,
+    body: &'a RawStmt,
+    test: &RawExpr,
+) -> Result<Form, OutOfMemory>
+    ensures typed { IfOk result (λ r. typed_form_view r ≡ checked.typed_form context.now.model (bodies_in context.now) (scope_at walk.old) (raw.While (expr_view test.now) (stmt_view body.now))) }
+    ensures scope { OnOk result (scope_at walk.new ≡ scopes.after_form context.now.model (bodies_in context.now) (scope_at walk.old) (raw.While (expr_view test.now) (stmt_view body.now))) }
+    ensures noted { OnOk result (IsNoted context.now walk.old walk.new (part.parts_of_form context.now.model (bodies_in context.now) gives looped (scope_at walk.old) spot (raw.While (expr_view test.now) (stmt_view body.now)))) }
+{
+    let test = full(context, walk, Role::Value, test)?;
+    let body = arm(context, walk, gives, true, body)?;
+    let form = while_of(context.alloc, test, body)?;
+    Ok(form)
+}
+
+#[cycle(statement)]
+fn do_loop<'a>(
+    context: &Context,
+    walk: &mut Walk<'a>,
+    gives: Option<IntType>,
+    looped: bool,
+    spot: Spot,
+    body: &'a RawStmt,
+    test: &RawExpr,
+) -> Result<Form, OutOfMemory>
+    ensures typed { IfOk result (λ r. typed_form_view r ≡ checked.typed_form context.now.model (bodies_in context.now) (scope_at walk.old) (raw.DoWhile (stmt_view body.now) (expr_view test.now))) }
+    ensures scope { OnOk result (scope_at walk.new ≡ scopes.after_form context.now.model (bodies_in context.now) (scope_at walk.old) (raw.DoWhile (stmt_view body.now) (expr_view test.now))) }
+    ensures noted { OnOk result (IsNoted context.now walk.old walk.new (part.parts_of_form context.now.model (bodies_in context.now) gives looped (scope_at walk.old) spot (raw.DoWhile (stmt_view body.now) (expr_view test.now)))) }
+{
+    let body = arm(context, walk, gives, true, body)?;
+    let test = full(context, walk, Role::Value, test)?;
+    let form = do_of(context.alloc, body, test)?;
+    Ok(form)
+}
+
+// What is declared in its parentheses ends with the loop.
+#[cycle(statement)]
+fn for_loop<'a>(
+    context: &Context,
+    walk: &mut Walk<'a>,
+    gives: Option<IntType>,
+    looped: bool,
+    spot: Spot,
+    body: &'a RawStmt,
+    first: &'a RawFirst,
+    test: &Option<RawExpr>,
+    step: &Option<RawExpr>,
+) -> Result<Form, OutOfMemory>
+    ensures typed { IfOk result (λ r. typed_form_view r ≡ checked.typed_form context.now.model (bodies_in context.now) (scope_at walk.old) (raw.For (first_view first.now) (option_map expr_view test.now) (option_map expr_view step.now) (stmt_view body.now))) }
+    ensures scope { OnOk result (scope_at walk.new ≡ scopes.after_form context.now.model (bodies_in context.now) (scope_at walk.old) (raw.For (first_view first.now) (option_map expr_view test.now) (option_map expr_view step.now) (stmt_view body.now))) }
+    ensures noted { OnOk result (IsNoted context.now walk.old walk.new (part.parts_of_form context.now.model (bodies_in context.now) gives looped (scope_at walk.old) spot (raw.For (first_view first.now) (option_map expr_view test.now) (option_map expr_view step.now) (stmt_view body.now)))) }
+{
+    let outside = walk.open();
+    let first = begin(context, walk, first)?;
+    let test = full_if(context, walk, Role::Value, test)?;
+    let step = full_if(context, walk, Role::Effect, step)?;
+    let body = arm(context, walk, gives, true, body)?;
+    walk.close(outside);
+    let form = for_of(context.alloc, first, test, step, body)?;
+    Ok(form)
+}
+
+// What stands first in the parentheses of a `for`.
+fn begin<'a>(
+    context: &Context,
+    walk: &mut Walk<'a>,
+    first: &'a RawFirst,
+) -> Result<First, OutOfMemory>
+    ensures typed { IfOk result (λ r. typed_first_view r ≡ checked.typed_first context.now.model (bodies_in context.now) (scope_at walk.old) (first_view first.now)) }
+    ensures scope { OnOk result (scope_at walk.new ≡ scopes.after_first context.now.model (bodies_in context.now) (scope_at walk.old) (first_view first.now)) }
+    ensures noted { OnOk result (IsNoted context.now walk.old walk.new (part.parts_of_first context.now.model (bodies_in context.now) (scope_at walk.old) (first_view first.now))) }
+{
+    match first {
+        RawFirst::Absent => Ok(First::Absent),
+        RawFirst::Expr(e) => {
+            let e = full(context, walk, Role::Effect, e)?;
+            Ok(First::Expr(e))
+        }
+        RawFirst::Declare(ds) => {
+            let names = names(context, walk, ds.as_slice())?;
+            Ok(First::Declare(names))
+        }
+    }
+}
+
+#[cycle(statement)]
+fn other_arm<'a>(
+    context: &Context,
+    walk: &mut Walk<'a>,
+    gives: Option<IntType>,
+    looped: bool,
+    s: &'a Option<Box<RawStmt>>,
+) -> Result<Option<Box<Stmt>>, OutOfMemory>
+    ensures typed { IfOk result (λ r. else_of r ≡ checked.typed_else context.now.model (bodies_in context.now) (scope_at walk.old) (else_if s.now)) }
+    ensures scope { OnOk result (scope_at walk.new ≡ scopes.after_else context.now.model (bodies_in context.now) (scope_at walk.old) (else_if s.now)) }
+    ensures noted { OnOk result (IsNoted context.now walk.old walk.new (part.parts_of_else context.now.model (bodies_in context.now) gives looped (scope_at walk.old) (else_if s.now))) }
+{
+    match s {
+        None => Ok(None),
+        Some(s) => {
+            let s = arm(context, walk, gives, looped, s)?;
+            let boxed = boxed(context.alloc, s)?;
+            Ok(Some(boxed))
+        }
+    }
+}
+
+// A part of a statement is a block (C11 6.8.4p3, 6.8.5p5).
+#[cycle(statement)]
+fn arm<'a>(
+    context: &Context,
+    walk: &mut Walk<'a>,
+    gives: Option<IntType>,
+    looped: bool,
+    s: &'a RawStmt,
+) -> Result<Stmt, OutOfMemory>
+    ensures typed { IfOk result (λ r. typed_stmt_view r ≡ checked.typed_statement context.now.model (bodies_in context.now) (scopes.opened (scope_at walk.old)) (stmt_view s.now)) }
+    ensures scope { OnOk result (scope_at walk.new ≡ scopes.closed (scope_at walk.old) (scopes.after_statement context.now.model (bodies_in context.now) (scopes.opened (scope_at walk.old)) (stmt_view s.now))) }
+    ensures noted { OnOk result (IsNoted context.now walk.old walk.new (part.parts_of_statement context.now.model (bodies_in context.now) gives looped (scopes.opened (scope_at walk.old)) (stmt_view s.now))) }
+{
+    let outside = walk.open();
+    let s = statement(context, walk, gives, looped, s)?;
+    walk.close(outside);
+    Ok(s)
+}
+
+// What is declared in a block ends with it.
+#[cycle(statement)]
+fn block<'a>(
+    context: &Context,
+    walk: &mut Walk<'a>,
+    gives: Option<IntType>,
+    looped: bool,
+    ss: &'a [RawStmt],
+) -> Result<Seq<Stmt>, OutOfMemory>
+    ensures typed { IfOk result (λ r. typed_stmts_view r ≡ checked.typed_block context.now.model (bodies_in context.now) (scopes.opened (scope_at walk.old)) (stms (map stmt_view ss.now))) }
+    ensures scope { OnOk result (scope_at walk.new ≡ scopes.closed (scope_at walk.old) (scopes.after_block context.now.model (bodies_in context.now) (scopes.opened (scope_at walk.old)) (stms (map stmt_view ss.now)))) }
+    ensures noted { OnOk result (IsNoted context.now walk.old walk.new (part.parts_of_block context.now.model (bodies_in context.now) gives looped (scopes.opened (scope_at walk.old)) (stms (map stmt_view ss.now)))) }
+{
+    let outside = walk.open();
+    let ss = statements(context, walk, gives, looped, ss)?;
+    walk.close(outside);
+    Ok(ss)
+}
+
+/// Statements, one after another.
+#[cycle(statement)]
+pub fn statements<'a>(
+    context: &Context,
+    walk: &mut Walk<'a>,
+    gives: Option<IntType>,
+    looped: bool,
+    ss: &'a [RawStmt],
+) -> Result<Seq<Stmt>, OutOfMemory>
+    ensures typed { IfOk result (λ r. typed_stmts_view r ≡ checked.typed_block context.now.model (bodies_in context.now) (scope_at walk.old) (stms (map stmt_view ss.now))) }
+    ensures scope { OnOk result (scope_at walk.new ≡ scopes.after_block context.now.model (bodies_in context.now) (scope_at walk.old) (stms (map stmt_view ss.now))) }
+    ensures noted { OnOk result (IsNoted context.now walk.old walk.new (part.parts_of_block context.now.model (bodies_in context.now) gives looped (scope_at walk.old) (stms (map stmt_view ss.now)))) }
+{
+    let mut all = Seq::new(context.alloc);
+    for s in ss {
+        let typed = statement(context, walk, gives, looped, s)?;
+        all.push(typed)?;
+    }
+    Ok(all)
+}

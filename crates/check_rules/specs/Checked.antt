@@ -1,0 +1,136 @@
+-- The checked program of a source.
+use Rattle.std.specs.Prelude.{◌≡◌, ℕ, ◌+◌, true, false, ℤ, pos, List, [], ◌∷◌, ◌++◌, length, Option, Some, None, codes}
+use Rattle.std.specs.List.{position_or_len}
+use Rattle.std.specs.Str.{bytes_eq}
+use Rattle.c_core.specs.Types.{fit}
+use Rattle.c_core.specs.Tree as t
+use Rattle.c_core.specs.declared.number.IntType.{IntType}
+use Rattle.c_core.specs.declared.number.DataModel.{DataModel}
+use Rattle.c_core.specs.declared.number.Property.{Property}
+use Rattle.c_core.specs.declared.number.Spot.{Spot}
+use Rattle.c_core.specs.declared.tree.Start.{Start}
+use Rattle.c_parser.specs.Tree as raw
+use Rattle.check_rules.specs.Names.{Entry}
+use Rattle.check_rules.specs.Constants.{constant}
+use Rattle.check_rules.specs.Typed.{typed, typed_all}
+use Rattle.check_rules.specs.Scopes.{Scope, seen, opened, closed, after_name, after_first, after_statement, after_item, after_items, after_parameters, inside, statements_of, outermost}
+use Rattle.check_rules.specs.Parts.{bodies_of}
+use Rattle.check_rules.specs.First.{IsUnrefused, wrong_main}
+
+module _ (m : DataModel) (bodies : List (List ℕ)) where
+  abbrev pub typed_if : List Entry → Option raw.Exp → Option t.Exp
+  typed_if es None = None
+  typed_if es (Some e) = Some (typed m bodies es e)
+
+  abbrev pub typed_init : List Entry → raw.Init → t.Init
+  typed_init es raw.Absent = t.Absent
+  typed_init es (raw.One e) = t.One (typed m bodies es e)
+  typed_init es (raw.Many gs) = t.Many (typed_all m bodies es gs)
+
+  -- declared names, each with the number of its object
+  abbrev pub typed_names : Scope → List raw.Declared → t.Names
+  typed_names s [] = t.NoName
+  typed_names s (d ∷ ds) =
+      t.MoreName d.spot (length s.objects) (typed_init (seen (after_name m bodies false s d)) d.init) (typed_names (after_name m bodies false s d) ds)
+
+  abbrev pub typed_first : Scope → raw.First → t.First
+  typed_first s raw.NoFirst = t.NoFirst
+  typed_first s (raw.FirstExp e) = t.FirstExp (typed m bodies (seen s) e)
+  typed_first s (raw.FirstDeclared ds) = t.FirstNames (typed_names s ds)
+
+  abbrev mutual
+    pub typed_statement : Scope → raw.Stm → t.Stm
+    typed_statement s (raw.Stmt p f) = t.Stmt p (typed_form s f)
+
+    pub typed_form : Scope → raw.Form → t.Form
+    typed_form s raw.Empty = t.Empty
+    typed_form s (raw.Do e) = t.Do (typed m bodies (seen s) e)
+    typed_form s (raw.Declare ds) = t.Declare (typed_names s ds)
+    typed_form s (raw.Block b) = t.Block (typed_block (opened s) b)
+    typed_form s (raw.If e a b) = t.If (typed m bodies (seen s) e) (typed_statement (opened s) a) (typed_else (closed s (after_statement m bodies (opened s) a)) b)
+    typed_form s (raw.While e a) = t.While (typed m bodies (seen s) e) (typed_statement (opened s) a)
+    typed_form s (raw.DoWhile a e) = t.DoWhile (typed_statement (opened s) a) (typed m bodies (seen s) e)
+    typed_form s (raw.For i e u a) =
+        t.For (typed_first (opened s) i) (typed_if (seen (after_first m bodies (opened s) i)) e) (typed_if (seen (after_first m bodies (opened s) i)) u)
+        (typed_statement (opened (after_first m bodies (opened s) i)) a)
+    typed_form s raw.Break = t.Break
+    typed_form s raw.Continue = t.Continue
+    typed_form s (raw.Return e) = t.Return (typed_if (seen s) e)
+    typed_form s (raw.Label w a) = t.Label (typed_statement (opened s) a)
+
+    pub typed_else : Scope → raw.Else → t.Else
+    typed_else s raw.NoElse = t.NoElse
+    typed_else s (raw.OrElse b) = t.OrElse (typed_statement (opened s) b)
+
+    pub typed_block : Scope → raw.Stms → t.Stms
+    typed_block s raw.NoStm = t.NoStm
+    typed_block s (raw.MoreStm x b) = t.MoreStm (typed_statement s x) (typed_block (after_statement m bodies s x) b)
+
+  -- the numbers of the next objects
+  abbrev pub numbers_from : ℕ → List raw.Param → List ℕ
+  numbers_from n [] = []
+  numbers_from n (x ∷ xs) = n ∷ numbers_from (n + 1) xs
+
+  abbrev pub body_place : raw.Stm → Spot
+  body_place (raw.Stmt p f) = p
+
+  abbrev pub typed_function : Scope → List ℕ → Option IntType → List raw.Param → raw.Stm → t.Function
+  typed_function s name result xs body = record {
+    result = result;
+    params = numbers_from (length s.objects) xs;
+    body = t.Stmt (body_place body) (t.Block (typed_block (after_parameters (inside s name result xs) xs) (statements_of body)));
+  }
+
+  abbrev pub functions_of : Scope → List raw.Item → List t.Function
+  functions_of s [] = []
+  functions_of s (raw.Function p name result xs body ∷ items) =
+      typed_function s name result xs body ∷ functions_of (after_item m bodies s (raw.Function p name result xs body)) items
+  functions_of s (item ∷ items) = functions_of (after_item m bodies s item) items
+
+  abbrev pub or_zero : Option ℤ → ℤ
+  or_zero None = pos 0
+  or_zero (Some v) = v
+
+  -- the value of a constant, converted to the type of the object that starts with it (C11 6.7.9p4, p11)
+  abbrev pub start_value : List Entry → IntType → raw.Exp → ℤ
+  start_value es ty e = fit m ty (or_zero (constant m (typed m bodies es e)))
+
+  abbrev pub start_values : List Entry → IntType → raw.Exps → List ℤ
+  start_values es ty raw.NoExp = []
+  start_values es ty (raw.MoreExp e gs) = start_value es ty e ∷ start_values es ty gs
+
+  abbrev pub start : ℕ → List ℤ → Start
+  start n values = record { object = n; values = values }
+
+  abbrev pub start_of_init : List Entry → ℕ → IntType → raw.Init → List Start
+  start_of_init es n ty raw.Absent = []
+  start_of_init es n ty (raw.One e) = start n (start_value es ty e ∷ []) ∷ []
+  start_of_init es n ty (raw.Many gs) = start n (start_values es ty gs) ∷ []
+
+  -- the objects of static storage that have an initializer
+  abbrev pub starts_of_names : Scope → List raw.Declared → List Start
+  starts_of_names s [] = []
+  starts_of_names s (d ∷ ds) = start_of_init (seen (after_name m bodies true s d)) (length s.objects) d.ty d.init ++ starts_of_names (after_name m bodies true s d) ds
+
+  abbrev pub starts_of : Scope → List raw.Item → List Start
+  starts_of s [] = []
+  starts_of s (raw.Global ds ∷ items) = starts_of_names s ds ++ starts_of (after_item m bodies s (raw.Global ds)) items
+  starts_of s (item ∷ items) = starts_of (after_item m bodies s item) items
+
+-- the program of a source that isn't refused
+abbrev pub program_of : DataModel → Property → List raw.Item → t.Program
+program_of m property items = record {
+  model = m;
+  property = property;
+  objects = (after_items m (bodies_of items) outermost items).objects;
+  starts = starts_of m (bodies_of items) outermost items;
+  functions = functions_of m (bodies_of items) outermost items;
+  main = position_or_len (bytes_eq (codes "main")) (bodies_of items);
+}
+
+-- the source has this program, whose functions have these names: no part is refused, and `main` fits
+pub record HasProgram (m : DataModel) (property : Property) (items : List raw.Item) (p : t.Program) (names : List (List ℕ)) : Type 0 where
+  pub unrefused : IsUnrefused m items
+  pub main : wrong_main items ≡ None
+  pub is : p ≡ program_of m property items
+  pub named : names ≡ bodies_of items

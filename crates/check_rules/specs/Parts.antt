@@ -1,0 +1,184 @@
+-- The parts of a source, each with what it sees. A refusal is always one of a part.
+use Rattle.std.specs.Prelude.{ℕ, Bool, true, false, List, [], ◌∷◌, ◌++◌, Option, Some, None, is_some}
+use Rattle.c_core.specs.declared.number.IntType.{IntType}
+use Rattle.c_core.specs.declared.number.DataModel.{DataModel}
+use Rattle.c_core.specs.declared.number.Spot.{Spot}
+use Rattle.c_parser.specs.Tree as raw
+use Rattle.c_parser.specs.Tree.{Exp, Expr, Node, Number, Char, Var, Index, Unary, Cast, Step, Binary, Logic, Choose, Comma, Assign, Call, Exps, NoExp, MoreExp}
+use Rattle.check_rules.specs.Names.{Entry}
+use Rattle.check_rules.specs.Scopes.{Scope, seen, opened, closed, with_object, after_name, after_first, after_statement, after_item, after_parameters, inside, parameter, statements_of, entry_of_function, entry_of_prototype, outermost}
+
+-- what an expression is there for: its value, what is stored to it, or its effect, where it may be void
+pub data Role : Type 0 where
+  Value : Role
+  Target : Role
+  Effect : Role
+
+pub data Part : Type 0 where
+  -- an expression, with the names that it sees
+  Expression : List Entry → Role → Exp → Part
+  -- a declared name, with the scope before it; `fixed`: outside of functions
+  Declaring : Bool → Scope → raw.Declared → Part
+  -- a function or a prototype as an entry, with the scope before it
+  Naming : Scope → Entry → Spot → Part
+  -- a value of the last name of the scope; `fixed`: of static storage
+  Initializing : Bool → Scope → Exp → Part
+  -- `return` in a function of this result; is there a value?
+  Returning : Option IntType → Spot → Bool → Part
+  -- `break` or `continue`; is it in a loop?
+  Leaving : Bool → Spot → Part
+  -- a label, with those before it in its function
+  Labelling : List (List ℕ) → List ℕ → Spot → Part
+
+abbrev pub of_cast : Option IntType → Role
+of_cast None = Effect
+of_cast (Some ty) = Value
+
+-- every expression in an expression
+module _ (es : List Entry) where
+  abbrev mutual
+    pub parts : Role → Exp → List Part
+    parts r (Expr p n) = Expression es r (Expr p n) ∷ parts_in n
+
+    pub parts_in : Node → List Part
+    parts_in (Index x w a) = parts Value a
+    parts_in (Unary op a) = parts Value a
+    parts_in (Cast to a) = parts (of_cast to) a
+    parts_in (Step op a) = parts Target a
+    parts_in (Binary op a b) = parts Value a ++ parts Value b
+    parts_in (Logic both a b) = parts Value a ++ parts Value b
+    -- the arms, and the right side of a comma, may be void
+    parts_in (Choose mark e a b) = parts Value e ++ parts Effect a ++ parts Effect b
+    parts_in (Comma a b) = parts Effect a ++ parts Effect b
+    parts_in (Assign op a b) = parts Target a ++ parts Value b
+    parts_in (Call f w gs close) = parts_of gs
+    parts_in _ = []
+
+    pub parts_of : Exps → List Part
+    parts_of NoExp = []
+    parts_of (MoreExp e gs) = parts Value e ++ parts_of gs
+
+abbrev pub parts_if : List Entry → Role → Option Exp → List Part
+parts_if es r None = []
+parts_if es r (Some e) = parts es r e
+
+-- an initializer of the last name of the scope s, whose storage is static where `fixed`
+abbrev pub parts_of_value : Bool → Scope → Exp → List Part
+parts_of_value fixed s e = Initializing fixed s e ∷ parts (seen s) Value e
+
+abbrev pub parts_of_values : Bool → Scope → Exps → List Part
+parts_of_values fixed s NoExp = []
+parts_of_values fixed s (MoreExp e gs) = parts_of_value fixed s e ++ parts_of_values fixed s gs
+
+abbrev pub parts_of_init : Bool → Scope → raw.Init → List Part
+parts_of_init fixed s raw.Absent = []
+parts_of_init fixed s (raw.One e) = parts_of_value fixed s e
+parts_of_init fixed s (raw.Many gs) = parts_of_values fixed s gs
+
+module _ (m : DataModel) (bodies : List (List ℕ)) where
+  abbrev pub parts_of_name : Bool → Scope → raw.Declared → List Part
+  parts_of_name fixed s d = parts_if (seen s) Value d.size ++ Declaring fixed s d ∷ parts_of_init fixed (after_name m bodies fixed s d) d.init
+
+  abbrev pub parts_of_names : Bool → Scope → List raw.Declared → List Part
+  parts_of_names fixed s [] = []
+  parts_of_names fixed s (d ∷ ds) = parts_of_name fixed s d ++ parts_of_names fixed (after_name m bodies fixed s d) ds
+
+  abbrev pub parts_of_first : Scope → raw.First → List Part
+  parts_of_first s raw.NoFirst = []
+  parts_of_first s (raw.FirstExp e) = parts (seen s) Effect e
+  parts_of_first s (raw.FirstDeclared ds) = parts_of_names false s ds
+
+  -- in a function of this result; `looped`: a loop is around the statement
+  module _ (result : Option IntType) where
+    abbrev mutual
+      pub parts_of_statement : Bool → Scope → raw.Stm → List Part
+      parts_of_statement looped s (raw.Stmt p f) = parts_of_form looped s p f
+
+      pub parts_of_form : Bool → Scope → Spot → raw.Form → List Part
+      parts_of_form looped s p (raw.Do e) = parts (seen s) Effect e
+      parts_of_form looped s p (raw.Declare ds) = parts_of_names false s ds
+      parts_of_form looped s p (raw.Block b) = parts_of_block looped (opened s) b
+      parts_of_form looped s p (raw.If e a b) =
+          parts (seen s) Value e ++ parts_of_statement looped (opened s) a ++ parts_of_else looped (closed s (after_statement m bodies (opened s) a)) b
+      parts_of_form looped s p (raw.While e a) = parts (seen s) Value e ++ parts_of_statement true (opened s) a
+      parts_of_form looped s p (raw.DoWhile a e) = parts_of_statement true (opened s) a ++ parts (seen s) Value e
+      parts_of_form looped s p (raw.For i e u a) =
+          parts_of_first (opened s) i ++ parts_if (seen (after_first m bodies (opened s) i)) Value e ++ parts_if (seen (after_first m bodies (opened s) i)) Effect u ++
+          parts_of_statement true (opened (after_first m bodies (opened s) i)) a
+      parts_of_form looped s p raw.Break = Leaving looped p ∷ []
+      parts_of_form looped s p raw.Continue = Leaving looped p ∷ []
+      parts_of_form looped s p (raw.Return e) = Returning result p (is_some e) ∷ parts_if (seen s) Value e
+      parts_of_form looped s p (raw.Label w a) = parts_of_statement looped (opened s) a
+      parts_of_form looped s p raw.Empty = []
+
+      pub parts_of_else : Bool → Scope → raw.Else → List Part
+      parts_of_else looped s raw.NoElse = []
+      parts_of_else looped s (raw.OrElse b) = parts_of_statement looped (opened s) b
+
+      pub parts_of_block : Bool → Scope → raw.Stms → List Part
+      parts_of_block looped s raw.NoStm = []
+      parts_of_block looped s (raw.MoreStm x b) = parts_of_statement looped s x ++ parts_of_block looped (after_statement m bodies s x) b
+
+-- the labels of a statement, in the order of the text
+pub record Label : Type 0 where
+  pub name : List ℕ
+  pub spot : Spot
+
+abbrev mutual
+  pub labels_of : raw.Stm → List Label
+  labels_of (raw.Stmt p f) = labels_in p f
+
+  pub labels_in : Spot → raw.Form → List Label
+  labels_in p (raw.Block b) = labels_of_block b
+  labels_in p (raw.If e a b) = labels_of a ++ labels_of_else b
+  labels_in p (raw.While e a) = labels_of a
+  labels_in p (raw.DoWhile a e) = labels_of a
+  labels_in p (raw.For i e u a) = labels_of a
+  labels_in p (raw.Label w a) = record { name = w; spot = p } ∷ labels_of a
+  labels_in p _ = []
+
+  pub labels_of_else : raw.Else → List Label
+  labels_of_else raw.NoElse = []
+  labels_of_else (raw.OrElse b) = labels_of b
+
+  pub labels_of_block : raw.Stms → List Label
+  labels_of_block raw.NoStm = []
+  labels_of_block (raw.MoreStm x b) = labels_of x ++ labels_of_block b
+
+abbrev pub parts_of_labels : List (List ℕ) → List Label → List Part
+parts_of_labels before [] = []
+parts_of_labels before (l ∷ ls) = Labelling before l.name l.spot ∷ parts_of_labels (before ++ l.name ∷ []) ls
+
+abbrev pub parts_of_parameters : Scope → List raw.Param → List Part
+parts_of_parameters s [] = []
+parts_of_parameters s (x ∷ xs) = Declaring false s (plain x) ∷ parts_of_parameters (with_object s (parameter x)) xs
+  where
+    -- a parameter is declared as an object without size and initializer is
+    plain : raw.Param → raw.Declared
+    plain x = record { spot = x.spot; name = x.name; ty = x.ty; size = None; init = raw.Absent }
+
+module _ (m : DataModel) (bodies : List (List ℕ)) where
+  -- what stands in a function's body
+  abbrev pub parts_of_body : Scope → List ℕ → Option IntType → List raw.Param → raw.Stm → List Part
+  parts_of_body s name result xs body = parts_of_block m bodies result false (after_parameters (inside s name result xs) xs) (statements_of body)
+
+  abbrev pub parts_of_item : Scope → raw.Item → List Part
+  parts_of_item s (raw.Function p name result xs body) =
+      Naming s (entry_of_function name result xs) p ∷ parts_of_parameters (inside s name result xs) xs ++ parts_of_body s name result xs body ++ parts_of_labels [] (labels_of body)
+  parts_of_item s (raw.Prototype p name result types) = Naming s (entry_of_prototype name result types) p ∷ []
+  parts_of_item s (raw.Global ds) = parts_of_names m bodies true s ds
+  parts_of_item s (raw.Closed p name) = []
+
+  abbrev pub parts_of_items : Scope → List raw.Item → List Part
+  parts_of_items s [] = []
+  parts_of_items s (x ∷ xs) = parts_of_item s x ++ parts_of_items (after_item m bodies s x) xs
+
+-- the names of the functions with a body, in the order of the source
+abbrev pub bodies_of : List raw.Item → List (List ℕ)
+bodies_of [] = []
+bodies_of (raw.Function p name result xs body ∷ items) = name ∷ bodies_of items
+bodies_of (item ∷ items) = bodies_of items
+
+-- every part of a source
+abbrev pub parts_of_source : DataModel → List raw.Item → List Part
+parts_of_source m items = parts_of_items m (bodies_of items) outermost items

@@ -1,0 +1,13 @@
+use Rattle.std.proofs.Common.{◌∙◌}
+use Rattle.std.specs.BTreeMap.{get_by}
+use Rattle.std.specs.Ordering.{nat_cmp}
+use Rattle.std.specs.Cmp.Lexicographic.{slice_cmp}
+use Rattle.std.proofs.Common.{ap, is_some}
+use Rattle.std.proofs.lemmas.Map.Text.{btree_map_updates_str}
+use Rattle.check_scope.proofs.BodyLaws.{name_put}
+use Rattle.check_scope.proofs.functions.add_closed.Goals as goal
+
+pub returns : goal.returns
+returns c = λ w.
+    ap is_some (btree_map_updates_str c.args.name.now c.args.closed.now c.insert.new.self _ c.in_ok-insert.ensures.updates w)
+    ∙ name_put c.args.name.now w (get_by (λ k. slice_cmp nat_cmp w k.now) c.args.closed.now)

@@ -1,0 +1,17 @@
+-- Words by their meanings.
+use Rattle.std.proofs.Common.{◌≡◌, ℕ, List, Option, Some, None, refl}
+use Rattle.std.specs.Option.{option_map}
+use Rattle.check_rules.specs.Names.{Kind, Object, Function, Closed, Entry}
+use Rattle.check_rules.specs.Codes.{names_nothing}
+use Rattle.check_scope.specs.Kinds.{meaning_of}
+use Rattle.check_types.specs.Words.{word_of, word_as, word_at}
+
+pub word_of_kind : (k : Option Kind) → word_of (option_map meaning_of k) ≡ word_as k
+word_of_kind None = refl
+word_of_kind (Some (Object n ty array fixed)) = refl
+word_of_kind (Some (Function result stated has_body)) = refl
+word_of_kind (Some Closed) = refl
+
+pub nameless_word : (es : List Entry) (x : Option (List ℕ)) → (word_at es x).is_nameless ≡ names_nothing es x
+nameless_word es None = refl
+nameless_word es (Some x) = refl

@@ -1,0 +1,12 @@
+pub mod Wider
+pub mod Matches
+pub mod Statements
+pub mod Listed
+pub mod Items
+pub mod Source
+pub mod Loops
+pub mod TypedEffects
+pub mod PartTests
+pub mod SameOrder
+pub mod SameUnordered
+pub mod SameTests

@@ -1,0 +1,5 @@
+pub mod Bodies
+pub mod Unordered
+pub mod PartEffects
+pub mod Agreement
+pub mod PartsFound

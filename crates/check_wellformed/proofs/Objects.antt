@@ -1,0 +1,64 @@
+-- Each object fits, and all together have at most so many cells.
+use Rattle.std.proofs.Common.{◌≡◌, ℕ, ◌+◌, ◌≤◌, Bool, true, false, cond, ◌&&◌, ℤ, pos, negsuc, List, [], ◌∷◌, ◌++◌, refl, subst, Option, Some, None, is_some, nat_eq, nat_le, arith}
+use Rattle.std.proofs.lemmas.Bool.Decides.{nat_tests}
+use Rattle.std.proofs.lemmas.List.Sums.{sum_by_push}
+use Rattle.std.specs.List.{list_all}
+use Rattle.c_core.specs.Program.{object_fits, most_declared_cells}
+use Rattle.c_core.specs.declared.number.DataModel.{DataModel}
+use Rattle.c_core.specs.declared.tree.Object.{Object}
+use Rattle.c_parser.specs.Tree as raw
+use Rattle.check_rules.specs.Names.{Entry}
+use Rattle.check_rules.specs.Constants.{constant}
+use Rattle.check_rules.specs.Typed.{typed}
+use Rattle.check_rules.specs.Scopes.{seen, as_size, cells_or_one, cells_of, object_of}
+use Rattle.check_rules.specs.Parts.{Part, Expression, Declaring, Naming, Initializing, Returning, Leaving, Labelling, bodies_of}
+use Rattle.check_rules.specs.Codes.{cells_in, passes_limit}
+use Rattle.check_wellformed.proofs.Lists.{AllOf, both, append-nil, append-assoc}
+use Rattle.check_wellformed.proofs.Fair.{IsFair}
+use Rattle.check_wellformed.proofs.Threads.{declared, AreBehind}
+
+bound_holds : (b c : Bool) (n : ℕ) → nat_le 1 n ≡ b → nat_le 1 (cells_or_one (cond (b && c) (Some n) None)) ≡ true
+bound_holds true true n e = e
+bound_holds true false n e = refl
+bound_holds false c n e = refl
+
+a_cell : (v : Option ℤ) → nat_le 1 (cells_or_one (as_size v)) ≡ true
+a_cell None = refl
+a_cell (Some (pos n)) = bound_holds (nat_le 1 n) (nat_le n 256) n refl
+a_cell (Some (negsuc n)) = refl
+
+module _ (m : DataModel) (bodies : List (List ℕ)) where
+  cells_fit_size : (es : List Entry) (size : Option raw.Exp) → cond (is_some size) (nat_le 1 (cells_of m bodies es size)) (nat_eq (cells_of m bodies es size) 1) ≡ true
+  cells_fit_size es None = refl
+  cells_fit_size es (Some e) = a_cell (constant m (typed m bodies es e))
+
+  pub declared_fit : (ps : List Part) → list_all object_fits (declared m bodies ps) ≡ true
+  declared_fit [] = refl
+  declared_fit (Declaring fixed s d ∷ ps) = both (cells_fit_size (seen s) d.size) (declared_fit ps)
+  declared_fit (Expression es' r e ∷ ps) = declared_fit ps
+  declared_fit (Naming s e p ∷ ps) = declared_fit ps
+  declared_fit (Initializing fixed s e ∷ ps) = declared_fit ps
+  declared_fit (Returning result p given ∷ ps) = declared_fit ps
+  declared_fit (Leaving looped p ∷ ps) = declared_fit ps
+  declared_fit (Labelling before w p ∷ ps) = declared_fit ps
+
+within_limit : (before cells : ℕ) → before ≤ most_declared_cells → passes_limit before cells ≡ false → before + cells ≤ most_declared_cells
+within_limit before cells h p = grind (arith, nat_tests)
+
+module _ (m : DataModel) (items : List raw.Item) where
+  one_more : (os : List Object) (o : Object) → cells_in os ≤ most_declared_cells → passes_limit (cells_in os) o.cells ≡ false → cells_in (os ++ o ∷ []) ≤ most_declared_cells
+  one_more os o h p = rw (sum_by_push (λ (x : Object). x.cells) os o) (within_limit (cells_in os) o.cells h p)
+
+  pub cells_below : (os : List Object) (ps : List Part) → AllOf (IsFair m items) ps → AreBehind m (bodies_of items) os ps → cells_in os ≤ most_declared_cells → cells_in (os ++ declared m (bodies_of items) ps) ≤ most_declared_cells
+  cells_below os [] f h k = rw (append-nil os) k
+  cells_below os (Declaring fixed s d ∷ ps) f h k =
+      let o = object_of m (bodies_of items) fixed (seen s) d in
+      let p : passes_limit (cells_in os) o.cells ≡ false = subst (λ l. passes_limit (cells_in l) o.cells ≡ false) h.0 f.0.fits in
+      subst (λ l. cells_in l ≤ most_declared_cells) (append-assoc os (o ∷ []) (declared m (bodies_of items) ps))
+      (cells_below (os ++ o ∷ []) ps f.1 h.1 (one_more os o k p))
+  cells_below os (Expression es' r e ∷ ps) f h k = cells_below os ps f.1 (subst (λ l. AreBehind m (bodies_of items) l ps) (append-nil os) h.1) k
+  cells_below os (Naming s e p ∷ ps) f h k = cells_below os ps f.1 (subst (λ l. AreBehind m (bodies_of items) l ps) (append-nil os) h.1) k
+  cells_below os (Initializing fixed s e ∷ ps) f h k = cells_below os ps f.1 (subst (λ l. AreBehind m (bodies_of items) l ps) (append-nil os) h.1) k
+  cells_below os (Returning result p given ∷ ps) f h k = cells_below os ps f.1 (subst (λ l. AreBehind m (bodies_of items) l ps) (append-nil os) h.1) k
+  cells_below os (Leaving looped p ∷ ps) f h k = cells_below os ps f.1 (subst (λ l. AreBehind m (bodies_of items) l ps) (append-nil os) h.1) k
+  cells_below os (Labelling before w p ∷ ps) f h k = cells_below os ps f.1 (subst (λ l. AreBehind m (bodies_of items) l ps) (append-nil os) h.1) k

@@ -1,0 +1,133 @@
+-- Initializers of static storage fit their objects, and no object has two.
+use Rattle.std.proofs.Common.{◌≡◌, ℕ, suc, ◌+◌, ◌<◌, ◌≤◌, Bool, true, false, not, List, [], ◌∷◌, ◌++◌, length, refl, sym, ap, ◌∙◌, Option, Some, None, is_some, arith, length-append, nat_eq, nat_le, add-one}
+use Rattle.std.proofs.lemmas.Bool.{false≢true}
+use Rattle.std.proofs.lemmas.Bool.Decides.{nat_tests}
+use Rattle.std.specs.List.{slice_get, list_all}
+use Rattle.c_core.specs.Types.{in_range}
+use Rattle.c_core.specs.Tree as t
+use Rattle.c_core.specs.Scope.{is_in}
+use Rattle.c_core.specs.Program.{start_fits, started_objects, are_distinct}
+use Rattle.c_core.proofs.Fits.{fit_in_range}
+use Rattle.c_core.specs.declared.number.IntType.{IntType}
+use Rattle.c_core.specs.declared.number.DataModel.{DataModel}
+use Rattle.c_core.specs.declared.tree.Object.{Object}
+use Rattle.c_core.specs.declared.tree.Start.{Start}
+use Rattle.c_parser.specs.Tree as raw
+use Rattle.c_parser.specs.Tree.{Exp, Expr, Exps, NoExp, MoreExp}
+use Rattle.check_rules.specs.Names.{Entry}
+use Rattle.check_rules.specs.Scopes.{Scope, seen, cells_of, object_of, after_name, after_names, after_item, after_items}
+use Rattle.check_rules.specs.Parts.{Value, Part, parts_if, parts_of_name, parts_of_names, parts_of_item, parts_of_items, bodies_of}
+use Rattle.check_rules.specs.Codes.{count, is_wrong_init, is_wrong_size}
+use Rattle.check_rules.specs.Checked.{start_values, start_of_init, starts_of_names, starts_of}
+use Rattle.check_wellformed.proofs.Lists.{AllOf, both, all_front, all_behind}
+use Rattle.check_wellformed.proofs.Threads.{declared, Leads, item_leads}
+use Rattle.check_wellformed.proofs.Good.{IsGood}
+use Rattle.check_wellformed.proofs.TypedStatements.{all_pass_then, size_right}
+
+module _ (p : t.Program) (items : List raw.Item) (entries : List Entry) where
+  abbrev Goods : List Part → Type 0
+  Goods ps = AllOf (IsGood p items entries) ps
+
+  abbrev Fits : Start → Bool
+  Fits s = start_fits p.model s (slice_get p.objects s.object)
+
+  value_count : (es : List Entry) (ty : IntType) (gs : Exps) → length (start_values p.model (bodies_of items) es ty gs) ≡ count gs
+  value_count es ty NoExp = refl
+  value_count es ty (MoreExp e gs) = ap (λ n. suc n) (value_count es ty gs) ∙ sym (add-one (count gs))
+
+  values_in_range : (es : List Entry) (ty : IntType) (gs : Exps) → list_all (in_range p.model ty) (start_values p.model (bodies_of items) es ty gs) ≡ true
+  values_in_range es ty NoExp = refl
+  values_in_range es ty (MoreExp e gs) = both (fit_in_range p.model ty _) (values_in_range es ty gs)
+
+  a_cell : (es : List Entry) (size : Option Exp) → is_some size ≡ false → nat_le 1 (cells_of p.model (bodies_of items) es size) ≡ true
+  a_cell es None h = refl
+  a_cell es (Some e) h = absurd (false≢true (sym h))
+
+  init_fits : (s : Scope) (es : List Entry) (d : raw.Declared) (i : raw.Init) → slice_get p.objects (length s.objects) ≡ Some (object_of p.model (bodies_of items) true (seen s) d) → is_wrong_init d.size i ≡ false → is_wrong_size p.model items (seen s) d.size i ≡ false → list_all Fits (start_of_init p.model (bodies_of items) es (length s.objects) d.ty i) ≡ true
+  init_fits s es d raw.Absent e h k = refl
+  init_fits s es d (raw.One v) e h k = rw e (both (both (a_cell (seen s) d.size h) (both (fit_in_range p.model d.ty _) refl)) refl)
+  init_fits s es d (raw.Many gs) e h k =
+      let fits : nat_le (length (start_values p.model (bodies_of items) es d.ty gs)) (cells_of p.model (bodies_of items) (seen s) d.size) ≡ true = rw (value_count es d.ty gs) (size_right p items entries (seen s) d.size gs h k) in
+      rw e (both (both fits (values_in_range es d.ty gs)) refl)
+
+  names_fit : (s : Scope) (ds : List raw.Declared) → Goods (parts_of_names p.model (bodies_of items) true s ds) → list_all Fits (starts_of_names p.model (bodies_of items) s ds) ≡ true
+  names_fit s [] g = refl
+  names_fit s (d ∷ ds) g =
+      let s' = after_name p.model (bodies_of items) true s d in
+      let pd = parts_of_name p.model (bodies_of items) true s d in
+      let here = all_behind (IsGood p items entries) (parts_if (seen s) Value d.size) _ (all_front (IsGood p items entries) pd _ g) in
+      all_pass_then Fits (start_of_init p.model (bodies_of items) (seen s') (length s.objects) d.ty d.init) _
+      (init_fits s (seen s') d d.init here.0.placed here.0.fair.typed here.0.fair.sized) (names_fit s' ds (all_behind (IsGood p items entries) pd _ g))
+
+  pub starts_are : (s : Scope) (xs : List raw.Item) → Goods (parts_of_items p.model (bodies_of items) s xs) → list_all Fits (starts_of p.model (bodies_of items) s xs) ≡ true
+  starts_are s [] g = refl
+  starts_are s (raw.Global ds ∷ xs) g =
+      let px = parts_of_names p.model (bodies_of items) true s ds in
+      all_pass_then Fits (starts_of_names p.model (bodies_of items) s ds) _ (names_fit s ds (all_front (IsGood p items entries) px _ g))
+      (starts_are (after_item p.model (bodies_of items) s (raw.Global ds)) xs (all_behind (IsGood p items entries) px _ g))
+  starts_are s (raw.Function q name result ys body ∷ xs) g =
+      let x = raw.Function q name result ys body in
+      starts_are (after_item p.model (bodies_of items) s x) xs (all_behind (IsGood p items entries) (parts_of_item p.model (bodies_of items) s x) _ g)
+  starts_are s (raw.Prototype q name result types ∷ xs) g = starts_are (after_item p.model (bodies_of items) s (raw.Prototype q name result types)) xs g.1
+  starts_are s (raw.Closed q name ∷ xs) g = starts_are (after_item p.model (bodies_of items) s (raw.Closed q name)) xs g
+
+-- ---- the objects that are started rise
+
+-- from n on and below b
+abbrev pub IsRising : ℕ → List Start → ℕ → Type 0
+IsRising n [] b = n ≤ b
+IsRising n (s ∷ ss) b = (n ≤ s.object) × IsRising (s.object + 1) ss b
+
+from_lower : (k n b : ℕ) (ss : List Start) → k ≤ n → IsRising n ss b → IsRising k ss b
+from_lower k n b [] h r = omega arith
+from_lower k n b (s ∷ ss) h r = (omega arith, r.1)
+
+rising_then : (n b c : ℕ) (ss us : List Start) → IsRising n ss b → IsRising b us c → IsRising n (ss ++ us) c
+rising_then n b c [] us r q = from_lower n b c us r q
+rising_then n b c (s ∷ ss) us r q = (r.0, rising_then (s.object + 1) b c ss us r.1 q)
+
+unlike : (o n : ℕ) → o < n → nat_eq o n ≡ false
+unlike o n h = grind (arith, nat_tests)
+
+not_among : (o n b : ℕ) (ss : List Start) → o < n → IsRising n ss b → is_in o (started_objects ss) ≡ false
+not_among o n b [] h r = refl
+not_among o n b (s ∷ ss) h r = rw (unlike o s.object (omega arith)) (not_among o (s.object + 1) b ss (omega arith) r.1)
+
+pub distinct : (n b : ℕ) (ss : List Start) → IsRising n ss b → are_distinct (started_objects ss) ≡ true
+distinct n b [] r = refl
+distinct n b (s ∷ ss) r = both (ap not (not_among s.object (s.object + 1) b ss (omega arith) r.1)) (distinct (s.object + 1) b ss r.1)
+
+module _ (m : DataModel) (bodies : List (List ℕ)) where
+  next_number : (os : List Object) (o : Object) → length (os ++ o ∷ []) ≡ length os + 1
+  next_number os o = length-append os (o ∷ [])
+
+  init_rises : (es : List Entry) (n k : ℕ) (ty : IntType) (i : raw.Init) → k ≡ n + 1 → IsRising n (start_of_init m bodies es n ty i) k
+  init_rises es n k ty raw.Absent e = omega arith
+  init_rises es n k ty (raw.One v) e = (omega arith, omega arith)
+  init_rises es n k ty (raw.Many gs) e = (omega arith, omega arith)
+
+  names_rise : (s : Scope) (ds : List raw.Declared) → IsRising (length s.objects) (starts_of_names m bodies s ds) (length (after_names m bodies true s ds).objects)
+  names_rise s [] = omega arith
+  names_rise s (d ∷ ds) =
+      let s' = after_name m bodies true s d in
+      rising_then (length s.objects) (length s'.objects) _ (start_of_init m bodies (seen s') (length s.objects) d.ty d.init) _
+      (init_rises (seen s') (length s.objects) (length s'.objects) d.ty d.init (next_number s.objects (object_of m bodies true (seen s) d))) (names_rise s' ds)
+
+  grown : (a b : List Object) (ps : List Part) → Leads m bodies a b ps → length a ≤ length b
+  grown a b ps l = let e = ap length l.are ∙ length-append a (declared m bodies ps) in omega arith
+
+  -- how many objects there are in the end
+  abbrev pub last : Scope → List raw.Item → ℕ
+  last s xs = length (after_items m bodies s xs).objects
+
+  pub starts_rise : (s : Scope) (xs : List raw.Item) → IsRising (length s.objects) (starts_of m bodies s xs) (last s xs)
+  starts_rise s [] = omega arith
+  starts_rise s (raw.Global ds ∷ xs) =
+      let s' = after_item m bodies s (raw.Global ds) in
+      rising_then (length s.objects) (length s'.objects) (last s' xs) (starts_of_names m bodies s ds) (starts_of m bodies s' xs) (names_rise s ds) (starts_rise s' xs)
+  starts_rise s (raw.Function q name result ys body ∷ xs) =
+      let x = raw.Function q name result ys body in
+      let s' = after_item m bodies s x in
+      from_lower (length s.objects) (length s'.objects) (last s' xs) (starts_of m bodies s' xs) (grown s.objects s'.objects (parts_of_item m bodies s x) (item_leads m bodies s x)) (starts_rise s' xs)
+  starts_rise s (raw.Prototype q name result types ∷ xs) = starts_rise (after_item m bodies s (raw.Prototype q name result types)) xs
+  starts_rise s (raw.Closed q name ∷ xs) = starts_rise (after_item m bodies s (raw.Closed q name)) xs

@@ -1,0 +1,11 @@
+use Rattle.std.proofs.Common.{◌≡◌, ap, sym, ◌∙◌}
+use Rattle.c_core.specs.Tree.{Block}
+use Rattle.c_core.specs.TreeView.{form_view, stmts_view}
+use Rattle.c_core.specs.Places.{before_in, before_in_form}
+use Rattle.c_core.proofs.View.{view_of_block}
+use Rattle.way_places.proofs.before.before_in_form.Goals as goal
+
+pub returns-in-Block : goal.returns-in-Block
+returns-in-Block c =
+    let e : form_view c.args.form.now ≡ Block (stmts_view c.in-Block.body) = ap form_view c.in-Block.is ∙ view_of_block c.in-Block.body in
+    c.directly_before.ensures ∙ ap (λ ss. before_in c.args.spot (stmts_view ss)) c.as_slice.ensures ∙ sym (ap (λ f. before_in_form c.args.spot f) e)

@@ -1,0 +1,10 @@
+use Rattle.std.proofs.Common.{◌≡◌, ◌++◌, drop}
+use Rattle.c_core.specs.TreeView.{stmts_view}
+use Rattle.way_places.specs.Calls.{alone, fulls_view}
+use Rattle.way_places.specs.Sought.{each_in_block}
+use Rattle.way_places.proofs.fulls.+statement.Given as goal
+
+-- with what is left it becomes what the whole gives
+abbrev pub invariant-push_block-loop-s : goal.invariant-push_block-loop-s
+invariant-push_block-loop-s l =
+    (fulls_view l.list.items ++ each_in_block alone (stmts_view (drop l.s-index l.body)) ≡ fulls_view l.initial.list.items ++ each_in_block alone (stmts_view l.body))

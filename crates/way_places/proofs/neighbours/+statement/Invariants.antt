@@ -1,0 +1,10 @@
+use Rattle.std.proofs.Common.{◌≡◌, ◌++◌, drop}
+use Rattle.c_core.specs.TreeView.{stmts_view}
+use Rattle.c_core.specs.Parts.{statements_of_block}
+use Rattle.way_places.specs.Neighbours.{among, pairs_view}
+use Rattle.way_places.proofs.neighbours.+statement.Given as goal
+
+-- with what is left it becomes what the whole gives
+abbrev pub invariant-push_block-loop-s : goal.invariant-push_block-loop-s
+invariant-push_block-loop-s l =
+    (pairs_view l.list.items ++ among (statements_of_block (stmts_view (drop l.s-index l.body))) ≡ pairs_view l.initial.list.items ++ among (statements_of_block (stmts_view l.body)))

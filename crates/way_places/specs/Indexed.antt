@@ -1,0 +1,36 @@
+-- Maps that give what walks over a program find.
+use Rattle.std.specs.Prelude.{◌≡◌, ℕ, Option, is_some}
+use Rattle.std.specs.BTreeMap.{BTreeMap}
+use Rattle.std.specs.Option.{option_copied, option_map}
+use denote.Ref.{Bor}
+use Rattle.c_core.specs.Tree.{Program}
+use Rattle.c_core.specs.Places.{aim_fits, call_at, place_at, stmt_before}
+use Rattle.c_core.specs.View.{expr_view_if, stmt_view}
+use Rattle.c_core.specs.declared.number.Spot.{Spot}
+use Rattle.c_core.specs.declared.place.PlaceKind.{PlaceKind}
+use Rattle.c_core.specs.declared.place.PlaceKind.TheVariants as place
+use Rattle.c_core.specs.declared.tree.Expr.{Expr}
+use Rattle.c_core.specs.declared.tree.Stmt.{Stmt}
+use Rattle.way_places.specs.Maps.{found_at, named_in}
+
+-- the map of the places of a kind
+abbrev pub GivesPlaces : Program → PlaceKind → BTreeMap (ℕ × Option ℕ) Spot → Type 0
+GivesPlaces p kind spots = (line : ℕ) (column : Option ℕ) → named_in spots line column ≡ place_at p kind line column
+
+abbrev pub GivesAims : Program → BTreeMap (ℕ × Option ℕ) Spot → Type 0
+GivesAims p spots = (line : ℕ) (column : Option ℕ) → is_some (named_in spots line column) ≡ aim_fits p line column
+
+abbrev pub GivesCalls : Program → BTreeMap (ℕ × ℕ) (Bor Expr) → Type 0
+GivesCalls p calls = (close : Spot) → expr_view_if (option_copied (found_at calls close)) ≡ call_at p close
+
+abbrev pub GivesBefores : Program → BTreeMap (ℕ × ℕ) (Bor Stmt) → Type 0
+GivesBefores p befores = (spot : Spot) → option_map stmt_view (option_copied (found_at befores spot)) ≡ stmt_before p spot
+
+pub record IsIndex (p : Program) (s l b e a : BTreeMap (ℕ × Option ℕ) Spot) (c : BTreeMap (ℕ × ℕ) (Bor Expr)) (d : BTreeMap (ℕ × ℕ) (Bor Stmt)) : Type 0 where
+  pub statements : GivesPlaces p place.Statement s
+  pub loops : GivesPlaces p place.Loop l
+  pub branches : GivesPlaces p place.Branch b
+  pub call_ends : GivesPlaces p place.CallEnd e
+  pub aims : GivesAims p a
+  pub calls : GivesCalls p c
+  pub befores : GivesBefores p d

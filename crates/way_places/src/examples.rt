@@ -1,0 +1,6 @@
+// Worked programs, and the names that are visible at their places.
+ghost use Rattle.way_places.specs.WorkedNames.{WorkedNames};
+
+fn worked_names()
+    ensures { WorkedNames }
+{}

@@ -1,0 +1,20 @@
+use Rattle.std.proofs.Common.{refl}
+use Rattle.clap.proofs.OnLiterals.{clap_on_literals}
+use Rattle.wv_arguments.specs.Examples.{ReadsModes, RefusesWords}
+
+pub reads_modes : ReadsModes
+unfolding clap_on_literals
+reads_modes = record { validates = refl; shows = refl; makes = refl }
+
+pub refuses_words : RefusesWords
+unfolding clap_on_literals
+refuses_words = record {
+  no_words = refl;
+  help = refl;
+  version = refl;
+  unknown = refl;
+  no_steps = refl;
+  twice = refl;
+  no_mode = refl;
+  no_program = refl;
+}

@@ -1,0 +1,37 @@
+-- Command lines of which what they ask for is computed.
+use Rattle.std.specs.Prelude.{◌≡◌, List, [], ◌∷◌, true, false, Some, None, codes}
+use Rattle.clap.specs.Words.{Text}
+use Rattle.wv_arguments.specs.Words.{Asked, Validate, Show, Demo, asked_by}
+
+abbrev pub validating : List Text
+validating = codes "witval" ∷ codes "validate" ∷ codes "--program" ∷ codes "p" ∷ codes "--property=q" ∷ codes "--witness" ∷ codes "w" ∷ []
+
+abbrev pub showing : List Text
+showing = codes "witval" ∷ codes "--json" ∷ codes "show" ∷ codes "--witness" ∷ codes "w" ∷ codes "--number" ∷ codes "+7" ∷ []
+
+abbrev pub making : List Text
+making = codes "witval" ∷ codes "demo" ∷ codes "--number" ∷ codes "7" ∷ codes "--steps" ∷ codes "11" ∷ []
+
+-- one mode with each kind of option
+pub record ReadsModes : Type 0 where
+  pub validates : asked_by validating ≡ record {
+    wanted = Some (Validate (record { program = codes "p"; property = codes "q"; witness = codes "w" }) (record { steps = 10000000; conflicts = 100000 }));
+    json = false;
+  }
+  pub shows : asked_by showing ≡ record { wanted = Some (Show (codes "w")); json = true }
+  pub makes : asked_by making ≡ record { wanted = Some (Demo 7 (record { steps = 11; conflicts = 100000 })); json = false }
+
+abbrev pub IsMisused : List Text → Type 0
+IsMisused words = asked_by words ≡ record { wanted = None; json = false }
+
+-- words for which clap has a fault: none, help and version, an unknown option, a number beyond its range, a flag given twice
+pub record RefusesWords : Type 0 where
+  pub no_words : IsMisused []
+  pub help : IsMisused (codes "witval" ∷ codes "--help" ∷ [])
+  pub version : IsMisused (codes "witval" ∷ codes "--version" ∷ [])
+  pub unknown : IsMisused (codes "witval" ∷ codes "show" ∷ codes "--wit" ∷ codes "w" ∷ [])
+  pub no_steps : IsMisused (codes "witval" ∷ codes "show" ∷ codes "--witness" ∷ codes "w" ∷ codes "--steps" ∷ codes "0" ∷ [])
+  pub twice : IsMisused (codes "witval" ∷ codes "show" ∷ codes "--json" ∷ codes "--json" ∷ [])
+  -- words that clap takes, but with a mode that isn't there, or without what the mode needs
+  pub no_mode : asked_by (codes "witval" ∷ codes "judge" ∷ codes "--json" ∷ []) ≡ record { wanted = None; json = true }
+  pub no_program : asked_by (codes "witval" ∷ codes "validate" ∷ codes "--json" ∷ []) ≡ record { wanted = None; json = true }

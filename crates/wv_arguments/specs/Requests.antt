@@ -1,0 +1,23 @@
+-- What requests, names and budgets stand for.
+use Rattle.std.specs.Prelude.{Option, option_map}
+use Rattle.wv_arguments.specs.Words.{Command, Budgets as Limits, Wanted, Asked as Stated, Validate, Show, Normalise, Demo}
+use Rattle.wv_arguments.specs.declared.request.Names.{Names}
+use Rattle.wv_arguments.specs.declared.request.Budgets.{Budgets}
+use Rattle.wv_arguments.specs.declared.request.Request.{Request}
+use Rattle.wv_arguments.specs.declared.request.Request.TheVariants as request
+use Rattle.wv_arguments.specs.declared.request.Asked.{Asked}
+
+abbrev pub named : Names → Command
+named names = record { program = names.program.now; property = names.property.now; witness = names.witness.now }
+
+abbrev pub limits : Budgets → Limits
+limits budgets = record { steps = budgets.steps; conflicts = budgets.conflicts }
+
+abbrev pub wanted : Request → Wanted
+wanted (request.Validate names budgets) = Validate (named names) (limits budgets)
+wanted (request.Show name) = Show name.now
+wanted (request.Normalise name) = Normalise name.now
+wanted (request.Demo number budgets) = Demo number (limits budgets)
+
+abbrev pub stated : Asked → Stated
+stated asked = record { wanted = option_map wanted asked.request; json = asked.json }

@@ -1,0 +1,99 @@
+-- What the words of a command line ask for.
+use Rattle.std.specs.Prelude.{ℕ, List, [], ◌∷◌, Bool, false, Option, Some, None, unwrap_or, bytes_eq, codes, if◌then◌else◌}
+use Rattle.std.specs.Option.{option_map_or}
+use Rattle.std.specs.Str.Parse.{digits_value, without_leading_plus}
+use Rattle.clap.specs.Words.{Row, Text, fault_of, first_of, matches_of, one_of}
+use Rattle.clap.specs.Kinds.{Kinds}
+use Rattle.clap.specs.ValueTests.{accepts}
+use Rattle.clap.specs.declared.builder.value_parser.ValueParser.TheVariants.{Unsigned}
+use Rattle.wv_arguments.specs.Arguments.{command, most_steps, most_conflicts, most_number}
+
+-- the names of the three files that are judged
+pub record Command : Type 0 where
+  pub program : Text
+  pub property : Text
+  pub witness : Text
+
+-- the most steps of a run, and the most clauses that the solver derives for an obligation
+pub record Budgets : Type 0 where
+  pub steps : ℕ
+  pub conflicts : ℕ
+
+-- a verdict; a summary of a witness by its name; its canonical form; a made program and its verdicts, by a number
+pub data Wanted : Type 0 where
+  Validate : Command → Budgets → Wanted
+  Show : Text → Wanted
+  Normalise : Text → Wanted
+  Demo : ℕ → Budgets → Wanted
+
+-- what is asked for, where the words ask for something, and whether reports are JSON
+pub record Asked : Type 0 where
+  pub wanted : Option Wanted
+  pub json : Bool
+
+-- the number that a text writes, between two others
+abbrev pub number_in : ℕ → ℕ → Option Text → Option ℕ
+number_in least most None = None
+number_in least most (Some text) = if accepts false (Unsigned least most) text then Some (digits_value 10 (without_leading_plus text)) else None
+
+abbrev pub budgets_of : Option ℕ → Option ℕ → Option Budgets
+budgets_of (Some steps) (Some conflicts) = Some (record { steps = steps; conflicts = conflicts })
+budgets_of _ _ = None
+
+abbrev pub command_of : Option Text → Option Text → Option Text → Option Command
+command_of (Some program) (Some property) (Some witness) = Some (record { program = program; property = property; witness = witness })
+command_of _ _ _ = None
+
+-- a mode with what it needs
+abbrev pub validate_of : Option Command → Option Budgets → Option Wanted
+validate_of (Some command) (Some budgets) = Some (Validate command budgets)
+validate_of _ _ = None
+
+abbrev pub show_of : Option Text → Option Wanted
+show_of (Some witness) = Some (Show witness)
+show_of None = None
+
+abbrev pub normalise_of : Option Text → Option Wanted
+normalise_of (Some witness) = Some (Normalise witness)
+normalise_of None = None
+
+abbrev pub demo_of : Option ℕ → Option Budgets → Option Wanted
+demo_of (Some number) (Some budgets) = Some (Demo number budgets)
+demo_of _ _ = None
+
+-- what clap's matches give
+abbrev pub mode_in : List Row → Text
+mode_in rows = unwrap_or (first_of (codes "mode") rows) []
+
+abbrev pub command_in : List Row → Option Command
+command_in rows = command_of (first_of (codes "program") rows) (first_of (codes "property") rows) (first_of (codes "witness") rows)
+
+abbrev pub budgets_in : List Row → Option Budgets
+budgets_in rows = budgets_of (number_in 1 most_steps (one_of (codes "steps") rows)) (number_in 1 most_conflicts (one_of (codes "conflicts") rows))
+
+abbrev pub made_number : List Row → Option ℕ
+made_number rows = number_in 0 most_number (one_of (codes "number") rows)
+
+-- the table of modes
+abbrev pub wanted_as : Text → List Row → Option Wanted
+wanted_as mode rows =
+    if bytes_eq mode (codes "validate") then validate_of (command_in rows) (budgets_in rows)
+    else (if bytes_eq mode (codes "show") then show_of (first_of (codes "witness") rows)
+    else (if bytes_eq mode (codes "normalise") then normalise_of (first_of (codes "witness") rows)
+    else (if bytes_eq mode (codes "demo") then demo_of (made_number rows) (budgets_in rows)
+    else None)))
+
+abbrev pub is_set : Option Text → Bool
+is_set text = option_map_or (λ t. bytes_eq t (codes "true")) text false
+
+abbrev pub asked_in : List Row → Asked
+asked_in rows = record { wanted = wanted_as (mode_in rows) rows; json = is_set (first_of (codes "json") rows) }
+
+-- by the kinds of clap's faults: where there is none the matches decide, and otherwise nothing is asked for
+abbrev pub asked_of : Kinds → List Row → Asked
+asked_of [] rows = asked_in rows
+asked_of (kind ∷ kinds) rows = record { wanted = None; json = false }
+
+-- what the words ask for, the program's own name being the first
+abbrev pub asked_by : List Text → Asked
+asked_by words = asked_of (fault_of command words) (matches_of command words)

@@ -1,0 +1,65 @@
+// The command line as `clap` takes it.
+ghost use Rattle.std.specs.Prelude.{◌≡◌, IfOk, false};
+ghost use Rattle.clap.specs.Words.{app_of, rule_of, with_rule};
+ghost use Rattle.wv_arguments.specs.Arguments as arguments;
+
+use clap::builder::ValueParser;
+use clap::{Arg, ArgAction, Command};
+use std::alloc::{AllocError, Global};
+
+pub const MOST_STEPS: u64 = 100_000_000;
+
+pub const MOST_CONFLICTS: u64 = 1_000_000;
+
+pub const MOST_NUMBER: u64 = 999_999;
+
+fn mode<'a>(alloc: Global) -> Arg<'a>
+    ensures rule { rule_of result ≡ arguments.mode }
+    ensures local { result.global ≡ false }
+{
+    Arg::new(alloc, "mode").required(true)
+}
+
+fn option<'a>(alloc: Global, name: &'a str) -> Arg<'a>
+    ensures rule { rule_of result ≡ arguments.option name.entry.now }
+    ensures local { result.global ≡ false }
+{
+    Arg::new(alloc, name).long(name)
+}
+
+fn number<'a>(alloc: Global, name: &'a str, least: u64, most: u64) -> Arg<'a>
+    ensures rule { rule_of result ≡ arguments.number name.entry.now least most }
+    ensures local { result.global ≡ false }
+{
+    option(alloc, name).value_parser(ValueParser::unsigned(least, most))
+}
+
+fn number_or<'a>(alloc: Global, name: &'a str, least: u64, most: u64, default: &'a str) -> Arg<'a>
+    ensures rule { rule_of result ≡ arguments.number_or name.entry.now least most default.entry.now }
+    ensures local { result.global ≡ false }
+{
+    number(alloc, name, least, most).default_value(default)
+}
+
+fn flag<'a>(alloc: Global, name: &'a str) -> Arg<'a>
+    ensures rule { rule_of result ≡ arguments.flag name.entry.now }
+    ensures local { result.global ≡ false }
+{
+    option(alloc, name).action(ArgAction::SetTrue)
+}
+
+/// The whole command.
+pub fn command<'a>(alloc: Global) -> Result<Command<'a>, AllocError>
+    ensures { IfOk result (λ command. app_of command ≡ arguments.command) }
+{
+    let command = Command::new(alloc, "witval")
+        .arg(mode(alloc))?
+        .arg(option(alloc, "program"))?
+        .arg(option(alloc, "property"))?
+        .arg(option(alloc, "witness"))?
+        .arg(number_or(alloc, "steps", 1, MOST_STEPS, "10000000"))?
+        .arg(number_or(alloc, "conflicts", 1, MOST_CONFLICTS, "100000"))?
+        .arg(number(alloc, "number", 0, MOST_NUMBER))?
+        .arg(flag(alloc, "json"))?;
+    Ok(command)
+}

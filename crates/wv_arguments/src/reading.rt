@@ -1,0 +1,122 @@
+// What the matches of the command say.
+ghost use Rattle.std.specs.Prelude.{◌≡◌, IfOk, map, option_map, string_bytes};
+ghost use Rattle.clap.specs.Words.{first_of, found_of, one_of, rows_of};
+ghost use Rattle.wv_arguments.specs.Requests.{limits, named, stated, wanted};
+ghost use Rattle.wv_arguments.specs.Words.{asked_by, asked_in, budgets_in, command_in, is_set, mode_in, number_in, wanted_as, validate_of, demo_of, made_number};
+
+use crate::command::{MOST_CONFLICTS, MOST_NUMBER, MOST_STEPS, command};
+use crate::request::{Asked, Budgets, Names, Request};
+use clap::ArgMatches;
+use clap::error::ErrorKind;
+use std::alloc::Global;
+use wv_base::OutOfMemory;
+
+fn text<'a>(matches: &ArgMatches<'a>, id: &str) -> Option<&'a str>
+    ensures { option_map (λ s. s.now) result ≡ first_of id.now (rows_of (found_of matches.now)) }
+{
+    matches.get_str(id)
+}
+
+fn mode<'a>(matches: &ArgMatches<'a>) -> &'a str
+    ensures { result.now ≡ mode_in (rows_of (found_of matches.now)) }
+{
+    match text(matches, "mode") {
+        Some(mode) => mode,
+        None => "",
+    }
+}
+
+/// A number, where it is given and lies between two others.
+fn number(matches: &ArgMatches<'_>, id: &str, least: u64, most: u64) -> Option<u64>
+    ensures { result ≡ number_in least most (one_of id.now (rows_of (found_of matches.now))) }
+{
+    match matches.get_one::<u64>(id) {
+        Some(number) if least <= number && number <= most => Some(number),
+        _ => None,
+    }
+}
+
+fn flag(matches: &ArgMatches<'_>, id: &str) -> bool
+    ensures { result ≡ is_set (first_of id.now (rows_of (found_of matches.now))) }
+{
+    match text(matches, id) {
+        Some(text) => text == "true",
+        None => false,
+    }
+}
+
+fn names<'a>(matches: &ArgMatches<'a>) -> Option<Names<'a>>
+    ensures { option_map named result ≡ command_in (rows_of (found_of matches.now)) }
+{
+    Some(Names {
+        program: text(matches, "program")?,
+        property: text(matches, "property")?,
+        witness: text(matches, "witness")?,
+    })
+}
+
+fn budgets(matches: &ArgMatches<'_>) -> Option<Budgets>
+    ensures { option_map limits result ≡ budgets_in (rows_of (found_of matches.now)) }
+{
+    Some(Budgets {
+        steps: number(matches, "steps", 1, MOST_STEPS)?,
+        conflicts: number(matches, "conflicts", 1, MOST_CONFLICTS)?,
+    })
+}
+
+fn validate<'a>(matches: &ArgMatches<'a>) -> Option<Request<'a>>
+    ensures { option_map wanted result ≡ validate_of (command_in (rows_of (found_of matches.now))) (budgets_in (rows_of (found_of matches.now))) }
+{
+    Some(Request::Validate {
+        names: names(matches)?,
+        budgets: budgets(matches)?,
+    })
+}
+
+fn demo<'a>(matches: &ArgMatches<'a>) -> Option<Request<'a>>
+    ensures { option_map wanted result ≡ demo_of (made_number (rows_of (found_of matches.now))) (budgets_in (rows_of (found_of matches.now))) }
+{
+    Some(Request::Demo {
+        number: number(matches, "number", 0, MOST_NUMBER)?,
+        budgets: budgets(matches)?,
+    })
+}
+
+/// What a mode asks for.
+fn request<'a>(mode: &str, matches: &ArgMatches<'a>) -> Option<Request<'a>>
+    ensures { option_map wanted result ≡ wanted_as mode.now (rows_of (found_of matches.now)) }
+{
+    match mode {
+        "validate" => validate(matches),
+        "show" => Some(Request::Show(text(matches, "witness")?)),
+        "normalise" => Some(Request::Normalise(text(matches, "witness")?)),
+        "demo" => demo(matches),
+        _ => None,
+    }
+}
+
+fn asked<'a>(matches: &ArgMatches<'a>) -> Asked<'a>
+    ensures { stated result ≡ asked_in (rows_of (found_of matches.now)) }
+{
+    Asked {
+        request: request(mode(matches), matches),
+        json: flag(matches, "json"),
+    }
+}
+
+/// What the words ask for, the first of which is the program's own name.
+pub fn read_words(alloc: Global, words: &[String]) -> Result<Asked<'_>, OutOfMemory>
+    ensures { IfOk result (λ asked. stated asked ≡ asked_by (map string_bytes words.now)) }
+{
+    let command = command(alloc)?;
+    match command.try_get_matches_from(words) {
+        Ok(matches) => Ok(asked(&matches)),
+        Err(error) => match error.kind() {
+            ErrorKind::OutOfMemory => Err(OutOfMemory),
+            _ => Ok(Asked {
+                request: None,
+                json: false,
+            }),
+        },
+    }
+}
