@@ -10,12 +10,3 @@ pub mod First
 pub mod Noting
 pub mod Roles
 pub mod Checked
-pub mod Deciding
-pub mod NameExamples
-pub mod TypingExamples
-pub mod SizeExamples
-pub mod OrderExamples
-pub mod FurtherExamples
-pub mod MoreExamples
-pub mod ModelExamples
-pub mod CellExamples

@@ -4,7 +4,7 @@ use Rattle.c_core.specs.Types.{wrapped, signed_of, residue}
 use Rattle.c_core.specs.declared.number.DataModel.TheVariants.{Ilp32}
 use Rattle.c_parser.specs.ReadExpressions.{level, within}
 use Rattle.c_parser.specs.ReadStatements.{header_within, statement_level, braced_within}
-use Rattle.check_rules.specs.Deciding.{checked}
+use Rattle.rule_examples.specs.Deciding.{checked}
 
 example_0 : checked Ilp32 (codes "int f(int f) { return f; } int main() { }") ≡ codes "program"
 unfolding level within header_within statement_level braced_within wrapped signed_of residue

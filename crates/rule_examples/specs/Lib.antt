@@ -1,0 +1,9 @@
+pub mod Deciding
+pub mod NameExamples
+pub mod TypingExamples
+pub mod SizeExamples
+pub mod OrderExamples
+pub mod FurtherExamples
+pub mod MoreExamples
+pub mod ModelExamples
+pub mod CellExamples
