@@ -12,7 +12,7 @@ use Rattle.c_parser.specs.declared.tree.RawExpr.{RawExpr}
 use Rattle.c_parser.specs.declared.fault.ExprFault.{ExprFault}
 use Rattle.c_parser.specs.declared.fault.ExprFault.TheVariants as expr
 use Rattle.way_constraint.specs.Constraints.{AnswersConstraint}
-use Rattle.way_places.specs.Visible.{names_at}
+use Rattle.way_names.specs.Visible.{names_at}
 use Rattle.way_match.specs.Points as point
 use Rattle.way_match.specs.Points.{Assume}
 use Rattle.way_match.specs.View.{point_view}

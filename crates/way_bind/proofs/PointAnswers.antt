@@ -3,7 +3,7 @@ use Rattle.std.proofs.Common.{◌≡◌, ◌⊎◌, refl, sym, ap, ◌∙◌, �
 use Rattle.c_core.specs.Tree.{Exp, Program}
 use Rattle.c_core.specs.declared.number.BinOp.{BinOp}
 use Rattle.c_core.specs.declared.place.PlaceKind.TheVariants as place
-use Rattle.way_places.specs.Visible.{names_at}
+use Rattle.way_names.specs.Visible.{names_at}
 use Rattle.c_core.specs.declared.number.Spot.{Spot}
 use Rattle.c_parser.specs.Tree as raw
 use Rattle.way_constraint.specs.Constraints.{IsTyped, IsMistyped, entries, in_scope}

@@ -4,7 +4,7 @@ ghost use Rattle.c_core.specs.View.{program_view, expr_view};
 ghost use Rattle.c_core.specs.declared.place.PlaceKind.TheVariants.{Statement, Branch, CallEnd};
 ghost use Rattle.c_parser.specs.View.{expr_view as raw_view};
 ghost use Rattle.way_constraint.specs.Constraints.{AnswersConstraint};
-ghost use Rattle.way_places.specs.Visible.{is_scoped};
+ghost use Rattle.way_names.specs.Visible.{is_scoped};
 ghost use Rattle.way_match.specs.View.{aim_view, point_view, test_view};
 ghost use Rattle.way_bind.specs.Binding.{BindsAssumption, BindsBranching, BindsEntry, BindsExpression, BindsPoint, BindsReturn, BindsTest, BindsTested, WherePlaced, aim_of, is_suitable, is_valued, place_named, seen, target_at, text_of, way_of};
 
@@ -14,7 +14,8 @@ use c_parser::{ExprFault, RawExpr, parse_expr, parse_result};
 use std::alloc::Global;
 use way_constraint::check_expr;
 use way_match::{Aim, Point, ReturnTest};
-use way_places::{Index, names_at};
+use way_names::names_at;
+use way_places::Index;
 use wv_base::Seq;
 use wv_schema::{Constraint, Location, WayKind, Waypoint};
 

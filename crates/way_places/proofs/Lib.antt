@@ -3,8 +3,6 @@ pub mod PlaceLaws
 pub mod SoughtLaws
 pub mod CallLaws
 pub mod BeforeLaws
-pub mod VisibleLaws
-pub mod ObjectLaws
 pub mod OrderLaws
 pub mod FirstLaws
 pub mod LeftmostLaws

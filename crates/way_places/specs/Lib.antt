@@ -7,5 +7,3 @@ pub mod Inputs
 pub mod Maps
 pub mod Neighbours
 pub mod Ordered
-pub mod Visible
-pub mod WorkedNames

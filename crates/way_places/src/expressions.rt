@@ -22,6 +22,7 @@ pub enum Wanted {
     ReachesError(u32, Option<u32>),
 }
 
+/// Whether two places of the text are one.
 pub fn is_same(a: Spot, b: Spot) -> bool
     ensures { result ≡ same_spot a b }
 {

@@ -2,7 +2,7 @@ use Rattle.std.proofs.Common.{IsTrue, sym, subst, ◌∙◌}
 use Rattle.c_core.specs.View.{program_view}
 use Rattle.c_core.specs.declared.place.PlaceKind.TheVariants.{Statement}
 use Rattle.c_core.specs.declared.program.Program.{Program}
-use Rattle.way_places.specs.Visible.{is_scoped}
+use Rattle.way_names.specs.Visible.{is_scoped}
 use Rattle.way_match.specs.View.{point_view}
 use Rattle.way_bind.specs.Binding.{BindsAssumption, place_named, seen, text_of}
 use Rattle.way_bind.proofs.ExpressionLaws.{placed_assumption}

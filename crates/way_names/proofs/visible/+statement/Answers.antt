@@ -3,9 +3,9 @@ use Rattle.c_core.specs.Tree.{Block}
 use Rattle.c_core.specs.TreeView.{form_view, stmt_view, stmts_view}
 use Rattle.c_core.specs.Parts.{declared_by}
 use Rattle.c_core.proofs.View.{view_of_block}
-use Rattle.way_places.specs.Visible.{Sight, seen_from, sights_in_block, sights_in_form}
-use Rattle.way_places.proofs.VisibleLaws.{found_at, past_at, first_kept}
-use Rattle.way_places.proofs.visible.+statement.Goals as goal
+use Rattle.way_names.specs.Visible.{Sight, seen_from, sights_in_block, sights_in_form}
+use Rattle.way_names.proofs.VisibleLaws.{found_at, past_at, first_kept}
+use Rattle.way_names.proofs.visible.+statement.Goals as goal
 
 pub block-returns-then-branch-clause-seen : goal.block-returns-then-branch-clause-seen
 block-returns-then-branch-clause-seen t c =

@@ -1,5 +1,5 @@
 // Worked programs, and the names that are visible at their places.
-ghost use Rattle.way_places.specs.WorkedNames.{WorkedNames};
+ghost use Rattle.way_names.specs.WorkedNames.{WorkedNames};
 
 fn worked_names()
     ensures { WorkedNames }

@@ -11,7 +11,7 @@ use Rattle.c_core.specs.declared.place.PlaceKind.TheVariants.{Statement, Loop, B
 use Rattle.c_core.specs.declared.tree.Function.{Function}
 use Rattle.c_core.specs.declared.tree.Stmt.{Stmt}
 use Rattle.way_places.specs.Seeking.{or_else}
-use Rattle.way_places.specs.Visible.{Sight, at_start, at_loop, names_or, seen_from, sights_in, sights_in_block, sights_in_body, sights_in_functions}
+use Rattle.way_names.specs.Visible.{Sight, at_start, at_loop, names_or, seen_from, sights_in, sights_in_block, sights_in_body, sights_in_functions}
 use Rattle.way_places.proofs.SeekingLaws.{item_first}
 
 cond_or : (b : Bool) (n : List ℕ) (x y z : Option (List ℕ)) → x ≡ or_else y z → cond b (Some n) x ≡ or_else (cond b (Some n) y) z

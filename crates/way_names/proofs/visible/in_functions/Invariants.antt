@@ -1,7 +1,7 @@
 use Rattle.std.proofs.Common.{◌≡◌, drop}
 use Rattle.c_core.specs.TreeView.{functions_view}
-use Rattle.way_places.specs.Visible.{seen_from, sights_in_functions}
-use Rattle.way_places.proofs.visible.in_functions.Given as goal
+use Rattle.way_names.specs.Visible.{seen_from, sights_in_functions}
+use Rattle.way_names.proofs.visible.in_functions.Given as goal
 
 -- what is left gives what the whole gives, and the names are as before
 abbrev pub invariant-loop-function : goal.invariant-loop-function

@@ -10,7 +10,7 @@ use Rattle.c_core.specs.declared.number.Property.TheVariants.{UnreachCall}
 use Rattle.c_core.specs.declared.number.Spot.{Spot}
 use Rattle.c_core.specs.declared.place.PlaceKind.TheVariants.{Statement, Loop}
 use Rattle.c_core.specs.declared.tree.Object.{Object}
-use Rattle.way_places.specs.Visible.{is_scoped, names_at}
+use Rattle.way_names.specs.Visible.{is_scoped, names_at}
 
 abbrev pub number : Spot → ℤ → t.Exp
 number spot v = t.Expr spot (Some Int) (t.Const v)

@@ -1,7 +1,7 @@
 use Rattle.std.proofs.Common.{◌≡◌, ◌≤◌, ap, length, arith}
 use Rattle.c_core.specs.View.{program_view}
-use Rattle.way_places.proofs.ObjectLaws.{few_objects}
-use Rattle.way_places.proofs.visible.names_at.Goals as goal
+use Rattle.way_names.proofs.ObjectLaws.{few_objects}
+use Rattle.way_names.proofs.visible.names_at.Goals as goal
 
 pub push_fixed-requires : goal.push_fixed-requires
 push_fixed-requires c =

@@ -1,6 +1,6 @@
 use Rattle.std.proofs.Common.{sym, ◌∙◌}
-use Rattle.way_places.proofs.VisibleLaws.{function_found, function_past, names_kept}
-use Rattle.way_places.proofs.visible.in_functions.Goals as goal
+use Rattle.way_names.proofs.VisibleLaws.{function_found, function_past, names_kept}
+use Rattle.way_names.proofs.visible.in_functions.Goals as goal
 
 pub returns-then-branch-clause-seen : goal.returns-then-branch-clause-seen
 returns-then-branch-clause-seen c =

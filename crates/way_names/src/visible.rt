@@ -3,11 +3,11 @@ ghost use Rattle.std.specs.Prelude.{◌≡◌, ◌≤◌, ◌++◌, cond, false,
 ghost use Rattle.c_core.specs.Parts.{declared_by, objects_of_first, objects_of_names};
 ghost use Rattle.c_core.specs.TextOrder.{is_before};
 ghost use Rattle.c_core.specs.View.{first_view, form_view, function_view, functions_view, names_view, program_view, stmt_view, stmts_view};
-ghost use Rattle.way_places.specs.Visible.{at_start, fixed_from, is_scoped, names_at, seen_from, sights_in, sights_in_block, sights_in_body, sights_in_form, sights_in_functions};
+ghost use Rattle.way_names.specs.Visible.{at_start, fixed_from, is_scoped, names_at, seen_from, sights_in, sights_in_block, sights_in_body, sights_in_form, sights_in_functions};
 
-use crate::expressions::is_same;
 use c_core::{Declared, First, Form, Function, Object, PlaceKind, Program, Spot, Stmt};
 use std::alloc::Global;
+use way_places::is_same;
 use wv_base::{OutOfMemory, Seq};
 
 fn is_before(a: Spot, b: Spot) -> bool

@@ -1,7 +1,7 @@
 use Rattle.std.proofs.Common.{◌≡◌, drop, take, length}
 use Rattle.c_core.specs.TreeView.{stmts_view}
-use Rattle.way_places.specs.Visible.{seen_from, sights_in_block}
-use Rattle.way_places.proofs.visible.+statement.Given as goal
+use Rattle.way_names.specs.Visible.{seen_from, sights_in_block}
+use Rattle.way_names.proofs.visible.+statement.Given as goal
 
 -- what is left gives what the whole gives, and the names begin with those of before
 abbrev pub invariant-block-loop-s : goal.invariant-block-loop-s

@@ -1,6 +1,6 @@
 use Rattle.std.proofs.Common.{◌≡◌, ◌++◌, drop}
-use Rattle.way_places.specs.Visible.{fixed_from}
-use Rattle.way_places.proofs.visible.push_fixed.Given as goal
+use Rattle.way_names.specs.Visible.{fixed_from}
+use Rattle.way_names.proofs.visible.push_fixed.Given as goal
 
 -- with what is left it becomes what the whole gives
 abbrev pub invariant-loop-index : goal.invariant-loop-index

@@ -1,7 +1,7 @@
 use Rattle.std.proofs.Common.{◌≡◌, ◌++◌, drop}
 use Rattle.c_core.specs.TreeView.{names_view}
 use Rattle.c_core.specs.Parts.{objects_of_names}
-use Rattle.way_places.proofs.visible.push_names.Given as goal
+use Rattle.way_names.proofs.visible.push_names.Given as goal
 
 -- with what is left it becomes what the whole gives
 abbrev pub invariant-loop-name : goal.invariant-loop-name

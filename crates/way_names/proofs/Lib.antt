@@ -1,0 +1,2 @@
+pub mod VisibleLaws
+pub mod ObjectLaws
