@@ -36,8 +36,8 @@ use Rattle.wv_task.specs.declared.fault.TaskFault.{TaskFault}
 use Rattle.wv_task.specs.declared.fault.TaskFault.TheVariants as task
 use Rattle.wv_arguments.specs.Words.{Command}
 use Rattle.wv_yaml.specs.declared.tree.Tree.{Tree}
-use Rattle.wv_yaml.specs.declared.fault.YamlFault.{YamlFault}
-use Rattle.wv_yaml.specs.declared.fault.YamlFault.TheVariants.{Bytes, Grammar, Duplicate, OutOfMemory}
+use Rattle.yaml_scalars.specs.declared.fault.YamlFault.{YamlFault}
+use Rattle.yaml_scalars.specs.declared.fault.YamlFault.TheVariants.{Bytes, Grammar, Duplicate, OutOfMemory}
 use Rattle.witval.specs.Inputs.{OfFiles, AreInputs, IsWitness, ToldOne}
 use Rattle.witval.specs.Readings.{IsBindRefusal, IsCheckRefusal, IsRefusal, IsSchemaRefusal, IsSyntaxRefusal, IsTaskRefusal, IsTokenRefusal, RightAfterAnswer, RightAfterProperty, RightAfterSchema, RightAfterTask, RightByBind, RightByCheck, RightByClaims, RightByParse, RightByTokens, check_code, place_text}
 use Rattle.witval.specs.Tasks.{RightOnInputs, RightOnProgram, RightOnSegments, RightOnSequence, RightOnSource, RightOnText, RightOnTokens, RightOnTree, RightOnWitness, RightUnder, holds_sets}

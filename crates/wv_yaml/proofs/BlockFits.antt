@@ -6,22 +6,22 @@ use Rattle.std.proofs.lemmas.Bool.{eqb-true}
 use Rattle.wv_yaml.specs.declared.tree.Tree.{Tree}
 use Rattle.wv_yaml.specs.declared.tree.Tree.TheVariants as tree
 use Rattle.wv_yaml.specs.declared.tree.Pair.{Pair}
-use Rattle.wv_yaml.specs.declared.token.Token.TheVariants as token
-use Rattle.wv_yaml.specs.declared.fault.YamlFault.{YamlFault}
-use Rattle.wv_yaml.specs.Line.{Line, line_at}
-use Rattle.wv_yaml.specs.Chunks.{collected, chunked}
-use Rattle.wv_yaml.specs.Marks.{dash, quiet, nothing, trimmed, gap}
-use Rattle.wv_yaml.specs.Quoted.{joined, after_breaks}
-use Rattle.wv_yaml.specs.Tokens.{tokens}
+use Rattle.yaml_scalars.specs.declared.token.Token.TheVariants as token
+use Rattle.yaml_scalars.specs.declared.fault.YamlFault.{YamlFault}
+use Rattle.yaml_lines.specs.Line.{Line, line_at}
+use Rattle.yaml_lines.specs.Chunks.{collected, chunked}
+use Rattle.yaml_lines.specs.Marks.{dash, quiet, nothing, trimmed, gap, ahead}
+use Rattle.yaml_lines.specs.Lines.{joined, after_breaks, lines_in, unmarked}
+use Rattle.yaml_scalars.specs.Tokens.{tokens}
 use Rattle.wv_yaml.specs.Flow.{pair_of, flow, before_last, closes_list, closes_map, entries_of, flow_pair}
 use Rattle.wv_yaml.specs.Inline.{key_bytes, inline, flow_text, scalar, begins_flow}
-use Rattle.wv_yaml.specs.Block.{Chunk, is_item, is_pair, is_under, opens, all_spaces, ahead, below, value_of, entry_of, item, pair, collection, block}
-use Rattle.wv_yaml.specs.BlockScalar.{while, past}
+use Rattle.wv_yaml.specs.Block.{Chunk, is_item, is_pair, is_under, opens, all_spaces, below, value_of, entry_of, item, pair, collection, block}
+use Rattle.yaml_scalars.specs.BlockScalar.{while, past}
 use Rattle.wv_yaml.specs.Document.{max_depth, top, document, opened, is_plain_line, is_closing, tree_of}
-use Rattle.wv_yaml.specs.Lines.{lines_in, unmarked}
 use Rattle.wv_yaml.specs.Reading.{IsReading}
 use Rattle.wv_yaml.specs.Canon.{Fits, PairFits, IsCollection}
-use Rattle.wv_yaml.proofs.Parts.{chosen, bind_some, provided_some, collected_all, some_same}
+use Rattle.yaml_lines.proofs.Parts.{chosen, bind_some, provided_some, collected_all}
+use Rattle.std.proofs.lemmas.Option.{same_Some}
 use Rattle.wv_yaml.proofs.KeyLaws.{key_short}
 use Rattle.wv_yaml.proofs.FlowFits.{flow_fits, tokens_short, list_that_fits, map_that_fits, text_that_fits}
 
@@ -34,12 +34,12 @@ inline_fits : (d : ℕ) (here : Bool) (n : ℕ) (text : List ℕ) (body : List L
 inline_fits d here n text body t e =
     elim (chosen (begins_flow text) _ _ (Some t) e) [
       | inl h ↦ text_fits d (joined (suc n) text body) t h.1
-      | inr h ↦ let v = bind_some (scalar here n text body) _ t h.1 in subst (Fits d) (some_same (tree.Text (encode_utf8_all v.0)) t v.2) (text_that_fits (encode_utf8_all v.0) d)
+      | inr h ↦ let v = bind_some (scalar here n text body) _ t h.1 in subst (Fits d) (same_Some (tree.Text (encode_utf8_all v.0)) t v.2) (text_that_fits (encode_utf8_all v.0) d)
     ]
 
 module _ (d : ℕ) (read : List Line → Option Tree) (fits : (ls : List Line) (t : Tree) → read ls ≡ Some t → Fits d t) where
   below_fits : (own : Bool) (n : ℕ) (ls : List Line) (t : Tree) → below (inline d) key_bytes read own n ls ≡ Some t → Fits d t
-  below_fits own n [] t e = subst (Fits d) (some_same (tree.Text []) t e) (text_that_fits [] d)
+  below_fits own n [] t e = subst (Fits d) (same_Some (tree.Text []) t e) (text_that_fits [] d)
   below_fits own n (l ∷ ls) t e =
       elim (chosen (is_under own n l) _ _ (Some t) e) [
         | inl h ↦ elim (chosen (opens key_bytes l.text) _ _ (Some t) h.1) [ inl g ↦ fits (l ∷ ls) t g.1 | inr g ↦ inline_fits d false n (trimmed l.text) ls t g.1 ]
@@ -65,7 +65,7 @@ module _ (d : ℕ) (read : List Line → Option Tree) (fits : (ls : List Line) (
   pair_fits n c p u e =
       let k = bind_some (key_bytes c.0.text) _ p e in
       let v = bind_some (value_of (inline d) key_bytes read n (trimmed k.0.1) c.1) _ p k.2 in
-      let same : pair_of k.0.0 v.0 ≡ p = some_same _ _ v.2 in
+      let same : pair_of k.0.0 v.0 ≡ p = same_Some _ _ v.2 in
       subst (PairFits d) same (key_short c.0.text k.0 k.1, value_fits n (trimmed k.0.1) c.1 v.0 v.1)
 
   any_chunks : (cs : List Chunk) → AllByRecursion (λ _. Unit {0}) cs
@@ -80,14 +80,14 @@ module _ (d : ℕ) (read : List Line → Option Tree) (fits : (ls : List Line) (
             let cs : List Chunk = (chunked (is_item l.indent) (l ∷ ls)).1 in
             let items = bind_some (collected (item (inline d) key_bytes read l.indent) cs) _ t h.1 in
             let all = collected_all (item (inline d) key_bytes read l.indent) (λ _. Unit {0}) (Fits d) (item_fits l.indent) cs items.0 (any_chunks cs) items.1 in
-            subst P (some_same (tree.List items.0) t items.2) (tt, list_that_fits items.0 d all)
+            subst P (same_Some (tree.List items.0) t items.2) (tt, list_that_fits items.0 d all)
         | inr h ↦ elim (chosen (quiet l.text) _ _ (Some t) h.1) [
           | inl g ↦ absurd (cc)
           | inr g ↦
               let cs : List Chunk = (chunked (is_pair l.indent) (l ∷ ls)).1 in
               let pairs = bind_some (collected (pair (inline d) key_bytes read l.indent) cs) _ t g.1 in
               let all = collected_all (pair (inline d) key_bytes read l.indent) (λ _. Unit {0}) (PairFits d) (pair_fits l.indent) cs pairs.0 (any_chunks cs) pairs.1 in
-              subst P (some_same (tree.Map pairs.0) t pairs.2) (tt, map_that_fits pairs.0 d all)
+              subst P (same_Some (tree.Map pairs.0) t pairs.2) (tt, map_that_fits pairs.0 d all)
         ]
       ]
 
@@ -103,22 +103,22 @@ unfolding flow
 list_text d cs t e =
     let ts = bind_some (tokens false 0 (91 ∷ cs)) _ t e in
     let us = bind_some (tokens false 0 cs) _ ts.0 ts.1 in
-    let same : token.OpenList ∷ us.0 ≡ ts.0 = some_same _ _ us.2 in
+    let same : token.OpenList ∷ us.0 ≡ ts.0 = same_Some _ _ us.2 in
     let whole : flow (suc d) (token.OpenList ∷ us.0) ≡ Some t = ap (flow (suc d)) same ∙ ts.2 in
     let inner = bind_some (before_last closes_list us.0) _ t whole in
     let items = bind_some (collected (flow d) (entries_of inner.0)) _ t inner.2 in
-    subst IsCollection (some_same (tree.List items.0) t items.2) tt
+    subst IsCollection (same_Some (tree.List items.0) t items.2) tt
 
 map_text : (d : ℕ) (cs : List ℕ) (t : Tree) → flow_text (suc d) (123 ∷ cs) ≡ Some t → IsCollection t
 unfolding flow
 map_text d cs t e =
     let ts = bind_some (tokens false 0 (123 ∷ cs)) _ t e in
     let us = bind_some (tokens false 0 cs) _ ts.0 ts.1 in
-    let same : token.OpenMap ∷ us.0 ≡ ts.0 = some_same _ _ us.2 in
+    let same : token.OpenMap ∷ us.0 ≡ ts.0 = same_Some _ _ us.2 in
     let whole : flow (suc d) (token.OpenMap ∷ us.0) ≡ Some t = ap (flow (suc d)) same ∙ ts.2 in
     let inner = bind_some (before_last closes_map us.0) _ t whole in
     let pairs = bind_some (collected (flow_pair (flow d)) (entries_of inner.0)) _ t inner.2 in
-    subst IsCollection (some_same (tree.Map pairs.0) t pairs.2) tt
+    subst IsCollection (same_Some (tree.Map pairs.0) t pairs.2) tt
 
 flow_collection : (d : ℕ) (text : List ℕ) (body : List Line) (t : Tree) → begins_flow text ≡ true → flow_text (suc d) (joined 0 text body) ≡ Some t → IsCollection t
 flow_collection d [] body t h e = absurd (cc)

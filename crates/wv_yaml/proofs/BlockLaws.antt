@@ -1,18 +1,18 @@
 -- What the function reads is what the relation says, and nothing else.
 use Rattle.std.proofs.Common.{◌≡◌, ℕ, zero, suc, List, [], ◌∷◌, ◌++◌, drop, Bool, true, false, refl, sym, ap, ◌∙◌, subst, cond, inl, inr, ◌⊎◌, Option, Some, None, true≢false, ◌&&◌, ◌||◌, not, eq-eqb}
-use Rattle.std.proofs.lemmas.Bool.{cond-true, cond-false, eqb-true, not-true, false_from_ne_true}
+use Rattle.std.proofs.lemmas.Bool.{cond-true, cond-false, eqb-true, not-true, false_from_ne_true, and_parts, and_from}
 use Rattle.std.proofs.Math.Bool.{or-true}
-use Rattle.wv_yaml.specs.Line.{Line}
+use Rattle.yaml_lines.specs.Line.{Line}
 use Rattle.wv_yaml.specs.declared.tree.Tree.{Tree}
 use Rattle.wv_yaml.specs.declared.tree.Pair.{Pair}
-use Rattle.wv_yaml.specs.Chunks.{Pairwise, unchunked, AreChunks, chunked, collected}
-use Rattle.wv_yaml.specs.Marks.{trimmed, gap, nothing, quiet, dash, Quiet}
+use Rattle.yaml_lines.specs.Chunks.{Pairwise, unchunked, AreChunks, chunked, collected}
+use Rattle.yaml_lines.specs.Marks.{trimmed, gap, nothing, quiet, dash, Quiet, ahead}
 use Rattle.wv_yaml.specs.Flow.{as_list, as_map}
-use Rattle.wv_yaml.specs.Block.{Chunk, ahead, is_item, is_pair, is_under, opens, has_key, below, value_of, entry_of, item, pair, collection, block}
+use Rattle.wv_yaml.specs.Block.{Chunk, is_item, is_pair, is_under, opens, has_key, below, value_of, entry_of, item, pair, collection, block}
 use Rattle.wv_yaml.specs.Spelled.{Begins, First, Below, Empty, Nested, Later, Value, Under, Beside, Entry, EntryUnder, Compact, EntryBeside, Item, PairAt, Sequence, Mapping, Collection, Items, Pairs, Block}
-use Rattle.wv_yaml.proofs.Parts.{chosen, bind_some, some_same}
-use Rattle.wv_yaml.proofs.Heads.{and_both, and_true}
-use Rattle.wv_yaml.proofs.ChunkLaws.{chunked_chunks, chunked_head, chunked_again, collected_complete, Ahead, ahead_cases, ahead_quiet, ahead_loud, gap_whole, gap_blanks, gap_again}
+use Rattle.yaml_lines.proofs.Parts.{chosen, bind_some}
+use Rattle.std.proofs.lemmas.Option.{same_Some}
+use Rattle.yaml_lines.proofs.ChunkLaws.{chunked_chunks, chunked_head, chunked_again, collected_complete, Ahead, ahead_cases, ahead_quiet, ahead_loud, gap_whole, gap_blanks, gap_again}
 
 -- each chunk gives what it is related to
 module _ {X Y : Type 0} (head : X → Bool) (f : X × List X → Option Y) (R : X × List X → Y → Type 0) where
@@ -32,7 +32,7 @@ first_head head (c ∷ cs) x xs e a = let same : x ≡ c.0 = cc in ap head same 
 -- a line that begins with a dash
 pub dash_whole : (text : List ℕ) → dash text ≡ true → text ≡ 45 ∷ drop 1 text
 dash_whole [] e = absurd (cc)
-dash_whole (b ∷ bs) e = ap (λ x. x ∷ bs) (eqb-true b 45 (and_both _ _ e).0)
+dash_whole (b ∷ bs) e = ap (λ x. x ∷ bs) (eqb-true b 45 (and_parts _ _ e).0)
 
 module _ (inline : Bool → ℕ → List ℕ → List Line → Option Tree) (key : List ℕ → Option (List ℕ × List ℕ)) (KeyAt : List ℕ → List ℕ → List ℕ → Type 0) (Inline : Bool → ℕ → List Line → List ℕ → Tree → Type 0) where
   module _ (key_sound : (text : List ℕ) (k : List ℕ × List ℕ) → key text ≡ Some k → KeyAt text k.0 k.1) (key_complete : (text name rest : List ℕ) → KeyAt text name rest → key text ≡ Some (name, rest)) where
@@ -81,7 +81,7 @@ module _ (inline : Bool → ℕ → List ℕ → List Line → Option Tree) (key
             at_ahead : (Quiet body × (ahead body ≡ [])) ⊎ Ahead body → Below KeyAt Inline R own n body t
             at_ahead (inl q) =
                 let e1 : below inline key read own n [] ≡ Some t = rw q.1 at e in
-                Empty (record { after = q.0; is = sym (some_same _ _ e1) })
+                Empty (record { after = q.0; is = sym (same_Some _ _ e1) })
             at_ahead (inr a) = below_at own n body t a (rw a.is at e)
 
         value_sound : (n : ℕ) (text : List ℕ) (body : List Line) (t : Tree) → value_of inline key read n text body ≡ Some t → Value KeyAt Inline R n text body t
@@ -95,8 +95,8 @@ module _ (inline : Bool → ℕ → List ℕ → List Line → Option Tree) (key
         entry_sound n compact l body t e = by_nothing (chosen _ _ _ _ e)
           where
             by_opens : nothing l.text ≡ false → (((compact && opens key l.text) ≡ true) × (read (l ∷ body) ≡ Some t)) ⊎ (((compact && opens key l.text) ≡ false) × (inline true n l.text body ≡ Some t)) → Entry KeyAt Inline R n compact l body t
-            by_opens o (inl h) = let both = and_both _ _ h.0 in Compact o both.0 (begins_sound _ both.1) (sound _ _ h.1)
-            by_opens o (inr h) = EntryBeside o (λ c b. true≢false (sym (and_true _ _ c (begins_complete _ b)) ∙ h.0)) (inline_sound true n l.text body t h.1)
+            by_opens o (inl h) = let both = and_parts _ _ h.0 in Compact o both.0 (begins_sound _ both.1) (sound _ _ h.1)
+            by_opens o (inr h) = EntryBeside o (λ c b. true≢false (sym (and_from _ _ c (begins_complete _ b)) ∙ h.0)) (inline_sound true n l.text body t h.1)
 
             by_nothing : ((nothing l.text ≡ true) × (below inline key read false n (ahead body) ≡ Some t)) ⊎ ((nothing l.text ≡ false) × (cond (compact && opens key l.text) (read (l ∷ body)) (inline true n l.text body) ≡ Some t)) → Entry KeyAt Inline R n compact l body t
             by_nothing (inl h) = EntryUnder h.0 (below_sound false n body t h.1)
@@ -127,12 +127,12 @@ module _ (inline : Bool → ℕ → List ℕ → List Line → Option Tree) (key
               blanks = (gap_blanks k.0.1).0;
               no_more = (gap_blanks k.0.1).1;
               spelled = value_sound _ _ _ _ v.1;
-              is = sym (some_same _ _ v.2);
+              is = sym (same_Some _ _ v.2);
             }
 
         sequence_sound : (l : Line) (ls : List Line) (t : Tree) → dash l.text ≡ true → as_list (collected (item inline key read l.indent) (chunked (is_item l.indent) (l ∷ ls)).1) ≡ Some t → Sequence KeyAt Inline R l.indent l ls t
         sequence_sound l ls t d e =
-            let here : is_item l.indent l ≡ true = and_true _ _ (eq-eqb l.indent l.indent refl) d in
+            let here : is_item l.indent l ≡ true = and_from _ _ (eq-eqb l.indent l.indent refl) d in
             let ts = bind_some (collected (item inline key read l.indent) (chunked (is_item l.indent) (l ∷ ls)).1) _ t e in
             let are = (chunked_chunks (is_item l.indent) (l ∷ ls)).1 in
             record {
@@ -140,13 +140,13 @@ module _ (inline : Bool → ℕ → List ℕ → List Line → Option Tree) (key
               items = ts.0;
               whole = chunked_head (is_item l.indent) l ls here;
               heads = are;
-              each = chunks_sound (is_item l.indent) (item inline key read l.indent) (Item KeyAt Inline R l.indent) (λ c y h f. item_sound l.indent c y (and_both _ _ h).1 f) _ _ are ts.1;
-              is = sym (some_same _ _ ts.2);
+              each = chunks_sound (is_item l.indent) (item inline key read l.indent) (Item KeyAt Inline R l.indent) (λ c y h f. item_sound l.indent c y (and_parts _ _ h).1 f) _ _ are ts.1;
+              is = sym (same_Some _ _ ts.2);
             }
 
         mapping_sound : (l : Line) (ls : List Line) (t : Tree) → dash l.text ≡ false → quiet l.text ≡ false → as_map (collected (pair inline key read l.indent) (chunked (is_pair l.indent) (l ∷ ls)).1) ≡ Some t → Mapping KeyAt Inline R l.indent l ls t
         mapping_sound l ls t d q e =
-            let here : is_pair l.indent l ≡ true = and_true _ _ (eq-eqb l.indent l.indent refl) (and_true _ _ (ap not d) (ap not q)) in
+            let here : is_pair l.indent l ≡ true = and_from _ _ (eq-eqb l.indent l.indent refl) (and_from _ _ (ap not d) (ap not q)) in
             let ps = bind_some (collected (pair inline key read l.indent) (chunked (is_pair l.indent) (l ∷ ls)).1) _ t e in
             let are = (chunked_chunks (is_pair l.indent) (l ∷ ls)).1 in
             record {
@@ -155,7 +155,7 @@ module _ (inline : Bool → ℕ → List ℕ → List Line → Option Tree) (key
               whole = chunked_head (is_pair l.indent) l ls here;
               heads = are;
               each = chunks_sound (is_pair l.indent) (pair inline key read l.indent) (PairAt KeyAt Inline R l.indent) (λ c y h f. pair_sound l.indent c y f) _ _ are ps.1;
-              is = sym (some_same _ _ ps.2);
+              is = sym (same_Some _ _ ps.2);
             }
 
         collection_sound : (l : Line) (ls : List Line) (t : Tree) → collection inline key read l ls ≡ Some t → Collection KeyAt Inline R l ls t
@@ -182,7 +182,7 @@ module _ (inline : Bool → ℕ → List ℕ → List Line → Option Tree) (key
         value_complete n text body t (Beside o h) = rw o (inline_complete _ _ _ _ _ h)
 
         not_compact : (compact : Bool) (text : List ℕ) → (compact ≡ true → Begins KeyAt Inline text → ⊥) → (compact && opens key text) ≡ false
-        not_compact compact text h = false_from_ne_true (compact && opens key text) (λ e. let both = and_both _ _ e in h both.0 (begins_sound text both.1))
+        not_compact compact text h = false_from_ne_true (compact && opens key text) (λ e. let both = and_parts _ _ e in h both.0 (begins_sound text both.1))
 
         entry_complete : (n : ℕ) (compact : Bool) (l : Line) (body : List Line) (t : Tree) → Entry KeyAt Inline R n compact l body t → entry_of inline key read n compact l body ≡ Some t
         entry_complete n compact l body t (EntryUnder o h) = rw o (below_complete _ _ _ _ h)
@@ -203,15 +203,15 @@ module _ (inline : Bool → ℕ → List ℕ → List Line → Option Tree) (key
         sequence_complete : (l : Line) (ls : List Line) (t : Tree) → Sequence KeyAt Inline R l.indent l ls t → collection inline key read l ls ≡ Some t
         sequence_complete l ls t s =
             let here = first_head (is_item l.indent) s.chunks l ls s.whole s.heads in
-            let dashed = (and_both _ _ here).1 in
+            let dashed = (and_parts _ _ here).1 in
             let found : chunked (is_item l.indent) (l ∷ ls) ≡ ([], s.chunks) = ap (chunked (is_item l.indent)) s.whole ∙ chunked_again (is_item l.indent) s.chunks s.heads in
             let all = collected_complete (item inline key read l.indent) (Item KeyAt Inline R l.indent) (item_complete l.indent) s.chunks s.items s.each in
             cond-true (dash l.text) _ _ dashed ∙ ap (λ r. as_list (collected (item inline key read l.indent) r.1)) found ∙ ap (as_list) all ∙ ap Some (sym s.is)
 
         mapping_complete : (l : Line) (ls : List Line) (t : Tree) → Mapping KeyAt Inline R l.indent l ls t → collection inline key read l ls ≡ Some t
         mapping_complete l ls t s =
-            let here = (and_both _ _ (first_head (is_pair l.indent) s.chunks l ls s.whole s.heads)).1 in
-            let both = and_both _ _ here in
+            let here = (and_parts _ _ (first_head (is_pair l.indent) s.chunks l ls s.whole s.heads)).1 in
+            let both = and_parts _ _ here in
             let found : chunked (is_pair l.indent) (l ∷ ls) ≡ ([], s.chunks) = ap (chunked (is_pair l.indent)) s.whole ∙ chunked_again (is_pair l.indent) s.chunks s.heads in
             let all = collected_complete (pair inline key read l.indent) (PairAt KeyAt Inline R l.indent) (pair_complete l.indent) s.chunks s.pairs s.each in
             cond-false (dash l.text) _ _ (not-true _ both.0) ∙ cond-false (quiet l.text) _ _ (not-true _ both.1)

@@ -2,19 +2,19 @@
 use Rattle.std.proofs.Common.{◌≡◌, ℕ, suc, ◌+◌, ◌≤◌, List, [], ◌∷◌, length, Bool, true, false, ◌==◌, ◌&&◌, ◌||◌, not, nat_lt, refl, ap, ◌∙◌, Option, Some, arith, true≢false}
 use Rattle.std.proofs.lemmas.Bool.{cond-true, cond-false, eqb-true, lt-ltb, false_from_ne_true}
 use Rattle.std.specs.Str.{chars, IsUtf8}
-use Rattle.wv_yaml.specs.Line.{Line, line_at}
+use Rattle.yaml_lines.specs.Line.{Line, line_at}
 use Rattle.wv_yaml.specs.declared.tree.Tree.{Tree, Text, List', Map', Row_of-Tree, end_of-Tree, more_of-Tree, Row_of-Pair, end_of-Pair, more_of-Pair, items-the_row-Tree, items-the_row-Pair}
 use Rattle.wv_yaml.specs.declared.tree.Tree.TheVariants as tree
-use Rattle.wv_yaml.specs.Chunks.{NoneOf, AreChunks, unchunked, collected, ◌>>=◌}
-use Rattle.wv_yaml.specs.Marks.{dash, quiet, trimmed, nothing}
-use Rattle.wv_yaml.specs.Tokens.{max_key}
+use Rattle.yaml_lines.specs.Chunks.{NoneOf, AreChunks, unchunked, collected, ◌>>=◌}
+use Rattle.yaml_lines.specs.Marks.{dash, quiet, trimmed, nothing}
+use Rattle.yaml_scalars.specs.Tokens.{max_key}
 use Rattle.wv_yaml.specs.Flow.{pair_of, as_list, as_map}
 use Rattle.wv_yaml.specs.Inline.{key_bytes, inline}
 use Rattle.wv_yaml.specs.Block.{Chunk, is_item, is_pair, is_under, opens, all_spaces, below, value_of, entry_of, item, pair, block}
 use Rattle.wv_yaml.specs.Canon.{is_place, has_items, has_pairs, is_inline, Fits, ItemsFit, PairsFit, InUtf8, ItemsInUtf8, PairsInUtf8}
 use Rattle.wv_yaml.proofs.Heads.{is_item_at, is_pair_at}
 use Rattle.wv_yaml.proofs.TreeRows.{relisted_is}
-use Rattle.wv_yaml.proofs.ChunkLaws.{chunked_again}
+use Rattle.yaml_lines.proofs.ChunkLaws.{chunked_again}
 use Rattle.wv_yaml.proofs.CanonLines.{pair_line, pair_body, later_of, first_text, first_item, first_pair, later_lines, item_chunks, pair_chunks}
 use Rattle.wv_yaml.proofs.CanonLineFacts.{CanonicalLines, pair_keyed, block_opening, body_lines, later_are_lines}
 use Rattle.wv_yaml.proofs.CanonValues.{Leads, leads_trimmed, leads_gap, leads_loud, leads_quiet, opening_leads, keyed_leads, keyed_dash, inline_back, inline_alone, inline_closed, inline_leads, pair_key, block_opens}

@@ -4,13 +4,13 @@ use Rattle.std.specs.List.{flat_map}
 use Rattle.std.specs.Str.{chars}
 use Rattle.std.proofs.lemmas.Str.{encodes-append}
 use lib.Utf8.{encode, encodes}
-use Rattle.wv_yaml.specs.Line.{Line}
+use Rattle.yaml_lines.specs.Line.{Line}
 use Rattle.wv_yaml.specs.declared.tree.Tree.{Tree, Text, List', Map', Row_of-Tree, end_of-Tree, more_of-Tree, Row_of-Pair, end_of-Pair, more_of-Pair}
-use Rattle.wv_yaml.specs.Chunks.{unchunked}
-use Rattle.wv_yaml.specs.Marks.{indented}
+use Rattle.yaml_lines.specs.Chunks.{unchunked}
+use Rattle.yaml_lines.specs.Marks.{indented}
 use Rattle.wv_yaml.specs.Canon.{escaped, quoted_text, is_name, is_count, is_place, is_inline, key_text, text_form, after_colon, has_items, has_pairs, form, items_form, pairs_form}
-use Rattle.wv_yaml.proofs.Heads.{and_both}
-use Rattle.wv_yaml.proofs.Rows.{indented_append}
+use Rattle.std.proofs.lemmas.Bool.{and_parts}
+use Rattle.yaml_scalars.proofs.Rows.{indented_append}
 use Rattle.wv_yaml.proofs.CanonAscii.{name_same, count_same}
 use Rattle.wv_yaml.proofs.CanonLines.{quoted_chars, key_chars, text_chars, pair_line, pair_body, later_of, first_text, first_item, first_pair, later_lines, item_chunks, pair_chunks, text_of, text_append}
 
@@ -34,7 +34,7 @@ text_same : (bare : Bool) (v : List ℕ) → text_form bare v ≡ encodes (text_
 text_same bare v = at (bare && is_count v) refl
   where
     at : (b : Bool) → (bare && is_count v) ≡ b → cond b v (quoted_text v) ≡ encodes (cond b v (quoted_chars v))
-    at true e = sym (count_same v (and_both _ _ e).1)
+    at true e = sym (count_same v (and_parts _ _ e).1)
     at false e = quoted_same v
 
 -- a value's text, and the lines behind it

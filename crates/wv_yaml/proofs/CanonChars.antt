@@ -1,16 +1,14 @@
 -- The characters of the canonical text: each may stand in a document, and none is a line break.
 use Rattle.std.proofs.Common.{◌≡◌, ℕ, ◌+◌, ◌/◌, ◌%◌, ◌<◌, ◌≤◌, List, [], ◌∷◌, ◌++◌, Bool, true, false, ◌==◌, ◌&&◌, ◌||◌, nat_lt, nat_le, refl, ap, ◌∙◌, inl, inr, ◌⊎◌, arith, div-lt_iff_lt-mul, mod-lt}
-use Rattle.std.proofs.lemmas.Bool.{eqb-true, ltb-false, lt-ltb, ltb-true, le-leb}
+use Rattle.std.proofs.lemmas.Bool.{eqb-true, ltb-false, lt-ltb, ltb-true, le-leb, and_parts, and_from, or_cases, or_parts, or_left, or_right}
 use Rattle.std.specs.List.{flat_map}
 use Rattle.std.specs.Str.{chars, IsUtf8, all_scalars}
 use Rattle.std.proofs.lemmas.Str.{scalars-chars}
 use lib.Utf8.{scalar, scalar_cases, low_scalar}
-use Rattle.wv_yaml.specs.Chunks.{Each, NoneOf}
-use Rattle.wv_yaml.specs.Lines.{within, may_stand, allowed, is_break}
+use Rattle.yaml_lines.specs.Chunks.{Each, NoneOf}
+use Rattle.yaml_lines.specs.Lines.{within, may_stand, allowed, is_break}
 use Rattle.wv_yaml.specs.Canon.{hex_of, escaped, all_of, is_word_char, is_name, is_count}
-use Rattle.wv_yaml.proofs.Heads.{and_both, and_true}
-use Rattle.wv_yaml.proofs.Parts.{or_cases, or_none}
-use Rattle.wv_yaml.proofs.Ranges.{either, differs, order, beyond, or_left, or_right, within_range, range_within}
+use Rattle.yaml_lines.proofs.Ranges.{either, differs, order, beyond, within_range, range_within}
 use Rattle.wv_yaml.proofs.CanonAscii.{IsPrinted, word_printed, name_words, count_words}
 use Rattle.wv_yaml.proofs.CanonLines.{quoted_chars, key_chars, text_chars}
 
@@ -45,7 +43,7 @@ shown_scalar : (c : ℕ) → shown c ≡ true → scalar c ≡ true
 shown_scalar c e = shown_by c e (λ r. low_scalar c (omega (arith, r.1))) (λ r. low_scalar c (omega (arith, r.1))) (λ r. high (omega (arith, r.0)) (omega (arith, r.1))) (λ r. high (omega (arith, r.0)) (omega (arith, r.1)))
   where
     high : 57344 ≤ c → c < 1114112 → scalar c ≡ true
-    high l h = either (λ b. b ≡ true) (nat_lt c 55296) true (nat_le 57344 c && nat_lt c 1114112) (λ _. refl) (λ _. and_true _ _ (le-leb 57344 c l) (lt-ltb c 1114112 h))
+    high l h = either (λ b. b ≡ true) (nat_lt c 55296) true (nat_le 57344 c && nat_lt c 1114112) (λ _. refl) (λ _. and_from _ _ (le-leb 57344 c l) (lt-ltb c 1114112 h))
 
 pub shown_unbroken : (c : ℕ) → shown c ≡ true → is_break c ≡ false
 shown_unbroken c e = ap (λ b. b || (c == 13)) (differs shown c 10 e refl) ∙ differs shown c 13 e refl
@@ -57,11 +55,11 @@ each_append (c ∷ cs) ds h k = (h.0, each_append cs ds h.1 k)
 
 pub all_stand : (cs : List ℕ) → Each shown cs → (rest : List ℕ) → allowed rest ≡ true → allowed (cs ++ rest) ≡ true
 all_stand [] h rest a = a
-all_stand (c ∷ cs) h rest a = and_true _ _ (shown_stands c (cs ++ rest) h.0) (all_stand cs h.1 rest a)
+all_stand (c ∷ cs) h rest a = and_from _ _ (shown_stands c (cs ++ rest) h.0) (all_stand cs h.1 rest a)
 
 pub are_scalars : (cs : List ℕ) → Each shown cs → (rest : List ℕ) → all_scalars rest ≡ true → all_scalars (cs ++ rest) ≡ true
 are_scalars [] h rest a = a
-are_scalars (c ∷ cs) h rest a = and_true _ _ (shown_scalar c h.0) (are_scalars cs h.1 rest a)
+are_scalars (c ∷ cs) h rest a = and_from _ _ (shown_scalar c h.0) (are_scalars cs h.1 rest a)
 
 pub unbroken : (cs : List ℕ) → Each shown cs → NoneOf is_break cs
 unbroken [] h = tt
@@ -69,7 +67,7 @@ unbroken (c ∷ cs) h = (shown_unbroken c h.0, unbroken cs h.1)
 
 words_shown : (cs : List ℕ) → all_of is_word_char cs ≡ true → Each shown cs
 words_shown [] e = tt
-words_shown (c ∷ cs) e = let both = and_both _ _ e in (printed_shown c (word_printed c both.0), words_shown cs both.1)
+words_shown (c ∷ cs) e = let both = and_parts _ _ e in (printed_shown c (word_printed c both.0), words_shown cs both.1)
 
 -- escapes
 high_digit : (c : ℕ) → c < 256 → c / 16 < 16
@@ -107,7 +105,7 @@ escaped_shown c s =
 
     other : (nat_lt c 32 || within 0x7F 0x9F c) ≡ false → within 0xFFFE 0xFFFF c ≡ false → shown c ≡ true
     other e f =
-        let few = or_none (nat_lt c 32) (within 0x7F 0x9F c) e in
+        let few = or_parts (nat_lt c 32) (within 0x7F 0x9F c) e in
         elim (order 126 c) [
           | inl h ↦ high f (beyond 0x7F 0x9F c few.1 h) (scalar_cases c s)
           | inr h ↦ printed_shown c (ltb-false c 32 few.0, h)
@@ -115,7 +113,7 @@ escaped_shown c s =
 
 flat_shown : (cs : List ℕ) → all_scalars cs ≡ true → Each shown (flat_map escaped cs)
 flat_shown [] s = tt
-flat_shown (c ∷ cs) s = let both = and_both _ _ s in each_append (escaped c) (flat_map escaped cs) (escaped_shown c both.0) (flat_shown cs both.1)
+flat_shown (c ∷ cs) s = let both = and_parts _ _ s in each_append (escaped c) (flat_map escaped cs) (escaped_shown c both.0) (flat_shown cs both.1)
 
 pub quoted_shown : (v : List ℕ) → IsUtf8 v → Each shown (quoted_chars v)
 quoted_shown v u = (refl, each_append (flat_map escaped (chars v)) (34 ∷ []) (flat_shown (chars v) (scalars-chars v u)) (refl, tt))
@@ -124,4 +122,4 @@ pub key_shown : (k : List ℕ) → IsUtf8 k → Each shown (key_chars k)
 key_shown k u = either (Each shown) (is_name k) k (quoted_chars k) (λ e. words_shown k (name_words k e)) (λ _. quoted_shown k u)
 
 pub text_shown : (bare : Bool) (v : List ℕ) → IsUtf8 v → Each shown (text_chars bare v)
-text_shown bare v u = either (Each shown) (bare && is_count v) v (quoted_chars v) (λ e. words_shown v (count_words v (and_both _ _ e).1)) (λ _. quoted_shown v u)
+text_shown bare v u = either (Each shown) (bare && is_count v) v (quoted_chars v) (λ e. words_shown v (count_words v (and_parts _ _ e).1)) (λ _. quoted_shown v u)

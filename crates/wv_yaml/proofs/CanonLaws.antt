@@ -3,26 +3,26 @@ use Rattle.std.proofs.Common.{◌≡◌, ℕ, zero, suc, List, [], ◌∷◌, �
 use Rattle.std.proofs.lemmas.Bool.{cond-false}
 use Rattle.std.specs.Str.{chars, all_scalars, is_utf8}
 use lib.Utf8.{encode, encodes}
-use Rattle.wv_yaml.specs.Line.{Line, line_at}
+use Rattle.yaml_lines.specs.Line.{Line, line_at}
 use Rattle.wv_yaml.specs.declared.tree.Tree.{Tree, Text, List', Map'}
 use Rattle.wv_yaml.specs.declared.tree.Tree.TheVariants as tree
-use Rattle.wv_yaml.specs.declared.fault.YamlFault.{YamlFault}
-use Rattle.wv_yaml.specs.declared.fault.YamlFault.TheVariants.{Bytes, Grammar, Duplicate, OutOfMemory}
-use Rattle.wv_yaml.specs.Chunks.{Each}
-use Rattle.wv_yaml.specs.Marks.{trimmed, quiet, indented}
-use Rattle.wv_yaml.specs.Lines.{allowed, unmarked, NoSpace, IsBreak, LineFeed, LineAt, AreLines}
+use Rattle.yaml_scalars.specs.declared.fault.YamlFault.{YamlFault}
+use Rattle.yaml_scalars.specs.declared.fault.YamlFault.TheVariants.{Bytes, Grammar, Duplicate, OutOfMemory}
+use Rattle.yaml_lines.specs.Chunks.{Each}
+use Rattle.yaml_lines.specs.Marks.{trimmed, quiet, indented}
+use Rattle.yaml_lines.specs.Lines.{allowed, unmarked, NoSpace, IsBreak, LineFeed, LineAt, AreLines}
 use Rattle.wv_yaml.specs.Flow.{flow}
 use Rattle.wv_yaml.specs.Inline.{key_bytes, inline, begins_flow, KeyText, Inline}
 use Rattle.wv_yaml.specs.Document.{max_depth, is_triple, is_start, is_alone, is_plain_line, document, tree_of, Characters, Unmarked, Open, TopBlock, Document, Spelled}
 use Rattle.wv_yaml.specs.Canon.{is_inline, form, canon, Fits, IsCollection, InUtf8}
 use Rattle.wv_yaml.specs.Repeats.{Repeats}
 use Rattle.wv_yaml.specs.Reading.{IsAnswer}
-use Rattle.wv_yaml.specs.Gives.{Gives}
+use Rattle.yaml_scalars.specs.Gives.{Gives}
 use Rattle.wv_yaml.proofs.TreeRows.{relisted_is}
 use Rattle.wv_yaml.proofs.BlockLaws.{block_sound}
 use Rattle.wv_yaml.proofs.InlineLaws.{key_text_sound, key_text_complete, inline_sound}
 use Rattle.wv_yaml.proofs.SpelledLaws.{not_nil, spelled_sound, one_spelled}
-use Rattle.wv_yaml.proofs.Ranges.{differs}
+use Rattle.yaml_lines.proofs.Ranges.{differs}
 use Rattle.wv_yaml.proofs.CanonLines.{first_text, later_lines, text_of}
 use Rattle.wv_yaml.proofs.CanonBytes.{value_bytes}
 use Rattle.wv_yaml.proofs.CanonChars.{shown, all_stand, are_scalars, unbroken}

@@ -1,12 +1,12 @@
 -- The lines of the canonical text: how each begins, how far it is indented, and that its characters may stand.
 use Rattle.std.proofs.Common.{◌≡◌, ℕ, ◌+◌, ◌≤◌, List, [], ◌∷◌, ◌++◌, Bool, true, false, ◌==◌, ◌||◌, not, refl, sym, arith, le_refl, true≢false}
 use Rattle.std.specs.List.{AllByRecursion}
-use Rattle.wv_yaml.specs.Line.{Line, line_at}
+use Rattle.yaml_lines.specs.Line.{Line, line_at}
 use Rattle.wv_yaml.specs.declared.tree.Tree.{Tree, Text, List', Map', Row_of-Tree, end_of-Tree, more_of-Tree, Row_of-Pair, end_of-Pair, more_of-Pair}
-use Rattle.wv_yaml.specs.Chunks.{Each, unchunked}
+use Rattle.yaml_lines.specs.Chunks.{Each, unchunked}
 use Rattle.wv_yaml.specs.Canon.{is_letter, is_name, is_place, is_inline, has_items, has_pairs, InUtf8, ItemsInUtf8, PairsInUtf8}
-use Rattle.wv_yaml.proofs.Heads.{and_both}
-use Rattle.wv_yaml.proofs.Ranges.{either, or_left}
+use Rattle.std.proofs.lemmas.Bool.{and_parts, or_left}
+use Rattle.yaml_lines.proofs.Ranges.{either}
 use Rattle.wv_yaml.proofs.CanonChars.{shown, each_append, key_shown, text_shown}
 use Rattle.wv_yaml.proofs.CanonLines.{quoted_chars, key_chars, pair_line, pair_body, later_of, first_text, first_item, first_pair, later_lines, item_chunks, pair_chunks}
 
@@ -36,7 +36,7 @@ IsKeyed (c ∷ cs) = key_sign c ≡ true
 
 name_keyed : (k rest : List ℕ) → is_name k ≡ true → IsKeyed (k ++ rest)
 name_keyed [] rest e = absurd (true≢false (sym e))
-name_keyed (c ∷ cs) rest e = or_left _ (c == 34) (and_both _ _ e).0
+name_keyed (c ∷ cs) rest e = or_left _ (c == 34) (and_parts _ _ e).0
 
 key_keyed : (k rest : List ℕ) → IsKeyed (key_chars k ++ rest)
 key_keyed k rest = either (λ xs. IsKeyed (xs ++ rest)) (is_name k) k (quoted_chars k) (name_keyed k rest) (λ _. refl)

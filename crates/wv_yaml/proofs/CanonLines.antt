@@ -2,10 +2,10 @@
 use Rattle.std.proofs.Common.{◌≡◌, ℕ, ◌+◌, List, [], ◌∷◌, ◌++◌, Bool, true, false, ◌&&◌, refl, sym, ap, ◌∙◌, append_assoc, if◌then◌else◌}
 use Rattle.std.specs.List.{flat_map}
 use Rattle.std.specs.Str.{chars}
-use Rattle.wv_yaml.specs.Line.{Line, line_at}
+use Rattle.yaml_lines.specs.Line.{Line, line_at}
 use Rattle.wv_yaml.specs.declared.tree.Tree.{Tree, Text, List', Map', Row_of-Tree, end_of-Tree, more_of-Tree, Row_of-Pair, end_of-Pair, more_of-Pair}
-use Rattle.wv_yaml.specs.Chunks.{unchunked}
-use Rattle.wv_yaml.specs.Marks.{indented}
+use Rattle.yaml_lines.specs.Chunks.{unchunked}
+use Rattle.yaml_lines.specs.Marks.{indented}
 use Rattle.wv_yaml.specs.Block.{Chunk}
 use Rattle.wv_yaml.specs.Canon.{escaped, is_name, is_count, is_place, is_inline}
 

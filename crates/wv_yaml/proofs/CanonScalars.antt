@@ -5,20 +5,21 @@ use Rattle.std.specs.Str.{chars, IsUtf8}
 use Rattle.std.proofs.lemmas.Str.{encodes-chars, chars_from_encodes}
 use lib.Utf8.{encodes}
 use Rattle.wv_yaml.specs.declared.tree.Tree.TheVariants as tree
-use Rattle.wv_yaml.specs.Chunks.{◌>>=◌}
-use Rattle.wv_yaml.specs.Marks.{blank, is_end, trimmed, parted, EndsWell}
-use Rattle.wv_yaml.specs.Plain.{is_sign, plain_start, stops, RunsTo, Part, Done}
-use Rattle.wv_yaml.specs.Quoted.{joined, Double}
-use Rattle.wv_yaml.specs.Tokens.{max_key, NoMore}
+use Rattle.yaml_lines.specs.Chunks.{◌>>=◌}
+use Rattle.yaml_lines.specs.Marks.{blank, is_end, trimmed, parted, EndsWell}
+use Rattle.yaml_scalars.specs.Plain.{is_sign, plain_start, stops, RunsTo, Part, Done}
+use Rattle.yaml_lines.specs.Lines.{joined}
+use Rattle.yaml_scalars.specs.Quoted.{Double}
+use Rattle.yaml_scalars.specs.Tokens.{max_key, NoMore}
 use Rattle.wv_yaml.specs.Flow.{flow}
 use Rattle.wv_yaml.specs.Inline.{named, key_bytes, colon, inline, KeyText, PlainKey, DoubleKey, Inline, PlainOver, InDouble}
 use Rattle.wv_yaml.specs.Block.{has_key, opens}
 use Rattle.wv_yaml.specs.Canon.{escaped, is_word_char, all_of, is_name, is_count}
-use Rattle.wv_yaml.proofs.Heads.{and_both}
+use Rattle.std.proofs.lemmas.Bool.{and_parts}
 use Rattle.wv_yaml.proofs.QuoteLaws.{reads_back}
-use Rattle.wv_yaml.proofs.QuotedLaws.{double_complete}
+use Rattle.yaml_scalars.proofs.QuotedLaws.{double_complete}
 use Rattle.wv_yaml.proofs.InlineLaws.{key_text_complete, inline_complete}
-use Rattle.wv_yaml.proofs.Ranges.{either, differs}
+use Rattle.yaml_lines.proofs.Ranges.{either, differs}
 use Rattle.wv_yaml.proofs.CanonAscii.{name_words, count_words, name_same, count_same}
 use Rattle.wv_yaml.proofs.CanonLines.{quoted_chars, key_chars, text_chars}
 
@@ -53,19 +54,19 @@ unsigned c e =
 begins : (cs rest : List ℕ) → is_end cs ≡ false → all_of is_word_char cs ≡ true → plain_start parted (cs ++ rest) ≡ true
 begins [] rest n e = absurd (true≢false n)
 begins (c ∷ cs) rest n e =
-    let w : is_word_char c ≡ true = (and_both _ _ e).0 in
+    let w : is_word_char c ≡ true = (and_parts _ _ e).0 in
     rw (unsigned c w, unblank c w, other c 45 w refl, other c 63 w refl, other c 58 w refl) refl
 
 runs : (behind : Bool) (cs rest : List ℕ) → all_of is_word_char cs ≡ true → ((b : Bool) → RunsTo stops b [] rest) → RunsTo stops behind cs rest
 runs behind [] rest e f = f behind
 runs behind (c ∷ cs) rest e f =
-    let both : (is_word_char c ≡ true) × (all_of is_word_char cs ≡ true) = and_both _ _ e in
+    let both : (is_word_char c ≡ true) × (all_of is_word_char cs ≡ true) = and_parts _ _ e in
     (rw (other c 58 both.0 refl, other c 35 both.0 refl) refl, runs (blank c) cs rest both.1 f)
 
 ends : (cs : List ℕ) → all_of is_word_char cs ≡ true → EndsWell cs
 ends [] e = tt
-ends (c ∷ []) e = unblank c (and_both _ _ e).0
-ends (c ∷ d ∷ ds) e = ends (d ∷ ds) (and_both _ _ e).1
+ends (c ∷ []) e = unblank c (and_parts _ _ e).0
+ends (c ∷ d ∷ ds) e = ends (d ∷ ds) (and_parts _ _ e).1
 
 part_of : (cs rest : List ℕ) → all_of is_word_char cs ≡ true → ((b : Bool) → RunsTo stops b [] rest) → Part stops (cs ++ rest) cs rest
 part_of cs rest e f =
@@ -123,7 +124,7 @@ bare_back d n v e =
 
 pub text_back : (d n : ℕ) (bare : Bool) (v : List ℕ) → IsUtf8 v → inline d true n (text_chars bare v) [] ≡ Some (tree.Text v)
 text_back d n bare v u =
-    either (λ xs. inline d true n xs [] ≡ Some (tree.Text v)) (bare && is_count v) v (quoted_chars v) (λ e. bare_back d n v (and_both _ _ e).1) (λ _. quoted_back d n v u)
+    either (λ xs. inline d true n xs [] ≡ Some (tree.Text v)) (bare && is_count v) v (quoted_chars v) (λ e. bare_back d n v (and_parts _ _ e).1) (λ _. quoted_back d n v u)
 
 -- a quoted text is no key
 pub quoted_no_key : (v : List ℕ) → opens key_bytes (quoted_chars v) ≡ false

@@ -3,19 +3,19 @@ use Rattle.std.proofs.Common.{◌≡◌, ℕ, ◌≤◌, List, [], ◌∷◌, le
 use Rattle.std.specs.Str.{chars, IsUtf8}
 use Rattle.wv_yaml.specs.declared.tree.Tree.{Tree, Text, List', Map', Row_of-Tree, end_of-Tree, more_of-Tree, Row_of-Pair, end_of-Pair, more_of-Pair, items-the_row-Tree, items-the_row-Pair}
 use Rattle.wv_yaml.specs.declared.tree.Tree.TheVariants as tree
-use Rattle.wv_yaml.specs.Chunks.{unchunked}
-use Rattle.wv_yaml.specs.Marks.{blank, trimmed, gap, nothing, quiet, dash}
-use Rattle.wv_yaml.specs.Tokens.{max_key}
+use Rattle.yaml_lines.specs.Chunks.{unchunked}
+use Rattle.yaml_lines.specs.Marks.{blank, trimmed, gap, nothing, quiet, dash}
+use Rattle.yaml_scalars.specs.Tokens.{max_key}
 use Rattle.wv_yaml.specs.Inline.{key_bytes, inline}
 use Rattle.wv_yaml.specs.Block.{has_key, opens}
 use Rattle.wv_yaml.specs.Canon.{is_word_char, is_count, is_place, has_items, has_pairs, is_inline, Fits, PairsFit, InUtf8, PairsInUtf8}
 use Rattle.wv_yaml.proofs.TreeRows.{relisted_is}
-use Rattle.wv_yaml.proofs.Ranges.{either, differs, or_right}
+use Rattle.yaml_lines.proofs.Ranges.{either, differs}
+use Rattle.std.proofs.lemmas.Bool.{or_right, and_parts}
 use Rattle.wv_yaml.proofs.CanonAscii.{count_words}
 use Rattle.wv_yaml.proofs.CanonLines.{quoted_chars, pair_line, later_of, first_text, first_item, first_pair, later_lines, item_chunks, pair_chunks}
 use Rattle.wv_yaml.proofs.CanonLineFacts.{key_sign, Opening, Dashed, Keyed, IsKeyed}
 use Rattle.wv_yaml.proofs.CanonScalars.{unblank, key_back, text_back, quoted_no_key, list_back, map_back}
-use Rattle.wv_yaml.proofs.Heads.{and_both}
 
 -- the first character is no blank and begins no comment
 abbrev pub Leads : List ℕ → Type 0
@@ -82,10 +82,10 @@ inline_closed (Map' s row) e = ap (opens key_bytes) (no_pairs row e).0
 
 count_leads : (v : List ℕ) → is_count v ≡ true → Leads v
 count_leads [] e = absurd (true≢false (sym e))
-count_leads (c ∷ cs) e = let w = (and_both _ _ (count_words (c ∷ cs) e)).0 in (unblank c w, differs is_word_char c 35 w refl)
+count_leads (c ∷ cs) e = let w = (and_parts _ _ (count_words (c ∷ cs) e)).0 in (unblank c w, differs is_word_char c 35 w refl)
 
 pub inline_leads : (bare : Bool) (t : Tree) → is_inline t ≡ true → Leads (first_text bare t)
-inline_leads bare (Text v) e = either Leads (bare && is_count v) v (quoted_chars v) (λ h. count_leads v (and_both _ _ h).1) (λ _. (refl, refl))
+inline_leads bare (Text v) e = either Leads (bare && is_count v) v (quoted_chars v) (λ h. count_leads v (and_parts _ _ h).1) (λ _. (refl, refl))
 inline_leads bare (List' s row) e = subst Leads (sym (no_items row e).0) (refl, refl)
 inline_leads bare (Map' s row) e = subst Leads (sym (no_pairs row e).0) (refl, refl)
 

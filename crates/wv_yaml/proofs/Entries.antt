@@ -1,8 +1,7 @@
 -- The loop over the entries of a collection, one by one.
 use Rattle.std.proofs.Common.{◌≡◌, ℕ, suc, ◌+◌, ◌<◌, List, [], ◌∷◌, ◌++◌, length, take, drop, get_or, Bool, true, sym, ap, ◌∙◌, Option, Some, drop-cons, add-one}
-use Rattle.std.proofs.Math.Seq.{drop-length}
-use Rattle.wv_yaml.specs.Chunks.{◌>>=◌, collected, chunked, onto}
-use Rattle.wv_yaml.proofs.TokenSteps.{together}
+use Rattle.yaml_lines.specs.Chunks.{◌>>=◌, collected, chunked, onto}
+use Rattle.yaml_scalars.proofs.TokenSteps.{together}
 use Rattle.wv_yaml.proofs.FlowSteps.{together_step}
 
 module _ {X Y : Type 0} (head : X → Bool) (f : X × List X → Option Y) where
@@ -24,13 +23,6 @@ module _ {X Y : Type 0} (head : X → Bool) (f : X × List X → Option Y) where
       together_step ys y _ ∙ ap (λ (r : List (X × List X)). together ys (collected f r >>= λ more. Some (y ∷ more))) (sym (ap (λ xs. (chunked head xs).1) split) ∙ o)
       ∙ ap (together ys) (sym (first_entry h left len y e t g))
 
-  pub last_entry : (h : X) (left : List X) (len : ℕ) (ys : List Y) (y : Y) → head h ≡ true → take len left ≡ (chunked head left).0 →
-      (chunked head (drop len left)).1 ≡ (chunked head left).1 → f (h, take len left) ≡ Some y → len ≡ length left →
-      Some (ys ++ y ∷ []) ≡ together ys (entries_from h left)
-  last_entry h left len ys y e t o g all =
-      let none : [] ≡ (chunked head left).1 = sym (ap (λ xs. (chunked head xs).1) (ap (λ i. drop i left) all ∙ drop-length left)) ∙ o in
-      sym (ap (together ys) (first_entry h left len y e t g ∙ ap (λ r. collected f r >>= λ more. Some (y ∷ more)) (sym none)))
-
   -- the facts as the code learns them
   pub on_to_next : (h next : X) (left body more : List X) (len : ℕ) (ys ys' : List Y) (y : Y) (d : X) → head h ≡ true → take len left ≡ (chunked head left).0 →
       (chunked head (drop len left)).1 ≡ (chunked head left).1 → body ≡ take len left → f (h, body) ≡ Some y → len < length left → get_or left len d ≡ next →
@@ -40,10 +32,3 @@ module _ {X Y : Type 0} (head : X → Bool) (f : X × List X → Option Y) where
       let one : f (h, take len left) ≡ Some y = sym (ap (λ xs. f (h, xs)) b) ∙ g in
       ap (λ xs. together xs (entries_from next more)) p ∙ ap (λ xs. together (ys ++ y ∷ []) (entries_from next xs)) m
       ∙ next_entry h next left len ys y d e t o one lt n
-
-  pub at_last : (h : X) (left body : List X) (len : ℕ) (ys ys' : List Y) (y : Y) → head h ≡ true → take len left ≡ (chunked head left).0 →
-      (chunked head (drop len left)).1 ≡ (chunked head left).1 → body ≡ take len left → f (h, body) ≡ Some y → len ≡ length left →
-      ys' ≡ ys ++ y ∷ [] → together ys (entries_from h left) ≡ Some ys'
-  at_last h left body len ys ys' y e t o b g all p =
-      let one : f (h, take len left) ≡ Some y = sym (ap (λ xs. f (h, xs)) b) ∙ g in
-      sym (ap Some p ∙ last_entry h left len ys y e t o one all)

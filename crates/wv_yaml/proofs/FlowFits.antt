@@ -5,17 +5,18 @@ use Rattle.std.specs.Str.{chars, encode_utf8_all}
 use Rattle.wv_yaml.specs.declared.tree.Tree.{Tree, Text, Row_of-Tree, end_of-Tree, more_of-Tree, Row_of-Pair, end_of-Pair, more_of-Pair, items-the_row-Tree, items-the_row-Pair}
 use Rattle.wv_yaml.specs.declared.tree.Tree.TheVariants as tree
 use Rattle.wv_yaml.specs.declared.tree.Pair.{Pair}
-use Rattle.wv_yaml.specs.declared.token.Token.{Token}
-use Rattle.wv_yaml.specs.declared.token.Token.TheVariants.{OpenList, CloseList, OpenMap, CloseMap, Comma, Key, Word}
-use Rattle.wv_yaml.specs.Chunks.{collected}
-use Rattle.wv_yaml.specs.Marks.{is_end, begins_with, trimmed, gap}
-use Rattle.wv_yaml.specs.Plain.{flow_sign}
-use Rattle.wv_yaml.specs.Quoted.{white}
-use Rattle.wv_yaml.specs.Tokens.{max_key, sign_of, is_quote, word, is_key, token_of, comment_front, one_more, tokens}
+use Rattle.yaml_scalars.specs.declared.token.Token.{Token}
+use Rattle.yaml_scalars.specs.declared.token.Token.TheVariants.{OpenList, CloseList, OpenMap, CloseMap, Comma, Key, Word}
+use Rattle.yaml_lines.specs.Chunks.{collected}
+use Rattle.yaml_lines.specs.Marks.{is_end, begins_with, trimmed, gap}
+use Rattle.yaml_scalars.specs.Plain.{flow_sign}
+use Rattle.yaml_scalars.specs.Quoted.{white}
+use Rattle.yaml_scalars.specs.Tokens.{max_key, sign_of, is_quote, word, is_key, token_of, comment_front, one_more, tokens}
 use Rattle.wv_yaml.specs.Flow.{pair_of, is_comma, open_after, to_part, new_part, parts, without_empty_last, entries_of, before_last, closes_list, closes_map, flow_word, flow_pair, flow_value, flow}
 use Rattle.wv_yaml.specs.Canon.{Fits, ItemsFit, PairsFit, PairFits}
-use Rattle.wv_yaml.proofs.Heads.{and_both}
-use Rattle.wv_yaml.proofs.Parts.{chosen, bind_some, provided_some, collected_all, some_same}
+use Rattle.std.proofs.lemmas.Bool.{and_parts}
+use Rattle.yaml_lines.proofs.Parts.{chosen, bind_some, provided_some, collected_all}
+use Rattle.std.proofs.lemmas.Option.{same_Some}
 use Rattle.wv_yaml.proofs.KeyLaws.{short_text}
 use Rattle.wv_yaml.proofs.TreeRows.{items_of_list, pairs_of_map}
 use Rattle.wv_yaml.proofs.WriteSteps.{row_of_items, row_of_pairs}
@@ -79,16 +80,16 @@ entries_short (t ∷ ts) h = let r = parts_short 0 (t ∷ ts) h in last_short (p
 before_short : (closes : Token → Bool) (ts inner : List Token) → Short ts → before_last closes ts ≡ Some inner → Short inner
 before_short closes [] inner h e = absurd (cc)
 before_short closes (t ∷ []) inner h e =
-    let same : [] ≡ inner = some_same _ _ (provided_some (closes t) (Some []) inner e).1 in
+    let same : [] ≡ inner = same_Some _ _ (provided_some (closes t) (Some []) inner e).1 in
     subst Short same tt
 before_short closes (t ∷ u ∷ ts) inner h e =
     let r = bind_some (before_last closes (u ∷ ts)) _ inner e in
-    let same : t ∷ r.0 ≡ inner = some_same _ _ r.2 in
+    let same : t ∷ r.0 ≡ inner = same_Some _ _ r.2 in
     subst Short same (h.0, before_short closes (u ∷ ts) r.0 h.1 r.1)
 
 word_fits : (d : ℕ) (ts : List Token) (t : Tree) → flow_word ts ≡ Some t → Fits d t
 word_fits d [] t e = absurd (cc)
-word_fits d (Word v ∷ []) t e = subst (Fits d) (some_same (tree.Text v) t e) (text_that_fits v d)
+word_fits d (Word v ∷ []) t e = subst (Fits d) (same_Some (tree.Text v) t e) (text_that_fits v d)
 word_fits d (Word v ∷ u ∷ us) t e = absurd (cc)
 word_fits d (OpenList ∷ us) t e = absurd (cc)
 word_fits d (CloseList ∷ us) t e = absurd (cc)
@@ -102,7 +103,7 @@ module _ (d : ℕ) (read : List Token → Option Tree) (fits : (ts : List Token)
   pair_fits [] p h e = absurd (cc)
   pair_fits (Key k ∷ ts) p h e =
       let r = bind_some (read ts) _ p e in
-      let same : pair_of k r.0 ≡ p = some_same _ _ r.2 in
+      let same : pair_of k r.0 ≡ p = same_Some _ _ r.2 in
       subst (PairFits d) same (h.0, fits ts r.0 h.1 r.1)
   pair_fits (Word v ∷ us) p h e = absurd (cc)
   pair_fits (OpenList ∷ us) p h e = absurd (cc)
@@ -117,12 +118,12 @@ module _ (d : ℕ) (read : List Token → Option Tree) (fits : (ts : List Token)
       let inner = bind_some (before_last closes_list ts) _ t e in
       let items = bind_some (collected read (entries_of inner.0)) _ t inner.2 in
       let all = collected_all read Short (Fits d) fits (entries_of inner.0) items.0 (entries_short inner.0 (before_short closes_list ts inner.0 h.1 inner.1)) items.1 in
-      subst (Fits (suc d)) (some_same (tree.List items.0) t items.2) (list_that_fits items.0 d all)
+      subst (Fits (suc d)) (same_Some (tree.List items.0) t items.2) (list_that_fits items.0 d all)
   value_fits (OpenMap ∷ ts) t h e =
       let inner = bind_some (before_last closes_map ts) _ t e in
       let items = bind_some (collected (flow_pair read) (entries_of inner.0)) _ t inner.2 in
       let all = collected_all (flow_pair read) Short (PairFits d) pair_fits (entries_of inner.0) items.0 (entries_short inner.0 (before_short closes_map ts inner.0 h.1 inner.1)) items.1 in
-      subst (Fits (suc d)) (some_same (tree.Map items.0) t items.2) (map_that_fits items.0 d all)
+      subst (Fits (suc d)) (same_Some (tree.Map items.0) t items.2) (map_that_fits items.0 d all)
   value_fits (Word v ∷ us) t h e = word_fits (suc d) (Word v ∷ us) t e
   value_fits (Key k ∷ us) t h e = absurd (cc)
   value_fits (CloseList ∷ us) t h e = absurd (cc)
@@ -147,17 +148,17 @@ word_short quote text value n = by (is_key quote (take n text) value (drop n tex
   where
     by : (b : Bool) → is_key quote (take n text) value (drop n text) ≡ b →
         ShortToken (cond {A = Token × ℕ} b (Key (encode_utf8_all value), n + length (gap (drop n text))) (Word (encode_utf8_all value), n - 1)).0
-    by true e = short_text value (and_both _ _ (and_both _ _ e).1).0
+    by true e = short_text value (and_parts _ _ (and_parts _ _ e).1).0
     by false e = tt
 
 more_short : (t : Token) (o : Option (List Token)) (ts : List Token) → ShortToken t → ((us : List Token) → o ≡ Some us → Short us) → one_more t o ≡ Some ts → Short ts
 more_short t o ts a b e =
     let r = bind_some o _ ts e in
-    let same : t ∷ r.0 ≡ ts = some_same _ _ r.2 in
+    let same : t ∷ r.0 ≡ ts = same_Some _ _ r.2 in
     subst Short same (a, b r.0 r.1)
 
 pub tokens_short : (behind : Bool) (k : ℕ) (text : List ℕ) (ts : List Token) → tokens behind k text ≡ Some ts → Short ts
-tokens_short behind k [] ts e = subst Short (some_same [] ts e) tt
+tokens_short behind k [] ts e = subst Short (same_Some [] ts e) tt
 tokens_short behind (suc k) (c ∷ cs) ts e = tokens_short behind k cs ts e
 tokens_short behind zero (c ∷ cs) ts e =
     let rec : (b : Bool) (n : ℕ) (us : List Token) → tokens b n cs ≡ Some us → Short us = λ b n us g. tokens_short b n cs us g in

@@ -1,19 +1,19 @@
 -- Flow collections: the function gives what the relation says, and nothing else.
 use Rattle.std.proofs.Common.{◌≡◌, ℕ, zero, suc, List, [], ◌∷◌, ◌++◌, Bool, true, false, refl, sym, ap, ◌∙◌, subst, cond, append_assoc, append-nil, Option, Some, ◌==◌, ◌&&◌, arith}
-use Rattle.std.proofs.lemmas.Bool.{cond-false, eqb-true}
+use Rattle.std.proofs.lemmas.Bool.{cond-false, eqb-true, and_parts}
 use Rattle.wv_yaml.specs.declared.tree.Tree.{Tree}
 use Rattle.wv_yaml.specs.declared.tree.Tree.TheVariants as tree
 use Rattle.wv_yaml.specs.declared.tree.Pair.{Pair}
-use Rattle.wv_yaml.specs.declared.token.Token.{Token}
-use Rattle.wv_yaml.specs.declared.token.Token.TheVariants.{OpenList, CloseList, OpenMap, CloseMap, Comma, Key, Word}
-use Rattle.wv_yaml.specs.Chunks.{Pairwise, ◌>>=◌, collected}
-use Rattle.wv_yaml.specs.Marks.{is_end}
+use Rattle.yaml_scalars.specs.declared.token.Token.{Token}
+use Rattle.yaml_scalars.specs.declared.token.Token.TheVariants.{OpenList, CloseList, OpenMap, CloseMap, Comma, Key, Word}
+use Rattle.yaml_lines.specs.Chunks.{Pairwise, ◌>>=◌, collected}
+use Rattle.yaml_lines.specs.Marks.{is_end}
 use Rattle.wv_yaml.specs.Flow.{pair_of, is_comma, open_after, to_part, new_part, parts, without_empty_last, entries_of, before_last, closes_list, closes_map, flow_word, flow_pair, flow_value, flow, as_list, as_map, Separated, NoPart, LastPart, LastComma, NextPart, PairOf, FlowValue, FlowWord, FlowList, FlowMap, IsFlowWord, Flow}
-use Rattle.wv_yaml.proofs.Heads.{and_both}
-use Rattle.wv_yaml.proofs.Parts.{bind_some, provided_some, some_same}
-use Rattle.wv_yaml.proofs.ChunkLaws.{collected_sound, collected_complete}
+use Rattle.yaml_lines.proofs.Parts.{bind_some, provided_some}
+use Rattle.std.proofs.lemmas.Option.{same_Some}
+use Rattle.yaml_lines.proofs.ChunkLaws.{collected_sound, collected_complete}
 use Rattle.wv_yaml.proofs.FlowSteps.{after_comma}
-use Rattle.wv_yaml.proofs.PlainLaws.{passed}
+use Rattle.yaml_scalars.proofs.PlainLaws.{passed, end_is}
 
 comma_is : (t : Token) → is_comma t ≡ true → t ≡ Comma
 comma_is Comma e = refl
@@ -47,11 +47,11 @@ last_sound : (closes : Token → Bool) (ts inner : List Token) → before_last c
 last_sound closes [] inner e = absurd (cc)
 last_sound closes (t ∷ []) inner e =
     let p = provided_some (closes t) (Some []) inner e in
-    (t, p.0, ap (λ xs. xs ++ t ∷ []) (some_same [] inner p.1))
+    (t, p.0, ap (λ xs. xs ++ t ∷ []) (same_Some [] inner p.1))
 last_sound closes (t ∷ u ∷ ts) inner e =
     let r = bind_some (before_last closes (u ∷ ts)) _ inner e in
     let h = last_sound closes (u ∷ ts) r.0 r.1 in
-    (h.0, h.1, ap (λ xs. t ∷ xs) h.2 ∙ ap (λ xs. xs ++ h.0 ∷ []) (some_same (t ∷ r.0) inner r.2))
+    (h.0, h.1, ap (λ xs. t ∷ xs) h.2 ∙ ap (λ xs. xs ++ h.0 ∷ []) (same_Some (t ∷ r.0) inner r.2))
 
 last_complete : (closes : Token → Bool) (inner : List Token) (t : Token) → closes t ≡ true → before_last closes (inner ++ t ∷ []) ≡ Some inner
 last_complete closes [] t e = passed (closes t) [] e
@@ -69,12 +69,8 @@ parts_whole k (t ∷ ts) = at (is_comma t && (k == 0)) refl (parts_whole 0 ts) (
   where
     at : (b : Bool) → (is_comma t && (k == 0)) ≡ b → ts ≡ (parts 0 ts).0 ++ with_commas (parts 0 ts).1 → ts ≡ (parts (open_after k t) ts).0 ++ with_commas (parts (open_after k t) ts).1 →
         t ∷ ts ≡ (cond b (new_part (parts 0 ts)) (to_part t (parts (open_after k t) ts))).0 ++ with_commas (cond b (new_part (parts 0 ts)) (to_part t (parts (open_after k t) ts))).1
-    at true e h g = ap (λ x. x ∷ ts) (comma_is t (and_both _ _ e).0) ∙ ap (λ xs. Comma ∷ xs) h
+    at true e h g = ap (λ x. x ∷ ts) (comma_is t (and_parts _ _ e).0) ∙ ap (λ xs. Comma ∷ xs) h
     at false e h g = ap (λ xs. t ∷ xs) g
-
-end_is : (q : List Token) → is_end q ≡ true → q ≡ []
-end_is [] e = refl
-end_is (t ∷ ts) e = absurd (cc)
 
 first_stays : (q : List Token) (qs : List (List Token)) → (rest : List (List Token)) × (without_empty_last q qs ≡ q ∷ rest)
 first_stays q [] = ([], refl)
@@ -192,7 +188,7 @@ flow_some (suc d) _ _ (FlowMap entries inner pairs s w) = refl
 -- scalars
 word_sound : (ts : List Token) (t : Tree) → flow_word ts ≡ Some t → IsFlowWord ts t
 word_sound [] t e = absurd (cc)
-word_sound (Word v ∷ []) t e = (v, refl, sym (some_same (tree.Text v) t e))
+word_sound (Word v ∷ []) t e = (v, refl, sym (same_Some (tree.Text v) t e))
 word_sound (Word v ∷ u ∷ us) t e = absurd (cc)
 word_sound (OpenList ∷ us) t e = absurd (cc)
 word_sound (CloseList ∷ us) t e = absurd (cc)
@@ -207,7 +203,7 @@ module _ (R : List Token → Tree → Type 0) (read : List Token → Option Tree
     pair_sound [] p e = absurd (cc)
     pair_sound (Key k ∷ ts) p e =
         let r = bind_some (read ts) _ p e in
-        let same : pair_of k r.0 ≡ p = some_same _ _ r.2 in
+        let same : pair_of k r.0 ≡ p = same_Some _ _ r.2 in
         subst (PairOf R (Key k ∷ ts)) same (record { rest = ts; key = refl; value = sound ts r.0 r.1 })
     pair_sound (Word v ∷ us) p e = absurd (cc)
     pair_sound (OpenList ∷ us) p e = absurd (cc)
@@ -225,7 +221,7 @@ module _ (R : List Token → Tree → Type 0) (read : List Token → Option Tree
         let whole : ts ≡ inner.0 ++ CloseList ∷ [] = last.2 ∙ ap (λ x. inner.0 ++ x ∷ []) (list_end last.0 last.1) in
         let one : FlowValue R (OpenList ∷ (inner.0 ++ CloseList ∷ [])) (tree.List items.0) =
         FlowList (entries_of inner.0) inner.0 items.0 (entries_sound inner.0) (collected_sound read R sound (entries_of inner.0) items.0 items.1) in
-        subst (FlowValue R (OpenList ∷ ts)) (some_same (tree.List items.0) t items.2) (subst (λ xs. FlowValue R (OpenList ∷ xs) (tree.List items.0)) (sym whole) one)
+        subst (FlowValue R (OpenList ∷ ts)) (same_Some (tree.List items.0) t items.2) (subst (λ xs. FlowValue R (OpenList ∷ xs) (tree.List items.0)) (sym whole) one)
     value_sound (OpenMap ∷ ts) t e =
         let inner = bind_some (before_last closes_map ts) _ t e in
         let pairs = bind_some (collected (flow_pair read) (entries_of inner.0)) _ t inner.2 in
@@ -233,7 +229,7 @@ module _ (R : List Token → Tree → Type 0) (read : List Token → Option Tree
         let whole : ts ≡ inner.0 ++ CloseMap ∷ [] = last.2 ∙ ap (λ x. inner.0 ++ x ∷ []) (map_end last.0 last.1) in
         let one : FlowValue R (OpenMap ∷ (inner.0 ++ CloseMap ∷ [])) (tree.Map pairs.0) =
         FlowMap (entries_of inner.0) inner.0 pairs.0 (entries_sound inner.0) (collected_sound (flow_pair read) (PairOf R) pair_sound (entries_of inner.0) pairs.0 pairs.1) in
-        subst (FlowValue R (OpenMap ∷ ts)) (some_same (tree.Map pairs.0) t pairs.2) (subst (λ xs. FlowValue R (OpenMap ∷ xs) (tree.Map pairs.0)) (sym whole) one)
+        subst (FlowValue R (OpenMap ∷ ts)) (same_Some (tree.Map pairs.0) t pairs.2) (subst (λ xs. FlowValue R (OpenMap ∷ xs) (tree.Map pairs.0)) (sym whole) one)
     value_sound (Word v ∷ us) t e =
         let h = word_sound (Word v ∷ us) t e in
         let one : FlowValue R (Word h.0 ∷ []) (tree.Text h.0) = FlowWord h.0 in

@@ -1,12 +1,12 @@
 -- The parts of a flow collection one by one.
 use Rattle.std.proofs.Common.{◌≡◌, ℕ, zero, suc, ◌+◌, ◌-◌, ◌<◌, List, [], ◌∷◌, ◌++◌, length, take, drop, get_or, Bool, true, false, refl, sym, ap, ◌∙◌, cond, append_assoc, Option, Some, None, arith, IsTrue, drop-cons, le_refl, ◌&&◌, ◌==◌}
 use Rattle.std.proofs.lemmas.List.{take_more, take_all}
-use Rattle.wv_yaml.specs.declared.token.Token.{Token}
-use Rattle.wv_yaml.specs.declared.token.Token.TheVariants as token
-use Rattle.wv_yaml.specs.Chunks.{◌>>=◌, provided, collected}
-use Rattle.wv_yaml.specs.Marks.{is_end}
+use Rattle.yaml_scalars.specs.declared.token.Token.{Token}
+use Rattle.yaml_scalars.specs.declared.token.Token.TheVariants as token
+use Rattle.yaml_lines.specs.Chunks.{◌>>=◌, provided, collected}
+use Rattle.yaml_lines.specs.Marks.{is_end}
 use Rattle.wv_yaml.specs.Flow.{is_comma, open_after, new_part, to_part, parts, without_empty_last, entries_of, before_last, flow, flow_value, flow_pair, as_list, as_map, closes_list, closes_map}
-use Rattle.wv_yaml.proofs.TokenSteps.{together}
+use Rattle.yaml_scalars.proofs.TokenSteps.{together}
 
 pub together_step : {Y : Type 0} (ys : List Y) (y : Y) (o : Option (List Y)) → together (ys ++ y ∷ []) o ≡ together ys (o >>= λ more. Some (y ∷ more))
 together_step ys y None = refl

@@ -1,43 +1,23 @@
 -- What is known of the first line of an entry.
-use Rattle.std.proofs.Common.{◌≡◌, ℕ, zero, suc, ◌-◌, ◌<◌, List, [], ◌∷◌, length, take, drop, get_or, Bool, true, false, All, refl, sym, ap, ◌∙◌, subst, ◌&&◌, not, eq-eqb, arith}
-use Rattle.std.proofs.lemmas.Bool.{eqb-true, cond-true, cond-false}
-use Rattle.std.proofs.lemmas.List.Elements.{All-drop, All-take}
-use Rattle.wv_yaml.specs.Line.{Line, IsSmall}
-use Rattle.wv_yaml.specs.Marks.{quiet, dash}
+use Rattle.std.proofs.Common.{◌≡◌, ℕ, zero, suc, ◌-◌, ◌<◌, List, ◌∷◌, length, drop, get_or, true, false, All, sym, ap, ◌∙◌, subst, not, eq-eqb, arith}
+use Rattle.std.proofs.lemmas.Bool.{and_from, cond-true, cond-false}
+use Rattle.std.proofs.lemmas.List.Elements.{All-drop}
+use Rattle.yaml_lines.specs.Line.{Line, IsSmall}
+use Rattle.yaml_lines.specs.Marks.{quiet, dash}
 use Rattle.wv_yaml.specs.Inline.{key_bytes, inline}
 use Rattle.wv_yaml.specs.Block.{is_item, is_pair, sequence, mapping, block}
-
-pub and_both : (a b : Bool) → (a && b) ≡ true → (a ≡ true) × (b ≡ true)
-and_both true b e = (refl, e)
-and_both false b e = absurd (cc)
-
-pub and_true : (a b : Bool) → a ≡ true → b ≡ true → (a && b) ≡ true
-and_true a b e f = rw (e, f) refl
 
 pub small_from : (k : ℕ) (xs ys : List Line) → All IsSmall xs → ys ≡ drop k xs → All IsSmall ys
 small_from k xs ys h e = subst (All IsSmall) (sym e) (All-drop IsSmall k xs h)
 
-pub small_to : (k : ℕ) (xs ys : List Line) → All IsSmall xs → ys ≡ take k xs → All IsSmall ys
-small_to k xs ys h e = subst (All IsSmall) (sym e) (All-take IsSmall k xs h)
-
 pub small_at : (ys : List Line) (i : ℕ) (l : Line) → All IsSmall ys → i < length ys → l ≡ get_or ys i l → IsSmall l
 small_at ys i l h lt e = subst IsSmall (sym e) (h i l lt)
 
-pub item_is : (n : ℕ) (l : Line) → is_item n l ≡ true → (l.indent ≡ n) × (dash l.text ≡ true)
-item_is n l h =
-    let here = and_both _ _ h in
-    (eqb-true _ _ here.0, here.1)
-
 pub is_item_at : (n : ℕ) (l : Line) → l.indent ≡ n → dash l.text ≡ true → is_item n l ≡ true
-is_item_at n l e d = and_true _ _ (eq-eqb l.indent n e) d
+is_item_at n l e d = and_from _ _ (eq-eqb l.indent n e) d
 
 pub is_pair_at : (n : ℕ) (l : Line) → l.indent ≡ n → dash l.text ≡ false → quiet l.text ≡ false → is_pair n l ≡ true
-is_pair_at n l e d q = and_true _ _ (eq-eqb l.indent n e) (and_true _ _ (ap not d) (ap not q))
-
--- an entry has its dash
-pub dash_some : (text : List ℕ) → dash text ≡ true → 0 < length text
-dash_some [] e = absurd (cc)
-dash_some (c ∷ cs) e = omega arith
+is_pair_at n l e d q = and_from _ _ (eq-eqb l.indent n e) (and_from _ _ (ap not d) (ap not q))
 
 -- a collection that begins with a dash, and another
 pub block_dash : (d : ℕ) (l : Line) (ls : List Line) → 0 < d → dash l.text ≡ true →

@@ -1,26 +1,28 @@
 -- Keys, and values that begin on a line: the functions give what the relations say, and nothing else.
 use Rattle.std.proofs.Common.{◌≡◌, ℕ, suc, ◌≤◌, List, [], ◌∷◌, ◌++◌, length, drop, Bool, true, false, refl, sym, ap, ◌∙◌, subst, cond, inl, inr, Option, Some, None, ◌==◌, ◌&&◌, ◌||◌, not, nat_le}
-use Rattle.std.proofs.lemmas.Bool.{cond-true, cond-false, eqb-true, not-true, leb-true, le-leb}
+use Rattle.std.proofs.lemmas.Bool.{cond-true, cond-false, eqb-true, not-true, leb-true, le-leb, and_parts, and_from, or_parts}
 use Rattle.std.specs.Str.{encode_utf8_all}
-use Rattle.wv_yaml.specs.Line.{Line}
+use Rattle.yaml_lines.specs.Line.{Line}
 use Rattle.wv_yaml.specs.declared.tree.Tree.{Tree}
 use Rattle.wv_yaml.specs.declared.tree.Tree.TheVariants as tree
-use Rattle.wv_yaml.specs.declared.token.Token.{Token}
-use Rattle.wv_yaml.specs.Chunks.{◌>>=◌, provided}
-use Rattle.wv_yaml.specs.Marks.{is_end, gap, trimmed, without_end, nothing, parted, all_quiet}
-use Rattle.wv_yaml.specs.Plain.{is_sign, plain_start, stops, cut, goes_on, plain_lines, Part}
-use Rattle.wv_yaml.specs.Quoted.{joined, quoted, double_step, single_step, Double, Single}
-use Rattle.wv_yaml.specs.BlockScalar.{block_scalar}
-use Rattle.wv_yaml.specs.Tokens.{max_key, tokens, is_silent}
+use Rattle.yaml_scalars.specs.declared.token.Token.{Token}
+use Rattle.yaml_lines.specs.Chunks.{◌>>=◌, provided}
+use Rattle.yaml_lines.specs.Marks.{is_end, gap, trimmed, without_end, nothing, parted, all_quiet}
+use Rattle.yaml_scalars.specs.Plain.{is_sign, plain_start, stops, cut, goes_on, plain_lines, Part}
+use Rattle.yaml_lines.specs.Lines.{joined}
+use Rattle.yaml_scalars.specs.Quoted.{quoted, double_step, single_step, Double, Single}
+use Rattle.yaml_scalars.specs.BlockScalar.{block_scalar}
+use Rattle.yaml_scalars.specs.Tokens.{max_key, tokens, is_silent}
 use Rattle.wv_yaml.specs.Flow.{flow}
 use Rattle.wv_yaml.specs.Inline.{colon, quoted_key, key, named, key_bytes, as_text, quoted_alone, flow_text, opens_flow, scalar, inline, KeyEnd, KeyAt, PlainKey, DoubleKey, SingleKey, KeyText, FlowText, Silent, Inline, PlainOver, PlainThen, InDouble, InSingle, Literal, Folded, InFlow}
-use Rattle.wv_yaml.proofs.Heads.{and_both, and_true}
-use Rattle.wv_yaml.proofs.Parts.{chosen, bind_some, provided_some, some_same, or_none}
-use Rattle.wv_yaml.proofs.ChunkLaws.{gap_whole, gap_blanks, gap_again}
-use Rattle.wv_yaml.proofs.PlainLaws.{part_sound, part_complete, goes_on_sound, goes_on_complete, end_is, comment_is, quiet_sound, quiet_complete, passed}
-use Rattle.wv_yaml.proofs.QuotedLaws.{double_sound, double_complete, single_sound, single_complete}
-use Rattle.wv_yaml.proofs.ScalarLaws.{block_text_sound, block_text_complete}
-use Rattle.wv_yaml.proofs.TokenLaws.{tokens_sound, lexed_complete, no_sign}
+use Rattle.yaml_lines.proofs.Parts.{chosen, bind_some, provided_some}
+use Rattle.std.proofs.lemmas.Option.{same_Some}
+use Rattle.yaml_lines.proofs.ChunkLaws.{gap_whole, gap_blanks, gap_again}
+use Rattle.yaml_scalars.proofs.PlainLaws.{part_sound, part_complete, goes_on_sound, goes_on_complete, end_is, comment_is, quiet_sound, quiet_complete, passed}
+use Rattle.yaml_scalars.proofs.QuotedLaws.{double_sound, double_complete, single_sound, single_complete}
+use Rattle.yaml_scalars.proofs.ScalarLaws.{block_text_sound, block_text_complete}
+use Rattle.yaml_scalars.proofs.TokenLaws.{tokens_sound, lexed_complete, no_sign}
+use Rattle.yaml_scalars.proofs.FoldOut.{plain_first}
 use Rattle.wv_yaml.proofs.FlowLaws.{flow_sound, flow_complete}
 
 -- a colon
@@ -34,13 +36,13 @@ colon_sound : (name xs : List ℕ) (q : List ℕ × List ℕ) → colon name xs 
 colon_sound name [] q e = absurd (cc)
 colon_sound name (c ∷ cs) q e =
     let p : (((c == 58) && (parted cs && nat_le (length name) max_key)) ≡ true) × (Some (name, cs) ≡ Some q) = provided_some _ _ q e in
-    let same : (name, cs) ≡ q = some_same _ _ p.1 in
-    let both = and_both _ _ p.0 in
-    let more = and_both _ _ both.1 in
+    let same : (name, cs) ≡ q = same_Some _ _ p.1 in
+    let both = and_parts _ _ p.0 in
+    let more = and_parts _ _ both.1 in
     subst (Colon name (c ∷ cs)) same (record { whole = ap (λ x. x ∷ cs) (eqb-true c 58 both.0); apart = more.0; short = leb-true (length name) max_key more.1; name_is = refl })
 
 colon_back : (name rest : List ℕ) → parted rest ≡ true → length name ≤ max_key → colon name (58 ∷ rest) ≡ Some (name, rest)
-colon_back name rest p s = passed (parted rest && nat_le (length name) max_key) (name, rest) (and_true _ _ p (le-leb _ _ s))
+colon_back name rest p s = passed (parted rest && nat_le (length name) max_key) (name, rest) (and_from _ _ p (le-leb _ _ s))
 
 key_end : (name xs : List ℕ) (q : List ℕ × List ℕ) → Colon name (trimmed xs) q → (xs ≡ gap xs ++ (58 ∷ q.1)) × KeyEnd q.0 (gap xs) q.1
 key_end name xs q c =
@@ -74,11 +76,7 @@ key_sound (c ∷ cs) k e =
 
 -- the first character of a plain scalar
 pub first_plain : (c : ℕ) (cs : List ℕ) → plain_start parted (c ∷ cs) ≡ true → is_sign c ≡ false
-first_plain c cs e = (or_none _ _ (not-true _ (and_both _ _ e).0)).0
-
-plain_by : (text : List ℕ) (X : Type 0) → plain_start parted text ≡ true → ((c : ℕ) (cs : List ℕ) → text ≡ c ∷ cs → is_sign c ≡ false → X) → X
-plain_by [] X e f = absurd (cc)
-plain_by (c ∷ cs) X e f = f c cs refl (first_plain c cs e)
+first_plain c cs e = (or_parts _ _ (not-true _ (and_parts _ _ e).0)).0
 
 quoted_back : (step_of : List ℕ → Option (List ℕ × ℕ)) (inner name gap_of rest : List ℕ) (n : ℕ) → step_of inner ≡ Some (name, n) → drop n inner ≡ gap_of ++ (58 ∷ rest) → KeyEnd name gap_of rest →
     quoted_key step_of inner ≡ Some (name, rest)
@@ -102,7 +100,7 @@ key_complete _ _ _ (SingleKey inner name g rest d k) =
 pub key_text_sound : (text : List ℕ) (k : List ℕ × List ℕ) → key_bytes text ≡ Some k → KeyText text k.0 k.1
 key_text_sound text k e =
     let r = bind_some (key text) _ k e in
-    let same : (encode_utf8_all r.0.0, r.0.1) ≡ k = some_same _ _ r.2 in
+    let same : (encode_utf8_all r.0.0, r.0.1) ≡ k = same_Some _ _ r.2 in
     subst (λ (q : List ℕ × List ℕ). KeyText text q.0 q.1) same (r.0.0, key_sound text r.0 r.1, refl)
 
 pub key_text_complete : (text name rest : List ℕ) → KeyText text name rest → key_bytes text ≡ Some (name, rest)
@@ -117,20 +115,12 @@ flow_text_sound d text t e =
 pub flow_text_complete : (d : ℕ) (text : List ℕ) (t : Tree) → FlowText d text t → flow_text d text ≡ Some t
 flow_text_complete d text t h = ap (λ (o : Option (List Token)). o >>= λ ts. flow d ts) (lexed_complete false text h.0 h.1) ∙ flow_complete d h.0 t h.2
 
-abbrev no_tokens : Option (List Token) → Bool
-no_tokens None = false
-no_tokens (Some ts) = is_end ts
-
 silent_sound : (text : List ℕ) → is_silent text ≡ true → Silent text
 silent_sound text e = at (tokens false 0 text) refl e
   where
-    end_of : (ts : List Token) → is_end ts ≡ true → ts ≡ []
-    end_of [] f = refl
-    end_of (t ∷ ts) f = absurd (cc)
-
     at : (o : Option (List Token)) → tokens false 0 text ≡ o → elim o [ None ↦ false | Some ts ↦ is_end ts ] ≡ true → Silent text
     at None f g = absurd (cc)
-    at (Some ts) f g = tokens_sound false text [] (f ∙ ap Some (end_of ts g))
+    at (Some ts) f g = tokens_sound false text [] (f ∙ ap Some (end_is ts g))
 
 silent_complete : (text : List ℕ) → Silent text → is_silent text ≡ true
 silent_complete text h = ap (λ (o : Option (List Token)). elim o [ None ↦ false | Some ts ↦ is_end ts ]) (lexed_complete false text [] h)
@@ -149,13 +139,13 @@ plain_sound d here n text body v e = at (plain_start parted text) refl e
         elim (chosen (is_end (cut stops false text).1) _ _ (Some v) f) [
           | inl g ↦
               let more = bind_some (goes_on n 0 body) _ v g.1 in
-              subst (λ xs. Inline d here n body text (tree.Text (encode_utf8_all xs))) (some_same _ _ more.2)
+              subst (λ xs. Inline d here n body text (tree.Text (encode_utf8_all xs))) (same_Some _ _ more.2)
               (PlainOver text (without_end (cut stops false text).0) more.0 s (subst (λ r. Part stops text (without_end (cut stops false text).0) r) (end_is _ g.0) part) (goes_on_sound n [] body more.0 tt more.1))
           | inr g ↦
               let p = provided_some (nothing (cut stops false text).1 && all_quiet body) (Some (without_end (cut stops false text).0)) v g.1 in
-              let both = and_both _ _ p.0 in
+              let both = and_parts _ _ p.0 in
               let comment = comment_is (cut stops false text).1 g.0 both.0 in
-              subst (λ xs. Inline d here n body text (tree.Text (encode_utf8_all xs))) (some_same _ _ p.1)
+              subst (λ xs. Inline d here n body text (tree.Text (encode_utf8_all xs))) (same_Some _ _ p.1)
               (PlainThen text (without_end (cut stops false text).0) comment.0 s (subst (λ r. Part stops text (without_end (cut stops false text).0) r) comment.1 part) (quiet_sound body both.1))
         ]
 
@@ -173,13 +163,13 @@ scalar_sound d here n (c ∷ cs) body v e =
           let r = bind_some (quoted double_step 0 (joined (suc n) cs body)) _ v h.1 in
           let p = provided_some (is_silent (drop r.0.1 (joined (suc n) cs body))) (Some r.0.0) v r.2 in
           let one : Inline d here n body (34 ∷ cs) (tree.Text (encode_utf8_all r.0.0)) = InDouble cs r.0.0 (drop r.0.1 (joined (suc n) cs body)) (double_sound (joined (suc n) cs body) r.0 r.1) (silent_sound _ p.0) in
-          subst (λ xs. Inline d here n body (c ∷ cs) (tree.Text (encode_utf8_all xs))) (some_same r.0.0 v p.1) (subst (λ x. Inline d here n body (x ∷ cs) (tree.Text (encode_utf8_all r.0.0))) (sym (eqb-true c 34 h.0)) one)
+          subst (λ xs. Inline d here n body (c ∷ cs) (tree.Text (encode_utf8_all xs))) (same_Some r.0.0 v p.1) (subst (λ x. Inline d here n body (x ∷ cs) (tree.Text (encode_utf8_all r.0.0))) (sym (eqb-true c 34 h.0)) one)
       | inr h ↦ elim (chosen (c == 39) _ _ (Some v) h.1) [
         | inl g ↦
             let r = bind_some (quoted single_step 0 (joined (suc n) cs body)) _ v g.1 in
             let p = provided_some (is_silent (drop r.0.1 (joined (suc n) cs body))) (Some r.0.0) v r.2 in
             let one : Inline d here n body (39 ∷ cs) (tree.Text (encode_utf8_all r.0.0)) = InSingle cs r.0.0 (drop r.0.1 (joined (suc n) cs body)) (single_sound (joined (suc n) cs body) r.0 r.1) (silent_sound _ p.0) in
-            subst (λ xs. Inline d here n body (c ∷ cs) (tree.Text (encode_utf8_all xs))) (some_same r.0.0 v p.1) (subst (λ x. Inline d here n body (x ∷ cs) (tree.Text (encode_utf8_all r.0.0))) (sym (eqb-true c 39 g.0)) one)
+            subst (λ xs. Inline d here n body (c ∷ cs) (tree.Text (encode_utf8_all xs))) (same_Some r.0.0 v p.1) (subst (λ x. Inline d here n body (x ∷ cs) (tree.Text (encode_utf8_all r.0.0))) (sym (eqb-true c 39 g.0)) one)
         | inr g ↦ elim (chosen ((c == 124) || (c == 62)) _ _ (Some v) g.1) [
           | inl w ↦ elim (chosen here _ _ (Some v) w.1) [ inl y ↦ block (c == 62) refl w.0 y.0 y.1 | inr y ↦ absurd (cc) ]
           | inr w ↦ plain_sound d here n (c ∷ cs) body v w.1
@@ -207,17 +197,13 @@ inline_sound d here n (c ∷ cs) body t e =
       | inl h ↦ InFlow c cs t h.0 (flow_text_sound d (joined (suc n) (c ∷ cs) body) t h.1)
       | inr h ↦
           let v = bind_some (scalar here n (c ∷ cs) body) _ t h.1 in
-          subst (Inline d here n body (c ∷ cs)) (some_same (tree.Text (encode_utf8_all v.0)) t v.2) (scalar_sound d here n (c ∷ cs) body v.0 v.1)
+          subst (Inline d here n body (c ∷ cs)) (same_Some (tree.Text (encode_utf8_all v.0)) t v.2) (scalar_sound d here n (c ∷ cs) body v.0 v.1)
     ]
 
 -- a plain scalar's first character leads to it
 plain_way : (d : ℕ) (here : Bool) (n c : ℕ) (cs : List ℕ) (body : List Line) → is_sign c ≡ false → inline d here n (c ∷ cs) body ≡ as_text (plain_lines n (c ∷ cs) body)
 plain_way d here n c cs body s =
     rw (no_sign c 91 refl s, no_sign c 123 refl s, no_sign c 34 refl s, no_sign c 39 refl s, no_sign c 124 refl s, no_sign c 62 refl s) refl
-
-plain_rest : (n : ℕ) (text : List ℕ) (body : List Line) → plain_start parted text ≡ true →
-    plain_lines n text body ≡ cond (is_end (cut stops false text).1) (goes_on n 0 body >>= λ more. Some (without_end (cut stops false text).0 ++ more)) (provided (nothing (cut stops false text).1 && all_quiet body) (Some (without_end (cut stops false text).0)))
-plain_rest n text body s = rw s refl
 
 alone_back : (inside : List ℕ → Option (List ℕ × ℕ)) (text value rest : List ℕ) (n : ℕ) → inside text ≡ Some (value, n) → drop n text ≡ rest → Silent rest → quoted_alone inside text ≡ Some value
 alone_back inside text value rest n e d s =
@@ -228,14 +214,14 @@ inline_complete d here n _ body _ (PlainOver [] value more s p c) = absurd (cc)
 inline_complete d here n _ body _ (PlainOver (x ∷ xs) value more s p c) =
     let w = part_complete stops (x ∷ xs) value [] p in
     plain_way d here n x xs body (first_plain x xs s)
-    ∙ ap as_text (plain_rest n (x ∷ xs) body s ∙ cond-true (is_end (cut stops false (x ∷ xs)).1) _ _ (ap is_end w.1)
+    ∙ ap as_text (plain_first n (x ∷ xs) body s ∙ cond-true (is_end (cut stops false (x ∷ xs)).1) _ _ (ap is_end w.1)
     ∙ ap (λ (o : Option (List ℕ)). o >>= λ ys. Some (without_end (cut stops false (x ∷ xs)).0 ++ ys)) (goes_on_complete n body more c) ∙ ap (λ v. Some (v ++ more)) w.0)
 inline_complete d here n _ body _ (PlainThen [] value comment s p q) = absurd (cc)
 inline_complete d here n _ body _ (PlainThen (x ∷ xs) value comment s p q) =
     let w = part_complete stops (x ∷ xs) value (35 ∷ comment) p in
     plain_way d here n x xs body (first_plain x xs s)
-    ∙ ap as_text (plain_rest n (x ∷ xs) body s ∙ cond-false (is_end (cut stops false (x ∷ xs)).1) _ _ (ap is_end w.1)
-    ∙ passed (nothing (cut stops false (x ∷ xs)).1 && all_quiet body) (without_end (cut stops false (x ∷ xs)).0) (and_true _ _ (ap nothing w.1) (quiet_complete body q)) ∙ ap Some w.0)
+    ∙ ap as_text (plain_first n (x ∷ xs) body s ∙ cond-false (is_end (cut stops false (x ∷ xs)).1) _ _ (ap is_end w.1)
+    ∙ passed (nothing (cut stops false (x ∷ xs)).1 && all_quiet body) (without_end (cut stops false (x ∷ xs)).0) (and_from _ _ (ap nothing w.1) (quiet_complete body q)) ∙ ap Some w.0)
 inline_complete d here n _ body _ (InDouble inner value rest q s) =
     let f = double_complete (joined (suc n) inner body) value rest q in ap as_text (alone_back (quoted double_step 0) (joined (suc n) inner body) value rest f.count f.is f.left s)
 inline_complete d here n _ body _ (InSingle inner value rest q s) =

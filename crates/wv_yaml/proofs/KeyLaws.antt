@@ -1,16 +1,16 @@
 -- A key that is read has few characters.
 use Rattle.std.proofs.Common.{◌≡◌, ℕ, zero, suc, ◌+◌, ◌/◌, ◌<◌, ◌≤◌, List, [], ◌∷◌, ◌++◌, length, drop, Bool, true, false, ◌&&◌, ◌==◌, nat_lt, nat_le, refl, sym, ap, ◌∙◌, subst, cond, arith, inl, inr, Option, Some}
-use Rattle.std.proofs.lemmas.Bool.{cond-true, cond-false, leb-true, lt-ltb}
+use Rattle.std.proofs.lemmas.Bool.{cond-true, cond-false, leb-true, lt-ltb, and_parts}
 use Rattle.std.proofs.Math.Nat.{div-lt_iff_lt-mul}
 use Rattle.std.specs.Str.{chars, chars_after, continuation_len, lead_bits, encode_utf8_all}
 use lib.Utf8.{encode, encodes, next}
-use Rattle.wv_yaml.specs.Marks.{trimmed, without_end, parted}
-use Rattle.wv_yaml.specs.Plain.{stops, cut}
-use Rattle.wv_yaml.specs.Quoted.{quoted, double_step, single_step}
-use Rattle.wv_yaml.specs.Tokens.{max_key}
+use Rattle.yaml_lines.specs.Marks.{trimmed, without_end, parted}
+use Rattle.yaml_scalars.specs.Plain.{stops, cut}
+use Rattle.yaml_scalars.specs.Quoted.{quoted, double_step, single_step}
+use Rattle.yaml_scalars.specs.Tokens.{max_key}
 use Rattle.wv_yaml.specs.Inline.{colon, quoted_key, plain_key, key, key_bytes}
-use Rattle.wv_yaml.proofs.Heads.{and_both}
-use Rattle.wv_yaml.proofs.Parts.{chosen, bind_some, provided_some, some_same}
+use Rattle.yaml_lines.proofs.Parts.{chosen, bind_some, provided_some}
+use Rattle.std.proofs.lemmas.Option.{same_Some}
 
 next_char : (v : ℕ) (rest : List ℕ) → chars_after zero v rest ≡ v ∷ chars rest
 unfolding chars
@@ -85,8 +85,8 @@ colon_len : (name cs : List ℕ) (q : List ℕ × List ℕ) → colon name cs �
 colon_len name [] q e = absurd (cc)
 colon_len name (c ∷ cs) q e =
     let here : (((c == 58) && (parted cs && nat_le (length name) max_key)) ≡ true) × (Some (name, cs) ≡ Some q) = provided_some _ _ q e in
-    let same : (name, cs) ≡ q = some_same _ _ here.1 in
-    subst (λ (r : List ℕ × List ℕ). nat_le (length r.0) max_key ≡ true) same (and_both _ _ (and_both _ _ here.0).1).1
+    let same : (name, cs) ≡ q = same_Some _ _ here.1 in
+    subst (λ (r : List ℕ × List ℕ). nat_le (length r.0) max_key ≡ true) same (and_parts _ _ (and_parts _ _ here.0).1).1
 
 quoted_len : (inside : List ℕ → Option (List ℕ × ℕ)) (cs : List ℕ) (q : List ℕ × List ℕ) → quoted_key inside cs ≡ Some q → nat_le (length q.0) max_key ≡ true
 quoted_len inside cs q e = let r = bind_some (inside cs) _ q e in colon_len r.0.0 (trimmed (drop r.0.1 cs)) q r.2

@@ -1,21 +1,20 @@
 -- Keys, from what the code has read.
-use Rattle.std.proofs.Common.{◌≡◌, ℕ, ◌+◌, List, [], ◌∷◌, length, drop, Bool, true, false, refl, sym, ap, ◌∙◌, Option, Some, None, arith, ◌==◌, ◌&&◌, nat_le}
-use Rattle.std.proofs.lemmas.Bool.{cond-true}
+use Rattle.std.proofs.Common.{◌≡◌, ℕ, ◌+◌, List, [], ◌∷◌, length, drop, Bool, true, false, refl, sym, ap, ◌∙◌, Option, Some, None, arith, ◌==◌, ◌&&◌, nat_le, ◌||◌}
+use Rattle.std.proofs.lemmas.Bool.{cond-true, cond-false}
 use Rattle.std.proofs.lemmas.List.{drop-drop}
 use Rattle.std.proofs.lemmas.Str.{chars_from_encodes}
 use Rattle.std.specs.Str.{chars, IsUtf8}
-use Rattle.std.proofs.Common.{◌||◌}
-use Rattle.std.proofs.lemmas.Bool.{cond-false}
+use Rattle.std.proofs.lemmas.Option.{same_Some}
 use lib.Utf8.{encodes}
-use Rattle.wv_yaml.specs.declared.fault.YamlFault.{YamlFault}
-use Rattle.wv_yaml.specs.declared.fault.YamlFault.TheVariants.{Bytes, Grammar, Duplicate, OutOfMemory}
-use Rattle.wv_yaml.specs.Chunks.{◌>>=◌, provided}
-use Rattle.wv_yaml.specs.Marks.{begins_with, trimmed, parted, without_end}
-use Rattle.wv_yaml.specs.Plain.{plain_start, cut, stops}
-use Rattle.wv_yaml.specs.Quoted.{quoted, step_in}
-use Rattle.wv_yaml.specs.Tokens.{max_key, first_quote}
+use Rattle.yaml_scalars.specs.declared.fault.YamlFault.{YamlFault}
+use Rattle.yaml_scalars.specs.declared.fault.YamlFault.TheVariants.{Bytes, Grammar, Duplicate, OutOfMemory}
+use Rattle.yaml_lines.specs.Chunks.{◌>>=◌, provided}
+use Rattle.yaml_lines.specs.Marks.{begins_with, trimmed, parted, without_end}
+use Rattle.yaml_scalars.specs.Plain.{plain_start, cut, stops}
+use Rattle.yaml_scalars.specs.Quoted.{quoted, step_in}
+use Rattle.yaml_scalars.specs.Tokens.{max_key, first_quote}
 use Rattle.wv_yaml.specs.Inline.{key, colon, is_colon, quoted_key, plain_key, named}
-use Rattle.wv_yaml.specs.Gives.{with_text, Fails}
+use Rattle.yaml_scalars.specs.Gives.{with_text, Fails}
 
 regroup : (a b c : Bool) → (a && (b && c)) ≡ ((a && b) && c)
 regroup true b c = refl
@@ -48,11 +47,8 @@ pub record Read (o : Option (List ℕ × ℕ)) (out : List ℕ) (count : ℕ) : 
 pub read_of : (o : Option (List ℕ × ℕ)) (out : List ℕ) (count : ℕ) → with_text [] o ≡ Some (out, count) → Read o out count
 read_of None out count e = absurd (cc)
 read_of (Some (v, n)) out count e =
-    let p : (encodes v, n) ≡ (out, count) = some_same e in
+    let p : (encodes v, n) ≡ (out, count) = same_Some _ _ e in
     record { value = v; is = ap (λ m. Some (v, m)) (ap (λ (r : List ℕ × ℕ). r.1) p); bytes = sym (ap (λ (r : List ℕ × ℕ). r.0) p) }
-  where
-    some_same : {A : Type 0} {x y : A} → Some x ≡ Some y → x ≡ y
-    some_same e = cc
 
 pub quoted_key_gives : (d : Bool) (text out after rest : List ℕ) (count : ℕ) (b : Bool) → with_text [] (quoted (step_in d) 0 text) ≡ Some (out, count) → IsUtf8 out →
     after ≡ drop count text → rest ≡ trimmed after → b ≡ ends_key out rest → named (quoted_key (quoted (step_in d) 0) text) ≡ provided b (Some (out, drop 1 rest))

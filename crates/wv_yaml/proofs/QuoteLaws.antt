@@ -1,15 +1,13 @@
 -- What stands between the quotes of the canonical form is read as the text that was written.
 use Rattle.std.proofs.Common.{◌≡◌, ℕ, zero, suc, ◌+◌, ◌*◌, ◌/◌, ◌%◌, ◌-◌, ◌<◌, ◌≤◌, List, [], ◌∷◌, ◌++◌, Bool, true, false, refl, sym, ap, ◌∙◌, subst, cond, inl, inr, ◌⊎◌, append_assoc, Option, Some, arith, ◌==◌, ◌&&◌, ◌||◌, nat_lt, nat_le}
-use Rattle.std.proofs.lemmas.Bool.{cond-false, eqb-true, ltb-true, lt-ltb, leb-true}
+use Rattle.std.proofs.lemmas.Bool.{cond-false, eqb-true, ltb-true, lt-ltb, leb-true, and_parts, or_parts, or_cases}
 use Rattle.std.proofs.Math.Nat.{div-lt_iff_lt-mul, mod-eq-sub-div-mul, div-mul-le_self, lt-div-mul-add}
 use Rattle.std.specs.List.{flat_map}
-use Rattle.wv_yaml.specs.Chunks.{Each, ◌>>=◌}
-use Rattle.wv_yaml.specs.Marks.{count_of}
-use Rattle.wv_yaml.specs.Lines.{within}
+use Rattle.yaml_lines.specs.Chunks.{Each, ◌>>=◌}
+use Rattle.yaml_lines.specs.Marks.{count_of}
+use Rattle.yaml_lines.specs.Lines.{within}
 use Rattle.wv_yaml.specs.Canon.{hex_of, escaped}
-use Rattle.wv_yaml.specs.Quoted.{is_feed, white, white_front, digit, number, is_character, DoublePiece, DoubleOther, DoubleBlanks, Simple, Numbered, Close, More, Double}
-use Rattle.wv_yaml.proofs.Heads.{and_both}
-use Rattle.wv_yaml.proofs.Parts.{or_none, or_cases}
+use Rattle.yaml_scalars.specs.Quoted.{is_feed, white, white_front, digit, number, is_character, DoublePiece, DoubleOther, DoubleBlanks, Simple, Numbered, Close, More, Double}
 
 abbrev is_space : ℕ → Bool
 is_space c = c == 32
@@ -59,12 +57,12 @@ controls : (c : ℕ) → (nat_lt c 32 || within 0x7F 0x9F c) ≡ true → c < 25
 controls c e =
     elim (or_cases _ _ e) [
       | inl h ↦ let lt : c < 32 = ltb-true c 32 h in omega arith
-      | inr h ↦ let le : c ≤ 0x9F = leb-true c 0x9F (and_both _ _ h).1 in omega arith
+      | inr h ↦ let le : c ≤ 0x9F = leb-true c 0x9F (and_parts _ _ h).1 in omega arith
     ]
 
 last_two : (c : ℕ) → within 0xFFFE 0xFFFF c ≡ true → (c ≡ 0xFFFE) ⊎ (c ≡ 0xFFFF)
 last_two c e =
-    let both = and_both _ _ e in
+    let both = and_parts _ _ e in
     let low : 0xFFFE ≤ c = leb-true 0xFFFE c both.0 in
     let high : c ≤ 0xFFFF = leb-true c 0xFFFF both.1 in
     at (c == 0xFFFE) refl low high
@@ -106,7 +104,7 @@ written c rest sp = quote ((c == 34) || (c == 92)) refl
           | inl h ↦ subst P (sym (eqb-true c 34 h)) (record { piece = Simple 34 34 refl refl refl; no_white = refl })
           | inr h ↦ subst P (sym (eqb-true c 92 h)) (record { piece = Simple 92 92 refl refl refl; no_white = refl })
         ]
-    quote false e = feed (or_none _ _ e) (c == 10) refl
+    quote false e = feed (or_parts _ _ e) (c == 10) refl
       where
         back : ((c == 34) ≡ false) × ((c == 92) ≡ false) → (c == 10) ≡ false → (c == 9) ≡ false → (v : Bool) → (c == 13) ≡ v →
             Written c (cond v (92 ∷ 114 ∷ []) (cond (nat_lt c 32 || within 0x7F 0x9F c) (92 ∷ 120 ∷ hex_of (c / 16) ∷ hex_of (c % 16) ∷ []) (cond (within 0xFFFE 0xFFFF c) (92 ∷ 117 ∷ 102 ∷ 102 ∷ 102 ∷ hex_of (c % 16) ∷ []) (c ∷ [])))) rest

@@ -3,11 +3,11 @@ use Rattle.std.proofs.Common.{◌≡◌, ℕ, List, Bool, true, false, ◌&&◌,
 use Rattle.std.specs.Str.{IsUtf8, is_utf8, chars}
 use Rattle.std.proofs.lemmas.Str.{IsUtf8-from_is_utf8, is_utf8-from_IsUtf8}
 use Rattle.wv_yaml.specs.declared.tree.Tree.{Tree}
-use Rattle.wv_yaml.specs.declared.fault.YamlFault.{YamlFault}
-use Rattle.wv_yaml.specs.declared.fault.YamlFault.TheVariants.{Bytes, Grammar, Duplicate, OutOfMemory}
-use Rattle.wv_yaml.specs.Lines.{allowed, unmarked, lines_in}
+use Rattle.yaml_scalars.specs.declared.fault.YamlFault.{YamlFault}
+use Rattle.yaml_scalars.specs.declared.fault.YamlFault.TheVariants.{Bytes, Grammar, Duplicate, OutOfMemory}
+use Rattle.yaml_lines.specs.Lines.{allowed, unmarked, lines_in}
 use Rattle.wv_yaml.specs.Document.{is_allowed, tree_of, document}
-use Rattle.wv_yaml.specs.Gives.{Fails}
+use Rattle.yaml_scalars.specs.Gives.{Fails}
 use Rattle.wv_yaml.specs.Reading.{IsReading}
 
 pub reads_on : (fit : Bool) (given : Option Tree) (t : Tree) (r : Result Tree YamlFault) → fit ≡ true → given ≡ Some t → IsReading true (Some t) r → IsReading fit given r

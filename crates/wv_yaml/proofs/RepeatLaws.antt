@@ -1,18 +1,11 @@
 -- A tree's maps have two equal keys exactly where the test says so.
-use Rattle.std.proofs.Common.{◌≡◌, ℕ, List, [], ◌∷◌, ◌++◌, Bool, true, false, ◌||◌, refl, sym, ◌∙◌, inl, inr, ◌⊎◌}
+use Rattle.std.proofs.Common.{◌≡◌, ℕ, List, [], ◌∷◌, ◌++◌, Bool, true, false, ◌||◌, sym, ◌∙◌, inl, inr, ◌⊎◌}
 use Rattle.std.specs.List.{list_any}
 use Rattle.std.proofs.lemmas.Slice.Eq.{bytes_eq-Decides}
 use Rattle.wv_yaml.specs.declared.tree.Tree.{Tree, Text, List', Map', Row_of-Tree, end_of-Tree, more_of-Tree, Row_of-Pair, end_of-Pair, more_of-Pair, items-the_row-Pair}
 use Rattle.wv_yaml.specs.declared.tree.Pair.{Pair}
 use Rattle.wv_yaml.specs.Repeats.{HasKey, Repeats, ItemRepeats, PairRepeats, has_key_of, repeats_after, repeats, item_repeats, value_repeats}
-use Rattle.wv_yaml.proofs.Parts.{or_cases}
-
-or_left : (a b : Bool) → a ≡ true → (a || b) ≡ true
-or_left a b e = rw e refl
-
-or_right : (a b : Bool) → b ≡ true → (a || b) ≡ true
-or_right true b e = refl
-or_right false b e = e
+use Rattle.std.proofs.lemmas.Bool.{or_cases, or_left, or_right}
 
 -- a test of some element, one element more being last
 any_pushed : {X : Type 0} (f : X → Bool) (xs : List X) (x : X) → list_any f (xs ++ x ∷ []) ≡ true → (list_any f xs ≡ true) ⊎ (f x ≡ true)

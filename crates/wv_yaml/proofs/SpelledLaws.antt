@@ -1,29 +1,27 @@
 -- Whole texts: the functions give what the relations say, and nothing else.
 use Rattle.std.proofs.Common.{◌≡◌, ◌≢◌, ℕ, zero, suc, List, [], ◌∷◌, ◌++◌, Bool, true, false, refl, sym, ap, ◌∙◌, subst, cond, inl, inr, ◌⊎◌, append_assoc, append-nil, Some, None, Result, Ok, Err, ◌==◌, ◌&&◌, ◌||◌, not, true≢false}
-use Rattle.std.proofs.lemmas.Bool.{cond-true, cond-false, eqb-true, false_from_ne_true}
+use Rattle.std.proofs.lemmas.Bool.{cond-true, cond-false, eqb-true, false_from_ne_true, and_parts, and_from, or_parts}
 use Rattle.std.proofs.lemmas.Str.{chars-encodes, encodes-chars, scalars-chars, IsUtf8-from_is_utf8, is_utf8-from_IsUtf8}
 use Rattle.std.specs.Str.{chars}
-use Rattle.wv_yaml.specs.Line.{Line, line_at}
+use Rattle.yaml_lines.specs.Line.{Line, line_at}
 use Rattle.wv_yaml.specs.declared.tree.Tree.{Tree}
-use Rattle.wv_yaml.specs.declared.fault.YamlFault.{YamlFault}
-use Rattle.wv_yaml.specs.declared.fault.YamlFault.TheVariants.{Bytes, Grammar, Duplicate, OutOfMemory}
+use Rattle.yaml_scalars.specs.declared.fault.YamlFault.{YamlFault}
+use Rattle.yaml_scalars.specs.declared.fault.YamlFault.TheVariants.{Bytes, Grammar, Duplicate, OutOfMemory}
 use Rattle.wv_yaml.specs.Reading.{IsReading, IsAnswer}
-use Rattle.wv_yaml.specs.Chunks.{Each, NoneOf, provided}
-use Rattle.wv_yaml.specs.Marks.{begins_with, trimmed, quiet, is_end, indented, Quiet}
-use Rattle.wv_yaml.specs.Lines.{may_stand, allowed, unmarked, without_return, spaces, unspaced, ended_line, lines_from, lines_in, is_break, NoSpace, IsBreak, LineFeed, ReturnLineFeed, Missing, LineAt, AreLines}
-use Rattle.wv_yaml.specs.BlockScalar.{while, past}
-use Rattle.wv_yaml.specs.Quoted.{joined}
+use Rattle.yaml_lines.specs.Chunks.{Each, NoneOf, provided}
+use Rattle.yaml_lines.specs.Marks.{begins_with, trimmed, quiet, is_end, indented, Quiet, ahead}
+use Rattle.yaml_lines.specs.Lines.{may_stand, allowed, unmarked, without_return, spaces, unspaced, ended_line, lines_from, lines_in, is_break, NoSpace, IsBreak, LineFeed, ReturnLineFeed, Missing, LineAt, AreLines, joined}
+use Rattle.yaml_scalars.specs.BlockScalar.{while, past}
 use Rattle.wv_yaml.specs.Inline.{key_bytes, inline, begins_flow, KeyText, Inline}
-use Rattle.wv_yaml.specs.Block.{ahead}
 use Rattle.wv_yaml.specs.Document.{max_depth, is_start, is_plain_line, is_alone, opened, is_closing, top, framed, document, is_allowed, tree_of, Characters, Opened, Marked, Unmarked, Closed, Open, Stopped, Top, TopFlow, TopBlock, Document, Spelled}
-use Rattle.wv_yaml.proofs.Heads.{and_both, and_true}
-use Rattle.wv_yaml.proofs.Parts.{chosen, provided_some, some_same, or_none}
-use Rattle.wv_yaml.proofs.ChunkLaws.{Ahead, ahead_cases, ahead_loud}
+use Rattle.yaml_lines.proofs.Parts.{chosen, provided_some}
+use Rattle.std.proofs.lemmas.Option.{same_Some}
+use Rattle.yaml_lines.proofs.ChunkLaws.{Ahead, ahead_cases, ahead_loud}
 use Rattle.wv_yaml.proofs.BlockLaws.{block_sound, block_complete}
-use Rattle.wv_yaml.proofs.PlainLaws.{quiet_sound, quiet_complete}
-use Rattle.wv_yaml.proofs.ScalarLaws.{while_parts, while_back}
+use Rattle.yaml_scalars.proofs.PlainLaws.{quiet_sound, quiet_complete}
+use Rattle.yaml_scalars.proofs.ScalarLaws.{while_parts, while_back}
 use Rattle.wv_yaml.proofs.InlineLaws.{key_text_sound, key_text_complete, flow_text_sound, flow_text_complete, inline_sound, inline_complete}
-use Rattle.wv_yaml.proofs.Returns.{return_off}
+use Rattle.yaml_lines.proofs.Returns.{return_off}
 
 -- the spaces of a line
 spaced : (cs : List ℕ) → (cs ≡ indented (spaces cs) (unspaced cs)) × NoSpace (unspaced cs)
@@ -87,7 +85,7 @@ stripped (c ∷ []) rest h a = at (c == 13) refl
         let same : c ∷ [] ≡ without_return (c ∷ []) = sym (cond-false (c == 13) _ _ e) in
         record { none = subst (NoneOf is_break) same (or_false _ _ h.0 e, tt); cases = inl same }
 stripped (c ∷ d ∷ ds) rest h a =
-    let both = and_both _ _ a in
+    let both = and_parts _ _ a in
     let s = stripped (d ∷ ds) rest h.1 both.1 in
     let no13 = no_lone c (d ∷ (ds ++ 10 ∷ rest)) both.0 h.1.0 in
     record {
@@ -98,14 +96,14 @@ stripped (c ∷ d ∷ ds) rest h a =
 -- a last line without a break holds no CR
 no_returns : (front : List ℕ) → NoneOf is_feed_char front → allowed front ≡ true → NoneOf is_break front
 no_returns [] h a = tt
-no_returns (c ∷ []) h a = let both = and_both _ _ a in (or_false _ _ h.0 (no_lone c [] both.0 refl), tt)
+no_returns (c ∷ []) h a = let both = and_parts _ _ a in (or_false _ _ h.0 (no_lone c [] both.0 refl), tt)
 no_returns (c ∷ d ∷ ds) h a =
-    let both = and_both _ _ a in
+    let both = and_parts _ _ a in
     (or_false _ _ h.0 (no_lone c (d ∷ ds) both.0 h.1.0), no_returns (d ∷ ds) h.1 both.1)
 
 allowed_behind : (front rest : List ℕ) → allowed (front ++ rest) ≡ true → allowed rest ≡ true
 allowed_behind [] rest a = a
-allowed_behind (c ∷ front) rest a = allowed_behind front rest (and_both _ _ a).1
+allowed_behind (c ∷ front) rest a = allowed_behind front rest (and_parts _ _ a).1
 
 none_pushed : (front : List ℕ) (c : ℕ) → NoneOf is_feed_char front → is_feed_char c ≡ false → NoneOf is_feed_char (front ++ c ∷ [])
 none_pushed [] c h e = (e, tt)
@@ -164,11 +162,11 @@ lines_sound front (c ∷ cs) h a = at (λ (f : List ℕ) (g : NoneOf is_feed_cha
 lines_run : (front text rest : List ℕ) → NoneOf is_break text → lines_from front (text ++ rest) ≡ lines_from (front ++ text) rest
 lines_run front [] rest h = ap (λ f. lines_from f rest) (sym (append-nil front))
 lines_run front (c ∷ cs) rest h =
-    cond-false (c == 10) _ _ (or_none _ _ h.0).0 ∙ lines_run (front ++ c ∷ []) cs rest h.1 ∙ ap (λ f. lines_from f rest) (append_assoc front (c ∷ []) cs)
+    cond-false (c == 10) _ _ (or_parts _ _ h.0).0 ∙ lines_run (front ++ c ∷ []) cs rest h.1 ∙ ap (λ f. lines_from f rest) (append_assoc front (c ∷ []) cs)
 
 no_return : (text : List ℕ) → NoneOf is_break text → without_return text ≡ text
 no_return [] h = refl
-no_return (c ∷ []) h = cond-false (c == 13) _ _ (or_none _ _ h.0).1
+no_return (c ∷ []) h = cond-false (c == 13) _ _ (or_parts _ _ h.0).1
 no_return (c ∷ d ∷ ds) h = ap (λ xs. c ∷ xs) (no_return (d ∷ ds) h.1)
 
 none_after : (xs : List Line) → AreLines [] xs → xs ≡ []
@@ -199,7 +197,7 @@ lines_complete cs (l ∷ ls) h =
 -- characters
 characters_sound : (bytes : List ℕ) → is_allowed bytes ≡ true → Characters bytes (unmarked (chars bytes))
 characters_sound bytes e =
-    let both = and_both _ _ e in
+    let both = and_parts _ _ e in
     let u = IsUtf8-from_is_utf8 bytes both.0 in
     record { all = chars bytes; scalars = scalars-chars bytes u; encoded = encodes-chars bytes u; behind_mark = refl; may_stand = both.1 }
 
@@ -207,7 +205,7 @@ characters_complete : (bytes cs : List ℕ) → Characters bytes cs → (is_allo
 characters_complete bytes cs h =
     let same : chars bytes ≡ h.all = ap chars (sym h.encoded) ∙ chars-encodes h.all h.scalars in
     let cs_is : unmarked (chars bytes) ≡ cs = ap unmarked same ∙ sym h.behind_mark in
-    (and_true _ _ (is_utf8-from_IsUtf8 bytes (h.all, (h.scalars, h.encoded))) (ap allowed cs_is ∙ h.may_stand), cs_is)
+    (and_from _ _ (is_utf8-from_IsUtf8 bytes (h.all, (h.scalars, h.encoded))) (ap allowed cs_is ∙ h.may_stand), cs_is)
 
 -- documents
 ahead_skip : (before ls : List Line) → Quiet before → ahead (before ++ ls) ≡ ahead ls
@@ -218,24 +216,24 @@ opened_sound : (l : Line) (ls : List Line) → Opened (l ∷ ls) (opened (l ∷ 
 opened_sound l ls = at (is_start l && is_alone l) refl
   where
     at : (b : Bool) → (is_start l && is_alone l) ≡ b → Opened (l ∷ ls) (cond b ls (l ∷ ls))
-    at true e = let both = and_both _ _ e in Marked l ls both.0 both.1
+    at true e = let both = and_parts _ _ e in Marked l ls both.0 both.1
     at false e = Unmarked l ls e
 
 opened_complete : (ls inside : List Line) → Opened ls inside → opened ls ≡ inside
-opened_complete _ _ (Marked l ls s a) = cond-true (is_start l && is_alone l) _ _ (and_true _ _ s a)
+opened_complete _ _ (Marked l ls s a) = cond-true (is_start l && is_alone l) _ _ (and_from _ _ s a)
 opened_complete _ _ (Unmarked l ls e) = cond-false (is_start l && is_alone l) _ _ e
 
 closed_sound : (ls : List Line) → is_closing ls ≡ true → Closed ls
 closed_sound [] e = Open
 closed_sound (l ∷ ls) e =
-    let both = and_both _ _ e in
-    let more = and_both _ _ both.1 in
+    let both = and_parts _ _ e in
+    let more = and_parts _ _ both.1 in
     Stopped l ls both.0 more.0 (quiet_sound ls more.1)
 
 closed_complete : (ls : List Line) → Closed ls → (is_closing ls ≡ true) × (while is_plain_line ls ≡ [])
 closed_complete _ Open = (refl, refl)
 closed_complete _ (Stopped l ls s a q) =
-    (and_true _ _ s (and_true _ _ a (quiet_complete ls q)), cond-false (is_plain_line l) _ _ (ap (λ b. not (is_start l || b)) s ∙ at (is_start l)))
+    (and_from _ _ s (and_from _ _ a (quiet_complete ls q)), cond-false (is_plain_line l) _ _ (ap (λ b. not (is_start l || b)) s ∙ at (is_start l)))
   where
     at : (b : Bool) → not (b || true) ≡ false
     at true = refl
@@ -372,4 +370,4 @@ answer_of bytes (Err Duplicate) h = (h.1.0, spelled_sound bytes h.1.0 h.0 h.1.1,
 answer_of bytes (Err OutOfMemory) h = tt
 
 pub one_spelled : (bytes : List ℕ) (t u : Tree) → Spelled t bytes → Spelled u bytes → t ≡ u
-one_spelled bytes t u s r = some_same t u (sym (spelled_complete bytes t s).1 ∙ (spelled_complete bytes u r).1)
+one_spelled bytes t u s r = same_Some t u (sym (spelled_complete bytes t s).1 ∙ (spelled_complete bytes u r).1)

@@ -1,12 +1,12 @@
 -- What the writer appends, item by item and pair by pair.
-use Rattle.std.proofs.Common.{◌≡◌, ℕ, zero, suc, ◌+◌, ◌<◌, List, [], ◌∷◌, ◌++◌, length, drop, get_or, Bool, true, false, refl, sym, ap, ◌∙◌, subst, cond, append_assoc, arith, not, drop-cons, add-one, ◌==◌}
+use Rattle.std.proofs.Common.{◌≡◌, ℕ, suc, ◌+◌, ◌<◌, List, [], ◌∷◌, ◌++◌, length, drop, get_or, Bool, true, false, refl, sym, ap, ◌∙◌, subst, cond, append_assoc, arith, not, drop-cons, add-one, ◌==◌}
 use Rattle.std.proofs.lemmas.Bool.{eqb-true}
 use mathlib.Core.Former.{Count}
 use Rattle.std.specs.List.{AllByRecursion}
 use Rattle.wv_yaml.specs.declared.tree.Tree.{Tree, Text, List', Map', Row_of-Tree, end_of-Tree, more_of-Tree, Row_of-Pair, end_of-Pair, more_of-Pair, items-the_row-Tree, items-the_row-Pair}
 use Rattle.wv_yaml.specs.declared.tree.Pair.{Pair}
 use Rattle.wv_yaml.specs.declared.tree.Tree.TheVariants as tree
-use Rattle.wv_yaml.specs.Marks.{is_end}
+use Rattle.yaml_lines.specs.Marks.{is_end}
 use Rattle.wv_yaml.specs.Canon.{form, items_form, pairs_form, items_bytes, pairs_bytes, has_items, has_pairs, is_inline, lead, after_colon, key_text, is_place, Fits, ItemsFit, PairsFit, PairFits, text_form, bytes_are}
 use Rattle.wv_yaml.proofs.TreeRows.{items_of_list, pairs_of_map}
 
@@ -99,22 +99,6 @@ list_fits xs d w = (w.0, w.1, subst (λ ys. AllByRecursion (λ t. Fits w.0 t) ys
 pub map_fits : (ps : List Pair) (d : ℕ) → Fits d (tree.Map ps) → (e : ℕ) × (d ≡ suc e) × AllByRecursion (λ p. PairFits e p) ps
 map_fits ps d w = (w.0, w.1, subst (λ ys. AllByRecursion (λ p. PairFits w.0 p) ys) (pairs_of_map ps) (pairs_fit {m = (row_of_pairs (tree.Map ps)).0} (row_of_pairs (tree.Map ps)).1 w.0 w.2))
 
-pub fit_at : (i : ℕ) (xs : List Tree) (t : Tree) (e : ℕ) → i < length xs → t ≡ get_or xs i t → AllByRecursion (λ u. Fits e u) xs → Fits e t
-fit_at i xs t e lt m w = subst (λ u. Fits e u) (sym m) (at i xs lt w)
-  where
-    at : (i : ℕ) (xs : List Tree) → i < length xs → AllByRecursion (λ u. Fits e u) xs → Fits e (get_or xs i t)
-    at i [] lt w = absurd (omega arith)
-    at zero (x ∷ xs) lt w = w.0
-    at (suc i) (x ∷ xs) lt w = at i xs (omega arith) w.1
-
-pub pair_fit_at : (i : ℕ) (ps : List Pair) (p : Pair) (e : ℕ) → i < length ps → p ≡ get_or ps i p → AllByRecursion (λ q. PairFits e q) ps → PairFits e p
-pair_fit_at i ps p e lt m w = subst (λ q. PairFits e q) (sym m) (at i ps lt w)
-  where
-    at : (i : ℕ) (xs : List Pair) → i < length xs → AllByRecursion (λ q. PairFits e q) xs → PairFits e (get_or xs i p)
-    at i [] lt w = absurd (omega arith)
-    at zero (x ∷ xs) lt w = w.0
-    at (suc i) (x ∷ xs) lt w = at i xs (omega arith) w.1
-
 -- one item more
 pub item_out : (n : ℕ) (first : Bool) (xs : List Tree) (i : ℕ) (t : Tree) (o1 o2 o3 o4 : List ℕ) → i < length xs → t ≡ get_or xs i t →
     o2 ≡ o1 ++ lead n first → o3 ≡ o2 ++ (45 ∷ 32 ∷ []) → o4 ≡ o3 ++ form (n + 2) false t →
@@ -126,22 +110,6 @@ item_out n first xs i t o1 o2 o3 o4 lt m a b c =
     ap (λ x. x ++ R) (c ∙ ap (λ x. x ++ W) (b ∙ ap (λ x. x ++ (45 ∷ 32 ∷ [])) a))
     ∙ append_assoc ((o1 ++ lead n first) ++ (45 ∷ 32 ∷ [])) W R ∙ append_assoc (o1 ++ lead n first) (45 ∷ 32 ∷ []) (W ++ R) ∙ append_assoc o1 (lead n first) (45 ∷ 32 ∷ (W ++ R))
     ∙ ap (λ ys. o1 ++ items_bytes n first ys) (sym here)
-
--- one pair more
-pub pair_out : (n : ℕ) (first : Bool) (ps : List Pair) (i : ℕ) (p : Pair) (o1 o2 o3 o4 o5 o6 : List ℕ) → i < length ps → p ≡ get_or ps i p →
-    o2 ≡ o1 ++ lead n first → o3 ≡ o2 ++ key_text p.key → o4 ≡ o3 ++ (58 ∷ []) → o5 ≡ o4 ++ after_colon (n + 2) (is_inline p.value) → o6 ≡ o5 ++ form (n + 2) (is_place p.key) p.value →
-    o6 ++ pairs_bytes n false (drop (i + 1) ps) ≡ o1 ++ pairs_bytes n first (drop i ps)
-pair_out n first ps i p o1 o2 o3 o4 o5 o6 lt m a b c d e =
-    let L : List ℕ = lead n first in
-    let K : List ℕ = key_text p.key in
-    let A : List ℕ = after_colon (n + 2) (is_inline p.value) in
-    let W : List ℕ = form (n + 2) (is_place p.key) p.value in
-    let R : List ℕ = pairs_bytes n false (drop (i + 1) ps) in
-    let here : drop i ps ≡ p ∷ drop (i + 1) ps = drop-cons ps i p lt ∙ ap (λ x. x ∷ drop (suc i) ps) (sym m) ∙ ap (λ k. p ∷ drop k ps) (sym (add-one i)) in
-    ap (λ x. x ++ R) (e ∙ ap (λ x. x ++ W) (d ∙ ap (λ x. x ++ A) (c ∙ ap (λ x. x ++ (58 ∷ [])) (b ∙ ap (λ x. x ++ K) a))))
-    ∙ append_assoc ((((o1 ++ L) ++ K) ++ (58 ∷ [])) ++ A) W R ∙ append_assoc (((o1 ++ L) ++ K) ++ (58 ∷ [])) A (W ++ R) ∙ append_assoc ((o1 ++ L) ++ K) (58 ∷ []) (A ++ (W ++ R))
-    ∙ append_assoc (o1 ++ L) K (58 ∷ (A ++ (W ++ R))) ∙ append_assoc o1 L (K ++ (58 ∷ (A ++ (W ++ R))))
-    ∙ ap (λ ys. o1 ++ pairs_bytes n first ys) (sym here)
 
 pub list_out : (n : ℕ) (bare : Bool) (xs slice : List Tree) (t : Tree) → slice ≡ xs → t ≡ tree.List xs → is_end xs ≡ false → items_bytes n true slice ≡ form n bare t
 list_out n bare xs slice t s h e =

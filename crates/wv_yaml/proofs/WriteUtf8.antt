@@ -1,11 +1,10 @@
 -- What is written has texts and keys in UTF-8, item by item and pair by pair.
 use Rattle.std.proofs.Common.{◌≡◌, ℕ, suc, ◌+◌, ◌<◌, List, [], ◌∷◌, length, drop, get_or, true, sym, ap, ◌∙◌, subst, OnOk, Result, Ok, Err, drop-cons, add-one, true≢false}
 use Rattle.std.specs.List.{AllByRecursion}
-use Rattle.std.specs.Str.{IsUtf8}
 use Rattle.wv_yaml.specs.declared.tree.Tree.{Tree, Row_of-Tree, end_of-Tree, more_of-Tree, Row_of-Pair, end_of-Pair, more_of-Pair, items-the_row-Tree, items-the_row-Pair}
 use Rattle.wv_yaml.specs.declared.tree.Pair.{Pair}
 use Rattle.wv_yaml.specs.declared.tree.Tree.TheVariants as tree
-use Rattle.wv_yaml.specs.Marks.{is_end}
+use Rattle.yaml_lines.specs.Marks.{is_end}
 use Rattle.wv_yaml.specs.Canon.{InUtf8, ItemsInUtf8, PairsInUtf8, PairInUtf8}
 use Rattle.wv_yaml.proofs.TreeRows.{items_of_list, pairs_of_map}
 use Rattle.wv_yaml.proofs.WriteSteps.{row_of_items, row_of_pairs}
@@ -27,9 +26,6 @@ pub map_utf8 : (t : Tree) (ps : List Pair) → t ≡ tree.Map ps → AllByRecurs
 map_utf8 t ps e h =
     subst (λ u. InUtf8 u) (sym e)
     (pairs_utf8 {m = (row_of_pairs (tree.Map ps)).0} (row_of_pairs (tree.Map ps)).1 (subst (λ qs. AllByRecursion (λ p. PairInUtf8 p) qs) (sym (pairs_of_map ps)) h))
-
-pub text_utf8 : (t : Tree) (v w : List ℕ) → t ≡ tree.Text v → w ≡ v → IsUtf8 w → InUtf8 t
-text_utf8 t v w e f u = subst (λ x. InUtf8 x) (sym e) (subst IsUtf8 f u)
 
 pub none_of : {X : Type 0} (P : X → Type 0) (xs : List X) → is_end xs ≡ true → AllByRecursion P xs
 none_of P [] e = tt

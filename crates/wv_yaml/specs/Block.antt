@@ -1,11 +1,11 @@
 -- Block collections (YAML 1.2.2, 8.2), from the outside in.
 use Rattle.std.specs.Prelude.{ℕ, zero, suc, ◌+◌, List, [], ◌∷◌, length, drop, Bool, true, false, ◌==◌, ◌&&◌, ◌||◌, not, nat_lt, Option, Some, None, if◌then◌else◌}
-use Rattle.wv_yaml.specs.Line.{Line, line_at}
+use Rattle.yaml_lines.specs.Line.{Line, line_at}
 use Rattle.wv_yaml.specs.declared.tree.Tree.{Tree}
 use Rattle.wv_yaml.specs.declared.tree.Tree.TheVariants as tree
 use Rattle.wv_yaml.specs.declared.tree.Pair.{Pair}
-use Rattle.wv_yaml.specs.Chunks.{chunked, ◌>>=◌, collected}
-use Rattle.wv_yaml.specs.Marks.{trimmed, gap, nothing, quiet, dash}
+use Rattle.yaml_lines.specs.Chunks.{chunked, ◌>>=◌, collected}
+use Rattle.yaml_lines.specs.Marks.{trimmed, gap, nothing, quiet, ahead, dash}
 use Rattle.wv_yaml.specs.Flow.{pair_of, as_list, as_map}
 
 abbrev pub Chunk : Type 0
@@ -17,11 +17,6 @@ is_item n l = (l.indent == n) && dash l.text
 
 abbrev pub is_pair : ℕ → Line → Bool
 is_pair n l = (l.indent == n) && (not (dash l.text) && not (quiet l.text))
-
--- the lines from the first on that isn't quiet
-abbrev pub ahead : List Line → List Line
-ahead [] = []
-ahead (l ∷ ls) = if quiet l.text then ahead ls else l ∷ ls
 
 abbrev pub all_spaces : List ℕ → Bool
 all_spaces [] = true

@@ -4,9 +4,9 @@ use Rattle.std.specs.List.{flat_map}
 use Rattle.std.specs.Str.{encode_utf8_all, chars, IsUtf8}
 use Rattle.wv_yaml.specs.declared.tree.Tree.{Tree, Text, List', Map', Row_of-Tree, end_of-Tree, more_of-Tree, Row_of-Pair, end_of-Pair, more_of-Pair}
 use Rattle.wv_yaml.specs.declared.tree.Pair.{Pair}
-use Rattle.wv_yaml.specs.Marks.{indented}
-use Rattle.wv_yaml.specs.Lines.{within}
-use Rattle.wv_yaml.specs.Tokens.{max_key}
+use Rattle.yaml_lines.specs.Marks.{indented}
+use Rattle.yaml_lines.specs.Lines.{within}
+use Rattle.yaml_scalars.specs.Tokens.{max_key}
 
 -- a hexadecimal digit, in lower case
 abbrev pub hex_of : ℕ → ℕ

@@ -1,15 +1,14 @@
 -- Whole documents (YAML 1.2.2, 9), and which bytes spell a tree.
 use Rattle.std.specs.Prelude.{◌≡◌, ℕ, List, [], ◌∷◌, ◌++◌, drop, Bool, true, false, ◌==◌, ◌&&◌, ◌||◌, not, Option, None, if◌then◌else◌}
 use Rattle.std.specs.Str.{encode_utf8_all, all_scalars, chars, is_utf8}
-use Rattle.wv_yaml.specs.Line.{Line}
+use Rattle.yaml_lines.specs.Line.{Line}
 use Rattle.wv_yaml.specs.declared.tree.Tree.{Tree}
-use Rattle.wv_yaml.specs.Chunks.{Each, provided}
-use Rattle.wv_yaml.specs.Marks.{trimmed, quiet, is_tail, parted, all_quiet, Quiet}
-use Rattle.wv_yaml.specs.Lines.{allowed, unmarked, lines_in, AreLines}
-use Rattle.wv_yaml.specs.BlockScalar.{while, past}
-use Rattle.wv_yaml.specs.Quoted.{joined}
+use Rattle.yaml_lines.specs.Chunks.{Each, provided}
+use Rattle.yaml_lines.specs.Marks.{trimmed, quiet, is_tail, parted, all_quiet, Quiet, ahead}
+use Rattle.yaml_lines.specs.Lines.{allowed, unmarked, lines_in, AreLines, joined}
+use Rattle.yaml_scalars.specs.BlockScalar.{while, past}
 use Rattle.wv_yaml.specs.Inline.{key_bytes, inline, begins_flow, flow_text, KeyText, Inline, FlowText}
-use Rattle.wv_yaml.specs.Block.{ahead, block}
+use Rattle.wv_yaml.specs.Block.{block}
 use Rattle.wv_yaml.specs.Spelled.{Block}
 
 -- lists and maps nest at most so deep

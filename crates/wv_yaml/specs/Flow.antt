@@ -1,12 +1,12 @@
 -- Flow collections (YAML 1.2.2, 7.4), from their tokens.
 use Rattle.std.specs.Prelude.{◌≡◌, ℕ, zero, suc, ◌-◌, List, [], ◌∷◌, ◌++◌, Bool, true, false, ◌==◌, ◌&&◌, Option, Some, None, if◌then◌else◌}
-use Rattle.wv_yaml.specs.declared.token.Token.{Token}
-use Rattle.wv_yaml.specs.declared.token.Token.TheVariants.{OpenList, CloseList, OpenMap, CloseMap, Comma, Key, Word}
+use Rattle.yaml_scalars.specs.declared.token.Token.{Token}
+use Rattle.yaml_scalars.specs.declared.token.Token.TheVariants.{OpenList, CloseList, OpenMap, CloseMap, Comma, Key, Word}
 use Rattle.wv_yaml.specs.declared.tree.Tree.{Tree}
 use Rattle.wv_yaml.specs.declared.tree.Tree.TheVariants as tree
 use Rattle.wv_yaml.specs.declared.tree.Pair.{Pair}
-use Rattle.wv_yaml.specs.Chunks.{Pairwise, ◌>>=◌, collected, provided}
-use Rattle.wv_yaml.specs.Marks.{is_end}
+use Rattle.yaml_lines.specs.Chunks.{Pairwise, ◌>>=◌, collected, provided}
+use Rattle.yaml_lines.specs.Marks.{is_end}
 
 abbrev pub pair_of : List ℕ → Tree → Pair
 pair_of k v = record { key = k; value = v }

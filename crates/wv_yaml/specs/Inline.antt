@@ -1,16 +1,17 @@
 -- Keys, and the values that begin on a line: scalars and flow collections.
 use Rattle.std.specs.Prelude.{◌≡◌, ℕ, suc, ◌≤◌, List, [], ◌∷◌, ◌++◌, length, drop, Bool, true, false, ◌==◌, ◌&&◌, ◌||◌, nat_le, Option, Some, None, if◌then◌else◌}
 use Rattle.std.specs.Str.{encode_utf8_all}
-use Rattle.wv_yaml.specs.Line.{Line}
+use Rattle.yaml_lines.specs.Line.{Line}
 use Rattle.wv_yaml.specs.declared.tree.Tree.{Tree}
 use Rattle.wv_yaml.specs.declared.tree.Tree.TheVariants as tree
-use Rattle.wv_yaml.specs.declared.token.Token.{Token}
-use Rattle.wv_yaml.specs.Chunks.{Each, ◌>>=◌, provided}
-use Rattle.wv_yaml.specs.Marks.{blank, trimmed, without_end, parted, Quiet}
-use Rattle.wv_yaml.specs.Plain.{plain_start, stops, cut, plain_lines, Part, Continues}
-use Rattle.wv_yaml.specs.Quoted.{joined, quoted, double_step, single_step, Double, Single}
-use Rattle.wv_yaml.specs.BlockScalar.{block_scalar, BlockText}
-use Rattle.wv_yaml.specs.Tokens.{max_key, tokens, is_silent, Lexed}
+use Rattle.yaml_scalars.specs.declared.token.Token.{Token}
+use Rattle.yaml_lines.specs.Chunks.{Each, ◌>>=◌, provided}
+use Rattle.yaml_lines.specs.Marks.{blank, trimmed, without_end, parted, Quiet}
+use Rattle.yaml_scalars.specs.Plain.{plain_start, stops, cut, plain_lines, Part, Continues}
+use Rattle.yaml_lines.specs.Lines.{joined}
+use Rattle.yaml_scalars.specs.Quoted.{quoted, double_step, single_step, Double, Single}
+use Rattle.yaml_scalars.specs.BlockScalar.{block_scalar, BlockText}
+use Rattle.yaml_scalars.specs.Tokens.{max_key, tokens, is_silent, Lexed}
 use Rattle.wv_yaml.specs.Flow.{flow, Flow}
 
 -- a name, where a colon with a blank or the line's end behind it follows; and what follows the colon

@@ -1,17 +1,8 @@
-pub mod Line
-pub mod Chunks
-pub mod Marks
-pub mod Lines
-pub mod Plain
-pub mod Quoted
-pub mod BlockScalar
-pub mod Tokens
 pub mod Flow
 pub mod Inline
 pub mod Block
 pub mod Spelled
 pub mod Document
-pub mod Gives
 pub mod Repeats
 pub mod Reading
 pub mod Canon

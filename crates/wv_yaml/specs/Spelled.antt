@@ -1,11 +1,11 @@
 -- Which trees block collections spell.
 use Rattle.std.specs.Prelude.{◌≡◌, ℕ, zero, suc, ◌+◌, List, [], ◌∷◌, ◌++◌, length, Bool, true, false, ◌⊎◌}
-use Rattle.wv_yaml.specs.Line.{Line, line_at}
+use Rattle.yaml_lines.specs.Line.{Line, line_at}
 use Rattle.wv_yaml.specs.declared.tree.Tree.{Tree}
 use Rattle.wv_yaml.specs.declared.tree.Tree.TheVariants as tree
 use Rattle.wv_yaml.specs.declared.tree.Pair.{Pair}
-use Rattle.wv_yaml.specs.Chunks.{Each, Pairwise, unchunked, AreChunks}
-use Rattle.wv_yaml.specs.Marks.{blank, trimmed, nothing, quiet, dash, Quiet, Trimmed}
+use Rattle.yaml_lines.specs.Chunks.{Each, Pairwise, unchunked, AreChunks}
+use Rattle.yaml_lines.specs.Marks.{blank, trimmed, nothing, quiet, dash, Quiet, Trimmed}
 use Rattle.wv_yaml.specs.Flow.{pair_of}
 use Rattle.wv_yaml.specs.Block.{Chunk, is_item, is_pair, is_under, all_spaces}
 

@@ -1,23 +1,24 @@
 // Block collections.
 ghost use Rattle.std.specs.Prelude.{◌≡◌, ◌≤◌, ◌<◌, ◌+◌, ◌^◌, ◌∷◌, ◌&&◌, Bool, length, drop, take, true, false, Some, All, slice_index_or};
 ghost use Rattle.std.specs.Str.{chars};
-ghost use Rattle.wv_yaml.specs.Line.{Line as SourceLine, IsSmall};
+ghost use Rattle.yaml_lines.specs.Line.{Line as SourceLine, IsSmall};
 ghost use Rattle.wv_yaml.specs.declared.tree.Tree.{Tree};
 ghost use Rattle.wv_yaml.specs.declared.tree.Pair.{Pair};
-ghost use Rattle.wv_yaml.specs.Chunks.{chunked};
-ghost use Rattle.wv_yaml.specs.Marks.{dash, quiet};
+ghost use Rattle.yaml_lines.specs.Chunks.{chunked};
+ghost use Rattle.yaml_lines.specs.Marks.{dash, quiet, ahead};
 ghost use Rattle.wv_yaml.specs.Inline.{key_bytes, inline};
-ghost use Rattle.wv_yaml.specs.Block.{is_item, is_pair, ahead, all_spaces, opens, is_under, below, value_of, entry_of, item, pair, sequence, mapping, block};
-ghost use Rattle.wv_yaml.specs.Gives.{Gives};
+ghost use Rattle.wv_yaml.specs.Block.{is_item, is_pair, all_spaces, opens, is_under, below, value_of, entry_of, item, pair, sequence, mapping, block};
+ghost use Rattle.yaml_scalars.specs.Gives.{Gives};
 
-use crate::characters::{Characters, rest_of, slice_from, without_blanks};
-use crate::fault::YamlFault;
 use crate::inline::{inline_of, key_of};
-use crate::line::Line;
-use crate::scan::{gap_len, is_dash, is_nothing, is_quiet, lines_from, lines_to};
 use crate::tree::{Pair, Tree};
 use std::alloc::Global;
 use wv_base::{Seq, Text};
+use yaml_lines::{
+    Characters, Line, gap_len, is_dash, is_nothing, is_quiet, lines_from, lines_to, rest_of,
+    slice_from, without_blanks,
+};
+use yaml_scalars::YamlFault;
 
 /// How many quiet lines stand first.
 pub fn quiet_len(lines: &[Line<'_>]) -> usize

@@ -2,16 +2,15 @@
 ghost use Rattle.std.specs.Prelude.{◌≡◌, ◌≤◌, ◌<◌, ◌+◌, ◌∷◌, [], length, drop, take, ◌^◌, List, Option, Some, None, IsTrue, false, ◌-◌};
 ghost use Rattle.wv_yaml.specs.declared.tree.Tree.{Tree};
 ghost use Rattle.wv_yaml.specs.declared.tree.Pair.{Pair};
-ghost use Rattle.wv_yaml.specs.declared.token.Token.{Token};
-ghost use Rattle.wv_yaml.specs.Chunks.{collected};
+ghost use Rattle.yaml_scalars.specs.declared.token.Token.{Token};
+ghost use Rattle.yaml_lines.specs.Chunks.{collected};
 ghost use Rattle.wv_yaml.specs.Flow.{is_comma, closes_list, closes_map, open_after, parts, entries_of, before_last, flow_pair, flow_value, flow, as_list, as_map, closer};
-ghost use Rattle.wv_yaml.specs.Gives.{Gives};
+ghost use Rattle.yaml_scalars.specs.Gives.{Gives};
 
-use crate::fault::YamlFault;
-use crate::token::Token;
 use crate::tree::{Pair, Tree};
 use std::alloc::Global;
 use wv_base::{Seq, Text};
+use yaml_scalars::{Token, YamlFault};
 
 fn is_comma_token(token: &Token) -> bool
     ensures { result ≡ is_comma token.now }

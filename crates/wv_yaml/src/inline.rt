@@ -2,25 +2,26 @@
 ghost use Rattle.std.specs.Prelude.{◌≡◌, ◌≤◌, ◌<◌, ◌+◌, ◌++◌, ◌^◌, ◌&&◌, [], length, drop, take, false, IfOk, IsTrue, Bool, nat_le, ℕ, List, string_bytes, Option, Some, suc};
 ghost use Rattle.std.specs.Str.{encode_utf8_all, chars};
 ghost use Rattle.wv_yaml.specs.declared.tree.Tree.{Tree};
-ghost use Rattle.wv_yaml.specs.Marks.{trimmed, parted};
-ghost use Rattle.wv_yaml.specs.Plain.{plain_start, cut, stops};
-ghost use Rattle.wv_yaml.specs.Quoted.{quoted, step_in, break_before, after_breaks, joined};
-ghost use Rattle.wv_yaml.specs.Tokens.{max_key, is_silent};
+ghost use Rattle.yaml_lines.specs.Marks.{trimmed, parted};
+ghost use Rattle.yaml_scalars.specs.Plain.{plain_start, cut, stops};
+ghost use Rattle.yaml_scalars.specs.Quoted.{quoted, step_in};
+ghost use Rattle.yaml_lines.specs.Lines.{break_before, after_breaks, joined};
+ghost use Rattle.yaml_scalars.specs.Tokens.{max_key, is_silent};
 ghost use Rattle.wv_yaml.specs.Inline.{is_colon, quoted_key, named, plain_key, key_bytes, quoted_alone, opens_flow, begins_flow, scalar, flow_text, inline};
-ghost use Rattle.wv_yaml.specs.Gives.{Gives, behind};
+ghost use Rattle.yaml_scalars.specs.Gives.{Gives, behind};
 
-use crate::block_scalar::push_block;
-use crate::characters::{Characters, first_of, is_end, rest_of};
-use crate::fault::YamlFault;
 use crate::flow::flow_of;
-use crate::line::Line;
-use crate::plain::{cut_len, is_plain_start, push_chars, push_plain};
-use crate::quoted::push_quoted;
-use crate::scan::{does_begin_with, from_place, gap_len, is_parted, len_without_end};
-use crate::tokens::{is_quote_char, is_quoted_start, is_short, read_tokens};
 use crate::tree::Tree;
 use std::alloc::Global;
 use wv_base::Text;
+use yaml_lines::{
+    Characters, Line, does_begin_with, first_of, from_place, gap_len, is_end, is_parted,
+    len_without_end, rest_of,
+};
+use yaml_scalars::{
+    YamlFault, cut_len, is_plain_start, is_quote_char, is_quoted_start, is_short, push_block,
+    push_chars, push_plain, push_quoted, read_tokens,
+};
 
 fn is_colon_text(text: &Characters<'_, '_>) -> bool
     ensures value { result ≡ is_colon text.now }

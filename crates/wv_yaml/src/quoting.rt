@@ -2,13 +2,13 @@
 ghost use Rattle.std.specs.Prelude.{◌≡◌, ◌≤◌, ◌<◌, ◌+◌, ◌/◌, ◌%◌, ◌++◌, ◌∷◌, [], ◌&&◌, ◌||◌, ◌==◌, length, drop, OnOk, IfOk, List, ℕ, string_bytes, nat_lt, nat_le, not};
 ghost use Rattle.std.specs.List.{flat_map};
 ghost use Rattle.std.specs.Str.{encode_utf8_all, chars};
-ghost use Rattle.wv_yaml.specs.Lines.{within};
+ghost use Rattle.yaml_lines.specs.Lines.{within};
 ghost use Rattle.wv_yaml.specs.Canon.{hex_of, escaped, quoted_text, between_quotes};
-ghost use Rattle.wv_yaml.specs.Quoted.{Double};
+ghost use Rattle.yaml_scalars.specs.Quoted.{Double};
 
-use crate::lines::{characters, is_within};
 use std::alloc::{AllocError, Global};
 use wv_base::{OutOfMemory, Text};
+use yaml_lines::{characters_of, is_within};
 
 fn hex_digit_of(value: u32) -> char
     requires { value < 16 }
@@ -92,7 +92,7 @@ fn push_escaped_chars(out: &mut String, text: &[char]) -> Result<(), AllocError>
 pub fn push_quoted_text(alloc: Global, out: &mut String, text: &str) -> Result<(), AllocError>
     ensures { OnOk result (string_bytes out.new ≡ string_bytes out.old ++ quoted_text text.now) }
 {
-    let found = characters(alloc, text)?;
+    let found = characters_of(alloc, text)?;
     push_escaped_chars(out, found.as_slice())
 }
 

@@ -1,28 +1,26 @@
 // Whole documents.
 ghost use Rattle.std.specs.Prelude.{◌≡◌, ◌≤◌, length, drop, take, All, IfOk, true, Some, ℕ, List, ◌↔◌};
 ghost use Rattle.std.specs.Str.{chars};
-ghost use Rattle.wv_yaml.specs.Line.{IsSmall};
+ghost use Rattle.yaml_lines.specs.Line.{IsSmall};
 ghost use Rattle.wv_yaml.specs.declared.tree.Tree.{Tree};
-ghost use Rattle.wv_yaml.specs.BlockScalar.{while, past};
-ghost use Rattle.wv_yaml.specs.Lines.{allowed, unmarked, lines_in};
+ghost use Rattle.yaml_scalars.specs.BlockScalar.{while, past};
+ghost use Rattle.yaml_lines.specs.Lines.{allowed, unmarked, lines_in};
 ghost use Rattle.wv_yaml.specs.Document.{is_triple, is_start, is_stop, is_plain_line, is_alone, opened, is_closing, top, framed, document, is_allowed, tree_of, max_depth, Spelled};
 ghost use Rattle.wv_yaml.specs.Canon.{Fits, IsCollection};
-ghost use Rattle.wv_yaml.specs.Gives.{Gives};
+ghost use Rattle.yaml_scalars.specs.Gives.{Gives};
 ghost use Rattle.wv_yaml.specs.Reading.{IsReading, IsAnswer};
 
 use crate::block::{block_of, quiet_len};
-use crate::characters::{Characters, without_blanks};
-use crate::fault::YamlFault;
 use crate::inline::{does_begin_flow, flow_text_of};
-use crate::line::Line;
-use crate::lines::{are_allowed, read_lines, without_mark};
 use crate::repeats::does_repeat;
-use crate::scan::{
-    are_quiet, does_begin_with, from_place, is_parted, is_tail_text, lines_from, lines_to,
-};
 use crate::tree::Tree;
 use std::alloc::Global;
 use std::str;
+use yaml_lines::{
+    Characters, Line, are_allowed, are_quiet, does_begin_with, from_place, is_parted, is_tail_text,
+    lines_from, lines_to, read_lines, without_blanks, without_mark,
+};
+use yaml_scalars::YamlFault;
 
 /// Whether a text begins with three signs, and then a blank or the line's end.
 fn is_triple_text(c: char, text: &Characters<'_, '_>) -> bool

@@ -1,12 +1,12 @@
 // Repeated keys.
 ghost use Rattle.std.specs.Prelude.{◌≡◌, [], Bool, Some};
 ghost use Rattle.wv_yaml.specs.Repeats.{repeats_after, repeats, items_repeat, values_repeat};
-ghost use Rattle.wv_yaml.specs.Gives.{Gives};
+ghost use Rattle.yaml_scalars.specs.Gives.{Gives};
 
-use crate::fault::YamlFault;
 use crate::tree::{Pair, Tree};
 use std::alloc::Global;
 use std::collections::BTreeMap;
+use yaml_scalars::YamlFault;
 
 /// Whether two of the pairs have one key.
 fn do_keys_repeat(alloc: Global, pairs: &[Pair]) -> Result<bool, YamlFault>

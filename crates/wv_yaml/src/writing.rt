@@ -4,13 +4,13 @@ ghost use Rattle.std.specs.List.{AllByRecursion};
 ghost use Rattle.std.specs.Str.{IsUtf8};
 ghost use Rattle.wv_yaml.specs.declared.tree.Tree.{Tree};
 ghost use Rattle.wv_yaml.specs.declared.tree.Pair.{Pair};
-ghost use Rattle.wv_yaml.specs.declared.fault.YamlFault.{YamlFault};
-ghost use Rattle.wv_yaml.specs.Marks.{indented};
+ghost use Rattle.yaml_scalars.specs.declared.fault.YamlFault.{YamlFault};
+ghost use Rattle.yaml_lines.specs.Marks.{indented};
 ghost use Rattle.wv_yaml.specs.Document.{max_depth, Spelled};
 ghost use Rattle.wv_yaml.specs.Canon.{is_word_char, is_decimal, is_letter, all_of, is_name, key_text, is_count, bytes_are, is_place, text_form, is_inline, lead, after_colon, form, items_bytes, pairs_bytes, canon, Fits, PairFits, IsCollection, InUtf8, PairInUtf8};
 ghost use Rattle.wv_yaml.specs.Repeats.{Repeats};
 ghost use Rattle.wv_yaml.specs.Reading.{IsAnswer};
-ghost use Rattle.wv_yaml.specs.Gives.{Gives};
+ghost use Rattle.yaml_scalars.specs.Gives.{Gives};
 
 use crate::quoting::push_quoted_text;
 use crate::tree::{Pair, Tree};

@@ -4,7 +4,7 @@ use Rattle.wv_yaml.specs.declared.tree.Tree.{Tree}
 use Rattle.wv_yaml.specs.declared.tree.Tree.TheVariants as tree
 use Rattle.wv_yaml.specs.Flow.{pair_of, flow}
 use Rattle.wv_yaml.specs.Block.{block}
-use Rattle.wv_yaml.specs.Lines.{lines_in, unmarked}
+use Rattle.yaml_lines.specs.Lines.{lines_in, unmarked}
 use Rattle.wv_yaml.specs.Document.{document}
 use lib.Utf8.{encode}
 

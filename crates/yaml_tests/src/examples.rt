@@ -5,7 +5,7 @@ ghost use Rattle.wv_yaml.specs.declared.tree.Tree.TheVariants as tree;
 ghost use Rattle.wv_yaml.specs.Document.{max_depth};
 ghost use Rattle.wv_yaml.specs.Canon.{Fits, IsCollection};
 ghost use Rattle.wv_yaml.specs.Repeats.{Repeats};
-ghost use Rattle.wv_yaml.specs.Gives.{Gives};
+ghost use Rattle.yaml_scalars.specs.Gives.{Gives};
 
 use std::alloc::Global;
 use std::test::Fail;

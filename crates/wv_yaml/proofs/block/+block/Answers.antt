@@ -2,8 +2,8 @@ use Rattle.std.proofs.Common.{rules, arith, ◌<◌, ◌+◌, length, sym, ap, �
 use Rattle.wv_yaml.specs.declared.tree.Tree.{Tree}
 use Rattle.wv_yaml.specs.Block.{is_pair, pair, block}
 use Rattle.wv_yaml.specs.Inline.{key_bytes, inline}
-use Rattle.wv_yaml.specs.Marks.{dash, quiet}
-use Rattle.wv_yaml.specs.Gives.{Gives}
+use Rattle.yaml_lines.specs.Marks.{dash, quiet}
+use Rattle.yaml_scalars.specs.Gives.{Gives}
 use Rattle.wv_yaml.proofs.Entries.{on_to_next}
 use Rattle.wv_yaml.proofs.Heads.{small_from, small_at, block_dash, block_loud}
 use Rattle.wv_yaml.proofs.block.+block.Goals as goal

@@ -1,8 +1,8 @@
 use Rattle.std.proofs.Common.{◌≡◌, ◌+◌, ◌*◌, length, true, All}
-use Rattle.wv_yaml.specs.Line.{IsSmall}
+use Rattle.yaml_lines.specs.Line.{IsSmall}
 use Rattle.wv_yaml.specs.Block.{is_item, is_pair, item, pair, block}
 use Rattle.wv_yaml.specs.Inline.{key_bytes, inline}
-use Rattle.wv_yaml.proofs.TokenSteps.{together}
+use Rattle.yaml_scalars.proofs.TokenSteps.{together}
 use Rattle.wv_yaml.proofs.Entries.{entries_from}
 use Rattle.wv_yaml.proofs.block.+block.Given as goal
 

@@ -1,7 +1,8 @@
 use Rattle.std.proofs.Common.{◌∙◌, ◌≡◌, ◌==◌, sym, arith, true, false}
 use Rattle.std.proofs.lemmas.Bool.{eqb-true, false_from_ne_true}
 use Rattle.std.proofs.lemmas.Bool.Decides.{nat_tests}
-use Rattle.wv_yaml.proofs.Places.{more_within, spaces_on, spaces_off}
+use Rattle.yaml_lines.proofs.Places.{more_within}
+use Rattle.wv_yaml.proofs.Spaces.{spaces_on, spaces_off}
 use Rattle.wv_yaml.proofs.block.are_spaces.Goals as goal
 
 pub returns-then-first-ne32 : goal.returns-then-first-ne32

@@ -1,6 +1,6 @@
 use Rattle.std.proofs.Common.{length, ◌-◌, ◌≡◌, ◌≤◌, ◌++◌, take, drop}
 use Rattle.wv_yaml.specs.Block.{is_item}
-use Rattle.wv_yaml.specs.Chunks.{chunked}
+use Rattle.yaml_lines.specs.Chunks.{chunked}
 use Rattle.wv_yaml.proofs.block.next_item.Given as goal
 
 abbrev pub invariant-loop-at : goal.invariant-loop-at

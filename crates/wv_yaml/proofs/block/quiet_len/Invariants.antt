@@ -1,5 +1,5 @@
 use Rattle.std.proofs.Common.{length, ◌-◌, ◌≡◌, ◌≤◌, drop}
-use Rattle.wv_yaml.specs.Block.{ahead}
+use Rattle.yaml_lines.specs.Marks.{ahead}
 use Rattle.wv_yaml.proofs.block.quiet_len.Given as goal
 
 abbrev pub invariant-loop-at : goal.invariant-loop-at

@@ -1,9 +1,9 @@
 use Rattle.std.proofs.Common.{arith, refl, Some, ◌∙◌, ap, sym, ◌<◌, Option, length, subst}
 use Rattle.wv_yaml.specs.declared.tree.Tree.{Tree}
 use Rattle.wv_yaml.specs.Flow.{flow, flow_pair}
-use Rattle.wv_yaml.specs.Gives.{Gives}
+use Rattle.yaml_scalars.specs.Gives.{Gives}
 use Rattle.wv_yaml.proofs.FlowSteps.{flow_next, flow_list_is, flow_map_is, opens_with}
-use Rattle.wv_yaml.proofs.FoldOut.{some_left}
+use Rattle.yaml_lines.proofs.Places.{some_left}
 use Rattle.wv_yaml.proofs.flow.+flow.Goals as goal
 
 pub flow_list-loop-left-preserved : goal.flow_list-loop-left-preserved

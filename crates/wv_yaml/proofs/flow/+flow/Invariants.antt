@@ -1,7 +1,7 @@
 use Rattle.std.proofs.Common.{◌≡◌, ◌+◌, ◌*◌, length}
-use Rattle.wv_yaml.specs.Chunks.{collected}
+use Rattle.yaml_lines.specs.Chunks.{collected}
 use Rattle.wv_yaml.specs.Flow.{flow, flow_pair, entries_of}
-use Rattle.wv_yaml.proofs.TokenSteps.{together}
+use Rattle.yaml_scalars.proofs.TokenSteps.{together}
 use Rattle.wv_yaml.proofs.flow.+flow.Given as goal
 
 abbrev pub decreases-flow_of : goal.decreases-flow_of

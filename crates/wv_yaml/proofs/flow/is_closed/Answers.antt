@@ -1,7 +1,7 @@
 use Rattle.std.proofs.Common.{◌∙◌, sym, length, true, false}
 use Rattle.wv_yaml.specs.Flow.{closer}
 use Rattle.wv_yaml.proofs.FlowSteps.{closed_is, true_is}
-use Rattle.wv_yaml.proofs.FoldOut.{some_left}
+use Rattle.yaml_lines.proofs.Places.{some_left}
 use Rattle.wv_yaml.proofs.flow.is_closed.Goals as goal
 
 pub returns-then-not-is_empty-clause-closed : goal.returns-then-not-is_empty-clause-closed

@@ -1,10 +1,10 @@
 use Rattle.std.proofs.Common.{◌∙◌, ap, sym, subst, Option, List, false}
 use Rattle.wv_yaml.specs.declared.tree.Tree.{Tree}
-use Rattle.wv_yaml.specs.declared.token.Token.{Token}
-use Rattle.wv_yaml.specs.Chunks.{◌>>=◌}
+use Rattle.yaml_scalars.specs.declared.token.Token.{Token}
+use Rattle.yaml_lines.specs.Chunks.{◌>>=◌}
 use Rattle.wv_yaml.specs.Flow.{flow}
-use Rattle.wv_yaml.specs.Tokens.{tokens}
-use Rattle.wv_yaml.specs.Gives.{Gives}
+use Rattle.yaml_scalars.specs.Tokens.{tokens}
+use Rattle.yaml_scalars.specs.Gives.{Gives}
 use Rattle.wv_yaml.proofs.KeySteps.{still_fails}
 use Rattle.wv_yaml.proofs.inline.flow_text_of.Goals as goal
 

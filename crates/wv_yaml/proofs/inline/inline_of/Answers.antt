@@ -2,9 +2,9 @@ use Rattle.std.proofs.Common.{◌∙◌, ap, sym, subst, Option, add-one}
 use Rattle.std.proofs.lemmas.Bool.{cond-true}
 use Rattle.std.specs.Str.{chars}
 use Rattle.wv_yaml.specs.declared.tree.Tree.{Tree}
-use Rattle.wv_yaml.specs.Quoted.{joined}
+use Rattle.yaml_lines.specs.Lines.{joined}
 use Rattle.wv_yaml.specs.Inline.{flow_text, begins_flow}
-use Rattle.wv_yaml.specs.Gives.{Gives}
+use Rattle.yaml_scalars.specs.Gives.{Gives}
 use Rattle.wv_yaml.proofs.inline.inline_of.Goals as goal
 
 pub returns-then-does_begin_flow : goal.returns-then-does_begin_flow

@@ -3,7 +3,7 @@ use Rattle.std.specs.String.{string_bytes}
 use Rattle.std.specs.Str.{encode_utf8_all}
 use Rattle.std.proofs.lemmas.Str.{IsUtf8-string_bytes}
 use Rattle.std.proofs.lemmas.List.{drop-drop}
-use Rattle.wv_yaml.specs.Marks.{without_end}
+use Rattle.yaml_lines.specs.Marks.{without_end}
 use Rattle.wv_yaml.proofs.KeySteps.{plain_key_gives, plain_key_off, ends_key, given, refused}
 use Rattle.wv_yaml.proofs.inline.plain_key_of.Goals as goal
 

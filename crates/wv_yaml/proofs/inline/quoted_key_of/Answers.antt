@@ -1,8 +1,8 @@
 use Rattle.std.proofs.Common.{◌∙◌, ap, sym, Some, drop}
 use Rattle.std.specs.String.{string_bytes}
 use Rattle.std.proofs.lemmas.Str.{IsUtf8-string_bytes}
-use Rattle.wv_yaml.specs.Quoted.{quoted, step_in}
-use Rattle.wv_yaml.specs.Gives.{with_text}
+use Rattle.yaml_scalars.specs.Quoted.{quoted, step_in}
+use Rattle.yaml_scalars.specs.Gives.{with_text}
 use Rattle.wv_yaml.proofs.KeySteps.{quoted_key_gives, ends_key, given, refused, key_place}
 use Rattle.wv_yaml.proofs.inline.quoted_key_of.Goals as goal
 

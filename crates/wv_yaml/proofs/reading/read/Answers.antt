@@ -1,5 +1,5 @@
 use Rattle.std.proofs.Common.{Err}
-use Rattle.wv_yaml.specs.declared.fault.YamlFault.TheVariants.{Bytes}
+use Rattle.yaml_scalars.specs.declared.fault.YamlFault.TheVariants.{Bytes}
 use Rattle.wv_yaml.specs.Document.{is_allowed, tree_of}
 use Rattle.wv_yaml.specs.Reading.{IsReading}
 use Rattle.wv_yaml.proofs.ReadSteps.{reads_text, no_text}

@@ -1,9 +1,9 @@
 use Rattle.std.proofs.Common.{◌≡◌, ◌∙◌, ap, sym, subst, Option}
 use Rattle.std.specs.Str.{chars}
 use Rattle.wv_yaml.specs.declared.tree.Tree.{Tree}
-use Rattle.wv_yaml.specs.Lines.{allowed, unmarked}
+use Rattle.yaml_lines.specs.Lines.{allowed, unmarked}
 use Rattle.wv_yaml.specs.Document.{tree_of}
-use Rattle.wv_yaml.specs.Gives.{Fails}
+use Rattle.yaml_scalars.specs.Gives.{Fails}
 use Rattle.wv_yaml.proofs.ReadSteps.{reads_on, reads_not, tree_by}
 use Rattle.wv_yaml.proofs.reading.read_text.Goals as goal
 

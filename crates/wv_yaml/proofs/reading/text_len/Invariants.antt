@@ -1,5 +1,5 @@
 use Rattle.std.proofs.Common.{length, ◌-◌, ◌≡◌, ◌≤◌, ◌++◌, take, drop}
-use Rattle.wv_yaml.specs.BlockScalar.{while, past}
+use Rattle.yaml_scalars.specs.BlockScalar.{while, past}
 use Rattle.wv_yaml.specs.Document.{is_plain_line}
 use Rattle.wv_yaml.proofs.reading.text_len.Given as goal
 

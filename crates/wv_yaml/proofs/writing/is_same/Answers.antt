@@ -1,6 +1,6 @@
 use Rattle.std.proofs.Common.{◌∙◌, sym, length}
 use Rattle.std.proofs.lemmas.Bool.{eqb-true}
-use Rattle.wv_yaml.proofs.FoldOut.{some_left}
+use Rattle.yaml_lines.proofs.Places.{some_left}
 use Rattle.wv_yaml.proofs.WriteSteps.{longer}
 use Rattle.wv_yaml.proofs.writing.is_same.Goals as goal
 

@@ -1,6 +1,6 @@
 use Rattle.std.proofs.Common.{◌≡◌, ◌++◌, []}
 use Rattle.std.specs.String.{string_bytes}
-use Rattle.wv_yaml.specs.Marks.{indented}
+use Rattle.yaml_lines.specs.Marks.{indented}
 use Rattle.wv_yaml.proofs.writing.push_indent.Given as goal
 
 abbrev pub invariant-loop-left : goal.invariant-loop-left

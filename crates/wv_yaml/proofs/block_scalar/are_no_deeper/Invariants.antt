@@ -1,6 +1,0 @@
-use Rattle.std.proofs.Common.{◌≡◌, drop}
-use Rattle.wv_yaml.specs.BlockScalar.{no_deeper}
-use Rattle.wv_yaml.proofs.block_scalar.are_no_deeper.Given as goal
-
-abbrev pub invariant-loop-line : goal.invariant-loop-line
-invariant-loop-line l = no_deeper l.column (drop l.line-index l.lines) ≡ no_deeper l.column l.lines

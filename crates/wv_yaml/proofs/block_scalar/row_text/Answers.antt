@@ -1,7 +1,0 @@
-use Rattle.std.proofs.Common.{◌∙◌, ap, sym}
-use Rattle.std.proofs.lemmas.Str.{chars-nil}
-use Rattle.wv_yaml.specs.BlockScalar.{text_in}
-use Rattle.wv_yaml.proofs.block_scalar.row_text.Goals as goal
-
-pub returns-in-None : goal.returns-in-None
-returns-in-None c = chars-nil ∙ sym (ap (λ o. text_in o c.args.line.now) c.in-None.is)

@@ -1,6 +1,0 @@
-use Rattle.std.proofs.Common.{arith}
-use Rattle.wv_yaml.proofs.Texts.{chars_few}
-use Rattle.wv_yaml.proofs.characters.most_characters.Goals as goal
-
-pub returns-clause-few : goal.returns-clause-few
-returns-clause-few c = omega (arith, chars_few c.args.text.now c.utf8.text)

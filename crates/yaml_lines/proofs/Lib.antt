@@ -1,0 +1,9 @@
+pub mod Texts
+pub mod Places
+pub mod Breaks
+pub mod Ends
+pub mod Returns
+pub mod LineLaws
+pub mod Parts
+pub mod ChunkLaws
+pub mod Ranges

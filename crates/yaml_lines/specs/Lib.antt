@@ -1,0 +1,4 @@
+pub mod Line
+pub mod Chunks
+pub mod Marks
+pub mod Lines

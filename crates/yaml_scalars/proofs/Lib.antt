@@ -1,0 +1,10 @@
+pub mod FoldOut
+pub mod Numbers
+pub mod Quotes
+pub mod Rows
+pub mod TokenSteps
+pub mod PlainLaws
+pub mod QuotedLaws
+pub mod ScalarLaws
+pub mod TokenLaws
+pub mod Passing

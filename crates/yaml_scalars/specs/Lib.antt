@@ -1,0 +1,5 @@
+pub mod Plain
+pub mod Quoted
+pub mod BlockScalar
+pub mod Tokens
+pub mod Gives
