@@ -31,15 +31,22 @@ fn checked(alloc: Global, source: &Source, model: DataModel) -> Result<String, A
     }
 }
 
-/// The answers in the models that a row names, one where they are the same.
-fn in_models(alloc: Global, source: &Source, models: &str) -> Result<String, NotTried> {
+/// The answer in both models where it is one, else each.
+fn in_both(alloc: Global, source: &Source) -> Result<String, AllocError> {
     let narrow = checked(alloc, source, DataModel::Ilp32)?;
     let wide = checked(alloc, source, DataModel::Lp64)?;
+    if narrow.as_str() == wide.as_str() {
+        Ok(narrow)
+    } else {
+        format!(in alloc; "ILP32 {narrow}, LP64 {wide}")
+    }
+}
+
+fn in_models(alloc: Global, source: &Source, models: &str) -> Result<String, NotTried> {
     match models {
-        "ILP32" => Ok(narrow),
-        "LP64" => Ok(wide),
-        "both" if narrow.as_str() == wide.as_str() => Ok(narrow),
-        "both" => Ok(format!(in alloc; "ILP32 {narrow}, LP64 {wide}")?),
+        "ILP32" => Ok(checked(alloc, source, DataModel::Ilp32)?),
+        "LP64" => Ok(checked(alloc, source, DataModel::Lp64)?),
+        "both" => Ok(in_both(alloc, source)?),
         _ => Err(NotTried::Lacks("a data model")),
     }
 }

@@ -2,9 +2,7 @@
 use crate::sources::parsed;
 use crate::table::{NotTried, Row};
 use c_core::IntType;
-use c_parser::{
-    ExprFault, Item, RawExpr, RawForm, RawNode, Source, parse_expr, parse_result,
-};
+use c_parser::{ExprFault, Item, RawExpr, RawForm, RawNode, Source, parse_expr, parse_result};
 use std::alloc::{AllocError, Global};
 
 fn push_type(text: &mut String, to: Option<IntType>) -> Result<(), AllocError> {
@@ -165,4 +163,3 @@ pub fn on_result(rt: &HostRuntime, row: &Row) -> Result<String, NotTried> {
         Err(cause) => Ok(fault(alloc, cause)?),
     }
 }
-

@@ -53,10 +53,7 @@ fn shown_tokens(alloc: Global, found: &Seq<Token>) -> Result<String, AllocError>
     Ok(all)
 }
 
-fn shown(
-    alloc: Global,
-    answer: Result<Seq<Token>, TokenFault>,
-) -> Result<String, AllocError> {
+fn shown(alloc: Global, answer: Result<Seq<Token>, TokenFault>) -> Result<String, AllocError> {
     match answer {
         Ok(found) => shown_tokens(alloc, &found),
         Err(TokenFault::Token { line, column }) => format!(in alloc; "token {line}:{column}"),

@@ -33,9 +33,8 @@ mod texts;
 mod yaml;
 
 use escapes::in_one_line;
-use std::env;
-use std::io;
 use std::process::ExitCode;
+use std::{env, io};
 use table::{NotTried, Row, rows_of};
 
 /// What comes of a row, by its kind.
@@ -80,12 +79,7 @@ fn told(rt: &HostRuntime, row: &Row) -> Result<String, NotTried> {
     }
 }
 
-fn print_difference(
-    rt: &HostRuntime,
-    file: &str,
-    row: &Row,
-    came: &str,
-) -> Result<(), NotTried> {
+fn print_difference(rt: &HostRuntime, file: &str, row: &Row, came: &str) -> Result<(), NotTried> {
     let alloc = rt.alloc();
     let wanted = in_one_line(alloc, row.text("answer")?.unwrap_or(""))?;
     let came = in_one_line(alloc, came)?;

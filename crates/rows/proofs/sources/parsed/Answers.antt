@@ -1,7 +1,7 @@
 use Rattle.std.proofs.Common.{◌<◌, ◌^◌, length, arith}
 use Rattle.c_tokens.specs.Reading.{Whole}
 use Rattle.c_parser.proofs.OrderlyTokens.{text_orderly}
-use Rattle.way_bind_tests.proofs.texts.parsed.Goals as goal
+use Rattle.rows.proofs.sources.parsed.Goals as goal
 
 pub parse-requires : goal.parse-requires
 parse-requires c =
