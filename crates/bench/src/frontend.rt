@@ -1,9 +1,6 @@
-//! Reads the C source text that its word names, and prints how many tokens it has: what bench/frontend times.
-#![tactic(auto)]
-
+// Reads the C source text that its word names, and prints how many tokens it has: what bench/frontend times.
 use c_tokens::{TokenFault, tokens};
-use std::process::ExitCode;
-use std::{env, fs, io};
+use std::{fs, io};
 
 /// Prints the number of tokens, or where the text is none.
 fn report(rt: &HostRuntime, bytes: &[u8]) -> io::Result<()> {
@@ -15,17 +12,10 @@ fn report(rt: &HostRuntime, bytes: &[u8]) -> io::Result<()> {
     }
 }
 
-fn run(rt: &HostRuntime) -> io::Result<()> {
-    for path in env::args(rt)?.skip(1) {
+pub fn run(rt: &HostRuntime, paths: &[String]) -> io::Result<()> {
+    for path in paths {
         let bytes = fs::read(rt, path.as_str())?;
         report(rt, bytes.as_slice())?;
     }
     Ok(())
-}
-
-fn main(rt: HostRuntime) -> ExitCode {
-    match run(&rt) {
-        Ok(()) => ExitCode::from(0),
-        Err(_) => ExitCode::from(1),
-    }
 }

@@ -1,13 +1,10 @@
-//! Runs a loop at the bottom of a recursion, beside an array of live cells, and prints how the run ends, its steps and its
-//! events: what bench/replay times. The words are the cells, the depth of the recursion, the turns of the loop, and the budget.
-#![tactic(auto)]
-
+// Runs a loop at the bottom of a recursion, beside an array of live cells, and prints how the run ends, its steps and its
+// events: what bench/replay times. The words are the cells, the depth of the recursion, the turns of the loop, and the budget.
 use c_interpreter::run_plain;
 use c_meaning::{Choices, End, Event, Memory, Run, Watcher};
 use run_examples::count_deep;
 use std::alloc::Global;
-use std::process::ExitCode;
-use std::{env, io};
+use std::io;
 use wv_base::{OutOfMemory, Seq};
 
 /// Counts events.
@@ -40,7 +37,7 @@ struct Size {
     steps: u64,
 }
 
-fn number(word: Option<String>) -> Option<u64> {
+fn number(word: Option<&String>) -> Option<u64> {
     word?.as_str().parse::<u64>().ok()
 }
 
@@ -90,21 +87,13 @@ fn size_of(cells: u64, depth: u64, turns: u64, steps: u64) -> Option<Size> {
     })
 }
 
-fn run(rt: &HostRuntime) -> io::Result<()> {
-    let mut words = env::args(rt)?.skip(1);
-    let cells = number(words.next()).unwrap_or(1);
-    let depth = number(words.next()).unwrap_or(0);
-    let turns = number(words.next()).unwrap_or(0);
-    let steps = number(words.next()).unwrap_or(0);
+pub fn run(rt: &HostRuntime, words: &[String]) -> io::Result<()> {
+    let cells = number(words.get(0)).unwrap_or(1);
+    let depth = number(words.get(1)).unwrap_or(0);
+    let turns = number(words.get(2)).unwrap_or(0);
+    let steps = number(words.get(3)).unwrap_or(0);
     match size_of(cells, depth, turns, steps) {
         Some(size) => report(rt, &size),
         None => println!(rt; "no such program"),
-    }
-}
-
-fn main(rt: HostRuntime) -> ExitCode {
-    match run(&rt) {
-        Ok(()) => ExitCode::from(0),
-        Err(_) => ExitCode::from(1),
     }
 }

@@ -1,13 +1,10 @@
-//! Checks the C source that its word names, and prints how many objects and functions its program has: what bench/check times.
-#![tactic(auto)]
-
+// Checks the C source that its word names, and prints how many objects and functions its program has: what bench/check times.
 use c_check::{CheckCode, CheckFault, check};
 use c_core::{DataModel, Program, Property};
 use c_parser::{Source, parse};
 use c_tokens::tokens;
 use std::alloc::Global;
-use std::process::ExitCode;
-use std::{env, fs, io};
+use std::{fs, io};
 
 // Longer sources aren't timed.
 const MAX_LENGTH: usize = 1 << 24;
@@ -62,17 +59,10 @@ fn report(rt: &HostRuntime, text: &[u8]) -> io::Result<()> {
     }
 }
 
-fn run(rt: &HostRuntime) -> io::Result<()> {
-    for path in env::args(rt)?.skip(1) {
+pub fn run(rt: &HostRuntime, paths: &[String]) -> io::Result<()> {
+    for path in paths {
         let bytes = fs::read(rt, path.as_str())?;
         report(rt, bytes.as_slice())?;
     }
     Ok(())
-}
-
-fn main(rt: HostRuntime) -> ExitCode {
-    match run(&rt) {
-        Ok(()) => ExitCode::from(0),
-        Err(_) => ExitCode::from(1),
-    }
 }

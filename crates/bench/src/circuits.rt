@@ -1,15 +1,12 @@
-//! Builds the circuit of the operator and the type that its words name, and prints how large it is, or the net itself
-//! in BLIF: what bench/circuits counts, times and hands to ABC.
-#![tactic(auto)]
-
+// Builds the circuit of the operator and the type that its words name, and prints how large it is, or the net itself
+// in BLIF: what bench/circuits counts, times and hands to ABC.
 ghost use Rattle.c_core.specs.Types.{IsPromoted};
 
 use c_core::{BinOp, DataModel, IntType};
 use circuits::{Bit, Net, NetNode, Outcome, apply_bits, convert_bits, input_bits, not};
 use clauses::cnf_of;
 use std::alloc::Global;
-use std::process::ExitCode;
-use std::{env, io};
+use std::io;
 use wv_base::OutOfMemory;
 
 const LP64: DataModel = DataModel::Lp64;
@@ -136,9 +133,8 @@ fn report(rt: &HostRuntime, op: BinOp, ty: &str, form: &str) -> io::Result<()> {
     }
 }
 
-fn run(rt: &HostRuntime) -> io::Result<()> {
-    let mut words = env::args(rt)?.skip(1);
-    let (Some(operator), Some(ty), Some(form)) = (words.next(), words.next(), words.next()) else {
+pub fn run(rt: &HostRuntime, words: &[String]) -> io::Result<()> {
+    let [operator, ty, form] = words else {
         return println!(rt;
             "words: add, multiply, divide or shift; s8 to s64 or u8 to u64; count or blif"
         );
@@ -148,12 +144,5 @@ fn run(rt: &HostRuntime) -> io::Result<()> {
         "multiply" => report(rt, BinOp::Mul, ty.as_str(), form.as_str()),
         "divide" => report(rt, BinOp::Div, ty.as_str(), form.as_str()),
         _ => report(rt, BinOp::Shl, ty.as_str(), form.as_str()),
-    }
-}
-
-fn main(rt: HostRuntime) -> ExitCode {
-    match run(&rt) {
-        Ok(()) => ExitCode::from(0),
-        Err(_) => ExitCode::from(1),
     }
 }

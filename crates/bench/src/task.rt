@@ -1,12 +1,9 @@
-//! Reads the witness that its first word names and prints its summary; judges it about each program that a further word
-//! names, and prints the answer. This is what bench/task times.
-#![tactic(auto)]
-
+// Reads the witness that its first word names and prints its summary; judges it about each program that a further word
+// names, and prints the answer. This is what bench/task times.
 use c_core::Property;
 use std::alloc::Global;
 use std::io::Write;
-use std::process::ExitCode;
-use std::{env, fs, io};
+use std::{fs, io};
 use wv_schema::{SchemaFault, Witness, witness_of};
 use wv_show::summary;
 use wv_task::judge_task;
@@ -35,9 +32,8 @@ fn witness_in(alloc: Global, bytes: &[u8]) -> Result<Witness, SchemaFault> {
     }
 }
 
-fn run(rt: &HostRuntime) -> io::Result<()> {
-    let mut words = env::args(rt)?.skip(1);
-    let Some(path) = words.next() else {
+pub fn run(rt: &HostRuntime, words: &[String]) -> io::Result<()> {
+    let Some((path, programs)) = words.split_first() else {
         return println!(rt; "no witness");
     };
     let bytes = fs::read(rt, path.as_str())?;
@@ -45,16 +41,9 @@ fn run(rt: &HostRuntime) -> io::Result<()> {
         return println!(rt; "refused");
     };
     show(rt, &witness)?;
-    for path in words {
+    for path in programs {
         let program = fs::read(rt, path.as_str())?;
         judge(rt, &witness, program.as_slice())?;
     }
     Ok(())
-}
-
-fn main(rt: HostRuntime) -> ExitCode {
-    match run(&rt) {
-        Ok(()) => ExitCode::from(0),
-        Err(_) => ExitCode::from(1),
-    }
 }

@@ -1,8 +1,5 @@
-//! Reads the YAML text that its word names, and prints what its top is: what bench/yaml times.
-#![tactic(auto)]
-
-use std::process::ExitCode;
-use std::{env, fs, io};
+// Reads the YAML text that its word names, and prints what its top is: what bench/yaml times.
+use std::{fs, io};
 use wv_yaml::{Tree, YamlFault, read};
 
 /// Prints what the top is and how many items it has, or why the text is refused.
@@ -18,17 +15,10 @@ fn report(rt: &HostRuntime, bytes: &[u8]) -> io::Result<()> {
     }
 }
 
-fn run(rt: &HostRuntime) -> io::Result<()> {
-    for path in env::args(rt)?.skip(1) {
+pub fn run(rt: &HostRuntime, paths: &[String]) -> io::Result<()> {
+    for path in paths {
         let bytes = fs::read(rt, path.as_str())?;
         report(rt, bytes.as_slice())?;
     }
     Ok(())
-}
-
-fn main(rt: HostRuntime) -> ExitCode {
-    match run(&rt) {
-        Ok(()) => ExitCode::from(0),
-        Err(_) => ExitCode::from(1),
-    }
 }

@@ -1,7 +1,7 @@
 use Rattle.std.proofs.Common.{◌<◌, ◌^◌, length, arith}
 use Rattle.c_tokens.specs.Reading.{Whole}
 use Rattle.c_parser.proofs.OrderlyTokens.{text_orderly}
-use Rattle.check_bench.proofs.parsed.Goals as goal
+use Rattle.bench.proofs.check.parsed.Goals as goal
 
 pub parse-requires : goal.parse-requires
 parse-requires c =
