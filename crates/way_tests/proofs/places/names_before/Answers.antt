@@ -2,7 +2,7 @@ use Rattle.std.proofs.Common.{◌≡◌, refl, sym, subst, IsTrue}
 use Rattle.c_core.specs.Tree.{Program}
 use Rattle.c_core.specs.declared.place.PlaceKind.TheVariants.{Statement}
 use Rattle.way_names.specs.Visible.{is_scoped}
-use Rattle.places_tests.proofs.calls.names_before.Goals as goal
+use Rattle.way_tests.proofs.places.names_before.Goals as goal
 
 pub names_at-requires : goal.names_at-requires
 names_at-requires c =

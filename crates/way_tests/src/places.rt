@@ -3,24 +3,19 @@ ghost use Rattle.std.specs.Prelude.{◌≡◌};
 ghost use Rattle.c_core.specs.View.{program_view};
 ghost use Rattle.c_meaning.specs.Examples.{branch_on_input};
 
+use crate::trees::at;
 use c_core::{Place, PlaceKind, Program, Spot};
 use run_examples::branch_on_input;
 use std::alloc::Global;
 use std::test::Fail;
-use way_places::{Index, aim_fits, call_at, input_calls, names_at, place_at, places, stmt_before};
+use way_names::names_at;
+use way_places::{Index, aim_fits, call_at, input_calls, place_at, places, stmt_before};
 use wv_base::{OutOfMemory, Seq};
-
-fn at(line: u32, column: u32) -> Spot
-    ensures line { result.line ≡ line }
-    ensures column { result.column ≡ column }
-{
-    Spot { line, column }
-}
 
 fn place(kind: PlaceKind, line: u32, column: u32) -> Place {
     Place {
         kind,
-        spot: Spot { line, column },
+        spot: at(line, column),
     }
 }
 

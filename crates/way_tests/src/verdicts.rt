@@ -1,57 +1,18 @@
 // Each with the values, the places and the budget that the text beside the program's definition gives.
-use c_core::{BinOp, Expr, IntType, Node, Property, Spot};
+use crate::trees::{at, number, one_segment, returns, target, two_segments};
+use c_core::{BinOp, IntType, Property, Spot};
 use c_meaning::{Cause, Draw, DrawKind, Reason, Verdict};
 use judge::judge_violation;
 use run_examples::{add_to_input, branch_on_input, combine_inputs, count_to_three};
 use std::alloc::Global;
 use std::test::Fail;
-use way_match::{Aim, Bound, BoundSegment, Point, ReturnTest};
-use wv_base::{OutOfMemory, Seq};
+use way_match::{Bound, Point};
+use wv_base::OutOfMemory;
 
-fn at(line: u32, column: u32) -> Spot {
-    Spot { line, column }
-}
-
-/// A call that ends at a place gives a number.
-fn returns(line: u32, column: u32, value: i128) -> Point {
-    let constant = Expr {
-        spot: at(1, 12),
-        ty: Some(IntType::LongLong),
-        node: Node::Const(value),
-    };
-    Point::Return(
-        at(line, column),
-        Some(ReturnTest {
-            op: BinOp::Eq,
-            constant,
-        }),
-    )
-}
-
-fn target(line: u32, column: u32) -> Point {
-    Point::Target(Aim::At(at(line, column)))
-}
-
-fn follow(alloc: Global, point: Point) -> BoundSegment {
-    BoundSegment {
-        avoids: Seq::new(alloc),
-        follow: point,
-    }
-}
-
-/// A number given by a call, then the target.
-fn given(alloc: Global, first: Point, last: Point) -> Result<Bound, OutOfMemory> {
-    let mut segments = Seq::new(alloc);
-    segments.push(follow(alloc, first))?;
-    segments.push(follow(alloc, last))?;
-    Ok(Bound { segments })
-}
-
-/// The target alone.
-fn alone(alloc: Global, last: Point) -> Result<Bound, OutOfMemory> {
-    let mut segments = Seq::new(alloc);
-    segments.push(follow(alloc, last))?;
-    Ok(Bound { segments })
+/// A call that ends at a place gives a number, then the target.
+fn given(alloc: Global, close: Spot, value: i128, last: Point) -> Result<Bound, OutOfMemory> {
+    let constant = number(IntType::LongLong, value);
+    two_segments(alloc, returns(close, BinOp::Eq, constant), last)
 }
 
 /// An `int` that an input call drew.
@@ -94,7 +55,7 @@ fn is_spent(verdict: Verdict, steps: u64) -> bool {
 fn a_given_value_reaches_the_target(rt: HostRuntime) -> Result<(), Fail> {
     let alloc = rt.alloc();
     let program = branch_on_input(alloc, 5)?;
-    let bound = given(alloc, returns(4, 33, 5), target(6, 5))?;
+    let bound = given(alloc, at(4, 33), 5, target(6, 5))?;
     let verdict = judge_violation(alloc, &program, &bound, 11)?;
     assert!(rt; confirms(verdict, [input(4, 11, 5)].as_slice(), [2, 8].as_slice()));
     let verdict = judge_violation(alloc, &program, &bound, 10)?;
@@ -106,10 +67,10 @@ fn a_given_value_reaches_the_target(rt: HostRuntime) -> Result<(), Fail> {
 fn another_value_ends(rt: HostRuntime) -> Result<(), Fail> {
     let alloc = rt.alloc();
     let program = branch_on_input(alloc, 5)?;
-    let bound = given(alloc, returns(4, 33, 6), target(6, 5))?;
+    let bound = given(alloc, at(4, 33), 6, target(6, 5))?;
     let verdict = judge_violation(alloc, &program, &bound, 1000)?;
     assert!(rt; refuses(verdict, Reason::Ended, 0));
-    let bound = alone(alloc, target(6, 5))?;
+    let bound = one_segment(alloc, target(6, 5))?;
     let verdict = judge_violation(alloc, &program, &bound, 1000)?;
     assert!(rt; refuses(verdict, Reason::Ended, 1));
     Ok(())
@@ -119,7 +80,7 @@ fn another_value_ends(rt: HostRuntime) -> Result<(), Fail> {
 fn a_violation_elsewhere_is_unmatched(rt: HostRuntime) -> Result<(), Fail> {
     let alloc = rt.alloc();
     let program = branch_on_input(alloc, 5)?;
-    let bound = given(alloc, returns(4, 33, 5), target(8, 3))?;
+    let bound = given(alloc, at(4, 33), 5, target(8, 3))?;
     let verdict = judge_violation(alloc, &program, &bound, 1000)?;
     assert!(rt; refuses(verdict, Reason::Unmatched, 0));
     Ok(())
@@ -128,7 +89,7 @@ fn a_violation_elsewhere_is_unmatched(rt: HostRuntime) -> Result<(), Fail> {
 #[test]
 fn an_overflow_is_a_violation_of_one_property(rt: HostRuntime) -> Result<(), Fail> {
     let alloc = rt.alloc();
-    let bound = given(alloc, returns(3, 33, 2147483647), target(4, 3))?;
+    let bound = given(alloc, at(3, 33), 2147483647, target(4, 3))?;
     let program = add_to_input(alloc, Property::NoOverflow)?;
     let verdict = judge_violation(alloc, &program, &bound, 1000)?;
     assert!(rt;
@@ -148,7 +109,7 @@ fn an_overflow_is_a_violation_of_one_property(rt: HostRuntime) -> Result<(), Fai
 fn a_quotient_by_zero_is_undefined(rt: HostRuntime) -> Result<(), Fail> {
     let alloc = rt.alloc();
     let program = combine_inputs(alloc, Property::NoOverflow, BinOp::Div)?;
-    let bound = given(alloc, returns(3, 33, 1), target(5, 3))?;
+    let bound = given(alloc, at(3, 33), 1, target(5, 3))?;
     let verdict = judge_violation(alloc, &program, &bound, 1000)?;
     assert!(rt; refuses(verdict, Reason::Undefined(at(5, 3)), 1));
     Ok(())
@@ -158,7 +119,7 @@ fn a_quotient_by_zero_is_undefined(rt: HostRuntime) -> Result<(), Fail> {
 fn what_no_input_gives_needs_no_value(rt: HostRuntime) -> Result<(), Fail> {
     let alloc = rt.alloc();
     let program = count_to_three(alloc)?;
-    let bound = alone(alloc, target(8, 3))?;
+    let bound = one_segment(alloc, target(8, 3))?;
     let verdict = judge_violation(alloc, &program, &bound, 1000)?;
     assert!(rt; confirms(verdict, [].as_slice(), [17].as_slice()));
     Ok(())

@@ -52,7 +52,7 @@ pub fn target(line: u32, column: u32) -> Point {
 }
 
 /// A segment without avoids.
-pub fn follow(alloc: Global, point: Point) -> BoundSegment {
+fn follow(alloc: Global, point: Point) -> BoundSegment {
     BoundSegment {
         avoids: Seq::new(alloc),
         follow: point,
