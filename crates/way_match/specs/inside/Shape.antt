@@ -2,9 +2,9 @@
 use Rattle.std.specs.Prelude.{◌≡◌, ℕ, ◌+◌, List, length, Option}
 use Rattle.c_core.specs.Tree.{Program}
 use Rattle.c_core.specs.declared.number.Spot.{Spot}
-use Rattle.way_match.specs.ByPlace.{moved, numbers_in}
-use Rattle.way_match.specs.Prepared.{all_prepared}
-use Rattle.way_match.specs.Turning.{ArePassed}
+use Rattle.way_match.specs.inside.ByPlace.{moved, numbers_in}
+use Rattle.way_match.specs.inside.Prepared.{all_prepared}
+use Rattle.way_match.specs.inside.Turning.{ArePassed}
 use Rattle.way_match.specs.View.{each_segment_view}
 use Rattle.way_match.specs.declared.by_place.ByPlace.{ByPlace}
 use Rattle.way_match.specs.declared.point.BoundSegment.{BoundSegment}

@@ -4,8 +4,8 @@ use Rattle.c_core.specs.View.{program_view}
 use Rattle.way_match.specs.Points.{BoundSegment}
 use Rattle.way_match.specs.Passing.{is_assumption}
 use Rattle.way_match.specs.Matching.{Seen}
-use Rattle.way_match.specs.Steps.{step}
-use Rattle.way_match.specs.Arena.{ways_of, came_of}
+use Rattle.way_match.specs.inside.Steps.{step}
+use Rattle.way_match.specs.inside.Arena.{ways_of, came_of}
 use Rattle.way_match.specs.View.{each_segment_view}
 use Rattle.way_match.specs.declared.states.Node.{Node}
 use Rattle.way_match.specs.declared.sight.Sight.{Sight}
