@@ -24,12 +24,12 @@ use Rattle.c_meaning.specs.Exec.{ticks, run_if}
 use Rattle.c_meaning.specs.Run as run
 use Rattle.c_meaning.specs.Run.{State, tick_from, with_cells, branched}
 use Rattle.c_meaning.specs.Watching.{seen_by}
-use Rattle.c_interpreter.specs.Interpreting.{Gives, same, flow_of, else_part, watched, arrived, branching, fulled, decided, executed, formed, sequenced, armed, otherwised, declaring, introduced, initialised, initialised_one, in_function, in_main, goes_on}
-use Rattle.c_interpreter.specs.declared.machine.Halt.{Halt}
-use Rattle.c_interpreter.specs.declared.machine.Halt.TheVariants.{Ends, NoMemory}
-use Rattle.c_interpreter.specs.declared.machine.Flow.{Flow}
-use Rattle.c_interpreter.specs.declared.machine.Flow.TheVariants.{Next, Broken, Again, Gave}
-use Rattle.c_interpreter.proofs.Giving.{halted, bind_on}
+use Rattle.run_state.specs.Interpreting.{Gives, same, flow_of, else_part, watched, arrived, branching, fulled, decided, executed, formed, sequenced, armed, otherwised, declaring, introduced, initialised, initialised_one, in_function, in_main, goes_on}
+use Rattle.run_state.specs.declared.machine.Halt.{Halt}
+use Rattle.run_state.specs.declared.machine.Halt.TheVariants.{Ends, NoMemory}
+use Rattle.run_state.specs.declared.machine.Flow.{Flow}
+use Rattle.run_state.specs.declared.machine.Flow.TheVariants.{Next, Broken, Again, Gave}
+use Rattle.run_state.proofs.Giving.{halted, bind_on}
 
 pub view_of_if : (e : Expr) (a : Box Stmt Global) (b : Option (Box Stmt Global)) → form_view (If e a b) ≡ t.If (expr_view e) (stmt_view a.value) (else_part b)
 view_of_if e a None = refl

@@ -1,10 +1,3 @@
-pub mod Giving
-pub mod Evaluating
-pub mod Taking
 pub mod Executing
-pub mod Declaring
 pub mod Looping
-pub mod Starting
 pub mod Running
-pub mod Drawing
-pub mod Calling

@@ -14,11 +14,11 @@ use Rattle.c_meaning.specs.Exec.{first}
 use Rattle.c_meaning.specs.Run as run
 use Rattle.c_meaning.specs.Run.{State, cells_of, with_cells}
 use Rattle.c_meaning.specs.Watching.{seen_by}
-use Rattle.c_interpreter.specs.Interpreting.{Gives, same, flow_of, watched, calls, fulled, decided, formed, declaring, loop_in, bodied, test_turned, goes_on, for_rest, while_turned, for_turned, turning, rounds, looped, begun, for_looped}
-use Rattle.c_interpreter.specs.declared.machine.Halt.{Halt}
-use Rattle.c_interpreter.specs.declared.machine.Flow.{Flow}
-use Rattle.c_interpreter.specs.declared.machine.Flow.TheVariants.{Next, Broken, Again, Gave}
-use Rattle.c_interpreter.proofs.Giving.{halted}
+use Rattle.run_state.specs.Interpreting.{Gives, same, flow_of, watched, calls, fulled, decided, formed, declaring, loop_in, bodied, test_turned, goes_on, for_rest, while_turned, for_turned, turning, rounds, looped, begun, for_looped}
+use Rattle.run_state.specs.declared.machine.Halt.{Halt}
+use Rattle.run_state.specs.declared.machine.Flow.{Flow}
+use Rattle.run_state.specs.declared.machine.Flow.TheVariants.{Next, Broken, Again, Gave}
+use Rattle.run_state.proofs.Giving.{halted}
 use Rattle.c_interpreter.proofs.Executing.{control_goes, control_halts, untested}
 
 -- parts alike behind a part

@@ -12,11 +12,11 @@ use Rattle.c_meaning.specs.Run as run
 use Rattle.c_meaning.specs.Run.{State, Moment}
 use Rattle.c_meaning.specs.Watching.{seen_by, seen_after}
 use Rattle.c_meaning.proofs.Watched.{watched_run, Same}
-use Rattle.c_interpreter.specs.Interpreting.{Gives, EndsAs, flow_of, state_of}
-use Rattle.c_interpreter.specs.declared.machine.Machine.{Machine}
-use Rattle.c_interpreter.specs.declared.machine.Halt.{Halt}
-use Rattle.c_interpreter.specs.declared.machine.Halt.TheVariants.{Ends, NoMemory}
-use Rattle.c_interpreter.specs.declared.machine.Flow.{Flow as Left}
+use Rattle.run_state.specs.Interpreting.{Gives, EndsAs, flow_of, state_of}
+use Rattle.run_state.specs.declared.machine.Machine.{Machine}
+use Rattle.run_state.specs.declared.machine.Halt.{Halt}
+use Rattle.run_state.specs.declared.machine.Halt.TheVariants.{Ends, NoMemory}
+use Rattle.run_state.specs.declared.machine.Flow.{Flow as Left}
 
 module _ (p : Program) (S : Type 0) (after : Event → List Cell → S → S) (x : S) (c : Choices) (n : ℕ) where
   -- what is seen of moments, the last first

@@ -1,16 +1,14 @@
 // Calls of functions of the program.
 ghost use Rattle.std.specs.Prelude.{◌≤◌, suc};
 ghost use Rattle.c_core.specs.View.{program_view, function_view};
-ghost use Rattle.c_interpreter.specs.Interpreting.{Gives, same, state_of, site_of, flow_of, pairs_of, in_function, with_arguments, called_with, function_called, number_called};
+ghost use Rattle.run_state.specs.Interpreting.{Gives, same, state_of, site_of, flow_of, pairs_of, in_function, with_arguments, called_with, function_called, number_called};
 
-use crate::callees::returned;
-use crate::cells::ticks;
-use crate::machine::{CallSite, Flow, Halt, Machine, Typed};
-use crate::parameters::set_parameters;
 use crate::statements::form;
-use crate::steps::{one_more, room, tick};
 use c_core::{Function, Program};
 use c_meaning::{End, Watcher};
+use run_state::{
+    CallSite, Flow, Halt, Machine, Typed, one_more, returned, room, set_parameters, tick, ticks,
+};
 
 /// The body of a function, in which calls are at most so many deep.
 #[cycle(run)]

@@ -1,15 +1,15 @@
 // Declared names and their initializers.
 ghost use Rattle.std.specs.Prelude.{◌≤◌};
 ghost use Rattle.c_core.specs.View.{program_view, expr_view, exprs_view, names_view, first_view, init_view};
-ghost use Rattle.c_interpreter.specs.Interpreting.{Gives, same, state_of, flow_of, declaring, introduced, initialised, initialised_one, initialised_by, begun};
+ghost use Rattle.run_state.specs.Interpreting.{Gives, same, state_of, flow_of, declaring, introduced, initialised, initialised_one, initialised_by, begun};
 
-use crate::cells::{add_cells, draw_cells, ticks};
 use crate::full_expressions::{full, only};
-use crate::machine::{Element, Flow, Halt, Machine};
-use crate::steps::room;
-use crate::values::{size_of_object, store, type_of_object};
 use c_core::{Declared, Expr, First, Init, Program, Spot};
 use c_meaning::Watcher;
+use run_state::{
+    Element, Flow, Halt, Machine, add_cells, draw_cells, room, size_of_object, store, ticks,
+    type_of_object,
+};
 
 // One value of an initializer.
 #[cycle(run)]

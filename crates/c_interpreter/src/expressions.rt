@@ -4,17 +4,15 @@ ghost use Rattle.std.specs.Option.{option_copied};
 ghost use Rattle.c_core.specs.Tree as t;
 ghost use Rattle.c_core.specs.View.{program_view, expr_view, exprs_view, node_view};
 ghost use Rattle.c_meaning.specs.Meaning.{Used};
-ghost use Rattle.c_interpreter.specs.Interpreting.{Gives, same, state_of, where_of, use_of, key_of, evaluated, noded, targeted, placed, truthed, convertible, listed, callee_gives, pairs_of, site_of};
+ghost use Rattle.run_state.specs.Interpreting.{Gives, same, state_of, where_of, use_of, key_of, evaluated, noded, targeted, placed, truthed, convertible, listed, callee_gives, pairs_of, site_of};
 
-use crate::callees::{input, is_needed, reach};
 use crate::calls::call_number;
-use crate::machine::{Around, CallSite, Element, Halt, Machine, Typed};
-use crate::steps::{tell, tick};
-use crate::values::{
-    bump, change, convert_to, element, holds, look, operate, operate_one, store, truth, type_of,
-};
 use c_core::{BinOp, Callee, Expr, IntType, Node, Program, Spot, StepOp, UnOp, convert};
 use c_meaning::{End, Event, Watcher};
+use run_state::{
+    Around, CallSite, Element, Halt, Machine, Typed, bump, change, convert_to, element, holds,
+    input, is_needed, look, operate, operate_one, reach, store, tell, tick, truth, type_of,
+};
 use wv_base::Seq;
 
 #[cycle(run)]

@@ -2,14 +2,12 @@
 ghost use Rattle.std.specs.Prelude.{◌≤◌};
 ghost use Rattle.c_core.specs.Tree as t;
 ghost use Rattle.c_core.specs.View.{program_view, expr_view, expr_view_if};
-ghost use Rattle.c_interpreter.specs.Interpreting.{Gives, same, state_of, use_of, flow_of, fulled, decided, formed, test_turned, goes_on, stepped_on};
+ghost use Rattle.run_state.specs.Interpreting.{Gives, same, state_of, use_of, flow_of, fulled, decided, formed, test_turned, goes_on, stepped_on};
 
 use crate::expressions::eval;
-use crate::machine::{Around, Flow, Halt, Machine};
-use crate::steps::branch;
-use crate::values::gave;
 use c_core::{Expr, IntType, Program, Spot};
 use c_meaning::Watcher;
+use run_state::{Around, Flow, Halt, Machine, branch, gave};
 
 /// A full expression of the statement at a place.
 #[cycle(run)]

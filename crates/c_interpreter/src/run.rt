@@ -3,13 +3,12 @@ ghost use Rattle.std.specs.Prelude.{◌≡◌, ◌≤◌, suc, IfOk};
 ghost use Rattle.c_core.specs.View.{program_view};
 ghost use Rattle.c_meaning.specs.Run as runs;
 ghost use Rattle.c_meaning.specs.Watching.{seen_after};
-ghost use Rattle.c_interpreter.specs.Interpreting.{Gives, EndsAs, state_of, flow_of, in_main};
+ghost use Rattle.run_state.specs.Interpreting.{Gives, EndsAs, state_of, flow_of, in_main};
 
 use crate::calls::body;
-use crate::machine::{Flow, Halt, Machine};
-use crate::start::start;
 use c_core::Program;
 use c_meaning::{Choices, End, Run, Watcher};
+use run_state::{Flow, Halt, Machine, start};
 use std::alloc::Global;
 use wv_base::OutOfMemory;
 

@@ -3,14 +3,13 @@ ghost use Rattle.std.specs.Prelude.{◌≤◌, ◌<◌, ◌≡◌, OnOk};
 ghost use Rattle.c_core.specs.Tree as t;
 ghost use Rattle.c_core.specs.View.{program_view, expr_view, expr_view_if, stmt_view, stmts_view, first_view, form_view};
 ghost use Rattle.c_meaning.specs.Acts as acts;
-ghost use Rattle.c_interpreter.specs.Interpreting.{Gives, StepsIfNext, state_of, flow_of, else_part, executed, formed, sequenced, blocked, armed, otherwised, loop_in, bodied, for_rest, while_turned, do_turned, for_turned, turning, all_rounds, looped, for_parts as for_parts_of, for_looped};
+ghost use Rattle.run_state.specs.Interpreting.{Gives, StepsIfNext, state_of, flow_of, else_part, executed, formed, sequenced, blocked, armed, otherwised, loop_in, bodied, for_rest, while_turned, do_turned, for_turned, turning, all_rounds, looped, for_parts as for_parts_of, for_looped};
 
 use crate::declarations::{begin, declare};
 use crate::full_expressions::{decide, for_goes_on, give, only, step_on, test_turn};
-use crate::machine::{Flow, Halt, Machine};
-use crate::steps::{arrive, tick};
 use c_core::{Expr, First, Form, IntType, Program, Spot, Stmt};
 use c_meaning::Watcher;
+use run_state::{Flow, Halt, Machine, arrive, tick};
 
 #[cycle(run)]
 fn exec<W: Watcher>(

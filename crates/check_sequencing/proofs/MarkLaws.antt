@@ -1,5 +1,6 @@
 -- Marks that only grow, until nothing more is to be marked.
 use Rattle.std.proofs.Common.{◌≡◌, ◌⊎◌, inl, inr, ℕ, zero, suc, ◌+◌, ◌<◌, ◌≤◌, Bool, true, false, ◌||◌, List, [], ◌∷◌, length, take, drop, ◌++◌, Some, refl, sym, ap, subst, ◌∙◌, arith}
+pub use Rattle.std.proofs.lemmas.Bool.{or_left, or_right}
 use Rattle.std.specs.Prelude.{slice_get, slice_set, slice_index_or, get_or, nat_eq, replicate}
 use Rattle.std.specs.List.{list_any}
 use Rattle.std.proofs.lemmas.Bool.{false≢true, cases_eq, cases_lt, eqb-true, eq-eqb}
@@ -19,14 +20,6 @@ unmarked_set (false ∷ marks) (suc k) l h = ap suc (unmarked_set marks k (omega
 pub either : (a b : Bool) → (a || b) ≡ true → (a ≡ true) ⊎ (b ≡ true)
 either true b h = inl refl
 either false b h = inr h
-
-pub or_left : (a b : Bool) → a ≡ true → (a || b) ≡ true
-or_left true b h = refl
-or_left false b h = absurd (false≢true h)
-
-pub or_right : (a b : Bool) → b ≡ true → (a || b) ≡ true
-or_right true b h = refl
-or_right false b h = h
 
 -- a marked function that these effects call
 abbrev pub MarkedCall : List Bool → List Effect → Type 0

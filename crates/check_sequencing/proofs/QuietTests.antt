@@ -2,7 +2,7 @@
 use Rattle.std.proofs.Common.{◌≡◌, ◌⊎◌, inl, inr, ℕ, zero, suc, ◌<◌, Bool, true, false, List, [], ◌∷◌, ◌++◌, length, Option, Some, None, refl, sym, ap, ◌∙◌, arith}
 use Rattle.std.specs.Prelude.{get_or, ◌&&◌}
 use Rattle.std.specs.List.{list_all, list_any, Contains}
-use Rattle.std.proofs.lemmas.Bool.{false≢true}
+use Rattle.std.proofs.lemmas.Bool.{false≢true, and_from as both_parts}
 use Rattle.std.proofs.lemmas.List.Folds.{list_all-append}
 use Rattle.c_core.specs.Tree.{Exp, Expr, Node, Const, Var, Index, Unary, Cast, Step, Binary, Logic, Choose, Comma, Assign, Call, Exps, NoExp, MoreExp}
 use Rattle.c_core.specs.declared.tree.Object.{Object}
@@ -18,10 +18,6 @@ left_part xs ys q = first_of (is_quiet xs) (is_quiet ys) (sym (list_all-append i
 
 right_part : (xs ys : List Effect) → is_quiet (xs ++ ys) ≡ true → is_quiet ys ≡ true
 right_part xs ys q = rest_of (is_quiet xs) (is_quiet ys) (sym (list_all-append is_read xs ys) ∙ q)
-
-both_parts : (a b : Bool) → a ≡ true → b ≡ true → (a && b) ≡ true
-both_parts true b p q = q
-both_parts false b p q = absurd (false≢true p)
 
 module _ (objects : List Object) (count : ℕ) (bodies : List (List Effect)) where
   no_pair : (ls : List (List Effect)) → list_all is_quiet ls ≡ true → SomePair bodies objects ls → ⊥

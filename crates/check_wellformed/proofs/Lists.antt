@@ -1,5 +1,6 @@
 -- Tests that hold together, and facts of each element of a list.
 use Rattle.std.proofs.Common.{◌≡◌, Bool, true, false, not, ◌&&◌, ◌||◌, List, [], ◌∷◌, ◌++◌, length, refl, sym, ap, Some}
+pub use Rattle.std.proofs.lemmas.Bool.{or_left as or_first, or_right as or_also}
 use Rattle.std.proofs.lemmas.Bool.{false≢true}
 use Rattle.std.proofs.lemmas.List.Elements.{All-weaker, All-contains_itself, recursion_from_All}
 use Rattle.std.specs.List.{AllByRecursion, Contains, slice_get}
@@ -23,14 +24,6 @@ first_fails false b h = refl
 pub second_fails : (a b : Bool) → (a || b) ≡ false → b ≡ false
 second_fails true b h = absurd (false≢true (sym h))
 second_fails false b h = h
-
-pub or_first : (a b : Bool) → a ≡ true → (a || b) ≡ true
-or_first true b h = refl
-or_first false b h = absurd (false≢true h)
-
-pub or_also : (a b : Bool) → b ≡ true → (a || b) ≡ true
-or_also true b h = refl
-or_also false b h = h
 
 pub not_false : (a : Bool) → not a ≡ false → a ≡ true
 not_false true h = refl

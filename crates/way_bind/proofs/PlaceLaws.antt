@@ -1,5 +1,6 @@
 -- A place that a location names is one of its kind.
 use Rattle.std.proofs.Common.{◌≡◌, refl, sym, eq-eqb, Bool, true, false, cond, ◌||◌, List, [], ◌∷◌, Option, Some, None}
+use Rattle.std.proofs.lemmas.Bool.{or_left, or_right}
 use Rattle.std.specs.List.{list_any, filter}
 use Rattle.c_core.specs.Parts.{same_spot}
 use Rattle.c_core.specs.Places.{lefter, leftmost}
@@ -10,14 +11,6 @@ same_self s = rw (eq-eqb s.line s.line refl) (eq-eqb s.column s.column refl)
 
 same_as : (s x : Spot) → x ≡ s → same_spot s x ≡ true
 same_as s x e = rw e (same_self s)
-
-or_left : (a b : Bool) → a ≡ true → (a || b) ≡ true
-or_left true b h = refl
-or_left false b h = absurd cc
-
-or_right : (a b : Bool) → b ≡ true → (a || b) ≡ true
-or_right true b h = refl
-or_right false b h = h
 
 some_same : (a b : Spot) → Some a ≡ Some b → a ≡ b
 some_same a b e = cc

@@ -1,5 +1,6 @@
 -- What a word stands for among the names of objects.
 use Rattle.std.proofs.Common.{◌≡◌, ℕ, nat_eq, Bool, true, false, cond, ◌||◌, List, [], ◌∷◌, ◌++◌, Option, Some, None, is_none, slice_get, eq-eqb, refl, ap}
+use Rattle.std.proofs.lemmas.Bool.{or_right}
 use Rattle.std.specs.List.{list_any}
 use Rattle.std.specs.Str.{bytes_eq}
 use Rattle.c_core.specs.Scope.{is_in}
@@ -17,10 +18,6 @@ use Rattle.way_constraint.specs.Known.{is_object, means_object, word_is_object}
 data IsFound (numbers : List ℕ) : Option Kind → Bool → Type 0 where
   Nowhere : IsFound numbers None false
   There : {n : ℕ} {ty : IntType} {array fixed : Bool} → is_in n numbers ≡ true → IsFound numbers (Some (Object n ty array fixed)) true
-
-or_right : (a b : Bool) → b ≡ true → (a || b) ≡ true
-or_right true b h = refl
-or_right false b h = h
 
 same_number : (n : ℕ) (b : Bool) → (nat_eq n n || b) ≡ true
 same_number n b = ap (λ x. x || b) (eq-eqb n n refl)

@@ -1,5 +1,6 @@
 -- The numbers of the segments that an event can move: none is missed, they ascend, and each is one of a segment.
 use Rattle.c_core.specs.Tree.{Program}
+use Rattle.std.proofs.lemmas.Bool.{or_parts as or_each, or_from as or_of}
 use Rattle.c_core.specs.declared.number.Spot.{Spot}
 use Rattle.c_meaning.specs.declared.run.Event.{Event}
 use Rattle.c_meaning.specs.declared.run.Event.TheVariants as event
@@ -10,8 +11,8 @@ use Rattle.std.specs.List.{list_any}
 use Rattle.way_match.specs.Points.{Point, Assume, Target, Enter, Return, Branch, BoundSegment}
 use Rattle.way_match.specs.Passing.{passes, passes_any}
 use Rattle.way_match.specs.Matching.{Seen}
-use Rattle.way_match.specs.ByPlace.{event_spot, may_pass, may_move, numbers_for, moved}
-use Rattle.way_match.specs.Arena.{IsBlank}
+use Rattle.way_match.specs.inside.ByPlace.{event_spot, may_pass, may_move, numbers_for, moved}
+use Rattle.way_match.specs.inside.Arena.{IsBlank}
 use Rattle.way_match.proofs.Skips.{Untouched, IsIdle}
 
 -- ---- a waypoint elsewhere isn't passed
@@ -45,10 +46,6 @@ passed_elsewhere p (Branch spot way) (event.Branch at taken) cells h = and_false
 passed_elsewhere p (Branch spot way) (event.Enter at) cells h = refl
 passed_elsewhere p (Branch spot way) (event.Return at v) cells h = refl
 passed_elsewhere p (Branch spot way) (event.Fail s f c) cells h = refl
-
-or_each : (a b : Bool) → (a || b) ≡ false → (a ≡ false) × (b ≡ false)
-or_each true b h = absurd (cc)
-or_each false b h = (refl, h)
 
 none_elsewhere : (p : Program) (xs : List Point) (e : Event) (cells : List Cell) → list_any (may_pass (event_spot e)) xs ≡ false → passes_any p xs e cells ≡ false
 none_elsewhere p [] e cells h = refl
@@ -91,9 +88,6 @@ for_absent at k (x ∷ xs) ys a = by_there (may_pass at x) (λ h. for_absent at 
         Absent k ((cond b (k ∷ []) [] ++ numbers_for at k xs) ++ ys) → ((b || list_any (may_pass at) xs) ≡ false) × Absent k ys
     by_there true f a = absurd (a.0 refl)
     by_there false f a = f a
-
-or_of : (a b : Bool) → a ≡ false → b ≡ false → (a || b) ≡ false
-or_of a b h g = rw (h, g) refl
 
 either : (a b : Bool) → (a || b) ≡ false → a ≡ false
 either true b h = absurd (cc)

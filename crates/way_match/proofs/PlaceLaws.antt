@@ -1,7 +1,7 @@
 -- Numbers of segments by place, with one more.
 use Rattle.std.proofs.Common.{◌≡◌, ℕ, ◌<◌, Bool, true, false, cond, nat_eq, nat_lt, ◌&&◌, List, [], ◌∷◌, ◌++◌, Option, Some, None, refl, sym, ◌∙◌, ap, arith}
 use Rattle.std.proofs.lemmas.List.{append-nil}
-use Rattle.std.proofs.lemmas.Bool.{eqb-true, ltb-true}
+use Rattle.std.proofs.lemmas.Bool.{eqb-true, ltb-true, and_parts as both}
 use Rattle.std.specs.Ordering.{is_eq, nat_cmp, ordering_then}
 use Rattle.std.specs.declared.cmp.Ordering.{Ordering}
 use Rattle.std.specs.declared.cmp.Ordering.TheVariants.{Less, Equal, Greater}
@@ -10,7 +10,7 @@ use Rattle.std.specs.declared.vec.Vec.{Vec}
 use Rattle.std.specs.declared.alloc.Global.{Global}
 use Rattle.c_core.specs.declared.number.Spot.{Spot}
 use Rattle.c_meaning.specs.Objects.{same_spot}
-use Rattle.way_match.specs.ByPlace.{spot_cmp, items_if, same_place, numbers_in}
+use Rattle.way_match.specs.inside.ByPlace.{spot_cmp, items_if, same_place, numbers_in}
 
 equal_numbers : (x y : ℕ) → is_eq (nat_cmp x y) ≡ nat_eq x y
 equal_numbers x y = by_less (nat_lt x y) refl
@@ -37,10 +37,6 @@ equal_places a b =
     equal_parts (nat_cmp a.line b.line) (nat_cmp a.column b.column) ∙
     ap (λ (x : Bool). x && is_eq (nat_cmp a.column b.column)) (equal_numbers a.line b.line) ∙
     ap (λ (x : Bool). nat_eq a.line b.line && x) (equal_numbers a.column b.column)
-
-both : (a b : Bool) → (a && b) ≡ true → (a ≡ true) × (b ≡ true)
-both true b e = (refl, e)
-both false b e = absurd (cc)
 
 same_spots : (a b : Spot) → same_spot a b ≡ true → a ≡ b
 same_spots a b e =

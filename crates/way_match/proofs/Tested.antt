@@ -1,6 +1,6 @@
 -- The test of positions says yes exactly where they match.
 use Rattle.std.proofs.Common.{◌≡◌, ◌⊎◌, ◌↔◌, inl, inr, ℕ, zero, suc, ◌+◌, ◌<◌, ◌≤◌, Bool, true, false, not, nat_eq, nat_le, nat_lt, List, [], ◌∷◌, length, slice_get, ◌&&◌, ◌||◌, refl, ◌∙◌, ap, arith}
-use Rattle.std.proofs.lemmas.Bool.{leb-true, le-leb, leb-false, ltb-true, ltb-false, eqb-true, eq-eqb}
+use Rattle.std.proofs.lemmas.Bool.{leb-true, le-leb, leb-false, ltb-true, ltb-false, eqb-true, eq-eqb, and_parts as both, and_from as and_of, or_left, or_right}
 use Rattle.c_core.specs.Tree.{Program}
 use Rattle.way_match.specs.Points.{Point, BoundSegment}
 use Rattle.way_match.specs.Passing.{passes_any, is_assumption}
@@ -9,23 +9,9 @@ use Rattle.way_match.specs.Matching.{Seen, seen_passes, seen_passes_any, Before,
 no_yes : {A : Type 0} → false ≡ true → A
 no_yes e = absurd (let x : false ≡ true = e in cc)
 
-both : (a b : Bool) → (a && b) ≡ true → (a ≡ true) × (b ≡ true)
-both true b e = (refl, e)
-both false b e = no_yes e
-
-and_of : (a b : Bool) → a ≡ true → b ≡ true → (a && b) ≡ true
-and_of a b e f = ap (λ x. x && b) e ∙ f
-
 either : (a b : Bool) → (a || b) ≡ true → (a ≡ true) ⊎ (b ≡ true)
 either true b e = inl refl
 either false b e = inr e
-
-or_left : (a b : Bool) → a ≡ true → (a || b) ≡ true
-or_left a b e = ap (λ x. x || b) e
-
-or_right : (a b : Bool) → b ≡ true → (a || b) ≡ true
-or_right true b e = refl
-or_right false b e = e
 
 not_true : (a : Bool) → not a ≡ true → a ≡ false
 not_true true e = no_yes e

@@ -1,13 +1,14 @@
 -- Items of lists of waypoints, as pure ones and prepared.
 use Rattle.std.proofs.Common.{◌≡◌, ℕ, zero, suc, ◌<◌, List, [], ◌∷◌, ◌++◌, length, get_or, slice_get, drop, Bool, true, false, ◌||◌, Option, refl, sym, ◌∙◌, ap, arith}
+use Rattle.std.proofs.lemmas.Bool.{or_left as or_true}
 use Rattle.std.proofs.Math.Seq.{drop-cons}
 use Rattle.std.proofs.lemmas.List.{append_assoc}
 use Rattle.c_core.specs.Tree.{Program}
 use Rattle.c_meaning.specs.declared.run.Event.{Event}
 use Rattle.c_meaning.specs.Cells.{Cell}
 use Rattle.way_match.specs.Passing.{passes, passes_any, is_assumption}
-use Rattle.way_match.specs.Turning.{assumes_in, avoids_none}
-use Rattle.way_match.specs.Prepared.{comparison_of, comparisons_of, prepared_of, all_prepared}
+use Rattle.way_match.specs.inside.Turning.{assumes_in, avoids_none}
+use Rattle.way_match.specs.inside.Prepared.{comparison_of, comparisons_of, prepared_of, all_prepared}
 use Rattle.way_match.specs.View.{point_view, points_view, segment_view, each_segment_view}
 use Rattle.way_match.specs.declared.point.Point.{Point}
 use Rattle.way_match.specs.declared.point.BoundSegment.{BoundSegment}
@@ -70,9 +71,6 @@ from_here : (p : Program) (e : Event) (cells : List Cell) (xs : List Point) (i :
 from_here p e cells xs i x h q =
     ap (λ (ys : List Point). passes_any p (points_view ys) e cells) (drop-cons xs i x h) ∙
     ap (λ (y : Point). passes p (point_view y) e cells || passes_any p (points_view (drop (suc i) xs)) e cells) (sym q)
-
-or_true : (a b : Bool) → a ≡ true → (a || b) ≡ true
-or_true a b e = ap (λ (x : Bool). x || b) e
 
 or_false : (a b : Bool) → a ≡ false → (a || b) ≡ b
 or_false a b e = ap (λ (x : Bool). x || b) e

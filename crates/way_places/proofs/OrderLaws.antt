@@ -1,5 +1,6 @@
 -- The places of a program follow the order of its text, those at one place the order of their kinds.
 use Rattle.std.proofs.Common.{◌≡◌, refl, sym, ap, ◌∙◌, subst, Bool, true, false, cond, ◌&&◌, ◌||◌, List, [], ◌∷◌, ◌++◌, Option, Some, None, nat_lt, nat_eq, eqb-true}
+use Rattle.std.proofs.lemmas.Bool.{and_from as both_true}
 use Rattle.std.proofs.Math.Bool.{or-true}
 use Rattle.std.specs.List.{list_all, flat_map}
 use Rattle.c_core.specs.Operators.{is_prefix}
@@ -207,9 +208,6 @@ precedes_rest k a ps _ (past b _ ss p) h = precedes_rest k a ps ss p (right (is_
 precedes_rest k a _ _ (one j b ps ss p) h = before_is k a (place j b) (left (is_before a b) (list_all (is_before a) ss) h)
 precedes_rest k a _ _ (two i j b ps ss e p) h = before_is k a (place i b) (left (is_before a b) (list_all (is_before a) ss) h)
 precedes_rest k a _ _ (three b ps ss p) h = before_is k a (place Statement b) (left (is_before a b) (list_all (is_before a) ss) h)
-
-both_true : (a b : Bool) → a ≡ true → b ≡ true → (a && b) ≡ true
-both_true a b h k = rw (h, k)
 
 laid_ordered : (ps : List Place) (ss : List Spot) → Laid ps ss → rises ss ≡ true → are_ordered ps ≡ true
 laid_ordered _ _ none h = refl

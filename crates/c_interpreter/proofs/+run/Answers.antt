@@ -7,16 +7,16 @@ use Rattle.c_core.proofs.View.{view_of_call, view_of_block}
 use Rattle.c_core.specs.View.{program_view, expr_view, exprs_view, node_view, expr_view_if, stmt_view, first_view, form_view, init_view, function_view}
 use Rattle.c_meaning.specs.Meaning.{Used, ACell, AParameter}
 use Rattle.c_meaning.specs.Objects.{type_of}
-use Rattle.c_interpreter.specs.Interpreting.{same, key_of, use_of, where_of, state_of, pairs_of, flow_of, else_part, loop_in, all_rounds, site_of}
-use Rattle.c_interpreter.proofs.Starting.{function_at, no_function_at}
-use Rattle.c_interpreter.proofs.Calling.{call_few_steps, call_no_room, call_all, number_found, number_missing, parameters_halted, parameters_passed}
-use Rattle.c_interpreter.specs.declared.machine.Typed.{Typed}
-use Rattle.c_interpreter.proofs.Giving.{halted, passed}
-use Rattle.c_interpreter.proofs.Evaluating.{ticked, ticked_target, as_form, as_place, cast_gives, logic_gives, picked_first, picked_second, list_on, list_halted, entered, evals_give}
+use Rattle.run_state.specs.Interpreting.{same, key_of, use_of, where_of, state_of, pairs_of, flow_of, else_part, loop_in, all_rounds, site_of}
+use Rattle.run_state.proofs.Starting.{function_at, no_function_at}
+use Rattle.run_state.proofs.Calling.{call_few_steps, call_no_room, call_all, number_found, number_missing, parameters_halted, parameters_passed}
+use Rattle.run_state.specs.declared.machine.Typed.{Typed}
+use Rattle.run_state.proofs.Giving.{halted, passed}
+use Rattle.run_state.proofs.Evaluating.{ticked, ticked_target, as_form, as_place, cast_gives, logic_gives, picked_first, picked_second, list_on, list_halted, entered, evals_give}
 use Rattle.c_interpreter.proofs.Executing.{view_of_if, stepped, sequence_halted, sequence_on, sequence_left, chosen, choice_halts, declare_halted, declare_on, initial_stored, introduce_few_steps, introduce_no_room, introduce_all, bodied}
 use Rattle.c_interpreter.proofs.Looping.{while_given, do_given, for_given, while_chosen, while_halts, for_chosen, rounds_halted, rounds_left, rounds_on, test_done, test_halts}
 use Rattle.c_core.specs.declared.number.IntType.TheVariants.{Int}
-use Rattle.c_interpreter.proofs.Declaring.{values_halted, values_on}
+use Rattle.run_state.proofs.Declaring.{values_halted, values_on}
 use Rattle.c_interpreter.proofs.+run.Goals as goal
 
 pub expressions::eval-returns-in_err-tick-clause-gives : goal.expressions::eval-returns-in_err-tick-clause-gives

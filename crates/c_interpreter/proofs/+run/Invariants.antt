@@ -1,6 +1,6 @@
 use Rattle.std.proofs.Common.{◌≡◌, ◌≤◌, ◌+◌, ◌*◌, [], drop, ℕ, ◌<◌}
 use Rattle.c_core.specs.View.{program_view, exprs_view, stmts_view, form_view, names_view}
-use Rattle.c_interpreter.specs.Interpreting.{state_of, where_of, pairs_of, listed, sequenced, loop_in, rounds, all_rounds, declaring, initialised_by}
+use Rattle.run_state.specs.Interpreting.{state_of, where_of, pairs_of, listed, sequenced, loop_in, rounds, all_rounds, declaring, initialised_by}
 use Rattle.c_interpreter.proofs.+run.Given as goal
 
 -- each part takes its step before it does its own parts

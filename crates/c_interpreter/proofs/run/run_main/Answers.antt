@@ -1,7 +1,7 @@
 use Rattle.std.proofs.Common.{suc, sym}
 use Rattle.c_core.specs.View.{program_view, function_view}
-use Rattle.c_interpreter.specs.Interpreting.{state_of}
-use Rattle.c_interpreter.proofs.Starting.{function_at, no_function_at}
+use Rattle.run_state.specs.Interpreting.{state_of}
+use Rattle.run_state.proofs.Starting.{function_at, no_function_at}
 use Rattle.c_interpreter.proofs.Executing.{main_is, no_main}
 use Rattle.c_interpreter.proofs.run.run_main.Goals as goal
 

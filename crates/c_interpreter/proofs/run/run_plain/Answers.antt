@@ -1,5 +1,5 @@
 use Rattle.c_core.specs.View.{program_view}
-use Rattle.c_interpreter.specs.Interpreting.{state_of}
+use Rattle.run_state.specs.Interpreting.{state_of}
 use Rattle.c_interpreter.proofs.Running.{watched_outcome, watched_from}
 use Rattle.c_interpreter.proofs.run.run_plain.Goals as goal
 

@@ -1,6 +1,0 @@
-use Rattle.std.proofs.Common.{◌≡◌, ◌++◌}
-use Rattle.c_meaning.specs.Cells.{cells_from}
-use Rattle.c_interpreter.proofs.cells.add_started.Given as goal
-
-abbrev pub invariant-loop-index : goal.invariant-loop-index
-invariant-loop-index l = l.memory.cells ≡ l.initial.memory.cells ++ cells_from l.object 0 l.index l.values

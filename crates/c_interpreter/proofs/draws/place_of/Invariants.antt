@@ -1,7 +1,0 @@
-use Rattle.std.proofs.Common.{◌≡◌, false, take}
-use Rattle.c_interpreter.specs.Drawing.{any_at}
-use Rattle.c_interpreter.proofs.draws.place_of.Given as goal
-
--- none so far
-abbrev pub invariant-loop-index : goal.invariant-loop-index
-invariant-loop-index l = any_at l.spot (take l.index l.givens) ≡ false

@@ -1,0 +1,355 @@
+-- What a state of the interpreter means, and what its parts give.
+use Rattle.std.specs.Prelude.{◌≡◌, ℕ, ℤ, Bool, true, false, not, List, [], ◌∷◌, ◌++◌, reverse, Option, Some, None, slice_get, Result, Ok, Err, pos, cond, ◌<◌, zero, suc}
+use Rattle.std.specs.declared.boxed.Box.{Box}
+use Rattle.std.specs.declared.alloc.Global.{Global}
+use Rattle.c_core.specs.Tree as t
+use Rattle.c_core.specs.View.{stmt_view}
+use Rattle.c_core.specs.declared.tree.Stmt.{Stmt}
+use Rattle.c_core.specs.declared.tree.Callee.{Callee}
+use Rattle.c_core.specs.Tree.{Exp, Node, Exps, NoExp, MoreExp, Init, Names, First, Stm, Form, Stms, Function, Program, NoFirst, FirstExp, FirstNames}
+use Rattle.c_core.specs.declared.number.IntType.{IntType}
+use Rattle.c_core.specs.declared.number.Spot.{Spot}
+use Rattle.c_core.specs.declared.number.DataModel.{DataModel}
+use Rattle.c_core.specs.declared.number.BinOp.{BinOp}
+use Rattle.c_core.specs.declared.number.Done.{Done}
+use Rattle.c_core.specs.Types.{fit, is_zero}
+use Rattle.c_core.specs.Operators.{apply_of, type_for, right_type_for, op_of_step, is_prefix}
+use Rattle.c_core.specs.declared.number.IntType.TheVariants.{Int}
+use Rattle.c_core.specs.declared.number.StepOp.{StepOp}
+use Rattle.c_meaning.specs.declared.run.End.{End}
+use Rattle.c_meaning.specs.declared.run.End.TheVariants.{Ended, Spent}
+use Rattle.c_meaning.specs.declared.run.Event.{Event}
+use Rattle.c_meaning.specs.declared.run.Event.TheVariants.{Branch, Return}
+use Rattle.c_meaning.specs.declared.run.DrawKind.TheVariants.{Input}
+use Rattle.c_meaning.specs.declared.run.Given.{Given as GivenAt}
+use Rattle.c_meaning.specs.declared.run.Choices.{Choices}
+use Rattle.c_meaning.specs.declared.run.DrawKind.TheVariants.{Cell as CellDraw}
+use Rattle.c_meaning.specs.declared.run.Choices.TheVariants.{Given, InTurn}
+use Rattle.c_meaning.specs.Cells.{Key, Cell, put, cells_from, read}
+use Rattle.c_meaning.specs.Meaning.{ACell, Use, Used, Unused, Where, Site, Meaning, Calls, Loop, WhileLoop, DoLoop, ForLoop}
+use Rattle.c_meaning.specs.Acts.{Res, Go, Stop, bind}
+use Rattle.c_meaning.specs.Acts as acts
+use Rattle.c_meaning.specs.Run as run
+use Rattle.c_meaning.specs.Run.{State, real, cells_of, with_cells}
+use Rattle.c_meaning.specs.Objects.{type_of_object, size_of_object}
+use Rattle.c_meaning.specs.Watching.{seen_by}
+use Rattle.c_meaning.specs.Eval.{eval, node, target, place, tested, convert_to, operate, store, called}
+use Rattle.c_meaning.specs.Exec.{call_of, with_params, run_in, run_main, ticks, full, initial, declare, exec, form, otherwise, execs, draw_cells, initials, while_turn, do_turn, for_turn, full_if, control, turn}
+use Rattle.c_meaning.specs.Objects.{type_of}
+use Rattle.run_state.specs.declared.machine.Typed.{Typed}
+use Rattle.run_state.specs.declared.machine.Element.{Element}
+use Rattle.run_state.specs.declared.machine.LeftAt.{LeftAt}
+use Rattle.run_state.specs.declared.machine.Left.{Left}
+use Rattle.run_state.specs.declared.machine.Left.TheVariants.{Given as LeftGiven, InTurn as LeftInTurn}
+use Rattle.run_state.specs.declared.machine.Machine.{Machine}
+use Rattle.run_state.specs.declared.machine.Halt.{Halt}
+use Rattle.run_state.specs.declared.machine.Halt.TheVariants.{Ends, NoMemory}
+use Rattle.run_state.specs.declared.machine.Around.{Around}
+use Rattle.run_state.specs.declared.machine.CallSite.{CallSite}
+use Rattle.run_state.specs.declared.machine.Flow.{Flow}
+use Rattle.run_state.specs.declared.machine.Flow.TheVariants.{Next, Broken, Again, Gave}
+
+-- the next value stands last
+abbrev pub given_left : LeftAt → GivenAt
+given_left l = record { spot = l.spot; values = reverse l.values.items }
+
+abbrev pub givens_left : List LeftAt → List GivenAt
+givens_left [] = []
+givens_left (l ∷ ls) = given_left l ∷ givens_left ls
+
+abbrev pub choices_left : Left → Choices
+choices_left (LeftGiven ls) = Given (givens_left ls.items)
+choices_left (LeftInTurn vs) = InTurn (reverse vs.items)
+
+abbrev pub state_of : {S : Type 0} → Machine → S → State S
+state_of m x = record {
+  steps = m.steps;
+  cells = m.memory.cells;
+  active = m.active;
+  choices = choices_left m.left;
+  draws = m.draws;
+  unfixed = m.unfixed;
+  seen = x;
+}
+
+abbrev pub where_of : Around → Where
+where_of a = record { statement = a.statement; full = a.full }
+
+abbrev pub site_of : CallSite → Site
+site_of s = record { spot = s.spot; close = s.close; needed = s.needed }
+
+abbrev pub use_of : Bool → Use
+use_of true = Used
+use_of false = Unused
+
+abbrev pub flow_of : Flow → acts.Flow
+flow_of Next = acts.Next
+flow_of Broken = acts.Broken
+flow_of Again = acts.Again
+flow_of (Gave v) = acts.Gave v
+
+abbrev pub key_of : Element → Key
+key_of e = record { object = e.object; index = e.index }
+
+-- values with their types, as pairs
+abbrev pub pairs_of : List Typed → List (ℤ × IntType)
+pairs_of [] = []
+pairs_of (v ∷ vs) = (v.value, v.ty) ∷ pairs_of vs
+
+abbrev pub other_pairs : List (ℤ × IntType) → List (ℤ × IntType)
+other_pairs [] = []
+other_pairs (v ∷ vs) = vs
+
+-- what an operator gives over values of two types, converted to those in which it computes
+abbrev pub computed_of : DataModel → BinOp → IntType → ℤ → IntType → ℤ → Done
+computed_of m op a x b y =
+    apply_of m op (type_for m op a b) (fit m (type_for m op a b) x) (fit m (right_type_for op (type_for m op a b) b) y)
+
+-- a returned value, converted to the function's result
+abbrev pub gave_as : DataModel → Option IntType → ℤ → acts.Flow
+gave_as m None v = acts.Gave (Some v)
+gave_as m (Some ty) v = acts.Gave (Some (fit m ty v))
+
+-- the statement behind `else`, if any
+abbrev pub else_part : Option (Box Stmt Global) → t.Else
+else_part None = t.NoElse
+else_part (Some b) = t.OrElse (stmt_view b.value)
+
+-- the value as it is
+abbrev pub same : {A : Type 0} → A → A
+same a = a
+
+-- a part gave what it is to give, in this state; where memory is wanting, nothing is said
+abbrev pub Gives : {A B T : Type 0} → (A → B) → Result A Halt → T → Res End T B → Type 0
+Gives view (Ok a) s r = r ≡ Go (view a) s
+Gives view (Err (Ends e)) s r = r ≡ Stop e s
+Gives view (Err NoMemory) s r = Unit {0}
+
+-- the end of a run that came to its end, or halted
+abbrev pub EndsAs : Result Flow Halt → End → Type 0
+EndsAs (Ok f) e = e ≡ Ended
+EndsAs (Err (Ends end)) e = e ≡ end
+EndsAs (Err NoMemory) e = ⊥
+
+-- it took a step, if it came to its end
+abbrev pub StepsIfNext : Result Flow Halt → ℕ → ℕ → Type 0
+StepsIfNext (Ok Next) new old = new < old
+StepsIfNext (Ok _) new old = Unit {0}
+StepsIfNext (Err h) new old = Unit {0}
+
+-- what a loop does again and again, of a statement that is one
+abbrev pub loop_in : t.Form → Option Loop
+loop_in (t.While e b) = Some (WhileLoop e b)
+loop_in (t.DoWhile b e) = Some (DoLoop b e)
+loop_in (t.For i e s b) = Some (ForLoop e s b)
+loop_in _ = None
+
+-- a run that a watcher sees
+module _ (p : Program) (S : Type 0) (after : Event → List Cell → S → S) where
+  abbrev pub watched : Meaning
+  watched = real p S (seen_by after)
+
+  -- a cell's value, changed by an operator
+  abbrev pub changed : Where → Spot → BinOp → Key → IntType → ℤ → IntType → ℤ → State S → Res End (State S) ℤ
+  changed at spot op k a x b y s = bind (operate p watched at spot op a x b y s) (store p watched k (type_for p.model op a b) a)
+
+  -- one more or one less in a cell
+  abbrev pub bumped : Where → Spot → StepOp → Key → IntType → State S → Res End (State S) ℤ
+  bumped at spot op k a s =
+      bind (operate p watched at spot (op_of_step op) a (read k s.cells) Int (pos 1) s) (λ y.
+      λ s1. bind (store p watched k (type_for p.model (op_of_step op) a Int) a y s1) (λ z. λ s2. Go (cond (is_prefix op) z (read k s.cells)) s2))
+
+  -- a value that comes back from a call, told so
+  abbrev pub handed_back : Spot → ℤ → State S → Res End (State S) ℤ
+  handed_back close v s = bind (run.tell p S (seen_by after) (Return close (Some v)) s) (λ _ u. Go v u)
+
+  abbrev pub input_of : Site → IntType → State S → Res End (State S) ℤ
+  input_of site ty s = bind (run.draw p S (seen_by after) Input site.spot ty s) (handed_back site.close)
+
+  -- calls at most so many deep
+  abbrev pub calls : ℕ → Calls watched
+  calls n site g vs = call_of p watched (run_in p watched n) site (slice_get p.functions g) vs
+
+  abbrev pub evaluated : ℕ → Where → Use → Exp → State S → Res End (State S) ℤ
+  evaluated n at want e s = eval p watched (calls n) at want e s
+
+  abbrev pub noded : ℕ → Where → Use → Spot → Option IntType → Node → State S → Res End (State S) ℤ
+  noded n at want spot ty x s = node p watched (calls n) at want spot ty x s
+
+  abbrev pub arrived : Spot → State S → Res End (State S) (Unit {0})
+  arrived spot s = watched.here spot s
+
+  -- is a value not 0, told as a branching
+  abbrev pub branching : Spot → ℤ → State S → Res End (State S) Bool
+  branching spot v s = bind (run.tell p S (seen_by after) (Branch spot (not (is_zero v))) s) (λ _ u. Go (not (is_zero v)) u)
+
+  abbrev pub fulled : ℕ → Spot → Use → Exp → State S → Res End (State S) ℤ
+  fulled n at want e s = full p watched (calls n) at want e s
+
+  -- a test, told as a branching
+  abbrev pub decided : ℕ → Spot → Exp → State S → Res End (State S) Bool
+  decided n at e s = bind (fulled n at Used e s) (branching at)
+
+  abbrev pub executed : ℕ → Option IntType → Stm → State S → Res End (State S) acts.Flow
+  executed n result x s = exec p watched (calls n) result x s
+
+  abbrev pub formed : ℕ → Option IntType → Spot → Form → State S → Res End (State S) acts.Flow
+  formed n result at f s = form p watched (calls n) result at f s
+
+  abbrev pub sequenced : ℕ → Option IntType → Stms → State S → Res End (State S) acts.Flow
+  sequenced n result b s = execs p watched (calls n) result b s
+
+  -- what is declared in it ends with it
+  abbrev pub blocked : ℕ → Option IntType → Stms → State S → Res End (State S) acts.Flow
+  blocked n result b s = acts.scoped End (State S) cells_of with_cells (sequenced n result b) s
+
+  abbrev pub armed : ℕ → Option IntType → Stm → State S → Res End (State S) acts.Flow
+  armed n result x s = acts.scoped End (State S) cells_of with_cells (executed n result x) s
+
+  abbrev pub otherwised : ℕ → Option IntType → t.Else → State S → Res End (State S) acts.Flow
+  otherwised n result x s = otherwise p watched (calls n) result x s
+
+  abbrev pub declaring : ℕ → Spot → Names → State S → Res End (State S) acts.Flow
+  declaring n at ns s = declare p watched (calls n) at ns s
+
+  abbrev pub initialised : ℕ → Spot → Spot → ℕ → Init → State S → Res End (State S) (Unit {0})
+  initialised n at spot o i s = initial p watched (calls n) at spot o i s
+
+  abbrev pub initialised_one : ℕ → Spot → ℕ → ℕ → Exp → State S → Res End (State S) (Unit {0})
+  initialised_one n at o i e s =
+      bind (fulled n at Used e s) (λ v u. Go tt (with_cells (put (record { object = o; index = i }) (fit p.model (type_of_object p o) v) u.cells) u))
+
+  abbrev pub initialised_by : ℕ → Spot → ℕ → ℕ → Exps → State S → Res End (State S) (Unit {0})
+  initialised_by n at o i es s = initials p watched (calls n) at o i es s
+
+  abbrev pub cell_drawn : Spot → ℕ → ℕ → State S → Res End (State S) (Unit {0})
+  cell_drawn spot o i s =
+      bind (run.draw p S (seen_by after) CellDraw spot (type_of_object p o) s) (λ v u. Go tt (with_cells (put (record { object = o; index = i }) v u.cells) u))
+
+  -- the cells of an object from an index on
+  abbrev pub cells_drawn_from : ℕ → Spot → ℕ → ℕ → ℕ → State S → Res End (State S) (Unit {0})
+  cells_drawn_from n spot o i k s = draw_cells p watched (calls n) spot o i k s
+
+  abbrev pub cells_drawn : ℕ → Spot → ℕ → State S → Res End (State S) (Unit {0})
+  cells_drawn n spot o s = cells_drawn_from n spot o 0 (size_of_object p o) s
+
+  -- a declared name: its cells, then its initializer
+  abbrev pub introduced : ℕ → Spot → Spot → ℕ → Init → State S → Res End (State S) (Unit {0})
+  introduced n at spot o i s =
+      bind (ticks p watched ACell (size_of_object p o) s) (λ _ u. bind (run.room p S (seen_by after) (size_of_object p o) u) (λ _ v.
+      initialised n at spot o i (with_cells (v.cells ++ cells_from o 0 (size_of_object p o) []) v)))
+
+  -- a function's body, with calls at most so many deep
+  abbrev pub in_function : ℕ → Function → State S → Res End (State S) acts.Flow
+  in_function n f s = run_in p watched n f s
+
+  abbrev pub in_main : ℕ → State S → Res End (State S) acts.Flow
+  in_main n s = run_main p watched n s
+
+  abbrev pub targeted : ℕ → Where → Exp → State S → Res End (State S) Key
+  targeted n at e s = target p watched (calls n) at e s
+
+  abbrev pub placed : ℕ → Where → Spot → Node → State S → Res End (State S) Key
+  placed n at spot x s = place p watched (calls n) at spot x s
+
+  -- 0 or 1
+  abbrev pub truthed : ℕ → Where → Exp → State S → Res End (State S) ℤ
+  truthed n at e s = tested p watched (type_of e) (eval p watched (calls n) at Used e) s
+
+  -- a value, converted where it is to have a type
+  abbrev pub convertible : ℕ → Where → Option IntType → Exp → State S → Res End (State S) ℤ
+  convertible n at ty e s = bind (eval p watched (calls n) at Used e s) (convert_to p watched ty (type_of e))
+
+  -- the values of arguments, after others
+  abbrev pub listed : ℕ → Where → List (ℤ × IntType) → Exps → State S → Res End (State S) (List (ℤ × IntType))
+  listed n at vs NoExp s = Go vs s
+  listed n at vs (MoreExp e es) s = bind (evaluated n at Used e s) (λ v u. listed n at (vs ++ (v, type_of e) ∷ []) es u)
+
+  abbrev pub callee_gives : ℕ → Where → Site → Callee → List (ℤ × IntType) → State S → Res End (State S) ℤ
+  callee_gives n at site callee vs s = called p watched (calls n) at site callee vs s
+
+  -- a loop's body
+  abbrev pub bodied : ℕ → Option IntType → Stm → State S → Res End (State S) acts.Flow
+  bodied n result x s = acts.continued End (State S) cells_of with_cells (executed n result x) s
+
+  -- a loop goes on where its test says so
+  abbrev pub test_turned : ℕ → Spot → Exp → State S → Res End (State S) acts.Flow
+  test_turned n at e s = control p watched (calls n) at e watched.next watched.leave s
+
+  -- does a loop go on, where it may have no test
+  abbrev pub goes_on : ℕ → Spot → Option Exp → State S → Res End (State S) Bool
+  goes_on n at None s = Go true s
+  goes_on n at (Some e) s = decided n at e s
+
+  abbrev pub stepped_on : ℕ → Spot → Option Exp → State S → Res End (State S) acts.Flow
+  stepped_on n at step s = full_if p watched (calls n) at step watched.next s
+
+  -- the body of a `for` and its last part
+  abbrev pub for_rest : ℕ → Option IntType → Spot → Option Exp → Stm → State S → Res End (State S) acts.Flow
+  for_rest n result at step x s = bind (bodied n result x s) (acts.go_on (stepped_on n at step))
+
+  abbrev pub while_turned : ℕ → Option IntType → Spot → Exp → Stm → State S → Res End (State S) acts.Flow
+  while_turned n result at e x s = while_turn p watched (calls n) at e (executed n result x) s
+
+  abbrev pub do_turned : ℕ → Option IntType → Spot → Stm → Exp → State S → Res End (State S) acts.Flow
+  do_turned n result at x e s = do_turn p watched (calls n) at (executed n result x) e s
+
+  abbrev pub for_turned : ℕ → Option IntType → Spot → Option Exp → Option Exp → Stm → State S → Res End (State S) acts.Flow
+  for_turned n result at e step x s = for_turn p watched (calls n) at e step (executed n result x) s
+
+  -- one turn of a loop; where there is none, it is left
+  abbrev pub turning : ℕ → Option IntType → Spot → Option Loop → State S → Res End (State S) acts.Flow
+  turning n result at None s = Go acts.Broken s
+  turning n result at (Some l) s = turn p watched (calls n) result at l s
+
+  -- at most so many turns
+  abbrev pub rounds : ℕ → ℕ → Option IntType → Spot → Option Loop → State S → Res End (State S) acts.Flow
+  rounds zero n result at l s = Stop Spent s
+  rounds (suc k) n result at l s = bind (turning n result at l s) (acts.turned (rounds k n result at l))
+
+  -- each turn takes a step, so there are no more turns than steps left
+  abbrev pub all_rounds : ℕ → Option IntType → Spot → Option Loop → State S → Res End (State S) acts.Flow
+  all_rounds n result at l s = rounds (suc s.steps) n result at l s
+
+  -- a loop at its head, a scope
+  abbrev pub looped : ℕ → Option IntType → Spot → Option Loop → State S → Res End (State S) acts.Flow
+  looped n result at l s = acts.scoped End (State S) cells_of with_cells (all_rounds n result at l) s
+
+  -- what comes before the turns of a `for`
+  abbrev pub begun : ℕ → Spot → First → State S → Res End (State S) acts.Flow
+  begun n at NoFirst s = Go acts.Next s
+  begun n at (FirstExp e) s = bind (fulled n at Unused e s) (λ _ u. Go acts.Next u)
+  begun n at (FirstNames ns) s = declaring n at ns s
+
+  -- a `for` in its scope
+  abbrev pub for_parts : ℕ → Option IntType → Spot → First → Option Loop → State S → Res End (State S) acts.Flow
+  for_parts n result at i l s = bind (begun n at i s) (acts.go_on (looped n result at l))
+
+  abbrev pub for_looped : ℕ → Option IntType → Spot → First → Option Loop → State S → Res End (State S) acts.Flow
+  for_looped n result at i l s = acts.scoped End (State S) cells_of with_cells (for_parts n result at i l) s
+
+  -- a parameter's cell with the value of its argument
+  abbrev pub parameter_set : ℕ → ℤ → IntType → State S → Res End (State S) (Unit {0})
+  parameter_set o v from s =
+      Go tt (with_cells (put (record { object = o; index = 0 }) (fit p.model (type_of_object p o) v) (s.cells ++ cells_from o 0 1 [])) s)
+
+  -- a parameter's cell with the first of these values, if any
+  abbrev pub next_set : ℕ → List (ℤ × IntType) → State S → Res End (State S) (Unit {0})
+  next_set o [] s = Go tt (with_cells (s.cells ++ cells_from o 0 1 []) s)
+  next_set o (v ∷ vs) s = parameter_set o v.0 v.1 s
+
+  abbrev pub parameters_set : List ℕ → List (ℤ × IntType) → State S → Res End (State S) (Unit {0})
+  parameters_set [] vs s = Go tt s
+  parameters_set (o ∷ os) vs s = bind (next_set o vs s) (λ _. parameters_set os (other_pairs vs))
+
+  abbrev pub with_arguments : ℕ → Function → List (ℤ × IntType) → State S → Res End (State S) acts.Flow
+  with_arguments n f vs s = with_params p watched f.params vs (run_in p watched n f) s
+
+  abbrev pub called_with : ℕ → Site → Function → List (ℤ × IntType) → State S → Res End (State S) ℤ
+  called_with n site f vs s = watched.called site (with_params p watched f.params vs (run_in p watched n f)) s
+
+  abbrev pub function_called : ℕ → Site → Function → List (ℤ × IntType) → State S → Res End (State S) ℤ
+  function_called n site f vs s = call_of p watched (run_in p watched n) site (Some f) vs s
+
+  abbrev pub number_called : ℕ → Site → ℕ → List (ℤ × IntType) → State S → Res End (State S) ℤ
+  number_called n site g vs s = calls n site g vs s

@@ -1,0 +1,23 @@
+//! The state of a run of a checked program, and what its smallest parts do to it: steps, events, draws, cells, operators, calls.
+#![tactic(auto)]
+
+mod callees;
+mod cells;
+mod draws;
+mod initial;
+mod machine;
+mod parameters;
+mod steps;
+mod values;
+
+pub use callees::{input, is_needed, reach, returned};
+pub use cells::{add_cells, add_started, draw_cells, ticks};
+pub use draws::draw;
+pub use initial::start;
+pub use machine::{Around, CallSite, Element, Flow, Halt, Left, LeftAt, Machine, Typed};
+pub use parameters::set_parameters;
+pub use steps::{arrive, branch, one_more, room, tell, tick, violate};
+pub use values::{
+    bump, change, convert_to, element, gave, holds, look, operate, operate_one, size_of_object,
+    store, truth, type_of, type_of_object,
+};
