@@ -2,7 +2,7 @@
 use Rattle.std.specs.Prelude.{◌≡◌, refl, codes}
 use Rattle.c_parser.specs.ReadExpressions.{level, within}
 use Rattle.c_parser.specs.ReadStatements.{header_within, statement_level, braced_within}
-use Rattle.c_parser.specs.Shown.{items, items_within}
+use Rattle.grammar_examples.specs.Shown.{items, items_within}
 
 -- functions and their parameters
 

@@ -2,7 +2,7 @@
 use Rattle.std.specs.Prelude.{◌≡◌, refl, codes}
 use Rattle.c_parser.specs.ReadExpressions.{level, within}
 use Rattle.c_parser.specs.ReadStatements.{header_within, statement_level, braced_within}
-use Rattle.c_parser.specs.Shown.{items, shown}
+use Rattle.grammar_examples.specs.Shown.{items, shown}
 
 -- `else` belongs to the nearest `if` through labels and loops
 

@@ -10,7 +10,7 @@ use Rattle.c_parser.specs.Declarations.{declared}
 use Rattle.c_parser.specs.ReadExpressions.{read, level, within}
 use Rattle.c_parser.specs.ReadStatements.{header_within, statement_level, braced_within}
 use Rattle.c_parser.specs.ReadItems.{Source, read_items}
-use Rattle.c_parser.specs.Shown.{tokens_of}
+use Rattle.grammar_examples.specs.Shown.{tokens_of}
 
 abbrev column : ℕ → Spot
 column n = record { line = 1; column = n }
