@@ -11,6 +11,7 @@ use Rattle.check_rules.specs.First.{Refuses, refusal}
 use Rattle.check_rules.specs.declared.fault.CheckFault.{CheckFault}
 use Rattle.check_rules.specs.declared.fault.CheckFault.TheVariants.{Refused, OutOfMemory}
 
+-- the names of functions, in their order
 abbrev pub names_of : List Function → List (List ℕ)
 names_of functions = map (λ f. f.name) functions
 

@@ -1,7 +1,11 @@
-//! The circuits of `circuits` at numbers: rows from the C standard, and each operator beside the calls on numbers. The crate has
-//! tests alone, above `circuits`.
+//! Circuits and their clauses: rows from the C standard, each operator beside the calls on numbers, the clauses of a bit, and
+//! logs of resolution that are right or wrong in one place. The crate has tests alone, above `clauses`.
 #![tactic(auto)]
 
+#[cfg(test)]
+mod conjunction;
+#[cfg(test)]
+mod logs;
 #[cfg(test)]
 mod rows;
 #[cfg(test)]

@@ -13,7 +13,7 @@ use Rattle.c_meaning.specs.Watching.{seen_after}
 use Rattle.way_match.specs.Given.{given_by, RunGiven, SeenGiven}
 use Rattle.way_match.specs.Matching.{Seen, seen_of, Finds}
 use Rattle.way_match.specs.Points.{BoundSegment}
-use Rattle.way_match.specs.Steps.{Matching, begun, after, after_all}
+use Rattle.way_match.specs.inside.Steps.{Matching, begun, after, after_all}
 use Rattle.way_match.specs.Verdicts.{IsRightAt, IsRightOnViolation, IsRightVerdict}
 use Rattle.way_match.specs.View.{segments_view}
 use Rattle.way_match.specs.declared.point.Bound.{Bound}

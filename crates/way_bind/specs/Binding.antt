@@ -57,6 +57,7 @@ abbrev pub aim_of : ℕ → Option ℕ → point.Aim
 aim_of line None = point.Line line
 aim_of line (Some column) = point.At (record { line = line; column = column })
 
+-- a call with a type isn't void
 abbrev pub has_value : Option Exp → Bool
 has_value None = false
 has_value (Some (Expr spot ty node)) = is_some ty
@@ -116,9 +117,11 @@ abbrev pub WherePlaced : Option Spot → (Spot → Result Point Unbound → Type
 WherePlaced None binds answer = answer ≡ Err NoPlace
 WherePlaced (Some spot) binds answer = binds spot answer
 
+-- an assumption reads the names that are visible at its statement
 abbrev pub BindsAssumption : Program → List ℕ → Spot → Result Point Unbound → Type 0
 BindsAssumption p text spot answer = Makes (BindsExpression p (names_at p place.Statement spot) text) (point.Assume spot) answer
 
+-- a return with a constraint on `\result`
 abbrev pub BindsTested : Program → List ℕ → Spot → Result Point Unbound → Type 0
 BindsTested p text close answer = Makes (BindsTest p (is_valued p close) text) (λ t. point.Return close (Some t)) answer
 
@@ -127,12 +130,15 @@ abbrev pub BindsReturn : Program → Option Constraint → Spot → Result Point
 BindsReturn p None close answer = answer ≡ Ok (point.Return close None)
 BindsReturn p (Some v) close answer = BindsTested p v.value close answer
 
+-- an entry into a function needs its place alone; it has no constraint
 abbrev pub BindsEntry : Spot → Result Point Unbound → Type 0
 BindsEntry close answer = answer ≡ Ok (point.Enter close)
 
+-- a branching needs its place alone
 abbrev pub BindsBranching : Bool → Spot → Result Point Unbound → Type 0
 BindsBranching way spot answer = answer ≡ Ok (point.Branch spot way)
 
+-- a target is bound where one may lie
 abbrev pub target_at : Program → Location → Result Point Unbound
 target_at p v = cond (is_suitable p v) (Ok (point.Target (aim_of v.line v.column))) (Err NoPlace)
 
@@ -160,6 +166,7 @@ abbrev pub segments_among : List Entry → List Segment
 segments_among (e ∷ []) = segments_in e.content
 segments_among _ = []
 
+-- the segments of a witness; none where it is no single violation sequence
 abbrev pub segments_of : Witness → List Segment
 segments_of w = segments_among w.entries
 
@@ -167,6 +174,7 @@ segments_of w = segments_among w.entries
 abbrev pub waypoints_of : Segment → List Waypoint
 waypoints_of s = s.avoids ++ s.follow ∷ []
 
+-- the waypoints of all segments, as they are numbered in refusals
 abbrev pub waypoints_in : List Segment → List Waypoint
 waypoints_in ss = flat_map waypoints_of ss
 
@@ -177,9 +185,11 @@ AreBound p [] (x ∷ xs) = ⊥
 AreBound p (v ∷ vs) [] = ⊥
 AreBound p (v ∷ vs) (x ∷ xs) = BindsPoint p v (Ok x) × AreBound p vs xs
 
+-- a segment is bound: its avoids, and its follow
 abbrev pub IsBoundTo : Program → Segment → BoundSegment → Type 0
 IsBoundTo p s b = AreBound p s.avoids b.avoids × BindsPoint p s.follow (Ok b.follow)
 
+-- segment by segment
 abbrev pub AreBoundTo : Program → List Segment → List BoundSegment → Type 0
 AreBoundTo p [] [] = Unit {0}
 AreBoundTo p [] (b ∷ bs) = ⊥

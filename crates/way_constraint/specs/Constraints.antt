@@ -41,11 +41,13 @@ in_scope es e = every_node (λ n. is_among es (word_of n)) e
 abbrev pub is_refused : DataModel → List Entry → raw.Exp → Bool
 is_refused m es e = list_any (mistyped m []) (parts es Value e)
 
+-- all its words are names in scope, it breaks no rule on types, and this is its typed tree
 pub record IsTyped (m : DataModel) (es : List Entry) (e : raw.Exp) (tree : t.Exp) : Type 0 where
   pub scope : in_scope es e ≡ true
   pub typing : is_refused m es e ≡ false
   pub made : tree ≡ typed m [] es e
 
+-- all its words are names in scope, and it breaks a rule on types
 pub record IsMistyped (m : DataModel) (es : List Entry) (e : raw.Exp) : Type 0 where
   pub scope : in_scope es e ≡ true
   pub typing : is_refused m es e ≡ true

@@ -2,7 +2,7 @@
 use Rattle.std.proofs.Common.{◌≡◌, ℕ, zero, suc, ◌+◌, ◌≤◌, List, [], ◌∷◌, ◌++◌, length, get_or, replicate, Option, Some, None, refl, sym, ◌∙◌, ap, subst, arith, add-one}
 use Rattle.std.proofs.lemmas.List.{length-replicate, replicate_more}
 use Rattle.way_match.specs.declared.states.Node.{Node}
-use Rattle.way_match.specs.Arena.{ways_of, AreHeld, IsBlank}
+use Rattle.way_match.specs.inside.Arena.{ways_of, AreHeld, IsBlank}
 
 nones_held : (ns : List Node) (k n : ℕ) → AreHeld ns k (replicate n None)
 nones_held ns k zero = tt

@@ -6,8 +6,8 @@ use Rattle.way_match.specs.View.{segments_view}
 use Rattle.way_match.specs.declared.point.Bound.{Bound}
 use Rattle.way_match.specs.declared.states.Node.{Node}
 use Rattle.way_match.specs.Matching.{Seen, Finds}
-use Rattle.way_match.specs.Steps.{Matching, begun, after_all, last_way, positions_of, onto}
-use Rattle.way_match.specs.Arena.{chain, Held, way_of, IsHeld, ways_of, AreHeld}
+use Rattle.way_match.specs.inside.Steps.{Matching, begun, after_all, last_way, positions_of, onto}
+use Rattle.way_match.specs.inside.Arena.{chain, Held, way_of, IsHeld, ways_of, AreHeld}
 use Rattle.way_match.proofs.Found.{found}
 
 last_is : (ns : List Node) (k : ℕ) (live : List (Option ℕ)) (n : ℕ) (d : Option ℕ) → length live ≡ n + 1 →

@@ -9,7 +9,7 @@ use Rattle.std.proofs.lemmas.List.{append-nil}
 use Rattle.way_match.specs.Points.{BoundSegment}
 use Rattle.way_match.specs.Passing.{is_assumption}
 use Rattle.way_match.specs.Matching.{Seen, Matches, MatchesFrom, Finds}
-use Rattle.way_match.specs.Steps.{step, begun, after_all, last_way, onto, positions_of}
+use Rattle.way_match.specs.inside.Steps.{step, begun, after_all, last_way, onto, positions_of}
 use Rattle.way_match.proofs.Ways.{next, assumed, Way, Right, Rights, steps}
 
 none_yet : (pr : Program) (es : List Seen) (ss rs : List BoundSegment) (r : BoundSegment) → Right pr es 0 (r ∷ rs) ss None

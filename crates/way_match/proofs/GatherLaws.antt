@@ -6,7 +6,7 @@ use Rattle.c_core.specs.declared.number.IntType.{IntType}
 use Rattle.c_core.specs.declared.number.Spot.{Spot}
 use Rattle.c_meaning.specs.declared.run.Choices.TheVariants.{Given}
 use Rattle.way_places.specs.Seeking.{or_else}
-use Rattle.way_match.specs.Gathered.{choices_for, gathered, listed_if, values_of}
+use Rattle.way_match.specs.inside.Gathered.{choices_for, gathered, listed_if, values_of}
 use Rattle.way_match.specs.Given.{GivenValue, constant_compared, first_constant, given_by, given_by_follow, input_calls, operands, value_if_at, values_at}
 use Rattle.way_match.specs.Points.{BoundSegment}
 

@@ -4,8 +4,8 @@ use Rattle.std.proofs.Math.ListN.{get_or-append, length-append, set}
 use Rattle.std.proofs.lemmas.List.{drop-set}
 use Rattle.std.proofs.Math.Seq.{get_or-append_seam}
 use Rattle.way_match.specs.declared.states.Node.{Node}
-use Rattle.way_match.specs.Steps.{way_now, onto}
-use Rattle.way_match.specs.Arena.{node_at, chain, Held, way_of, IsHeld, ways_of, AreHeld, came_of, IsFrom, Grown}
+use Rattle.way_match.specs.inside.Steps.{way_now, onto}
+use Rattle.way_match.specs.inside.Arena.{node_at, chain, Held, way_of, IsHeld, ways_of, AreHeld, came_of, IsFrom, Grown}
 
 longer : (ns xs ms : List Node) → ms ≡ ns ++ xs → length ns ≤ length ms
 longer ns xs ms e = omega (arith, simp length-append at (ap length e))

@@ -11,8 +11,8 @@ use Rattle.std.specs.List.{list_any}
 use Rattle.way_match.specs.Points.{Point, Assume, Target, Enter, Return, Branch, BoundSegment}
 use Rattle.way_match.specs.Passing.{passes, passes_any}
 use Rattle.way_match.specs.Matching.{Seen}
-use Rattle.way_match.specs.ByPlace.{event_spot, may_pass, may_move, numbers_for, moved}
-use Rattle.way_match.specs.Arena.{IsBlank}
+use Rattle.way_match.specs.inside.ByPlace.{event_spot, may_pass, may_move, numbers_for, moved}
+use Rattle.way_match.specs.inside.Arena.{IsBlank}
 use Rattle.way_match.proofs.Skips.{Untouched, IsIdle}
 
 -- ---- a waypoint elsewhere isn't passed

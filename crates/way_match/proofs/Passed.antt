@@ -6,9 +6,9 @@ use Rattle.std.proofs.Math.Seq.{drop-cons}
 use Rattle.way_match.specs.Points.{BoundSegment}
 use Rattle.way_match.specs.declared.states.Node.{Node}
 use Rattle.way_match.specs.Matching.{Seen}
-use Rattle.way_match.specs.Steps.{is_there, step}
-use Rattle.way_match.specs.Arena.{way_of, ways_of}
-use Rattle.way_match.specs.Turning.{ArePassed, IsPassed, avoids_none}
+use Rattle.way_match.specs.inside.Steps.{is_there, step}
+use Rattle.way_match.specs.inside.Arena.{way_of, ways_of}
+use Rattle.way_match.specs.inside.Turning.{ArePassed, IsPassed, avoids_none}
 use Rattle.way_match.proofs.Skips.{first_of, live_of, take_more}
 use Rattle.way_match.proofs.Turn.{value, came_none, ways_append}
 

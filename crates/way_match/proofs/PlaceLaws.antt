@@ -10,7 +10,7 @@ use Rattle.std.specs.declared.vec.Vec.{Vec}
 use Rattle.std.specs.declared.alloc.Global.{Global}
 use Rattle.c_core.specs.declared.number.Spot.{Spot}
 use Rattle.c_meaning.specs.Objects.{same_spot}
-use Rattle.way_match.specs.ByPlace.{spot_cmp, items_if, same_place, numbers_in}
+use Rattle.way_match.specs.inside.ByPlace.{spot_cmp, items_if, same_place, numbers_in}
 
 equal_numbers : (x y : ℕ) → is_eq (nat_cmp x y) ≡ nat_eq x y
 equal_numbers x y = by_less (nat_lt x y) refl

@@ -7,9 +7,9 @@ use Rattle.way_match.specs.Points.{BoundSegment}
 use Rattle.way_match.specs.declared.states.Node.{Node}
 use Rattle.way_match.specs.Passing.{passes, passes_any, is_assumption}
 use Rattle.way_match.specs.Matching.{Seen}
-use Rattle.way_match.specs.Steps.{is_there, only_if, way_now, step}
-use Rattle.way_match.specs.Arena.{way_of, ways_of, came_of}
-use Rattle.way_match.specs.Turning.{IsSettled, avoids_none}
+use Rattle.way_match.specs.inside.Steps.{is_there, only_if, way_now, step}
+use Rattle.way_match.specs.inside.Arena.{way_of, ways_of, came_of}
+use Rattle.way_match.specs.inside.Turning.{IsSettled, avoids_none}
 use Rattle.way_match.proofs.Turn.{value, came_none, drop_past, eq_or, ways_append}
 
 -- ---- where no way comes, it doesn't matter which follows share their event

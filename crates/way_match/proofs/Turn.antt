@@ -8,8 +8,8 @@ use Rattle.way_match.specs.Points.{BoundSegment}
 use Rattle.way_match.specs.declared.states.Node.{Node}
 use Rattle.way_match.specs.Passing.{passes, passes_any, is_assumption}
 use Rattle.way_match.specs.Matching.{Seen}
-use Rattle.way_match.specs.Steps.{is_there, only_if, way_now, step}
-use Rattle.way_match.specs.Arena.{way_of, IsHeld, ways_of, AreHeld, came_of, IsFrom, Grown, IsBlank}
+use Rattle.way_match.specs.inside.Steps.{is_there, only_if, way_now, step}
+use Rattle.way_match.specs.inside.Arena.{way_of, IsHeld, ways_of, AreHeld, came_of, IsFrom, Grown, IsBlank}
 use Rattle.way_match.proofs.Kept.{ways_stay, are_held_stay}
 
 -- the ways after an event: those before segment i are past it

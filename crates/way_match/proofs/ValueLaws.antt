@@ -14,7 +14,7 @@ use Rattle.way_places.specs.Maps.{found_at}
 use Rattle.way_places.proofs.FirstLaws.{pair_cmp}
 use Rattle.way_places.proofs.OrderLaws.{one_spot}
 use Rattle.way_places.specs.declared.inputs.InputCall.{InputCall}
-use Rattle.way_match.specs.Gathered.{choices_for, choices_in, values_if, values_in, values_of}
+use Rattle.way_match.specs.inside.Gathered.{choices_for, choices_in, values_if, values_in, values_of}
 use Rattle.way_match.specs.Given.{GivenValue}
 
 put_by : (b : Bool) (v : ℤ) (list : List ℤ) (here before between after : Option (List ℤ)) → between ≡ cond b None before → after ≡ cond b (Some list) between → (b ≡ true → before ≡ here)

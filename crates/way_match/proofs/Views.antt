@@ -7,8 +7,8 @@ use Rattle.c_core.specs.Tree.{Program}
 use Rattle.c_meaning.specs.declared.run.Event.{Event}
 use Rattle.c_meaning.specs.Cells.{Cell}
 use Rattle.way_match.specs.Passing.{passes, passes_any, is_assumption}
-use Rattle.way_match.specs.Turning.{assumes_in, avoids_none}
-use Rattle.way_match.specs.Prepared.{comparison_of, comparisons_of, prepared_of, all_prepared}
+use Rattle.way_match.specs.inside.Turning.{assumes_in, avoids_none}
+use Rattle.way_match.specs.inside.Prepared.{comparison_of, comparisons_of, prepared_of, all_prepared}
 use Rattle.way_match.specs.View.{point_view, points_view, segment_view, each_segment_view}
 use Rattle.way_match.specs.declared.point.Point.{Point}
 use Rattle.way_match.specs.declared.point.BoundSegment.{BoundSegment}

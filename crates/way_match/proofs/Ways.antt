@@ -4,7 +4,7 @@ use Rattle.std.proofs.Common.{◌≡◌, ◌⊎◌, inl, inr, ℕ, suc, ◌<◌,
 use Rattle.way_match.specs.Points.{Point, BoundSegment}
 use Rattle.way_match.specs.Passing.{passes_any, is_assumption}
 use Rattle.way_match.specs.Matching.{Seen, seen_passes, seen_passes_any, Rises, Avoids}
-use Rattle.way_match.specs.Steps.{is_there, only_if, way_now, step}
+use Rattle.way_match.specs.inside.Steps.{is_there, only_if, way_now, step}
 
 -- the number of events up to the last position, positions being last first
 abbrev pub next : List ℕ → ℕ

@@ -32,6 +32,7 @@ given_value p call v = record { spot = call.spot; value = fit p.model call.ty v 
 abbrev pub given_by_constant : Program → InputCall → Exp → Option GivenValue
 given_by_constant p call e = and_then (constant_of p e) (λ v. Some (given_value p call v))
 
+-- of all comparisons `==` alone fixes a value
 abbrev pub is_equality : BinOp → Bool
 is_equality Eq = true
 is_equality _ = false
@@ -47,10 +48,12 @@ pub record StoredInput : Type 0 where
   pub object : ℕ
   pub call : InputCall
 
+-- the call where there is one, with the object that takes its value
 abbrev pub stored_input : ℕ → Option InputCall → Option StoredInput
 stored_input o None = None
 stored_input o (Some call) = Some (record { object = o; call = call })
 
+-- the target is an object by its name, no element of an array
 abbrev pub stored_by_target : Exp → Exp → Option StoredInput
 stored_by_target (Expr spot ty (Var o)) e = stored_input o (input_of e)
 stored_by_target (Expr spot ty _) e = None
@@ -60,9 +63,11 @@ abbrev pub stored_by_node : Node → Option StoredInput
 stored_by_node (Assign None a b) = stored_by_target a b
 stored_by_node _ = None
 
+-- an expression that is such an assignment as a whole
 abbrev pub stored_by_exp : Exp → Option StoredInput
 stored_by_exp (Expr spot ty n) = stored_by_node n
 
+-- an initializer that is an input call; a list of values is none
 abbrev pub stored_by_init : ℕ → Init → Option StoredInput
 stored_by_init o Absent = None
 stored_by_init o (One e) = stored_input o (input_of e)
@@ -74,11 +79,13 @@ stored_by_names NoName = None
 stored_by_names (MoreName spot o i NoName) = stored_by_init o i
 stored_by_names (MoreName spot o i (MoreName spot' o' i' ns)) = None
 
+-- an assignment by itself, or a declaration of one object; a statement under a label stores nothing here
 abbrev pub stored_by_form : Form → Option StoredInput
 stored_by_form (Do e) = stored_by_exp e
 stored_by_form (Declare ns) = stored_by_names ns
 stored_by_form _ = None
 
+-- the object and the call of a statement that stores an input, or none
 abbrev pub stored_by : Stm → Option StoredInput
 stored_by (Stmt at f) = stored_by_form f
 
@@ -91,14 +98,17 @@ abbrev mutual
   operands_of e (Logic true a b) = operands a ++ operands b
   operands_of e _ = e ∷ []
 
+-- a node that reads an object
 abbrev pub node_names : Node → Bool
 node_names (Var o) = true
 node_names (Index o i) = true
 node_names _ = false
 
+-- an expression that reads an object somewhere
 abbrev pub has_names : Exp → Bool
 has_names e = some_node node_names e
 
+-- an expression that is this object by its name
 abbrev pub is_object : ℕ → Exp → Bool
 is_object o (Expr spot ty (Var x)) = nat_eq x o
 is_object o (Expr spot ty _) = false
@@ -112,6 +122,7 @@ abbrev pub constant_in : ℕ → Node → Option Exp
 constant_in o (Binary op a b) = cond (is_equality op) (constant_beside o a b) None
 constant_in o _ = None
 
+-- the same of an operand
 abbrev pub constant_compared : ℕ → Exp → Option Exp
 constant_compared o (Expr spot ty n) = constant_in o n
 
@@ -130,6 +141,7 @@ given_by_follow p (Return close test) = given_by_return p (input_at p close) tes
 given_by_follow p (Assume spot test) = given_by_assumption p (and_then (stmt_before p spot) stored_by) test
 given_by_follow p _ = None
 
+-- a given value where it is for the call at this place
 abbrev pub value_if_at : Spot → Option GivenValue → List ℤ
 value_if_at spot None = []
 value_if_at spot (Some g) = cond (same_spot g.spot spot) (g.value ∷ []) []
@@ -151,5 +163,6 @@ given_by p ss = Given (map (λ call. record { spot = call.spot; values = values_
 abbrev pub RunGiven : Program → List BoundSegment → ℕ → GivenRun
 RunGiven p ss N = Run p (given_by p ss) N
 
+-- the events of that run, each with the memory of its moment
 abbrev pub SeenGiven : Program → List BoundSegment → ℕ → List Seen
 SeenGiven p ss N = SeenIn p (given_by p ss) N

@@ -2,15 +2,6 @@ pub mod Points
 pub mod View
 pub mod Passing
 pub mod Matching
-pub mod Prepared
-pub mod Steps
-pub mod Arena
-pub mod ByPlace
-pub mod Turning
-pub mod Shape
 pub mod Given
 pub mod Verdicts
-pub mod ExampleVerdicts
-pub mod ExampleGiven
-pub mod ExamplePassing
-pub mod Gathered
+pub mod inside

@@ -29,6 +29,7 @@ abbrev pub seen_passes : Program → Option Seen → Point → Bool
 seen_passes p None x = false
 seen_passes p (Some s) x = passes p x s.event s.cells
 
+-- an event passes one of these waypoints; where there is no event, none
 abbrev pub seen_passes_any : Program → Option Seen → List Point → Bool
 seen_passes_any p None xs = false
 seen_passes_any p (Some s) xs = passes_any p xs s.event s.cells
@@ -38,6 +39,7 @@ pub record Before : Type 0 where
   pub events : ℕ
   pub assumes : Bool
 
+-- before the first segment no event has passed
 abbrev pub at_start : Before
 at_start = record { events = 0; assumes = false }
 

@@ -22,6 +22,7 @@ abbrev pub aims : Aim → Spot → Bool
 aims (At spot) at = same_spot spot at
 aims (Line line) at = nat_eq line at.line
 
+-- the same of a place that may be absent
 abbrev pub aims_if : Aim → Option Spot → Bool
 aims_if aim None = false
 aims_if aim (Some at) = aims aim at
@@ -38,6 +39,7 @@ constant_of p e = value_of p e []
 abbrev pub meets : Program → ReturnTest → IntType → ℤ → Bool
 meets p t ty v = is_true (and_then (constant_of p t.constant) (λ w. wrapping (compared p.model t.op ty v (type_of t.constant) w)))
 
+-- the type of a call's value; `int` where there is no call, and a bound return is always at one
 abbrev pub type_of_call : Option Exp → IntType
 type_of_call None = Int
 type_of_call (Some e) = type_of e
@@ -48,6 +50,7 @@ meets_at p close None v = true
 meets_at p close (Some t) None = false
 meets_at p close (Some t) (Some v) = meets p t (type_of_call (call_at p close)) v
 
+-- the way that was taken is the one that the waypoint states
 abbrev pub same_way : Bool → Bool → Bool
 same_way true way = way
 same_way false true = false
@@ -62,10 +65,12 @@ passes p (Return close test) (event.Return at v) cells = same_spot close at && m
 passes p (Branch spot way) (event.Branch at taken) cells = same_spot spot at && same_way way taken
 passes p _ _ cells = false
 
+-- the event passes one of the waypoints
 abbrev pub passes_any : Program → List Point → Event → List Cell → Bool
 passes_any p [] e cells = false
 passes_any p (x ∷ xs) e cells = passes p x e cells || passes_any p xs e cells
 
+-- two segments may share an event only where both follow an assumption
 abbrev pub is_assumption : Point → Bool
 is_assumption (Assume spot test) = true
 is_assumption _ = false

@@ -14,6 +14,7 @@ pub record ReturnTest : Type 0 where
   pub op : BinOp
   pub constant : Exp
 
+-- a bound waypoint: its place, and what it asks of the event there
 pub data Point : Type 0 where
   -- an assumption at a statement
   Assume : Spot → Exp → Point

@@ -1,7 +1,7 @@
 // Which segments an event can move, found by its place.
 ghost use Rattle.std.specs.Prelude.{◌≡◌, ℕ, [], ◌∷◌, ◌++◌, cond, Option, None, Some, IfOk, OnOk};
 ghost use Rattle.c_core.specs.declared.number.Spot.{Spot};
-ghost use Rattle.way_match.specs.ByPlace.{event_spot, moved, numbers_for, numbers_in, same_place};
+ghost use Rattle.way_match.specs.inside.ByPlace.{event_spot, moved, numbers_for, numbers_in, same_place};
 ghost use Rattle.way_match.specs.View.{each_segment_view, point_view, points_view};
 
 use crate::point::{BoundSegment, Point};

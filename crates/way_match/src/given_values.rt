@@ -5,7 +5,7 @@ ghost use Rattle.c_core.specs.Places.{input_at, stmt_before};
 ghost use Rattle.c_core.specs.View.{expr_view, program_view};
 ghost use Rattle.c_meaning.specs.Value.{and_then};
 ghost use Rattle.way_places.specs.Inputs.{call_view, calls_view};
-ghost use Rattle.way_match.specs.Gathered.{choices_in, gathered, stored_view, value_view, values_view};
+ghost use Rattle.way_match.specs.inside.Gathered.{choices_in, gathered, stored_view, value_view, values_view};
 ghost use Rattle.way_match.specs.Given.{given_by, given_by_assumption, given_by_constant, given_by_follow, given_by_return, stored_by};
 ghost use Rattle.way_match.specs.View.{each_segment_view, point_view, segments_view, test_view_if};
 

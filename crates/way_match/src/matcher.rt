@@ -2,7 +2,7 @@ ghost use Rattle.std.specs.Prelude.{◌≡◌, List, IfOk};
 ghost use Rattle.c_core.specs.View.{program_view};
 ghost use Rattle.c_core.specs.declared.program.Program.{Program};
 ghost use Rattle.way_match.specs.Matching.{Seen, Finds};
-ghost use Rattle.way_match.specs.Steps.{Matching, begun, after, after_all, last_way, positions_of};
+ghost use Rattle.way_match.specs.inside.Steps.{Matching, begun, after, after_all, last_way, positions_of};
 ghost use Rattle.way_match.specs.View.{segments_view};
 ghost use Rattle.way_match.specs.declared.point.Bound.{Bound};
 
@@ -31,9 +31,9 @@ pub struct Matcher<'a> {
 
 impl<'a> Model for Matcher<'a> {
     ghost use Rattle.c_core.specs.View.{program_view};
-    ghost use Rattle.way_match.specs.Arena.{ways_of};
-    ghost use Rattle.way_match.specs.Shape.{Shaped};
-    ghost use Rattle.way_match.specs.Steps.{Matching};
+    ghost use Rattle.way_match.specs.inside.Arena.{ways_of};
+    ghost use Rattle.way_match.specs.inside.Shape.{Shaped};
+    ghost use Rattle.way_match.specs.inside.Steps.{Matching};
     ghost use Rattle.std.specs.Coded.{codes};
     ghost use Rattle.c_core.specs.contracts.tree.Expr as expression;
     ghost use Rattle.c_core.specs.contracts.tree.Stmt as statement;

@@ -5,7 +5,7 @@ ghost use Rattle.c_core.specs.View.{program_view, expr_view};
 ghost use Rattle.c_meaning.specs.Objects.{same_spot as same_spot_of, type_of as type_of_exp};
 ghost use Rattle.c_meaning.specs.Value.{and_then, is_true, wrapping, holds as holds_in};
 ghost use Rattle.way_match.specs.Passing as passing;
-ghost use Rattle.way_match.specs.Prepared.{comparison_of, comparisons_of};
+ghost use Rattle.way_match.specs.inside.Prepared.{comparison_of, comparisons_of};
 ghost use Rattle.way_match.specs.Points.{Return};
 ghost use Rattle.way_match.specs.View.{aim_view, point_view, points_view, test_view, test_view_if};
 

@@ -5,7 +5,7 @@ ghost use Rattle.c_core.specs.View.{program_view, expr_view};
 ghost use Rattle.c_meaning.specs.Objects as objects;
 ghost use Rattle.way_match.specs.Passing as passing;
 ghost use Rattle.way_match.specs.Points.{Return};
-ghost use Rattle.way_match.specs.Prepared.{all_prepared, comparison_of, comparisons_of};
+ghost use Rattle.way_match.specs.inside.Prepared.{all_prepared, comparison_of, comparisons_of};
 ghost use Rattle.way_match.specs.View.{each_segment_view, point_view, points_view, test_view_if};
 
 use crate::point::{BoundSegment, Point, ReturnTest};

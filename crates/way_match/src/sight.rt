@@ -1,6 +1,6 @@
 ghost use Rattle.std.specs.Prelude.{◌≡◌};
 ghost use Rattle.c_core.specs.View.{program_view};
-ghost use Rattle.way_match.specs.Prepared.{all_prepared};
+ghost use Rattle.way_match.specs.inside.Prepared.{all_prepared};
 ghost use Rattle.way_match.specs.View.{each_segment_view};
 
 use crate::point::BoundSegment;

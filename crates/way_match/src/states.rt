@@ -1,12 +1,12 @@
 // For each number of completed segments whether some positions complete them, and these positions as a chain of nodes.
 ghost use Rattle.std.specs.Prelude.{◌≡◌, ℕ, ◌+◌, ◌<◌, ◌≤◌, true, false, not, ◌&&◌, ◌||◌, [], ◌∷◌, length, replicate, List, None, Some, IfOk, OnErr, OnOk, vec_len, vec_capacity};
 ghost use Rattle.c_core.specs.View.{program_view};
-ghost use Rattle.way_match.specs.Arena.{chain, Held, way_of, IsHeld, ways_of, AreHeld, AreHeld-prop, came_of, IsFrom, Grown, IsBlank};
-ghost use Rattle.way_match.specs.ByPlace.{event_spot, moved, numbers_in};
+ghost use Rattle.way_match.specs.inside.Arena.{chain, Held, way_of, IsHeld, ways_of, AreHeld, AreHeld-prop, came_of, IsFrom, Grown, IsBlank};
+ghost use Rattle.way_match.specs.inside.ByPlace.{event_spot, moved, numbers_in};
 ghost use Rattle.way_match.specs.Passing as passing;
-ghost use Rattle.way_match.specs.Prepared.{all_prepared, prepared_of};
-ghost use Rattle.way_match.specs.Steps.{is_there, only_if, way_now, step, onto};
-ghost use Rattle.way_match.specs.Turning.{ArePassed, IsPassed, IsSettled, assumes_at, outcome, seen_by, sighted};
+ghost use Rattle.way_match.specs.inside.Prepared.{all_prepared, prepared_of};
+ghost use Rattle.way_match.specs.inside.Steps.{is_there, only_if, way_now, step, onto};
+ghost use Rattle.way_match.specs.inside.Turning.{ArePassed, IsPassed, IsSettled, assumes_at, outcome, seen_by, sighted};
 ghost use Rattle.way_match.specs.View.{each_segment_view, segment_view};
 
 use crate::by_place::ByPlace;

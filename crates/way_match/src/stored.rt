@@ -3,7 +3,7 @@ ghost use Rattle.std.specs.Prelude.{◌≡◌};
 ghost use Rattle.std.specs.Option.{option_map};
 ghost use Rattle.c_core.specs.Places.{input_of};
 ghost use Rattle.c_core.specs.View.{expr_view, init_view, names_view, stmt_view};
-ghost use Rattle.way_match.specs.Gathered.{stored_view};
+ghost use Rattle.way_match.specs.inside.Gathered.{stored_view};
 ghost use Rattle.way_match.specs.Given.{stored_by, stored_by_exp, stored_by_init, stored_by_names, stored_by_target, stored_input};
 
 use c_core::{Declared, Expr, Form, Init, Node, Stmt};

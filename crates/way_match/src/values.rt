@@ -1,7 +1,7 @@
 // The values given at each place.
 ghost use Rattle.std.specs.Prelude.{◌≡◌, ◌++◌, Some, IfOk, OnOk};
 ghost use Rattle.c_core.specs.declared.number.Spot.{Spot};
-ghost use Rattle.way_match.specs.Gathered.{value_view, values_in, values_of, values_view};
+ghost use Rattle.way_match.specs.inside.Gathered.{value_view, values_in, values_of, values_view};
 ghost use Rattle.way_match.specs.Given.{value_if_at};
 
 use crate::given_values::GivenValue;

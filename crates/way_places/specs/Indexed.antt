@@ -26,11 +26,13 @@ GivesCalls p calls = (close : Spot) → expr_view_if (option_copied (found_at ca
 abbrev pub GivesBefores : Program → BTreeMap (ℕ × ℕ) (Bor Stmt) → Type 0
 GivesBefores p befores = (spot : Spot) → option_map stmt_view (option_copied (found_at befores spot)) ≡ stmt_before p spot
 
-pub record IsIndex (p : Program) (s l b e a : BTreeMap (ℕ × Option ℕ) Spot) (c : BTreeMap (ℕ × ℕ) (Bor Expr)) (d : BTreeMap (ℕ × ℕ) (Bor Stmt)) : Type 0 where
-  pub statements : GivesPlaces p place.Statement s
-  pub loops : GivesPlaces p place.Loop l
-  pub branches : GivesPlaces p place.Branch b
-  pub call_ends : GivesPlaces p place.CallEnd e
-  pub aims : GivesAims p a
-  pub calls : GivesCalls p c
-  pub befores : GivesBefores p d
+-- each map gives what the walk for it finds
+pub record IsIndex (p : Program) (statement_spots loop_spots branch_spots end_spots aim_spots : BTreeMap (ℕ × Option ℕ) Spot)
+    (call_nodes : BTreeMap (ℕ × ℕ) (Bor Expr)) (earlier : BTreeMap (ℕ × ℕ) (Bor Stmt)) : Type 0 where
+  pub statements : GivesPlaces p place.Statement statement_spots
+  pub loops : GivesPlaces p place.Loop loop_spots
+  pub branches : GivesPlaces p place.Branch branch_spots
+  pub call_ends : GivesPlaces p place.CallEnd end_spots
+  pub aims : GivesAims p aim_spots
+  pub calls : GivesCalls p call_nodes
+  pub befores : GivesBefores p earlier

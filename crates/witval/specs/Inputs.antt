@@ -9,6 +9,7 @@ use Rattle.witval.specs.declared.input.Stop.{Stop}
 use Rattle.witval.specs.declared.input.Stop.TheVariants.{Fault, TooLong, OutOfMemory}
 use Rattle.witval.specs.declared.input.Inputs.{Inputs}
 
+-- how a report names each file
 abbrev pub word_of : File → List ℕ
 word_of Program = codes "program"
 word_of Property = codes "property"
@@ -20,6 +21,7 @@ number_of Program = 1
 number_of Property = 2
 number_of Witness = 3
 
+-- the name of each file, as the words state it
 abbrev pub name_of : Command → File → List ℕ
 name_of command Program = command.program
 name_of command Property = command.property
@@ -62,6 +64,7 @@ pub record TookTooMuch (count : ℕ) (name : List ℕ) (limit : ℕ) (old new : 
 abbrev pub FaultedAt : Command → File → ShelfState → ShelfState → Type 0
 FaultedAt command file old new = Faulted (number_of file) (name_of command file) old new
 
+-- one byte more than the limit of a file of a command was taken
 abbrev pub TookTooMuchOf : Command → File → ShelfState → ShelfState → Type 0
 TookTooMuchOf command file old new = TookTooMuch (number_of file) (name_of command file) (limit_of file) old new
 

@@ -19,6 +19,7 @@ use Rattle.witval.specs.declared.input.File.TheVariants.{Witness as WitnessFile}
 use Rattle.witval.specs.declared.output.Output.{Output}
 use Rattle.witval.specs.declared.output.Output.TheVariants.{Report, Canonical, Summary}
 
+-- the code of a file over its limit
 abbrev pub too_long : List ℕ
 too_long = codes "too-long"
 
@@ -41,6 +42,7 @@ RightFor command steps old new (ReadFault text) = (file : File) × (text ≡ wor
 RightFor command steps old new (Refused code detail) = Told command old (RightOnBytes steps (Refused code detail)) × TooLongBy command old new code detail
 RightFor command steps old new (Judged verdict) = Told command old (RightOnBytes steps (Judged verdict))
 
+-- where a verdict is asked for, a report is written and nothing else
 abbrev pub RightVerdict : Command → ℕ → ShelfState → ShelfState → Output → Type 0
 RightVerdict command steps old new (Report reply) = RightFor command steps old new reply
 RightVerdict command steps old new (Canonical text) = ⊥
@@ -60,6 +62,7 @@ CanonicalIn (Summary text) witness = ⊥
 abbrev pub NoWitnessReply : Witness → Reply → Type 0
 NoWitnessReply witness reply = ⊥
 
+-- where a summary is asked for, a report is the refusal of a tree that is no witness
 abbrev pub NoTreeReply : Tree → Reply → Type 0
 NoTreeReply tree reply = RightAfterSchema (witness_of tree) NoWitnessReply reply
 
@@ -80,9 +83,11 @@ abbrev pub AfterLength : Option File → (Output → List ℕ → Type 0) → Ou
 AfterLength (Some file) Within output witness = output ≡ Report (Refused too_long (word_of file))
 AfterLength None Within output witness = Within output witness
 
+-- the same by the length of the witness
 abbrev pub OnWitness : (Output → List ℕ → Type 0) → Output → List ℕ → Type 0
 OnWitness Within output witness = AfterLength (too_long_alone witness) Within output witness
 
+-- the same for a witness alone
 abbrev pub TooLongAlone : List ℕ → ShelfState → ShelfState → List ℕ → List ℕ → Type 0
 TooLongAlone name old new code detail = (bytes_eq code too_long ≡ false) ⊎ ((detail ≡ word_of WitnessFile) × TookTooMuch 1 name (limit_of WitnessFile) old new)
 
@@ -98,6 +103,7 @@ RightAlone Within name old new (Summary text) = ToldOne name old (OnWitness With
 abbrev pub usage : Output
 usage = Report (plain (codes "usage"))
 
+-- the mode `demo` isn't served yet
 abbrev pub unbuilt_words : Output
 unbuilt_words = Report (unbuilt (codes "words"))
 

@@ -23,6 +23,7 @@ abbrev pub report_by : Bool → Reply → List ℕ
 report_by true reply = json_of reply
 report_by false reply = text_of reply
 
+-- all that is written of an output
 abbrev pub bytes_by : Bool → Output → List ℕ
 bytes_by json (Report reply) = report_by json reply
 bytes_by json (Canonical text) = text
@@ -52,6 +53,7 @@ pub record RunsFor (asked : Asked) (old new : ShelfState) (before after : SinkSt
   pub prefix : status ≡ 5 → CutShort asked old new before after
   pub replied : status ≢ 5 → status ≢ 6 → Replied asked old new before after status
 
+-- the same for the words of a command line, the program's own name being the first
 abbrev pub Runs : List (List ℕ) → ShelfState → ShelfState → SinkState → SinkState → ℕ → Type 0
 Runs words old new before after status = RunsFor (asked_by words) old new before after status
 
@@ -82,5 +84,6 @@ CompleteFor asked old new before after status =
     (wanted : Wanted) (files : Files) → asked.wanted ≡ Some wanted → old.files ≡ Some files → Undisturbed old new before after → status ≢ 6
     → Answered asked.json wanted files before after status
 
+-- the same for the words of a command line
 abbrev pub Complete : List (List ℕ) → ShelfState → ShelfState → SinkState → SinkState → ℕ → Type 0
 Complete words old new before after status = CompleteFor (asked_by words) old new before after status

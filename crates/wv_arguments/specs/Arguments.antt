@@ -24,12 +24,15 @@ number_or name least most default = record (number name least most) { defaults =
 abbrev pub flag : Text → Rule
 flag name = record (option name) { action = Some SetTrue }
 
+-- the greatest budget of steps
 abbrev pub most_steps : ℕ
 most_steps = 100000000
 
+-- the greatest budget of derived clauses
 abbrev pub most_conflicts : ℕ
 most_conflicts = 1000000
 
+-- the greatest number of a made program
 abbrev pub most_number : ℕ
 most_number = 999999
 
@@ -45,5 +48,6 @@ arguments =
     number (codes "number") 0 most_number ∷
     flag (codes "json") ∷ []
 
+-- the program's name and its arguments
 abbrev pub command : App
 command = fold with_rule (new_app (codes "witval")) arguments

@@ -36,10 +36,12 @@ abbrev pub number_in : ℕ → ℕ → Option Text → Option ℕ
 number_in least most None = None
 number_in least most (Some text) = if accepts false (Unsigned least most) text then Some (digits_value 10 (without_leading_plus text)) else None
 
+-- two numbers, where both are there
 abbrev pub budgets_of : Option ℕ → Option ℕ → Option Budgets
 budgets_of (Some steps) (Some conflicts) = Some (record { steps = steps; conflicts = conflicts })
 budgets_of _ _ = None
 
+-- three names, where all are there
 abbrev pub command_of : Option Text → Option Text → Option Text → Option Command
 command_of (Some program) (Some property) (Some witness) = Some (record { program = program; property = property; witness = witness })
 command_of _ _ _ = None
@@ -49,14 +51,17 @@ abbrev pub validate_of : Option Command → Option Budgets → Option Wanted
 validate_of (Some command) (Some budgets) = Some (Validate command budgets)
 validate_of _ _ = None
 
+-- a summary needs a witness
 abbrev pub show_of : Option Text → Option Wanted
 show_of (Some witness) = Some (Show witness)
 show_of None = None
 
+-- a canonical form needs a witness
 abbrev pub normalise_of : Option Text → Option Wanted
 normalise_of (Some witness) = Some (Normalise witness)
 normalise_of None = None
 
+-- a made program needs a number and budgets
 abbrev pub demo_of : Option ℕ → Option Budgets → Option Wanted
 demo_of (Some number) (Some budgets) = Some (Demo number budgets)
 demo_of _ _ = None
@@ -65,12 +70,15 @@ demo_of _ _ = None
 abbrev pub mode_in : List Row → Text
 mode_in rows = unwrap_or (first_of (codes "mode") rows) []
 
+-- the names of the three files
 abbrev pub command_in : List Row → Option Command
 command_in rows = command_of (first_of (codes "program") rows) (first_of (codes "property") rows) (first_of (codes "witness") rows)
 
+-- both budgets, each between 1 and its greatest value
 abbrev pub budgets_in : List Row → Option Budgets
 budgets_in rows = budgets_of (number_in 1 most_steps (one_of (codes "steps") rows)) (number_in 1 most_conflicts (one_of (codes "conflicts") rows))
 
+-- the number of a made program
 abbrev pub made_number : List Row → Option ℕ
 made_number rows = number_in 0 most_number (one_of (codes "number") rows)
 
@@ -83,9 +91,11 @@ wanted_as mode rows =
     else (if bytes_eq mode (codes "demo") then demo_of (made_number rows) (budgets_in rows)
     else None)))
 
+-- a flag was given
 abbrev pub is_set : Option Text → Bool
 is_set text = option_map_or (λ t. bytes_eq t (codes "true")) text false
 
+-- what the matches ask for, where `clap` has no fault
 abbrev pub asked_in : List Row → Asked
 asked_in rows = record { wanted = wanted_as (mode_in rows) rows; json = is_set (first_of (codes "json") rows) }
 

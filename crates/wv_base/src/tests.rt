@@ -1,10 +1,16 @@
 use super::*;
+use std::alloc::Global;
 use std::test::Fail;
 
 #[test]
-fn a_text_and_a_list_give_back_what_they_hold(rt: HostRuntime) -> Result<(), Fail> {
+fn a_text_gives_back_what_it_holds(rt: HostRuntime) -> Result<(), Fail> {
+    assert_eq!(rt; Text::of(rt.alloc(), "naïve")?.as_str(), "naïve");
+    Ok(())
+}
+
+#[test]
+fn a_list_gives_back_what_it_holds(rt: HostRuntime) -> Result<(), Fail> {
     let alloc = rt.alloc();
-    assert_eq!(rt; Text::of(alloc, "naïve")?.as_str(), "naïve");
     let mut list = Seq::new(alloc);
     assert_eq!(rt; list.get(0), None);
     list.push(7u8)?;
@@ -18,45 +24,83 @@ fn a_text_and_a_list_give_back_what_they_hold(rt: HostRuntime) -> Result<(), Fai
     Ok(())
 }
 
-#[test]
-fn a_file_is_read_in_pieces_up_to_its_limit(rt: HostRuntime) -> Result<(), Fail> {
-    let alloc = rt.alloc();
+// Without a clause, so that the proof of a test that calls it has none of what `read_all` says to carry.
+fn reads<S: Shelf>(
+    alloc: Global,
+    shelf: &mut S,
+    name: &str,
+    limit: u8,
+    wanted: Result<&[u8], ReadFault>,
+) -> bool {
+    match read_all(alloc, shelf, name, usize::from(limit)) {
+        Ok(bytes) => wanted == Ok(bytes.as_slice()),
+        Err(fault) => wanted == Err(fault),
+    }
+}
+
+fn memory_shelf(alloc: Global) -> Result<MemoryShelf, OutOfMemory> {
     let mut shelf = MemoryShelf::new(alloc, 2);
     shelf.put("p", b"old")?;
     shelf.put("p", b"hello")?;
-    assert_eq!(rt;
-        read_all(alloc, &mut shelf, "p", 5)?.as_slice(),
-        b"hello".as_slice()
-    );
-    assert!(rt; read_all(alloc, &mut shelf, "p", 4) == Err(ReadFault::TooLong));
-    assert!(rt; read_all(alloc, &mut shelf, "q", 4) == Err(ReadFault::Fault));
-    let mut steady = SteadyShelf::new(alloc, 2);
-    steady.put("p", b"hello")?;
-    assert_eq!(rt;
-        read_all(alloc, &mut steady, "p", 5)?.as_slice(),
-        b"hello".as_slice()
-    );
-    assert_eq!(rt;
-        read_all(alloc, &mut steady, "q", 5)?.as_slice(),
-        b"".as_slice()
-    );
+    Ok(shelf)
+}
+
+#[test]
+fn a_file_is_read_in_pieces_up_to_its_limit(rt: HostRuntime) -> Result<(), Fail> {
+    let alloc = rt.alloc();
+    let mut shelf = memory_shelf(alloc)?;
+    assert!(rt; reads(alloc, &mut shelf, "p", 5, Ok(b"hello".as_slice())));
+    assert!(rt; reads(alloc, &mut shelf, "p", 4, Err(ReadFault::TooLong)));
+    assert!(rt; reads(alloc, &mut shelf, "q", 4, Err(ReadFault::Fault)));
+    Ok(())
+}
+
+fn steady_shelf(alloc: Global) -> Result<SteadyShelf, OutOfMemory> {
+    let mut shelf = SteadyShelf::new(alloc, 2);
+    shelf.put("p", b"hello")?;
+    Ok(shelf)
+}
+
+#[test]
+fn a_steady_shelf_has_a_file_of_each_name(rt: HostRuntime) -> Result<(), Fail> {
+    let alloc = rt.alloc();
+    let mut shelf = steady_shelf(alloc)?;
+    assert!(rt; reads(alloc, &mut shelf, "p", 5, Ok(b"hello".as_slice())));
+    assert!(rt; reads(alloc, &mut shelf, "q", 5, Ok(b"".as_slice())));
+    Ok(())
+}
+
+// Where the writing of all bytes stopped, if it did.
+fn stopped<O: Sink>(sink: &mut O, bytes: &[u8]) -> Option<usize> {
+    match write_all(sink, bytes) {
+        Ok(()) => None,
+        Err(fault) => Some(fault.written),
+    }
+}
+
+#[test]
+fn bytes_are_written_in_pieces_up_to_the_room(rt: HostRuntime) -> Result<(), Fail> {
+    let mut sink = MemorySink::new(rt.alloc(), 8, 3)?;
+    assert_eq!(rt; stopped(&mut sink, b"hello"), None);
+    assert_eq!(rt; stopped(&mut sink, b"you"), None);
+    assert_eq!(rt; stopped(&mut sink, b"!"), Some(0));
+    assert_eq!(rt; sink.bytes(), b"helloyou".as_slice());
     Ok(())
 }
 
 #[test]
 fn bytes_are_written_in_pieces_up_to_a_fault(rt: HostRuntime) -> Result<(), Fail> {
-    let alloc = rt.alloc();
-    let mut sink = MemorySink::new(alloc, 8, 3)?;
-    assert!(rt; write_all(&mut sink, b"hello").is_ok());
-    assert!(rt; write_all(&mut sink, b"you").is_ok());
-    assert!(rt; write_all(&mut sink, b"!") == Err(WriteFault { written: 0 }));
-    assert_eq!(rt; sink.bytes(), b"helloyou".as_slice());
-    let mut failing = MemorySink::new(alloc, 8, 3)?;
-    failing.fail_at(2)?;
-    assert!(rt; write_all(&mut failing, b"hello") == Err(WriteFault { written: 3 }));
-    assert_eq!(rt; failing.bytes(), b"hel".as_slice());
-    let mut steady = SteadySink::new(alloc, 8)?;
-    assert!(rt; write_all(&mut steady, b"hello").is_ok());
-    assert_eq!(rt; steady.bytes(), b"hello".as_slice());
+    let mut sink = MemorySink::new(rt.alloc(), 8, 3)?;
+    sink.fail_at(2)?;
+    assert_eq!(rt; stopped(&mut sink, b"hello"), Some(3));
+    assert_eq!(rt; sink.bytes(), b"hel".as_slice());
+    Ok(())
+}
+
+#[test]
+fn a_steady_sink_takes_all_bytes(rt: HostRuntime) -> Result<(), Fail> {
+    let mut sink = SteadySink::new(rt.alloc(), 8)?;
+    assert_eq!(rt; stopped(&mut sink, b"hello"), None);
+    assert_eq!(rt; sink.bytes(), b"hello".as_slice());
     Ok(())
 }

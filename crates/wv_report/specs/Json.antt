@@ -15,9 +15,11 @@ use Rattle.wv_report.specs.Report.{line, type_name, kind_name, reason_text, caus
 use Rattle.wv_report.specs.declared.reply.Reply.{Reply}
 use Rattle.wv_report.specs.declared.reply.Reply.TheVariants.{Verdict as Judged, Refused, ReadFault}
 
+-- a number of at least 0
 abbrev pub count_json : ℕ → Data
 count_json n = number (unsigned n)
 
+-- a draw with its place, its type and its value
 unfoldable pub draw_json : Draw → Data
 draw_json draw =
     object (member (codes "column") (count_json draw.spot.column)
@@ -25,29 +27,35 @@ draw_json draw =
     (member (codes "type") (string (type_name draw.ty))
     (member (codes "value") (number (of_integer draw.value)) no_members))))
 
+-- the draws in their order
 abbrev pub draws_json : List Draw → Data
 draws_json draws = array (items_of (map draw_json draws))
 
+-- the numbers of events, one for each segment
 abbrev pub positions_json : List ℕ → Data
 positions_json positions = array (items_of (map count_json positions))
 
+-- the event of each segment, and each drawn value
 unfoldable pub confirmed_json : List Draw → List ℕ → Data
 confirmed_json draws positions =
     object (member (codes "answer") (string (codes "violation confirmed"))
     (member (codes "positions") (positions_json positions)
     (member (codes "values") (draws_json draws) no_members)))
 
+-- why a violation isn't confirmed, and how many draws the witness left open
 unfoldable pub unconfirmed_json : Reason → ℕ → Data
 unconfirmed_json reason unfixed =
     object (member (codes "answer") (string (codes "violation not confirmed"))
     (member (codes "reason") (string (reason_text reason))
     (member (codes "unfixed") (count_json unfixed) no_members)))
 
+-- how many obligations hold
 unfoldable pub correct_json : ℕ → Data
 correct_json count =
     object (member (codes "answer") (string (codes "correctness confirmed"))
     (member (codes "obligations") (count_json count) no_members))
 
+-- the least obligation that fails, and values for which it does
 unfoldable pub incorrect_json : ℕ → Duty → List Draw → Data
 incorrect_json index duty draws =
     object (member (codes "answer") (string (codes "correctness not confirmed"))
@@ -57,11 +65,13 @@ incorrect_json index duty draws =
     (member (codes "obligation") (count_json index)
     (member (codes "values") (draws_json draws) no_members))))))
 
+-- an undecided verdict, by what ran out
 unfoldable pub cause_json : Cause → Data
 cause_json cause =
     object (member (codes "answer") (string (codes "undecided"))
     (member (codes "cause") (string (cause_text cause)) no_members))
 
+-- each verdict has an object of its own
 unfoldable pub verdict_json : Verdict → Data
 verdict_json (ViolationConfirmed draws positions) = confirmed_json draws positions
 verdict_json (ViolationNot reason unfixed) = unconfirmed_json reason unfixed
@@ -76,6 +86,7 @@ refusal_json code detail =
     (member (codes "code") (string code)
     (member (codes "detail") (string detail) no_members)))
 
+-- a file that couldn't be read
 unfoldable pub fault_json : List ℕ → Data
 fault_json which =
     object (member (codes "answer") (string (codes "fault"))

@@ -18,6 +18,7 @@ use Rattle.c_meaning.specs.declared.verdict.Cause.TheVariants.{Steps, Cells, Con
 use Rattle.wv_report.specs.declared.reply.Reply.{Reply}
 use Rattle.wv_report.specs.declared.reply.Reply.TheVariants.{Verdict as Judged, Refused, ReadFault}
 
+-- a line feed ends each line
 abbrev pub line : List ℕ → List ℕ
 line text = text ++ 10 ∷ []
 
@@ -40,6 +41,7 @@ type_name ULong = codes "unsigned long"
 type_name LongLong = codes "long long"
 type_name ULongLong = codes "unsigned long long"
 
+-- a drawn value: the place of the call or object, its type, the value
 abbrev pub value_line : Draw → List ℕ
 value_line draw = line (codes "value " ++ place draw.spot ++ codes " " ++ type_name draw.ty ++ codes " " ++ signed_decimal draw.value)
 
@@ -48,6 +50,7 @@ abbrev pub value_lines : List Draw → List ℕ
 value_lines [] = []
 value_lines (draw ∷ draws) = value_line draw ++ value_lines draws
 
+-- the event that passes the follow of a segment, both by number
 abbrev pub segment_line : ℕ → ℕ → List ℕ
 segment_line segment event = line (codes "segment " ++ decimal segment ++ codes " event " ++ decimal event)
 
@@ -56,22 +59,26 @@ abbrev pub segment_lines : ℕ → List ℕ → List ℕ
 segment_lines segment [] = []
 segment_lines segment (event ∷ events) = segment_line segment event ++ segment_lines (segment + 1) events
 
+-- why a violation isn't confirmed
 abbrev pub reason_text : Reason → List ℕ
 reason_text Ended = codes "ended"
 reason_text (Undefined spot) = codes "undefined " ++ place spot
 reason_text Unmatched = codes "unmatched"
 
+-- a word for each kind of obligation
 abbrev pub kind_name : DutyKind → List ℕ
 kind_name Location = codes "location"
 kind_name Entry = codes "entry"
 kind_name Kept = codes "kept"
 kind_name Property = codes "property"
 
+-- what ran out: steps, cells, or derived clauses at an obligation
 abbrev pub cause_text : Cause → List ℕ
 cause_text (Steps count) = codes "steps " ++ decimal count
 cause_text Cells = codes "cells"
 cause_text (Conflicts index count) = codes "conflicts " ++ decimal count ++ codes " obligation " ++ decimal index
 
+-- the line for a violation that isn't confirmed
 abbrev pub reason_line : Reason → List ℕ
 reason_line reason = line (codes "reason " ++ reason_text reason)
 
@@ -79,9 +86,11 @@ reason_line reason = line (codes "reason " ++ reason_text reason)
 abbrev pub placed_kind : Duty → List ℕ
 placed_kind duty = line (kind_name duty.kind ++ codes " " ++ place duty.spot)
 
+-- an obligation by its number, its kind and its place
 abbrev pub obligation_line : ℕ → Duty → List ℕ
 obligation_line index duty = codes "obligation " ++ decimal index ++ codes " " ++ placed_kind duty
 
+-- the answer, and below it what it rests on
 abbrev pub verdict_lines : Verdict → List ℕ
 verdict_lines (ViolationConfirmed draws positions) = line (codes "violation confirmed") ++ value_lines draws ++ segment_lines 1 positions
 verdict_lines (ViolationNot reason unfixed) = line (codes "violation not confirmed") ++ reason_line reason ++ line (codes "unfixed " ++ decimal unfixed)
@@ -94,6 +103,7 @@ abbrev pub detail_text : List ℕ → List ℕ
 detail_text [] = []
 detail_text (byte ∷ bytes) = 32 ∷ byte ∷ bytes
 
+-- a refusal by its code, and its detail where there is one
 abbrev pub refusal_line : List ℕ → List ℕ → List ℕ
 refusal_line code detail = line (codes "refused " ++ code ++ detail_text detail)
 

@@ -15,6 +15,7 @@ use Rattle.wv_schema.specs.declared.witness.Waypoint.{Waypoint}
 use Rattle.wv_schema.specs.declared.witness.Witness.{Witness}
 use Rattle.wv_task.specs.Readings.{created_of, identifier_of}
 
+-- a line feed ends each line
 abbrev pub line : List ℕ → List ℕ
 line text = text ++ 10 ∷ []
 
@@ -23,6 +24,7 @@ abbrev pub or_unread : Option (List ℕ) → List ℕ
 or_unread None = codes "unread"
 or_unread (Some text) = text
 
+-- an identifier in lower case with hyphens
 abbrev pub uuid_text : List ℕ → List ℕ
 uuid_text uuid = or_unread (identifier_of uuid)
 
@@ -30,15 +32,19 @@ uuid_text uuid = or_unread (identifier_of uuid)
 abbrev pub created_text : List ℕ → List ℕ
 created_text time = or_unread (option_map signed_decimal (created_of time))
 
+-- an entry's number and type
 abbrev pub entry_line : ℕ → Content → List ℕ
 entry_line position content = line (codes "entry " ++ decimal position ++ codes " " ++ content_word content)
 
+-- the tool that the entry names, with its version
 abbrev pub producer_line : Metadata → List ℕ
 producer_line metadata = line (codes "producer " ++ quoted_text metadata.producer_name ++ codes " " ++ quoted_text metadata.producer_version)
 
+-- the identifier of the entry
 abbrev pub uuid_line : Metadata → List ℕ
 uuid_line metadata = line (codes "uuid " ++ uuid_text metadata.uuid)
 
+-- when the entry says it was made
 abbrev pub created_line : Metadata → List ℕ
 created_line metadata = line (codes "created " ++ created_text metadata.creation_time)
 
@@ -47,6 +53,7 @@ abbrev pub column_text : Option ℕ → List ℕ
 column_text None = []
 column_text (Some column) = codes ":" ++ decimal column
 
+-- the line, and the column where there is one
 abbrev pub place : Location → List ℕ
 place location = decimal location.line ++ column_text location.column
 
@@ -55,11 +62,13 @@ abbrev pub constraint_text : Option Constraint → List ℕ
 constraint_text None = []
 constraint_text (Some constraint) = codes " " ++ quoted_text constraint.value
 
+-- a waypoint: its number, its action, its type, its place and its constraint
 abbrev pub waypoint_line : List ℕ → ℕ → Waypoint → List ℕ
 waypoint_line action number waypoint =
     line (codes "waypoint " ++ decimal number ++ codes " " ++ action ++ codes " " ++ way_word waypoint.kind ++ codes " "
     ++ place waypoint.location ++ constraint_text waypoint.constraint)
 
+-- an invariant: its number, its type, its place and its expression
 abbrev pub invariant_line : ℕ → Invariant → List ℕ
 invariant_line number invariant =
     line (codes "invariant " ++ decimal number ++ codes " " ++ invariant_word invariant.kind ++ codes " "
@@ -79,14 +88,17 @@ segment_lines number segment =
 abbrev pub segment_size : Segment → ℕ
 segment_size segment = length segment.avoids + 1
 
+-- a line for each waypoint of segments, the first having this number
 abbrev pub sequence_lines : ℕ → List Segment → List ℕ
 sequence_lines number [] = []
 sequence_lines number (segment ∷ segments) = segment_lines number segment ++ sequence_lines (number + segment_size segment) segments
 
+-- how many waypoints segments have
 abbrev pub sequence_size : List Segment → ℕ
 sequence_size [] = 0
 sequence_size (segment ∷ segments) = segment_size segment + sequence_size segments
 
+-- a line for each invariant, the first having this number
 abbrev pub invariant_lines : ℕ → List Invariant → List ℕ
 invariant_lines number [] = []
 invariant_lines number (invariant ∷ invariants) = invariant_line number invariant ++ invariant_lines (number + 1) invariants
@@ -96,6 +108,7 @@ abbrev pub content_lines : ℕ → Content → List ℕ
 content_lines number (Violation segments) = sequence_lines number segments
 content_lines number (Invariants invariants) = invariant_lines number invariants
 
+-- how many waypoints or invariants an entry has
 abbrev pub content_size : Content → ℕ
 content_size (Violation segments) = sequence_size segments
 content_size (Invariants invariants) = length invariants

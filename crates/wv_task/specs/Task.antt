@@ -23,10 +23,12 @@ names_one_file (file ∷ []) [] = false
 names_one_file (file ∷ []) (a ∷ b ∷ hashes) = false
 names_one_file (file ∷ []) (hash ∷ []) = bytes_eq hash.file file
 
+-- the hash of the one file
 abbrev pub stated_hash : List FileHash → List ℕ
 stated_hash [] = []
 stated_hash (hash ∷ hashes) = hash.hash
 
+-- hexadecimal digits stand for just these bytes
 abbrev pub is_decoded : List ℕ → Result (List ℕ) FromHexError → Bool
 is_decoded bytes (Ok decoded) = bytes_eq decoded bytes
 is_decoded bytes (Err fault) = false
@@ -35,6 +37,7 @@ is_decoded bytes (Err fault) = false
 abbrev pub spells : List ℕ → List ℕ → Bool
 spells bytes text = is_decoded bytes (decode_sized text (length bytes))
 
+-- a witness states this property, and no other
 abbrev pub is_property : Property → Option Property → Bool
 is_property property None = false
 is_property UnreachCall (Some UnreachCall) = true
@@ -42,6 +45,7 @@ is_property NoOverflow (Some NoOverflow) = true
 is_property UnreachCall (Some NoOverflow) = false
 is_property NoOverflow (Some UnreachCall) = false
 
+-- the data model by its word
 abbrev pub model_of : List ℕ → Option DataModel
 model_of text =
     if bytes_eq text (codes "ILP32") then Some Ilp32
@@ -69,6 +73,7 @@ entries_met digest property first_model [] = Ok tt
 entries_met digest property first_model (e ∷ entries) =
     result_and (all_met (rules digest property first_model e.metadata)) (entries_met digest property first_model entries)
 
+-- the data model that the first entry states; all others have to state the same text
 abbrev pub first_model_of : List Entry → List ℕ
 first_model_of [] = []
 first_model_of (e ∷ entries) = e.metadata.data_model

@@ -11,6 +11,7 @@ is_blank b = (b == 32) || (b == 9) || (b == 13) || (b == 10)
 abbrev pub is_letter : ℕ → Bool
 is_letter b = (nat_le 97 b && nat_le b 122) || (nat_le 65 b && nat_le b 90) || (b == 95)
 
+-- a letter stands first
 abbrev pub begins_with_letter : List ℕ → Bool
 begins_with_letter [] = false
 begins_with_letter (b ∷ text) = is_letter b

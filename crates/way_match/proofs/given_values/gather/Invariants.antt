@@ -1,6 +1,6 @@
 use Rattle.std.proofs.Common.{◌≡◌, ◌++◌, drop}
 use Rattle.c_core.specs.View.{program_view}
-use Rattle.way_match.specs.Gathered.{gathered, values_view}
+use Rattle.way_match.specs.inside.Gathered.{gathered, values_view}
 use Rattle.way_match.specs.View.{each_segment_view}
 use Rattle.way_match.proofs.given_values.gather.Given as goal
 

@@ -3,7 +3,7 @@ use Rattle.c_core.specs.View.{program_view}
 use Rattle.c_core.specs.declared.program.Program.{Program}
 use Rattle.c_meaning.specs.declared.run.Choices.TheVariants.{Given}
 use Rattle.way_places.specs.Inputs.{calls_view}
-use Rattle.way_match.specs.Gathered.{choices_for, choices_in, gathered, values_view}
+use Rattle.way_match.specs.inside.Gathered.{choices_for, choices_in, gathered, values_view}
 use Rattle.way_match.specs.Given.{input_calls}
 use Rattle.way_match.specs.View.{each_segment_view, segments_view}
 use Rattle.way_match.proofs.GatherLaws.{given_is_gathered}

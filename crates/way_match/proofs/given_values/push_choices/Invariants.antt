@@ -1,6 +1,6 @@
 use Rattle.std.proofs.Common.{◌≡◌, ◌++◌, drop}
 use Rattle.way_places.specs.Inputs.{calls_view}
-use Rattle.way_match.specs.Gathered.{choices_in}
+use Rattle.way_match.specs.inside.Gathered.{choices_in}
 use Rattle.way_match.proofs.given_values.push_choices.Given as goal
 
 -- with what is left it becomes what the whole gives

@@ -1,6 +1,6 @@
 use Rattle.std.proofs.Common.{◌≡◌, ◌++◌, drop}
 use Rattle.c_core.specs.View.{program_view}
-use Rattle.way_match.specs.Prepared.{comparisons_of}
+use Rattle.way_match.specs.inside.Prepared.{comparisons_of}
 use Rattle.way_match.specs.View.{points_view}
 use Rattle.way_match.proofs.prepared.comparisons.Given as goal
 

@@ -1,6 +1,6 @@
 use Rattle.std.proofs.Common.{◌≡◌, ◌++◌, drop}
 use Rattle.c_core.specs.View.{program_view}
-use Rattle.way_match.specs.Prepared.{all_prepared}
+use Rattle.way_match.specs.inside.Prepared.{all_prepared}
 use Rattle.way_match.specs.View.{each_segment_view}
 use Rattle.way_match.proofs.prepared.prepare.Given as goal
 

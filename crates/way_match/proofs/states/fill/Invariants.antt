@@ -1,6 +1,6 @@
 use Rattle.std.proofs.Common.{◌≡◌, ◌≤◌, [], length, drop}
-use Rattle.way_match.specs.Steps.{onto}
-use Rattle.way_match.specs.Arena.{chain, Held}
+use Rattle.way_match.specs.inside.Steps.{onto}
+use Rattle.way_match.specs.inside.Arena.{chain, Held}
 use Rattle.way_match.proofs.states.fill.Given as goal
 
 abbrev pub invariant-loop-left : goal.invariant-loop-left

@@ -1,6 +1,6 @@
 use Rattle.std.proofs.Common.{rules, ◌≡◌, ap, ◌∙◌, ◌∷◌, ◌++◌, []}
 use Rattle.std.specs.Option.{unwrap_or}
-use Rattle.way_match.specs.Gathered.{values_if}
+use Rattle.way_match.specs.inside.Gathered.{values_if}
 use Rattle.way_match.proofs.ValueLaws.{or_none, put_there}
 use Rattle.way_match.proofs.values.put.Goals as goal
 

@@ -1,5 +1,5 @@
 use Rattle.std.proofs.Common.{rules, ◌≡◌, ◌∙◌, ap}
-use Rattle.way_match.specs.ByPlace.{items_if}
+use Rattle.way_match.specs.inside.ByPlace.{items_if}
 use Rattle.way_match.proofs.PlaceLaws.{added}
 use Rattle.way_match.proofs.by_place.ByPlace.add_at.Goals as goal
 use Rattle.way_match.proofs.by_place.ByPlace.add_at.Goals.{in-Some, in-None}

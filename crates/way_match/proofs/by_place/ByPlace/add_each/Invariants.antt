@@ -1,6 +1,6 @@
 use Rattle.std.proofs.Common.{◌≡◌, ◌++◌, Option, drop}
 use Rattle.c_core.specs.declared.number.Spot.{Spot}
-use Rattle.way_match.specs.ByPlace.{numbers_for, numbers_in}
+use Rattle.way_match.specs.inside.ByPlace.{numbers_for, numbers_in}
 use Rattle.way_match.specs.View.{points_view}
 use Rattle.way_match.proofs.by_place.ByPlace.add_each.Given as goal
 

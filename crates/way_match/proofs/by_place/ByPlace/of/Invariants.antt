@@ -1,6 +1,6 @@
 use Rattle.std.proofs.Common.{◌≡◌, ◌++◌, Option, drop}
 use Rattle.c_core.specs.declared.number.Spot.{Spot}
-use Rattle.way_match.specs.ByPlace.{moved, numbers_in}
+use Rattle.way_match.specs.inside.ByPlace.{moved, numbers_in}
 use Rattle.way_match.specs.View.{each_segment_view}
 use Rattle.way_match.proofs.by_place.ByPlace.of.Given as goal
 

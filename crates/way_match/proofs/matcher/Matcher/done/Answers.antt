@@ -1,5 +1,5 @@
 use Rattle.std.proofs.Common.{◌≡◌, ◌+◌, length, ap, arith, ◌∙◌, None, Some, rules}
-use Rattle.way_match.specs.Steps.{Matching}
+use Rattle.way_match.specs.inside.Steps.{Matching}
 use Rattle.way_match.proofs.Done.{answer_some, answer_none, last_held, exact_of, whole_room}
 use Rattle.way_match.proofs.matcher.Matcher.done.Goals as goal
 

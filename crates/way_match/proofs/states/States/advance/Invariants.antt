@@ -1,7 +1,7 @@
 use Rattle.std.proofs.Common.{◌≡◌, ◌+◌, ◌<◌, ◌≤◌, false, length, drop, None, vec_len, vec_capacity}
-use Rattle.way_match.specs.Arena.{IsFrom}
-use Rattle.way_match.specs.ByPlace.{event_spot}
-use Rattle.way_match.specs.Turning.{outcome, sighted}
+use Rattle.way_match.specs.inside.Arena.{IsFrom}
+use Rattle.way_match.specs.inside.ByPlace.{event_spot}
+use Rattle.way_match.specs.inside.Turning.{outcome, sighted}
 use Rattle.way_match.proofs.Numbers.{Ahead}
 use Rattle.way_match.proofs.states.States.advance.Given as goal
 

@@ -1,6 +1,6 @@
 use Rattle.std.proofs.Common.{◌≡◌, ℕ, Bool, ◌+◌, ◌-◌, ◌<◌, ◌≤◌, false, length, get_or, Option, sym, ◌∙◌, ap, arith}
 use Rattle.c_core.specs.View.{program_view}
-use Rattle.way_match.specs.Turning.{assumes_at, outcome, seen_by, sighted}
+use Rattle.way_match.specs.inside.Turning.{assumes_at, outcome, seen_by, sighted}
 use Rattle.way_match.specs.declared.point.BoundSegment.{BoundSegment}
 use Rattle.way_match.proofs.Skips.{shares_free, shares_last}
 use Rattle.way_match.proofs.Turn.{none_of}

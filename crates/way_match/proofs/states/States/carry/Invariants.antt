@@ -1,6 +1,6 @@
 use Rattle.std.proofs.Common.{◌≡◌, ◌+◌, ◌-◌, ◌<◌, ◌≤◌, false, length, None, vec_len, vec_capacity}
-use Rattle.way_match.specs.Arena.{IsFrom}
-use Rattle.way_match.specs.Turning.{assumes_at, outcome}
+use Rattle.way_match.specs.inside.Arena.{IsFrom}
+use Rattle.way_match.specs.inside.Turning.{assumes_at, outcome}
 use Rattle.way_match.proofs.states.States.carry.Given as goal
 
 abbrev pub invariant-loop-came : goal.invariant-loop-came

@@ -1,6 +1,6 @@
 use Rattle.std.proofs.Common.{◌≡◌, ◌+◌, ◌<◌, length, sym, arith}
 use Rattle.c_core.specs.View.{program_view}
-use Rattle.way_match.specs.Turning.{seen_by, sighted}
+use Rattle.way_match.specs.inside.Turning.{seen_by, sighted}
 use Rattle.way_match.proofs.Turn.{blank_set, finished, turned_held}
 use Rattle.way_match.proofs.Views.{segments_length}
 use Rattle.way_match.proofs.states.States.finish.Goals as goal

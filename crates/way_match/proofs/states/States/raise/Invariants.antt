@@ -1,5 +1,5 @@
 use Rattle.std.proofs.Common.{◌≡◌, ◌+◌, ◌-◌, length}
-use Rattle.way_match.specs.Turning.{ArePassed}
+use Rattle.way_match.specs.inside.Turning.{ArePassed}
 use Rattle.way_match.specs.View.{each_segment_view}
 use Rattle.way_match.proofs.states.States.raise.Given as goal
 

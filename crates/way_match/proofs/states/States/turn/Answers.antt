@@ -1,8 +1,8 @@
 use Rattle.std.proofs.Common.{◌≡◌, ◌+◌, ◌<◌, ◌&&◌, ◌||◌, length, get_or, None, refl, ◌∙◌, ap, arith}
 use Rattle.c_core.specs.View.{program_view}
 use Rattle.way_match.specs.Passing.{passes, is_assumption}
-use Rattle.way_match.specs.Steps.{is_there, only_if}
-use Rattle.way_match.specs.Turning.{seen_by, sighted}
+use Rattle.way_match.specs.inside.Steps.{is_there, only_if}
+use Rattle.way_match.specs.inside.Turning.{seen_by, sighted}
 use Rattle.way_match.specs.View.{segment_view}
 use Rattle.way_match.specs.declared.point.BoundSegment.{BoundSegment}
 use Rattle.way_match.proofs.Skips.{settled}

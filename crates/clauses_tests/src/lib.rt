@@ -1,7 +1,0 @@
-//! The clauses of a bit, and logs of resolution that are right or wrong in one place. The crate has tests alone, above `clauses`.
-#![tactic(auto)]
-
-#[cfg(test)]
-mod conjunction;
-#[cfg(test)]
-mod logs;

@@ -1,3 +1,0 @@
-int main() {
-  return 0x1F >> 1; // 15
-}
