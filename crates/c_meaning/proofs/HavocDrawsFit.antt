@@ -29,7 +29,7 @@ use Rattle.c_meaning.specs.Havoc.{Left, Stopped, Passes, Dismisses, Fails, Havoc
 use Rattle.c_meaning.specs.Exec.{run_in, run_if, call_of}
 use Rattle.c_meaning.specs.Related.{Units, Relation, Preserves}
 use Rattle.c_meaning.specs.Drawn.{IsFitting, AreFitting}
-use Rattle.c_meaning.proofs.Fundamental.{related_body, related_call, all_fit}
+use Rattle.c_meaning.proofs.Fundamental.{related_body, related_call, Free, all_fit_params, all_fit}
 use Rattle.c_meaning.proofs.Keeps as parts
 use Rattle.c_meaning.proofs.Keeps.{Any}
 use Rattle.c_meaning.proofs.Widths.{are_fitting}
@@ -134,54 +134,75 @@ module _ (p : Program) (I : List Placed) where
     Scope = Unit {0};
     more = λ L o. L;
     Entry = λ L. Unit {0};
-    Values = λ v w. Unit {0};
+    Values = λ ty v w. Unit {0};
     Truths = λ t u. Unit {0};
     Targets = λ o x y. Unit {0};
     Acts = λ L R m n. Keeps R m;
-    Dones = λ L M a b. KeepsFlow a;
+    Dones = λ ty L M a b. KeepsFlow a;
+    Agree = λ a b. Unit {0};
+    IsConst = λ ty v. Unit {0};
+    HasCell = λ o i. Unit {0};
+    HasSize = λ o n. Unit {0};
+    MayRead = λ L o. Unit {0};
     MayWrite = λ L o. Unit {0};
     MayCall = λ f. Unit {0};
     MayLoop = λ L at l. Unit {0};
   }
 
-  drawn_keeps : Preserves drawn_parts
+  drawn_keeps : Preserves p drawn_parts
   unfolding drawn_parts
   drawn_keeps = record {
     ret = λ L R a b q. keeps_ret R a b q;
     bind = λ L R Q m n k l g f. keeps_then R Q m k g f;
-    using = λ L M R m n k l g f. keeps_then R Any m k g f;
+    using = λ ty L M R m n k l g f. keeps_then R Any m k g f;
     tick = λ L t. keeps_ret Units tt tt tt;
     room = λ L n. keeps_ret Units tt tt tt;
-    const = λ ty v. tt;
+    retype = λ a b v w _ q. tt;
+    retyped = λ L a b m n _ q. q;
+    const = λ ty v _. tt;
+    digit = λ b. tt;
     convert = λ L from to v w q. keeps_ret _ _ w tt;
     test = λ L ty v w q. keeps_ret _ _ true tt;
     truth = λ t u q. tt;
     draw = λ L kind spot ty. keeps_draw kind spot ty;
-    cell = λ o i. tt;
-    element = λ L spot o n ty v w q. keeps_key o (index_below n v);
-    look = λ L o x y q. record { at = λ s h. (h, (pos 0, tt)) };
+    cell = λ o i _. tt;
+    element = λ L spot o ty v w q. keeps_key o (index_below (size_of_object p o) v);
+    look = λ L o x y _ q. record { at = λ s h. (h, (pos 0, tt)) };
     write = λ L o x y v w m t q. record { at = λ s h. (h, (tt, tt)) };
     answer = λ L at spot op ty x x' right y y' q r. keeps_answered at (apply_of p.model op ty x y);
     answer_one = λ L at spot op ty x x' q. keeps_answered at (apply_one_of p.model op ty x);
-    choose = λ L t u a a' b b' q f g. keeps_cond Any t a b f g;
-    pick = λ L mark t u a a' b b' q f g. keeps_cond Any t a b f g;
+    choose = λ ty L t u a a' b b' q f g. keeps_cond Any t a b f g;
+    pick = λ ty L mark t u a a' b b' q f g. keeps_cond Any t a b f g;
     enter = λ L site. keeps_ret Units tt tt tt;
-    came_back = λ L site v w q. keeps_ret Units tt tt tt;
+    came_back = λ L site ty v w q. keeps_ret Units tt tt tt;
     reach = λ L at site. keeps_reached p.property at;
     ending = λ L. keeps_stop _ _;
-    called = λ L site a b end f. keeps_then Any Any _ (λ flow. havoc.returned p I site (given flow)) (keeps_scoped {B = Flow} Any a (f tt tt)) (λ g _ _. keeps_returned site (given g));
+    called = λ ty L site a b end f. keeps_then Any Any _ (λ flow. havoc.returned p I site (given flow)) (keeps_scoped {B = Flow} Any a (f tt tt)) (λ g _ _. keeps_returned site (given g));
     missing = λ L. keeps_stop _ _;
     here = λ L spot. keeps_tests 0 I false spot Location;
-    declare = λ L o n. record { at = λ s h. (h, (Next, tt)) };
+    declare = λ ty L o n _. record { at = λ s h. (h, (Next, tt)) };
     own = λ L o. tt;
-    branch = λ L M at t u a a' b b' q f g. keeps_cond Any t a b f g;
-    next = λ L. keeps_ret _ _ Next tt;
-    leave = λ L. keeps_ret _ _ Next tt;
-    again = λ L. keeps_ret _ _ Next tt;
-    give = λ L v w q. keeps_ret _ _ Next tt;
-    seq = λ L M N a a' b b' f g. keeps_then Any Any a (go_on b) f (λ x _ _. parts.keeps_go_on Stopped Left Fit b g x);
-    scoped = λ L M a b f. keeps_scoped Any a f;
-    continued = λ L M a b f. parts.keeps_continued Stopped Left Fit cells_left with_cells_left (λ cs s h. h) a f;
+    branch = λ ty L M at t u a a' b b' q f g. keeps_cond Any t a b f g;
+    next = λ ty L. keeps_ret _ _ Next tt;
+    leave = λ ty L. keeps_ret _ _ Next tt;
+    again = λ ty L. keeps_ret _ _ Next tt;
+    give = λ ty L v w q. keeps_ret _ _ Next tt;
+    seq = λ ty L M N a a' b b' f g. keeps_then Any Any a (go_on b) f (λ x _ _. parts.keeps_go_on Stopped Left Fit b g x);
+    scoped = λ ty L M a b f. keeps_scoped Any a f;
+    continued = λ ty L M a b f. parts.keeps_continued Stopped Left Fit cells_left with_cells_left (λ cs s h. h) a f;
+  }
+
+  free : Free drawn_parts
+  unfolding drawn_parts
+  free = record {
+    agree = λ a b. tt;
+    const = λ ty v. tt;
+    cell = λ o i. tt;
+    size = λ o n. tt;
+    read = λ L o. tt;
+    write = λ L o. tt;
+    call = λ f. tt;
+    loop = λ L at l. tt;
   }
 
   -- calls at most n deep
@@ -192,9 +213,9 @@ module _ (p : Program) (I : List Placed) where
       related_body p drawn_parts drawn_keeps
       (λ site g vs. call_of p (havoc.havoc p I) (run_in p (havoc.havoc p I) n) site (slice_get p.functions g) vs)
       (λ site g vs. call_of p (havoc.havoc p I) (run_in p (havoc.havoc p I) n) site (slice_get p.functions g) vs)
-      (λ L site g vs ws m q. related_call p drawn_parts drawn_keeps (run_in p (havoc.havoc p I) n) (run_in p (havoc.havoc p I) n) site (slice_get p.functions g) (λ fn e E z. keeps_run n fn) L vs ws q)
+      (λ L site g vs ws m q. related_call p drawn_parts drawn_keeps (run_in p (havoc.havoc p I) n) (run_in p (havoc.havoc p I) n) site (slice_get p.functions g) (λ fn e. (all_fit_params p drawn_parts free fn.params, λ E z. keeps_run n fn)) L vs ws q)
       (λ L at result l m g. keeps_scoped Any _ (keeps_loop at l _ g))
-      f.result tt f.body (all_fit drawn_parts (λ L o. tt) (λ g. tt) (λ L at l. tt) tt f.body)
+      f.result tt f.body (all_fit p drawn_parts free f.result tt f.body)
 
   keeps_if : (n : ℕ) (f : Option Function) → KeepsFlow (run_if p (havoc.havoc p I) n f)
   keeps_if n None = keeps_ret _ _ Next tt
