@@ -1,17 +1,17 @@
 -- Cells hold values of their objects' types, objects in reach have their cells, and expressions give values of their types.
-use Rattle.std.specs.Prelude.{◌<◌, ℕ, suc, ℤ, List, [], ◌∷◌, ◌++◌, length, Option, Some, None, IsTrue, slice_get}
+use Rattle.std.specs.Prelude.{◌<◌, ℕ, suc, ℤ, List, ◌∷◌, ◌++◌, length, Option, Some, None, IsTrue, slice_get}
 use Rattle.std.specs.List.{All}
 use Rattle.c_core.specs.Types.{in_range}
 use Rattle.c_core.specs.Parts.{type_of, declared_by, every_statement}
-use Rattle.c_core.specs.Tree.{Exp, Stm, Function, Program}
+use Rattle.c_core.specs.Tree.{Exp, Stm, Program}
 use Rattle.c_core.specs.Typing.{is_typed, statement_fits}
 use Rattle.c_core.specs.Scope.{is_reached, reaches, statement_reaches, statement_nests}
 use Rattle.c_core.specs.declared.number.IntType.{IntType}
 use Rattle.c_core.specs.declared.number.DataModel.{DataModel}
 use Rattle.c_meaning.specs.declared.run.Choices.{Choices}
-use Rattle.c_meaning.specs.Cells.{Key, Cell, live}
+use Rattle.c_meaning.specs.Cells.{Cell, live}
 use Rattle.c_meaning.specs.Objects.{type_of_object, size_of_object}
-use Rattle.c_meaning.specs.Meaning.{Use, Where, Site, Meaning, Calls}
+use Rattle.c_meaning.specs.Meaning.{Use, Where, Meaning, Calls}
 use Rattle.c_meaning.specs.Acts.{Res, Go, Stop, Flow, Next, Broken, Again, Gave}
 use Rattle.c_meaning.specs.Eval.{eval}
 use Rattle.c_meaning.specs.Exec.{exec, call_of, run_in}
