@@ -1,7 +1,6 @@
 //! Runs of checked programs: their ends, events, draws and obligations.
 #![tactic(auto)]
 
-mod examples;
 mod laws;
 mod memory;
 mod numbers;
