@@ -18,6 +18,7 @@ use Rattle.c_meaning.specs.declared.run.DrawKind.{DrawKind}
 use Rattle.c_meaning.specs.declared.run.Choices.{Choices}
 use Rattle.c_meaning.specs.declared.run.Run.{Run as GivenRun}
 use Rattle.c_meaning.specs.Cells.{Cell}
+use Rattle.c_meaning.specs.Objects.{size_of_object}
 use Rattle.c_meaning.specs.Meaning.{Where, Site, Loop}
 use Rattle.c_meaning.specs.Acts.{Res, Go, Stop, Flow, Next, Broken, Again, Gave, bind, go_on, turned, continuing, given}
 use Rattle.c_meaning.specs.Acts as acts
@@ -27,7 +28,7 @@ use Rattle.c_meaning.specs.Exec.{run_in, run_if, call_of}
 use Rattle.c_meaning.specs.Related.{Either, Units, Relation, Preserves}
 use Rattle.c_meaning.specs.Budget.{Begins, Continues, Stays}
 use Rattle.c_meaning.proofs.Moments.{Seen, keep, Result, Act, events_begin}
-use Rattle.c_meaning.proofs.Fundamental.{related_body, related_call, all_fit}
+use Rattle.c_meaning.proofs.Fundamental.{related_body, related_call, Free, all_fit_params, all_fit}
 
 abbrev Equal : {A : Type 0} → A → A → Type 0
 Equal a b = a ≡ b
@@ -237,54 +238,75 @@ module _ (p : Program) (d : ℕ) where
     Scope = Unit {0};
     more = λ L o. L;
     Entry = λ L. Unit {0};
-    Values = λ v w. v ≡ w;
+    Values = λ ty v w. v ≡ w;
     Truths = λ t u. t ≡ u;
     Targets = λ o x y. x ≡ y;
     Acts = λ L R m n. Longer R m n;
-    Dones = λ L M a b. Longer Equal a b;
+    Dones = λ ty L M a b. Longer Equal a b;
+    Agree = λ a b. Unit {0};
+    IsConst = λ ty v. Unit {0};
+    HasCell = λ o i. Unit {0};
+    HasSize = λ o n. Unit {0};
+    MayRead = λ L o. Unit {0};
     MayWrite = λ L o. Unit {0};
     MayCall = λ f. Unit {0};
     MayLoop = λ L at l. Unit {0};
   }
 
-  budgets_keep : Preserves budgets
+  budgets_keep : Preserves p budgets
   unfolding budgets
   budgets_keep = record {
     ret = λ L R a b q. longer_ret R a b q;
     bind = λ L R Q m n k l g f. longer_then R Q m n k l g f;
-    using = λ L M R m n k l g f. longer_then R Equal m n k l g f;
+    using = λ ty L M R m n k l g f. longer_then R Equal m n k l g f;
     tick = λ L t. longer_tick;
     room = λ L n. longer_room n;
-    const = λ ty v. refl;
+    retype = λ a b v w _ q. q;
+    retyped = λ L a b m n _ q. q;
+    const = λ ty v _. refl;
+    digit = λ b. refl;
     convert = λ L from to v w q. longer_ret _ _ _ (ap (fit p.model to) q);
     test = λ L ty v w q. longer_ret _ _ _ (ap (λ x. not (is_zero x)) q);
     truth = λ t u q. ap number_of q;
     draw = λ L kind spot ty. longer_draw kind spot ty;
-    cell = λ o i. refl;
-    element = λ L spot o n ty v w q. rw q (longer_key spot o (index_below n w));
-    look = λ L o x y q. rw q (record { grows = λ s. ((_, refl), no_more s); at = λ s. goes _ _ _ refl });
+    cell = λ o i _. refl;
+    element = λ L spot o ty v w q. rw q (longer_key spot o (index_below (size_of_object p o) w));
+    look = λ L o x y _ q. rw q (record { grows = λ s. ((_, refl), no_more s); at = λ s. goes _ _ _ refl });
     write = λ L o x y v w m t q. rw (t, q) (record { grows = λ s. ((tt, tt), no_more s); at = λ s. goes _ _ _ tt });
     answer = λ L at spot op ty x x' right y y' q r. rw (q, r) (longer_answered at spot (apply_of p.model op ty x' y'));
     answer_one = λ L at spot op ty x x' q. rw q (longer_answered at spot (apply_one_of p.model op ty x'));
-    choose = λ L t u a a' b b' q g h. rw q (longer_cond Equal u a b a' b' g h);
-    pick = λ L mark t u a a' b b' q g h. rw q (longer_branched Equal mark u a b a' b' g h);
+    choose = λ ty L t u a a' b b' q g h. rw q (longer_cond Equal u a b a' b' g h);
+    pick = λ ty L mark t u a a' b b' q g h. rw q (longer_branched Equal mark u a b a' b' g h);
     enter = λ L site. longer_note (Told (Enter site.close));
-    came_back = λ L site v w q. rw q (longer_note (Told (Return site.close (Some w))));
+    came_back = λ L site ty v w q. rw q (longer_note (Told (Return site.close (Some w))));
     reach = λ L at site. longer_reached p.property at site;
     ending = λ L. longer_stop _ _;
-    called = λ L site a b end g. longer_called site a b (g tt tt);
+    called = λ ty L site a b end g. longer_called site a b (g tt tt);
     missing = λ L. longer_stop _ _;
     here = λ L at. longer_noted Units (Here at) (run.tell p Seen keep (At at)) (run.tell p Seen keep (At at)) (longer_note (Told (At at)));
-    declare = λ L o n. record { grows = λ s. ((_, refl), no_more s); at = λ s. goes _ _ _ refl };
+    declare = λ ty L o n _. record { grows = λ s. ((_, refl), no_more s); at = λ s. goes _ _ _ refl };
     own = λ L o. tt;
-    branch = λ L M at t u a a' b b' q g h. rw q (longer_branched Equal at u a b a' b' g h);
-    next = λ L. longer_ret _ _ _ refl;
-    leave = λ L. longer_ret _ _ _ refl;
-    again = λ L. longer_ret _ _ _ refl;
-    give = λ L v w q. longer_ret _ _ _ (gave v w q);
-    seq = λ L M N a a' b b' g h. longer_then Equal Equal _ _ _ _ g (λ f f' e. rw e (longer_go_on b b' h f'));
-    scoped = λ L M a b g. longer_scoped Equal a b g;
-    continued = λ L M a b g. longer_then Equal Equal _ _ _ _ (longer_scoped Equal a b g) (λ x y e. longer_ret Equal _ _ (ap continuing e));
+    branch = λ ty L M at t u a a' b b' q g h. rw q (longer_branched Equal at u a b a' b' g h);
+    next = λ ty L. longer_ret _ _ _ refl;
+    leave = λ ty L. longer_ret _ _ _ refl;
+    again = λ ty L. longer_ret _ _ _ refl;
+    give = λ ty L v w q. longer_ret _ _ _ (gave v w q);
+    seq = λ ty L M N a a' b b' g h. longer_then Equal Equal _ _ _ _ g (λ f f' e. rw e (longer_go_on b b' h f'));
+    scoped = λ ty L M a b g. longer_scoped Equal a b g;
+    continued = λ ty L M a b g. longer_then Equal Equal _ _ _ _ (longer_scoped Equal a b g) (λ x y e. longer_ret Equal _ _ (ap continuing e));
+  }
+
+  free : Free budgets
+  unfolding budgets
+  free = record {
+    agree = λ a b. tt;
+    const = λ ty v. tt;
+    cell = λ o i. tt;
+    size = λ o n. tt;
+    read = λ L o. tt;
+    write = λ L o. tt;
+    call = λ f. tt;
+    loop = λ L at l. tt;
   }
 
   -- calls at most n deep, and at most m deep
@@ -294,9 +316,9 @@ module _ (p : Program) (d : ℕ) where
       related_body p budgets budgets_keep
       (λ site g vs. call_of p (real p Seen keep) (run_in p (real p Seen keep) n) site (slice_get p.functions g) vs)
       (λ site g vs. call_of p (real p Seen keep) (run_in p (real p Seen keep) m) site (slice_get p.functions g) vs)
-      (λ L site g vs ws may q. related_call p budgets budgets_keep (run_in p (real p Seen keep) n) (run_in p (real p Seen keep) m) site (slice_get p.functions g) (λ fn e E z. h fn) L vs ws q)
+      (λ L site g vs ws may q. related_call p budgets budgets_keep (run_in p (real p Seen keep) n) (run_in p (real p Seen keep) m) site (slice_get p.functions g) (λ fn e. (all_fit_params p budgets free fn.params, λ E z. h fn)) L vs ws q)
       (λ L at result l may g. longer_scoped Equal _ _ (longer_loop at l _ _ g))
-      f.result tt f.body (all_fit budgets (λ L o. tt) (λ g. tt) (λ L at l. tt) tt f.body)
+      f.result tt f.body (all_fit p budgets free f.result tt f.body)
 
   longer_run : (n m : ℕ) → n ≤ m → (f : Function) → Longer Equal (run_in p (real p Seen keep) n f) (run_in p (real p Seen keep) m f)
   longer_run zero zero e f = longer_stop Equal Spent

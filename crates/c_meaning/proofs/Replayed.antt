@@ -21,6 +21,7 @@ use Rattle.c_meaning.specs.declared.run.Choices.{Choices}
 use Rattle.c_meaning.specs.declared.run.Choices.TheVariants.{InTurn}
 use Rattle.c_meaning.specs.declared.run.Run.{Run as GivenRun}
 use Rattle.c_meaning.specs.Cells.{Cell}
+use Rattle.c_meaning.specs.Objects.{size_of_object}
 use Rattle.c_meaning.specs.Meaning.{Where, Site, Loop}
 use Rattle.c_meaning.specs.Acts.{Res, Go, Stop, Flow, Next, Broken, Again, Gave, bind, go_on, turned, continuing, given}
 use Rattle.c_meaning.specs.Acts as acts
@@ -30,7 +31,7 @@ use Rattle.c_meaning.specs.Exec.{run_in, run_if, call_of}
 use Rattle.c_meaning.specs.Related.{Either, Units, Relation, Preserves}
 use Rattle.c_meaning.specs.Replay.{values_of, drawn_by, IsReplayed}
 use Rattle.c_meaning.proofs.Fitted.{fit_twice}
-use Rattle.c_meaning.proofs.Fundamental.{related_body, related_call, all_fit}
+use Rattle.c_meaning.proofs.Fundamental.{related_body, related_call, Free, all_fit_params, all_fit}
 
 no_more : {A : Type 0} (xs ys : List A) → xs ≡ xs ++ ys → ys ≡ []
 no_more xs ys e = append_cancel_left xs ys [] (sym e ∙ sym (append-nil xs))
@@ -253,55 +254,76 @@ module _ (p : Program) (S : Type 0) (see : Moment → S → S) where
     Scope = Unit {0};
     more = λ L o. L;
     Entry = λ L. Unit {0};
-    Values = λ v w. v ≡ w;
+    Values = λ ty v w. v ≡ w;
     Truths = λ t u. t ≡ u;
     Targets = λ o x y. x ≡ y;
     Acts = λ L R m n. Replays R m n;
-    Dones = λ L M a b. Replays Equal a b;
+    Dones = λ ty L M a b. Replays Equal a b;
+    Agree = λ a b. Unit {0};
+    IsConst = λ ty v. Unit {0};
+    HasCell = λ o i. Unit {0};
+    HasSize = λ o n. Unit {0};
+    MayRead = λ L o. Unit {0};
     MayWrite = λ L o. Unit {0};
     MayCall = λ f. Unit {0};
     MayLoop = λ L at l. Unit {0};
   }
 
-  replayed_keeps : Preserves replayed_parts
+  replayed_keeps : Preserves p replayed_parts
   unfolding replayed_parts
   replayed_keeps = record {
     ret = λ L R a b q. replays_ret R a b q;
     bind = λ L R Q m n k l g f. replays_then R Q m n k l g f;
-    using = λ L M R m n k l g f. replays_then R Equal m n k l g f;
+    using = λ ty L M R m n k l g f. replays_then R Equal m n k l g f;
     tick = λ L t. replays_tick;
     room = λ L n. replays_room n;
-    const = λ ty v. refl;
+    retype = λ a b v w _ q. q;
+    retyped = λ L a b m n _ q. q;
+    const = λ ty v _. refl;
+    digit = λ b. refl;
     convert = λ L from to v w q. replays_ret _ _ _ (ap (fit p.model to) q);
     test = λ L ty v w q. replays_ret _ _ _ (ap (λ x. not (is_zero x)) q);
     truth = λ t u q. ap number_of q;
     draw = λ L kind spot ty. replays_draw kind spot ty;
-    cell = λ o i. refl;
-    element = λ L spot o n ty v w q. subst (λ x. Replays Equal (run.key_of p S see spot o (index_below n v)) (run.key_of p S see spot o (index_below n x))) q (replays_key spot o (index_below n v));
-    look = λ L o x y q. subst (λ z. Replays Equal (acts.look End (State S) cells_of with_cells x) (acts.look End (State S) cells_of with_cells z)) q (still Equal _ _ (λ s. refl) (λ s vs. (refl, refl)));
+    cell = λ o i _. refl;
+    element = λ L spot o ty v w q. subst (λ x. Replays Equal (run.key_of p S see spot o (index_below (size_of_object p o) v)) (run.key_of p S see spot o (index_below (size_of_object p o) x))) q (replays_key spot o (index_below (size_of_object p o) v));
+    look = λ L o x y _ q. subst (λ z. Replays Equal (acts.look End (State S) cells_of with_cells x) (acts.look End (State S) cells_of with_cells z)) q (still Equal _ _ (λ s. refl) (λ s vs. (refl, refl)));
     write = λ L o x y v w m t q. subst (λ z. Replays Units (acts.write End (State S) cells_of with_cells x v) (acts.write End (State S) cells_of with_cells z w)) t (subst (λ u. Replays Units (acts.write End (State S) cells_of with_cells x v) (acts.write End (State S) cells_of with_cells x u)) q (still Units _ _ (λ s. refl) (λ s vs. (tt, refl))));
     answer = λ L at spot op ty x x' right y y' q r. subst (λ z. Replays Equal (run.answered p S see at spot (apply_of p.model op ty x y)) (run.answered p S see at spot (apply_of p.model op ty z y'))) q (subst (λ z. Replays Equal (run.answered p S see at spot (apply_of p.model op ty x y)) (run.answered p S see at spot (apply_of p.model op ty x z))) r (replays_answered at spot (apply_of p.model op ty x y)));
     answer_one = λ L at spot op ty x x' q. subst (λ z. Replays Equal (run.answered p S see at spot (apply_one_of p.model op ty x)) (run.answered p S see at spot (apply_one_of p.model op ty z))) q (replays_answered at spot (apply_one_of p.model op ty x));
-    choose = λ L t u a a' b b' q f g. subst (λ z. Replays Equal (λ s. cond t a b s) (λ s. cond z a' b' s)) q (replays_cond Equal t a b a' b' f g);
-    pick = λ L mark t u a a' b b' q f g. subst (λ z. Replays Equal (run.branched p S see mark t a b) (run.branched p S see mark z a' b')) q (replays_branched Equal mark t a b a' b' f g);
+    choose = λ ty L t u a a' b b' q f g. subst (λ z. Replays Equal (λ s. cond t a b s) (λ s. cond z a' b' s)) q (replays_cond Equal t a b a' b' f g);
+    pick = λ ty L mark t u a a' b b' q f g. subst (λ z. Replays Equal (run.branched p S see mark t a b) (run.branched p S see mark z a' b')) q (replays_branched Equal mark t a b a' b' f g);
     enter = λ L site. replays_tell (Enter site.close);
-    came_back = λ L site v w q. subst (λ z. Replays Units (run.tell p S see (Return site.close (Some v))) (run.tell p S see (Return site.close (Some z)))) q (replays_tell (Return site.close (Some v)));
+    came_back = λ L site ty v w q. subst (λ z. Replays Units (run.tell p S see (Return site.close (Some v))) (run.tell p S see (Return site.close (Some z)))) q (replays_tell (Return site.close (Some v)));
     reach = λ L at site. replays_reached p.property at site;
     ending = λ L. replays_stop _ _;
-    called = λ L site a b end f. replays_then Units Equal (run.deeper p S see) (run.deeper p S see) _ _ (still Units _ _ (λ s. refl) (λ s vs. (tt, refl))) (λ _ _ _. replays_then Equal Equal _ _ _ _ (replays_scoped Equal a b (f tt tt)) (λ g g' e.
+    called = λ ty L site a b end f. replays_then Units Equal (run.deeper p S see) (run.deeper p S see) _ _ (still Units _ _ (λ s. refl) (λ s vs. (tt, refl))) (λ _ _ _. replays_then Equal Equal _ _ _ _ (replays_scoped Equal a b (f tt tt)) (λ g g' e.
         replays_then Units Equal (run.shallower p S see) (run.shallower p S see) _ _ (still Units _ _ (λ s. refl) (λ s vs. (tt, refl))) (λ _ _ _. subst (λ x. Replays Equal (run.returned p S see site (given g)) (run.returned p S see site (given x))) e (replays_returned site (given g)))));
     missing = λ L. replays_stop _ _;
     here = λ L at. replays_noted Units (Here at) (run.tell p S see (At at)) (run.tell p S see (At at)) (replays_tell (At at));
-    declare = λ L o n. still Equal _ _ (λ s. refl) (λ s vs. (refl, refl));
+    declare = λ ty L o n _. still Equal _ _ (λ s. refl) (λ s vs. (refl, refl));
     own = λ L o. tt;
-    branch = λ L M at t u a a' b b' q f g. subst (λ z. Replays Equal (run.branched p S see at t a b) (run.branched p S see at z a' b')) q (replays_branched Equal at t a b a' b' f g);
-    next = λ L. replays_ret _ _ _ refl;
-    leave = λ L. replays_ret _ _ _ refl;
-    again = λ L. replays_ret _ _ _ refl;
-    give = λ L v w q. replays_ret _ _ _ (gave v w q);
-    seq = λ L M N a a' b b' f g. replays_then Equal Equal _ _ _ _ f (λ x y e. subst (λ z. Replays Equal (go_on b x) (go_on b' z)) e (replays_go_on b b' g x));
-    scoped = λ L M a b f. replays_scoped Equal a b f;
-    continued = λ L M a b f. replays_then Equal Equal _ _ _ _ (replays_scoped Equal a b f) (λ x y e. replays_ret Equal _ _ (ap continuing e));
+    branch = λ ty L M at t u a a' b b' q f g. subst (λ z. Replays Equal (run.branched p S see at t a b) (run.branched p S see at z a' b')) q (replays_branched Equal at t a b a' b' f g);
+    next = λ ty L. replays_ret _ _ _ refl;
+    leave = λ ty L. replays_ret _ _ _ refl;
+    again = λ ty L. replays_ret _ _ _ refl;
+    give = λ ty L v w q. replays_ret _ _ _ (gave v w q);
+    seq = λ ty L M N a a' b b' f g. replays_then Equal Equal _ _ _ _ f (λ x y e. subst (λ z. Replays Equal (go_on b x) (go_on b' z)) e (replays_go_on b b' g x));
+    scoped = λ ty L M a b f. replays_scoped Equal a b f;
+    continued = λ ty L M a b f. replays_then Equal Equal _ _ _ _ (replays_scoped Equal a b f) (λ x y e. replays_ret Equal _ _ (ap continuing e));
+  }
+
+  free : Free replayed_parts
+  unfolding replayed_parts
+  free = record {
+    agree = λ a b. tt;
+    const = λ ty v. tt;
+    cell = λ o i. tt;
+    size = λ o n. tt;
+    read = λ L o. tt;
+    write = λ L o. tt;
+    call = λ f. tt;
+    loop = λ L at l. tt;
   }
 
   -- calls at most n deep
@@ -312,9 +334,9 @@ module _ (p : Program) (S : Type 0) (see : Moment → S → S) where
       related_body p replayed_parts replayed_keeps
       (λ site g vs. call_of p (real p S see) (run_in p (real p S see) n) site (slice_get p.functions g) vs)
       (λ site g vs. call_of p (real p S see) (run_in p (real p S see) n) site (slice_get p.functions g) vs)
-      (λ L site g vs ws m q. related_call p replayed_parts replayed_keeps (run_in p (real p S see) n) (run_in p (real p S see) n) site (slice_get p.functions g) (λ fn e E z. replays_run n fn) L vs ws q)
+      (λ L site g vs ws m q. related_call p replayed_parts replayed_keeps (run_in p (real p S see) n) (run_in p (real p S see) n) site (slice_get p.functions g) (λ fn e. (all_fit_params p replayed_parts free fn.params, λ E z. replays_run n fn)) L vs ws q)
       (λ L at result l m g. replays_scoped Equal _ _ (replays_loop at l _ _ g))
-      f.result tt f.body (all_fit replayed_parts (λ L o. tt) (λ g. tt) (λ L at l. tt) tt f.body)
+      f.result tt f.body (all_fit p replayed_parts free f.result tt f.body)
 
   replays_if : (n : ℕ) (f : Option Function) → Replays Equal (run_if p (real p S see) n f) (run_if p (real p S see) n f)
   replays_if n None = replays_ret _ _ _ refl

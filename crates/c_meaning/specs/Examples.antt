@@ -1,5 +1,5 @@
 -- Small programs, as trees with the places of their texts. Objects have no names here: no rule on runs reads them.
-use Rattle.std.specs.Prelude.{ℕ, pos, true, false, Bool, List, [], ◌∷◌, Option, Some, None}
+use Rattle.std.specs.Prelude.{ℕ, ℤ, pos, true, false, Bool, List, [], ◌∷◌, Option, Some, None}
 use Rattle.c_core.specs.Tree.{Exp, Expr, Node, Const, Var, Unary, Step, Binary, Assign, Call, NoExp, MoreExp, One, Names, NoName, MoreName, Stm, Stmt, Form, Do, Declare, Block, If, While, Return, Label, NoElse, Stms, NoStm, MoreStm, Function, Program}
 use Rattle.c_core.specs.declared.number.IntType.{IntType}
 use Rattle.c_core.specs.declared.number.IntType.TheVariants.{Char, Int, UInt, Long}
@@ -16,10 +16,16 @@ use Rattle.c_core.specs.declared.tree.Callee.{Callee}
 use Rattle.c_core.specs.declared.tree.Callee.TheVariants.{Defined, Input, ReachError, Abort}
 use Rattle.c_core.specs.declared.tree.Object.{Object}
 use Rattle.c_core.specs.declared.tree.Start.{Start}
+use Rattle.c_meaning.specs.declared.run.DrawKind.TheVariants.{Input as AnInput}
+use Rattle.c_meaning.specs.declared.run.Draw.{Draw}
 
 -- line and column
 abbrev pub at : ℕ → ℕ → Spot
 at l c = record { line = l; column = c }
+
+-- a value that an input call gave
+abbrev pub drawn : Spot → IntType → ℤ → Draw
+drawn spot ty v = record { spot = spot; ty = ty; value = v; from = AnInput }
 
 abbrev pub exp : IntType → ℕ → ℕ → Node → Exp
 exp ty l c n = Expr (at l c) (Some ty) n

@@ -9,6 +9,8 @@ ghost use Rattle.c_meaning.specs.Budget.{Continues, HasFewEvents, Stays};
 ghost use Rattle.c_meaning.specs.Drawn.{AreFitting};
 ghost use Rattle.c_meaning.specs.Duties.{Placed};
 ghost use Rattle.c_meaning.specs.Havoc.{Havoc};
+ghost use Rattle.c_core.specs.Program.{IsProgram};
+ghost use Rattle.c_meaning.specs.Fitting.{CellsFit};
 
 /// The draws of a run, taken in turn, give the same run.
 pub fn replay()
@@ -34,4 +36,9 @@ pub fn few_events()
 pub fn draws_fit()
     ensures run { (p : Program) (c : Choices) (N : ℕ) → AreFitting p.model (Run p c N).draws }
     ensures havoc_run { (p : Program) (invariants : List Placed) (values : List ℤ) → AreFitting p.model (Havoc p invariants values).draws }
+{}
+
+/// At every moment of a run or a havoc run of a checked program each cell holds a value of its object's type, each object in reach has its cells, and each expression gives a value of its type.
+pub fn cells_fit()
+    ensures { (p : Program) → IsProgram p → CellsFit p }
 {}

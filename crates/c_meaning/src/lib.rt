@@ -1,7 +1,6 @@
 //! Runs of checked programs: their ends, events, draws and obligations.
 #![tactic(auto)]
 
-mod examples;
 mod laws;
 mod memory;
 mod numbers;
@@ -11,7 +10,9 @@ mod value;
 mod verdict;
 mod watcher;
 
-pub use laws::{draws_fit, ended_runs_stay, few_events, larger_budget_continues, replay};
+pub use laws::{
+    cells_fit, draws_fit, ended_runs_stay, few_events, larger_budget_continues, replay,
+};
 pub use memory::Memory;
 pub use run::{
     Choices, Draw, DrawKind, Duty, DutyKind, End, Event, Given, HavocEnd, HavocRun,

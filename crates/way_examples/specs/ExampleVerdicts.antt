@@ -9,8 +9,7 @@ use Rattle.c_core.specs.declared.number.UnOp.TheVariants.{Neg}
 use Rattle.c_meaning.specs.declared.verdict.Verdict.TheVariants.{ViolationConfirmed, ViolationNot, Undecided}
 use Rattle.c_meaning.specs.declared.verdict.Reason.TheVariants.{Ended, Undefined, Unmatched}
 use Rattle.c_meaning.specs.declared.verdict.Cause.TheVariants.{Steps}
-use Rattle.c_meaning.specs.Examples.{at, exp, number, object, operation, branch_on_input, add_to_input, combine_inputs, count_to_three, recurse}
-use Rattle.c_meaning.specs.ExampleRuns.{drawn}
+use Rattle.c_meaning.specs.Examples.{at, drawn, exp, number, object, operation, branch_on_input, add_to_input, combine_inputs, count_to_three, recurse}
 use Rattle.way_match.specs.Points.{At, Line, Point, Assume, Target, Enter, Return, BoundSegment}
 use Rattle.way_match.specs.Matching.{matches}
 use Rattle.way_match.specs.Given.{SeenGiven}

@@ -1,5 +1,4 @@
-use Rattle.c_meaning.proofs.DrawsFit.{draws_fit}
-use Rattle.c_meaning.proofs.HavocDrawsFit.{havoc_draws_fit}
+use Rattle.c_meaning.proofs.DrawsFit.{draws_fit, havoc_draws_fit}
 use Rattle.c_meaning.proofs.laws.draws_fit.Goals as goal
 
 pub returns : goal.returns

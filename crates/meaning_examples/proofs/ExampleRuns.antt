@@ -1,7 +1,7 @@
 -- The example programs run as they must: by computation.
 use Rattle.std.proofs.Common.{refl}
 use Rattle.c_core.specs.Types.{residue, signed_of, wrapped}
-use Rattle.c_meaning.specs.ExampleRuns.{ExampleRuns}
+use Rattle.meaning_examples.specs.ExampleRuns.{ExampleRuns}
 
 pub example_runs : ExampleRuns
 unfolding residue signed_of wrapped

@@ -15,8 +15,7 @@ use Rattle.c_meaning.specs.declared.run.HavocEnd.TheVariants.{Passed, Dismissed,
 use Rattle.c_meaning.specs.declared.run.HavocRun.{HavocRun}
 use Rattle.c_meaning.specs.Duties.{Placed, duty, Duties}
 use Rattle.c_meaning.specs.Havoc.{Havoc}
-use Rattle.c_meaning.specs.Examples.{at, exp, number, object, operation, branch_on_difference, step_char, add_to_long, count_down, count_to_ten, count_calls}
-use Rattle.c_meaning.specs.ExampleRuns.{drawn}
+use Rattle.c_meaning.specs.Examples.{at, drawn, exp, number, object, operation, branch_on_difference, step_char, add_to_long, count_down, count_to_ten, count_calls}
 
 -- a value drawn at the head of a loop
 abbrev pub redrawn : Spot → IntType → ℤ → Draw

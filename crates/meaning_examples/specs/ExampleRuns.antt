@@ -14,11 +14,7 @@ use Rattle.c_meaning.specs.declared.run.Choices.TheVariants.{Given, InTurn}
 use Rattle.c_meaning.specs.declared.run.Run.{Run}
 use Rattle.c_meaning.specs.Acts.{Go, Stop}
 use Rattle.c_meaning.specs.Run.{Moment, State, room, Outcome}
-use Rattle.c_meaning.specs.Examples.{at, branch_on_input, add_to_input, combine_inputs, count_down, count_to_ten, count_calls, count_to_three, recurse}
-
--- a value that an input call gave
-abbrev pub drawn : Spot → IntType → ℤ → Draw
-drawn spot ty v = record { spot = spot; ty = ty; value = v; from = Input }
+use Rattle.c_meaning.specs.Examples.{at, drawn, branch_on_input, add_to_input, combine_inputs, count_down, count_to_ten, count_calls, count_to_three, recurse}
 
 abbrev pub ended : End → ℕ → List Draw → ℕ → Run
 ended e steps draws unfixed = record { end = e; steps = steps; draws = draws; unfixed = unfixed }

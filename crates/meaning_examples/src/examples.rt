@@ -1,6 +1,6 @@
 // Examples on which the definitions of runs are computed.
-ghost use Rattle.c_meaning.specs.ExampleHavocRuns.{ExampleHavocRuns};
-ghost use Rattle.c_meaning.specs.ExampleRuns.{ExampleRuns};
+ghost use Rattle.meaning_examples.specs.ExampleHavocRuns.{ExampleHavocRuns};
+ghost use Rattle.meaning_examples.specs.ExampleRuns.{ExampleRuns};
 
 fn example_runs()
     ensures { ExampleRuns }

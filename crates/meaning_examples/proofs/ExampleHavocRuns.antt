@@ -1,7 +1,7 @@
 -- The example programs have these obligations and havoc runs: by computation.
 use Rattle.std.proofs.Common.{refl}
 use Rattle.c_core.specs.Types.{residue, signed_of, wrapped}
-use Rattle.c_meaning.specs.ExampleHavocRuns.{ExampleHavocRuns}
+use Rattle.meaning_examples.specs.ExampleHavocRuns.{ExampleHavocRuns}
 
 pub example_havoc_runs : ExampleHavocRuns
 unfolding residue signed_of wrapped

@@ -1,0 +1,2 @@
+mod ExampleHavocRuns
+mod ExampleRuns

@@ -1,0 +1,2 @@
+pub mod ExampleRuns
+pub mod ExampleHavocRuns
