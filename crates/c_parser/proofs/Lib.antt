@@ -32,7 +32,6 @@ mod FormedStatements
 mod NestedStatements
 mod FormedItems
 pub mod OrderlyTokens
-mod SpelledExamples
 pub mod Views
 mod ReadSteps
 mod TypeCountLaws

@@ -21,9 +21,3 @@ pub mod TextOrder
 pub mod Formed
 pub mod Parsing
 pub mod Witness
-pub mod Shown
-pub mod ExpressionExamples
-pub mod StatementExamples
-pub mod ItemExamples
-pub mod PlaceExamples
-pub mod OddExamples

@@ -9,7 +9,7 @@ use Rattle.c_parser.specs.Tree.{Exp, Expr, Node, Step, Assign}
 use Rattle.c_parser.specs.ReadItems.{Outcome, Source, Syntax, read_items}
 use Rattle.c_parser.specs.ReadExpressions.{level, within}
 use Rattle.c_parser.specs.ReadStatements.{header_within, statement_level, braced_within}
-use Rattle.c_parser.specs.Shown.{tokens_of}
+use Rattle.grammar_examples.specs.Shown.{tokens_of}
 use Rattle.check_rules.specs.declared.fault.CheckCode.{CheckCode}
 use Rattle.check_rules.specs.declared.fault.CheckCode.TheVariants as code
 use Rattle.check_rules.specs.declared.fault.Refusal.{Refusal}

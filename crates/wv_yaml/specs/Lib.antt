@@ -15,4 +15,3 @@ pub mod Gives
 pub mod Repeats
 pub mod Reading
 pub mod Canon
-pub mod Examples

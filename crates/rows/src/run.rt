@@ -1,0 +1,44 @@
+// Rows of the whole program: its words and its files, and behind them its status and its report.
+use crate::table::{NotTried, Row};
+use crate::texts::{program, witness};
+use std::alloc::Global;
+use std::str;
+use witval::run;
+use wv_base::{MemoryShelf, MemorySink, OutOfMemory};
+
+fn words(alloc: Global, line: &str) -> Result<Vec<String>, OutOfMemory> {
+    let mut words = Vec::new(alloc);
+    for word in line.split(' ') {
+        words.push(String::from_str(alloc, word)?)?;
+    }
+    Ok(words)
+}
+
+/// The files that a row gives: its program is `p`, its property is `q`, its witness is `w`.
+fn shelf(rt: &HostRuntime, row: &Row) -> Result<MemoryShelf, NotTried> {
+    let mut shelf = MemoryShelf::new(rt.alloc(), 4096);
+    if let Some(program) = program(rt, row)? {
+        shelf.put("p", program.as_slice())?;
+    }
+    if let Some(property) = row.bytes("property") {
+        shelf.put("q", property)?;
+    }
+    if let Some(witness) = witness(rt, row)? {
+        shelf.put("w", witness.as_slice())?;
+    }
+    Ok(shelf)
+}
+
+/// The status, and behind a blank the report.
+pub fn told(rt: &HostRuntime, row: &Row) -> Result<String, NotTried> {
+    let alloc = rt.alloc();
+    let mut shelf = shelf(rt, row)?;
+    let words = words(alloc, row.wanted_text("words")?)?;
+    // A write takes few bytes, so that a report is written in several.
+    let mut out = MemorySink::new(alloc, 1000, 7)?;
+    let status = run(alloc, &words, &mut shelf, &mut out);
+    match str::from_utf8(out.bytes()) {
+        Ok(report) => Ok(format!(in alloc; "{status} {report}")?),
+        Err(_) => Ok(format!(in alloc; "{status} and a report that isn't UTF-8")?),
+    }
+}

@@ -1,0 +1,420 @@
+// Rows of the grammar: a source, and behind it its items as text, with parentheses round each operation and brackets round each
+// statement that is a part; or the place where it fits no form.
+use crate::table::{NotTried, Row};
+use crate::texts::program;
+use c_core::{BinOp, IntType, StepOp, UnOp};
+use c_parser::{
+    Item, ParseFault, RawDeclared, RawExpr, RawFirst, RawForm, RawInit, RawNode, RawStmt, Source,
+    parse,
+};
+use c_tokens::tokens;
+use std::alloc::{AllocError, Global};
+
+fn type_text(ty: IntType) -> &'static str {
+    match ty {
+        IntType::Bool => "bool",
+        IntType::Char => "char",
+        IntType::SChar => "schar",
+        IntType::UChar => "uchar",
+        IntType::Short => "short",
+        IntType::UShort => "ushort",
+        IntType::Int => "int",
+        IntType::UInt => "uint",
+        IntType::Long => "long",
+        IntType::ULong => "ulong",
+        IntType::LongLong => "llong",
+        IntType::ULongLong => "ullong",
+    }
+}
+
+fn result_text(ty: Option<IntType>) -> &'static str {
+    match ty {
+        Some(ty) => type_text(ty),
+        None => "void",
+    }
+}
+
+fn op_text(op: BinOp) -> &'static str {
+    match op {
+        BinOp::Add => "+",
+        BinOp::Sub => "-",
+        BinOp::Mul => "*",
+        BinOp::Div => "/",
+        BinOp::Rem => "%",
+        BinOp::Shl => "<<",
+        BinOp::Shr => ">>",
+        BinOp::And => "&",
+        BinOp::Xor => "^",
+        BinOp::Or => "|",
+        BinOp::Lt => "<",
+        BinOp::Le => "<=",
+        BinOp::Gt => ">",
+        BinOp::Ge => ">=",
+        BinOp::Eq => "==",
+        BinOp::Ne => "!=",
+    }
+}
+
+fn sign_text(op: UnOp) -> &'static str {
+    match op {
+        UnOp::Plus => "+",
+        UnOp::Neg => "-",
+        UnOp::BitNot => "~",
+        UnOp::Not => "!",
+    }
+}
+
+/// Each operation in parentheses.
+#[cycle(shown_expr)]
+fn show_expr(text: &mut String, expr: &RawExpr) -> Result<(), AllocError> {
+    match &expr.node {
+        RawNode::Number { value, .. } => match *value {
+            0 => text.push_str("0"),
+            1 => text.push_str("1"),
+            2 => text.push_str("2"),
+            3 => text.push_str("3"),
+            4 => text.push_str("4"),
+            5 => text.push_str("5"),
+            _ => text.push_str("9"),
+        },
+        RawNode::Char(_) => text.push_str("char"),
+        RawNode::Var { name, .. } => text.push_str(name.as_str()),
+        RawNode::Index { object, at, .. } => {
+            text.push_str(object.as_str())?;
+            text.push_str("[")?;
+            show_expr(text, at)?;
+            text.push_str("]")
+        }
+        RawNode::Unary { op, of } => {
+            text.push_str("(")?;
+            text.push_str(sign_text(*op))?;
+            show_expr(text, of)?;
+            text.push_str(")")
+        }
+        RawNode::Cast { to, of } => {
+            text.push_str("(")?;
+            text.push_str(result_text(*to))?;
+            text.push_str(":")?;
+            show_expr(text, of)?;
+            text.push_str(")")
+        }
+        RawNode::Step { op, target } => {
+            match *op {
+                StepOp::PreInc => text.push_str("(++")?,
+                StepOp::PreDec => text.push_str("(--")?,
+                StepOp::PostInc | StepOp::PostDec => text.push_str("(")?,
+            }
+            show_expr(text, target)?;
+            match *op {
+                StepOp::PostInc => text.push_str("++)"),
+                StepOp::PostDec => text.push_str("--)"),
+                StepOp::PreInc | StepOp::PreDec => text.push_str(")"),
+            }
+        }
+        RawNode::Binary { op, left, right } => {
+            text.push_str("(")?;
+            show_expr(text, left)?;
+            text.push_str(op_text(*op))?;
+            show_expr(text, right)?;
+            text.push_str(")")
+        }
+        RawNode::Logic { both, left, right } => {
+            text.push_str("(")?;
+            show_expr(text, left)?;
+            text.push_str(if *both { "&&" } else { "||" })?;
+            show_expr(text, right)?;
+            text.push_str(")")
+        }
+        RawNode::Choose { test, yes, no, .. } => {
+            text.push_str("(")?;
+            show_expr(text, test)?;
+            text.push_str("?")?;
+            show_expr(text, yes)?;
+            text.push_str(":")?;
+            show_expr(text, no)?;
+            text.push_str(")")
+        }
+        RawNode::Comma { first, last } => {
+            text.push_str("(")?;
+            show_expr(text, first)?;
+            text.push_str(",")?;
+            show_expr(text, last)?;
+            text.push_str(")")
+        }
+        RawNode::Assign { op, target, from } => {
+            text.push_str("(")?;
+            show_expr(text, target)?;
+            if let Some(op) = op {
+                text.push_str(op_text(*op))?;
+            }
+            text.push_str("=")?;
+            show_expr(text, from)?;
+            text.push_str(")")
+        }
+        RawNode::Call { callee, args, .. } => {
+            text.push_str(callee.as_str())?;
+            text.push_str("(")?;
+            show_row(text, args.as_slice())?;
+            text.push_str(")")
+        }
+    }
+}
+
+#[cycle(shown_expr)]
+fn show_row(text: &mut String, exprs: &[RawExpr]) -> Result<(), AllocError> {
+    for expr in exprs {
+        show_expr(text, expr)?;
+        text.push_str(";")?;
+    }
+    Ok(())
+}
+
+fn show_if(text: &mut String, expr: &Option<RawExpr>) -> Result<(), AllocError> {
+    match expr {
+        Some(expr) => show_expr(text, expr),
+        None => Ok(()),
+    }
+}
+
+fn show_declared(text: &mut String, names: &[RawDeclared]) -> Result<(), AllocError> {
+    for name in names {
+        text.push_str(type_text(name.ty))?;
+        text.push_str(" ")?;
+        text.push_str(name.name.as_str())?;
+        if let Some(size) = &name.size {
+            text.push_str("[")?;
+            show_expr(text, size)?;
+            text.push_str("]")?;
+        }
+        show_init(text, &name.init)?;
+        text.push_str(";")?;
+    }
+    Ok(())
+}
+
+fn show_init(text: &mut String, init: &RawInit) -> Result<(), AllocError> {
+    match init {
+        RawInit::Absent => Ok(()),
+        RawInit::One(value) => {
+            text.push_str("=")?;
+            show_expr(text, value)
+        }
+        RawInit::Many(values) => {
+            text.push_str("={")?;
+            show_row(text, values.as_slice())?;
+            text.push_str("}")
+        }
+    }
+}
+
+fn show_first(text: &mut String, first: &RawFirst) -> Result<(), AllocError> {
+    match first {
+        RawFirst::Absent => text.push_str(";"),
+        RawFirst::Expr(first) => {
+            show_expr(text, first)?;
+            text.push_str(";")
+        }
+        RawFirst::Declare(names) => show_declared(text, names.as_slice()),
+    }
+}
+
+/// A statement that is a part, in brackets.
+#[cycle(shown_stmt)]
+fn show_part(text: &mut String, stmt: &RawStmt) -> Result<(), AllocError> {
+    text.push_str("[")?;
+    show_stmt(text, stmt)?;
+    text.push_str("]")
+}
+
+#[cycle(shown_stmt)]
+fn show_stmt(text: &mut String, stmt: &RawStmt) -> Result<(), AllocError> {
+    match &stmt.form {
+        RawForm::Empty => text.push_str(";"),
+        RawForm::Expr(expr) => {
+            show_expr(text, expr)?;
+            text.push_str(";")
+        }
+        RawForm::Declare(names) => show_declared(text, names.as_slice()),
+        RawForm::Block(stmts) => {
+            text.push_str("{")?;
+            show_stmts(text, stmts.as_slice())?;
+            text.push_str("}")
+        }
+        RawForm::If { test, yes, no } => {
+            text.push_str("if ")?;
+            show_expr(text, test)?;
+            text.push_str(" ")?;
+            show_part(text, yes)?;
+            match no {
+                Some(no) => {
+                    text.push_str(" else ")?;
+                    show_part(text, no)
+                }
+                None => Ok(()),
+            }
+        }
+        RawForm::While { test, body } => {
+            text.push_str("while ")?;
+            show_expr(text, test)?;
+            text.push_str(" ")?;
+            show_part(text, body)
+        }
+        RawForm::Do { body, test } => {
+            text.push_str("do ")?;
+            show_part(text, body)?;
+            text.push_str(" while ")?;
+            show_expr(text, test)
+        }
+        RawForm::For {
+            first,
+            test,
+            step,
+            body,
+        } => {
+            text.push_str("for ")?;
+            show_first(text, first)?;
+            show_if(text, test)?;
+            text.push_str(";")?;
+            show_if(text, step)?;
+            text.push_str(" ")?;
+            show_part(text, body)
+        }
+        RawForm::Break => text.push_str("break;"),
+        RawForm::Continue => text.push_str("continue;"),
+        RawForm::Return(value) => {
+            text.push_str("return ")?;
+            show_if(text, value)?;
+            text.push_str(";")
+        }
+        RawForm::Label { name, of } => {
+            text.push_str(name.as_str())?;
+            text.push_str(":")?;
+            show_part(text, of)
+        }
+    }
+}
+
+#[cycle(shown_stmt)]
+fn show_stmts(text: &mut String, stmts: &[RawStmt]) -> Result<(), AllocError> {
+    for stmt in stmts {
+        show_stmt(text, stmt)?;
+    }
+    Ok(())
+}
+
+fn show_item(text: &mut String, item: &Item) -> Result<(), AllocError> {
+    match item {
+        Item::Function {
+            name,
+            result,
+            params,
+            body,
+            ..
+        } => {
+            text.push_str(result_text(*result))?;
+            text.push_str(" ")?;
+            text.push_str(name.as_str())?;
+            text.push_str("(")?;
+            for param in params.as_slice() {
+                text.push_str(type_text(param.ty))?;
+                text.push_str(" ")?;
+                text.push_str(param.name.as_str())?;
+                text.push_str(";")?;
+            }
+            text.push_str(")")?;
+            show_stmt(text, body)
+        }
+        Item::Prototype {
+            name,
+            result,
+            params,
+            ..
+        } => {
+            text.push_str("proto ")?;
+            text.push_str(result_text(*result))?;
+            text.push_str(" ")?;
+            text.push_str(name.as_str())?;
+            text.push_str("(")?;
+            match params {
+                Some(types) => {
+                    for ty in types.as_slice() {
+                        text.push_str(type_text(*ty))?;
+                        text.push_str(";")?;
+                    }
+                }
+                None => text.push_str("unstated")?,
+            }
+            text.push_str(")")
+        }
+        Item::Global(names) => {
+            text.push_str("global ")?;
+            show_declared(text, names.as_slice())
+        }
+        Item::Closed { name, .. } => {
+            text.push_str("closed ")?;
+            text.push_str(name.as_str())
+        }
+    }
+}
+
+fn show_source(text: &mut String, source: &Source) -> Result<(), AllocError> {
+    for item in source.items.as_slice() {
+        show_item(text, item)?;
+        text.push_str("|")?;
+    }
+    if text.len() == 0 {
+        text.push_str("nothing")?;
+    }
+    Ok(())
+}
+
+/// Each source is shorter.
+const MAX_LENGTH: usize = 1 << 20;
+
+/// What a text spells, if it is one of tokens.
+pub fn parsed(alloc: Global, text: &[u8]) -> Option<Result<Source, ParseFault>> {
+    if text.len() > MAX_LENGTH {
+        return None;
+    }
+    let Ok(found) = tokens(alloc, text) else {
+        return None;
+    };
+    Some(parse(alloc, &found))
+}
+
+pub fn refused(alloc: Global, fault: ParseFault) -> Result<String, AllocError> {
+    match fault {
+        ParseFault::Syntax { line, column } => format!(in alloc; "syntax {line}:{column}"),
+        ParseFault::OutOfMemory => Err(AllocError),
+    }
+}
+
+/// The items of a row's source, or where the first that fits no form stands.
+pub fn told(rt: &HostRuntime, row: &Row) -> Result<String, NotTried> {
+    let alloc = rt.alloc();
+    let Some(text) = program(rt, row)? else {
+        return Err(NotTried::Lacks("source"));
+    };
+    match parsed(alloc, text.as_slice()) {
+        None => Ok(String::from_str(alloc, "no tokens")?),
+        Some(Ok(source)) => {
+            let mut shown = String::new(alloc);
+            show_source(&mut shown, &source)?;
+            Ok(shown)
+        }
+        Some(Err(fault)) => Ok(refused(alloc, fault)?),
+    }
+}
+
+/// `read`, or where the first item that fits no form stands.
+pub fn is_read(rt: &HostRuntime, row: &Row) -> Result<String, NotTried> {
+    let alloc = rt.alloc();
+    let Some(text) = program(rt, row)? else {
+        return Err(NotTried::Lacks("source"));
+    };
+    match parsed(alloc, text.as_slice()) {
+        None => Ok(String::from_str(alloc, "no tokens")?),
+        Some(Ok(_)) => Ok(String::from_str(alloc, "read")?),
+        Some(Err(fault)) => Ok(refused(alloc, fault)?),
+    }
+}
