@@ -1,7 +1,10 @@
-//! Memories of `c_meaning` beside plain lists, and values of expressions in them. The crate has tests alone, above `c_meaning`.
+//! What programs mean: memories of `c_meaning` beside plain lists, values of expressions in them, and the runs of the example
+//! programs. The crate has tests alone, above `c_interpreter`.
 #![tactic(auto)]
 
 #[cfg(test)]
 mod memories;
+#[cfg(test)]
+mod runs;
 #[cfg(test)]
 mod values;

@@ -1,58 +1,10 @@
 // Values of expressions in the program `short a[3];`, `int main() {`, `  return 0;`, `}`.
-use c_core::{
-    BinOp, DataModel, Expr, Form, Function, IntType, Node, Object, Program, Property, Spot, Stmt,
-};
+use c_core::{BinOp, Expr, IntType, Node, Spot};
 use c_meaning::{Memory, value_in};
+use run_examples::hold_shorts;
 use std::alloc::Global;
 use std::test::Fail;
-use wv_base::{OutOfMemory, Seq, Text};
-
-fn program(alloc: Global) -> Result<Program, OutOfMemory> {
-    let array = Text::of(alloc, "a")?;
-    let name = Text::of(alloc, "main")?;
-    let mut objects = Seq::new(alloc);
-    objects.push(Object {
-        name: array,
-        ty: IntType::Short,
-        cells: 3,
-        array: true,
-        fixed: true,
-        spot: Spot { line: 1, column: 7 },
-    })?;
-    let mut statements = Seq::new(alloc);
-    statements.push(Stmt {
-        spot: Spot { line: 3, column: 3 },
-        form: Form::Return(Some(Expr {
-            spot: Spot {
-                line: 3,
-                column: 10,
-            },
-            ty: Some(IntType::Int),
-            node: Node::Const(0),
-        })),
-    })?;
-    let mut functions = Seq::new(alloc);
-    functions.push(Function {
-        name,
-        result: Some(IntType::Int),
-        params: Seq::new(alloc),
-        body: Stmt {
-            spot: Spot {
-                line: 2,
-                column: 12,
-            },
-            form: Form::Block(statements),
-        },
-    })?;
-    Ok(Program {
-        model: DataModel::Ilp32,
-        property: Property::UnreachCall,
-        objects,
-        starts: Seq::new(alloc),
-        functions,
-        main: 0,
-    })
-}
+use wv_base::OutOfMemory;
 
 fn expression(ty: IntType, node: Node) -> Expr {
     Expr {
@@ -86,7 +38,7 @@ fn before_undefined(alloc: Global, both: bool, a: i128) -> Result<Expr, OutOfMem
 
 #[test]
 fn a_cell_is_read_by_its_type_where_it_is_live(rt: HostRuntime) -> Result<(), Fail> {
-    let program = program(rt.alloc())?;
+    let program = hold_shorts(rt.alloc())?;
     let mut memory = Memory::new(rt.alloc());
     memory.add(0, 0, 7)?;
     memory.add(0, 1, 70000)?;
@@ -109,7 +61,7 @@ fn a_cell_is_read_by_its_type_where_it_is_live(rt: HostRuntime) -> Result<(), Fa
 
 #[test]
 fn arithmetic_wraps_and_a_quotient_by_zero_has_no_value(rt: HostRuntime) -> Result<(), Fail> {
-    let program = program(rt.alloc())?;
+    let program = hold_shorts(rt.alloc())?;
     let memory = Memory::new(rt.alloc());
     let sum = binary(rt.alloc(), BinOp::Add, 2147483647, 1)?;
     let quotient = binary(rt.alloc(), BinOp::Div, 1, 0)?;
@@ -120,7 +72,7 @@ fn arithmetic_wraps_and_a_quotient_by_zero_has_no_value(rt: HostRuntime) -> Resu
 
 #[test]
 fn an_operand_that_is_not_evaluated_does_not_count(rt: HostRuntime) -> Result<(), Fail> {
-    let program = program(rt.alloc())?;
+    let program = hold_shorts(rt.alloc())?;
     let memory = Memory::new(rt.alloc());
     let decided = before_undefined(rt.alloc(), true, 0)?;
     let undecided = before_undefined(rt.alloc(), true, 5)?;

@@ -4,7 +4,7 @@ use Rattle.std.proofs.lemmas.Bool.{le-leb}
 use Rattle.c_core.specs.Tree.{Program}
 use Rattle.c_core.specs.Program.{IsProgram, objects_fit, cells_fit, objects_rise, names_in_place, starts_fit, starts_differ, has_main, params_fit, types_fit, names_known, owned_once, names_in_reach, blocks_fit, jumps_fit, places_rise}
 use Rattle.c_core.specs.declared.number.Property.{Property}
-use Rattle.run_examples.specs.Programs.{count_deep}
+use Rattle.run_examples.specs.Programs.{hold_shorts, count_deep}
 use Rattle.c_meaning.specs.Examples.{branch_on_input, count_to_ten, count_to_three, recurse}
 
 abbrev objects_are : Program → Bool
@@ -68,6 +68,9 @@ three_checked = checked count_to_three refl refl refl refl
 
 pub recursion_checked : IsProgram recurse
 recursion_checked = checked recurse refl refl refl refl
+
+pub shorts_checked : IsProgram hold_shorts
+shorts_checked = checked hold_shorts refl refl refl refl
 
 pub deep_checked : (cells depth bound : ℕ) → 1 ≤ cells → cells ≤ 90000 → depth < 2147483648 → bound < 2147483648 → IsProgram (count_deep cells depth bound)
 deep_checked cells depth bound some few d b =

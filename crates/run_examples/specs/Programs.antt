@@ -1,12 +1,12 @@
 -- Programs beside the examples of c_meaning.
 use Rattle.std.specs.Prelude.{ℕ, Bool, true, false, [], ◌∷◌, Some, None}
 use Rattle.c_core.specs.Tree.{Exp, Assign, Index, Many, NoExp, MoreExp, NoName, MoreName, Declare, Return, Function, Program}
-use Rattle.c_core.specs.declared.number.IntType.TheVariants.{Int}
+use Rattle.c_core.specs.declared.number.IntType.TheVariants.{Int, Short}
 use Rattle.c_core.specs.declared.number.Property.TheVariants.{UnreachCall}
 use Rattle.c_core.specs.declared.number.BinOp.TheVariants.{Add, Sub, Lt, Gt, Ne}
 use Rattle.c_core.specs.declared.tree.Callee.TheVariants.{Defined}
 use Rattle.c_core.specs.declared.tree.Object.{Object}
-use Rattle.c_meaning.specs.Examples.{at, exp, number, object, operation, call, call_with, statement, only, declaration, block, if_then, while_do, reach_error, return_number, change_by_one, local, function, program}
+use Rattle.c_meaning.specs.Examples.{at, exp, number, object, operation, call, call_with, statement, only, declaration, block, if_then, while_do, reach_error, return_number, change_by_one, local, function, program, main_alone}
 
 -- an array of `int`
 abbrev pub array : ℕ → Bool → ℕ → ℕ → Object
@@ -30,6 +30,14 @@ write_and_read i j = program UnreachCall (array 3 true 2 5 ∷ []) [] (
     only 4 3 (exp Int 4 3 (Assign None (element 4 3 0 (number 4 5 i)) (number 4 10 7))) ∷
     if_then 5 3 (operation 5 7 Ne (element 5 7 0 (number 5 9 j)) (number 5 15 7)) (block 5 18 (reach_error 6 5 17 ∷ [])) ∷
     return_number 8 3 10 0 ∷ [])) ∷ []) 0
+
+-- 1|short a[3];
+-- 2|int main() {
+-- 3|  return 0;
+-- 4|}
+abbrev pub hold_shorts : Program
+hold_shorts = main_alone UnreachCall (record { name = 97 ∷ []; ty = Short; cells = 3; array = true; fixed = true; spot = at 1 7 } ∷ [])
+    (block 2 12 (return_number 3 3 10 0 ∷ []))
 
 -- 1|int f() { }
 -- 2|int main() {

@@ -9,9 +9,9 @@ use crate::trees::{
     function, if_then, int_input, local, main_alone, number, object, one, only, operation, program,
     reach_error, return_number, statement, three, two, while_do,
 };
-use c_core::{BinOp, Callee, Declared, Form, Function, Init, IntType, Program, Property};
+use c_core::{BinOp, Callee, Declared, Form, Function, Init, IntType, Object, Program, Property};
 use std::alloc::Global;
-use wv_base::{OutOfMemory, Seq};
+use wv_base::{OutOfMemory, Seq, Text};
 
 /// An input reaches the error where it is this number.
 pub fn branch_on_input(alloc: Global, expected: u8) -> Result<Program, OutOfMemory>
@@ -145,6 +145,23 @@ pub fn write_and_read(alloc: Global, written: u8, read: u8) -> Result<Program, O
     let body = three(alloc, only(4, 3, write), branch, return_number(8, 3, 10, 0))?;
     let objects = one(alloc, array(alloc, 3, true, 2, 5))?;
     main_alone(alloc, Property::UnreachCall, objects, block(3, 12, body))
+}
+
+/// An array of `short` with the name `a` is the only object.
+pub fn hold_shorts(alloc: Global) -> Result<Program, OutOfMemory>
+    ensures { IfOk result (λ p. program_view p ≡ more.hold_shorts) }
+{
+    let shorts = Object {
+        name: Text::of(alloc, "a")?,
+        ty: IntType::Short,
+        cells: 3,
+        array: true,
+        fixed: true,
+        spot: at(1, 7),
+    };
+    let objects = one(alloc, shorts)?;
+    let body = one(alloc, return_number(3, 3, 10, 0))?;
+    main_alone(alloc, Property::UnreachCall, objects, block(2, 12, body))
 }
 
 /// The value of a call is used, which no `return` gave.

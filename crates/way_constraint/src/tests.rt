@@ -1,9 +1,6 @@
-// Constraints over objects made by hand, and over the program `short a[3];`, `int main() {`, `  return 0;`, `}`.
+// Constraints over objects made by hand.
 use crate::check::constraint_in;
-use crate::check_expr;
-use c_core::{
-    DataModel, Expr, Form, Function, IntType, Node, Object, Program, Property, Spot, Stmt,
-};
+use c_core::{DataModel, IntType, Object, Spot};
 use c_parser::{ExprFault, parse_expr};
 use std::alloc::Global;
 use std::test::Fail;
@@ -81,69 +78,5 @@ fn types_are_judged_where_all_names_are_known(rt: HostRuntime) -> Result<(), Fai
     assert_eq!(rt; typed(alloc, &[0, 1], "a == 1"), refused);
     assert_eq!(rt; typed(alloc, &[0, 1], "x[0] == 1"), refused);
     assert_eq!(rt; typed(alloc, &[0, 1], "x == 9223372036854775808"), refused);
-    Ok(())
-}
-
-fn program(alloc: Global) -> Result<Program, OutOfMemory> {
-    let array = Text::of(alloc, "a")?;
-    let name = Text::of(alloc, "main")?;
-    let mut objects = Seq::new(alloc);
-    objects.push(Object {
-        name: array,
-        ty: IntType::Short,
-        cells: 3,
-        array: true,
-        fixed: true,
-        spot: Spot { line: 1, column: 7 },
-    })?;
-    let mut statements = Seq::new(alloc);
-    statements.push(Stmt {
-        spot: Spot { line: 3, column: 3 },
-        form: Form::Return(Some(Expr {
-            spot: Spot {
-                line: 3,
-                column: 10,
-            },
-            ty: Some(IntType::Int),
-            node: Node::Const(0),
-        })),
-    })?;
-    let mut functions = Seq::new(alloc);
-    functions.push(Function {
-        name,
-        result: Some(IntType::Int),
-        params: Seq::new(alloc),
-        body: Stmt {
-            spot: Spot {
-                line: 2,
-                column: 12,
-            },
-            form: Form::Block(statements),
-        },
-    })?;
-    Ok(Program {
-        model: DataModel::Ilp32,
-        property: Property::UnreachCall,
-        objects,
-        starts: Seq::new(alloc),
-        functions,
-        main: 0,
-    })
-}
-
-#[test]
-fn a_constraint_of_a_program_has_its_tree(rt: HostRuntime) -> Result<(), Fail> {
-    let alloc = rt.alloc();
-    let program = program(alloc)?;
-    let mut names = Seq::new(alloc);
-    names.push(0u32)?;
-    let expr = parse_expr(alloc, b"a[2]")?;
-    let tree = check_expr(alloc, &program, &names, &expr)?;
-    assert_eq!(rt; tree.ty, Some(IntType::Short));
-    let is_element = match tree.node {
-        Node::Index { object, .. } => object == 0,
-        _ => false,
-    };
-    assert!(rt; is_element);
     Ok(())
 }

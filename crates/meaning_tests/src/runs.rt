@@ -1,11 +1,11 @@
-// The runs of the programs, each as its text says.
-use crate::{
-    add_to_input, branch_on_input, combine_inputs, count_to_ten, count_to_three, nest_arrays,
-    recurse, use_no_value, write_and_read,
-};
+// The runs of the example programs, each as its text says.
 use c_core::{BinOp, IntType, Program, Property, Spot};
 use c_interpreter::run_plain;
 use c_meaning::{Choices, Draw, DrawKind, End, Event, Given, Memory, Run, Watcher};
+use run_examples::{
+    add_to_input, branch_on_input, combine_inputs, count_to_ten, count_to_three, nest_arrays,
+    recurse, use_no_value, write_and_read,
+};
 use std::alloc::Global;
 use std::test::Fail;
 use wv_base::{OutOfMemory, Seq};
