@@ -199,7 +199,8 @@ impl Reader {
         let given = self.edits_so_far(given)?;
         let mut wanted = Vec::new(self.alloc);
         push_meant(self.alloc, &mut wanted, answer)?;
-        self.begin_row(line, self.kind.clone()?, text)?;
+        let kind = self.kind.clone()?;
+        self.begin_row(line, kind, text)?;
         self.in_row = true;
         let name = self.given.clone()?;
         self.push_field(name.as_str(), given)?;
@@ -216,8 +217,9 @@ impl Reader {
             return self.begin_section(head);
         }
         if let Some(name) = text.strip_prefix("== ") {
+            let kind = self.kind.clone()?;
             self.in_row = true;
-            return self.begin_row(line, self.kind.clone()?, name);
+            return self.begin_row(line, kind, name);
         }
         if text == "|" {
             return self.add_line(line, "");
