@@ -1,8 +1,5 @@
 pub mod Confirmed
-mod ExampleGiven
-mod ExamplePassing
-mod ExampleVerdicts
-mod Tested
+pub mod Tested
 mod Views
 mod Ways
 mod Found

@@ -4,7 +4,4 @@ pub mod Passing
 pub mod Matching
 pub mod Given
 pub mod Verdicts
-pub mod ExampleVerdicts
-pub mod ExampleGiven
-pub mod ExamplePassing
 pub mod inside

@@ -4,7 +4,6 @@
 
 mod by_place;
 mod compared;
-mod examples;
 mod given_values;
 mod laws;
 mod matcher;

@@ -1,7 +1,7 @@
 -- The example waypoints are passed as they must: by computation.
 use Rattle.std.proofs.Common.{refl}
 use Rattle.c_core.specs.Types.{residue, signed_of, wrapped}
-use Rattle.way_match.specs.ExamplePassing.{ExamplePassing}
+use Rattle.way_examples.specs.ExamplePassing.{ExamplePassing}
 
 pub example_passing : ExamplePassing
 unfolding residue signed_of wrapped

@@ -1,7 +1,7 @@
 // Examples on which the definitions of waypoints, matching, given values and verdicts are computed.
-ghost use Rattle.way_match.specs.ExampleGiven.{ExampleGiven};
-ghost use Rattle.way_match.specs.ExamplePassing.{ExamplePassing};
-ghost use Rattle.way_match.specs.ExampleVerdicts.{ExampleMatches, ExampleVerdicts};
+ghost use Rattle.way_examples.specs.ExampleGiven.{ExampleGiven};
+ghost use Rattle.way_examples.specs.ExamplePassing.{ExamplePassing};
+ghost use Rattle.way_examples.specs.ExampleVerdicts.{ExampleMatches, ExampleVerdicts};
 
 fn example_passing()
     ensures { ExamplePassing }

@@ -12,8 +12,8 @@ use Rattle.c_meaning.specs.Cells.{Cell}
 use Rattle.c_meaning.specs.Examples.{at, number, object, operation, add_to_input, branch_on_input}
 use Rattle.way_match.specs.Points.{At, Line, Point, Assume, Target, Enter, Return, Branch}
 use Rattle.way_match.specs.Passing.{passes}
-use Rattle.way_match.specs.ExampleVerdicts.{minus, first_is}
-use Rattle.way_match.specs.ExampleGiven.{input_of_type}
+use Rattle.way_examples.specs.ExampleVerdicts.{minus, first_is}
+use Rattle.way_examples.specs.ExampleGiven.{input_of_type}
 
 -- the return of an input call of a type, against `\result op e`
 abbrev pub return_passes : IntType → BinOp → Exp → Option ℤ → Bool

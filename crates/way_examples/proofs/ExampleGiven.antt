@@ -1,7 +1,7 @@
 -- The example witnesses give these values: by computation.
 use Rattle.std.proofs.Common.{refl}
 use Rattle.c_core.specs.Types.{residue, signed_of, wrapped}
-use Rattle.way_match.specs.ExampleGiven.{ExampleGiven}
+use Rattle.way_examples.specs.ExampleGiven.{ExampleGiven}
 
 pub example_given : ExampleGiven
 unfolding residue signed_of wrapped

@@ -9,7 +9,7 @@ use Rattle.way_match.specs.Points.{Line, Point, Assume, Target, BoundSegment}
 use Rattle.way_match.specs.Matching.{Seen, Matches, matches, seen_passes, seen_passes_any}
 use Rattle.way_match.specs.Passing.{passes}
 use Rattle.way_match.specs.Given.{SeenGiven}
-use Rattle.way_match.specs.ExampleVerdicts.{follow, avoid_then, inside, before_step, error_behind, target, returns, first_is, first_is_least, five_then_target, division, budget, ExampleVerdicts, ExampleMatches}
+use Rattle.way_examples.specs.ExampleVerdicts.{follow, avoid_then, inside, before_step, error_behind, target, returns, first_is, first_is_least, five_then_target, division, budget, ExampleVerdicts, ExampleMatches}
 use Rattle.way_match.proofs.Tested.{tested}
 
 -- positions that pass the test match

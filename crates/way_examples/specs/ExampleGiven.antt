@@ -13,7 +13,7 @@ use Rattle.c_meaning.specs.declared.run.Choices.TheVariants.{Given}
 use Rattle.c_meaning.specs.Examples.{at, exp, number, object, operation, call, int_input, statement, only, declared, declaration, block, return_number, local, cell, main_alone, recurse}
 use Rattle.way_match.specs.Points.{Assume, Return, BoundSegment}
 use Rattle.way_match.specs.Given.{given_by}
-use Rattle.way_match.specs.ExampleVerdicts.{follow, avoid_then, returns, minus, first_is}
+use Rattle.way_examples.specs.ExampleVerdicts.{follow, avoid_then, returns, minus, first_is}
 
 -- 1|int main() {
 -- 2|  int x = 0, y = 0;

@@ -1,0 +1,3 @@
+mod ExampleGiven
+mod ExamplePassing
+mod ExampleVerdicts

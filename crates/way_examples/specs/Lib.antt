@@ -1,0 +1,3 @@
+pub mod ExampleVerdicts
+pub mod ExampleGiven
+pub mod ExamplePassing
