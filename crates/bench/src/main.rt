@@ -3,8 +3,8 @@
 #![tactic(auto)]
 
 mod check;
-mod circuits;
 mod frontend;
+mod operators;
 mod replay;
 mod task;
 mod yaml;
@@ -34,7 +34,7 @@ fn run(rt: &HostRuntime) -> io::Result<ExitCode> {
     };
     match mode.as_str() {
         "check" => check::run(rt, words)?,
-        "circuits" => circuits::run(rt, words)?,
+        "circuits" => operators::run(rt, words)?,
         "frontend" => frontend::run(rt, words)?,
         "replay" => replay::run(rt, words)?,
         "task" => task::run(rt, words)?,
