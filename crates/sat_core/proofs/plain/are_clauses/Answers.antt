@@ -4,7 +4,7 @@ use Rattle.std.proofs.lemmas.Bool.{cases_lt}
 use Rattle.std.proofs.lemmas.Option.{same_Some, slice_get_read, slice_get_within}
 use Rattle.clauses.specs.Clause.{IsClause}
 use Rattle.sat_core.proofs.Lists.{at_contains}
-use Rattle.sat_core.proofs.solver.are_clauses.Goals as goal
+use Rattle.sat_core.proofs.plain.are_clauses.Goals as goal
 
 pub loop-clause-preserved : goal.loop-clause-preserved
 loop-clause-preserved c = λ k d lt i. elim (cases_lt k c.loop-clause.clause-index) as (λ _. IsClause d) [

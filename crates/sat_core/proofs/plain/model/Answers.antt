@@ -1,6 +1,6 @@
 use Rattle.std.proofs.Common.{◌≡◌, length, arith, rules}
 use Rattle.sat_core.proofs.Models.{values_of_first}
-use Rattle.sat_core.proofs.solver.model.Goals as goal
+use Rattle.sat_core.proofs.plain.model.Goals as goal
 
 pub returns : goal.returns
 returns c =

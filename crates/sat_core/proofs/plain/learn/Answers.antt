@@ -9,7 +9,7 @@ use Rattle.sat_core.specs.Derived.{AreFlagged, IsAnalyzed}
 use Rattle.sat_core.proofs.Scans.{clauses_many}
 use Rattle.sat_core.proofs.Logged.{clauses_more}
 use Rattle.sat_core.proofs.Learns.{is_clause, learned_state, learned_of, has_learned}
-use Rattle.sat_core.proofs.solver.learn.Goals as goal
+use Rattle.sat_core.proofs.plain.learn.Goals as goal
 
 pub last_but_one-requires-clause-positive : goal.last_but_one-requires-clause-positive
 last_but_one-requires-clause-positive c = λ y i.

@@ -2,7 +2,7 @@ use Rattle.std.proofs.Common.{length, arith, ◌∙◌, subst, Option, ℕ}
 use Rattle.sat_core.specs.Trail.{clauses_of, Settled}
 use Rattle.sat_core.specs.Found.{IsPropagated}
 use Rattle.sat_core.proofs.Learns.{decided_state}
-use Rattle.sat_core.proofs.solver.search.Goals as goal
+use Rattle.sat_core.proofs.plain.search.Goals as goal
 
 pub loop-conflict-preserved : goal.loop-conflict-preserved
 loop-conflict-preserved c =

@@ -8,7 +8,7 @@ use Rattle.sat_core.specs.Answers.{IsRefuted}
 use Rattle.sat_core.proofs.Models.{model_of}
 use Rattle.sat_core.proofs.Logged.{log_refutes, log_spent}
 use Rattle.sat_core.proofs.Learns.{first_numbers, solving_first, solving_more}
-use Rattle.sat_core.proofs.solver.solve.Goals as goal
+use Rattle.sat_core.proofs.plain.solve_plainly.Goals as goal
 
 pub loop-init : goal.loop-init
 loop-init c = solving_first c.args.cnf.now.variables c.args.cnf.now.clauses c.new-chains.result c.in_ok-trail.trail.values.items c.in_ok-trail.trail.entries.items (first_numbers c.args.cnf.now.variables c.args.cnf.now.clauses c.args.cnf.now.within c.are_clauses.ensures) c.new-chains.ensures c.in_ok-trail.ensures.values c.in_ok-trail.ensures.entries
