@@ -11,3 +11,4 @@ pub mod Logged
 pub mod Models
 pub mod Learns
 mod Deciding
+pub mod Once

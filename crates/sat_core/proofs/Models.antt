@@ -1,8 +1,10 @@
 -- Values of all variables under which nothing is left are a model.
 use Rattle.std.proofs.Common.{◌≡◌, ℕ, zero, suc, ◌+◌, ◌-◌, ◌<◌, ◌⊎◌, inl, inr, Bool, true, false, not, Option, Some, List, [], ◌∷◌, ◌++◌, length, ℤ, pos, negsuc, neg_ℤ, refl, sym, ◌∙◌, ap, subst, arith}
-use Rattle.std.specs.Prelude.{slice_get, unsigned_abs}
+use Rattle.std.specs.Prelude.{slice_get, slice_index_or, unsigned_abs}
+use mathlib.Core.Bool.{beq}
+use lib.Signed.{lt_z}
 use Rattle.std.specs.List.{Contains}
-use Rattle.std.proofs.lemmas.Bool.{or_left, or_right, and_from}
+use Rattle.std.proofs.lemmas.Bool.{or_left, or_right, and_from, lt-ltb}
 use Rattle.std.proofs.lemmas.Option.{get_or_from_slice_get, slice_get_within}
 use Rattle.std.proofs.lemmas.List.Elements.{Contains-append_left}
 use Rattle.clauses.specs.Assignment.{number_holds, clause_holds, all_hold}
@@ -49,14 +51,14 @@ holds_true clauses values t s list a n x h =
     let at : slice_get list (h.entry.variable - 1) ≡ Some h.entry.value = a.each (h.entry.variable - 1) h.entry.value (ap (slice_get values) back ∙ s.told.onto h.at h.entry h.there) in
     ap (number_holds (value_at list)) (sym h.is) ∙ true_of (value_at list) h.entry.variable h.entry.value real (get_or_from_slice_get list (h.entry.variable - 1) h.entry.value false at)
 
-clause_true : (f : ℕ → Bool) (c : List ℤ) (x : ℤ) → Contains c x → number_holds f x ≡ true → clause_holds f c ≡ true
+pub clause_true : (f : ℕ → Bool) (c : List ℤ) (x : ℤ) → Contains c x → number_holds f x ≡ true → clause_holds f c ≡ true
 clause_true f [] x i h = absurd (omega (arith, i.1))
 clause_true f (y ∷ ys) x i h = elim (cons_cases y x ys i) as (λ _. clause_holds f (y ∷ ys) ≡ true) [
   | inl e ↦ or_left (number_holds f y) (clause_holds f ys) (ap (number_holds f) e ∙ h)
   | inr j ↦ or_right (number_holds f y) (clause_holds f ys) (clause_true f ys x j h)
 ]
 
-all_true : (f : ℕ → Bool) (cs : List (List ℤ)) → ((c : List ℤ) → Contains cs c → clause_holds f c ≡ true) → all_hold f cs ≡ true
+pub all_true : (f : ℕ → Bool) (cs : List (List ℤ)) → ((c : List ℤ) → Contains cs c → clause_holds f c ≡ true) → all_hold f cs ≡ true
 unfolding all_hold
 all_true f [] h = refl
 all_true f (c ∷ cs) h = and_from (clause_holds f c) (all_hold f cs) (h c (cons_here c cs)) (all_true f cs (λ d i. h d (cons_there c d cs i)))
@@ -72,3 +74,19 @@ model_of given more variables values t s k sized list a = record {
 
 pub values_of_first : (values : List (Option Bool)) (n : ℕ) (list : List Bool) → length values ≡ n → AreFirstValues values n list → AreValues values list
 values_of_first values n list e a = record { many = a.many ∙ sym e; each = λ v b q. a.each v b (omega (arith, slice_get_within values (v + 1) (Some b) q)) q }
+
+-- a number is true where the value at its place is that of its sign
+pub place_true : (values : List Bool) (x : ℤ) → 0 < unsigned_abs x → beq (slice_index_or values (unsigned_abs x - 1) false) (lt_z (pos 0) x) ≡ true → number_holds (value_at values) x ≡ true
+place_true values (pos zero) real h = absurd (omega arith)
+place_true values (pos (suc n)) real h = beq_true _ (subst (λ (b : Bool). beq (slice_index_or values (suc n - 1) false) b ≡ true) (lt-ltb 0 (suc n) (omega arith)) h)
+  where
+    beq_true : (b : Bool) → beq b true ≡ true → b ≡ true
+    beq_true true e = refl
+    beq_true false e = e
+place_true values (negsuc n) real h =
+    let q : n + 1 ≡ suc n = omega arith in
+    ap not (ap (value_at values) q ∙ beq_false _ h)
+  where
+    beq_false : (b : Bool) → beq b false ≡ true → b ≡ false
+    beq_false true e = sym e
+    beq_false false e = refl

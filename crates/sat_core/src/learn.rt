@@ -1,0 +1,285 @@
+// From a conflict to a clause: resolution back to the first literal that is alone on its level.
+use crate::arena::NO_CLAUSE;
+use crate::cells::{at, put};
+use crate::conflict::Mark;
+use crate::lit::Lit;
+use crate::search::Search;
+use wv_base::OutOfMemory;
+
+const NONE: Lit = Lit { code: 0 };
+
+/// How many reasons deep a redundant literal may lie.
+const DEPTH: u32 = 200;
+
+impl Search {
+    // a literal of the clause that is derived
+    fn meet(&mut self, literal: Lit) -> Result<(), OutOfMemory> {
+        let variable = literal.code / 2;
+        if !self.conflict.is_unseen(literal.variable()) {
+            return Ok(());
+        }
+        let level = self.values.cause(literal.variable()).level;
+        self.conflict.mark(variable, Mark::Held)?;
+        if level == 0 {
+            self.conflict.fixed = self.conflict.fixed.wrapping_add(1);
+            return Ok(());
+        }
+        self.order.bump(variable);
+        if level == self.values.level() {
+            self.conflict.open = self.conflict.open.wrapping_add(1);
+            return Ok(());
+        }
+        self.conflict.stamp_level(level);
+        self.conflict.learned.push(literal)?;
+        Ok(())
+    }
+
+    // the literals of a clause but that of one variable
+    fn meet_clause(&mut self, clause: u32, except: usize) -> Result<(), OutOfMemory> {
+        self.reduction.touch(clause);
+        let span = self.arena.span(clause);
+        let first = span.start as usize;
+        for place in first..first + span.count as usize {
+            let literal = self.arena.literal(place);
+            if literal.variable() != except {
+                self.meet(literal)?;
+            }
+        }
+        Ok(())
+    }
+
+    // resolves with the reasons, the latest value first, until one literal of the level is left
+    fn resolve_back(&mut self) -> Result<Option<Lit>, OutOfMemory> {
+        let count = self.values.trail.len();
+        for back in 0..count {
+            let literal = at(&self.values.trail, count - 1 - back, NONE);
+            let variable = literal.variable();
+            if self.conflict.is_unseen(variable) {
+                continue;
+            }
+            if self.conflict.open <= 1 {
+                return Ok(Some(literal.opposite()));
+            }
+            self.conflict.open -= 1;
+            let reason = self.values.cause(variable).reason;
+            self.conflict
+                .step(reason.wrapping_add(1), literal.code / 2)?;
+            self.conflict.remark(variable, Mark::Resolved);
+            self.meet_clause(reason, variable)?;
+        }
+        Ok(None)
+    }
+
+    // whether a variable is known to lead back to the clause, or not to
+    fn known(&self, variable: usize) -> Option<bool> {
+        let cause = self.values.cause(variable);
+        if cause.level == 0 {
+            return Some(true);
+        }
+        match self.conflict.mark_of(variable) {
+            Mark::Held | Mark::Redundant | Mark::Resolved => Some(true),
+            Mark::Needed => Some(false),
+            Mark::Unseen => {
+                if cause.reason == NO_CLAUSE || !self.conflict.has_level(cause.level) {
+                    Some(false)
+                } else {
+                    None
+                }
+            }
+        }
+    }
+
+    fn settle(&mut self, literal: Lit, place: u32, redundant: bool) -> Result<(), OutOfMemory> {
+        if redundant {
+            self.conflict.places.push(place)?;
+            return self.conflict.mark(literal.code / 2, Mark::Redundant);
+        }
+        self.conflict.mark(literal.code / 2, Mark::Needed)
+    }
+
+    // whether the reason of a variable leads back to the clause by all its other literals
+    fn leads_back(&mut self, reason: u32, except: usize, depth: u32) -> Result<bool, OutOfMemory> {
+        if depth == 0 {
+            return Ok(false);
+        }
+        let span = self.arena.span(reason);
+        let first = span.start as usize;
+        for place in first..first + span.count as usize {
+            let literal = self.arena.literal(place);
+            if literal.variable() == except {
+                continue;
+            }
+            let redundant = match self.known(literal.variable()) {
+                Some(known) => known,
+                None => {
+                    let cause = self.values.cause(literal.variable());
+                    let found = self.leads_back(cause.reason, literal.variable(), depth - 1)?;
+                    self.settle(literal, cause.place, found)?;
+                    found
+                }
+            };
+            if !redundant {
+                return Ok(false);
+            }
+        }
+        Ok(true)
+    }
+
+    // whether a literal of the learned clause may be resolved away
+    fn is_redundant(&mut self, literal: Lit) -> Result<bool, OutOfMemory> {
+        let cause = self.values.cause(literal.variable());
+        if cause.reason == NO_CLAUSE {
+            return Ok(false);
+        }
+        let redundant = self.leads_back(cause.reason, literal.variable(), DEPTH)?;
+        if redundant {
+            self.conflict.remark(literal.variable(), Mark::Resolved);
+            self.conflict.places.push(cause.place)?;
+        }
+        Ok(redundant)
+    }
+
+    // leaves the redundant literals out of the learned clause
+    fn minimize(&mut self) -> Result<(), OutOfMemory> {
+        let mut kept = 1usize;
+        for place in 1..self.conflict.learned.len() {
+            let literal = at(&self.conflict.learned, place, NONE);
+            if !self.is_redundant(literal)? {
+                put(&mut self.conflict.learned, kept, literal);
+                kept = kept.wrapping_add(1);
+            }
+        }
+        self.conflict.learned.truncate(kept);
+        self.conflict.places.sort_unstable();
+        Ok(())
+    }
+
+    // a literal that a redundant one's reason brings into the clause
+    fn bring(&mut self, literal: Lit) -> Result<(), OutOfMemory> {
+        let variable = literal.variable();
+        match self.conflict.mark_of(variable) {
+            Mark::Redundant => {
+                self.conflict.remark(variable, Mark::Resolved);
+                Ok(())
+            }
+            Mark::Unseen => self.meet(literal),
+            _ => Ok(()),
+        }
+    }
+
+    // the literals of a redundant variable's reason
+    fn bring_reason(&mut self, reason: u32, except: usize) -> Result<(), OutOfMemory> {
+        let span = self.arena.span(reason);
+        let first = span.start as usize;
+        for place in first..first + span.count as usize {
+            let literal = self.arena.literal(place);
+            if literal.variable() != except {
+                self.bring(literal)?;
+            }
+        }
+        Ok(())
+    }
+
+    // resolves the redundant literals away, the latest first
+    fn resolve_redundant(&mut self) -> Result<(), OutOfMemory> {
+        let count = self.conflict.places.len();
+        for back in 0..count {
+            let place = at(&self.conflict.places, count - 1 - back, 0);
+            let literal = at(&self.values.trail, place as usize, NONE);
+            let variable = literal.variable();
+            if matches!(self.conflict.mark_of(variable), Mark::Resolved) {
+                let reason = self.values.cause(variable).reason;
+                self.conflict
+                    .step(reason.wrapping_add(1), literal.code / 2)?;
+                self.bring_reason(reason, variable)?;
+            }
+        }
+        Ok(())
+    }
+
+    // logs the chain of the learned clause, from the clause at an index
+    fn close_chain(&mut self, start: u32) -> Result<(), OutOfMemory> {
+        for step in self.conflict.steps.as_slice() {
+            self.log.push_step(step.with, step.on)?;
+        }
+        self.log.close(start.wrapping_add(1))
+    }
+
+    // moves a literal of the highest level of the learned clause, but for its first, to the second place: that level
+    fn second_level(&mut self) -> u32 {
+        let mut level = 0;
+        let learned = &mut self.conflict.learned;
+        for place in 1..learned.len() {
+            let literal = at(learned, place, NONE);
+            let found = self.values.cause(literal.variable()).level;
+            if found > level {
+                level = found;
+                let second = at(learned, 1, NONE);
+                put(learned, place, second);
+                put(learned, 1, literal);
+            }
+        }
+        level
+    }
+
+    // goes back to where the learned clause is a unit, and makes its first literal true
+    fn go_back(&mut self, asserting: Lit) -> Result<(), OutOfMemory> {
+        let level = self.second_level();
+        let clause = self.arena.push(&self.conflict.learned)?;
+        self.reduction.add(self.conflict.levels)?;
+        self.cancel_until(level)?;
+        if self.conflict.learned.len() < 2 {
+            let _ = self.assert_unit(clause)?;
+            return Ok(());
+        }
+        self.attach(clause)?;
+        self.values.assign(asserting, clause)
+    }
+
+    /// Derives a clause from a conflict, logs its chain and goes back.
+    pub fn learn(&mut self, conflict: u32) -> Result<(), OutOfMemory> {
+        self.conflict.clear();
+        self.conflict.learned.push(NONE)?;
+        self.meet_clause(conflict, 0)?;
+        let Some(asserting) = self.resolve_back()? else {
+            return Ok(());
+        };
+        put(&mut self.conflict.learned, 0, asserting);
+        self.minimize()?;
+        self.resolve_redundant()?;
+        self.resolve_fixed()?;
+        self.close_chain(conflict)?;
+        self.go_back(asserting)?;
+        self.order.decay();
+        Ok(())
+    }
+
+    // resolves the literals of level 0 away, the latest first
+    fn resolve_fixed(&mut self) -> Result<(), OutOfMemory> {
+        if self.conflict.fixed == 0 {
+            return Ok(());
+        }
+        let end = self.values.end_of(0);
+        for back in 0..end {
+            let literal = at(&self.values.trail, end - 1 - back, NONE);
+            let variable = literal.variable();
+            if !self.conflict.is_unseen(variable) {
+                let reason = self.values.cause(variable).reason;
+                self.conflict
+                    .step(reason.wrapping_add(1), literal.code / 2)?;
+                self.meet_clause(reason, variable)?;
+            }
+        }
+        Ok(())
+    }
+
+    /// Derives the empty clause from a conflict at level 0.
+    pub fn refute(&mut self, conflict: u32) -> Result<(), OutOfMemory> {
+        self.conflict.clear();
+        self.meet_clause(conflict, 0)?;
+        self.resolve_fixed()?;
+        self.close_chain(conflict)?;
+        let _ = self.arena.push(&[])?;
+        self.reduction.add(0)
+    }
+}

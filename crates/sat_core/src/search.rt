@@ -1,0 +1,322 @@
+// The search: units by two watched literals of each clause, decisions by activity, and what conflicts teach.
+use crate::arena::{Arena, Span};
+use crate::cells::{at, put};
+use crate::conflict::Conflict;
+use crate::lit::Lit;
+use crate::log::Log;
+use crate::order::Order;
+use crate::reduce::Reduction;
+use crate::restart::Restart;
+use crate::values::{Value, Values};
+use crate::watches::{NO_WATCH, Watch, Watches};
+use clauses::{Clause, Cnf, Refutation};
+use std::alloc::Global;
+use wv_base::{OutOfMemory, Seq};
+
+#[derive(Drop)]
+pub struct Search {
+    pub alloc: Global,
+    pub given: u32,
+    pub arena: Arena,
+    pub watches: Watches,
+    pub values: Values,
+    pub order: Order,
+    pub conflict: Conflict,
+    pub log: Log,
+    pub restart: Restart,
+    pub reduction: Reduction,
+    /// whether all learned clauses are kept
+    pub keeps: bool,
+    /// one more than there are variables
+    pub many: usize,
+}
+
+/// What became of a watch.
+enum Visit {
+    Kept(Watch),
+    Moved,
+    Conflict(Watch),
+}
+
+impl Search {
+    fn new(alloc: Global, variables: u32, keeps: bool) -> Result<Search, OutOfMemory> {
+        Ok(Search {
+            alloc,
+            given: 0,
+            arena: Arena::new(alloc),
+            watches: Watches::new(alloc, variables)?,
+            values: Values::new(alloc, variables)?,
+            order: Order::new(alloc, variables)?,
+            conflict: Conflict::new(alloc, variables)?,
+            log: Log::new(alloc),
+            restart: Restart::new(),
+            reduction: Reduction::new(alloc),
+            keeps,
+            many: variables as usize + 1,
+        })
+    }
+
+    /// Watches the first two literals of a clause.
+    pub fn attach(&mut self, clause: u32) -> Result<(), OutOfMemory> {
+        let first = self.arena.span(clause).start as usize;
+        let one = self.arena.literal(first);
+        let other = self.arena.literal(first + 1);
+        self.watches.add(
+            one,
+            Watch {
+                clause,
+                blocker: other,
+            },
+        )?;
+        self.watches.add(
+            other,
+            Watch {
+                clause,
+                blocker: one,
+            },
+        )
+    }
+
+    /// Makes the literal of a unit clause true: whether it was false.
+    pub fn assert_unit(&mut self, clause: u32) -> Result<bool, OutOfMemory> {
+        let literal = self.arena.literal(self.arena.span(clause).start as usize);
+        match self.values.value(literal) {
+            Value::True => Ok(false),
+            Value::False => Ok(true),
+            Value::Open => {
+                self.values.assign(literal, clause)?;
+                Ok(false)
+            }
+        }
+    }
+
+    // a given clause: whether all its literals are false
+    fn add_given(&mut self, clause: &Clause) -> Result<Option<u32>, OutOfMemory> {
+        let index = self.arena.push_given(clause)?;
+        self.reduction.add(0)?;
+        self.given = index.wrapping_add(1);
+        let count = clause.numbers().len();
+        if count >= 2 {
+            self.attach(index)?;
+            return Ok(None);
+        }
+        if count == 0 || self.assert_unit(index)? {
+            return Ok(Some(index));
+        }
+        Ok(None)
+    }
+
+    // all given clauses: one whose literals are all false
+    fn add_all(&mut self, given: &Seq<Clause>) -> Result<Option<u32>, OutOfMemory> {
+        let mut conflict = None;
+        for clause in given.as_slice() {
+            let found = self.add_given(clause)?;
+            if conflict.is_none() {
+                conflict = found;
+            }
+        }
+        Ok(conflict)
+    }
+
+    // a literal behind the first two of a clause that isn't false
+    #[inline(always)]
+    fn another_watch(&self, span: Span) -> Option<usize> {
+        let first = span.start as usize;
+        for place in first + 2..first + span.count as usize {
+            if !self.values.is_false(self.arena.literal(place)) {
+                return Some(place);
+            }
+        }
+        None
+    }
+
+    // looks at a clause, one of whose watched literals became false
+    fn visit(&mut self, watch: Watch, gone: Lit) -> Result<Visit, OutOfMemory> {
+        let clause = watch.clause;
+        let span = self.arena.span(clause);
+        let first = span.start as usize;
+        let mut other = self.arena.literal(first);
+        if other.code == gone.code {
+            other = self.arena.literal(first + 1);
+            self.arena.set_literal(first, other);
+            self.arena.set_literal(first + 1, gone);
+        }
+        let kept = Watch {
+            clause,
+            blocker: other,
+        };
+        if self.values.is_true(other) {
+            return Ok(Visit::Kept(kept));
+        }
+        if let Some(place) = self.another_watch(span) {
+            let next = self.arena.literal(place);
+            self.arena.set_literal(first + 1, next);
+            self.arena.set_literal(place, gone);
+            self.watches.add(next, kept)?;
+            return Ok(Visit::Moved);
+        }
+        if self.values.is_false(other) {
+            return Ok(Visit::Conflict(kept));
+        }
+        self.values.assign(other, clause)?;
+        Ok(Visit::Kept(kept))
+    }
+
+    // looks at all clauses that watch a literal, which became false: a conflict
+    fn visit_all(&mut self, gone: Lit) -> Result<Option<u32>, OutOfMemory> {
+        let mut list = self.watches.take(self.alloc, gone);
+        let mut conflict = None;
+        let mut kept = 0usize;
+        for place in 0..list.len() {
+            let watch = at(&list, place, NO_WATCH);
+            let mut stays = watch;
+            if conflict.is_none() && !self.values.is_true(watch.blocker) {
+                match self.visit(watch, gone)? {
+                    Visit::Kept(next) => stays = next,
+                    Visit::Moved => continue,
+                    Visit::Conflict(next) => {
+                        stays = next;
+                        conflict = Some(watch.clause);
+                    }
+                }
+            }
+            put(&mut list, kept, stays);
+            kept = kept.wrapping_add(1);
+        }
+        list.truncate(kept);
+        self.watches.give_back(gone, list);
+        Ok(conflict)
+    }
+
+    /// Makes units true until none is left, or until all literals of a clause are false: its index.
+    pub fn propagate(&mut self) -> Result<Option<u32>, OutOfMemory> {
+        for _ in 0..self.many {
+            let head = self.values.head;
+            if head >= self.values.trail.len() {
+                return Ok(None);
+            }
+            let literal = self.values.trail[head];
+            self.values.head = head + 1;
+            if let Some(conflict) = self.visit_all(literal.opposite())? {
+                return Ok(Some(conflict));
+            }
+        }
+        Ok(None)
+    }
+
+    /// Takes back the values of all levels above one.
+    pub fn cancel_until(&mut self, level: u32) -> Result<(), OutOfMemory> {
+        for _ in self.values.end_of(level)..self.values.trail.len() {
+            if let Some(variable) = self.values.take_back() {
+                self.order.insert(variable)?;
+            }
+        }
+        self.values.end_levels(level);
+        Ok(())
+    }
+
+    // the next variable without a value
+    fn pick_branch(&mut self) -> Option<u32> {
+        for _ in 0..self.many {
+            let variable = self.order.pop()?;
+            if matches!(
+                self.values.value(Lit::of_variable(variable, true)),
+                Value::Open
+            ) {
+                return Some(variable);
+            }
+        }
+        None
+    }
+
+    // propagates and decides until there is a conflict, or nothing to decide
+    fn next_conflict(&mut self) -> Result<Option<u32>, OutOfMemory> {
+        for _ in 0..self.many {
+            if let Some(conflict) = self.propagate()? {
+                return Ok(Some(conflict));
+            }
+            let Some(variable) = self.pick_branch() else {
+                return Ok(None);
+            };
+            let value = self.values.phase(variable as usize);
+            self.values.decide(Lit::of_variable(variable, value))?;
+        }
+        Ok(None)
+    }
+
+    // the values of the variables in order
+    fn model(&self) -> Result<Seq<bool>, OutOfMemory> {
+        let mut values = Seq::new(self.alloc);
+        for variable in 1..self.many {
+            values.push(self.values.has_value(variable, true))?;
+        }
+        Ok(values)
+    }
+
+    // all clauses learned, until one is empty or the budget is spent: whether one is
+    fn run(&mut self, budget: u64) -> Result<Found, OutOfMemory> {
+        for _ in 0..budget {
+            let Some(conflict) = self.next_conflict()? else {
+                return Ok(Found::Model);
+            };
+            if self.values.level() == 0 {
+                self.refute(conflict)?;
+                return Ok(Found::Refuted);
+            }
+            self.learn(conflict)?;
+            if self.log.count() as u64 >= budget {
+                break;
+            }
+            self.start_again()?;
+        }
+        Ok(Found::Nothing)
+    }
+
+    // goes back to level 0 where it is time, and drops clauses where it is time for that
+    fn start_again(&mut self) -> Result<(), OutOfMemory> {
+        self.reduction.count();
+        if self.restart.is_due() {
+            self.cancel_until(0)?;
+            if !self.keeps && self.reduction.is_due() {
+                self.reduce()?;
+            }
+        }
+        Ok(())
+    }
+}
+
+/// What the search came to.
+#[derive(Clone, Copy)]
+enum Found {
+    Model,
+    Refuted,
+    Nothing,
+}
+
+/// What the search says. Nothing is known of it until it is checked.
+#[derive(Drop)]
+pub enum Outcome {
+    Model(Seq<bool>),
+    Refuted(Refutation),
+    Nothing,
+}
+
+/// Looks for values that satisfy every clause, or for a refutation, by at most `budget` conflicts.
+pub fn find(alloc: Global, cnf: &Cnf, budget: u64) -> Result<Outcome, OutOfMemory> {
+    let mut search = Search::new(alloc, cnf.variables, false)?;
+    let found = match search.add_all(&cnf.clauses)? {
+        None => search.run(budget)?,
+        Some(conflict) => {
+            search.refute(conflict)?;
+            Found::Refuted
+        }
+    };
+    match found {
+        Found::Model => Ok(Outcome::Model(search.model()?)),
+        Found::Nothing => Ok(Outcome::Nothing),
+        Found::Refuted => match search.log.publish(alloc, &search.arena, search.given)? {
+            Some(log) => Ok(Outcome::Refuted(log)),
+            None => Ok(Outcome::Nothing),
+        },
+    }
+}

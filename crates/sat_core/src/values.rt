@@ -1,0 +1,151 @@
+// The values of literals, the order in which they came, and why.
+use crate::arena::NO_CLAUSE;
+use crate::cells::{at, filled, put};
+use crate::lit::Lit;
+use std::alloc::Global;
+use wv_base::OutOfMemory;
+
+#[derive(Clone, Copy)]
+pub enum Value {
+    Open,
+    True,
+    False,
+}
+
+/// Of a variable that has a value: its level, the clause that forced it or `NO_CLAUSE`, and its place on the trail.
+#[derive(Clone, Copy)]
+pub struct Cause {
+    pub level: u32,
+    pub reason: u32,
+    pub place: u32,
+}
+
+const NO_CAUSE: Cause = Cause {
+    level: 0,
+    reason: NO_CLAUSE,
+    place: 0,
+};
+
+#[derive(Drop)]
+pub struct Values {
+    values: Vec<Value>,
+    causes: Vec<Cause>,
+    pub trail: Vec<Lit>,
+    /// where the trail of each level above 0 begins
+    begins: Vec<u32>,
+    /// the value that each variable had last
+    phases: Vec<bool>,
+    /// how much of the trail is propagated
+    pub head: usize,
+}
+
+impl Values {
+    pub fn new(alloc: Global, variables: u32) -> Result<Values, OutOfMemory> {
+        let many = variables as usize + 1;
+        Ok(Values {
+            values: filled(alloc, 2 * many, Value::Open)?,
+            causes: filled(alloc, many, NO_CAUSE)?,
+            trail: Vec::new(alloc),
+            begins: Vec::new(alloc),
+            phases: filled(alloc, many, false)?,
+            head: 0,
+        })
+    }
+
+    #[inline(always)]
+    pub fn value(&self, literal: Lit) -> Value {
+        at(&self.values, literal.index(), Value::Open)
+    }
+
+    #[inline(always)]
+    pub fn is_false(&self, literal: Lit) -> bool {
+        matches!(self.value(literal), Value::False)
+    }
+
+    #[inline(always)]
+    pub fn is_true(&self, literal: Lit) -> bool {
+        matches!(self.value(literal), Value::True)
+    }
+
+    /// Whether a variable has a value.
+    pub fn has_value(&self, variable: usize, value: bool) -> bool {
+        if variable < 0x8000_0000 {
+            self.is_true(Lit::of_variable(variable as u32, value))
+        } else {
+            false
+        }
+    }
+
+    #[inline(always)]
+    pub fn cause(&self, variable: usize) -> Cause {
+        at(&self.causes, variable, NO_CAUSE)
+    }
+
+    pub fn phase(&self, variable: usize) -> bool {
+        at(&self.phases, variable, false)
+    }
+
+    /// The level of the latest decision.
+    pub fn level(&self) -> u32 {
+        let levels = self.begins.len();
+        if levels < 0xffff_ffff {
+            levels as u32
+        } else {
+            0xffff_ffff
+        }
+    }
+
+    /// Where the trail of a level ends.
+    pub fn end_of(&self, level: u32) -> usize {
+        let all = self.trail.len();
+        let level = level as usize;
+        if level < self.begins.len() {
+            self.begins[level] as usize
+        } else {
+            all
+        }
+    }
+
+    /// Makes a literal true.
+    pub fn assign(&mut self, literal: Lit, reason: u32) -> Result<(), OutOfMemory> {
+        let place = self.trail.len();
+        if place > 0xffff_fff0 {
+            return Err(OutOfMemory);
+        }
+        let cause = Cause {
+            level: self.level(),
+            reason,
+            place: place as u32,
+        };
+        put(&mut self.values, literal.index(), Value::True);
+        put(&mut self.values, literal.opposite().index(), Value::False);
+        put(&mut self.causes, literal.variable(), cause);
+        self.trail.push(literal)?;
+        Ok(())
+    }
+
+    /// Begins a level.
+    pub fn decide(&mut self, literal: Lit) -> Result<(), OutOfMemory> {
+        let place = self.trail.len();
+        if place > 0xffff_fff0 {
+            return Err(OutOfMemory);
+        }
+        self.begins.push(place as u32)?;
+        self.assign(literal, NO_CLAUSE)
+    }
+
+    /// Takes back the latest value: its variable.
+    pub fn take_back(&mut self) -> Option<u32> {
+        let literal = self.trail.pop()?;
+        put(&mut self.values, literal.index(), Value::Open);
+        put(&mut self.values, literal.opposite().index(), Value::Open);
+        put(&mut self.phases, literal.variable(), !literal.is_negative());
+        Some(literal.code / 2)
+    }
+
+    /// Ends all levels above this one.
+    pub fn end_levels(&mut self, level: u32) {
+        self.begins.truncate(level as usize);
+        self.head = self.trail.len();
+    }
+}
