@@ -9,7 +9,7 @@ use Rattle.c_core.specs.declared.number.IntType.{IntType}
 use Rattle.c_core.specs.declared.number.Spot.{Spot}
 use Rattle.c_core.specs.declared.tree.Function.{Function as TypedFunction}
 use Rattle.c_parser.specs.SourceView.{item_view}
-use Rattle.c_parser.specs.Tree.{Item, Function, Param, Stm}
+use Rattle.c_expressions.specs.Tree.{Item, Function, Param, Stm}
 use Rattle.c_parser.specs.declared.item.Item.{Item as RawItem}
 use Rattle.check_rules.specs.First.{has_none, is_result_of_main, unless_fit, wrong_main}
 use Rattle.c_check.specs.Checking.{names_of}

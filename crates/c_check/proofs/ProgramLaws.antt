@@ -9,7 +9,7 @@ use Rattle.c_core.specs.declared.number.DataModel.{DataModel}
 use Rattle.c_core.specs.declared.number.Property.{Property}
 use Rattle.c_core.specs.declared.tree.Object.{Object}
 use Rattle.c_core.specs.declared.tree.Start.{Start}
-use Rattle.c_parser.specs.Tree as raw
+use Rattle.c_expressions.specs.Tree as raw
 use Rattle.check_rules.specs.Checked.{HasProgram, functions_of, program_of, starts_of}
 use Rattle.check_rules.specs.First.{IsUnrefused, wrong_main}
 use Rattle.check_rules.specs.Parts.{bodies_of}

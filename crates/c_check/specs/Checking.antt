@@ -5,7 +5,7 @@ use Rattle.c_core.specs.declared.number.DataModel.{DataModel}
 use Rattle.c_core.specs.declared.number.Property.{Property}
 use Rattle.c_core.specs.declared.program.Program.{Program}
 use Rattle.c_core.specs.declared.tree.Function.{Function}
-use Rattle.c_parser.specs.Tree as raw
+use Rattle.c_expressions.specs.Tree as raw
 use Rattle.check_rules.specs.Checked.{HasProgram}
 use Rattle.check_rules.specs.First.{Refuses, refusal}
 use Rattle.check_rules.specs.declared.fault.CheckFault.{CheckFault}

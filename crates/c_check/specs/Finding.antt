@@ -4,7 +4,7 @@ use Rattle.c_check.specs.Checking.{names_of}
 use Rattle.c_core.specs.View.{functions_view}
 use Rattle.c_core.specs.declared.number.DataModel.{DataModel}
 use Rattle.c_core.specs.declared.number.Spot.{Spot}
-use Rattle.c_parser.specs.Tree as raw
+use Rattle.c_expressions.specs.Tree as raw
 use Rattle.check_rules.specs.declared.fault.Refusal.{Refusal}
 use Rattle.check_rules.specs.Checked.{functions_of, starts_of}
 use Rattle.check_rules.specs.First.{IsFirst, IsUnrefused}

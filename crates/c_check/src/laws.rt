@@ -4,7 +4,7 @@ ghost use Rattle.c_check.specs.Checking.{Answers, AreSame};
 ghost use Rattle.c_core.specs.declared.number.DataModel.{DataModel};
 ghost use Rattle.c_core.specs.declared.number.Property.{Property};
 ghost use Rattle.c_core.specs.declared.program.Program.{Program};
-ghost use Rattle.c_parser.specs.Tree as raw;
+ghost use Rattle.c_expressions.specs.Tree as raw;
 ghost use Rattle.check_rules.specs.declared.fault.CheckFault.{CheckFault};
 
 /// A source has one answer in a data model and under a property, other than want of memory.

@@ -1,7 +1,7 @@
 // The refusals of a source: those that the walk found, and those by the order of operands.
 ghost use Rattle.std.specs.Prelude.{◌≡◌, List, IfOk};
 ghost use Rattle.c_core.specs.declared.number.DataModel.{DataModel};
-ghost use Rattle.c_parser.specs.Tree as raw;
+ghost use Rattle.c_expressions.specs.Tree as raw;
 ghost use Rattle.c_check.specs.Finding.{IsFirstOf, IsWalk, orders_noted};
 
 use c_core::Spot;

@@ -5,7 +5,7 @@ use Rattle.c_core.specs.TextOrder.{rises, whole}
 use Rattle.c_core.proofs.TextOrderLaws.{IsPart, skips, takes, part_none, rises-part}
 use Rattle.c_core.specs.declared.number.Spot.{Spot}
 use Rattle.c_tokens.specs.declared.token.Token.{Token}
-use Rattle.c_parser.specs.Signs.{place}
+use Rattle.c_expressions.specs.Signs.{place}
 use Rattle.c_parser.specs.TextOrder.{tokens_rise}
 use Rattle.c_parser.proofs.SpotLaws.{same_spot_self, same_spot_only}
 

@@ -9,13 +9,13 @@ use Rattle.c_tokens.specs.declared.token.TokenKind.{TokenKind}
 use Rattle.c_tokens.specs.declared.token.TokenKind.TheVariants as kind
 use Rattle.c_tokens.specs.declared.token.Punct.{Punct}
 use Rattle.c_tokens.specs.declared.token.Punct.TheVariants as sign
-use Rattle.c_parser.specs.Tree.{Exp}
-use Rattle.c_parser.specs.Signs.{is_sign, is_word, steps_before, signs}
-use Rattle.c_parser.specs.Words.{is_name}
-use Rattle.c_parser.specs.Expressions.{Expression, Stronger, Joined, Assigned, Chosen, SteppedBefore, Signed, Converted, SteppedBehind, AName, AnElement, ABareCall, ACall, ANumber, ACharacter, AGroup, Within, has_room}
+use Rattle.c_expressions.specs.Tree.{Exp}
+use Rattle.c_expressions.specs.Signs.{is_sign, is_word, steps_before, signs}
+use Rattle.c_expressions.specs.Words.{is_name}
+use Rattle.c_expressions.specs.Expressions.{Expression, Stronger, Joined, Assigned, Chosen, SteppedBefore, Signed, Converted, SteppedBehind, AName, AnElement, ABareCall, ACall, ANumber, ACharacter, AGroup, Within, has_room}
 use Rattle.c_parser.specs.Declarations.{begins_declaration, is_part}
-use Rattle.c_parser.proofs.SignLaws.{taken}
-use Rattle.c_parser.proofs.WordLaws.{not_spelled}
+use Rattle.c_expressions.proofs.SignLaws.{taken}
+use Rattle.c_expressions.proofs.WordLaws.{not_spelled}
 use Rattle.c_parser.proofs.DeclarationLaws.{name_is_no_part}
 
 abbrev pub may_begin_sign : Punct → Bool

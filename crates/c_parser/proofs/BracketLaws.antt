@@ -5,8 +5,8 @@ use Rattle.c_core.specs.declared.number.Spot.{Spot}
 use Rattle.c_tokens.specs.declared.token.Token.{Token}
 use Rattle.c_tokens.specs.declared.token.Punct.{Punct}
 use Rattle.c_tokens.specs.declared.token.Punct.TheVariants as sign
-use Rattle.c_parser.specs.Signs.{sign_of, same_sign, sign_token, number_of_sign}
-use Rattle.c_parser.specs.Brackets.{Opening, Closing, bracket_of, bracket, Passed, NothingPassed, OnePassed, PairPassed, PassedWithin, stacked, skipped, behind}
+use Rattle.c_expressions.specs.Signs.{sign_of, same_sign, sign_token, number_of_sign}
+use Rattle.c_expressions.specs.Brackets.{Opening, Closing, bracket_of, bracket, Passed, NothingPassed, OnePassed, PairPassed, PassedWithin, stacked, skipped, behind}
 
 pub closes_of : (o : Option Punct) (c : Punct) → bracket_of o ≡ Opening c → bracket_of (Some c) ≡ Closing c
 closes_of (Some sign.ParenOpen) c e = let f : sign.ParenClose ≡ c = cc in subst (λ (x : Punct). bracket_of (Some x) ≡ Closing x) f refl

@@ -5,10 +5,10 @@ use Rattle.c_core.specs.declared.number.Spot.{Spot}
 use Rattle.c_tokens.specs.declared.token.Token.{Token}
 use Rattle.c_tokens.specs.declared.token.Punct.{Punct}
 use Rattle.c_tokens.specs.declared.token.Punct.TheVariants as sign
-use Rattle.c_parser.specs.Tree.{Item}
-use Rattle.c_parser.specs.Signs.{◌>>=◌, sign_of, is_sign, sign_token}
-use Rattle.c_parser.specs.Brackets.{Bracket, Opening, Closing, bracket_of, bracket, Passed, NothingPassed, OnePassed, PairPassed, PassedWithin, stacked}
-use Rattle.c_parser.specs.ReadExpressions.{Read}
+use Rattle.c_expressions.specs.Tree.{Item}
+use Rattle.c_expressions.specs.Signs.{◌>>=◌, sign_of, is_sign, sign_token}
+use Rattle.c_expressions.specs.Brackets.{Bracket, Opening, Closing, bracket_of, bracket, Passed, NothingPassed, OnePassed, PairPassed, PassedWithin, stacked}
+use Rattle.c_expressions.specs.ReadExpressions.{Read}
 use Rattle.c_parser.specs.Items.{outside, depth_behind, has_semicolon, Closed, AClosed}
 use Rattle.c_parser.specs.ReadItems.{is_end, to_semicolon, is_closed, read_closed}
 use Rattle.c_parser.proofs.BracketLaws.{closes_of, same_self, within_room}
@@ -39,9 +39,6 @@ record Taken (b : ℕ) (c : Punct) (stack : List Punct) (ts mid : List Token) : 
   whole : ts ≡ taken ++ mid
   scanned : (us : List Token) → to_semicolon b (c ∷ stack) (taken ++ us) ≡ put taken (to_semicolon b (c ∷ stack) us)
   inside : (us : List Token) → outside (suc (length stack)) (taken ++ us) ≡ outside (suc (length stack)) us
-
-closing_bracket : (d : Punct) (q : Spot) → bracket_of (Some d) ≡ Closing d → bracket (sign_token d q) ≡ Closing d
-closing_bracket d q e = e
 
 module _ (b r : ℕ) (Inner : List Token → List Token → Type 0)
     (room : (ts rest : List Token) → Inner ts rest → 1 ≤ r)

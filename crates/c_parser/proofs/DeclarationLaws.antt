@@ -5,15 +5,15 @@ use Rattle.c_core.specs.declared.number.IntType.{IntType}
 use Rattle.c_core.specs.declared.number.Spot.{Spot}
 use Rattle.c_tokens.specs.declared.token.Token.{Token}
 use Rattle.c_tokens.specs.declared.token.Punct.TheVariants as sign
-use Rattle.c_parser.specs.Tree.{Exp, exps, Init, Declared}
-use Rattle.c_parser.specs.Heights.{height, heights, height_if, height_of_init, height_of_declared}
-use Rattle.c_parser.specs.Signs.{sign_token, word_at, is_sign}
-use Rattle.c_parser.specs.Words.{is_name, is_attribute, may_specify, TypeWord, type_word}
-use Rattle.c_parser.specs.Brackets.{Passed, NothingPassed, OnePassed, PairPassed, PassedWithin}
-use Rattle.c_parser.specs.ReadExpressions.{Read}
+use Rattle.c_expressions.specs.Tree.{Exp, exps, Init, Declared}
+use Rattle.c_expressions.specs.Heights.{height, heights, height_if, height_of_init, height_of_declared}
+use Rattle.c_expressions.specs.Signs.{sign_token, word_at, is_sign}
+use Rattle.c_expressions.specs.Words.{is_name, is_attribute, may_specify, TypeWord, type_word}
+use Rattle.c_expressions.specs.Brackets.{Passed, NothingPassed, OnePassed, PairPassed, PassedWithin}
+use Rattle.c_expressions.specs.ReadExpressions.{Read}
 use Rattle.c_parser.specs.Declarations.{Attributes, NoMoreAttributes, AnAttribute, Specifiers, NoMoreSpecifiers, ATypeWord, ASpecifier, AnAttributeBefore, Typed, Size, NoSize, ASize, Values, LastValue, LastValueAndComma, MoreValues, Initializer, NoInitializer, OneValue, AList, Declarator, ADeclarator, Declarators, LastDeclarator, MoreDeclarators, Declaration, ADeclaration, NoPart, TypePart, OtherPart, AttributePart, part_of_word, part_of, part_at, is_spelled_attribute, behind_pair, behind_attributes, read_specifiers, read_type, read_size, read_values, read_value, read_initializer, read_declarator, read_declarators, read_declaration}
-use Rattle.c_parser.proofs.SignLaws.{grip}
-use Rattle.c_parser.proofs.WordLaws.{no_type_word, specifier_no_type, attribute_no_type, attribute_no_specifier, name_no_specifier, name_no_attribute}
+use Rattle.c_expressions.proofs.SignLaws.{grip}
+use Rattle.c_expressions.proofs.WordLaws.{no_type_word, specifier_no_type, attribute_no_type, attribute_no_specifier, name_no_specifier, name_no_attribute}
 use Rattle.c_parser.proofs.BracketLaws.{behind_passed}
 
 -- what a word is among specifiers

@@ -6,11 +6,11 @@ use Rattle.c_core.specs.declared.number.Spot.{Spot}
 use Rattle.c_tokens.specs.declared.token.Token.{Token}
 use Rattle.c_tokens.specs.declared.token.TokenKind.TheVariants as kind
 use Rattle.c_tokens.specs.declared.token.Punct.{Punct}
-use Rattle.c_parser.specs.Tree.{Exp, Expr, Node, exps, moved}
-use Rattle.c_parser.specs.Tree as node
+use Rattle.c_expressions.specs.Tree.{Exp, Expr, Node, exps, moved}
+use Rattle.c_expressions.specs.Tree as node
 use Rattle.c_parser.specs.Formed.{every_node, every_part, every_argument}
-use Rattle.c_parser.specs.Signs.{token, Joint, Sequence, Both, Either, Plain, joined, assigns}
-use Rattle.c_parser.specs.Expressions.{Arguments, LastArgument, MoreArguments, Expression, Stronger, Joined, Assigned, Chosen, SteppedBefore, Signed, Converted, SteppedBehind, AName, AnElement, ABareCall, ACall, ANumber, ACharacter, AGroup, Within, has_room, Spells}
+use Rattle.c_expressions.specs.Signs.{token, Joint, Sequence, Both, Either, Plain, joined, assigns}
+use Rattle.c_expressions.specs.Expressions.{Arguments, LastArgument, MoreArguments, Expression, Stronger, Joined, Assigned, Chosen, SteppedBefore, Signed, Converted, SteppedBehind, AName, AnElement, ABareCall, ACall, ANumber, ACharacter, AGroup, Within, has_room, Spells}
 use Rattle.c_parser.proofs.OrderedExpressions.{names_passed}
 use Rattle.c_parser.proofs.Passing.{Passing, and_true, nothing_passed, past, both, up_to, from, alone, along_passing}
 

@@ -7,13 +7,14 @@ use Rattle.c_tokens.specs.Numbers.{is_spelled}
 use Rattle.c_tokens.specs.declared.token.Token.{Token}
 use Rattle.c_tokens.specs.declared.token.Punct.{Punct}
 use Rattle.c_tokens.specs.declared.token.Punct.TheVariants as sign
-use Rattle.c_parser.specs.Tree.{Node, Item}
-use Rattle.c_parser.specs.Tree as item
+use Rattle.c_expressions.specs.Tree.{Node, Item}
+use Rattle.c_expressions.specs.Tree as item
 use Rattle.c_parser.specs.Formed.{every_in_item, has_block, item_nests, constant_fits, assignment_fits, IsFormed, AreOrderly, constants_fit}
-use Rattle.c_parser.specs.Signs.{assigns}
+use Rattle.c_expressions.specs.Signs.{assigns}
 use Rattle.c_parser.specs.Items.{Reach, AReach, Function, AFunction, Prototype, APrototype, Global, AGlobal, Closed, AClosed, Nothing, ASemicolon, reach_error}
-use Rattle.c_parser.specs.Sources.{Takes, TakesReach, TakesFunction, TakesPrototype, TakesGlobal, TakesClosed, TakesNothing, with_item, Items, NoMoreItems, MoreItems, IsSource, max_height, max_brackets}
-use Rattle.c_parser.proofs.SignLaws.{some_same}
+use Rattle.c_parser.specs.Sources.{Takes, TakesReach, TakesFunction, TakesPrototype, TakesGlobal, TakesClosed, TakesNothing, with_item, Items, NoMoreItems, MoreItems, IsSource}
+use Rattle.c_expressions.specs.Limits.{max_height, max_brackets}
+use Rattle.c_expressions.proofs.SignLaws.{some_same}
 use Rattle.c_parser.proofs.Passing.{Passing, and_true, nothing_passed, past, up_to, from, along_passing}
 use Rattle.c_parser.proofs.OrderedStatements.{attributes_along, typed_along}
 use Rattle.c_parser.proofs.OrderedItems.{parameters_within_along, takes_along, source_rises}

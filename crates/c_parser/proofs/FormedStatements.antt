@@ -3,11 +3,11 @@ use Rattle.std.proofs.Common.{◌≡◌, ℕ, zero, suc, List, [], ◌∷◌, Bo
 use Rattle.c_core.proofs.TextOrderLaws.{left, right}
 use Rattle.c_core.specs.declared.number.IntType.{IntType}
 use Rattle.c_tokens.specs.declared.token.Token.{Token}
-use Rattle.c_parser.specs.Tree.{Exp, exps, Node, Init, Declared, First, Stm, stms}
+use Rattle.c_expressions.specs.Tree.{Exp, exps, Node, Init, Declared, First, Stm, stms}
 use Rattle.c_parser.specs.Formed.{every_node, every_argument, every_if, every_in_init, every_in_declared, every_in_first, every_in_statement, every_in_block}
-use Rattle.c_parser.specs.Signs.{expr}
-use Rattle.c_parser.specs.Brackets.{PassedWithin}
-use Rattle.c_parser.specs.Expressions.{Within, Spells}
+use Rattle.c_expressions.specs.Signs.{expr}
+use Rattle.c_expressions.specs.Brackets.{PassedWithin}
+use Rattle.c_expressions.specs.Expressions.{Within, Spells}
 use Rattle.c_parser.specs.Declarations.{Size, NoSize, ASize, Values, LastValue, LastValueAndComma, MoreValues, Initializer, NoInitializer, OneValue, AList, Declarator, ADeclarator, Declarators, LastDeclarator, MoreDeclarators, ADeclaration}
 use Rattle.c_parser.specs.Statements.{Parts, Optional, NoExpression, AnExpression, FirstPart, DeclaredFirst, ExpressionFirst, NothingFirst, ForParts, AllParts, Statement, AnEmpty, AnExpressionStatement, ABlock, ABreak, AContinue, AReturn, AReturnOf, ALabel, AnIf, AnIfElse, AWhile, ADo, AFor, Element, ADeclarationStatement, AStatement, Elements, NoMoreElements, MoreElements, Declares, HeaderWithin, BracedWithin}
 use Rattle.c_parser.proofs.OrderedStatements.{typed_along}

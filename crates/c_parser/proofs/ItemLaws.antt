@@ -7,18 +7,18 @@ use Rattle.c_core.specs.declared.number.Spot.{Spot}
 use Rattle.c_tokens.specs.declared.token.Token.{Token}
 use Rattle.c_tokens.specs.declared.token.Punct.{Punct}
 use Rattle.c_tokens.specs.declared.token.Punct.TheVariants as sign
-use Rattle.c_parser.specs.Tree.{Declared, Stm, Stmt, Block, stms, Param, Item}
-use Rattle.c_parser.specs.Heights.{height_of_block, height_of_declared, height_if, height_of_init}
-use Rattle.c_parser.specs.Signs.{sign_token, word_token, is_sign, is_word}
-use Rattle.c_parser.specs.Brackets.{PassedWithin}
-use Rattle.c_parser.specs.ReadExpressions.{Read}
+use Rattle.c_expressions.specs.Tree.{Declared, Stm, Stmt, Block, stms, Param, Item}
+use Rattle.c_expressions.specs.Heights.{height_of_block, height_of_declared, height_if, height_of_init}
+use Rattle.c_expressions.specs.Signs.{sign_token, word_token, is_sign, is_word}
+use Rattle.c_expressions.specs.Brackets.{PassedWithin}
+use Rattle.c_expressions.specs.ReadExpressions.{Read}
 use Rattle.c_parser.specs.Declarations.{read_type}
 use Rattle.c_parser.specs.Statements.{BracedWithin}
 use Rattle.c_parser.specs.Items.{reach_error, Parameter, AParameter, ParameterList, LastParameter, MoreParameters, Parameters, NoParameters, VoidParameters, SomeParameters, ParameterType, Unnamed, Named, TypeList, LastType, MoreTypes, ParameterTypes, Unstated, VoidTypes, StatedTypes, ParametersWithin, TypesWithin, AreLow, Reach, AReach, Function, AFunction, Prototype, APrototype, Global, AGlobal, Nothing, ASemicolon}
 use Rattle.c_parser.specs.ReadItems.{is_void, read_parameter, read_parameter_list, read_parameters, read_parameter_type, read_type_list, read_parameter_types, parameters_within, types_within, is_low, read_reach, read_body, read_function, read_prototype, read_global, read_nothing}
-use Rattle.c_parser.proofs.SignLaws.{taken}
-use Rattle.c_parser.proofs.WordLaws.{both_true}
-use Rattle.c_parser.proofs.ReadLaws.{word_taken}
+use Rattle.c_expressions.proofs.SignLaws.{taken}
+use Rattle.c_expressions.proofs.WordLaws.{both_true}
+use Rattle.c_parser.proofs.ReadWords.{word_taken}
 use Rattle.c_parser.proofs.BracketLaws.{behind_passed}
 use Rattle.c_parser.proofs.DeclarationLaws.{name_is_no_part, attributes_read, type_read, specifiers_shorter}
 use Rattle.c_parser.proofs.StatementKnot.{declares_read, braced_read}

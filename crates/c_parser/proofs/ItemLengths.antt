@@ -3,9 +3,9 @@ use Rattle.std.proofs.Common.{ℕ, zero, suc, ◌≤◌, ◌<◌, List, ◌∷�
 use Rattle.c_core.specs.declared.number.IntType.{IntType}
 use Rattle.c_tokens.specs.declared.token.Token.{Token}
 use Rattle.c_tokens.specs.declared.token.Punct.TheVariants as sign
-use Rattle.c_parser.specs.Tree.{Param, Item}
-use Rattle.c_parser.specs.Signs.{sign_token}
-use Rattle.c_parser.specs.Brackets.{PassedWithin}
+use Rattle.c_expressions.specs.Tree.{Param, Item}
+use Rattle.c_expressions.specs.Signs.{sign_token}
+use Rattle.c_expressions.specs.Brackets.{PassedWithin}
 use Rattle.c_parser.specs.Declarations.{Attributes, NoMoreAttributes, AnAttribute, Typed}
 use Rattle.c_parser.specs.Items.{Parameter, AParameter, ParameterList, LastParameter, MoreParameters, Parameters, NoParameters, VoidParameters, SomeParameters, ParameterType, Unnamed, Named, TypeList, LastType, MoreTypes, ParameterTypes, Unstated, VoidTypes, StatedTypes, ParametersWithin, TypesWithin, Reach, AReach, Function, AFunction, Prototype, APrototype, Global, AGlobal, Closed, AClosed, Nothing, ASemicolon}
 use Rattle.c_parser.specs.Sources.{Takes, TakesReach, TakesFunction, TakesPrototype, TakesGlobal, TakesClosed, TakesNothing}

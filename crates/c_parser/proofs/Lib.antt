@@ -1,6 +1,5 @@
-mod SignLaws
-mod WordLaws
-mod Complete
+mod SpecifierSteps
+mod ReadWords
 mod BracketLaws
 mod DeclarationLaws
 mod Begins
@@ -9,10 +8,6 @@ mod StatementKnot
 mod ItemLaws
 mod ClosedLaws
 mod SourceLaws
-mod ReadLaws
-mod SoundOperands
-mod SoundExpressions
-mod WitnessLaws
 mod SoundBrackets
 mod SoundDeclarations
 mod SoundStatements
@@ -32,13 +27,6 @@ mod FormedStatements
 mod NestedStatements
 mod FormedItems
 pub mod OrderlyTokens
-pub mod Views
-mod ReadSteps
-mod TypeCountLaws
-mod NameLaws
-mod WitnessAnswers
-mod ResultAnswers
-pub mod PassingLaws
 pub mod ListLaws
 pub mod ParsingLaws
 pub mod ClosedSteps

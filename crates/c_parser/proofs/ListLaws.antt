@@ -4,13 +4,13 @@ use Rattle.c_tokens.specs.declared.token.Token.{Token}
 use Rattle.c_tokens.specs.declared.token.Punct.TheVariants as sign
 use Rattle.c_core.specs.declared.number.IntType.{IntType}
 use Rattle.std.proofs.lemmas.Bool.{cond-true, cond-false}
-use Rattle.c_parser.specs.Tree.{Param, Exp, Declared, Stm}
-use Rattle.c_parser.specs.Signs.{◌>>=◌, is_sign, assignment}
-use Rattle.c_parser.specs.ReadExpressions.{Read, closing}
+use Rattle.c_expressions.specs.Tree.{Param, Exp, Declared, Stm}
+use Rattle.c_expressions.specs.Signs.{◌>>=◌, is_sign, assignment}
+use Rattle.c_expressions.specs.ReadExpressions.{Read, closing}
 use Rattle.c_parser.specs.Declarations.{read_values, read_declarator, read_declarators}
 use Rattle.c_parser.specs.ReadStatements.{elements}
-use Rattle.c_parser.specs.View.{expr_view, exprs_view}
-use Rattle.c_parser.specs.declared.tree.RawExpr.{RawExpr}
+use Rattle.c_expressions.specs.View.{expr_view, exprs_view}
+use Rattle.c_expressions.specs.declared.tree.RawExpr.{RawExpr}
 use Rattle.c_parser.specs.ReadItems.{read_parameter, read_parameter_list, read_parameter_type, read_type_list}
 
 -- a test that waits
@@ -112,11 +112,7 @@ module _ (b : ℕ) (whole inner : ℕ → List Token → Read Exp) (n m : ℕ) (
     pub declarators_none : (xs : List Declared) → read_declarator b whole inner ty ts ≡ None → following xs (read_declarators b whole inner n ty ts) ≡ None
     declarators_none xs none = rw (e, none) refl
 
--- what stands in a block
 module _ (one : List Token → Read Stm) (n m : ℕ) (ts : List Token) (e : n ≡ suc m) where
-  pub elements_close : (xs : List Stm) → is_sign sign.BraceClose ts ≡ true → following xs (elements one n ts) ≡ Some (xs ++ [], ts)
-  elements_close xs brace = rw e (ap (following xs) (when (is_sign sign.BraceClose ts) _ _ brace))
-
   elements_turn : is_sign sign.BraceClose ts ≡ false → elements one n ts ≡ (one ts >>= λ s. elements one m s.1 >>= λ r. Some (s.0 ∷ r.0, r.1))
   elements_turn brace = rw e (unless (is_sign sign.BraceClose ts) _ _ brace)
 

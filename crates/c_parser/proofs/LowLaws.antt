@@ -2,8 +2,8 @@
 use Rattle.std.proofs.Common.{◌≡◌, ℕ, ◌≤◌, nat_le, Bool, true, List, [], ◌∷◌, refl, arith, Some}
 use Rattle.std.proofs.lemmas.Bool.Decides.{nat_tests}
 use Rattle.c_tokens.specs.declared.token.Token.{Token}
-use Rattle.c_parser.specs.Tree.{Declared}
-use Rattle.c_parser.specs.Heights.{height_if, height_of_init, height_of_declared}
+use Rattle.c_expressions.specs.Tree.{Declared}
+use Rattle.c_expressions.specs.Heights.{height_if, height_of_init, height_of_declared}
 use Rattle.c_parser.specs.ReadStatements.{declares}
 use Rattle.c_parser.specs.ReadItems.{is_low}
 use Rattle.c_parser.proofs.SoundBlocks.{declares_sound}

@@ -1,11 +1,11 @@
 -- In what tokens spell each declaration stands directly in a block.
 use Rattle.std.proofs.Common.{◌≡◌, ℕ, zero, suc, List, true, false, refl}
 use Rattle.c_tokens.specs.declared.token.Token.{Token}
-use Rattle.c_parser.specs.Tree.{Exp, Declared, Stm, Stmt, Form, stms}
-use Rattle.c_parser.specs.Tree as form
+use Rattle.c_expressions.specs.Tree.{Exp, Declared, Stm, Stmt, Form, stms}
+use Rattle.c_expressions.specs.Tree as form
 use Rattle.c_parser.specs.Formed.{nests, form_nests, block_nests}
-use Rattle.c_parser.specs.Signs.{expr}
-use Rattle.c_parser.specs.Expressions.{Within, Spells}
+use Rattle.c_expressions.specs.Signs.{expr}
+use Rattle.c_expressions.specs.Expressions.{Within, Spells}
 use Rattle.c_parser.specs.Statements.{Parts, Statement, AnEmpty, AnExpressionStatement, ABlock, ABreak, AContinue, AReturn, AReturnOf, ALabel, AnIf, AnIfElse, AWhile, ADo, AFor, Element, ADeclarationStatement, AStatement, Elements, NoMoreElements, MoreElements, Declares, HeaderWithin, BracedWithin}
 use Rattle.c_parser.proofs.Passing.{and_true}
 

@@ -8,13 +8,13 @@ use Rattle.c_tokens.specs.declared.token.Token.{Token}
 use Rattle.c_tokens.specs.declared.token.TokenKind.TheVariants as kind
 use Rattle.c_tokens.specs.declared.token.Punct.{Punct}
 use Rattle.c_tokens.specs.declared.token.Punct.TheVariants as sign
-use Rattle.c_parser.specs.Tree.{Exp, Expr, Node, Exps, exps, moved}
-use Rattle.c_parser.specs.Tree as node
+use Rattle.c_expressions.specs.Tree.{Exp, Expr, Node, Exps, exps, moved}
+use Rattle.c_expressions.specs.Tree as node
 use Rattle.c_parser.specs.TextOrder.{spots_of, spots_of_all}
-use Rattle.c_parser.specs.Signs.{token, word_token, sign_token, place, Joint, Sequence, Both, Either, Plain, joined, steps_before, steps_behind}
-use Rattle.c_parser.specs.Words.{TypeWord}
-use Rattle.c_parser.specs.Expressions.{NameWords, NoMoreWords, AConst, ATypeWord, Arguments, LastArgument, MoreArguments, Expression, Stronger, Joined, Assigned, Chosen, SteppedBefore, Signed, Converted, SteppedBehind, AName, AnElement, ABareCall, ACall, ANumber, ACharacter, AGroup, Within, has_room, Spells}
-use Rattle.c_parser.proofs.SignLaws.{some_same}
+use Rattle.c_expressions.specs.Signs.{token, word_token, sign_token, place, Joint, Sequence, Both, Either, Plain, joined, steps_before, steps_behind}
+use Rattle.c_expressions.specs.Words.{TypeWord}
+use Rattle.c_expressions.specs.Expressions.{NameWords, NoMoreWords, AConst, ATypeWord, Arguments, LastArgument, MoreArguments, Expression, Stronger, Joined, Assigned, Chosen, SteppedBefore, Signed, Converted, SteppedBehind, AName, AnElement, ABareCall, ACall, ANumber, ACharacter, AGroup, Within, has_room, Spells}
+use Rattle.c_expressions.proofs.SignLaws.{some_same}
 use Rattle.c_parser.proofs.Along.{Along, AtEnd, Past, Met, then, nothing_more, Begins, begins, to_along, begins_then, begins_alone, whole_here, whole_before, one_more}
 
 -- with its own first token, or with a parenthesis before it

@@ -5,16 +5,17 @@ use Rattle.c_core.specs.declared.number.Spot.{Spot}
 use Rattle.c_core.specs.declared.number.IntType.{IntType}
 use Rattle.c_tokens.specs.declared.token.Token.{Token}
 use Rattle.c_tokens.specs.Numbers.{is_spelled}
-use Rattle.c_parser.specs.Tree.{Param, Item}
-use Rattle.c_parser.specs.Tree as item
+use Rattle.c_expressions.specs.Tree.{Param, Item}
+use Rattle.c_expressions.specs.Tree as item
 use Rattle.c_parser.specs.TextOrder.{spots_of_params, spots_of_item, spots_of_items, tokens_rise}
 use Rattle.c_tokens.specs.declared.token.Punct.TheVariants as sign
-use Rattle.c_parser.specs.Signs.{sign_token, is_sign, word_of}
-use Rattle.c_parser.specs.Brackets.{PassedWithin, bracket}
+use Rattle.c_expressions.specs.Signs.{sign_token, is_sign, word_of}
+use Rattle.c_expressions.specs.Brackets.{PassedWithin, bracket}
 use Rattle.c_parser.specs.Items.{Parameter, AParameter, ParameterList, LastParameter, MoreParameters, Parameters, NoParameters, VoidParameters, SomeParameters, ParametersWithin, ParameterType, Unnamed, Named, TypeList, LastType, MoreTypes, ParameterTypes, Unstated, VoidTypes, StatedTypes, TypesWithin, Reach, AReach, Function, AFunction, Prototype, APrototype, Global, AGlobal, Closed, AClosed, Nothing, ASemicolon, reach_error, closed_name, closed_word, or_later, outside, depth_behind}
-use Rattle.c_parser.proofs.SignLaws.{some_same}
-use Rattle.c_parser.proofs.ReadLaws.{none_some}
-use Rattle.c_parser.specs.Sources.{Takes, TakesReach, TakesFunction, TakesPrototype, TakesGlobal, TakesClosed, TakesNothing, with_item, Items, NoMoreItems, MoreItems, IsSource, max_height, max_brackets}
+use Rattle.c_expressions.proofs.SignLaws.{some_same}
+use Rattle.c_expressions.proofs.ReadLaws.{none_some}
+use Rattle.c_parser.specs.Sources.{Takes, TakesReach, TakesFunction, TakesPrototype, TakesGlobal, TakesClosed, TakesNothing, with_item, Items, NoMoreItems, MoreItems, IsSource}
+use Rattle.c_expressions.specs.Limits.{max_height, max_brackets}
 use Rattle.c_parser.proofs.Along.{Along, AtEnd, Past, Met, then, nothing_more, along_rises}
 use Rattle.c_parser.proofs.OrderedStatements.{passed_along, attributes_along, typed_along, declares_along, braced_along}
 

@@ -3,12 +3,12 @@ use Rattle.std.proofs.Common.{◌≡◌, ℕ, zero, suc, List, [], ◌∷◌, �
 use Rattle.c_core.specs.declared.number.Spot.{Spot}
 use Rattle.c_core.specs.declared.number.IntType.{IntType}
 use Rattle.c_tokens.specs.declared.token.Token.{Token}
-use Rattle.c_parser.specs.Tree.{Exp, exps, Init, Declared, First, Stm, stms}
+use Rattle.c_expressions.specs.Tree.{Exp, exps, Init, Declared, First, Stm, stms}
 use Rattle.c_parser.specs.TextOrder.{spots_of, spots_of_all, spots_if, spots_of_init, spots_of_declared, spots_of_first, spots_of_statement, spots_of_block}
-use Rattle.c_parser.specs.Signs.{word_token, place, expr}
-use Rattle.c_parser.specs.Words.{TypeWord, type_of}
-use Rattle.c_parser.specs.Brackets.{Passed, NothingPassed, OnePassed, PairPassed, PassedWithin}
-use Rattle.c_parser.specs.Expressions.{Within, Spells}
+use Rattle.c_expressions.specs.Signs.{word_token, place, expr}
+use Rattle.c_expressions.specs.Words.{TypeWord, type_of}
+use Rattle.c_expressions.specs.Brackets.{Passed, NothingPassed, OnePassed, PairPassed, PassedWithin}
+use Rattle.c_expressions.specs.Expressions.{Within, Spells}
 use Rattle.c_parser.specs.Declarations.{Attributes, NoMoreAttributes, AnAttribute, Specifiers, NoMoreSpecifiers, ATypeWord, ASpecifier, AnAttributeBefore, Typed, Size, NoSize, ASize, Values, LastValue, LastValueAndComma, MoreValues, Initializer, NoInitializer, OneValue, AList, Declarator, ADeclarator, Declarators, LastDeclarator, MoreDeclarators, ADeclaration}
 use Rattle.c_parser.specs.Statements.{Parts, Optional, NoExpression, AnExpression, FirstPart, DeclaredFirst, ExpressionFirst, NothingFirst, ForParts, AllParts, Statement, AnEmpty, AnExpressionStatement, ABlock, ABreak, AContinue, AReturn, AReturnOf, ALabel, AnIf, AnIfElse, AWhile, ADo, AFor, Element, ADeclarationStatement, AStatement, Elements, NoMoreElements, MoreElements, Declares, HeaderWithin, BracedWithin}
 use Rattle.c_parser.proofs.Along.{Along, AtEnd, Past, Met, then, nothing_more, Begins, begins, to_along, begins_then, whole_here}

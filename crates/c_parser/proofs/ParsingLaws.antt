@@ -3,20 +3,21 @@ use Rattle.std.proofs.Common.{◌≡◌, ℕ, suc, ◌++◌, ◌<◌, List, [], 
 use Rattle.std.specs.Option.{option_map, option_to_list}
 use Rattle.c_core.specs.declared.number.Spot.{Spot}
 use Rattle.c_tokens.specs.declared.token.Token.{Token}
-use Rattle.c_parser.specs.Tree.{Item}
-use Rattle.c_parser.specs.Signs.{place}
-use Rattle.c_parser.specs.ReadExpressions.{Read}
+use Rattle.c_expressions.specs.Tree.{Item}
+use Rattle.c_expressions.specs.Signs.{place}
+use Rattle.c_expressions.specs.ReadExpressions.{Read}
 use Rattle.c_parser.specs.ReadItems.{first_form, read_item, read_items, Outcome, Source, Syntax, onto_outcome}
 use Rattle.c_parser.specs.SourceView.{item_view}
 use Rattle.c_parser.specs.declared.item.Item.{Item as Raw}
 use Rattle.std.specs.Prelude.{Result, Ok, Err}
 use Rattle.c_parser.specs.declared.item.Source.{Source as Parsed}
-use Rattle.c_parser.specs.declared.fault.Unread.{Unread}
-use Rattle.c_parser.specs.declared.fault.Unread.TheVariants.{Unspelled}
-use Rattle.c_parser.specs.Gives.{Fails}
+use Rattle.c_expressions.specs.declared.fault.Unread.{Unread}
+use Rattle.c_expressions.specs.declared.fault.Unread.TheVariants.{Unspelled}
+use Rattle.c_expressions.specs.Gives.{Fails}
 use Rattle.c_parser.specs.declared.fault.ParseFault.{ParseFault}
 use Rattle.c_parser.specs.declared.fault.ParseFault.TheVariants.{Syntax as Refused, OutOfMemory}
-use Rattle.c_parser.specs.Sources.{IsSource, IsSyntax, max_height, max_brackets}
+use Rattle.c_parser.specs.Sources.{IsSource, IsSyntax}
+use Rattle.c_expressions.specs.Limits.{max_height, max_brackets}
 use Rattle.c_parser.specs.Parsing.{source_view, Answers, IsFound, IsRefused, Outcomes}
 use Rattle.c_parser.proofs.SourceLaws.{one_source, source_or_syntax, one_syntax}
 use Rattle.c_parser.proofs.SoundSources.{source_sound, syntax_sound}

@@ -3,17 +3,17 @@ use Rattle.std.proofs.Common.{◌≡◌, ℕ, zero, suc, ◌≤◌, List, [], �
 use Rattle.c_core.specs.declared.number.Spot.{Spot}
 use Rattle.c_tokens.specs.declared.token.Token.{Token}
 use Rattle.c_tokens.specs.declared.token.Punct.TheVariants as sign
-use Rattle.c_parser.specs.Tree.{Exp, Declared, Stm, stms}
-use Rattle.c_parser.specs.Heights.{height, height_if, height_of, height_of_declared, height_of_first, height_of_block}
-use Rattle.c_parser.specs.Signs.{sign_token, is_sign, expr}
-use Rattle.c_parser.specs.Expressions.{Within, Spells}
-use Rattle.c_parser.specs.ReadExpressions.{read, within}
+use Rattle.c_expressions.specs.Tree.{Exp, Declared, Stm, stms}
+use Rattle.c_expressions.specs.Heights.{height, height_if, height_of, height_of_declared, height_of_first, height_of_block}
+use Rattle.c_expressions.specs.Signs.{sign_token, is_sign, expr}
+use Rattle.c_expressions.specs.Expressions.{Within, Spells}
+use Rattle.c_expressions.specs.ReadExpressions.{read, within}
 use Rattle.c_parser.specs.Declarations.{begins_declaration}
 use Rattle.c_parser.specs.Statements.{Parts, Statement, Element, ADeclarationStatement, AStatement, Elements, NoMoreElements, MoreElements, Declares, HeaderWithin, BracedWithin}
 use Rattle.c_parser.specs.ReadStatements.{elements, declares, header_within, statement_level, braced_within}
-use Rattle.c_parser.proofs.SignLaws.{some_same, taken}
-use Rattle.c_parser.proofs.ReadLaws.{bind_some, parted, none_some}
-use Rattle.c_parser.proofs.SoundExpressions.{read_sound, within_sound}
+use Rattle.c_expressions.proofs.SignLaws.{some_same, taken}
+use Rattle.c_expressions.proofs.ReadLaws.{bind_some, parted, none_some}
+use Rattle.c_expressions.proofs.SoundExpressions.{read_sound, within_sound}
 use Rattle.c_parser.proofs.SoundDeclarations.{declaration_sound}
 use Rattle.c_parser.proofs.SoundStatements.{parts_sound, statement_sound}
 

@@ -7,11 +7,11 @@ use Rattle.c_tokens.specs.declared.token.TokenKind.{TokenKind}
 use Rattle.c_tokens.specs.declared.token.TokenKind.TheVariants as kind
 use Rattle.c_tokens.specs.declared.token.Punct.{Punct}
 use Rattle.c_tokens.specs.declared.token.Punct.TheVariants as sign
-use Rattle.c_parser.specs.Signs.{token, sign_token, same_sign, is_sign}
-use Rattle.c_parser.specs.Brackets.{Bracket, NoBracket, Opening, Closing, bracket_of, bracket, Passed, NothingPassed, OnePassed, PairPassed, PassedWithin, stacked, skipped, behind}
+use Rattle.c_expressions.specs.Signs.{token, sign_token, same_sign, is_sign}
+use Rattle.c_expressions.specs.Brackets.{Bracket, NoBracket, Opening, Closing, bracket_of, bracket, Passed, NothingPassed, OnePassed, PairPassed, PassedWithin, stacked, skipped, behind}
 use Rattle.c_parser.specs.Declarations.{behind_pair}
-use Rattle.c_parser.proofs.SignLaws.{some_same, same_signs, taken}
-use Rattle.c_parser.proofs.ReadLaws.{bind_some, chosen, parted, none_some}
+use Rattle.c_expressions.proofs.SignLaws.{some_same, same_signs, taken}
+use Rattle.c_expressions.proofs.ReadLaws.{bind_some, chosen, parted, none_some}
 
 closing_sign : (s d : Punct) → bracket_of (Some s) ≡ Closing d → s ≡ d
 closing_sign sign.ParenClose d e = cc

@@ -7,15 +7,15 @@ use Rattle.c_core.specs.declared.number.Spot.{Spot}
 use Rattle.c_tokens.specs.declared.token.Token.{Token}
 use Rattle.c_tokens.specs.declared.token.Punct.{Punct}
 use Rattle.c_tokens.specs.declared.token.Punct.TheVariants as sign
-use Rattle.c_parser.specs.Tree.{Item}
-use Rattle.c_parser.specs.Tree as item
-use Rattle.c_parser.specs.Signs.{◌>>=◌, sign_of, sign_token, is_sign, is_this, is_word, same_sign}
-use Rattle.c_parser.specs.Brackets.{Bracket, NoBracket, Opening, Closing, bracket, Passed, NothingPassed, OnePassed, PairPassed, PassedWithin, stacked}
+use Rattle.c_expressions.specs.Tree.{Item}
+use Rattle.c_expressions.specs.Tree as item
+use Rattle.c_expressions.specs.Signs.{◌>>=◌, sign_of, sign_token, is_sign, is_this, is_word, same_sign}
+use Rattle.c_expressions.specs.Brackets.{Bracket, NoBracket, Opening, Closing, bracket, Passed, NothingPassed, OnePassed, PairPassed, PassedWithin, stacked}
 use Rattle.c_parser.specs.Items.{may_be_closed, outside, depth_behind, has_semicolon, closed_name, Closed, AClosed}
 use Rattle.c_parser.specs.ReadItems.{to_semicolon, is_closed, read_closed}
-use Rattle.c_parser.proofs.SignLaws.{some_same, same_signs, taken}
-use Rattle.c_parser.proofs.WordLaws.{both_true}
-use Rattle.c_parser.proofs.ReadLaws.{bind_some, chosen, parted, none_some}
+use Rattle.c_expressions.proofs.SignLaws.{some_same, same_signs, taken}
+use Rattle.c_expressions.proofs.WordLaws.{both_true}
+use Rattle.c_expressions.proofs.ReadLaws.{bind_some, chosen, parted, none_some}
 use Rattle.c_parser.proofs.SoundBrackets.{closing_token}
 
 -- up to the sign that closes the innermost pair: of the tokens and of what is read as their front

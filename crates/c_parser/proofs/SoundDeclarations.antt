@@ -4,15 +4,16 @@ use Rattle.c_core.specs.declared.number.IntType.{IntType}
 use Rattle.c_core.specs.declared.number.Spot.{Spot}
 use Rattle.c_tokens.specs.declared.token.Token.{Token}
 use Rattle.c_tokens.specs.declared.token.Punct.TheVariants as sign
-use Rattle.c_parser.specs.Tree.{Exp, exps, Init, Many, Declared}
-use Rattle.c_parser.specs.Heights.{height, heights, height_if, height_of_init, height_of_declared}
-use Rattle.c_parser.specs.Signs.{sign_token, word_token, place, word_at, is_sign, assignment, conditional}
-use Rattle.c_parser.specs.Words.{is_attribute, may_specify, TypeWord, type_word, type_of}
-use Rattle.c_parser.specs.Brackets.{PassedWithin}
-use Rattle.c_parser.specs.ReadExpressions.{Read}
+use Rattle.c_expressions.specs.Tree.{Exp, exps, Init, Many, Declared}
+use Rattle.c_expressions.specs.Heights.{height, heights, height_if, height_of_init, height_of_declared}
+use Rattle.c_expressions.specs.Signs.{sign_token, word_token, place, word_at, is_sign, assignment, conditional}
+use Rattle.c_expressions.specs.Words.{is_attribute, may_specify, TypeWord, type_word, type_of}
+use Rattle.c_expressions.specs.Brackets.{PassedWithin}
+use Rattle.c_expressions.specs.ReadExpressions.{Read}
 use Rattle.c_parser.specs.Declarations.{Attributes, NoMoreAttributes, AnAttribute, Specifiers, NoMoreSpecifiers, ATypeWord, ASpecifier, AnAttributeBefore, Typed, declared, Size, NoSize, ASize, Values, LastValue, LastValueAndComma, MoreValues, Initializer, NoInitializer, OneValue, AList, Declarator, ADeclarator, Declarators, LastDeclarator, MoreDeclarators, Declaration, ADeclaration, Part, NoPart, TypePart, OtherPart, AttributePart, part_of_word, part_of, part_at, name_at, is_spelled_attribute, behind_pair, behind_attributes, read_part, read_specifiers, read_type, read_size, read_values, read_value, read_initializer, read_declarator, read_declarators, read_declaration}
-use Rattle.c_parser.proofs.SignLaws.{some_same, taken}
-use Rattle.c_parser.proofs.ReadLaws.{bind_some, chosen, parted, none_some, closed, word_in, name_in}
+use Rattle.c_expressions.proofs.SignLaws.{some_same, taken}
+use Rattle.c_expressions.proofs.ReadLaws.{bind_some, chosen, parted, none_some, closed}
+use Rattle.c_parser.proofs.ReadWords.{word_in, name_in}
 use Rattle.c_parser.proofs.SoundBrackets.{pair_sound}
 
 -- the word of an attribute

@@ -8,20 +8,21 @@ use Rattle.c_tokens.specs.Numbers.{is_spelled}
 use Rattle.c_tokens.specs.declared.token.Token.{Token}
 use Rattle.c_tokens.specs.declared.token.Punct.{Punct}
 use Rattle.c_tokens.specs.declared.token.Punct.TheVariants as sign
-use Rattle.c_parser.specs.Tree.{Declared, Stm, Stmt, Block, stms, Param, Item}
-use Rattle.c_parser.specs.Tree as item
-use Rattle.c_parser.specs.Heights.{height_of, height_of_block, height_if, height_of_init}
-use Rattle.c_parser.specs.Signs.{◌>>=◌, sign_token, word_token, place, is_sign, is_word}
-use Rattle.c_parser.specs.Words.{is_name}
-use Rattle.c_parser.specs.Brackets.{PassedWithin, behind}
+use Rattle.c_expressions.specs.Tree.{Declared, Stm, Stmt, Block, stms, Param, Item}
+use Rattle.c_expressions.specs.Tree as item
+use Rattle.c_expressions.specs.Heights.{height_of, height_of_block, height_if, height_of_init}
+use Rattle.c_expressions.specs.Signs.{◌>>=◌, sign_token, word_token, place, is_sign, is_word}
+use Rattle.c_expressions.specs.Words.{is_name}
+use Rattle.c_expressions.specs.Brackets.{PassedWithin, behind}
 use Rattle.c_parser.specs.Declarations.{Typed, Attributes, name_at, read_type, behind_attributes}
 use Rattle.c_parser.specs.Statements.{BracedWithin}
 use Rattle.c_parser.specs.ReadStatements.{declares, braced_within}
 use Rattle.c_parser.specs.Items.{reach_error, Parameter, AParameter, ParameterList, LastParameter, MoreParameters, Parameters, NoParameters, VoidParameters, SomeParameters, ParameterType, Unnamed, Named, TypeList, LastType, MoreTypes, ParameterTypes, Unstated, VoidTypes, StatedTypes, ParametersWithin, TypesWithin, AreLow, Reach, AReach, Function, AFunction, Prototype, APrototype, Global, AGlobal, Nothing, ASemicolon}
 use Rattle.c_parser.specs.ReadItems.{past, is_void, read_parameter, read_parameter_list, read_parameters, past_name, read_parameter_type, read_type_list, read_parameter_types, parameters_within, types_within, is_low, read_reach, read_body, read_function, read_prototype, read_global, read_nothing}
-use Rattle.c_parser.proofs.SignLaws.{some_same, taken}
-use Rattle.c_parser.proofs.WordLaws.{both_true, spelled_same}
-use Rattle.c_parser.proofs.ReadLaws.{bind_some, chosen, parted, none_some, closed, name_in, word_taken}
+use Rattle.c_expressions.proofs.SignLaws.{some_same, taken}
+use Rattle.c_expressions.proofs.WordLaws.{both_true, spelled_same}
+use Rattle.c_expressions.proofs.ReadLaws.{bind_some, chosen, parted, none_some, closed}
+use Rattle.c_parser.proofs.ReadWords.{name_in, word_taken}
 use Rattle.c_parser.proofs.SoundBrackets.{behind_sound}
 use Rattle.c_parser.proofs.SoundDeclarations.{attributes_sound, type_sound}
 use Rattle.c_parser.proofs.SoundBlocks.{declares_sound, braced_sound}

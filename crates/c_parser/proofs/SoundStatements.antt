@@ -5,17 +5,18 @@ use Rattle.c_core.specs.declared.number.Spot.{Spot}
 use Rattle.c_tokens.specs.declared.token.Token.{Token}
 use Rattle.c_tokens.specs.declared.token.Punct.{Punct}
 use Rattle.c_tokens.specs.declared.token.Punct.TheVariants as sign
-use Rattle.c_parser.specs.Tree.{Exp, Declared, First, NoFirst, FirstExp, FirstDeclared, Stm, Stmt, Else, NoElse, OrElse, stms}
-use Rattle.c_parser.specs.Tree as form
-use Rattle.c_parser.specs.Heights.{height, height_if, height_of, height_of_declared, height_of_first, height_of_block}
-use Rattle.c_parser.specs.Signs.{sign_token, word_token, place, is_sign, is_word}
-use Rattle.c_parser.specs.ReadExpressions.{Read, closing}
+use Rattle.c_expressions.specs.Tree.{Exp, Declared, First, NoFirst, FirstExp, FirstDeclared, Stm, Stmt, Else, NoElse, OrElse, stms}
+use Rattle.c_expressions.specs.Tree as form
+use Rattle.c_expressions.specs.Heights.{height, height_if, height_of, height_of_declared, height_of_first, height_of_block}
+use Rattle.c_expressions.specs.Signs.{sign_token, word_token, place, is_sign, is_word}
+use Rattle.c_expressions.specs.ReadExpressions.{Read, closing}
 use Rattle.c_parser.specs.Declarations.{begins_declaration, name_at}
 use Rattle.c_parser.specs.Statements.{Parts, Optional, NoExpression, AnExpression, FirstPart, DeclaredFirst, ExpressionFirst, NothingFirst, ForParts, AllParts, Statement, AnEmpty, AnExpressionStatement, ABlock, ABreak, AContinue, AReturn, AReturnOf, ALabel, AnIf, AnIfElse, AWhile, ADo, AFor}
 use Rattle.c_parser.specs.ReadStatements.{Start, AtSemicolon, AtBrace, AtBreak, AtContinue, AtReturn, AtIf, AtWhile, AtDo, AtFor, AtLabel, AtExpression, start, optional, first_of, first_part, for_parts, in_parens, else_part, returned, do_test, header_in_parens, statement_from}
-use Rattle.c_parser.proofs.SignLaws.{some_same, taken}
-use Rattle.c_parser.proofs.WordLaws.{both_true}
-use Rattle.c_parser.proofs.ReadLaws.{bind_some, chosen, parted, none_some, closed, word_taken, name_in}
+use Rattle.c_expressions.proofs.SignLaws.{some_same, taken}
+use Rattle.c_expressions.proofs.WordLaws.{both_true}
+use Rattle.c_expressions.proofs.ReadLaws.{bind_some, chosen, parted, none_some, closed}
+use Rattle.c_parser.proofs.ReadWords.{word_taken, name_in}
 
 -- the parts of a `for`
 module _ (Whole : List Token → Exp → List Token → Type 0) (Declares : List Token → List Declared → List Token → Type 0)

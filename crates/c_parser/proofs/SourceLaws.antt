@@ -2,13 +2,14 @@
 use Rattle.std.proofs.Common.{◌≡◌, ℕ, max, List, [], refl, sym, ap, ◌∙◌, subst, Option, Some, None, arith, ◌≤◌}
 use Rattle.c_core.specs.declared.number.Spot.{Spot}
 use Rattle.c_tokens.specs.declared.token.Token.{Token}
-use Rattle.c_parser.specs.Tree.{Exp, Item}
-use Rattle.c_parser.specs.Heights.{height}
-use Rattle.c_parser.specs.Expressions.{Spells}
-use Rattle.c_parser.specs.ReadExpressions.{Read}
+use Rattle.c_expressions.specs.Tree.{Exp, Item}
+use Rattle.c_expressions.specs.Heights.{height}
+use Rattle.c_expressions.specs.Expressions.{Spells}
+use Rattle.c_expressions.specs.ReadExpressions.{Read}
 use Rattle.c_parser.specs.ReadItems.{read_reach, read_function, read_prototype, read_global, read_closed, read_nothing}
-use Rattle.c_parser.specs.Sources.{Takes, TakesReach, TakesFunction, TakesPrototype, TakesGlobal, TakesClosed, TakesNothing, with_item, Items, NoMoreItems, MoreItems, Stops, StopsHere, StopsLater, max_height, max_brackets, IsSource, IsSyntax}
-use Rattle.c_parser.proofs.Complete.{read_complete}
+use Rattle.c_parser.specs.Sources.{Takes, TakesReach, TakesFunction, TakesPrototype, TakesGlobal, TakesClosed, TakesNothing, with_item, Items, NoMoreItems, MoreItems, Stops, StopsHere, StopsLater, IsSource, IsSyntax}
+use Rattle.c_expressions.specs.Limits.{max_height, max_brackets}
+use Rattle.c_expressions.proofs.Complete.{read_complete}
 use Rattle.c_parser.proofs.StatementKnot.{once}
 use Rattle.c_parser.proofs.ItemLaws.{reach_read, function_read, prototype_read, global_read, nothing_read}
 use Rattle.c_parser.proofs.ClosedLaws.{closed_read}

@@ -2,14 +2,14 @@
 use denote.Hole.Carrier.{out}
 use Rattle.std.proofs.Common.{◌≡◌, refl, ap, sym, ◌∙◌, List, map}
 use Rattle.std.specs.Option.{option_map}
-use Rattle.c_parser.specs.Tree as t
-use Rattle.c_parser.specs.Tree.{Stms, stms}
-use Rattle.c_parser.specs.View.{expr_view}
+use Rattle.c_expressions.specs.Tree as t
+use Rattle.c_expressions.specs.Tree.{Stms, stms}
+use Rattle.c_expressions.specs.View.{expr_view}
 use Rattle.c_parser.specs.SourceView.{declared_view, first_view, form_view, block_view, stmt_view, else_if}
-use Rattle.c_parser.specs.declared.tree.RawStmt.{RawStmt}
-use Rattle.c_parser.specs.declared.tree.RawForm.{RawForm, out-RawForm, Row_of-RawStmt, end_of-RawStmt, more_of-RawStmt, items-the_row-RawStmt, items_shown-the_row-RawStmt-0, None', Some'}
-use Rattle.c_parser.specs.declared.tree.RawForm.TheVariants.{Empty, Expr as Only, Declare, Block, outs-Block, Block', If', While', Do', For', Break, Continue, Return, Label'}
-use Rattle.c_parser.specs.declared.tree.RawForm.TheOpen.{RawForm-F, Empty as EmptyF, Expr as OnlyF, Declare as DeclareF, Block as BlockF, If as IfF, While as WhileF, Do as DoF, For as ForF, Break as BreakF, Continue as ContinueF, Return as ReturnF, Label as LabelF}
+use Rattle.c_expressions.specs.declared.tree.RawStmt.{RawStmt}
+use Rattle.c_expressions.specs.declared.tree.RawForm.{RawForm, out-RawForm, Row_of-RawStmt, end_of-RawStmt, more_of-RawStmt, items-the_row-RawStmt, items_shown-the_row-RawStmt-0, None', Some'}
+use Rattle.c_expressions.specs.declared.tree.RawForm.TheVariants.{Empty, Expr as Only, Declare, Block, outs-Block, Block', If', While', Do', For', Break, Continue, Return, Label'}
+use Rattle.c_expressions.specs.declared.tree.RawForm.TheOpen.{RawForm-F, Empty as EmptyF, Expr as OnlyF, Declare as DeclareF, Block as BlockF, If as IfF, While as WhileF, Do as DoF, For as ForF, Break as BreakF, Continue as ContinueF, Return as ReturnF, Label as LabelF}
 
 -- one level of a form
 abbrev pub form_of : RawForm-F RawForm RawStmt → t.Form

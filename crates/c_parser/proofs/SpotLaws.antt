@@ -4,7 +4,7 @@ use Rattle.std.proofs.lemmas.Bool.{eqb-true}
 use Rattle.std.proofs.lemmas.Bool.Decides.{eqb_tells}
 use Rattle.c_core.specs.Parts.{same_spot}
 use Rattle.c_core.specs.declared.number.Spot.{Spot}
-use Rattle.c_parser.proofs.WordLaws.{both_true}
+use Rattle.c_expressions.proofs.WordLaws.{both_true}
 
 self : (n : ℕ) → nat_eq n n ≡ true
 self n = by (eqb_tells n n)

@@ -7,20 +7,20 @@ use Rattle.c_tokens.specs.declared.token.Token.{Token}
 use Rattle.c_tokens.specs.declared.token.TokenKind.{TokenKind}
 use Rattle.c_tokens.specs.declared.token.TokenKind.TheVariants as kind
 use Rattle.c_tokens.specs.declared.token.Punct.TheVariants as sign
-use Rattle.c_parser.specs.Tree.{Exp, Expr, Declared, First, Stm, Stmt, stms}
-use Rattle.c_parser.specs.Tree as form
-use Rattle.c_parser.specs.Heights.{height, height_if, height_of, height_of_declared, height_of_first, height_of_block}
-use Rattle.c_parser.specs.Signs.{token, sign_token, word_token, is_sign, expr}
-use Rattle.c_parser.specs.Words.{is_name, TypeWord, type_of}
-use Rattle.c_parser.specs.Brackets.{PassedWithin}
-use Rattle.c_parser.specs.Expressions.{Stronger, AName, Within, Spells, has_room}
-use Rattle.c_parser.specs.ReadExpressions.{read, within}
+use Rattle.c_expressions.specs.Tree.{Exp, Expr, Declared, First, Stm, Stmt, stms}
+use Rattle.c_expressions.specs.Tree as form
+use Rattle.c_expressions.specs.Heights.{height, height_if, height_of, height_of_declared, height_of_first, height_of_block}
+use Rattle.c_expressions.specs.Signs.{token, sign_token, word_token, is_sign, expr}
+use Rattle.c_expressions.specs.Words.{is_name, TypeWord, type_of}
+use Rattle.c_expressions.specs.Brackets.{PassedWithin}
+use Rattle.c_expressions.specs.Expressions.{Stronger, AName, Within, Spells, has_room}
+use Rattle.c_expressions.specs.ReadExpressions.{read, within}
 use Rattle.c_parser.specs.Declarations.{begins_declaration, name_of, name_at, is_part, Specifiers, NoMoreSpecifiers, ATypeWord, ASpecifier, AnAttributeBefore, ADeclaration}
 use Rattle.c_parser.specs.Statements.{Parts, Optional, NoExpression, AnExpression, FirstPart, DeclaredFirst, ExpressionFirst, NothingFirst, AllParts, Statement, AnEmpty, AnExpressionStatement, ABlock, ABreak, AContinue, AReturn, AReturnOf, ALabel, AnIf, AnIfElse, AWhile, ADo, AFor, Element, ADeclarationStatement, AStatement, Elements, NoMoreElements, MoreElements, Declares, HeaderWithin, BracedWithin}
 use Rattle.c_parser.specs.ReadStatements.{elements, declares, header_within, statement_level, braced_within}
-use Rattle.c_parser.proofs.SignLaws.{taken}
-use Rattle.c_parser.proofs.WordLaws.{both_true}
-use Rattle.c_parser.proofs.Complete.{Front, read_complete, within_complete, expression_front, within_front}
+use Rattle.c_expressions.proofs.SignLaws.{taken}
+use Rattle.c_expressions.proofs.WordLaws.{both_true}
+use Rattle.c_expressions.proofs.Complete.{Front, read_complete, within_complete, expression_front, within_front}
 use Rattle.c_parser.proofs.Begins.{may_begin, no_sign, no_declaration, expression_begins, within_begins}
 use Rattle.c_parser.proofs.DeclarationLaws.{type_is_part, specifier_is_part, attribute_is_part, name_is_no_part, declaration_read, declaration_shorter}
 use Rattle.c_parser.proofs.StatementLaws.{parts_read, statement_read}

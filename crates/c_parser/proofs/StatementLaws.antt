@@ -7,16 +7,16 @@ use Rattle.c_tokens.specs.Numbers.{is_spelled}
 use Rattle.c_tokens.specs.declared.token.Token.{Token}
 use Rattle.c_tokens.specs.declared.token.Punct.{Punct}
 use Rattle.c_tokens.specs.declared.token.Punct.TheVariants as sign
-use Rattle.c_parser.specs.Tree.{Exp, Declared, First, Stm, NoElse, stms}
-use Rattle.c_parser.specs.Heights.{height, height_if, height_of, height_of_declared, height_of_first, height_of_block}
-use Rattle.c_parser.specs.Signs.{sign_token, word_token, is_sign, is_word}
-use Rattle.c_parser.specs.Words.{is_name}
-use Rattle.c_parser.specs.ReadExpressions.{Read}
+use Rattle.c_expressions.specs.Tree.{Exp, Declared, First, Stm, NoElse, stms}
+use Rattle.c_expressions.specs.Heights.{height, height_if, height_of, height_of_declared, height_of_first, height_of_block}
+use Rattle.c_expressions.specs.Signs.{sign_token, word_token, is_sign, is_word}
+use Rattle.c_expressions.specs.Words.{is_name}
+use Rattle.c_expressions.specs.ReadExpressions.{Read}
 use Rattle.c_parser.specs.Declarations.{begins_declaration, name_at}
 use Rattle.c_parser.specs.Statements.{Parts, Optional, NoExpression, AnExpression, FirstPart, DeclaredFirst, ExpressionFirst, NothingFirst, ForParts, AllParts, Statement, AnEmpty, AnExpressionStatement, ABlock, ABreak, AContinue, AReturn, AReturnOf, ALabel, AnIf, AnIfElse, AWhile, ADo, AFor}
 use Rattle.c_parser.specs.ReadStatements.{Start, AtLabel, AtExpression, start, optional, first_part, for_parts, in_parens, else_part, returned, header_in_parens, statement_from}
-use Rattle.c_parser.proofs.SignLaws.{grip}
-use Rattle.c_parser.proofs.WordLaws.{not_spelled}
+use Rattle.c_expressions.proofs.SignLaws.{grip}
+use Rattle.c_expressions.proofs.WordLaws.{not_spelled}
 use Rattle.c_parser.proofs.Begins.{may_begin, no_sign, no_word, no_declaration}
 
 -- the parts of a `for`

@@ -2,8 +2,8 @@
 use Rattle.std.proofs.Common.{◌≡◌, ℕ, suc, Bool, true, false, ◌&&◌, List, drop, Some, None, refl, ◌∙◌}
 use Rattle.c_tokens.specs.declared.token.Token.{Token}
 use Rattle.c_tokens.specs.declared.token.Punct.TheVariants as sign
-use Rattle.c_parser.specs.Tree.{Declared, Stm, Stmt, Declare, Block, stms}
-use Rattle.c_parser.specs.Signs.{◌>>=◌, place, is_sign}
+use Rattle.c_expressions.specs.Tree.{Declared, Stm, Stmt, Declare, Block, stms}
+use Rattle.c_expressions.specs.Signs.{◌>>=◌, place, is_sign}
 use Rattle.c_parser.specs.Declarations.{begins_declaration}
 use Rattle.c_parser.specs.ReadStatements.{start, AtBrace, declares, statement_level, braced_within}
 use Rattle.c_parser.specs.ReadItems.{read_body}

@@ -4,11 +4,11 @@ use Rattle.c_core.specs.declared.number.IntType.{IntType}
 use Rattle.c_core.specs.declared.number.Spot.{Spot}
 use Rattle.c_tokens.specs.declared.token.Token.{Token}
 use Rattle.c_tokens.specs.declared.token.Punct.TheVariants as sign
-use Rattle.c_parser.specs.Tree.{Exp, exps, Init, Absent, One, Many, Declared}
-use Rattle.c_parser.specs.Signs.{◌>>=◌, sign_token, word_token, place, word_at, is_sign, assignment, conditional}
-use Rattle.c_parser.specs.Words.{is_name, is_attribute, may_specify, TypeWord, type_word, type_of}
-use Rattle.c_parser.specs.Brackets.{behind}
-use Rattle.c_parser.specs.ReadExpressions.{Read, closing}
+use Rattle.c_expressions.specs.Tree.{Exp, exps, Init, Absent, One, Many, Declared}
+use Rattle.c_expressions.specs.Signs.{◌>>=◌, sign_token, word_token, place, word_at, is_sign, assignment, conditional}
+use Rattle.c_expressions.specs.Words.{is_name, is_attribute, may_specify, TypeWord, type_word, type_of}
+use Rattle.c_expressions.specs.Brackets.{behind}
+use Rattle.c_expressions.specs.ReadExpressions.{Read, closing}
 
 -- `Pair` is what is passed in one more pair of brackets
 module _ (Pair : List Token → List Token → Type 0) where

@@ -9,12 +9,12 @@ use Rattle.c_tokens.specs.declared.token.TokenKind.{TokenKind}
 use Rattle.c_tokens.specs.declared.token.TokenKind.TheVariants as kind
 use Rattle.c_tokens.specs.declared.token.Punct.{Punct}
 use Rattle.c_tokens.specs.declared.token.Punct.TheVariants as sign
-use Rattle.c_parser.specs.Tree.{Exp, Declared, Init, Stm, Stmt, Block, stms, Param, Item}
-use Rattle.c_parser.specs.Tree as item
-use Rattle.c_parser.specs.Heights.{height_if, height_of_init, height_of}
-use Rattle.c_parser.specs.Signs.{sign_token, word_token, sign_of, word_of, is_this, is_sign, is_word}
-use Rattle.c_parser.specs.Words.{is_name, is_attribute}
-use Rattle.c_parser.specs.Brackets.{Bracket, NoBracket, Opening, Closing, bracket, Passed, PassedWithin}
+use Rattle.c_expressions.specs.Tree.{Exp, Declared, Init, Stm, Stmt, Block, stms, Param, Item}
+use Rattle.c_expressions.specs.Tree as item
+use Rattle.c_expressions.specs.Heights.{height_if, height_of_init, height_of}
+use Rattle.c_expressions.specs.Signs.{sign_token, word_token, sign_of, word_of, is_this, is_sign, is_word}
+use Rattle.c_expressions.specs.Words.{is_name, is_attribute}
+use Rattle.c_expressions.specs.Brackets.{Bracket, NoBracket, Opening, Closing, bracket, Passed, PassedWithin}
 use Rattle.c_parser.specs.Declarations.{Attributes, Typed}
 use Rattle.c_parser.specs.Statements.{Declares, BracedWithin}
 

@@ -2,7 +2,7 @@
 use Rattle.std.specs.Prelude.{◌≡◌, List, map, Result, Ok, Err}
 use Rattle.c_core.specs.declared.number.Spot.{Spot}
 use Rattle.c_tokens.specs.declared.token.Token.{Token}
-use Rattle.c_parser.specs.Tree as t
+use Rattle.c_expressions.specs.Tree as t
 use Rattle.c_parser.specs.Sources.{IsSource, IsSyntax}
 use Rattle.c_parser.specs.ReadItems as o
 use Rattle.c_parser.specs.SourceView.{item_view}

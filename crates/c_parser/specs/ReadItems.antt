@@ -7,12 +7,12 @@ use Rattle.c_tokens.specs.Numbers.{is_spelled}
 use Rattle.c_tokens.specs.declared.token.Token.{Token}
 use Rattle.c_tokens.specs.declared.token.Punct.{Punct}
 use Rattle.c_tokens.specs.declared.token.Punct.TheVariants as sign
-use Rattle.c_parser.specs.Tree.{Declared, Stm, Stmt, Block, stms, Param, Item}
-use Rattle.c_parser.specs.Tree as item
-use Rattle.c_parser.specs.Heights.{height_if, height_of_init}
-use Rattle.c_parser.specs.Signs.{◌>>=◌, place, is_sign, is_word}
-use Rattle.c_parser.specs.Brackets.{bracket, stacked, behind}
-use Rattle.c_parser.specs.ReadExpressions.{Read, closing}
+use Rattle.c_expressions.specs.Tree.{Declared, Stm, Stmt, Block, stms, Param, Item}
+use Rattle.c_expressions.specs.Tree as item
+use Rattle.c_expressions.specs.Heights.{height_if, height_of_init}
+use Rattle.c_expressions.specs.Signs.{◌>>=◌, place, is_sign, is_word}
+use Rattle.c_expressions.specs.Brackets.{bracket, stacked, behind}
+use Rattle.c_expressions.specs.ReadExpressions.{Read, closing}
 use Rattle.c_parser.specs.Declarations.{name_at, read_type, behind_attributes}
 use Rattle.c_parser.specs.ReadStatements.{declares, braced_within}
 use Rattle.c_parser.specs.Items.{reach_error, unless_reach, may_be_closed, outside, closed_name}

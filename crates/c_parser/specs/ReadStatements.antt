@@ -3,10 +3,10 @@ use Rattle.std.specs.Prelude.{ℕ, zero, suc, Bool, true, false, ◌&&◌, is_so
 use Rattle.c_tokens.specs.declared.token.Token.{Token}
 use Rattle.c_tokens.specs.declared.token.Punct.{Punct}
 use Rattle.c_tokens.specs.declared.token.Punct.TheVariants as sign
-use Rattle.c_parser.specs.Tree.{Exp, Declared, First, NoFirst, FirstExp, FirstDeclared, Stm, Stmt, Else, NoElse, OrElse, stms}
-use Rattle.c_parser.specs.Tree as form
-use Rattle.c_parser.specs.Signs.{◌>>=◌, place, is_sign, is_word, expr}
-use Rattle.c_parser.specs.ReadExpressions.{Read, closing, read, within}
+use Rattle.c_expressions.specs.Tree.{Exp, Declared, First, NoFirst, FirstExp, FirstDeclared, Stm, Stmt, Else, NoElse, OrElse, stms}
+use Rattle.c_expressions.specs.Tree as form
+use Rattle.c_expressions.specs.Signs.{◌>>=◌, place, is_sign, is_word, expr}
+use Rattle.c_expressions.specs.ReadExpressions.{Read, closing, read, within}
 use Rattle.c_parser.specs.Declarations.{begins_declaration, name_at, read_declaration}
 use Rattle.c_parser.specs.Statements.{Parts}
 

@@ -3,17 +3,17 @@ use Rattle.std.specs.Prelude.{map, Option, Some, None}
 use Rattle.std.specs.Option.{option_map}
 use Rattle.std.specs.declared.boxed.Box.{Box}
 use Rattle.std.specs.declared.alloc.Global.{Global}
-use Rattle.c_parser.specs.Tree as t
-use Rattle.c_parser.specs.Tree.{exps}
-use Rattle.c_parser.specs.View.{expr_view, exprs_view}
-use Rattle.c_parser.specs.declared.tree.RawDeclared.{RawDeclared}
-use Rattle.c_parser.specs.declared.tree.RawInit.{RawInit}
-use Rattle.c_parser.specs.declared.tree.RawInit.TheVariants.{Absent, One, Many}
-use Rattle.c_parser.specs.declared.tree.RawFirst.{RawFirst}
-use Rattle.c_parser.specs.declared.tree.RawFirst.TheVariants.{Absent as NoFirst, Expr as FirstExpr, Declare as FirstDeclare}
-use Rattle.c_parser.specs.declared.tree.RawStmt.{RawStmt}
-use Rattle.c_parser.specs.declared.tree.RawForm.{RawForm, Row_of-RawStmt, end_of-RawStmt, more_of-RawStmt, Held-RawForm-If-2, None', Some'}
-use Rattle.c_parser.specs.declared.tree.RawForm.TheVariants.{Empty, Expr as Only, Declare, Block', If', While', Do', For', Break, Continue, Return, Label'}
+use Rattle.c_expressions.specs.Tree as t
+use Rattle.c_expressions.specs.Tree.{exps}
+use Rattle.c_expressions.specs.View.{expr_view, exprs_view}
+use Rattle.c_expressions.specs.declared.tree.RawDeclared.{RawDeclared}
+use Rattle.c_expressions.specs.declared.tree.RawInit.{RawInit}
+use Rattle.c_expressions.specs.declared.tree.RawInit.TheVariants.{Absent, One, Many}
+use Rattle.c_expressions.specs.declared.tree.RawFirst.{RawFirst}
+use Rattle.c_expressions.specs.declared.tree.RawFirst.TheVariants.{Absent as NoFirst, Expr as FirstExpr, Declare as FirstDeclare}
+use Rattle.c_expressions.specs.declared.tree.RawStmt.{RawStmt}
+use Rattle.c_expressions.specs.declared.tree.RawForm.{RawForm, Row_of-RawStmt, end_of-RawStmt, more_of-RawStmt, Held-RawForm-If-2, None', Some'}
+use Rattle.c_expressions.specs.declared.tree.RawForm.TheVariants.{Empty, Expr as Only, Declare, Block', If', While', Do', For', Break, Continue, Return, Label'}
 use Rattle.c_parser.specs.declared.item.RawParam.{RawParam}
 use Rattle.c_parser.specs.declared.item.Item.{Item}
 use Rattle.c_parser.specs.declared.item.Item.TheVariants as item

@@ -2,8 +2,9 @@
 use Rattle.std.specs.Prelude.{ℕ, List, [], ◌∷◌, Option, Some, None}
 use Rattle.c_core.specs.declared.number.Spot.{Spot}
 use Rattle.c_tokens.specs.declared.token.Token.{Token}
-use Rattle.c_parser.specs.Tree.{Item}
+use Rattle.c_expressions.specs.Tree.{Item}
 use Rattle.c_parser.specs.Items.{ItemForm, Reach, Function, Prototype, Global, Closed, Nothing}
+use Rattle.c_expressions.specs.Limits.{max_height, max_brackets}
 
 -- the form spells no front of the tokens
 abbrev pub SpellsNone : ItemForm → List Token → Type 0
@@ -36,14 +37,6 @@ pub data Items (h b : ℕ) : List Token → List Item → Type 0 where
 pub data Stops (h b : ℕ) : List Token → Spot → Type 0 where
   StopsHere : {t : Token} {ts : List Token} → ((x : Option Item) (rest : List Token) → Takes h b (t ∷ ts) x rest → ⊥) → Stops h b (t ∷ ts) t.spot
   StopsLater : {ts rest : List Token} {x : Option Item} {p : Spot} → Takes h b ts x rest → Stops h b rest p → Stops h b ts p
-
--- statements and expressions nest at most so deep
-abbrev pub max_height : ℕ
-max_height = 200
-
--- so many brackets are open at one place at most
-abbrev pub max_brackets : ℕ
-max_brackets = 200
 
 -- the tokens spell a source of these items
 abbrev pub IsSource : List Token → List Item → Type 0

@@ -2,12 +2,12 @@
 use Rattle.std.specs.Prelude.{ℕ, false, List, Option}
 use Rattle.std.specs.Option.{option_map}
 use Rattle.c_tokens.specs.declared.token.Token.{Token}
-use Rattle.c_parser.specs.Tree.{Exp, Stm, Else}
-use Rattle.c_parser.specs.Signs.{expr}
-use Rattle.c_parser.specs.ReadExpressions.{Read, read, within}
+use Rattle.c_expressions.specs.Tree.{Exp, Stm, Else}
+use Rattle.c_expressions.specs.Signs.{expr}
+use Rattle.c_expressions.specs.ReadExpressions.{Read, read, within}
 use Rattle.c_parser.specs.Statements.{Parts}
 use Rattle.c_parser.specs.ReadStatements.{Start, AtSemicolon, AtBrace, AtBreak, AtContinue, AtReturn, AtIf, AtWhile, AtDo, AtFor, AtLabel, AtExpression, header_within, braced_within, statement_level, statement_from, in_parens, else_part, returned, do_test, header_in_parens}
-use Rattle.c_parser.specs.View.{expr_view}
+use Rattle.c_expressions.specs.View.{expr_view}
 use Rattle.c_parser.specs.SourceView.{first_view}
 use Rattle.c_parser.specs.declared.headers.Header.{Header}
 use Rattle.c_parser.specs.declared.statements.Start.{Start as Raw}

@@ -3,12 +3,12 @@ use Rattle.std.specs.Prelude.{◌≡◌, ℕ, zero, suc, Bool, true, false, List
 use Rattle.c_core.specs.declared.number.Spot.{Spot}
 use Rattle.c_tokens.specs.declared.token.Token.{Token}
 use Rattle.c_tokens.specs.declared.token.Punct.TheVariants as sign
-use Rattle.c_parser.specs.Tree.{Exp, Declared, First, NoFirst, FirstExp, FirstDeclared, Stm, Stmt, Form, Else, NoElse, OrElse, stms}
-use Rattle.c_parser.specs.Tree as form
-use Rattle.c_parser.specs.Signs.{sign_token, word_token, place, is_word, expr}
-use Rattle.c_parser.specs.Words.{is_name}
-use Rattle.c_parser.specs.Brackets.{PassedWithin}
-use Rattle.c_parser.specs.Expressions.{Within, Spells}
+use Rattle.c_expressions.specs.Tree.{Exp, Declared, First, NoFirst, FirstExp, FirstDeclared, Stm, Stmt, Form, Else, NoElse, OrElse, stms}
+use Rattle.c_expressions.specs.Tree as form
+use Rattle.c_expressions.specs.Signs.{sign_token, word_token, place, is_word, expr}
+use Rattle.c_expressions.specs.Words.{is_name}
+use Rattle.c_expressions.specs.Brackets.{PassedWithin}
+use Rattle.c_expressions.specs.Expressions.{Within, Spells}
 use Rattle.c_parser.specs.Declarations.{Declaration}
 
 -- what stands first in the parentheses of a `for`, its test and its step

@@ -1,19 +1,20 @@
 // Items of no other form, as those of system headers: up to the first `;` outside brackets, of which the name alone is kept.
 ghost use Rattle.std.specs.Prelude.{◌≡◌, ◌+◌, ◌<◌, ◌^◌, ℕ, []};
 ghost use Rattle.std.specs.List.{list_all};
-ghost use Rattle.c_parser.specs.Gives.{Reads};
-ghost use Rattle.c_parser.specs.Passes.{bracket_view, named, name_here};
+ghost use Rattle.c_expressions.specs.Gives.{Reads};
+ghost use Rattle.c_expressions.specs.Passes.{bracket_view};
+ghost use Rattle.c_parser.specs.Specified.{named, name_here};
 ghost use Rattle.c_parser.specs.SourceView.{item_if};
 ghost use Rattle.c_parser.specs.Items.{may_be_closed, is_closed_sign, depth_behind, outside, closed_name};
 ghost use Rattle.c_parser.specs.ReadItems.{to_semicolon, is_closed, read_closed};
 
-use crate::brackets::{Bracket, behind_closing, bracket_at};
-use crate::cursor::Read;
-use crate::fault::Unread;
 use crate::item::Item;
-use crate::look::{behind, is_sign, place_at};
 use crate::specifiers::{is_attribute, is_word, word_at};
 use c_core::Spot;
+use c_expressions::Unread;
+use c_expressions::brackets::{Bracket, behind_closing, bracket_at};
+use c_expressions::cursor::Read;
+use c_expressions::look::{behind, is_sign, place_at};
 use c_tokens::{Punct, Token, TokenKind};
 use std::alloc::Global;
 use wv_base::Text;

@@ -1,21 +1,19 @@
 // Declarations (C11 6.7): their declarators, with sizes and initializers.
 ghost use Rattle.std.specs.Prelude.{◌≡◌, ◌≤◌, ◌^◌, map, length};
 ghost use Rattle.std.specs.Option.{option_map};
-ghost use Rattle.c_parser.specs.View.{expr_view, exprs_view};
+ghost use Rattle.c_expressions.specs.View.{expr_view, exprs_view};
 ghost use Rattle.c_parser.specs.SourceView.{init_view, declared_view};
-ghost use Rattle.c_parser.specs.Gives.{Reads};
-ghost use Rattle.c_parser.specs.ReadExpressions.{read, within};
+ghost use Rattle.c_expressions.specs.Gives.{Reads};
+ghost use Rattle.c_expressions.specs.ReadExpressions.{read, within};
 ghost use Rattle.c_parser.specs.Declarations.{read_size, read_values, read_value, read_initializer, read_declarator, read_declarators};
 ghost use Rattle.c_parser.specs.ReadStatements.{declares};
 
-use crate::cursor::Read;
-use crate::expressions::{expression_at, within_at};
-use crate::fault::Unread;
-use crate::look::{behind, closed, is_sign, place_at};
 use crate::specifiers::{name_at, type_at};
-use crate::strength::{ASSIGNMENT, CONDITIONAL};
-use crate::tree::{RawDeclared, RawExpr, RawInit};
 use c_core::IntType;
+use c_expressions::cursor::Read;
+use c_expressions::look::{behind, closed, is_sign, place_at};
+use c_expressions::strength::{ASSIGNMENT, CONDITIONAL};
+use c_expressions::{RawDeclared, RawExpr, RawInit, Unread, expression_at, within_at};
 use c_tokens::{Punct, Token};
 use std::alloc::Global;
 use wv_base::{Seq, Text};

@@ -1,22 +1,20 @@
 // What statements hold beside other statements: tests, returned values and the headers of `for` (C11 6.8).
 ghost use Rattle.std.specs.Prelude.{◌≡◌, ◌≤◌, ◌^◌, false};
 ghost use Rattle.std.specs.Option.{option_map};
-ghost use Rattle.c_parser.specs.Signs.{expr};
-ghost use Rattle.c_parser.specs.View.{expr_view};
+ghost use Rattle.c_expressions.specs.Signs.{expr};
+ghost use Rattle.c_expressions.specs.View.{expr_view};
 ghost use Rattle.c_parser.specs.SourceView.{first_view};
-ghost use Rattle.c_parser.specs.Gives.{Reads};
-ghost use Rattle.c_parser.specs.ReadExpressions.{read};
+ghost use Rattle.c_expressions.specs.Gives.{Reads};
+ghost use Rattle.c_expressions.specs.ReadExpressions.{read};
 ghost use Rattle.c_parser.specs.ReadStatements.{declares, optional, first_part, for_parts, header_within};
 ghost use Rattle.c_parser.specs.StatementParts.{header_view, expression_in_parens, value_of_return, test_of_do, header_of_for};
 
-use crate::cursor::Read;
 use crate::declarations::declaration_at;
-use crate::expressions::{expression_at, within_at};
-use crate::fault::Unread;
-use crate::look::{behind, closed, is_sign};
 use crate::specifiers::{begins_declaration, is_word};
-use crate::strength::EXPR;
-use crate::tree::{RawExpr, RawFirst};
+use c_expressions::cursor::Read;
+use c_expressions::look::{behind, closed, is_sign};
+use c_expressions::strength::EXPR;
+use c_expressions::{RawExpr, RawFirst, Unread, expression_at, within_at};
 use c_tokens::{Punct, Token};
 use std::alloc::Global;
 

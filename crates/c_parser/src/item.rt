@@ -2,8 +2,8 @@ ghost use Rattle.std.specs.Prelude.{map};
 ghost use Rattle.c_parser.specs.SourceView.{item_view};
 ghost use Rattle.c_parser.specs.Formed.{IsFormed};
 
-use crate::tree::{RawDeclared, RawStmt};
 use c_core::{IntType, Spot};
+use c_expressions::{RawDeclared, RawStmt};
 use wv_base::{Seq, Text};
 
 /// What stands at file scope. Each spot is the place of the name; no result type is void.

@@ -1,22 +1,21 @@
 // Items: the forms in their order. No form reads further than the item that a later one takes, so each token is read a bounded
 // number of times.
 ghost use Rattle.std.specs.Prelude.{◌≡◌, ◌≤◌, ◌^◌, ℕ, [], ◌∷◌};
-ghost use Rattle.c_parser.specs.Gives.{Reads};
+ghost use Rattle.c_expressions.specs.Gives.{Reads};
 ghost use Rattle.c_parser.specs.SourceView.{stmt_view, item_if};
 ghost use Rattle.c_parser.specs.ReadItems.{read_reach, read_body, read_function, read_prototype, read_global, read_closed, read_nothing, first_form, read_item};
 
-use crate::brackets::behind_closing;
 use crate::closed::closed_at;
-use crate::cursor::Read;
 use crate::declarations::declaration_at;
-use crate::fault::Unread;
 use crate::item::Item;
-use crate::look::{behind, closed, place_at};
 use crate::parameters::{parameters_at, types_at};
 use crate::specifiers::{behind_attributes, name_at, type_at};
 use crate::statements::braced_at;
-use crate::tree::{RawForm, RawStmt};
-use crate::words::is_spelled;
+use c_expressions::brackets::behind_closing;
+use c_expressions::cursor::Read;
+use c_expressions::look::{behind, closed, place_at};
+use c_expressions::words::is_spelled;
+use c_expressions::{RawForm, RawStmt, Unread};
 use c_tokens::{Punct, Token};
 use std::alloc::Global;
 use wv_base::Text;

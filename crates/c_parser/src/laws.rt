@@ -4,9 +4,10 @@ ghost use Rattle.c_core.specs.TextOrder.{rises};
 ghost use Rattle.c_core.specs.declared.number.Spot.{Spot};
 ghost use Rattle.c_tokens.specs.Reading.{Ending, Tokens};
 ghost use Rattle.c_tokens.specs.declared.token.Token.{Token};
-ghost use Rattle.c_parser.specs.Tree.{Exp, Item};
-ghost use Rattle.c_parser.specs.Expressions.{Spells};
-ghost use Rattle.c_parser.specs.Sources.{Takes, IsSource, IsSyntax, max_height, max_brackets};
+ghost use Rattle.c_expressions.specs.Tree.{Exp, Item};
+ghost use Rattle.c_expressions.specs.Expressions.{Spells};
+ghost use Rattle.c_parser.specs.Sources.{Takes, IsSource, IsSyntax};
+ghost use Rattle.c_expressions.specs.Limits.{max_height, max_brackets};
 ghost use Rattle.c_parser.specs.TextOrder.{spots_of_items, tokens_rise};
 ghost use Rattle.c_parser.specs.Formed.{AreOrderly, IsFormed};
 

@@ -1,36 +1,26 @@
-//! The C grammar: which trees the tokens of a source text, of a witness expression and of a `\result` constraint spell.
+//! The C grammar: which declarations, statements, items and sources tokens spell, over the expressions of `c_expressions`.
 #![tactic(auto)]
 
-mod brackets;
 mod closed;
-mod cursor;
 mod declarations;
-mod expressions;
 mod fault;
 mod headers;
 mod item;
 mod items;
-mod kinds;
 mod laws;
-mod look;
-mod measured;
 mod parameters;
 mod source;
 mod specifiers;
 mod statements;
-mod strength;
-mod tree;
-mod type_name;
-mod type_words;
-mod witness;
-mod words;
 
-pub use fault::{ExprFault, ParseFault};
+pub use c_expressions::{
+    ExprFault, RawDeclared, RawExpr, RawFirst, RawForm, RawInit, RawNode, RawStmt, ResultTest,
+    parse_expr, parse_result,
+};
+pub use fault::ParseFault;
 pub use item::{Item, RawParam, Source};
 pub use laws::{
     one_expression, one_item, one_source, one_syntax, some_outcome, source_or_syntax,
     sources_are_formed, text_order, tokens_are_orderly,
 };
 pub use source::parse;
-pub use tree::{RawDeclared, RawExpr, RawFirst, RawForm, RawInit, RawNode, RawStmt, ResultTest};
-pub use witness::{parse_expr, parse_result};

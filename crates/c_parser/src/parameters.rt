@@ -1,15 +1,15 @@
 // The parameters of functions (C11 6.7.6.3).
 ghost use Rattle.std.specs.Prelude.{◌≡◌, map, length};
-ghost use Rattle.c_parser.specs.Gives.{Reads};
+ghost use Rattle.c_expressions.specs.Gives.{Reads};
 ghost use Rattle.c_parser.specs.SourceView.{param_view};
 ghost use Rattle.c_parser.specs.ReadItems.{is_void, read_parameter, read_parameter_list, read_parameters, read_parameter_type, read_type_list, read_parameter_types, parameters_within, types_within};
 
-use crate::cursor::Read;
-use crate::fault::Unread;
 use crate::item::RawParam;
-use crate::look::{behind, is_sign, place_at};
 use crate::specifiers::{is_word, name_at, type_at};
 use c_core::IntType;
+use c_expressions::Unread;
+use c_expressions::cursor::Read;
+use c_expressions::look::{behind, is_sign, place_at};
 use c_tokens::{Punct, Token};
 use std::alloc::Global;
 use wv_base::{Seq, Text};

@@ -1,18 +1,20 @@
 ghost use Rattle.std.specs.Prelude.{◌≡◌, List, ◌++◌, OnOk, length};
 ghost use Rattle.std.specs.Option.{option_to_list};
 ghost use Rattle.c_core.specs.declared.number.Spot.{Spot};
-ghost use Rattle.c_parser.specs.Tree as t;
-ghost use Rattle.c_parser.specs.Signs.{place};
-ghost use Rattle.c_parser.specs.Sources.{IsSource, IsSyntax, max_height, max_brackets};
+ghost use Rattle.c_expressions.specs.Tree as t;
+ghost use Rattle.c_expressions.specs.Signs.{place};
+ghost use Rattle.c_parser.specs.Sources.{IsSource, IsSyntax};
+ghost use Rattle.c_expressions.specs.Limits.{max_height, max_brackets};
 ghost use Rattle.c_parser.specs.Formed.{AreOrderly};
 ghost use Rattle.c_parser.specs.ReadItems.{read_items};
 ghost use Rattle.c_parser.specs.Parsing.{Answers, IsFound, IsRefused, Outcomes};
 ghost use Rattle.c_parser.specs.declared.fault.ParseFault;
 
-use crate::fault::{ParseFault, Unread};
+use crate::fault::ParseFault;
 use crate::item::{Item, Source};
 use crate::items::item_at;
-use crate::look::place_at;
+use c_expressions::Unread;
+use c_expressions::look::place_at;
 use c_tokens::Token;
 use std::alloc::Global;
 use wv_base::{OutOfMemory, Seq};

@@ -1,19 +1,20 @@
 // The specifiers of declarations and the attributes behind parameters (C11 6.7, 6.7.2).
 ghost use Rattle.std.specs.Prelude.{◌≡◌, length};
 ghost use Rattle.std.specs.Option.{option_copied};
-ghost use Rattle.c_parser.specs.Signs.{word_at, is_word};
-ghost use Rattle.c_parser.specs.Words.{is_specifier, is_storage, is_attribute, may_specify};
+ghost use Rattle.c_expressions.specs.Signs.{word_at, is_word};
+ghost use Rattle.c_expressions.specs.Words.{is_specifier, is_storage, is_attribute, may_specify};
 ghost use Rattle.c_parser.specs.Declarations.{part_of, part_at, begins_declaration, is_spelled_attribute, name_at, behind_pair, behind_attributes, read_specifiers, read_type};
-ghost use Rattle.c_parser.specs.Gives.{Reads};
-ghost use Rattle.c_parser.specs.Passes.{Passes, part_view, Specified};
+ghost use Rattle.c_expressions.specs.Gives.{Reads};
+ghost use Rattle.c_expressions.specs.Passes.{Passes};
+ghost use Rattle.c_parser.specs.Specified.{part_view, Specified};
 
-use crate::brackets::behind_closing;
-use crate::cursor::Read;
-use crate::fault::Unread;
-use crate::look::{behind, is_sign};
-use crate::type_words::{TypeWord, WordCounts, count, type_of, type_word};
-use crate::words::{is_among, is_name, is_spelled};
 use c_core::IntType;
+use c_expressions::Unread;
+use c_expressions::brackets::behind_closing;
+use c_expressions::cursor::Read;
+use c_expressions::look::{behind, is_sign};
+use c_expressions::type_words::{TypeWord, WordCounts, count, type_of, type_word};
+use c_expressions::words::{is_among, is_name, is_spelled};
 use c_tokens::{Punct, Token, TokenKind};
 
 const SPECIFIERS: [&str; 9] = [

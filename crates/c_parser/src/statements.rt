@@ -1,25 +1,23 @@
 // Statements (C11 6.8). Only nesting recurs, which the height bounds: the statements of a block are a loop.
 ghost use Rattle.std.specs.Prelude.{◌≡◌, ◌≤◌, ◌^◌, ◌&&◌, map, drop, IfOk};
 ghost use Rattle.c_tokens.specs.declared.token.Punct.TheVariants.{Semicolon};
-ghost use Rattle.c_parser.specs.Tree as t;
-ghost use Rattle.c_parser.specs.Signs.{place};
-ghost use Rattle.c_parser.specs.ReadExpressions.{closing};
+ghost use Rattle.c_expressions.specs.Tree as t;
+ghost use Rattle.c_expressions.specs.Signs.{place};
+ghost use Rattle.c_expressions.specs.ReadExpressions.{closing};
 ghost use Rattle.c_parser.specs.SourceView.{form_view, stmt_view, else_if};
-ghost use Rattle.c_parser.specs.Gives.{Reads};
+ghost use Rattle.c_expressions.specs.Gives.{Reads};
 ghost use Rattle.c_parser.specs.Declarations.{begins_declaration};
 ghost use Rattle.c_parser.specs.ReadStatements.{start, AtBrace, AtReturn, AtIf, AtWhile, AtDo, AtFor, AtLabel, AtExpression, statement_level, braced_within};
 ghost use Rattle.c_parser.specs.StatementParts.{start_view, statement_of, else_of};
 
-use crate::cursor::Read;
 use crate::declarations::declaration_at;
-use crate::expressions::expression_at;
-use crate::fault::Unread;
 use crate::headers::{do_test_at, header_in_parens, returned_at, test_in_parens};
-use crate::look::{behind, closed, is_sign, place_at};
 use crate::specifiers::{begins_declaration, is_word, name_at};
-use crate::strength::EXPR;
-use crate::tree::{RawForm, RawStmt};
 use c_core::Spot;
+use c_expressions::cursor::Read;
+use c_expressions::look::{behind, closed, is_sign, place_at};
+use c_expressions::strength::EXPR;
+use c_expressions::{RawForm, RawStmt, Unread, expression_at};
 use c_tokens::{Punct, Token};
 use std::alloc::Global;
 use wv_base::{OutOfMemory, Seq, Text};

@@ -7,15 +7,15 @@ use Rattle.c_core.specs.Tree as t
 use Rattle.c_core.specs.View.{expr_view as typed_expr_view, form_view as typed_form_view, stmt_view as typed_view, stmts_view as typed_views}
 use Rattle.c_core.specs.declared.tree.Expr.{Expr}
 use Rattle.c_core.specs.declared.tree.Stmt.{Stmt}
-use Rattle.c_parser.specs.Tree as raw
-use Rattle.c_parser.specs.Tree.{stms}
+use Rattle.c_expressions.specs.Tree as raw
+use Rattle.c_expressions.specs.Tree.{stms}
 use Rattle.c_parser.specs.SourceView.{stmt_view}
-use Rattle.c_parser.specs.declared.tree.RawStmt.{RawStmt}
+use Rattle.c_expressions.specs.declared.tree.RawStmt.{RawStmt}
 use Rattle.c_core.specs.declared.tree.Form.TheVariants as form
-use Rattle.c_parser.specs.View.{expr_view}
+use Rattle.c_expressions.specs.View.{expr_view}
 use Rattle.c_parser.specs.SourceView.{form_view, else_if}
-use Rattle.c_parser.specs.declared.tree.RawExpr.{RawExpr}
-use Rattle.c_parser.specs.declared.tree.RawForm.TheVariants as raw_form
+use Rattle.c_expressions.specs.declared.tree.RawExpr.{RawExpr}
+use Rattle.c_expressions.specs.declared.tree.RawForm.TheVariants as raw_form
 use Rattle.check_elaborate.specs.Walks.{else_of}
 
 pub next_statement : (ss : List RawStmt) (i : ℕ) (s : RawStmt) → i < length ss → s ≡ get_or ss i s

@@ -6,7 +6,7 @@ use Rattle.c_core.specs.View.{function_view, functions_view}
 use Rattle.c_core.specs.declared.number.DataModel.{DataModel}
 use Rattle.c_core.specs.declared.tree.Start.{Start}
 use Rattle.c_core.specs.declared.tree.Function.{Function}
-use Rattle.c_parser.specs.Tree as raw
+use Rattle.c_expressions.specs.Tree as raw
 use Rattle.c_parser.specs.SourceView.{item_view}
 use Rattle.c_parser.specs.declared.item.Item.{Item}
 use Rattle.check_rules.specs.Checked.{starts_of, functions_of}

@@ -4,11 +4,11 @@ use Rattle.std.proofs.lemmas.List.{drop_more}
 use Rattle.c_core.specs.Tree as t
 use Rattle.c_core.specs.View.{init_view, names_view}
 use Rattle.c_core.specs.declared.tree.Declared.{Declared}
-use Rattle.c_parser.specs.Tree as raw
+use Rattle.c_expressions.specs.Tree as raw
 use Rattle.c_parser.specs.SourceView.{declared_view}
-use Rattle.c_parser.specs.View.{expr_view}
-use Rattle.c_parser.specs.declared.tree.RawDeclared.{RawDeclared}
-use Rattle.c_parser.specs.declared.tree.RawExpr.{RawExpr}
+use Rattle.c_expressions.specs.View.{expr_view}
+use Rattle.c_expressions.specs.declared.tree.RawDeclared.{RawDeclared}
+use Rattle.c_expressions.specs.declared.tree.RawExpr.{RawExpr}
 use Rattle.c_core.specs.declared.number.DataModel.{DataModel}
 use Rattle.c_core.specs.declared.number.Spot.{Spot}
 use Rattle.check_rules.specs.Checked.{typed_init, typed_names}

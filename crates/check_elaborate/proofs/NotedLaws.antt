@@ -1,7 +1,7 @@
 -- What is noted along a walk is what the parts of a source give.
 use Rattle.std.proofs.Common.{◌≡◌, ◌&&◌, ◌++◌, ◌∷◌, [], ℕ, Bool, true, false, List, length, Option, Some, None, is_some, refl, ap, sym, ◌∙◌}
 use Rattle.c_core.specs.declared.number.DataModel.{DataModel}
-use Rattle.c_parser.specs.Tree.{Exp, Item, Declared}
+use Rattle.c_expressions.specs.Tree.{Exp, Item, Declared}
 use Rattle.check_rules.specs.declared.fault.CheckCode.TheVariants as code
 use Rattle.check_rules.specs.declared.fault.Refusal.{Refusal}
 use Rattle.check_rules.specs.Codes.{is_again, is_wrong_init, is_wrong_size, is_too_small, count_of_init, passes_limit, cells_in}

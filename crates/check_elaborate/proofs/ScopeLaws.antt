@@ -3,7 +3,7 @@ use Rattle.std.proofs.Common.{arith, ◌≡◌, ◌≤◌, ◌+◌, ◌++◌, �
 use Rattle.std.proofs.Math.Seq.{take-append_seam, drop-append_seam}
 use Rattle.c_core.specs.declared.number.DataModel.{DataModel}
 use Rattle.c_core.specs.declared.tree.Object.{Object}
-use Rattle.c_parser.specs.Tree as raw
+use Rattle.c_expressions.specs.Tree as raw
 use Rattle.check_rules.specs.Names.{Entry}
 use Rattle.check_rules.specs.Scopes.{Scope, scope, seen, opened, closed, after_name, after_names, after_first, after_statement, after_form, after_else, after_block}
 use Rattle.check_elaborate.specs.Walks.{cut}

@@ -3,7 +3,7 @@ use Rattle.std.proofs.Common.{◌≡◌, ◌++◌, ◌∷◌, ℕ, List, length,
 use Rattle.std.proofs.lemmas.List.{append_assoc}
 use Rattle.c_core.specs.declared.number.DataModel.{DataModel}
 use Rattle.c_core.specs.declared.tree.Start.{Start}
-use Rattle.c_parser.specs.Tree as raw
+use Rattle.c_expressions.specs.Tree as raw
 use Rattle.check_rules.specs.Checked.{start_of_init, starts_of_names}
 use Rattle.check_rules.specs.Scopes.{Scope, seen, after_name}
 

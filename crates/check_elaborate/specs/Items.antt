@@ -6,7 +6,7 @@ use Rattle.c_core.specs.declared.number.DataModel.{DataModel}
 use Rattle.c_core.specs.declared.tree.Start.{Start}
 use Rattle.c_core.specs.declared.tree.Function.{Function}
 use Rattle.check_sequencing.specs.declared.kept.Kept.{Kept}
-use Rattle.c_parser.specs.Tree as raw
+use Rattle.c_expressions.specs.Tree as raw
 use Rattle.check_rules.specs.Checked.{typed_function, starts_of_names}
 use Rattle.check_rules.specs.Kept as rule
 use Rattle.check_rules.specs.Parts.{parts_of_names, parts_of_body}

@@ -7,7 +7,7 @@ use Rattle.c_core.specs.View.{stmt_view}
 use Rattle.c_core.specs.declared.number.DataModel.{DataModel}
 use Rattle.c_core.specs.declared.number.Spot.{Spot}
 use Rattle.c_core.specs.declared.tree.Stmt.{Stmt}
-use Rattle.c_parser.specs.Tree as raw
+use Rattle.c_expressions.specs.Tree as raw
 use Rattle.check_rules.specs.declared.fault.Refusal.{Refusal}
 use Rattle.check_rules.specs.Kept.{Kept, kept_of_parts}
 use Rattle.check_rules.specs.Names.{Entry}

@@ -3,8 +3,8 @@ ghost use Rattle.std.specs.Prelude.{◌≡◌, ◌&&◌, false, List, length, ma
 ghost use Rattle.std.specs.Option.{option_map};
 ghost use Rattle.c_core.specs.View.{expr_view as typed_view, exprs_view as typed_views, init_view as typed_init_view, names_view};
 ghost use Rattle.c_parser.specs.SourceView.{init_view, declared_view};
-ghost use Rattle.c_parser.specs.Tree.{exps};
-ghost use Rattle.c_parser.specs.View.{expr_view, exprs_view};
+ghost use Rattle.c_expressions.specs.Tree.{exps};
+ghost use Rattle.c_expressions.specs.View.{expr_view, exprs_view};
 ghost use Rattle.check_rules.specs.Checked as checked;
 ghost use Rattle.check_rules.specs.Codes as codes;
 ghost use Rattle.check_rules.specs.Names.{Entry};

@@ -2,7 +2,7 @@
 ghost use Rattle.std.specs.Prelude.{◌≡◌, IfOk, OnOk};
 ghost use Rattle.std.specs.Option.{option_map};
 ghost use Rattle.c_core.specs.View.{expr_view as typed_view, expr_view_if as typed_view_if};
-ghost use Rattle.c_parser.specs.View.{expr_view};
+ghost use Rattle.c_expressions.specs.View.{expr_view};
 ghost use Rattle.check_rules.specs.Checked as checked;
 ghost use Rattle.check_rules.specs.Parts as part;
 ghost use Rattle.check_rules.specs.Roles.{role_of};

@@ -2,8 +2,8 @@
 ghost use Rattle.std.specs.Prelude.{◌≡◌, false, map, IfOk, OnOk};
 ghost use Rattle.c_core.specs.View.{function_view, stmts_view};
 ghost use Rattle.c_parser.specs.SourceView.{param_view, stmt_view};
-ghost use Rattle.c_parser.specs.Tree as raw;
-ghost use Rattle.c_parser.specs.Tree.{stms};
+ghost use Rattle.c_expressions.specs.Tree as raw;
+ghost use Rattle.c_expressions.specs.Tree.{stms};
 ghost use Rattle.check_rules.specs.Checked as checked;
 ghost use Rattle.check_rules.specs.Kept.{kept_of_parts};
 ghost use Rattle.check_rules.specs.Parts as part;

@@ -3,8 +3,8 @@ ghost use Rattle.std.specs.Prelude.{◌≡◌, ◌++◌, ◌-◌, true, length, 
 ghost use Rattle.c_core.specs.Types.{fit};
 ghost use Rattle.c_core.specs.View.{expr_view as typed_view};
 ghost use Rattle.c_parser.specs.SourceView.{init_view, declared_view};
-ghost use Rattle.c_parser.specs.Tree.{exps};
-ghost use Rattle.c_parser.specs.View.{expr_view, exprs_view};
+ghost use Rattle.c_expressions.specs.Tree.{exps};
+ghost use Rattle.c_expressions.specs.View.{expr_view, exprs_view};
 ghost use Rattle.check_rules.specs.Checked as checked;
 ghost use Rattle.check_rules.specs.Constants as constants;
 ghost use Rattle.check_rules.specs.Noting.{noted_part};

@@ -2,7 +2,7 @@
 ghost use Rattle.std.specs.Prelude.{◌≡◌, ◌++◌, ◌∷◌, [], map, IfOk, OnOk};
 ghost use Rattle.c_core.specs.View.{functions_view};
 ghost use Rattle.c_parser.specs.SourceView.{item_view, param_view, stmt_view};
-ghost use Rattle.c_parser.specs.Tree as raw;
+ghost use Rattle.c_expressions.specs.Tree as raw;
 ghost use Rattle.check_rules.specs.Checked as checked;
 ghost use Rattle.check_rules.specs.Kept.{kept_of_parts, kept_outside};
 ghost use Rattle.check_rules.specs.Names as known_as;

@@ -2,8 +2,8 @@
 ghost use Rattle.std.specs.Prelude.{◌≡◌, is_some, IfOk, OnOk};
 ghost use Rattle.std.specs.Option.{option_map};
 ghost use Rattle.c_core.specs.View.{form_view as typed_form_view};
-ghost use Rattle.c_parser.specs.Tree as raw;
-ghost use Rattle.c_parser.specs.View.{expr_view};
+ghost use Rattle.c_expressions.specs.Tree as raw;
+ghost use Rattle.c_expressions.specs.View.{expr_view};
 ghost use Rattle.check_rules.specs.Checked as checked;
 ghost use Rattle.check_rules.specs.Codes as codes;
 ghost use Rattle.check_rules.specs.Noting.{noted_part};

@@ -3,7 +3,7 @@ ghost use Rattle.std.specs.Prelude.{◌≡◌, ◌++◌, ◌∷◌, ◌||◌, []
 ghost use Rattle.std.specs.Str.{bytes_eq};
 ghost use Rattle.c_parser.specs.SourceView.{stmt_view, else_if};
 ghost use Rattle.check_scope.specs.Bodies.{has_name};
-ghost use Rattle.c_parser.specs.Tree.{stms};
+ghost use Rattle.c_expressions.specs.Tree.{stms};
 ghost use Rattle.check_rules.specs.Noting.{noted_parts};
 ghost use Rattle.check_rules.specs.Parts as part;
 ghost use Rattle.check_elaborate.specs.Walks.{scope_at, items_in, IsJudged, label, labels_seen};

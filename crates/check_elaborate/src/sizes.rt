@@ -2,7 +2,7 @@
 ghost use Rattle.std.specs.Prelude.{◌≡◌, ◌∷◌, ◌++◌, [], None, IfOk, OnOk};
 ghost use Rattle.std.specs.Option.{option_map};
 ghost use Rattle.c_parser.specs.SourceView.{init_view};
-ghost use Rattle.c_parser.specs.View.{expr_view};
+ghost use Rattle.c_expressions.specs.View.{expr_view};
 ghost use Rattle.c_core.specs.View.{expr_view as typed_view};
 ghost use Rattle.check_rules.specs.Codes as codes;
 ghost use Rattle.check_rules.specs.Kept.{kept, kept_size};

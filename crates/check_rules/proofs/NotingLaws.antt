@@ -3,7 +3,7 @@ use Rattle.std.proofs.Common.{arith, cond, ◌≡◌, ℕ, Bool, true, false, Li
 use Rattle.std.proofs.lemmas.Bool.{false≢true, false_from_ne_true}
 use Rattle.std.proofs.lemmas.Bool.Decides.{nat_tests}
 use Rattle.c_core.specs.declared.number.DataModel.{DataModel}
-use Rattle.c_parser.specs.Tree as raw
+use Rattle.c_expressions.specs.Tree as raw
 use Rattle.check_rules.specs.declared.fault.CheckCode.{CheckCode}
 use Rattle.check_rules.specs.declared.fault.CheckCode.TheVariants as code
 use Rattle.check_rules.specs.declared.fault.Refusal.{Refusal}

@@ -11,7 +11,7 @@ use Rattle.c_core.specs.declared.number.IntType.TheVariants.{Int, UInt, Long, UL
 use Rattle.c_core.specs.declared.number.DataModel.{DataModel}
 use Rattle.c_core.specs.declared.number.BinOp.{BinOp}
 use Rattle.c_core.specs.declared.number.Done.{Done}
-use Rattle.c_parser.specs.Signs.{◌>>=◌}
+use Rattle.c_expressions.specs.Signs.{◌>>=◌}
 use Rattle.c_core.specs.declared.number.Done.TheVariants.{Value, Overflow, Undefined}
 
 -- a signed type and its unsigned partner

@@ -3,8 +3,8 @@ use Rattle.std.specs.Prelude.{ℕ, Bool, true, false, List, [], ◌∷◌, ◌++
 use Rattle.c_core.specs.declared.number.IntType.{IntType}
 use Rattle.c_core.specs.declared.number.DataModel.{DataModel}
 use Rattle.c_core.specs.declared.number.Spot.{Spot}
-use Rattle.c_parser.specs.Tree as raw
-use Rattle.c_parser.specs.Tree.{Exp, Expr, Node, Number, Char, Var, Index, Unary, Cast, Step, Binary, Logic, Choose, Comma, Assign, Call, Exps, NoExp, MoreExp}
+use Rattle.c_expressions.specs.Tree as raw
+use Rattle.c_expressions.specs.Tree.{Exp, Expr, Node, Number, Char, Var, Index, Unary, Cast, Step, Binary, Logic, Choose, Comma, Assign, Call, Exps, NoExp, MoreExp}
 use Rattle.check_rules.specs.Names.{Entry}
 use Rattle.check_rules.specs.Scopes.{Scope, seen, opened, closed, with_object, after_name, after_first, after_statement, after_item, after_parameters, inside, parameter, statements_of, entry_of_function, entry_of_prototype, outermost}
 

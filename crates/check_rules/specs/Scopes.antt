@@ -3,7 +3,7 @@ use Rattle.std.specs.Prelude.{ℕ, nat_le, Bool, true, false, cond, ◌&&◌, �
 use Rattle.c_core.specs.declared.number.IntType.{IntType}
 use Rattle.c_core.specs.declared.number.DataModel.{DataModel}
 use Rattle.c_core.specs.declared.tree.Object.{Object}
-use Rattle.c_parser.specs.Tree as raw
+use Rattle.c_expressions.specs.Tree as raw
 use Rattle.check_rules.specs.Names as kind
 use Rattle.check_rules.specs.Names.{Kind, Entry, entry, built_in, is_input}
 use Rattle.check_rules.specs.Constants.{constant}

@@ -4,7 +4,7 @@ use Rattle.std.specs.List.{position_or_len}
 use Rattle.std.specs.Option.{option_map}
 use Rattle.std.specs.Str.{bytes_eq}
 use Rattle.c_core.specs.declared.number.DataModel.{DataModel}
-use Rattle.c_parser.specs.Tree as raw
+use Rattle.c_expressions.specs.Tree as raw
 use Rattle.check_rules.specs.Names.{built_in}
 use Rattle.check_rules.specs.Parts.{bodies_of}
 use Rattle.check_rules.specs.Codes.{closed_names, count_defined, is_among, is_bodiless}

@@ -5,10 +5,10 @@ use native.Mathlib.Numerals.{unary_clauses}
 use Rattle.c_core.specs.Tree as t
 use Rattle.c_core.specs.View.{expr_view as typed_view, exprs_view as typed_views}
 use Rattle.c_core.specs.declared.tree.Expr.{Expr}
-use Rattle.c_parser.specs.Tree as raw
-use Rattle.c_parser.specs.Tree.{exps}
-use Rattle.c_parser.specs.View.{expr_view, exprs_view}
-use Rattle.c_parser.specs.declared.tree.RawExpr.{RawExpr}
+use Rattle.c_expressions.specs.Tree as raw
+use Rattle.c_expressions.specs.Tree.{exps}
+use Rattle.c_expressions.specs.View.{expr_view, exprs_view}
+use Rattle.c_expressions.specs.declared.tree.RawExpr.{RawExpr}
 use Rattle.check_rules.specs.Codes.{count}
 
 pub count_of_views : (es : List RawExpr) → count (exps (exprs_view es)) ≡ length es

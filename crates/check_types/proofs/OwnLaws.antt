@@ -3,7 +3,7 @@ use Rattle.std.proofs.Common.{◌≡◌, ◌||◌, ◌&&◌, not, ℕ, Bool, tru
 use Rattle.c_core.specs.Parts.{type_of}
 use Rattle.c_core.specs.declared.number.DataModel.{DataModel}
 use Rattle.c_core.specs.declared.number.Spot.{Spot}
-use Rattle.c_parser.specs.Tree.{Expr, Node, Number, Char, Var, Index, Unary, Cast, Step, Binary, Logic, Choose, Comma, Assign, Call, Item}
+use Rattle.c_expressions.specs.Tree.{Expr, Node, Number, Char, Var, Index, Unary, Cast, Step, Binary, Logic, Choose, Comma, Assign, Call, Item}
 use Rattle.check_rules.specs.declared.fault.CheckCode.TheVariants as code
 use Rattle.check_rules.specs.declared.fault.Refusal.{Refusal}
 use Rattle.check_rules.specs.Names.{Kind, Object, Function, Closed, Entry, named, built_in, is_function}

@@ -3,7 +3,7 @@ use Rattle.std.specs.Prelude.{ℕ, Bool, false, not, List, Option, Some, None, i
 use Rattle.c_core.specs.Tree as t
 use Rattle.c_core.specs.Parts.{type_of}
 use Rattle.c_core.specs.declared.number.IntType.{IntType}
-use Rattle.c_parser.specs.Tree as raw
+use Rattle.c_expressions.specs.Tree as raw
 use Rattle.check_rules.specs.Parts.{Role, Value, Target, Effect}
 use Rattle.check_rules.specs.Codes.{is_one_void, is_place}
 

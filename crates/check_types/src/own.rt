@@ -3,7 +3,7 @@ ghost use Rattle.std.specs.Prelude.{◌≡◌, ◌||◌};
 ghost use Rattle.std.specs.Option.{option_map};
 ghost use Rattle.c_core.specs.View.{expr_view as typed_view};
 ghost use Rattle.c_core.specs.declared.number.DataModel.{DataModel as Model};
-ghost use Rattle.c_parser.specs.View.{expr_view, node_view};
+ghost use Rattle.c_expressions.specs.View.{expr_view, node_view};
 ghost use Rattle.check_rules.specs.Codes as codes;
 ghost use Rattle.check_rules.specs.Names as names;
 ghost use Rattle.check_rules.specs.Noting.{noted_part};

@@ -1,8 +1,8 @@
 // Expressions, typed part by part. Each part is looked at once, behind its own parts.
 ghost use Rattle.std.specs.Prelude.{◌≡◌, IfOk, OnOk};
 ghost use Rattle.c_core.specs.View.{expr_view as typed_view, exprs_view as typed_views};
-ghost use Rattle.c_parser.specs.Tree.{exps};
-ghost use Rattle.c_parser.specs.View.{expr_view, exprs_view, node_view};
+ghost use Rattle.c_expressions.specs.Tree.{exps};
+ghost use Rattle.c_expressions.specs.View.{expr_view, exprs_view, node_view};
 ghost use Rattle.check_rules.specs.Codes as codes;
 ghost use Rattle.check_rules.specs.Noting.{noted_parts};
 ghost use Rattle.check_rules.specs.Parts as part;

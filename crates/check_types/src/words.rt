@@ -2,7 +2,7 @@
 ghost use Rattle.std.specs.Prelude.{◌≡◌, Some, length};
 ghost use Rattle.std.specs.Option.{option_map};
 ghost use Rattle.c_core.specs.declared.number.DataModel.{DataModel};
-ghost use Rattle.c_parser.specs.View.{node_view};
+ghost use Rattle.c_expressions.specs.View.{node_view};
 ghost use Rattle.check_rules.specs.Codes as codes;
 ghost use Rattle.check_rules.specs.Names as names;
 ghost use Rattle.check_scope.specs.InScope.{all_of};

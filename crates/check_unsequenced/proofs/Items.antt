@@ -7,7 +7,7 @@ use Rattle.c_core.specs.declared.number.IntType.{IntType}
 use Rattle.c_core.specs.declared.number.DataModel.{DataModel}
 use Rattle.c_core.specs.declared.number.Spot.{Spot}
 use Rattle.c_core.specs.declared.tree.Object.{Object}
-use Rattle.c_parser.specs.Tree as raw
+use Rattle.c_expressions.specs.Tree as raw
 use Rattle.check_rules.specs.Scopes.{Scope, after_item, after_parameters, inside, statements_of, entry_of_function, with_object, parameter}
 use Rattle.check_rules.specs.Parts.{Part, Naming, Label, bodies_of, labels_of, parts_of_body, parts_of_item, parts_of_items, parts_of_labels, parts_of_names, parts_of_parameters}
 use Rattle.check_rules.specs.Order.{IsUnordered, parts_of_bodies}

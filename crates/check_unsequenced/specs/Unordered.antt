@@ -6,7 +6,7 @@ use Rattle.c_core.specs.declared.number.DataModel.{DataModel}
 use Rattle.c_core.specs.declared.number.Spot.{Spot}
 use Rattle.c_core.specs.declared.tree.Function.{Function}
 use Rattle.c_core.specs.declared.tree.Object.{Object}
-use Rattle.c_parser.specs.Tree as raw
+use Rattle.c_expressions.specs.Tree as raw
 use Rattle.check_rules.specs.Typed.{no_object}
 use Rattle.check_rules.specs.Scopes.{after_items, outermost}
 use Rattle.check_rules.specs.Parts.{bodies_of, parts_of_source}

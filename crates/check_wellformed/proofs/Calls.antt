@@ -11,8 +11,8 @@ use Rattle.c_core.specs.declared.number.IntType.{IntType}
 use Rattle.c_core.specs.declared.number.Spot.{Spot}
 use Rattle.c_core.specs.declared.tree.Callee.{Callee}
 use Rattle.c_core.specs.declared.tree.Callee.TheVariants as callee
-use Rattle.c_parser.specs.Tree as raw
-use Rattle.c_parser.specs.Tree.{Exp, Expr, Exps, NoExp, MoreExp, Call}
+use Rattle.c_expressions.specs.Tree as raw
+use Rattle.c_expressions.specs.Tree.{Exp, Expr, Exps, NoExp, MoreExp, Call}
 use Rattle.check_rules.specs.Names as kind
 use Rattle.check_rules.specs.Names.{Kind, Entry, entry, declared_as, or_built_in, built_in, named, is_function, result_of_callee, parameters_of_callee}
 use Rattle.check_rules.specs.Typed.{typed_all, result_named, callee_or, callee_of, callee_for}

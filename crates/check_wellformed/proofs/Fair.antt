@@ -2,7 +2,7 @@
 use Rattle.std.proofs.Common.{◌≡◌, false, List, refl}
 use Rattle.std.proofs.lemmas.Bool.{false_from_ne_true}
 use Rattle.c_core.specs.declared.number.DataModel.{DataModel}
-use Rattle.c_parser.specs.Tree as raw
+use Rattle.c_expressions.specs.Tree as raw
 use Rattle.check_rules.specs.declared.fault.CheckCode.TheVariants as code
 use Rattle.check_rules.specs.declared.fault.CheckCode.{CheckCode}
 use Rattle.check_rules.specs.Parts.{Part, parts_of_source}

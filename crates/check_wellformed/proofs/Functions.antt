@@ -12,7 +12,7 @@ use Rattle.c_core.specs.Program.{is_main}
 use Rattle.c_core.specs.declared.number.IntType.{IntType}
 use Rattle.c_core.specs.declared.number.DataModel.{DataModel}
 use Rattle.c_core.specs.declared.number.Spot.{Spot}
-use Rattle.c_parser.specs.Tree as raw
+use Rattle.c_expressions.specs.Tree as raw
 use Rattle.check_rules.specs.Names as kind
 use Rattle.check_rules.specs.Names.{Entry, entry}
 use Rattle.check_rules.specs.Scopes.{Scope, after_item, after_items, types_of, entry_of_function}

@@ -11,7 +11,7 @@ use Rattle.c_core.specs.Program.{IsProgram, object_fits, most_declared_cells}
 use Rattle.c_core.specs.declared.number.DataModel.{DataModel}
 use Rattle.c_core.specs.declared.number.Property.{Property}
 use Rattle.c_core.specs.declared.tree.Object.{Object}
-use Rattle.c_parser.specs.Tree as raw
+use Rattle.c_expressions.specs.Tree as raw
 use Rattle.c_parser.specs.Formed.{constant_fits, assignment_fits, IsFormed}
 use Rattle.check_rules.specs.Names.{Entry}
 use Rattle.check_rules.specs.Scopes.{seen, object_of, after_items, outermost}

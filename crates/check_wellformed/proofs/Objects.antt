@@ -6,7 +6,7 @@ use Rattle.std.specs.List.{list_all}
 use Rattle.c_core.specs.Program.{object_fits, most_declared_cells}
 use Rattle.c_core.specs.declared.number.DataModel.{DataModel}
 use Rattle.c_core.specs.declared.tree.Object.{Object}
-use Rattle.c_parser.specs.Tree as raw
+use Rattle.c_expressions.specs.Tree as raw
 use Rattle.check_rules.specs.Names.{Entry}
 use Rattle.check_rules.specs.Constants.{constant}
 use Rattle.check_rules.specs.Typed.{typed}

@@ -9,7 +9,7 @@ use Rattle.c_core.specs.Program.{stands_at, is_param}
 use Rattle.c_core.proofs.TextOrderLaws.{same_spot-self}
 use Rattle.c_core.specs.declared.number.IntType.{IntType}
 use Rattle.c_core.specs.declared.tree.Object.{Object}
-use Rattle.c_parser.specs.Tree as raw
+use Rattle.c_expressions.specs.Tree as raw
 use Rattle.check_rules.specs.Names.{Entry}
 use Rattle.check_rules.specs.Scopes.{Scope, seen, with_object, object_of, after_item, after_parameters, inside, parameter, statements_of}
 use Rattle.check_rules.specs.Parts.{Part, Expression, Declaring, Naming, Initializing, Returning, Leaving, Labelling, parts_of_block, parts_of_body, parts_of_parameters, parts_of_names, parts_of_item, parts_of_items, bodies_of}

@@ -8,7 +8,7 @@ use Rattle.c_core.specs.Scope.{is_declaration, else_is_declaration, statement_ne
 use Rattle.c_core.specs.declared.number.IntType.{IntType}
 use Rattle.c_core.specs.declared.number.DataModel.{DataModel}
 use Rattle.c_core.specs.declared.number.Spot.{Spot}
-use Rattle.c_parser.specs.Tree as raw
+use Rattle.c_expressions.specs.Tree as raw
 use Rattle.c_parser.specs.Formed as formed
 use Rattle.c_parser.specs.Formed.{nests, else_nests, block_nests, item_nests}
 use Rattle.check_rules.specs.Scopes.{Scope, seen, opened, closed, after_first, after_statement, after_item, after_parameters, inside, statements_of}

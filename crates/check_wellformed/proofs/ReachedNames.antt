@@ -8,8 +8,8 @@ use Rattle.c_core.specs.Parts.{every_argument}
 use Rattle.c_core.specs.Scope.{is_in, is_fixed, is_reached, exp_reaches, reaches}
 use Rattle.c_core.specs.declared.number.Spot.{Spot}
 use Rattle.c_core.specs.declared.tree.Callee.{Callee}
-use Rattle.c_parser.specs.Tree as raw
-use Rattle.c_parser.specs.Tree.{Exp, Expr, Node, Number, Char, Var, Index, Unary, Cast, Step, Binary, Logic, Choose, Comma, Assign, Call, Exps, NoExp, MoreExp}
+use Rattle.c_expressions.specs.Tree as raw
+use Rattle.c_expressions.specs.Tree.{Exp, Expr, Node, Number, Char, Var, Index, Unary, Cast, Step, Binary, Logic, Choose, Comma, Assign, Call, Exps, NoExp, MoreExp}
 use Rattle.check_rules.specs.Names as kind
 use Rattle.check_rules.specs.Names.{Kind, Entry, declared_as, or_built_in, built_in, named}
 use Rattle.check_rules.specs.Typed.{typed, typed_node, typed_all, number_named}

@@ -6,8 +6,8 @@ use Rattle.c_core.specs.TextOrder.{whole, rises, spots_of_objects}
 use Rattle.c_core.proofs.TextOrderLaws.{IsPart, ends, skips, takes, part_none, part_all, part_append, part_behind}
 use Rattle.c_core.specs.declared.number.DataModel.{DataModel}
 use Rattle.c_core.specs.declared.number.Spot.{Spot}
-use Rattle.c_parser.specs.Tree as raw
-use Rattle.c_parser.specs.Tree.{Exp, Expr, Node, Number, Char, Var, Index, Unary, Cast, Step, Binary, Logic, Choose, Comma, Assign, Call, Exps, NoExp, MoreExp}
+use Rattle.c_expressions.specs.Tree as raw
+use Rattle.c_expressions.specs.Tree.{Exp, Expr, Node, Number, Char, Var, Index, Unary, Cast, Step, Binary, Logic, Choose, Comma, Assign, Call, Exps, NoExp, MoreExp}
 use Rattle.c_parser.specs.TextOrder.{spots_of, spots_of_node, spots_of_all, spots_if, spots_of_init, spots_of_declared, spots_of_first, spots_of_statement, spots_of_form, spots_of_else, spots_of_block, spots_of_params, spots_of_items}
 use Rattle.check_rules.specs.Names.{Entry}
 use Rattle.check_wellformed.proofs.Lists.{left, right}

@@ -12,8 +12,8 @@ use Rattle.c_core.specs.declared.number.Spot.{Spot}
 use Rattle.c_core.specs.declared.number.BinOp.{BinOp}
 use Rattle.c_core.specs.declared.number.UnOp.{UnOp}
 use Rattle.c_core.specs.declared.number.UnOp.TheVariants.{Plus, Neg, BitNot, Not}
-use Rattle.c_parser.specs.Tree as raw
-use Rattle.c_parser.specs.Tree.{Exp, Expr, Node, Number, Char, Var, Index, Unary, Cast, Step, Binary, Logic, Choose, Comma, Assign, Call, Exps, NoExp, MoreExp}
+use Rattle.c_expressions.specs.Tree as raw
+use Rattle.c_expressions.specs.Tree.{Exp, Expr, Node, Number, Char, Var, Index, Unary, Cast, Step, Binary, Logic, Choose, Comma, Assign, Call, Exps, NoExp, MoreExp}
 use Rattle.check_rules.specs.Constants.{ranks, of_rank, first_that_holds, constant_type, valued}
 use Rattle.check_rules.specs.Names as kind
 use Rattle.check_rules.specs.Names.{Kind, Entry, named}

@@ -8,8 +8,8 @@ use Rattle.c_core.specs.Parts.{exps_in, exp_if, every_statement, every_statement
 use Rattle.c_core.specs.Typing.{has_value, init_fits, is_typed, declarators_fit, first_fits, return_fits, form_fits, statement_fits, function_fits}
 use Rattle.c_core.specs.declared.number.IntType.{IntType}
 use Rattle.c_core.specs.declared.number.Spot.{Spot}
-use Rattle.c_parser.specs.Tree as raw
-use Rattle.c_parser.specs.Tree.{Exp, Expr, Exps, NoExp, MoreExp}
+use Rattle.c_expressions.specs.Tree as raw
+use Rattle.c_expressions.specs.Tree.{Exp, Expr, Exps, NoExp, MoreExp}
 use Rattle.check_rules.specs.Names.{Entry}
 use Rattle.check_rules.specs.Typed.{typed, typed_all}
 use Rattle.check_rules.specs.Scopes.{Scope, seen, opened, closed, cells_or_one, size_of, cells_of, object_of, after_name, after_first, after_statement, after_item, after_parameters, inside, statements_of}

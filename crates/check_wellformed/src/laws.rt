@@ -3,7 +3,7 @@ ghost use Rattle.std.specs.Prelude.{◌≡◌, List, None};
 ghost use Rattle.c_core.specs.Program.{IsProgram};
 ghost use Rattle.c_core.specs.declared.number.DataModel.{DataModel};
 ghost use Rattle.c_core.specs.declared.number.Property.{Property};
-ghost use Rattle.c_parser.specs.Tree.{Item};
+ghost use Rattle.c_expressions.specs.Tree.{Item};
 ghost use Rattle.c_parser.specs.Formed.{IsFormed};
 ghost use Rattle.check_rules.specs.First.{IsUnrefused, wrong_main};
 ghost use Rattle.check_rules.specs.Checked.{program_of};

@@ -2,14 +2,14 @@
 use Rattle.std.proofs.Common.{ℕ, zero, suc, List, [], ◌∷◌, true, false, refl, Bool, Option, arith}
 use Rattle.std.specs.Prelude.{codes, ℤ}
 use Rattle.c_tokens.specs.declared.token.Token.{Token}
-use Rattle.c_parser.specs.Tree.{Exp, Item}
+use Rattle.c_expressions.specs.Tree.{Exp, Item}
 use Rattle.c_core.specs.declared.number.Spot.{Spot}
 use Rattle.c_tokens.specs.declared.token.TokenKind.TheVariants as kind
 use Rattle.c_tokens.specs.declared.token.Punct.TheVariants as sign
-use Rattle.c_parser.specs.Signs.{token, sign_token, word_token}
-use Rattle.c_parser.specs.Brackets.{NothingPassed, OnePassed, PairPassed, PassedWithin}
-use Rattle.c_parser.specs.Expressions.{Expression, Stronger, Joined, Assigned, Chosen, SteppedBefore, Signed, Converted, SteppedBehind, AName, AnElement, ABareCall, ACall, ANumber, ACharacter, AGroup, LastArgument, MoreArguments, Within}
-use Rattle.c_parser.specs.Expressions as name
+use Rattle.c_expressions.specs.Signs.{token, sign_token, word_token}
+use Rattle.c_expressions.specs.Brackets.{NothingPassed, OnePassed, PairPassed, PassedWithin}
+use Rattle.c_expressions.specs.Expressions.{Expression, Stronger, Joined, Assigned, Chosen, SteppedBefore, Signed, Converted, SteppedBehind, AName, AnElement, ABareCall, ACall, ANumber, ACharacter, AGroup, LastArgument, MoreArguments, Within}
+use Rattle.c_expressions.specs.Expressions as name
 use Rattle.c_parser.specs.Declarations.{NoMoreSpecifiers, ATypeWord, ASpecifier, AnAttributeBefore, NoMoreAttributes, AnAttribute, NoSize, ASize, LastValue, LastValueAndComma, MoreValues, NoInitializer, OneValue, AList, ADeclarator, LastDeclarator, MoreDeclarators, ADeclaration}
 use Rattle.c_parser.specs.Statements.{NoExpression, AnExpression, DeclaredFirst, ExpressionFirst, NothingFirst, AllParts, AnEmpty, AnExpressionStatement, ABlock, ABreak, AContinue, AReturn, AReturnOf, ALabel, AnIf, AnIfElse, AWhile, ADo, AFor, ADeclarationStatement, AStatement, NoMoreElements, MoreElements, HeaderWithin, BracedWithin}
 use Rattle.c_parser.specs.Items.{AParameter, LastParameter, NoParameters, VoidParameters, SomeParameters, Unnamed, Named, LastType, MoreTypes, Unstated, VoidTypes, StatedTypes, Reach, AReach, Function, AFunction, Prototype, APrototype, Global, AGlobal, Closed, AClosed}

@@ -1,6 +1,6 @@
 -- Small expressions and the trees that they spell, or none; or something of the text is left.
 use Rattle.std.specs.Prelude.{◌≡◌, refl, codes}
-use Rattle.c_parser.specs.ReadExpressions.{level, within}
+use Rattle.c_expressions.specs.ReadExpressions.{level, within}
 use Rattle.grammar_examples.specs.Shown.{shown, shown_within}
 
 -- left grouping of one strength

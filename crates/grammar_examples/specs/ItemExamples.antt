@@ -1,6 +1,6 @@
 -- Small sources and their items; or the place of the first item that fits no form.
 use Rattle.std.specs.Prelude.{◌≡◌, refl, codes}
-use Rattle.c_parser.specs.ReadExpressions.{level, within}
+use Rattle.c_expressions.specs.ReadExpressions.{level, within}
 use Rattle.c_parser.specs.ReadStatements.{header_within, statement_level, braced_within}
 use Rattle.grammar_examples.specs.Shown.{items, items_within}
 

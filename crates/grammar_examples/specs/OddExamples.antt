@@ -1,6 +1,6 @@
 -- Odd texts: what reads like one form and is another, or none.
 use Rattle.std.specs.Prelude.{◌≡◌, refl, codes}
-use Rattle.c_parser.specs.ReadExpressions.{level, within}
+use Rattle.c_expressions.specs.ReadExpressions.{level, within}
 use Rattle.c_parser.specs.ReadStatements.{header_within, statement_level, braced_within}
 use Rattle.grammar_examples.specs.Shown.{items, shown}
 

@@ -4,10 +4,10 @@ use Rattle.c_core.specs.declared.number.Spot.{Spot}
 use Rattle.c_core.specs.declared.number.BinOp.TheVariants as op
 use Rattle.c_core.specs.declared.number.StepOp.TheVariants as step
 use Rattle.c_core.specs.declared.number.IntType.TheVariants.{Int}
-use Rattle.c_parser.specs.Tree.{Expr, Var, Step, Binary, Choose, Call, exps, Absent, Stmt, Do, Declare, Block, Label, stms, Function}
-use Rattle.c_parser.specs.Signs.{expr}
+use Rattle.c_expressions.specs.Tree.{Expr, Var, Step, Binary, Choose, Call, exps, Absent, Stmt, Do, Declare, Block, Label, stms, Function}
+use Rattle.c_expressions.specs.Signs.{expr}
 use Rattle.c_parser.specs.Declarations.{declared}
-use Rattle.c_parser.specs.ReadExpressions.{read, level, within}
+use Rattle.c_expressions.specs.ReadExpressions.{read, level, within}
 use Rattle.c_parser.specs.ReadStatements.{header_within, statement_level, braced_within}
 use Rattle.c_parser.specs.ReadItems.{Source, read_items}
 use Rattle.grammar_examples.specs.Shown.{tokens_of}

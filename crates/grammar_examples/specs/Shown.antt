@@ -14,9 +14,9 @@ use Rattle.c_tokens.specs.declared.place.Place.{Place}
 use Rattle.c_tokens.specs.Gaps.{gap}
 use Rattle.c_tokens.specs.Scan.{good, scan}
 use Rattle.c_tokens.specs.Reading as reading
-use Rattle.c_parser.specs.Tree.{Exp, Expr, Node, Number, Char, Var, Index, Unary, Cast, Step, Binary, Logic, Choose, Comma, Assign, Call, Exps, NoExp, MoreExp, Init, Absent as NoInit, One, Many, Declared, First, NoFirst, FirstExp, FirstDeclared, Stm, Stmt, Form, Empty, Do, Declare, Block, If, While, DoWhile, For, Break, Continue, Return, Label, Else, NoElse, OrElse, Stms, NoStm, MoreStm, Param, Item, Function, Prototype, Global, Closed}
-use Rattle.c_parser.specs.Signs.{expr}
-use Rattle.c_parser.specs.ReadExpressions.{Read, read, level, within}
+use Rattle.c_expressions.specs.Tree.{Exp, Expr, Node, Number, Char, Var, Index, Unary, Cast, Step, Binary, Logic, Choose, Comma, Assign, Call, Exps, NoExp, MoreExp, Init, Absent as NoInit, One, Many, Declared, First, NoFirst, FirstExp, FirstDeclared, Stm, Stmt, Form, Empty, Do, Declare, Block, If, While, DoWhile, For, Break, Continue, Return, Label, Else, NoElse, OrElse, Stms, NoStm, MoreStm, Param, Item, Function, Prototype, Global, Closed}
+use Rattle.c_expressions.specs.Signs.{expr}
+use Rattle.c_expressions.specs.ReadExpressions.{Read, read, level, within}
 use Rattle.c_parser.specs.ReadStatements.{header_within, statement_level, braced_within}
 use Rattle.c_parser.specs.ReadItems.{Outcome, Source, Syntax, read_items}
 

@@ -3,7 +3,7 @@ use Rattle.std.specs.Prelude.{◌≡◌, refl, true, false, [], ◌∷◌, codes
 use Rattle.c_core.specs.declared.number.DataModel.TheVariants.{Ilp32}
 use Rattle.c_core.specs.declared.number.IntType.TheVariants.{Int}
 use Rattle.c_core.specs.declared.tree.Object.{Object}
-use Rattle.c_parser.specs.Tree.{Param}
+use Rattle.c_expressions.specs.Tree.{Param}
 use Rattle.check_rules.specs.Scopes.{scope}
 use Rattle.check_rules.specs.Parts.{parts_of_parameters}
 use Rattle.check_rules.specs.Codes.{crowded}

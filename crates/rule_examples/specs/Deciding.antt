@@ -4,10 +4,10 @@ use Rattle.std.specs.List.{list_any, range_with_len}
 use Rattle.c_core.specs.declared.number.DataModel.{DataModel}
 use Rattle.c_core.specs.declared.number.Spot.{Spot}
 use Rattle.c_core.specs.declared.tree.Object.{Object}
-use Rattle.c_parser.specs.Tree as raw
-use Rattle.c_parser.specs.Tree.{Exp, Expr, Node, Step, Assign}
+use Rattle.c_expressions.specs.Tree as raw
+use Rattle.c_expressions.specs.Tree.{Exp, Expr, Node, Step, Assign}
 use Rattle.c_parser.specs.ReadItems.{Outcome, Source, Syntax, read_items}
-use Rattle.c_parser.specs.ReadExpressions.{level, within}
+use Rattle.c_expressions.specs.ReadExpressions.{level, within}
 use Rattle.c_parser.specs.ReadStatements.{header_within, statement_level, braced_within}
 use Rattle.grammar_examples.specs.Shown.{tokens_of}
 use Rattle.check_rules.specs.declared.fault.CheckCode.{CheckCode}

@@ -2,7 +2,7 @@
 use Rattle.std.specs.Prelude.{◌≡◌, refl, codes}
 use Rattle.c_core.specs.Types.{wrapped, signed_of, residue}
 use Rattle.c_core.specs.declared.number.DataModel.TheVariants.{Ilp32}
-use Rattle.c_parser.specs.ReadExpressions.{level, within}
+use Rattle.c_expressions.specs.ReadExpressions.{level, within}
 use Rattle.c_parser.specs.ReadStatements.{header_within, statement_level, braced_within}
 use Rattle.rule_examples.specs.Deciding.{checked}
 

@@ -1,7 +1,7 @@
 -- Operands between which C has no order. Each is a small source, and its first refusal with its column.
 use Rattle.std.specs.Prelude.{◌≡◌, refl, codes}
 use Rattle.c_core.specs.declared.number.DataModel.TheVariants.{Ilp32}
-use Rattle.c_parser.specs.ReadExpressions.{level, within}
+use Rattle.c_expressions.specs.ReadExpressions.{level, within}
 use Rattle.c_parser.specs.ReadStatements.{header_within, statement_level, braced_within}
 use Rattle.rule_examples.specs.Deciding.{checked}
 

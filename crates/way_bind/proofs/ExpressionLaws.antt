@@ -5,12 +5,12 @@ use Rattle.c_core.specs.View as typed
 use Rattle.c_core.specs.declared.tree.Expr.{Expr}
 use Rattle.c_core.specs.declared.number.Spot.{Spot}
 use Rattle.c_core.specs.declared.place.PlaceKind.TheVariants.{Statement}
-use Rattle.c_parser.specs.View.{expr_view}
-use Rattle.c_parser.specs.Tree as raw
-use Rattle.c_parser.specs.Witness.{AnswersExpression}
-use Rattle.c_parser.specs.declared.tree.RawExpr.{RawExpr}
-use Rattle.c_parser.specs.declared.fault.ExprFault.{ExprFault}
-use Rattle.c_parser.specs.declared.fault.ExprFault.TheVariants as expr
+use Rattle.c_expressions.specs.View.{expr_view}
+use Rattle.c_expressions.specs.Tree as raw
+use Rattle.c_expressions.specs.Witness.{AnswersExpression}
+use Rattle.c_expressions.specs.declared.tree.RawExpr.{RawExpr}
+use Rattle.c_expressions.specs.declared.fault.ExprFault.{ExprFault}
+use Rattle.c_expressions.specs.declared.fault.ExprFault.TheVariants as expr
 use Rattle.way_constraint.specs.Constraints.{AnswersConstraint}
 use Rattle.way_names.specs.Visible.{names_at}
 use Rattle.way_match.specs.Points as point

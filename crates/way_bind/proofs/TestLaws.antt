@@ -3,11 +3,11 @@ use Rattle.std.proofs.Common.{◌≡◌, sym, subst, IsErrAnd, Bool, true, false
 use Rattle.c_core.specs.Tree.{Program}
 use Rattle.c_core.specs.View as typed
 use Rattle.c_core.specs.declared.tree.Expr.{Expr}
-use Rattle.c_parser.specs.View.{expr_view}
-use Rattle.c_parser.specs.Witness.{AnswersTest}
-use Rattle.c_parser.specs.declared.tree.ResultTest.{ResultTest}
-use Rattle.c_parser.specs.declared.fault.ExprFault.{ExprFault}
-use Rattle.c_parser.specs.declared.fault.ExprFault.TheVariants as expr
+use Rattle.c_expressions.specs.View.{expr_view}
+use Rattle.c_expressions.specs.Witness.{AnswersTest}
+use Rattle.c_expressions.specs.declared.tree.ResultTest.{ResultTest}
+use Rattle.c_expressions.specs.declared.fault.ExprFault.{ExprFault}
+use Rattle.c_expressions.specs.declared.fault.ExprFault.TheVariants as expr
 use Rattle.way_constraint.specs.Constraints.{AnswersConstraint}
 use Rattle.way_match.specs.View.{test_view}
 use Rattle.way_match.specs.declared.point.ReturnTest.{ReturnTest}

@@ -10,8 +10,8 @@ use Rattle.c_core.specs.declared.number.BinOp.{BinOp}
 use Rattle.c_core.specs.declared.number.Spot.{Spot}
 use Rattle.c_core.specs.declared.place.PlaceKind.{PlaceKind}
 use Rattle.c_core.specs.declared.place.PlaceKind.TheVariants as place
-use Rattle.c_parser.specs.Tree as raw
-use Rattle.c_parser.specs.Witness.{IsWitnessExpression, IsResultTest}
+use Rattle.c_expressions.specs.Tree as raw
+use Rattle.c_expressions.specs.Witness.{IsWitnessExpression, IsResultTest}
 use Rattle.way_names.specs.Visible.{names_at}
 use Rattle.way_constraint.specs.Constraints.{IsTyped, IsMistyped, entries, in_scope}
 use Rattle.wv_schema.specs.declared.witness.WayKind.{WayKind}

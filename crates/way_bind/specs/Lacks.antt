@@ -1,6 +1,6 @@
 -- The test that a waypoint fails where its expression isn't read or typed.
-use Rattle.c_parser.specs.declared.fault.ExprFault.{ExprFault}
-use Rattle.c_parser.specs.declared.fault.ExprFault.TheVariants as expr
+use Rattle.c_expressions.specs.declared.fault.ExprFault.{ExprFault}
+use Rattle.c_expressions.specs.declared.fault.ExprFault.TheVariants as expr
 use Rattle.way_bind.specs.declared.fault.Unbound.{Unbound}
 use Rattle.way_bind.specs.declared.fault.Unbound.TheVariants.{Expression, Scope, OutOfMemory}
 

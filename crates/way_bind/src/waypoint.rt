@@ -2,7 +2,7 @@
 ghost use Rattle.std.specs.Prelude.{◌≡◌, [], IsTrue};
 ghost use Rattle.c_core.specs.View.{program_view, expr_view};
 ghost use Rattle.c_core.specs.declared.place.PlaceKind.TheVariants.{Statement, Branch, CallEnd};
-ghost use Rattle.c_parser.specs.View.{expr_view as raw_view};
+ghost use Rattle.c_expressions.specs.View.{expr_view as raw_view};
 ghost use Rattle.way_constraint.specs.Constraints.{AnswersConstraint};
 ghost use Rattle.way_names.specs.Visible.{is_scoped};
 ghost use Rattle.way_match.specs.View.{aim_view, point_view, test_view};

@@ -5,7 +5,7 @@ use Rattle.c_core.specs.Tree as t
 use Rattle.c_core.specs.declared.number.DataModel.{DataModel}
 use Rattle.c_core.specs.declared.tree.Object.{Object}
 use Rattle.c_parser.specs.Formed.{every_node}
-use Rattle.c_parser.specs.Tree.{Exp, Node, Item}
+use Rattle.c_expressions.specs.Tree.{Exp, Node, Item}
 use Rattle.check_rules.specs.declared.fault.Refusal.{Refusal}
 use Rattle.check_rules.specs.Codes.{word_of}
 use Rattle.check_rules.specs.Names.{Entry}

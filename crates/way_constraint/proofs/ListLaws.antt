@@ -7,10 +7,10 @@ use Rattle.check_rules.specs.Names as kind
 use Rattle.check_rules.specs.Names.{Entry, entry}
 use Rattle.check_scope.specs.InScope.{InScope, all_of, with_name}
 use Rattle.c_parser.specs.Formed.{every_node, every_argument}
-use Rattle.c_parser.specs.Tree as raw
-use Rattle.c_parser.specs.Tree.{exps}
-use Rattle.c_parser.specs.View.{expr_view, exprs_view}
-use Rattle.c_parser.specs.declared.tree.RawExpr.{RawExpr}
+use Rattle.c_expressions.specs.Tree as raw
+use Rattle.c_expressions.specs.Tree.{exps}
+use Rattle.c_expressions.specs.View.{expr_view, exprs_view}
+use Rattle.c_expressions.specs.declared.tree.RawExpr.{RawExpr}
 use Rattle.way_constraint.specs.Constraints.{entries, entry_at}
 
 -- the names of one object more

@@ -2,7 +2,7 @@
 use Rattle.std.proofs.Common.{◌≡◌, cond, Bool, true, false, ◌||◌, List, [], ◌∷◌, Option, Some, None, is_some, refl, ap, ◌∙◌}
 use Rattle.std.specs.List.{list_any}
 use Rattle.c_core.specs.declared.number.DataModel.{DataModel}
-use Rattle.c_parser.specs.Tree.{Item}
+use Rattle.c_expressions.specs.Tree.{Item}
 use Rattle.check_rules.specs.declared.fault.CheckCode.TheVariants as code
 use Rattle.check_rules.specs.declared.fault.Refusal.{Refusal}
 use Rattle.check_rules.specs.Parts.{Part}

@@ -5,7 +5,7 @@ use Rattle.std.proofs.lemmas.List.Folds.{list_any-append}
 use Rattle.c_core.specs.declared.number.DataModel.{DataModel}
 use Rattle.c_core.specs.declared.number.Spot.{Spot}
 use Rattle.c_parser.specs.Formed.{every_node, every_part, every_argument}
-use Rattle.c_parser.specs.Tree.{Exp, Expr, Node, Number, Char, Var, Index, Unary, Cast, Step, Binary, Logic, Choose, Comma, Assign, Call, Exps, NoExp, MoreExp, Item}
+use Rattle.c_expressions.specs.Tree.{Exp, Expr, Node, Number, Char, Var, Index, Unary, Cast, Step, Binary, Logic, Choose, Comma, Assign, Call, Exps, NoExp, MoreExp, Item}
 use Rattle.check_rules.specs.Names.{Entry, named}
 use Rattle.check_rules.specs.Parts.{Role, Value, Target, Effect, Part, Expression, of_cast, parts, parts_in, parts_of}
 use Rattle.check_rules.specs.Codes.{word_of, names_nothing, calls_bodiless, mistyped, is_bodiless}

@@ -6,7 +6,7 @@ use Rattle.c_core.specs.declared.number.DataModel.{DataModel}
 use Rattle.c_core.specs.declared.number.Spot.{Spot}
 use Rattle.c_core.specs.declared.tree.Object.{Object}
 use Rattle.c_parser.specs.Formed.{every_node, every_part, every_argument}
-use Rattle.c_parser.specs.Tree.{Exp, Expr, Node, Number, Char, Var, Index, Unary, Cast, Step, Binary, Logic, Choose, Comma, Assign, Call, Exps, NoExp, MoreExp}
+use Rattle.c_expressions.specs.Tree.{Exp, Expr, Node, Number, Char, Var, Index, Unary, Cast, Step, Binary, Logic, Choose, Comma, Assign, Call, Exps, NoExp, MoreExp}
 use Rattle.check_rules.specs.Codes.{word_of, misused}
 use Rattle.check_rules.specs.Names.{Entry}
 use Rattle.check_rules.specs.Typed.{typed, typed_node, typed_all}

@@ -10,9 +10,9 @@ use Rattle.c_core.specs.declared.number.DataModel.{DataModel}
 use Rattle.c_core.specs.declared.tree.Expr.{Expr}
 use Rattle.c_core.specs.declared.tree.Object.{Object}
 use Rattle.c_parser.specs.Formed.{every_node}
-use Rattle.c_parser.specs.Tree as raw
-use Rattle.c_parser.specs.declared.fault.ExprFault.{ExprFault}
-use Rattle.c_parser.specs.declared.fault.ExprFault.TheVariants.{Expression, Scope, OutOfMemory}
+use Rattle.c_expressions.specs.Tree as raw
+use Rattle.c_expressions.specs.declared.fault.ExprFault.{ExprFault}
+use Rattle.c_expressions.specs.declared.fault.ExprFault.TheVariants.{Expression, Scope, OutOfMemory}
 use Rattle.check_rules.specs.Codes.{word_of, mistyped}
 use Rattle.check_rules.specs.Names as kind
 use Rattle.check_rules.specs.Names.{Entry, entry}

@@ -1,6 +1,6 @@
 -- Words that stand for objects.
 use Rattle.std.specs.Prelude.{ℕ, Bool, true, false, List, Option, Some, None}
-use Rattle.c_parser.specs.Tree.{Node}
+use Rattle.c_expressions.specs.Tree.{Node}
 use Rattle.check_rules.specs.Codes.{word_of}
 use Rattle.check_rules.specs.Names.{Kind, Object, Function, Closed, Entry, named}
 use Rattle.check_scope.specs.declared.meaning.Meaning.{Meaning}

@@ -1,6 +1,6 @@
 ghost use Rattle.std.specs.Prelude.{IfOk};
 ghost use Rattle.c_core.specs.View.{program_view, expr_view as typed_view};
-ghost use Rattle.c_parser.specs.View.{expr_view};
+ghost use Rattle.c_expressions.specs.View.{expr_view};
 ghost use Rattle.way_constraint.specs.Constraints.{AnswersConstraint, AnswersIn, FitsConstraint, entries};
 
 use crate::known::names_objects;

@@ -2,8 +2,8 @@
 ghost use Rattle.std.specs.Prelude.{◌≡◌};
 ghost use Rattle.std.specs.Option.{option_map};
 ghost use Rattle.c_parser.specs.Formed.{every_node, every_part, every_argument};
-ghost use Rattle.c_parser.specs.Tree.{exps};
-ghost use Rattle.c_parser.specs.View.{expr_view, exprs_view, node_view};
+ghost use Rattle.c_expressions.specs.Tree.{exps};
+ghost use Rattle.c_expressions.specs.View.{expr_view, exprs_view, node_view};
 ghost use Rattle.check_rules.specs.Codes.{word_of};
 ghost use Rattle.check_rules.specs.Names.{named};
 ghost use Rattle.check_scope.specs.InScope.{all_of};

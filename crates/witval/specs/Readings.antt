@@ -8,7 +8,7 @@ use Rattle.c_core.specs.declared.number.Property.{Property}
 use Rattle.c_core.specs.declared.program.Program.{Program}
 use Rattle.c_check.specs.Checking.{Answers as CheckAnswers}
 use Rattle.c_parser.specs.Parsing.{Answers as ParserAnswers, source_view}
-use Rattle.c_parser.specs.Tree as raw
+use Rattle.c_expressions.specs.Tree as raw
 use Rattle.c_parser.specs.declared.fault.ParseFault.{ParseFault}
 use Rattle.c_parser.specs.declared.fault.ParseFault.TheVariants as parse
 use Rattle.c_parser.specs.declared.item.Source.{Source}

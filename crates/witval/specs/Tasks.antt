@@ -5,7 +5,7 @@ use Rattle.sha2.specs.Sha256.{sha256}
 use Rattle.c_core.specs.Tree as tree
 use Rattle.c_core.specs.declared.number.DataModel.{DataModel}
 use Rattle.c_core.specs.declared.number.Property.{Property}
-use Rattle.c_parser.specs.Tree as raw
+use Rattle.c_expressions.specs.Tree as raw
 use Rattle.c_tokens.specs.declared.token.Token.{Token}
 use Rattle.way_match.specs.Points.{BoundSegment}
 use Rattle.way_match.specs.Verdicts.{IsRightVerdict}

@@ -3,10 +3,10 @@ use Rattle.std.specs.Prelude.{is_some}
 use Rattle.std.specs.Borrow.{Bor}
 use Rattle.c_core.specs.declared.number.Spot.{Spot}
 use Rattle.c_tokens.specs.declared.token.Token.{Token}
-use Rattle.c_parser.specs.Signs.{sign_at}
-use Rattle.c_parser.specs.Brackets.{Bracket, Opening, Closing, NoBracket, bracket_of}
+use Rattle.c_expressions.specs.Signs.{sign_at}
+use Rattle.c_expressions.specs.Brackets.{Bracket, Opening, Closing, NoBracket, bracket_of}
 use Rattle.c_parser.specs.Items.{outside, closed_name, depth_behind}
-use Rattle.c_parser.specs.Passes.{named, name_here}
+use Rattle.c_parser.specs.Specified.{named, name_here}
 use Rattle.c_parser.proofs.ClosedSteps.{found_here, later_here}
 use Rattle.c_parser.proofs.closed.closed_name.Goals as goal
 use Rattle.c_parser.proofs.closed.closed_name.Goals.{else-depth-eq0-via-then-depth-eq0+else-is_some, else-depth-eq0-via-else-depth-eq0}

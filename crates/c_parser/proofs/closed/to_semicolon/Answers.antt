@@ -1,10 +1,10 @@
 use Rattle.std.proofs.Common.{◌≡◌, ◌<◌, ◌∙◌, sym, ap, subst, [], List, Some, Err, length, drop, rules}
 use Rattle.std.specs.Borrow.{Bor}
 use Rattle.c_tokens.specs.declared.token.Token.{Token}
-use Rattle.c_parser.specs.Brackets.{behind}
-use Rattle.c_parser.specs.Gives.{Reads}
+use Rattle.c_expressions.specs.Brackets.{behind}
+use Rattle.c_expressions.specs.Gives.{Reads}
 use Rattle.c_parser.specs.ReadItems.{to_semicolon}
-use Rattle.c_parser.proofs.PassingLaws.{stopped_by, nested_shorter}
+use Rattle.c_expressions.proofs.PassingLaws.{stopped_by, nested_shorter}
 use Rattle.c_parser.proofs.ClosedSteps.{Fronted, fronted_plain, fronted_pair, fronted_unpaired}
 use Rattle.c_parser.proofs.closed.to_semicolon.Goals as goal
 

@@ -1,12 +1,12 @@
 use Rattle.std.proofs.Common.{◌≡◌, ◌-◌, ◌∙◌, ◌++◌, suc, sym, ap, map, [], ◌∷◌, List, Some, Err, drop, rules, arith}
 use Rattle.c_tokens.specs.declared.token.Token.{Token}
 use Rattle.c_tokens.specs.declared.token.Punct.TheVariants as sign
-use Rattle.c_parser.specs.Tree.{Declared}
+use Rattle.c_expressions.specs.Tree.{Declared}
 use Rattle.c_parser.specs.SourceView.{declared_view}
-use Rattle.c_parser.specs.Gives.{Reads}
-use Rattle.c_parser.specs.ReadExpressions.{read, within}
+use Rattle.c_expressions.specs.Gives.{Reads}
+use Rattle.c_expressions.specs.ReadExpressions.{read, within}
 use Rattle.c_parser.specs.Declarations.{read_declarator, read_declarators}
-use Rattle.c_parser.proofs.PassingLaws.{stopped_by, stopped_open}
+use Rattle.c_expressions.proofs.PassingLaws.{stopped_by, stopped_open}
 use Rattle.c_parser.proofs.ListLaws.{following, map_push, declarators_last, declarators_open, declarators_more, declarators_none}
 use Rattle.c_parser.proofs.declarations.declarators_at.Goals as goal
 

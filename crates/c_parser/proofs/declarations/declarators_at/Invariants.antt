@@ -1,6 +1,6 @@
 use Rattle.std.proofs.Common.{◌≡◌, map}
 use Rattle.c_parser.specs.SourceView.{declared_view}
-use Rattle.c_parser.specs.ReadExpressions.{read, within}
+use Rattle.c_expressions.specs.ReadExpressions.{read, within}
 use Rattle.c_parser.specs.Declarations.{read_declarators}
 use Rattle.c_parser.proofs.ListLaws.{following}
 use Rattle.c_parser.proofs.declarations.declarators_at.Given as goal

@@ -1,10 +1,10 @@
 use Rattle.std.proofs.Common.{◌≡◌, ◌-◌, ◌∙◌, ◌++◌, suc, sym, ap, [], ◌∷◌, List, Some, drop, arith}
 use Rattle.c_tokens.specs.declared.token.Token.{Token}
 use Rattle.c_tokens.specs.declared.token.Punct.TheVariants as sign
-use Rattle.c_parser.specs.Signs.{is_sign}
-use Rattle.c_parser.specs.Tree.{Exp}
-use Rattle.c_parser.specs.View.{expr_view, exprs_view}
-use Rattle.c_parser.specs.ReadExpressions.{read, within}
+use Rattle.c_expressions.specs.Signs.{is_sign}
+use Rattle.c_expressions.specs.Tree.{Exp}
+use Rattle.c_expressions.specs.View.{expr_view, exprs_view}
+use Rattle.c_expressions.specs.ReadExpressions.{read, within}
 use Rattle.c_parser.specs.Declarations.{read_values}
 use Rattle.c_parser.proofs.ListLaws.{following, exprs_push, values_last, values_close, values_more}
 use Rattle.c_parser.proofs.declarations.values_at.Goals as goal

@@ -1,6 +1,6 @@
 use Rattle.std.proofs.Common.{◌≡◌}
-use Rattle.c_parser.specs.View.{exprs_view}
-use Rattle.c_parser.specs.ReadExpressions.{read, within}
+use Rattle.c_expressions.specs.View.{exprs_view}
+use Rattle.c_expressions.specs.ReadExpressions.{read, within}
 use Rattle.c_parser.specs.Declarations.{read_values}
 use Rattle.c_parser.proofs.ListLaws.{following}
 use Rattle.c_parser.proofs.declarations.values_at.Given as goal

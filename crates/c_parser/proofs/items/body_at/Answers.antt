@@ -1,11 +1,11 @@
 use Rattle.std.proofs.Common.{◌≡◌, ◌-◌, ◌∙◌, suc, sym, ap, map, List, Some, drop, arith}
 use Rattle.c_core.specs.declared.number.Spot.{Spot}
 use Rattle.c_tokens.specs.declared.token.Token.{Token}
-use Rattle.c_parser.specs.Tree.{Stmt, Form, Block, stms}
-use Rattle.c_parser.specs.Signs.{place}
+use Rattle.c_expressions.specs.Tree.{Stmt, Form, Block, stms}
+use Rattle.c_expressions.specs.Signs.{place}
 use Rattle.c_parser.specs.SourceView.{form_view, stmt_view}
 use Rattle.c_parser.specs.ReadStatements.{braced_within}
-use Rattle.c_parser.specs.declared.tree.RawForm.TheViews as W
+use Rattle.c_expressions.specs.declared.tree.RawForm.TheViews as W
 use Rattle.c_parser.proofs.SourceViews.{view_of_block}
 use Rattle.c_parser.proofs.StatementSteps.{body_read}
 use Rattle.c_parser.proofs.items.body_at.Goals as goal

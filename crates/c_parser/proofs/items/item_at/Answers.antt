@@ -1,7 +1,7 @@
 use Rattle.std.proofs.Common.{sym, subst, [], ◌∷◌, Option}
-use Rattle.c_parser.specs.Tree.{Item}
-use Rattle.c_parser.specs.ReadExpressions.{Read}
-use Rattle.c_parser.specs.Gives.{Reads}
+use Rattle.c_expressions.specs.Tree.{Item}
+use Rattle.c_expressions.specs.ReadExpressions.{Read}
+use Rattle.c_expressions.specs.Gives.{Reads}
 use Rattle.c_parser.specs.SourceView.{item_if}
 use Rattle.c_parser.specs.ReadItems.{read_reach, read_function, read_prototype, read_global, read_closed, read_nothing}
 use Rattle.c_parser.proofs.ParsingLaws.{unspelled, first_taken, first_passed}

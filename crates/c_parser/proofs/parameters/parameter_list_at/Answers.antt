@@ -1,10 +1,10 @@
 use Rattle.std.proofs.Common.{◌≡◌, ◌-◌, ◌∙◌, ◌++◌, suc, sym, ap, map, [], ◌∷◌, List, Some, Err, length, drop, rules, arith}
 use Rattle.c_tokens.specs.declared.token.Token.{Token}
-use Rattle.c_parser.specs.Tree.{Param}
-use Rattle.c_parser.specs.Gives.{Reads}
+use Rattle.c_expressions.specs.Tree.{Param}
+use Rattle.c_expressions.specs.Gives.{Reads}
 use Rattle.c_parser.specs.SourceView.{param_view}
 use Rattle.c_parser.specs.ReadItems.{read_parameter, read_parameter_list}
-use Rattle.c_parser.proofs.PassingLaws.{stopped_by}
+use Rattle.c_expressions.proofs.PassingLaws.{stopped_by}
 use Rattle.c_parser.proofs.ListLaws.{following, map_push, params_more, params_last, params_none}
 use Rattle.c_parser.proofs.parameters.parameter_list_at.Goals as goal
 

@@ -1,9 +1,9 @@
 use Rattle.std.proofs.Common.{◌≡◌, ◌-◌, ◌∙◌, ◌++◌, suc, sym, ap, [], ◌∷◌, List, Some, Err, length, drop, rules, arith}
 use Rattle.c_core.specs.declared.number.IntType.{IntType}
 use Rattle.c_tokens.specs.declared.token.Token.{Token}
-use Rattle.c_parser.specs.Gives.{Reads}
+use Rattle.c_expressions.specs.Gives.{Reads}
 use Rattle.c_parser.specs.ReadItems.{read_parameter_type, read_type_list}
-use Rattle.c_parser.proofs.PassingLaws.{stopped_by}
+use Rattle.c_expressions.proofs.PassingLaws.{stopped_by}
 use Rattle.c_parser.proofs.ListLaws.{following, types_more, types_last, types_none}
 use Rattle.c_parser.proofs.parameters.type_list_at.Goals as goal
 

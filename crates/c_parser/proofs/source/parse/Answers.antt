@@ -1,6 +1,6 @@
 use Rattle.std.proofs.Common.{length, subst, List}
 use Rattle.c_tokens.specs.declared.token.Token.{Token}
-use Rattle.c_parser.specs.Sources.{max_height, max_brackets}
+use Rattle.c_expressions.specs.Limits.{max_height, max_brackets}
 use Rattle.c_parser.specs.ReadItems.{read_items}
 use Rattle.c_parser.specs.Parsing.{Outcomes}
 use Rattle.c_parser.proofs.ParsingLaws.{outcome_answers, outcome_found, outcome_refused}

@@ -1,7 +1,7 @@
 use Rattle.std.proofs.Common.{◌≡◌, ◌-◌, ◌<◌, ◌∙◌, ◌++◌, suc, sym, ap, subst, map, List, Err, length, rules, arith}
 use Rattle.std.specs.Option.{option_map, option_to_list}
-use Rattle.c_parser.specs.Tree.{Item}
-use Rattle.c_parser.specs.Sources.{max_height, max_brackets}
+use Rattle.c_expressions.specs.Tree.{Item}
+use Rattle.c_expressions.specs.Limits.{max_height, max_brackets}
 use Rattle.c_parser.specs.ReadItems.{read_item, read_items}
 use Rattle.c_parser.specs.SourceView.{item_view}
 use Rattle.c_parser.proofs.FormedItems.{source_formed}

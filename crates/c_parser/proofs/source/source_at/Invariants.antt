@@ -1,5 +1,5 @@
 use Rattle.std.proofs.Common.{◌≡◌, map, length}
-use Rattle.c_parser.specs.Sources.{max_height, max_brackets}
+use Rattle.c_expressions.specs.Limits.{max_height, max_brackets}
 use Rattle.c_parser.specs.ReadItems.{read_items}
 use Rattle.c_parser.specs.SourceView.{item_view}
 use Rattle.c_parser.proofs.ParsingLaws.{found_before}

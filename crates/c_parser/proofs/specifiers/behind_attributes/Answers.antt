@@ -1,6 +1,6 @@
 use Rattle.std.proofs.Common.{◌≡◌, ◌-◌, ◌∙◌, suc, sym, drop, Some, rules, arith}
 use Rattle.c_parser.specs.Declarations.{behind_pair}
-use Rattle.c_parser.proofs.PassingLaws.{attributes_more}
+use Rattle.c_parser.proofs.SpecifierSteps.{attributes_more}
 use Rattle.c_parser.proofs.specifiers.behind_attributes.Goals as goal
 
 pub loop-more-preserved : goal.loop-more-preserved

@@ -1,8 +1,9 @@
 use Rattle.std.proofs.Common.{◌≡◌, ◌-◌, ◌∙◌, suc, sym, ap, subst, List, Some, Err, length, drop, rules, arith}
 use Rattle.c_tokens.specs.declared.token.Token.{Token}
 use Rattle.c_parser.specs.Declarations.{behind_pair, read_specifiers}
-use Rattle.c_parser.specs.Passes.{Specified}
-use Rattle.c_parser.proofs.PassingLaws.{stopped_by, Begun, begun_type, begun_other, begun_attribute, begun_unpaired, begun_done, begun_few}
+use Rattle.c_parser.specs.Specified.{Specified}
+use Rattle.c_expressions.proofs.PassingLaws.{stopped_by}
+use Rattle.c_parser.proofs.SpecifierSteps.{Begun, begun_type, begun_other, begun_attribute, begun_unpaired, begun_done, begun_few}
 use Rattle.c_parser.proofs.specifiers.specifiers_at.Goals as goal
 
 pub returns-in-Absent : goal.returns-in-Absent

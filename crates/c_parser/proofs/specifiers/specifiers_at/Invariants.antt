@@ -1,5 +1,5 @@
 use Rattle.std.proofs.Common.{length}
-use Rattle.c_parser.proofs.PassingLaws.{Begun}
+use Rattle.c_parser.proofs.SpecifierSteps.{Begun}
 use Rattle.c_parser.proofs.specifiers.specifiers_at.Given as goal
 
 abbrev pub invariant-loop-more : goal.invariant-loop-more

@@ -1,15 +1,15 @@
 use Rattle.std.proofs.Common.{◌≡◌, ◌-◌, ◌∙◌, ◌++◌, ◌&&◌, suc, sym, ap, map, [], ◌∷◌, List, Some, Err, drop, true, false, rules, arith}
 use Rattle.c_core.specs.declared.number.Spot.{Spot}
 use Rattle.c_tokens.specs.declared.token.Token.{Token}
-use Rattle.c_parser.specs.Tree.{Stm, Stmt, Form, Declare, Block, stms}
-use Rattle.c_parser.specs.Signs.{place}
+use Rattle.c_expressions.specs.Tree.{Stm, Stmt, Form, Declare, Block, stms}
+use Rattle.c_expressions.specs.Signs.{place}
 use Rattle.c_parser.specs.SourceView.{declared_view, form_view, stmt_view}
-use Rattle.c_parser.specs.declared.tree.RawForm.TheViews as W
-use Rattle.c_parser.specs.Gives.{Reads}
+use Rattle.c_expressions.specs.declared.tree.RawForm.TheViews as W
+use Rattle.c_expressions.specs.Gives.{Reads}
 use Rattle.c_parser.specs.Declarations.{begins_declaration}
 use Rattle.c_parser.specs.ReadStatements.{start, declares, elements, statement_level, braced_within}
 use Rattle.c_parser.specs.StatementParts.{statement_of}
-use Rattle.c_parser.proofs.PassingLaws.{stopped_by}
+use Rattle.c_expressions.proofs.PassingLaws.{stopped_by}
 use Rattle.c_parser.proofs.ListLaws.{following, map_push, elements_more}
 use Rattle.c_parser.proofs.SourceViews.{view_of_block}
 use Rattle.c_parser.proofs.StatementSteps.{level_declared, level_undeclared, level_other, block_read}

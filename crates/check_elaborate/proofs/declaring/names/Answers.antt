@@ -2,9 +2,9 @@ use Rattle.std.proofs.Common.{rules, ◌≡◌, ◌++◌, ◌+◌, ◌∷◌, []
 use Rattle.std.proofs.lemmas.List.{drop_all}
 use Rattle.c_core.specs.Tree as t
 use Rattle.c_core.specs.declared.tree.Declared.{Declared}
-use Rattle.c_parser.specs.Tree as raw
+use Rattle.c_expressions.specs.Tree as raw
 use Rattle.c_parser.specs.SourceView.{declared_view}
-use Rattle.c_parser.specs.declared.tree.RawDeclared.{RawDeclared}
+use Rattle.c_expressions.specs.declared.tree.RawDeclared.{RawDeclared}
 use Rattle.check_rules.specs.Checked.{typed_names}
 use Rattle.check_rules.specs.Parts.{parts_of_name, parts_of_names}
 use Rattle.check_rules.specs.Scopes.{Scope, after_name, after_names}

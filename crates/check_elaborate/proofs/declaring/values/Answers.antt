@@ -2,10 +2,10 @@ use Rattle.std.proofs.Common.{rules, ◌≡◌, ◌++◌, ◌+◌, ◌∷◌, []
 use Rattle.std.proofs.lemmas.List.{drop_all}
 use Rattle.c_core.specs.Tree as t
 use Rattle.c_core.specs.declared.tree.Expr.{Expr}
-use Rattle.c_parser.specs.Tree as raw
-use Rattle.c_parser.specs.Tree.{exps}
-use Rattle.c_parser.specs.View.{expr_view, exprs_view}
-use Rattle.c_parser.specs.declared.tree.RawExpr.{RawExpr}
+use Rattle.c_expressions.specs.Tree as raw
+use Rattle.c_expressions.specs.Tree.{exps}
+use Rattle.c_expressions.specs.View.{expr_view, exprs_view}
+use Rattle.c_expressions.specs.declared.tree.RawExpr.{RawExpr}
 use Rattle.check_rules.specs.Parts.{parts_of_value, parts_of_values}
 use Rattle.check_rules.specs.Scopes.{Scope, seen}
 use Rattle.check_rules.specs.Typed.{typed, typed_all}

@@ -1,6 +1,6 @@
 use Rattle.std.proofs.Common.{◌≡◌, drop, false}
-use Rattle.c_parser.specs.Tree.{exps}
-use Rattle.c_parser.specs.View.{exprs_view}
+use Rattle.c_expressions.specs.Tree.{exps}
+use Rattle.c_expressions.specs.View.{exprs_view}
 use Rattle.check_rules.specs.Parts.{parts_of_values}
 use Rattle.check_rules.specs.Scopes.{seen}
 use Rattle.check_rules.specs.Typed.{typed_all}

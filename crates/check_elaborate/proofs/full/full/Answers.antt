@@ -1,5 +1,5 @@
 use Rattle.std.proofs.Common.{refl}
-use Rattle.c_parser.specs.View.{expr_view}
+use Rattle.c_expressions.specs.View.{expr_view}
 use Rattle.check_rules.specs.Parts.{parts}
 use Rattle.check_rules.specs.Roles.{role_of}
 use Rattle.check_rules.specs.Scopes.{seen}

@@ -1,7 +1,7 @@
 use Rattle.std.proofs.Common.{◌≡◌, Option, ap, sym, ◌∙◌}
 use Rattle.std.specs.Option.{option_map}
-use Rattle.c_parser.specs.View.{expr_view}
-use Rattle.c_parser.specs.declared.tree.RawExpr.{RawExpr}
+use Rattle.c_expressions.specs.View.{expr_view}
+use Rattle.c_expressions.specs.declared.tree.RawExpr.{RawExpr}
 use Rattle.check_rules.specs.Parts.{parts_if}
 use Rattle.check_rules.specs.Roles.{role_of}
 use Rattle.check_rules.specs.Scopes.{seen}

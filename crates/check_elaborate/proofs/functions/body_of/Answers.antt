@@ -1,7 +1,7 @@
 use Rattle.std.proofs.Common.{◌≡◌, ◌++◌, [], Bool, false, List, map, Option, ap, ◌∙◌}
 use Rattle.check_sequencing.specs.declared.kept.Kept.{Kept}
 use Rattle.c_parser.specs.SourceView.{stmt_view}
-use Rattle.c_parser.specs.Tree.{stms}
+use Rattle.c_expressions.specs.Tree.{stms}
 use Rattle.check_rules.specs.declared.fault.Refusal.{Refusal}
 use Rattle.check_rules.specs.Checked.{typed_block}
 use Rattle.check_rules.specs.Kept.{kept_of_parts}

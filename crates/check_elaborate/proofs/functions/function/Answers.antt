@@ -1,7 +1,7 @@
 use Rattle.std.proofs.Common.{rules, Err, ◌≡◌, ◌++◌, ◌∷◌, [], ℕ, Bool, false, List, length, map, Option, refl, ap, sym, ◌∙◌}
 use Rattle.c_core.specs.Tree as typ
 use Rattle.c_core.specs.declared.number.IntType.{IntType}
-use Rattle.c_parser.specs.Tree as raw
+use Rattle.c_expressions.specs.Tree as raw
 use Rattle.c_parser.specs.SourceView.{param_view, stmt_view}
 use Rattle.check_rules.specs.declared.fault.Refusal.{Refusal}
 use Rattle.check_rules.specs.Checked.{typed_block, numbers_from}

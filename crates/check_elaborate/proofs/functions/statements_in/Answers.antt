@@ -1,9 +1,9 @@
 use Rattle.std.proofs.Common.{◌≡◌, List, map, sym, ap, ◌∙◌}
-use Rattle.c_parser.specs.Tree as raw
-use Rattle.c_parser.specs.Tree.{stms}
+use Rattle.c_expressions.specs.Tree as raw
+use Rattle.c_expressions.specs.Tree.{stms}
 use Rattle.c_parser.specs.SourceView.{form_view, stmt_view}
-use Rattle.c_parser.specs.declared.tree.RawForm.{RawForm}
-use Rattle.c_parser.specs.declared.tree.RawStmt.{RawStmt}
+use Rattle.c_expressions.specs.declared.tree.RawForm.{RawForm}
+use Rattle.c_expressions.specs.declared.tree.RawStmt.{RawStmt}
 use Rattle.c_parser.proofs.SourceViews.{view_of_block}
 use Rattle.check_rules.specs.Scopes.{statements_of}
 use Rattle.check_elaborate.proofs.functions.statements_in.Goals as goal

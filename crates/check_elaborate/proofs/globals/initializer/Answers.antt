@@ -1,6 +1,6 @@
 use Rattle.std.proofs.Common.{◌≡◌, true, ap, sym, ◌∙◌}
 use Rattle.c_parser.specs.SourceView.{init_view}
-use Rattle.c_parser.specs.declared.tree.RawInit.{RawInit}
+use Rattle.c_expressions.specs.declared.tree.RawInit.{RawInit}
 use Rattle.check_rules.specs.Parts.{parts_of_init}
 use Rattle.check_elaborate.specs.Walks.{scope_at, items_in, found_at, with_parts}
 use Rattle.check_elaborate.proofs.FoundLaws.{with_none}

@@ -1,6 +1,6 @@
 use Rattle.std.proofs.Common.{◌≡◌, ◌++◌, ◌∷◌, [], List, Some, ap, ◌∙◌}
 use Rattle.c_core.specs.View.{expr_view as typed_view}
-use Rattle.c_parser.specs.View.{expr_view}
+use Rattle.c_expressions.specs.View.{expr_view}
 use Rattle.check_rules.specs.Kept.{Kept, kept}
 use Rattle.check_elaborate.specs.Items.{kept_views}
 use Rattle.check_elaborate.specs.Walks.{scope_at, items_in, found_at}

@@ -1,9 +1,9 @@
 use Rattle.std.proofs.Common.{rules, ◌≡◌, ◌++◌, ◌+◌, ◌-◌, ◌∷◌, [], ℕ, ℤ, List, length, drop, true, refl, sym, ap, ◌∙◌}
 use Rattle.std.proofs.lemmas.List.{append-nil, append_assoc, drop_all}
-use Rattle.c_parser.specs.Tree as raw
-use Rattle.c_parser.specs.Tree.{exps}
-use Rattle.c_parser.specs.View.{expr_view, exprs_view}
-use Rattle.c_parser.specs.declared.tree.RawExpr.{RawExpr}
+use Rattle.c_expressions.specs.Tree as raw
+use Rattle.c_expressions.specs.Tree.{exps}
+use Rattle.c_expressions.specs.View.{expr_view, exprs_view}
+use Rattle.c_expressions.specs.declared.tree.RawExpr.{RawExpr}
 use Rattle.check_rules.specs.Checked.{start_value, start_values}
 use Rattle.check_rules.specs.Parts.{parts_of_value, parts_of_values}
 use Rattle.check_rules.specs.Scopes.{Scope, seen}

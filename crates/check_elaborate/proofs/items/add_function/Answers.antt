@@ -1,7 +1,7 @@
 use Rattle.std.proofs.Common.{rules, Err, ◌≡◌, ◌++◌, ◌∷◌, [], ℕ, List, map, ap, ◌∙◌}
 use Rattle.c_core.specs.Tree as typ
 use Rattle.c_core.specs.View.{functions_view}
-use Rattle.c_parser.specs.Tree as raw
+use Rattle.c_expressions.specs.Tree as raw
 use Rattle.c_parser.specs.SourceView.{param_view, stmt_view}
 use Rattle.check_rules.specs.Kept.{Kept}
 use Rattle.check_rules.specs.Noting.{noted_parts}

@@ -1,10 +1,10 @@
 use Rattle.std.proofs.Common.{◌≡◌, ◌++◌, ◌∷◌, [], List, map, ap, sym, ◌∙◌}
 use Rattle.std.proofs.lemmas.List.{append-nil}
 use Rattle.c_core.specs.View.{functions_view}
-use Rattle.c_parser.specs.Tree as raw
+use Rattle.c_expressions.specs.Tree as raw
 use Rattle.c_parser.specs.SourceView.{declared_view, item_view, param_view, stmt_view}
 use Rattle.c_parser.specs.declared.item.RawParam.{RawParam}
-use Rattle.c_parser.specs.declared.tree.RawDeclared.{RawDeclared}
+use Rattle.c_expressions.specs.declared.tree.RawDeclared.{RawDeclared}
 use Rattle.check_rules.specs.Noting.{noted_parts}
 use Rattle.check_rules.specs.Parts.{bodies_of, parts_of_item}
 use Rattle.check_rules.specs.Scopes.{after_item}

@@ -3,7 +3,7 @@ use Rattle.std.proofs.lemmas.List.{append-nil, drop_all}
 use Rattle.c_core.specs.Tree as typ
 use Rattle.c_core.specs.View.{functions_view}
 use Rattle.c_core.specs.declared.tree.Start.{Start}
-use Rattle.c_parser.specs.Tree as raw
+use Rattle.c_expressions.specs.Tree as raw
 use Rattle.c_parser.specs.SourceView.{item_view}
 use Rattle.c_parser.specs.declared.item.Item.{Item}
 use Rattle.check_rules.specs.Checked.{starts_of, functions_of}

@@ -1,6 +1,6 @@
 use Rattle.std.proofs.Common.{is_some, refl, ap}
 use Rattle.std.specs.Option.{option_map}
-use Rattle.c_parser.specs.View.{expr_view}
+use Rattle.c_expressions.specs.View.{expr_view}
 use Rattle.check_rules.specs.Parts.{Value, Returning, parts_if}
 use Rattle.check_rules.specs.Scopes.{Scope, seen}
 use Rattle.check_elaborate.specs.Items.{kept_views}

@@ -4,13 +4,13 @@ use Rattle.std.specs.Prelude.{Option}
 use Rattle.std.specs.declared.boxed.Box.{Box}
 use Rattle.std.specs.declared.alloc.Global.{Global}
 use Rattle.c_core.specs.declared.number.Spot.{Spot}
-use Rattle.c_parser.specs.declared.tree.RawExpr.{RawExpr}
-use Rattle.c_parser.specs.declared.tree.RawForm.TheVariants as form
-use Rattle.c_parser.specs.Tree as raw
-use Rattle.c_parser.specs.Tree.{stms}
+use Rattle.c_expressions.specs.declared.tree.RawExpr.{RawExpr}
+use Rattle.c_expressions.specs.declared.tree.RawForm.TheVariants as form
+use Rattle.c_expressions.specs.Tree as raw
+use Rattle.c_expressions.specs.Tree.{stms}
 use Rattle.c_parser.specs.SourceView.{form_view, stmt_view, else_if}
-use Rattle.c_parser.specs.declared.tree.RawForm.{RawForm}
-use Rattle.c_parser.specs.declared.tree.RawStmt.{RawStmt}
+use Rattle.c_expressions.specs.declared.tree.RawForm.{RawForm}
+use Rattle.c_expressions.specs.declared.tree.RawStmt.{RawStmt}
 use Rattle.c_parser.proofs.SourceViews.{view_of_block}
 use Rattle.check_rules.specs.Parts.{Label, labels_of, labels_in, labels_of_else, labels_of_block}
 use Rattle.check_elaborate.specs.Walks.{label, labels_seen}

@@ -1,6 +1,6 @@
 use Rattle.std.proofs.Common.{◌≡◌, ◌++◌, drop, map}
 use Rattle.c_parser.specs.SourceView.{stmt_view}
-use Rattle.c_parser.specs.Tree.{stms}
+use Rattle.c_expressions.specs.Tree.{stms}
 use Rattle.check_rules.specs.Parts.{labels_of_block}
 use Rattle.check_elaborate.specs.Walks.{labels_seen}
 use Rattle.check_elaborate.proofs.labels.+gather.Given as goal

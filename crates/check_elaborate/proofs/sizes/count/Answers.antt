@@ -1,6 +1,6 @@
 use Rattle.std.proofs.Common.{◌≡◌, ◌∙◌, sym, ap}
 use Rattle.c_parser.specs.SourceView.{init_view}
-use Rattle.c_parser.specs.declared.tree.RawInit.{RawInit}
+use Rattle.c_expressions.specs.declared.tree.RawInit.{RawInit}
 use Rattle.check_rules.specs.Codes.{count_of_init}
 use Rattle.check_elaborate.proofs.ListLaws.{count_of_views}
 use Rattle.check_elaborate.proofs.sizes.count.Goals as goal

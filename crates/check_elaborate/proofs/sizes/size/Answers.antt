@@ -1,8 +1,8 @@
 use Rattle.std.proofs.Common.{◌≡◌, ◌++◌, Option, ap, sym, ◌∙◌}
 use Rattle.std.proofs.lemmas.List.{append-nil}
 use Rattle.std.specs.Option.{option_map}
-use Rattle.c_parser.specs.View.{expr_view}
-use Rattle.c_parser.specs.declared.tree.RawExpr.{RawExpr}
+use Rattle.c_expressions.specs.View.{expr_view}
+use Rattle.c_expressions.specs.declared.tree.RawExpr.{RawExpr}
 use Rattle.check_rules.specs.Kept.{kept_size}
 use Rattle.check_rules.specs.Scopes.{seen}
 use Rattle.check_elaborate.specs.Items.{kept_views}

@@ -3,7 +3,7 @@ use Rattle.c_core.specs.Tree as typ
 use Rattle.c_core.specs.View.{functions_view}
 use Rattle.c_core.specs.declared.tree.Function.{Function}
 use Rattle.c_core.specs.declared.tree.Start.{Start}
-use Rattle.c_parser.specs.Tree as raw
+use Rattle.c_expressions.specs.Tree as raw
 use Rattle.c_parser.specs.SourceView.{item_view}
 use Rattle.check_sequencing.specs.declared.kept.Kept.{Kept}
 use Rattle.check_rules.specs.Kept.{kept_of_parts, kept_outside}

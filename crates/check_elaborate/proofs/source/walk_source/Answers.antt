@@ -1,5 +1,5 @@
 use Rattle.std.proofs.Common.{◌≡◌, List, map, None, ap, ◌∙◌}
-use Rattle.c_parser.specs.Tree as raw
+use Rattle.c_expressions.specs.Tree as raw
 use Rattle.c_parser.specs.SourceView.{item_view}
 use Rattle.check_rules.specs.Checked.{starts_of, functions_of}
 use Rattle.check_rules.specs.Kept.{kept_of_parts, kept_outside}

@@ -5,12 +5,12 @@ use Rattle.std.proofs.lemmas.List.{drop_all}
 use Rattle.std.specs.Option.{option_map}
 use Rattle.c_core.specs.Tree as typ
 use Rattle.c_core.specs.declared.tree.Stmt.{Stmt}
-use Rattle.c_parser.specs.Tree as raw
-use Rattle.c_parser.specs.Tree.{stms}
+use Rattle.c_expressions.specs.Tree as raw
+use Rattle.c_expressions.specs.Tree.{stms}
 use Rattle.c_parser.specs.SourceView.{declared_view, first_view, form_view, stmt_view, else_if}
-use Rattle.c_parser.specs.View.{expr_view}
-use Rattle.c_parser.specs.declared.tree.RawDeclared.{RawDeclared}
-use Rattle.c_parser.specs.declared.tree.RawStmt.{RawStmt}
+use Rattle.c_expressions.specs.View.{expr_view}
+use Rattle.c_expressions.specs.declared.tree.RawDeclared.{RawDeclared}
+use Rattle.c_expressions.specs.declared.tree.RawStmt.{RawStmt}
 use Rattle.c_parser.proofs.SourceViews.{view_of_block}
 use Rattle.check_rules.specs.Checked.{typed_if, typed_first, typed_statement, typed_form, typed_else, typed_block}
 use Rattle.check_rules.specs.Parts.{Part, Value, Effect, Leaving, parts, parts_if, parts_of_first, parts_of_statement, parts_of_form, parts_of_else, parts_of_block}

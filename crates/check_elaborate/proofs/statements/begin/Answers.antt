@@ -1,6 +1,6 @@
 use Rattle.std.proofs.Common.{ap, sym, ◌∙◌}
 use Rattle.c_parser.specs.SourceView.{first_view}
-use Rattle.c_parser.specs.declared.tree.RawFirst.{RawFirst}
+use Rattle.c_expressions.specs.declared.tree.RawFirst.{RawFirst}
 use Rattle.check_rules.specs.Parts.{parts_of_first}
 use Rattle.check_elaborate.specs.Walks.{scope_at, items_in, bodies_in, found_at, with_parts}
 use Rattle.check_elaborate.proofs.FoundLaws.{with_none}

@@ -1,5 +1,5 @@
 use Rattle.std.proofs.Common.{ap, sym, ◌∙◌, Bool, ◌&&◌}
-use Rattle.c_parser.specs.View.{node_view}
+use Rattle.c_expressions.specs.View.{node_view}
 use Rattle.check_rules.specs.Codes as codes
 use Rattle.check_scope.specs.InScope.{all_of}
 use Rattle.check_scope.specs.Sources.{items_of}

@@ -1,8 +1,8 @@
 use Rattle.std.proofs.Common.{rules, ◌≡◌, ap, sym, ◌∙◌, ℕ, List, is_none}
-use Rattle.c_parser.specs.Tree as raw
-use Rattle.c_parser.specs.View.{node_view}
-use Rattle.c_parser.specs.declared.tree.RawNode.{RawNode}
-use Rattle.c_parser.proofs.Views.{view_of_call}
+use Rattle.c_expressions.specs.Tree as raw
+use Rattle.c_expressions.specs.View.{node_view}
+use Rattle.c_expressions.specs.declared.tree.RawNode.{RawNode}
+use Rattle.c_expressions.proofs.Views.{view_of_call}
 use Rattle.check_rules.specs.Codes.{misused, miscalled, word_of}
 use Rattle.check_rules.specs.Names.{named}
 use Rattle.check_scope.specs.InScope.{all_of}

@@ -1,7 +1,7 @@
 use Rattle.std.proofs.Common.{◌||◌, ap, ◌∙◌, Option}
 use Rattle.c_core.specs.Parts.{type_of}
 use Rattle.c_core.specs.declared.number.IntType.{IntType}
-use Rattle.c_parser.specs.View.{node_view}
+use Rattle.c_expressions.specs.View.{node_view}
 use Rattle.check_rules.specs.Codes.{word_of, misused}
 use Rattle.check_rules.specs.Roles.{role_of}
 use Rattle.check_scope.specs.InScope.{all_of}

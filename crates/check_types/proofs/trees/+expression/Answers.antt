@@ -4,12 +4,12 @@ use Rattle.c_core.specs.Tree as t
 use Rattle.c_core.specs.View.{exprs_view as typed_views}
 use Rattle.c_core.specs.declared.tree.Callee.{Callee}
 use Rattle.c_core.specs.declared.tree.Expr.{Expr}
-use Rattle.c_parser.specs.Tree as raw
-use Rattle.c_parser.specs.Tree.{exps}
-use Rattle.c_parser.specs.View.{expr_view, exprs_view, node_view}
-use Rattle.c_parser.specs.declared.tree.RawExpr.{RawExpr}
-use Rattle.c_parser.specs.declared.tree.RawNode.{RawNode}
-use Rattle.c_parser.proofs.Views.{view_of_call}
+use Rattle.c_expressions.specs.Tree as raw
+use Rattle.c_expressions.specs.Tree.{exps}
+use Rattle.c_expressions.specs.View.{expr_view, exprs_view, node_view}
+use Rattle.c_expressions.specs.declared.tree.RawExpr.{RawExpr}
+use Rattle.c_expressions.specs.declared.tree.RawNode.{RawNode}
+use Rattle.c_expressions.proofs.Views.{view_of_call}
 use Rattle.check_rules.proofs.NotingLaws.{noted_parts-append}
 use Rattle.check_rules.specs.declared.fault.Refusal.{Refusal}
 use Rattle.check_rules.specs.Codes.{word_of}

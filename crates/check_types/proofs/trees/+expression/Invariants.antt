@@ -1,6 +1,6 @@
 use Rattle.std.proofs.Common.{◌≡◌, drop}
-use Rattle.c_parser.specs.Tree.{exps}
-use Rattle.c_parser.specs.View.{exprs_view}
+use Rattle.c_expressions.specs.Tree.{exps}
+use Rattle.c_expressions.specs.View.{exprs_view}
 use Rattle.check_rules.specs.Noting.{noted_parts}
 use Rattle.check_rules.specs.Parts.{parts_of, bodies_of}
 use Rattle.check_rules.specs.Typed.{typed_all}

@@ -1,6 +1,6 @@
 use Rattle.std.proofs.Common.{List, ℕ, subst}
 use Rattle.c_core.specs.View.{expr_view}
-use Rattle.c_parser.specs.View.{expr_view as raw_view}
+use Rattle.c_expressions.specs.View.{expr_view as raw_view}
 use Rattle.way_constraint.specs.Constraints.{IsTyped, entries}
 use Rattle.way_bind.proofs.waypoint.constant_of.Goals as goal
 

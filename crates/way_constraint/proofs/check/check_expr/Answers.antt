@@ -1,6 +1,6 @@
 use Rattle.std.proofs.Common.{ℕ, List, subst}
 use Rattle.c_core.specs.View.{expr_view as typed_view}
-use Rattle.c_parser.specs.View.{expr_view}
+use Rattle.c_expressions.specs.View.{expr_view}
 use Rattle.way_constraint.specs.Constraints.{IsTyped, FitsConstraint, entries}
 use Rattle.way_constraint.proofs.check.check_expr.Goals as goal
 

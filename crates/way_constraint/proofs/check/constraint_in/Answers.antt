@@ -1,7 +1,7 @@
 use Rattle.std.proofs.Common.{ap, false, map, is_some}
 use Rattle.c_core.specs.View.{expr_view as typed_view}
 use Rattle.c_parser.specs.SourceView.{item_view}
-use Rattle.c_parser.specs.View.{expr_view}
+use Rattle.c_expressions.specs.View.{expr_view}
 use Rattle.check_scope.specs.InScope.{all_of}
 use Rattle.check_scope.specs.Sources.{items_of}
 use Rattle.way_constraint.proofs.AnswerLaws.{scope_told, mistyped_told, typed_told, fits_told}

@@ -1,9 +1,9 @@
 use Rattle.std.proofs.Common.{◌+◌, ◌&&◌, ◌∙◌, ap, sym, drop, Bool, List}
 use Rattle.c_parser.specs.Formed.{every_part, every_argument}
-use Rattle.c_parser.specs.Tree.{exps}
-use Rattle.c_parser.specs.View.{exprs_view, node_view}
-use Rattle.c_parser.specs.declared.tree.RawExpr.{RawExpr}
-use Rattle.c_parser.proofs.Views.{view_of_call}
+use Rattle.c_expressions.specs.Tree.{exps}
+use Rattle.c_expressions.specs.View.{exprs_view, node_view}
+use Rattle.c_expressions.specs.declared.tree.RawExpr.{RawExpr}
+use Rattle.c_expressions.proofs.Views.{view_of_call}
 use Rattle.check_scope.specs.InScope.{all_of}
 use Rattle.way_constraint.specs.Known.{stands_for_object}
 use Rattle.way_constraint.proofs.ListLaws.{every-next}

@@ -1,7 +1,7 @@
 use Rattle.std.proofs.Common.{◌≡◌, drop}
 use Rattle.c_parser.specs.Formed.{every_argument}
-use Rattle.c_parser.specs.Tree.{exps}
-use Rattle.c_parser.specs.View.{exprs_view}
+use Rattle.c_expressions.specs.Tree.{exps}
+use Rattle.c_expressions.specs.View.{exprs_view}
 use Rattle.check_scope.specs.InScope.{all_of}
 use Rattle.way_constraint.specs.Known.{stands_for_object}
 use Rattle.way_constraint.proofs.known.+objects.Given as goal

@@ -1,0 +1,13 @@
+pub mod Tree
+pub mod Heights
+pub mod Signs
+pub mod Words
+pub mod TypeCounts
+pub mod Expressions
+pub mod ReadExpressions
+pub mod View
+pub mod Gives
+pub mod Brackets
+pub mod Passes
+pub mod Limits
+pub mod Witness
