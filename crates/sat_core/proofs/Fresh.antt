@@ -72,11 +72,11 @@ top_of (x ∷ z ∷ zs) p ne =
     ]
 
 -- the opposites of all numbers but one
-abbrev others : ℤ → List ℤ → List ℤ
+abbrev pub others : ℤ → List ℤ → List ℤ
 others m [] = []
 others m (x ∷ xs) = cond (int_eq x m) (others m xs) (neg_ℤ x ∷ others m xs)
 
-others_from : (m : ℤ) (c : List ℤ) (y : ℤ) → Contains (others m c) y → Contains c (neg_ℤ y) × (neg_ℤ y ≢ m)
+pub others_from : (m : ℤ) (c : List ℤ) (y : ℤ) → Contains (others m c) y → Contains c (neg_ℤ y) × (neg_ℤ y ≢ m)
 others_from m [] y i = absurd (omega (arith, i.1))
 others_from m (x ∷ xs) y i = others_from_at m x xs y (int_eq x m) (Decides-int_eq x m) i (others_from m xs y)
   where
@@ -87,7 +87,7 @@ others_from m (x ∷ xs) y i = others_from_at m x xs y (int_eq x m) (Decides-int
       | inr k ↦ let h = ih k in (cons_there x (neg_ℤ y) xs h.0, h.1)
     ]
 
-others_at : (m : ℤ) (c : List ℤ) (y : ℤ) → Contains c (neg_ℤ y) → neg_ℤ y ≢ m → Contains (others m c) y
+pub others_at : (m : ℤ) (c : List ℤ) (y : ℤ) → Contains c (neg_ℤ y) → neg_ℤ y ≢ m → Contains (others m c) y
 others_at m [] y i ne = absurd (omega (arith, i.1))
 others_at m (x ∷ xs) y i ne = others_at_step m x xs y (int_eq x m) (Decides-int_eq x m) (cons_cases x (neg_ℤ y) xs i) ne (λ k. others_at m xs y k ne)
   where
@@ -122,7 +122,7 @@ values_of t n (suc m) h =
       ];
     }
 
-input_at : (v : ℕ → Bool) (k : ℕ) (x : ℤ) → Contains (input_numbers v k) x → (j : ℕ) × (j < k) × (x ≡ number_of (not (v j)) (j + 1))
+pub input_at : (v : ℕ → Bool) (k : ℕ) (x : ℤ) → Contains (input_numbers v k) x → (j : ℕ) × (j < k) × (x ≡ number_of (not (v j)) (j + 1))
 unfolding input_numbers
 input_at v zero x i = absurd (omega (arith, i.1))
 input_at v (suc k) x i = elim (Contains-push_cases (input_numbers v k) (number_of (not (v k)) (k + 1)) x i) as (λ _. (j : ℕ) × (j < suc k) × (x ≡ number_of (not (v j)) (j + 1))) [

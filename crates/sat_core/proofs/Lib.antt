@@ -12,3 +12,4 @@ pub mod Models
 pub mod Learns
 mod Deciding
 pub mod Once
+pub mod Closed

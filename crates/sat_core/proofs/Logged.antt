@@ -19,11 +19,11 @@ accepted_more : (clauses : List (List ℤ)) (chains : List Chain) (chain : Chain
 accepted_more clauses [] chain a r = (subst (λ (cs : List (List ℤ)). IsRight cs chain) (append-nil clauses) r, tt)
 accepted_more clauses (x ∷ xs) chain a r = (a.0, accepted_more (clauses ++ x.gives ∷ []) xs chain a.1 (subst (λ (cs : List (List ℤ)). IsRight cs chain) (sym (append_assoc clauses (x.gives ∷ []) (given xs))) r))
 
-new_more : (clauses cs : List (List ℤ)) (c : List ℤ) → AreNew clauses cs → c ≢ [] → IsNew (clauses ++ cs) c → AreNew clauses (cs ++ c ∷ [])
+pub new_more : (clauses cs : List (List ℤ)) (c : List ℤ) → AreNew clauses cs → c ≢ [] → IsNew (clauses ++ cs) c → AreNew clauses (cs ++ c ∷ [])
 new_more clauses [] c a ne n = (ne, subst (λ (ds : List (List ℤ)). IsNew ds c) (append-nil clauses) n, tt)
 new_more clauses (x ∷ xs) c a ne n = (a.0, a.1, new_more (clauses ++ x ∷ []) xs c a.2 ne (subst (λ (ds : List (List ℤ)). IsNew ds c) (sym (append_assoc clauses (x ∷ []) xs)) n))
 
-given_more : (chains : List Chain) (chain : Chain) → given (chains ++ chain ∷ []) ≡ given chains ++ chain.gives ∷ []
+pub given_more : (chains : List Chain) (chain : Chain) → given (chains ++ chain ∷ []) ≡ given chains ++ chain.gives ∷ []
 given_more chains chain = map_push (λ c. c.gives) chains chain
 
 pub clauses_more : (clauses : List (List ℤ)) (chains : List Chain) (chain : Chain) → clauses_of clauses (chains ++ chain ∷ []) ≡ clauses_of clauses chains ++ chain.gives ∷ []

@@ -4,3 +4,4 @@ pub mod Derived
 pub mod Learned
 pub mod Found
 pub mod Answers
+pub mod Closed

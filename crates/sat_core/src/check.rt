@@ -5,7 +5,6 @@ ghost use Rattle.clauses.specs.Clause.{IsNumber};
 ghost use Rattle.sat_core.specs.Derived.{AreOnce};
 ghost use Rattle.sat_core.specs.Answers.{value_at, IsModel, IsRefuted, AreAllOnce};
 
-use crate::cells::filled;
 use clauses::{Chain, Clause, Cnf, Refutation, Resolve, accepts};
 use std::alloc::Global;
 use wv_base::OutOfMemory;
@@ -67,7 +66,7 @@ fn is_once(stamps: &mut [u32], stamp: u32, steps: &[Resolve]) -> bool
 fn are_once(alloc: Global, variables: u32, chains: &[Chain]) -> Result<bool, OutOfMemory>
     ensures { IfOk result (λ r. IsTrue r → AreAllOnce chains.now) }
 {
-    let mut stamps = filled(alloc, variables as usize + 1, 0)?;
+    let mut stamps = vec![in alloc; 0u32; variables as usize + 1]?;
     let mut stamp = 0u32;
     for chain in chains {
         stamp = stamp.wrapping_add(1);

@@ -67,7 +67,18 @@ impl Values {
         matches!(self.value(literal), Value::True)
     }
 
-    /// Whether a variable has a value.
+    /// The value of a variable.
+    pub fn told(&self, variable: usize) -> Option<bool> {
+        if self.has_value(variable, true) {
+            return Some(true);
+        }
+        if self.has_value(variable, false) {
+            return Some(false);
+        }
+        None
+    }
+
+    /// Whether a variable has this value.
     pub fn has_value(&self, variable: usize, value: bool) -> bool {
         if variable < 0x8000_0000 {
             self.is_true(Lit::of_variable(variable as u32, value))
