@@ -5,8 +5,8 @@ ghost use Rattle.clauses.specs.Clause.{IsNumber};
 ghost use Rattle.sat_core.specs.Derived.{AreOnce};
 ghost use Rattle.sat_core.specs.Answers.{value_at, IsModel, IsRefuted, AreAllOnce};
 
-use crate::cells::filled;
 use clauses::{Chain, Clause, Cnf, Refutation, Resolve, accepts};
+use sat_search::filled;
 use std::alloc::Global;
 use wv_base::OutOfMemory;
 

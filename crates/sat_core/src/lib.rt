@@ -3,27 +3,15 @@
 #![tactic(auto)]
 
 mod analyze;
-mod arena;
-mod cells;
 mod check;
-mod conflict;
 mod database;
 mod laws;
-mod learn;
-mod lit;
-mod log;
-mod order;
 mod plain;
 mod propagate;
-mod reduce;
-mod restart;
-mod search;
 mod solver;
 #[cfg(test)]
 mod tests;
 mod trail;
-mod values;
-mod watches;
 
 pub use laws::all_variables_decide;
 pub use solver::{Answer, solve};

@@ -4,8 +4,8 @@ ghost use Rattle.sat_core.specs.Answers.{IsAnswer};
 
 use crate::check::{is_model, is_refutation};
 use crate::plain::solve_plainly;
-use crate::search::{Outcome, find};
 use clauses::{Cnf, Refutation};
+use sat_search::{Outcome, find};
 use std::alloc::Global;
 use wv_base::{OutOfMemory, Seq};
 

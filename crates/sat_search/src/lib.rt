@@ -1,0 +1,19 @@
+//! A search for values that satisfy clauses, or for a refutation, as MiniSat makes it. It has contracts that it is safe, and none on what it
+//! finds: who calls it checks that.
+#![tactic(auto)]
+
+mod arena;
+mod cells;
+mod conflict;
+mod learn;
+mod lit;
+mod log;
+mod order;
+mod reduce;
+mod restart;
+mod search;
+mod values;
+mod watches;
+
+pub use cells::filled;
+pub use search::{Outcome, find};
