@@ -38,7 +38,7 @@ pub fn draws_fit()
     ensures havoc_run { (p : Program) (invariants : List Placed) (values : List ℤ) → AreFitting p.model (Havoc p invariants values).draws }
 {}
 
-/// At every moment of a run or a havoc run of a checked program each cell holds a value of its object's type, each object in reach has its cells, and each expression gives a value of its type.
+/// At every moment of a run of a checked program, and at the end of a havoc run, each cell holds a value of its object's type. An expression or a statement that begins where objects in reach have such cells gives a value of its type.
 pub fn cells_fit()
     ensures { (p : Program) → IsProgram p → CellsFit p }
 {}
