@@ -25,7 +25,7 @@ use Rattle.c_meaning.specs.Run.{State, Moment, Told, Here, Head, cells_of, with_
 use Rattle.c_meaning.specs.Havoc.{Stopped, Left, cells_left, with_cells_left, redraw_cells, redraw}
 use Rattle.c_meaning.specs.Eval.{eval}
 use Rattle.c_meaning.specs.Exec.{exec, with_params, run_main}
-use Rattle.c_meaning.specs.Fitting.{IsOf, keys, Grows, calls_in, FitCells, AreLive, AreSound, FitMoment, Leaves, GivesOne, LeavesSome, Begins, Redrawn, IsSeen, IsDone, CellsFit}
+use Rattle.c_meaning.specs.Fitting.{IsOf, calls_in, FitCells, AreLive, AreSound, FitMoment, Leaves, GivesOne, LeavesSome, Begins, Redrawn, IsSeen, IsDone, CellsFit}
 use Rattle.c_meaning.specs.Related.{Units, FitsS, FitsParams, with_names, after}
 use Rattle.c_meaning.proofs.Checked.{Agreeing, Asks, function_params, function_body, fits_e, fits_s, sees_after}
 use Rattle.c_meaning.proofs.FittingCells.{retyped_value, constant_value, nought_value, digit_value, answered_value, answered_one_value, read_fits, put_fits, declared_fits, cut_fits, lives_on, lives_fewer, lives_declared, first_fit, first_live, either_cases, either_left, either_right}
