@@ -342,6 +342,9 @@ module _ (p : Program) (h : IsProgram p) {M N : Meaning} (R : Relation M N) (ask
         value_for None x v = tt
         value_for (Some to) x v = v
 
+    nothing_returned : IsTrue (return_fits p result None) → Agreeing None result
+    nothing_returned t = agreeing None result (no_type result t)
+
     for_test : (i : First) (e : Option Exp) (s : Option Exp) (b : Stm) → IsTrue (form_fits p result (For i e s b)) → IsTrue (first_fits p i) × (IfTest e)
     for_test i None s b f = (f, tt)
     for_test i (Some e) s b f = let a = both (first_fits p i) (has_value e) f in (a.0, used e a.1)
@@ -387,7 +390,7 @@ module _ (p : Program) (h : IsProgram p) {M N : Meaning} (R : Relation M N) (ask
           )
       fits_f L reach z at Break f t u r n m = tt
       fits_f L reach z at Continue f t u r n m = tt
-      fits_f L reach z at (Return None) f t u r n m = tt
+      fits_f L reach z at (Return None) f t u r n m = asks.agree None result (nothing_returned f)
       fits_f L reach z at (Return (Some e)) f t u r n m = let g = fits_one L reach z e t r in fits_as L reach z result e (returned_value e f) g.0 g.1
       fits_f L reach z at (Label b) f t u r n m = fits_s L reach z b u r m
 

@@ -90,10 +90,10 @@ module _ (p : Program) where
     active = λ s n h. h;
     drawn = λ s kind spot ty h. All-push (IsFitting p.model) s.draws _ h (fit_in_range p.model ty (or_zero (chosen kind spot s.choices)));
     Arrived = λ cs. Unit {0};
-    arrived = λ s h. tt;
-    told = λ s e h. h;
-    here = λ s spot h. h;
-    head = λ s at l cs r h. h;
+    arrived = λ s h l. tt;
+    told = λ s e h l. h;
+    here = λ s spot h l. h;
+    head = λ s at l cs r h z. h;
   }
 
   run_keeps : st.KeepsOwn End (State (List Moment)) cells_of with_cells (λ cs s. refl) p of_run (runs.own_parts p (List Moment) keep)

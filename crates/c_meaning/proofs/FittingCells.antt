@@ -28,11 +28,11 @@ use Rattle.c_core.specs.declared.tree.Start.{Start}
 use Rattle.c_core.proofs.Fits.{fit_in_range}
 use Rattle.c_meaning.specs.Cells.{Key, Cell, same_key, live, read, put, cells_from}
 use Rattle.c_meaning.specs.Objects.{type_in, size_in, type_of_object, size_of_object}
-use Rattle.c_meaning.specs.Fitting.{IsOf, IsFittingCell, FitCells, AreLive}
+use Rattle.c_meaning.specs.Fitting.{keys, Grows, IsOf, IsFittingCell, FitCells, AreLive}
 use Rattle.c_meaning.specs.Related.{given_by, given_by_one}
 use Rattle.c_meaning.specs.Run.{start_values, static_cells, first_cells}
 use Rattle.c_meaning.proofs.Checked.{Agreeing}
-use Rattle.c_meaning.proofs.Stateful.{keys, Grows, IsDone}
+use Rattle.c_meaning.proofs.Stateful.{IsDone}
 use Rattle.c_meaning.proofs.TypeFacts.{both, neither, some_same}
 
 same_number : (a b : ℕ) → IsTrue (nat_eq a b) → a ≡ b

@@ -143,7 +143,7 @@ module _ (p : Program) (I : List Placed) where
         keeps_then L Units Units (acts.write Stopped Left cells_left with_cells_left (record { object = o; index = i }) v) (λ _. havoc.redraw_cells p I spot o (suc i) n)
         (st.keeps_write Stopped Left cells_left with_cells_left (λ cs s. refl) p inv L (record { object = o; index = i }) v q) (λ _ _ _. keeps_cells L spot o (suc i) n))
 
-    keeps_redrawn : (L : List ℕ) (spot : Spot) (os : List ℕ) → Keeps L Units (havoc.redraw p I spot os)
+    pub keeps_redrawn : (L : List ℕ) (spot : Spot) (os : List ℕ) → Keeps L Units (havoc.redraw p I spot os)
     keeps_redrawn L spot [] = keeps_ret L Units tt tt tt
     keeps_redrawn L spot (o ∷ os) = keeps_then L Units Units (havoc.redraw_cells p I spot o 0 (size_of_object p o)) _ (keeps_cells L spot o 0 (size_of_object p o)) (λ _ _ _. keeps_redrawn L spot os)
 

@@ -49,7 +49,7 @@ module _ (p : Program) (S : Type 0) (see : Moment → S → S) where
   abbrev pub Invariant : Type 1
   Invariant = st.Invariant End (State S) cells_of with_cells p
 
-  -- it says nothing of steps and active calls, and holds of what is drawn and seen
+  -- it says nothing of steps and active calls, and holds of what is drawn and seen, where static objects have their cells
   pub record Stands (inv : Invariant) : Type 1 where
     pub steps : (s : State S) (n : ℕ) → inv.Holds s → inv.Holds (record s { steps = n })
     pub active : (s : State S) (n : ℕ) → inv.Holds s → inv.Holds (record s { active = n })
@@ -59,10 +59,10 @@ module _ (p : Program) (S : Type 0) (see : Moment → S → S) where
       unfixed = s.unfixed + one_if_none (chosen kind spot s.choices);
     })
     pub Arrived : List Cell → Type 0
-    pub arrived : (s : State S) → inv.Holds s → Arrived s.cells
-    pub told : (s : State S) (e : Event) → inv.Holds s → inv.Holds (record s { seen = see (Told e s.cells) s.seen })
-    pub here : (s : State S) (spot : Spot) → inv.Holds s → inv.Holds (record s { seen = see (Here spot s.cells) s.seen })
-    pub head : (s : State S) (at : Spot) (l : Loop) (cs : List Cell) → Arrived cs → inv.Holds s → inv.Holds (record s { seen = see (Head at l cs s.cells) s.seen })
+    pub arrived : (s : State S) → inv.Holds s → inv.Lives [] s.cells → Arrived s.cells
+    pub told : (s : State S) (e : Event) → inv.Holds s → inv.Lives [] s.cells → inv.Holds (record s { seen = see (Told e s.cells) s.seen })
+    pub here : (s : State S) (spot : Spot) → inv.Holds s → inv.Lives [] s.cells → inv.Holds (record s { seen = see (Here spot s.cells) s.seen })
+    pub head : (s : State S) (at : Spot) (l : Loop) (cs : List Cell) → Arrived cs → inv.Holds s → inv.Lives [] s.cells → inv.Holds (record s { seen = see (Head at l cs s.cells) s.seen })
 
   module _ (inv : Invariant) (stands : Stands inv) where
     abbrev Kept : {A B : Type 0} → (A → B → Type 0) → State S → Res End (State S) A → Type 0
@@ -93,7 +93,7 @@ module _ (p : Program) (S : Type 0) (see : Moment → S → S) where
     keeps_cond L R t a b f g = st.keeps_cond End (State S) cells_of with_cells (λ cs s. refl) p inv L R t a b f g
 
     keeps_tell : (L : List ℕ) (e : Event) → Keeps L Units (run.tell p S see e)
-    keeps_tell L e = record { at = λ s h l. (stands.told s e h, refl, (tt, tt)) }
+    keeps_tell L e = record { at = λ s h l. (stands.told s e h (inv.lives_fewer L s.cells l), refl, (tt, tt)) }
 
     keeps_after : {A B : Type 0} (L : List ℕ) (R : A → B → Type 0) (e : Event) (k : Act A) → Keeps L R k → Keeps L R (λ s. bind (run.tell p S see e s) (λ _. k))
     keeps_after L R e k g = keeps_then L Units R (run.tell p S see e) (λ _. k) (keeps_tell L e) (λ _ _ _. g)
@@ -145,7 +145,7 @@ module _ (p : Program) (S : Type 0) (see : Moment → S → S) where
     gives_next ty Next g h = tt
     gives_next ty Broken g h = tt
     gives_next ty Again g h = tt
-    gives_next ty (Gave None) g h = tt
+    gives_next ty (Gave None) g h = h
     gives_next ty (Gave (Some v)) g h = h
 
     keeps_called : (ty : Option IntType) (L M : List ℕ) (site : Site) (a : Act Flow) → KeepsDone ty [] M a → Keeps {B = ℤ} L (Is ty) (run.called p S see site a)
@@ -157,11 +157,11 @@ module _ (p : Program) (S : Type 0) (see : Moment → S → S) where
     keeps_turns : (ty : Option IntType) (L : List ℕ) (n : ℕ) (at : Spot) (l : Loop) (arrived : List Cell) (m : Act Flow) → stands.Arrived arrived → KeepsDone ty L L m → KeepsDone ty L L (run.turns p S see n at l arrived m)
     keeps_turns ty L zero at l arrived m r f = st.done_stop End (State S) cells_of with_cells (λ cs s. refl) p inv ty L L Spent
     keeps_turns ty L (suc n) at l arrived m r f =
-        keeps_using ty L L Units (λ s. run.note p S see (Head at l arrived s.cells) s) _ (record { at = λ s h z. (stands.head s at l arrived r h, refl, (tt, tt)) }) (λ _ _ _.
+        keeps_using ty L L Units (λ s. run.note p S see (Head at l arrived s.cells) s) _ (record { at = λ s h z. (stands.head s at l arrived r h (inv.lives_fewer L s.cells z), refl, (tt, tt)) }) (λ _ _ _.
         st.done_turned End (State S) cells_of with_cells (λ cs s. refl) p inv ty L m (run.turns p S see n at l arrived m) f (keeps_turns ty L n at l arrived m r f))
 
     keeps_loop : (ty : Option IntType) (L : List ℕ) (at : Spot) (l : Loop) (m : Act Flow) → KeepsDone ty L L m → KeepsDone ty L L (run.loop p S see at l m)
-    keeps_loop ty L at l m f = record { at = λ s h z. (keeps_turns ty L (suc s.steps) at l s.cells m (stands.arrived s h) f).at s h z }
+    keeps_loop ty L at l m f = record { at = λ s h z. (keeps_turns ty L (suc s.steps) at l s.cells m (stands.arrived s h (inv.lives_fewer L s.cells z)) f).at s h z }
 
     done_branched : (ty : Option IntType) (L M : List ℕ) (spot : Spot) (t : Bool) (a b : Act Flow) → KeepsDone ty L M a → KeepsDone ty L M b → KeepsDone ty L M (run.branched p S see spot t a b)
     done_branched ty L M spot t a b f g = keeps_using ty L M Units (run.tell p S see (Branch spot t)) _ (keeps_tell L (Branch spot t)) (λ _ _ _. st.done_cond End (State S) cells_of with_cells (λ cs s. refl) p inv ty L M t a b f g)
@@ -180,7 +180,7 @@ module _ (p : Program) (S : Type 0) (see : Moment → S → S) where
       ending = λ L. keeps_stop L _ _;
       called = λ ty L M site a f. keeps_called ty L M site a f;
       missing = λ L. keeps_stop L _ _;
-      here = λ L at. keeps_then L Units Units (λ s. run.note p S see (Here at s.cells) s) _ (record { at = λ s h l. (stands.here s at h, refl, (tt, tt)) }) (λ _ _ _. keeps_tell L (At at));
+      here = λ L at. keeps_then L Units Units (λ s. run.note p S see (Here at s.cells) s) _ (record { at = λ s h l. (stands.here s at h (inv.lives_fewer L s.cells l), refl, (tt, tt)) }) (λ _ _ _. keeps_tell L (At at));
       branch = λ ty L M at t a b f g. done_branched ty L M at t a b f g;
       loop = λ ty L at l a f. st.done_scoped End (State S) cells_of with_cells (λ cs s. refl) p inv ty L L (run.loop p S see at l a) (keeps_loop ty L at l a f);
       deep = λ ty L M. st.done_stop End (State S) cells_of with_cells (λ cs s. refl) p inv ty L M Spent;

@@ -25,7 +25,7 @@ use Rattle.c_meaning.specs.Acts as acts
 use Rattle.c_meaning.specs.Run as run
 use Rattle.c_meaning.specs.Run.{State, Moment, Told, Here, Head, real, index_below, cells_of, with_cells, state_of, end_of, events_of, Whole}
 use Rattle.c_meaning.specs.Exec.{run_in, run_if, call_of}
-use Rattle.c_meaning.specs.Related.{Either, Units, Relation, Preserves}
+use Rattle.c_meaning.specs.Related.{Units, Relation, Preserves}
 use Rattle.c_meaning.specs.Budget.{Begins, Continues, Stays}
 use Rattle.c_meaning.proofs.Moments.{Seen, keep, Result, Act, events_begin}
 use Rattle.c_meaning.proofs.Fundamental.{related_body, related_call, Free, all_fit_params, all_fit}
@@ -227,12 +227,6 @@ module _ (p : Program) (d : ℕ) where
       back : (f f' : Flow) → f ≡ f' → Longer Equal (λ s. bind (run.shallower p Seen keep s) (λ _. run.returned p Seen keep site (given f))) (λ s. bind (run.shallower p Seen keep s) (λ _. run.returned p Seen keep site (given f')))
       back f f' e = rw e (longer_then Units Equal _ _ _ _ longer_shallower (λ _ _ _. longer_returned site (given f')))
 
-  gave : (v w : Option ℤ) → Either Equal v w → Gave v ≡ Gave w
-  gave None None q = refl
-  gave None (Some w) q = absurd q
-  gave (Some v) None q = absurd q
-  gave (Some v) (Some w) q = ap (λ x. Gave (Some x)) q
-
   budgets : Relation (real p Seen keep) (real p Seen keep)
   budgets = record {
     Scope = Unit {0};
@@ -290,7 +284,8 @@ module _ (p : Program) (d : ℕ) where
     next = λ ty L. longer_ret _ _ _ refl;
     leave = λ ty L. longer_ret _ _ _ refl;
     again = λ ty L. longer_ret _ _ _ refl;
-    give = λ ty L v w q. longer_ret _ _ _ (gave v w q);
+    give = λ ty L v w q. longer_ret _ _ _ (ap (λ x. Gave (Some x)) q);
+    give_none = λ ty L q. longer_ret _ _ _ refl;
     seq = λ ty L M N a a' b b' g h. longer_then Equal Equal _ _ _ _ g (λ f f' e. rw e (longer_go_on b b' h f'));
     scoped = λ ty L M a b g. longer_scoped Equal a b g;
     continued = λ ty L M a b g. longer_then Equal Equal _ _ _ _ (longer_scoped Equal a b g) (λ x y e. longer_ret Equal _ _ (ap continuing e));

@@ -28,7 +28,7 @@ use Rattle.c_meaning.specs.Acts as acts
 use Rattle.c_meaning.specs.Run as run
 use Rattle.c_meaning.specs.Run.{State, Moment, Told, Here, Head, real, index_below, cells_of, with_cells, state_of, chosen, after_draw, or_zero}
 use Rattle.c_meaning.specs.Exec.{run_in, run_if, call_of}
-use Rattle.c_meaning.specs.Related.{Either, Units, Relation, Preserves}
+use Rattle.c_meaning.specs.Related.{Units, Relation, Preserves}
 use Rattle.c_meaning.specs.Replay.{values_of, drawn_by, IsReplayed}
 use Rattle.c_meaning.proofs.Fitted.{fit_twice}
 use Rattle.c_meaning.proofs.Fundamental.{related_body, related_call, Free, all_fit_params, all_fit}
@@ -243,12 +243,6 @@ module _ (p : Program) (S : Type 0) (see : Moment → S → S) where
   replays_loop : (at : Spot) (l : Loop) (m k : Act Flow) → Replays Equal m k → Replays Equal (run.loop p S see at l m) (run.loop p S see at l k)
   replays_loop at l m k f = record { adds = λ s. (replays_turns (suc s.steps) at l s.cells m k f).adds s; at = λ s. (replays_turns (suc s.steps) at l s.cells m k f).at s }
 
-  gave : (v w : Option ℤ) → Either Equal v w → Gave v ≡ Gave w
-  gave None None q = refl
-  gave None (Some w) q = absurd q
-  gave (Some v) None q = absurd q
-  gave (Some v) (Some w) q = ap (λ x. Gave (Some x)) q
-
   replayed_parts : Relation (real p S see) (real p S see)
   replayed_parts = record {
     Scope = Unit {0};
@@ -307,7 +301,8 @@ module _ (p : Program) (S : Type 0) (see : Moment → S → S) where
     next = λ ty L. replays_ret _ _ _ refl;
     leave = λ ty L. replays_ret _ _ _ refl;
     again = λ ty L. replays_ret _ _ _ refl;
-    give = λ ty L v w q. replays_ret _ _ _ (gave v w q);
+    give = λ ty L v w q. replays_ret _ _ _ (ap (λ x. Gave (Some x)) q);
+    give_none = λ ty L q. replays_ret _ _ _ refl;
     seq = λ ty L M N a a' b b' f g. replays_then Equal Equal _ _ _ _ f (λ x y e. subst (λ z. Replays Equal (go_on b x) (go_on b' z)) e (replays_go_on b b' g x));
     scoped = λ ty L M a b f. replays_scoped Equal a b f;
     continued = λ ty L M a b f. replays_then Equal Equal _ _ _ _ (replays_scoped Equal a b f) (λ x y e. replays_ret Equal _ _ (ap continuing e));

@@ -1,5 +1,5 @@
 -- Meanings over states with live cells: what each of their own parts keeps, the meanings of every tree keep.
-use Rattle.std.proofs.Common.{◌≡◌, ℕ, zero, suc, ℤ, pos, Bool, true, false, cond, not, List, [], ◌∷◌, ◌++◌, length, take, map, Option, Some, None, slice_get, refl, sym, ap, ◌∙◌, subst}
+use Rattle.std.proofs.Common.{◌≡◌, ℕ, zero, suc, ℤ, pos, Bool, true, false, cond, not, List, [], ◌∷◌, ◌++◌, length, take, Option, Some, None, slice_get, refl, sym, ap, ◌∙◌, subst}
 use Rattle.std.proofs.lemmas.List.{append_assoc, append-nil, map-append}
 use Rattle.c_core.specs.Types.{fit, is_zero, number_of}
 use Rattle.c_core.specs.Operators.{apply_of, apply_one_of}
@@ -21,16 +21,9 @@ use Rattle.c_meaning.specs.Acts as acts
 use Rattle.c_meaning.specs.Run.{index_below, state_of}
 use Rattle.c_meaning.specs.Eval.{eval}
 use Rattle.c_meaning.specs.Exec.{exec, run_in, run_if, run_main}
-use Rattle.c_meaning.specs.Fitting.{calls_in}
-use Rattle.c_meaning.specs.Related.{Units, Either, given_by, given_by_one, Relation, Preserves, FitsE, FitsS, FitsParams, with_names, after}
+use Rattle.c_meaning.specs.Fitting.{keys, Grows, calls_in}
+use Rattle.c_meaning.specs.Related.{Units, given_by, given_by_one, Relation, Preserves, FitsE, FitsS, FitsParams, with_names, after}
 use Rattle.c_meaning.proofs.Fundamental.{related_eval, related_exec, related_body, related_call}
-
-abbrev pub keys : List Cell → List Key
-keys cs = map (λ c. c.key) cs
-
--- the second cells are the first, whatever they hold, and more
-abbrev pub Grows : List Cell → List Cell → Type 0
-Grows cs ds = (more : List Key) × (keys ds ≡ keys cs ++ more)
 
 pub grows_same : (cs ds : List Cell) → keys ds ≡ keys cs → Grows cs ds
 grows_same cs ds e = ([], e ∙ sym (append-nil (keys cs)))
@@ -54,7 +47,7 @@ keys_cut [] ds more e = refl
 keys_cut (c ∷ cs) [] more e = absurd (cc)
 keys_cut (c ∷ cs) (d ∷ ds) more e = ap (λ k. k ∷ keys (take (length cs) ds)) (ap (first_key d.key) e) ∙ ap (λ ks. c.key ∷ ks) (keys_cut cs ds more (ap other_keys e))
 
-keys_put : (k : Key) (v : ℤ) (cs : List Cell) → keys (put k v cs) ≡ keys cs
+pub keys_put : (k : Key) (v : ℤ) (cs : List Cell) → keys (put k v cs) ≡ keys cs
 keys_put k v [] = refl
 keys_put k v (c ∷ cs) = by (live k cs) (same_key c.key k) (keys_put k v cs)
   where
@@ -175,7 +168,7 @@ module _ (E T : Type 0) (cells_of : T → List Cell) (with_cells : List Cell →
     LeftBy ty L Next cs = inv.Lives L cs
     LeftBy ty L Broken cs = Unit {0}
     LeftBy ty L Again cs = Unit {0}
-    LeftBy ty L (Gave None) cs = Unit {0}
+    LeftBy ty L (Gave None) cs = inv.Agree None ty
     LeftBy ty L (Gave (Some v)) cs = inv.Is ty v
 
     abbrev pub KeptDone : Option IntType → List ℕ → T → Res E T Flow → Type 0
@@ -239,10 +232,11 @@ module _ (E T : Type 0) (cells_of : T → List Cell) (with_cells : List Cell →
     pub done_again : (ty : Option IntType) (L M : List ℕ) → KeepsDone ty L M (λ s. Go Again s)
     done_again ty L M = record { at = λ s h l. (h, grows_same _ _ refl, tt) }
 
-    pub done_give : (ty : Option IntType) (L M : List ℕ) (v : Option ℤ) (w : Option ℤ) → Either (Is ty) v w → KeepsDone ty L M (λ s. Go (Gave v) s)
-    done_give ty L M None w q = record { at = λ s h l. (h, grows_same _ _ refl, tt) }
-    done_give ty L M (Some v) None q = absurd q
-    done_give ty L M (Some v) (Some w) q = record { at = λ s h l. (h, grows_same _ _ refl, q) }
+    pub done_give : (ty : Option IntType) (L M : List ℕ) (v : ℤ) → inv.Is ty v → KeepsDone ty L M (λ s. Go (Gave (Some v)) s)
+    done_give ty L M v q = record { at = λ s h l. (h, grows_same _ _ refl, q) }
+
+    pub done_give_none : (ty : Option IntType) (L M : List ℕ) → inv.Agree None ty → KeepsDone ty L M (λ s. Go (Gave None) s)
+    done_give_none ty L M q = record { at = λ s h l. (h, grows_same _ _ refl, q) }
 
     pub done_seq : (ty : Option IntType) (L M N : List ℕ) (a b : Act Flow) → KeepsDone ty L M a → KeepsDone ty M N b → KeepsDone ty L N (λ s. bind (a s) (go_on b))
     done_seq ty L M N a b f g = record { at = λ s h l. by s (a s) (f.at s h l) }
@@ -275,14 +269,14 @@ module _ (E T : Type 0) (cells_of : T → List Cell) (with_cells : List Cell →
     Gives ty Next g = Unit {0}
     Gives ty Broken g = Unit {0}
     Gives ty Again g = Unit {0}
-    Gives ty (Gave None) g = Unit {0}
+    Gives ty (Gave None) g = inv.Agree None ty
     Gives ty (Gave (Some v)) g = inv.Is ty v
 
     cut_kept : (ty : Option IntType) (M : List ℕ) (s : T) (r : Res E T Flow) → KeptDone ty M s r → Kept (Gives ty) s (acts.cut E T cells_of with_cells (length (cells_of s)) r)
     cut_kept ty M s (Go Next t) o = (inv.cut t _ o.0, cut_keys s t o.1, (Next, tt))
     cut_kept ty M s (Go Broken t) o = (inv.cut t _ o.0, cut_keys s t o.1, (Next, tt))
     cut_kept ty M s (Go Again t) o = (inv.cut t _ o.0, cut_keys s t o.1, (Next, tt))
-    cut_kept ty M s (Go (Gave None) t) o = (inv.cut t _ o.0, cut_keys s t o.1, (Next, tt))
+    cut_kept ty M s (Go (Gave None) t) o = (inv.cut t _ o.0, cut_keys s t o.1, (Next, o.2))
     cut_kept ty M s (Go (Gave (Some v)) t) o = (inv.cut t _ o.0, cut_keys s t o.1, (Next, o.2))
     cut_kept ty M s (Stop e t) o = o
 
@@ -296,7 +290,7 @@ module _ (E T : Type 0) (cells_of : T → List Cell) (with_cells : List Cell →
         by s l (Go Next t) o = (o.0, grows_same _ _ o.1, lives_same L s t o.1 l)
         by s l (Go Broken t) o = (o.0, grows_same _ _ o.1, tt)
         by s l (Go Again t) o = (o.0, grows_same _ _ o.1, tt)
-        by s l (Go (Gave None) t) o = (o.0, grows_same _ _ o.1, tt)
+        by s l (Go (Gave None) t) o = (o.0, grows_same _ _ o.1, o.2.1)
         by s l (Go (Gave (Some v)) t) o = (o.0, grows_same _ _ o.1, o.2.1)
         by s l (Stop e t) o = o
 
@@ -307,7 +301,7 @@ module _ (E T : Type 0) (cells_of : T → List Cell) (with_cells : List Cell →
         by s l (Go Next t) o = (o.0, grows_same _ _ o.1, lives_same L s t o.1 l)
         by s l (Go Broken t) o = (o.0, grows_same _ _ o.1, tt)
         by s l (Go Again t) o = (o.0, grows_same _ _ o.1, lives_same L s t o.1 l)
-        by s l (Go (Gave None) t) o = (o.0, grows_same _ _ o.1, tt)
+        by s l (Go (Gave None) t) o = (o.0, grows_same _ _ o.1, o.2.1)
         by s l (Go (Gave (Some v)) t) o = (o.0, grows_same _ _ o.1, o.2.1)
         by s l (Stop e t) o = o
 
@@ -411,7 +405,8 @@ module _ (E T : Type 0) (cells_of : T → List Cell) (with_cells : List Cell →
         next = λ ty L. done_next ty L;
         leave = λ ty L. done_leave ty L L;
         again = λ ty L. done_again ty L L;
-        give = λ ty L v w q. done_give ty L L v w q;
+        give = λ ty L v w q. done_give ty L L v q;
+        give_none = λ ty L q. done_give_none ty L L q;
         seq = λ ty L M N a a' b b' f g. done_seq ty L M N a b f g;
         scoped = λ ty L M a b f. done_scoped ty L M a f;
         continued = λ ty L M a b f. done_continued ty L M a f;
