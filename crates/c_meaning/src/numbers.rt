@@ -4,7 +4,7 @@ ghost use Rattle.c_core.specs.Types.{fit, in_range, promote_of, IsPromoted, is_z
 ghost use Rattle.c_core.specs.Operators.{is_shift as is_shift_of, type_for as type_for_of};
 ghost use Rattle.c_core.specs.View.{program_view, expr_view};
 ghost use Rattle.c_meaning.specs.Objects as objects;
-ghost use Rattle.c_meaning.specs.Value.{wrapping as wrapping_of, operated, operated_one, converted as converted_of, seen_at, seen_in};
+ghost use Rattle.c_meaning.specs.Value.{wrapping as wrapping_of, computed as computed_of, computed_one as computed_one_of, operated, operated_one, converted as converted_of, seen_at, seen_in};
 
 use crate::memory::Memory;
 use c_core::{
@@ -46,7 +46,8 @@ pub fn converted(program: &Program, ty: Option<IntType>, value: i128) -> i128
     }
 }
 
-fn type_of_object(program: &Program, object: u32) -> IntType
+/// The type of an object.
+pub fn type_of_object(program: &Program, object: u32) -> IntType
     ensures { result ≡ objects.type_of_object (program_view program.now) object }
 {
     match program.objects.get(object as usize) {
@@ -55,7 +56,8 @@ fn type_of_object(program: &Program, object: u32) -> IntType
     }
 }
 
-fn size_of_object(program: &Program, object: u32) -> u32
+/// How many cells an object has.
+pub fn size_of_object(program: &Program, object: u32) -> u32
     ensures { result ≡ objects.size_of_object (program_view program.now) object }
 {
     match program.objects.get(object as usize) {
@@ -126,6 +128,27 @@ fn wrapping(done: Done) -> Option<i128>
     }
 }
 
+/// What an operator gives over values of two types, converted to those in which it computes.
+pub fn computed(model: DataModel, op: BinOp, a: IntType, x: i128, b: IntType, y: i128) -> Done
+    ensures { result ≡ computed_of model op a x b y }
+{
+    let ty = type_for(model, op, a, b);
+    let left = fitted(model, ty, x);
+    if is_shift(op) {
+        apply(model, op, ty, left, fitted(model, promote(model, b), y))
+    } else {
+        apply(model, op, ty, left, fitted(model, ty, y))
+    }
+}
+
+/// What a unary operator gives over a value of a type.
+pub fn computed_one(model: DataModel, op: UnOp, a: IntType, x: i128) -> Done
+    ensures { result ≡ computed_one_of model op a x }
+{
+    let ty = promote(model, a);
+    apply_one(model, op, ty, fitted(model, ty, x))
+}
+
 /// A binary operator over values of two types.
 pub fn operate(
     program: &Program,
@@ -137,19 +160,12 @@ pub fn operate(
 ) -> Option<i128>
     ensures { result ≡ operated (program_view program.now) op a x b y }
 {
-    let model = program.model;
-    let ty = type_for(model, op, a, b);
-    let left = fitted(model, ty, x);
-    if is_shift(op) {
-        return wrapping(apply(model, op, ty, left, convert(model, promote(model, b), y)));
-    }
-    wrapping(apply(model, op, ty, left, fitted(model, ty, y)))
+    wrapping(computed(program.model, op, a, x, b, y))
 }
 
 /// A unary operator over a value of a type.
 pub fn operate_one(program: &Program, op: UnOp, a: IntType, x: i128) -> Option<i128>
     ensures { result ≡ operated_one (program_view program.now) op a x }
 {
-    let ty = promote(program.model, a);
-    wrapping(apply_one(program.model, op, ty, fitted(program.model, ty, x)))
+    wrapping(computed_one(program.model, op, a, x))
 }
