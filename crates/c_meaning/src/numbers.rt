@@ -1,16 +1,12 @@
 // Numbers in a program's expressions: their types, operators with wrapping, cells read by their types.
-ghost use Rattle.std.specs.Prelude.{◌≡◌, IsTrue, not};
-ghost use Rattle.c_core.specs.Types.{fit, in_range, promote_of, IsPromoted, is_zero, number_of};
-ghost use Rattle.c_core.specs.Operators.{is_shift as is_shift_of, type_for as type_for_of};
+ghost use Rattle.std.specs.Prelude.{◌≡◌, not};
+ghost use Rattle.c_core.specs.Types.{is_zero, number_of};
 ghost use Rattle.c_core.specs.View.{program_view, expr_view};
 ghost use Rattle.c_meaning.specs.Objects as objects;
-ghost use Rattle.c_meaning.specs.Value.{wrapping as wrapping_of, computed as computed_of, computed_one as computed_one_of, operated, operated_one, converted as converted_of, seen_at, seen_in};
+ghost use Rattle.c_meaning.specs.Value.{wrapping as wrapping_of, operated, operated_one, converted as converted_of, seen_at, seen_in};
 
 use crate::memory::Memory;
-use c_core::{
-    BinOp, DataModel, Done, Expr, IntType, Program, UnOp, apply, apply_one, common, convert,
-    promote,
-};
+use c_core::{BinOp, Done, Expr, IntType, Program, UnOp, computed, computed_one, convert};
 
 /// The type of an expression; that of a void one isn't asked for.
 pub fn type_of(e: &Expr) -> IntType
@@ -88,35 +84,6 @@ pub fn look_in(program: &Program, memory: &Memory, object: u32, index: i128) -> 
     }
 }
 
-fn is_shift(op: BinOp) -> bool
-    ensures { result ≡ is_shift_of op }
-{
-    match op {
-        BinOp::Shl | BinOp::Shr => true,
-        _ => false,
-    }
-}
-
-// The type in which an operator computes.
-fn type_for(model: DataModel, op: BinOp, a: IntType, b: IntType) -> IntType
-    ensures value { result ≡ type_for_of model op a b }
-    ensures promoted { IsPromoted result }
-{
-    if is_shift(op) {
-        promote(model, a)
-    } else {
-        common(model, a, b)
-    }
-}
-
-// A value converted to a type, of which it is then a value.
-fn fitted(model: DataModel, ty: IntType, value: i128) -> i128
-    ensures value { result ≡ fit model ty value }
-    ensures range { IsTrue (in_range model ty result) }
-{
-    convert(model, ty, value)
-}
-
 // An overflow wraps.
 fn wrapping(done: Done) -> Option<i128>
     ensures { result ≡ wrapping_of done }
@@ -126,27 +93,6 @@ fn wrapping(done: Done) -> Option<i128>
         Done::Overflow(value) => Some(value),
         Done::Undefined => None,
     }
-}
-
-/// What an operator gives over values of two types, converted to those in which it computes.
-pub fn computed(model: DataModel, op: BinOp, a: IntType, x: i128, b: IntType, y: i128) -> Done
-    ensures { result ≡ computed_of model op a x b y }
-{
-    let ty = type_for(model, op, a, b);
-    let left = fitted(model, ty, x);
-    if is_shift(op) {
-        apply(model, op, ty, left, fitted(model, promote(model, b), y))
-    } else {
-        apply(model, op, ty, left, fitted(model, ty, y))
-    }
-}
-
-/// What a unary operator gives over a value of a type.
-pub fn computed_one(model: DataModel, op: UnOp, a: IntType, x: i128) -> Done
-    ensures { result ≡ computed_one_of model op a x }
-{
-    let ty = promote(model, a);
-    apply_one(model, op, ty, fitted(model, ty, x))
 }
 
 /// A binary operator over values of two types.

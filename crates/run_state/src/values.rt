@@ -1,6 +1,6 @@
 // Values: operators, cells, places of arrays' elements.
 ghost use Rattle.std.specs.Prelude.{◌≡◌, Ok, cond};
-ghost use Rattle.c_core.specs.Operators.{op_of_step, is_prefix};
+ghost use Rattle.c_core.specs.Operators.{computed_one as computed_one_of, is_prefix};
 ghost use Rattle.c_core.specs.View.{program_view};
 ghost use Rattle.c_core.specs.declared.number.IntType.{IntType as NumberType};
 ghost use Rattle.c_meaning.specs.Cells.{read};
@@ -8,14 +8,16 @@ ghost use Rattle.c_meaning.specs.Eval.{operate as operate_of, store as store_of,
 ghost use Rattle.c_meaning.specs.Objects as objects;
 ghost use Rattle.c_meaning.specs.Run as run;
 ghost use Rattle.c_meaning.specs.Run.{State};
-ghost use Rattle.c_meaning.specs.Value.{computed_one as computed_one_of};
 ghost use Rattle.c_meaning.specs.Watching.{seen_by};
 ghost use Rattle.run_state.specs.Interpreting.{Gives, same, state_of, where_of, key_of, watched, flow_of, gave_as, changed, bumped};
 
 use crate::machine::{Around, Element, Flow, Halt, Machine, Typed};
 use crate::steps::violate;
-use c_core::{BinOp, Done, IntType, Program, Property, Spot, StepOp, UnOp, convert};
-use c_meaning::{End, Watcher, computed, computed_one, size_of_object};
+use c_core::{
+    BinOp, Done, IntType, Program, Property, Spot, StepOp, UnOp, computed, computed_one, convert,
+    op_of_step,
+};
+use c_meaning::{End, Watcher, size_of_object};
 
 // An overflow is the violation, or its value wraps.
 fn finish<W: Watcher>(
@@ -165,16 +167,6 @@ pub fn change<W: Watcher>(
     Ok(store::<W>(program, machine, key, old.ty, value))
 }
 
-// The operator of a step.
-fn op_of(op: StepOp) -> BinOp
-    ensures { result ≡ op_of_step op }
-{
-    match op {
-        StepOp::PreInc | StepOp::PostInc => BinOp::Add,
-        StepOp::PreDec | StepOp::PostDec => BinOp::Sub,
-    }
-}
-
 // The value of a step, which left a value in place of another.
 fn step_gives(op: StepOp, new: i128, old: i128) -> i128
     ensures { result ≡ cond (is_prefix op) new old }
@@ -210,7 +202,7 @@ pub fn bump<W: Watcher>(
         watcher,
         at,
         spot,
-        op_of(op),
+        op_of_step(op),
         Typed { value: old, ty },
         one,
     )?;
