@@ -1,5 +1,5 @@
 -- Duties of full expressions of several parts, one behind the other.
-use Rattle.std.proofs.Common.{◌≡◌, refl, sym, ap, ◌∙◌, cond, List, [], ◌∷◌, ◌++◌, append_assoc, None}
+use Rattle.std.proofs.Common.{◌≡◌, ℕ, suc, ◌+◌, ◌<◌, refl, sym, ap, ◌∙◌, cond, List, [], ◌∷◌, ◌++◌, append_assoc, get_or, length, drop, drop-cons, add-one, None}
 use Rattle.c_core.specs.Tree.{Exp, Program}
 use Rattle.c_meaning.specs.declared.run.DutyKind.TheVariants.{Property}
 use Rattle.c_meaning.specs.declared.run.Duty.{Duty}
@@ -21,4 +21,8 @@ then_more p before between after xs ys a b =
 -- where xs are the first of what was left, the same stays to come with the others
 pub with_the_rest : (p : Program) (now next : List Duty) (xs ys all : List Exp) (whole : List Duty) → all ≡ xs ++ ys → now ++ property_duties p all ≡ whole → next ≡ now ++ property_duties p xs → next ++ property_duties p ys ≡ whole
 with_the_rest p now next xs ys all whole split was step =
-    sym (then_more p now next (next ++ property_duties p ys) xs ys step refl ∙ ap (λ es. now ++ property_duties p es) (sym split)) ∙ was
+    then_more p now next (next ++ property_duties p ys) xs ys step refl ∙ ap (λ es. now ++ property_duties p es) (sym split) ∙ was
+
+-- the item at an index, and those behind it
+pub item_first : {A : Type 0} (xs : List A) (i : ℕ) (x : A) → i < length xs → x ≡ get_or xs i x → drop i xs ≡ x ∷ drop (i + 1) xs
+item_first xs i x inside is = drop-cons xs i x inside ∙ ap (λ y. y ∷ drop (suc i) xs) (sym is) ∙ ap (λ n. x ∷ drop n xs) (sym (add-one i))
