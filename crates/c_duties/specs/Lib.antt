@@ -1,1 +1,2 @@
 pub mod Obliged
+pub mod Failing
