@@ -2,7 +2,14 @@
 use Rattle.std.proofs.Common.{◌≡◌, ℕ, zero, suc, ℤ, pos, Bool, true, false, cond, not, ◌&&◌, ◌||◌, List, [], ◌∷◌, ◌++◌, length, Option, Some, None, nat_eq, eqb-true, refl, ap, ◌∙◌, subst, arith}
 use Rattle.std.specs.List.{Contains}
 use Rattle.std.proofs.lemmas.List.Elements.{Contains-append_left, Contains-append_right}
-use Rattle.c_core.specs.Tree.{Program, Node}
+use Rattle.c_core.specs.Types.{is_signed, is_zero}
+use Rattle.c_core.specs.Operators.{apply_of, apply_one_of, is_count, overflows, overflows_one}
+use Rattle.c_core.specs.Tree.{Program}
+use Rattle.c_core.specs.declared.number.BinOp.{BinOp}
+use Rattle.c_core.specs.declared.number.BinOp.TheVariants.{Add, Sub, Mul, Div, Rem, Shl, Shr, And, Xor, Or, Lt, Le, Gt, Ge, Eq, Ne}
+use Rattle.c_core.specs.declared.number.UnOp.{UnOp}
+use Rattle.c_core.specs.declared.number.UnOp.TheVariants.{Plus, Neg, BitNot, Not}
+use Rattle.c_core.specs.declared.number.DataModel.{DataModel}
 use Rattle.c_core.specs.declared.number.IntType.{IntType}
 use Rattle.c_core.specs.declared.number.Spot.{Spot}
 use Rattle.c_core.specs.declared.number.Done.{Done}
@@ -21,7 +28,7 @@ use Rattle.c_meaning.specs.Acts.{Res, Go, Stop, Flow, Next, Broken, Again, Gave,
 use Rattle.c_meaning.specs.Acts as acts
 use Rattle.c_meaning.specs.Value.{holds}
 use Rattle.c_meaning.specs.Changed.{changed_by}
-use Rattle.c_meaning.specs.Duties.{Placed, duty, node_may_overflow, may_violate, invariant_duties}
+use Rattle.c_meaning.specs.Duties.{Placed, duty, invariant_duties}
 use Rattle.c_meaning.specs.Havoc as havoc
 use Rattle.c_meaning.specs.Havoc.{Stopped, Passes, Dismisses, Fails, Left, cells_left, with_cells_left}
 
@@ -33,7 +40,50 @@ pub second : (a b : Bool) → a && b ≡ true → b ≡ true
 second true b h = h
 second false b h = absurd (cc)
 
-same_place : (a b : Spot) → same_spot a b ≡ true → a ≡ b
+-- what overflows
+abbrev pub is_over : Done → Bool
+is_over (Overflow v) = true
+is_over (Value v) = false
+is_over Undefined = false
+
+judged_over : (s o : Bool) (v w : ℤ) → is_over (cond (s && o) (Overflow v) (Value w)) ≡ true → s ≡ true
+judged_over true o v w h = refl
+judged_over false o v w h = absurd (cc)
+
+unless_over : (b : Bool) (d : Done) → is_over (cond b Undefined d) ≡ true → is_over d ≡ true
+unless_over true d h = absurd (cc)
+unless_over false d h = h
+
+if_over : (b : Bool) (d : Done) → is_over (cond b d Undefined) ≡ true → is_over d ≡ true
+if_over true d h = h
+if_over false d h = absurd (cc)
+
+-- only signed operators whose overflow column isn't never overflow
+pub over : (m : DataModel) (op : BinOp) (ty : IntType) (a b : ℤ) → is_over (apply_of m op ty a b) ≡ true → overflows op && is_signed ty ≡ true
+over m Add ty a b h = judged_over (is_signed ty) _ _ _ h
+over m Sub ty a b h = judged_over (is_signed ty) _ _ _ h
+over m Mul ty a b h = judged_over (is_signed ty) _ _ _ h
+over m Div ty a b h = judged_over (is_signed ty) _ _ _ (unless_over (is_zero b) _ h)
+over m Rem ty a b h = judged_over (is_signed ty) _ _ _ (unless_over (is_zero b) _ h)
+over m Shl ty a b h = judged_over (is_signed ty) _ _ _ (if_over (is_count m ty b) _ h)
+over m Shr ty a b h = let e = if_over (is_count m ty b) _ h in absurd (cc)
+over m And ty a b h = absurd (cc)
+over m Xor ty a b h = absurd (cc)
+over m Or ty a b h = absurd (cc)
+over m Lt ty a b h = absurd (cc)
+over m Le ty a b h = absurd (cc)
+over m Gt ty a b h = absurd (cc)
+over m Ge ty a b h = absurd (cc)
+over m Eq ty a b h = absurd (cc)
+over m Ne ty a b h = absurd (cc)
+
+pub over_one : (m : DataModel) (op : UnOp) (ty : IntType) (a : ℤ) → is_over (apply_one_of m op ty a) ≡ true → overflows_one op && is_signed ty ≡ true
+over_one m Neg ty a h = judged_over (is_signed ty) _ _ _ h
+over_one m Plus ty a h = absurd (cc)
+over_one m BitNot ty a h = absurd (cc)
+over_one m Not ty a h = absurd (cc)
+
+pub same_place : (a b : Spot) → same_spot a b ≡ true → a ≡ b
 same_place a b h =
     let l : a.line ≡ b.line = eqb-true a.line b.line (first _ _ h) in
     let c : a.column ≡ b.column = eqb-true a.column b.column (second (nat_eq a.line b.line) _ h) in
@@ -116,23 +166,14 @@ module _ (p : Program) (I : List Placed) (D : Duty → Type 0) where
   abbrev pub at_full : Where → Duty
   at_full at = duty at.full AtProperty None
 
-  -- where a node can violate the property, its full expression may fail
-  abbrev pub Owned : Where → Node → Type 0
-  Owned at n = may_violate p.property p.model n ≡ true → D (at_full at)
+  safe_overflowed : (q : Property) (at : Where) (v : ℤ) → (q ≡ NoOverflow → D (at_full at)) → Safe (havoc.overflowed p I q at v)
+  safe_overflowed NoOverflow at v f = safe_fail (at_full at) (f refl)
+  safe_overflowed UnreachCall at v f = safe_ret v
 
-  safe_overflowed : (q : Property) (at : Where) (v : ℤ) (n : Node) → node_may_overflow p.model n ≡ true → (may_violate q p.model n ≡ true → D (at_full at)) → Safe (havoc.overflowed p I q at v)
-  safe_overflowed NoOverflow at v n h f = safe_fail (at_full at) (f h)
-  safe_overflowed UnreachCall at v n h f = safe_ret v
-
-  abbrev pub is_over : Done → Bool
-  is_over (Overflow v) = true
-  is_over (Value v) = false
-  is_over Undefined = false
-
-  pub safe_answered : (at : Where) (n : Node) (d : Done) → (is_over d ≡ true → node_may_overflow p.model n ≡ true) → Owned at n → Safe (havoc.answered p I at d)
-  safe_answered at n (Value v) h f = safe_ret v
-  safe_answered at n (Overflow v) h f = safe_overflowed p.property at v n (h refl) f
-  safe_answered at n Undefined h f = safe_pass
+  pub safe_answered : (at : Where) (b : Bool) (d : Done) → (is_over d ≡ true → b ≡ true) → (p.property ≡ NoOverflow → b ≡ true → D (at_full at)) → Safe (havoc.answered p I at d)
+  safe_answered at b (Value v) h f = safe_ret v
+  safe_answered at b (Overflow v) h f = safe_overflowed p.property at v (λ q. f q (h refl))
+  safe_answered at b Undefined h f = safe_pass
 
   pub safe_reached : (q : Property) (at : Where) (f : q ≡ UnreachCall → D (at_full at)) → Safe (havoc.reached p I q at)
   safe_reached UnreachCall at f = safe_fail (at_full at) (f refl)

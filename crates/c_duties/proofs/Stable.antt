@@ -2,8 +2,8 @@
 use Rattle.std.proofs.Common.{◌≡◌, ℕ, zero, suc, ◌<◌, ◌≤◌, refl, sym, ap, ◌∙◌, subst, Bool, true, false, cond, not, ◌&&◌, List, [], ◌∷◌, length, get_or, arith}
 use Rattle.std.specs.Cmp.{IsStrictWeakOrder}
 use Rattle.std.specs.List.{filter}
-use Rattle.std.specs.List.Sorted.{IsSortedBy, IsStableBy, ties}
-use Rattle.std.proofs.lemmas.List.Sorted.{sorted_far}
+use Rattle.std.specs.List.Sorted.{IsPermutation, IsSortedBy, IsStableBy, ties}
+use Rattle.std.proofs.lemmas.List.Sorted.{sorted_far, IsPermutation-cons, IsPermutation-middle, IsPermutation-refl, IsPermutation-trans}
 use Rattle.c_meaning.specs.declared.run.Duty.{Duty}
 use Rattle.c_meaning.specs.Duties.{is_less, inserted, sorted}
 use Rattle.c_duties.proofs.Order.{duties_ordered}
@@ -18,7 +18,7 @@ abbrev pub Rises : List Duty → Type 0
 Rises [] = Unit {0}
 Rises (x ∷ xs) = NoneLess x xs × Rises xs
 
-abbrev tied : Duty → Duty → Bool
+abbrev pub tied : Duty → Duty → Bool
 tied d x = ties is_less d x
 
 none_less_of : (x : Duty) (xs : List Duty) → ((k : ℕ) → k < length xs → is_less (get_or xs k x) x ≡ false) → NoneLess x xs
@@ -100,7 +100,7 @@ kept_inserted z d (x ∷ xs) = by (is_less x d) refl (kept_inserted z d xs)
     by true e same = ap (λ l. cond (tied z x) (x ∷ l) l) same ∙ swapped (tied z x) (tied z d) x d (filter (tied z) xs) (apart z x d e)
     by false e same = refl
 
-kept_sorted : (z : Duty) (ds : List Duty) → filter (tied z) (sorted ds) ≡ filter (tied z) ds
+pub kept_sorted : (z : Duty) (ds : List Duty) → filter (tied z) (sorted ds) ≡ filter (tied z) ds
 kept_sorted z [] = refl
 kept_sorted z (d ∷ ds) = kept_inserted z d (sorted ds) ∙ ap (λ l. cond (tied z d) (d ∷ l) l) (kept_sorted z ds)
 
@@ -139,3 +139,16 @@ only_one (x ∷ xs) (y ∷ ys) h g f =
 -- a stable sort is the sort by insertion
 pub stable_is_sorted : (xs ys : List Duty) → IsSortedBy is_less ys → IsStableBy is_less xs ys → ys ≡ sorted xs
 stable_is_sorted xs ys up stable = only_one ys (sorted xs) (rises_from ys up) (rises_sorted xs) (λ z. stable z ∙ sym (kept_sorted z xs))
+
+pub inserted_moves : (d : Duty) (xs : List Duty) → IsPermutation (d ∷ xs) (inserted d xs)
+inserted_moves d [] = IsPermutation-refl (d ∷ [])
+inserted_moves d (x ∷ xs) = by (is_less x d) (inserted_moves d xs)
+  where
+    by : (b : Bool) → IsPermutation (d ∷ xs) (inserted d xs) → IsPermutation (d ∷ x ∷ xs) (cond b (x ∷ inserted d xs) (d ∷ x ∷ xs))
+    by true h = IsPermutation-trans (d ∷ x ∷ xs) (x ∷ d ∷ xs) (x ∷ inserted d xs) (IsPermutation-middle (d ∷ []) x xs) (IsPermutation-cons x (d ∷ xs) (inserted d xs) h)
+    by false h = IsPermutation-refl (d ∷ x ∷ xs)
+
+-- sorting only moves them
+pub sorted_moves : (ds : List Duty) → IsPermutation ds (sorted ds)
+sorted_moves [] = IsPermutation-refl []
+sorted_moves (d ∷ ds) = IsPermutation-trans (d ∷ ds) (d ∷ sorted ds) (inserted d (sorted ds)) (IsPermutation-cons d ds (sorted ds) (sorted_moves ds)) (inserted_moves d (sorted ds))

@@ -7,5 +7,5 @@ mod sorting;
 mod violating;
 mod walk;
 
-pub use laws::failing_runs_fail_at_duties;
+pub use laws::{duties_are_in_order, duties_differ, failing_runs_fail_at_duties};
 pub use obligations::duties;
