@@ -1,21 +1,19 @@
 -- A havoc run that fails, fails at a duty of its program or of an invariant.
-use Rattle.std.proofs.Common.{◌≡◌, ◌<◌, ◌≤◌, ◌+◌, ◌-◌, ℕ, zero, suc, ℤ, Bool, true, false, cond, ◌&&◌, nat_eq, List, [], ◌∷◌, ◌++◌, length, Option, Some, None, slice_get, eqb-true, refl, sym, ap, ◌∙◌, subst, arith}
+use Rattle.std.proofs.Common.{◌≡◌, ℕ, zero, suc, ℤ, Bool, true, false, cond, ◌&&◌, List, [], ◌∷◌, Some, None, slice_get, refl, sym, subst, arith}
 use Rattle.std.specs.List.{Contains}
 use Rattle.std.proofs.lemmas.List.Elements.{Contains-append_left, Contains-append_right}
 use Rattle.c_core.specs.Operators.{apply_of, apply_one_of, overflows, overflows_one}
 use Rattle.c_core.specs.Types.{is_signed}
 use Rattle.c_core.specs.Tree.{Exp, Function, Program}
 use Rattle.c_core.specs.declared.number.Spot.{Spot}
-use Rattle.c_core.specs.declared.number.DataModel.{DataModel}
 use Rattle.c_meaning.specs.declared.run.DutyKind.TheVariants.{Property as AtProperty}
 use Rattle.c_meaning.specs.declared.run.Duty.{Duty}
 use Rattle.c_meaning.specs.Acts.{Res, Go, Stop, Flow, Next, Broken, Again, Gave}
 use Rattle.c_meaning.specs.Acts as acts
-use Rattle.c_meaning.specs.Exec.{run_main}
 use Rattle.c_meaning.specs.Objects.{spot_of}
 use Rattle.c_meaning.specs.Parts.{some_node, fulls_of}
 use Rattle.c_meaning.specs.Run.{first_cells, index_below}
-use Rattle.c_meaning.specs.Duties.{Placed, duty, may_violate, property_duties, function_duties, invariant_duties, sorted, Duties}
+use Rattle.c_meaning.specs.Duties.{Placed, duty, may_violate, property_duties, function_duties, invariant_duties}
 use Rattle.c_meaning.specs.Havoc as havoc
 use Rattle.c_meaning.specs.Havoc.{Stopped, Fails, Left, cells_left, with_cells_left, havoc_in}
 use Rattle.c_duties.specs.Ordered.{unsorted}

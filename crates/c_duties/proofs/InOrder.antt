@@ -1,11 +1,11 @@
 -- The obligations stand in their order.
-use Rattle.std.proofs.Common.{◌≡◌, ℕ, zero, suc, ◌<◌, ◌≤◌, ◌+◌, false, List, [], ◌∷◌, length, get_or, add-one, subst, sym, arith}
+use Rattle.std.proofs.Common.{◌≡◌, ℕ, zero, suc, ◌<◌, false, List, [], ◌∷◌, length, get_or, add-one, subst, sym, arith}
 use Rattle.std.specs.List.Sorted.{IsSortedBy}
 use Rattle.c_core.specs.Tree.{Program}
 use Rattle.c_meaning.specs.declared.run.Duty.{Duty}
 use Rattle.c_meaning.specs.Duties.{Placed, is_less}
 use Rattle.c_duties.specs.Ordered.{AreInOrder, unsorted}
-use Rattle.c_duties.proofs.Stable.{NoneLess, Rises, kept_sorted, rises_sorted, sorted_moves}
+use Rattle.c_duties.proofs.Stable.{Rises, kept_sorted, rises_sorted, sorted_moves}
 
 next_not_less : (xs : List Duty) → Rises xs → (k : ℕ) (d : Duty) → suc k < length xs → is_less (get_or xs (suc k) d) (get_or xs k d) ≡ false
 next_not_less [] h k d l = absurd (omega arith)

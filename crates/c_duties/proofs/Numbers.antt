@@ -8,12 +8,11 @@ use Rattle.c_core.specs.declared.number.Spot.{Spot}
 use Rattle.c_meaning.specs.declared.run.DutyKind.{DutyKind}
 use Rattle.c_meaning.specs.declared.run.DutyKind.TheVariants.{Location, Entry, Kept, Property}
 use Rattle.c_meaning.specs.declared.run.Duty.{Duty}
-use Rattle.c_meaning.specs.declared.run.HavocEnd.{HavocEnd}
-use Rattle.c_meaning.specs.declared.run.HavocEnd.TheVariants.{Passed, Dismissed, Failed}
+use Rattle.c_meaning.specs.declared.run.HavocEnd.TheVariants.{Failed}
 use Rattle.c_meaning.specs.Acts.{Res, Go, Stop, Flow}
 use Rattle.c_meaning.specs.Objects.{same_spot}
 use Rattle.c_meaning.specs.Duties.{Placed, Duties, duty, kind_rank, number_among, same_duty, same_number}
-use Rattle.c_meaning.specs.Havoc.{Stopped, Passes, Dismisses, Fails, Left, Havoc, havoc_in, havoc_run}
+use Rattle.c_meaning.specs.Havoc.{Stopped, Passes, Dismisses, Fails, Left, havoc_in, havoc_run}
 use Rattle.c_duties.specs.Failing.{FailsAtDuties, IsFirstAt, IsFailure, TellsObligations}
 use Rattle.c_duties.specs.Ordered.{unsorted}
 use Rattle.c_duties.proofs.Failing.{fails_at_one}

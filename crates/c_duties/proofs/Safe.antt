@@ -1,5 +1,5 @@
 -- What fails nowhere but at some duties: the parts of a havoc run, one after the other.
-use Rattle.std.proofs.Common.{◌≡◌, ℕ, zero, suc, ℤ, pos, Bool, true, false, cond, not, ◌&&◌, ◌||◌, List, [], ◌∷◌, ◌++◌, length, Option, Some, None, nat_eq, eqb-true, refl, ap, ◌∙◌, subst, arith}
+use Rattle.std.proofs.Common.{◌≡◌, ℕ, zero, suc, ℤ, pos, Bool, true, false, cond, not, ◌&&◌, List, [], ◌∷◌, length, Option, Some, None, nat_eq, eqb-true, refl, ap, ◌∙◌, subst, arith}
 use Rattle.std.specs.List.{Contains}
 use Rattle.std.proofs.lemmas.List.Elements.{Contains-append_left, Contains-append_right}
 use Rattle.c_core.specs.Types.{is_signed, is_zero}
@@ -226,8 +226,8 @@ module _ (p : Program) (I : List Placed) (D : Duty → Type 0) where
   safe_tests i [] at_loop spot kind k h = safe_ret tt
   safe_tests i (x ∷ xs) at_loop spot kind k h = record {
     at = λ s. safe_unless (havoc.stands p I at_loop spot x && not (holds p x.test s.cells)) (Fails (duty spot kind (Some i))) (havoc.test_from p I (suc i) xs at_loop spot kind)
-      (λ e. h _ (Contains-append_left (duties_of i x) (invariant_duties (suc i) xs) _ (own_duty i x at_loop spot kind (first (havoc.stands p I at_loop spot x) (not (holds p x.test s.cells)) e) k)))
-      (safe_tests (suc i) xs at_loop spot kind k (λ d c. h d (Contains-append_right (duties_of i x) (invariant_duties (suc i) xs) d c))) s;
+        (λ e. h _ (Contains-append_left (duties_of i x) (invariant_duties (suc i) xs) _ (own_duty i x at_loop spot kind (first (havoc.stands p I at_loop spot x) (not (holds p x.test s.cells)) e) k)))
+        (safe_tests (suc i) xs at_loop spot kind k (λ d c. h d (Contains-append_right (duties_of i x) (invariant_duties (suc i) xs) d c))) s;
   }
 
   -- ---- loops

@@ -1,7 +1,6 @@
 -- What the parts of a meaning keep, where each knows the full expression that it is of, the meaning of every tree keeps.
-use Rattle.std.proofs.Common.{◌≡◌, ℕ, zero, suc, ℤ, pos, Bool, true, false, cond, ◌&&◌, ◌||◌, List, [], ◌∷◌, ◌++◌, length, Option, Some, None, slice_get, refl}
-use Rattle.c_core.specs.Types.{promote_of}
-use Rattle.c_core.specs.Operators.{is_prefix, op_of_step, overflows, overflows_one, right_type_for, type_for}
+use Rattle.std.proofs.Common.{◌≡◌, ℕ, zero, suc, Bool, true, false, ◌&&◌, ◌||◌, List, [], ◌∷◌, ◌++◌, length, Option, Some, None, slice_get, refl}
+use Rattle.c_core.specs.Operators.{overflows, overflows_one, type_for}
 use Rattle.c_core.specs.Types.{is_signed}
 use Rattle.c_core.specs.Tree.{Exp, Expr, Node, Const, Var, Index, Unary, Cast, Step, Binary, Logic, Choose, Comma, Assign, Call, Exps, NoExp, MoreExp, Init, Absent, One, Many, Names, NoName, MoreName, First, NoFirst, FirstExp, FirstNames, Stm, Stmt, Form, Empty, Do, Declare, Block, If, While, DoWhile, For, Break, Continue, Return, Label, Else, NoElse, OrElse, Stms, NoStm, MoreStm, Function, Program}
 use Rattle.c_core.specs.declared.number.IntType.{IntType}
@@ -16,11 +15,11 @@ use Rattle.c_core.specs.declared.tree.Callee.TheVariants.{Defined, Input as Inpu
 use Rattle.c_meaning.specs.declared.run.DrawKind.{DrawKind}
 use Rattle.c_meaning.specs.declared.run.DrawKind.TheVariants.{Input, Cell}
 use Rattle.c_meaning.specs.Meaning.{Tick, AStatement, ANode, ACell, AParameter, Use, Used, Unused, Where, Site, Loop, WhileLoop, DoLoop, ForLoop, Meaning, Calls}
-use Rattle.c_meaning.specs.Objects.{spot_of, type_of, type_of_object, size_of_object}
+use Rattle.c_meaning.specs.Objects.{spot_of, type_of}
 use Rattle.c_meaning.specs.Parts.{some_node, some_part, some_argument, exps_in, exp_if, fulls_of, fulls_of_form, fulls_of_else, fulls_of_block, fulls_of_init, fulls_of_names, fulls_of_first}
 use Rattle.c_meaning.specs.Duties.{may_violate, node_may_overflow}
 use Rattle.c_meaning.specs.Eval.{convert_to, operate, store, assign, tested, called, eval, node, target, place, evals}
-use Rattle.c_meaning.specs.Exec.{ticks, full, full_if, control, going, while_turn, do_turn, for_turn, draw_cells, initials, initial, declare, first, exec, form, otherwise, execs, turn, body, with_params, call_of, run_in, run_if, run_main}
+use Rattle.c_meaning.specs.Exec.{ticks, full, full_if, control, going, while_turn, do_turn, for_turn, draw_cells, initials, initial, declare, first, exec, form, otherwise, execs, body, with_params, call_of, run_in, run_if, run_main}
 
 -- what is kept by the parts of a meaning; a violation may show only where the full expression fails
 pub record Kept (p : Program) (M : Meaning) (MayFail : Spot → Type 0) : Type 1 where

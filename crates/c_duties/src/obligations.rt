@@ -11,12 +11,7 @@ use c_meaning::{Duty, DutyKind, PlacedInvariant};
 use std::alloc::Global;
 use wv_base::{OutOfMemory, Seq};
 
-fn push(
-    list: &mut Vec<Duty>,
-    spot: Spot,
-    kind: DutyKind,
-    number: u32,
-) -> Result<(), OutOfMemory>
+fn push(list: &mut Vec<Duty>, spot: Spot, kind: DutyKind, number: u32) -> Result<(), OutOfMemory>
     ensures { OnOk result (list.new.items ≡ list.old.items ++ duty spot kind (Some number) ∷ []) }
 {
     list.push(Duty {

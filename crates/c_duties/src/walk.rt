@@ -31,7 +31,6 @@ fn push_if(list: &mut Vec<Duty>, program: &Program, e: &Option<Expr>) -> Result<
     Ok(())
 }
 
-#[tactic(auto, using(crate::proofs::Walked::property_duties_both))]
 fn push_list(list: &mut Vec<Duty>, program: &Program, es: &[Expr]) -> Result<(), OutOfMemory>
     ensures { OnOk result (list.new.items ≡ list.old.items ++ property_duties (program_view program.now) (exps_in (exprs_view es.now))) }
 {
@@ -51,7 +50,6 @@ fn push_init(list: &mut Vec<Duty>, program: &Program, init: &Init) -> Result<(),
     }
 }
 
-#[tactic(auto, using(crate::proofs::Walked::property_duties_both))]
 fn push_names(
     list: &mut Vec<Duty>,
     program: &Program,
@@ -84,7 +82,6 @@ fn push_statement(list: &mut Vec<Duty>, program: &Program, s: &Stmt) -> Result<(
 }
 
 #[cycle(statement)]
-#[tactic(auto, using(crate::proofs::Walked::property_duties_both))]
 fn push_form(list: &mut Vec<Duty>, program: &Program, form: &Form) -> Result<(), OutOfMemory>
     ensures { OnOk result (list.new.items ≡ list.old.items ++ property_duties (program_view program.now) (fulls_of_form (form_view form.now))) }
 {
@@ -128,7 +125,6 @@ fn push_form(list: &mut Vec<Duty>, program: &Program, form: &Form) -> Result<(),
 }
 
 #[cycle(statement)]
-#[tactic(auto, using(crate::proofs::Walked::property_duties_both))]
 fn push_block(list: &mut Vec<Duty>, program: &Program, body: &[Stmt]) -> Result<(), OutOfMemory>
     ensures { OnOk result (list.new.items ≡ list.old.items ++ property_duties (program_view program.now) (fulls_of_block (stmts_view body.now))) }
 {
@@ -139,7 +135,6 @@ fn push_block(list: &mut Vec<Duty>, program: &Program, body: &[Stmt]) -> Result<
 }
 
 /// Appends the duties of these functions' bodies.
-#[tactic(auto, using(crate::proofs::Walked::property_duties_both))]
 pub fn push_functions(
     list: &mut Vec<Duty>,
     program: &Program,

@@ -1,8 +1,7 @@
-use Rattle.std.proofs.Common.{◌≡◌, subst, rules, Bool}
+use Rattle.std.proofs.Common.{subst, rules, Bool}
 use Rattle.std.specs.List.Sorted.{IsSortedBy, IsStableBy}
 use Rattle.std.proofs.lemmas.List.Sorted.{answers_always}
 use Rattle.c_meaning.specs.declared.run.Duty.{Duty}
-use Rattle.c_meaning.specs.Duties.{is_less}
 use Rattle.c_duties.proofs.Order.{key, before_is_less}
 use Rattle.c_duties.proofs.Stable.{stable_is_sorted}
 use Rattle.c_duties.proofs.sorting.sort.Goals as goal
