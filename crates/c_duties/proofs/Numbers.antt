@@ -3,6 +3,7 @@ use Rattle.std.proofs.Common.{◌≡◌, ◌<◌, ◌⊎◌, inl, inr, ℕ, zero
 use Rattle.std.specs.List.{Contains}
 use Rattle.std.proofs.lemmas.List.Elements.{Contains-append_cases}
 use Rattle.std.proofs.lemmas.List.Sorted.{Contains-permutation}
+use Rattle.c_core.specs.Program.{IsProgram}
 use Rattle.c_core.specs.Tree.{Program}
 use Rattle.c_core.specs.declared.number.Spot.{Spot}
 use Rattle.c_meaning.specs.declared.run.DutyKind.{DutyKind}
@@ -13,8 +14,9 @@ use Rattle.c_meaning.specs.Acts.{Res, Go, Stop, Flow}
 use Rattle.c_meaning.specs.Objects.{same_spot}
 use Rattle.c_meaning.specs.Duties.{Placed, Duties, duty, kind_rank, number_among, same_duty, same_number}
 use Rattle.c_meaning.specs.Havoc.{Stopped, Passes, Dismisses, Fails, Left, havoc_in, havoc_run}
-use Rattle.c_duties.specs.Failing.{FailsAtDuties, IsFirstAt, IsFailure, TellsObligations}
+use Rattle.c_duties.specs.Failing.{FailsAtDuties, IsFirstAt, IsFailure, TellsEach, TellsObligations}
 use Rattle.c_duties.specs.Ordered.{unsorted}
+use Rattle.c_duties.proofs.Differ.{all_differ}
 use Rattle.c_duties.proofs.Failing.{fails_at_one}
 use Rattle.c_duties.proofs.Safe.{first, second, same_place}
 use Rattle.c_duties.proofs.Stable.{sorted_moves}
@@ -119,3 +121,9 @@ module _ (p : Program) (I : List Placed) where
 
   pub tells_obligations : TellsObligations p I
   tells_obligations w number h = told w number (havoc_in p I (suc (length p.functions)) w) refl h
+
+  pub tells_each : IsProgram p → TellsEach p I
+  tells_each h w d s index e is =
+      let c = counted (Duties p I) d (fails_at_duties (suc (length p.functions)) w d s e) in
+      let same : c.index ≡ index = all_differ p h I c.index index d c.at.is is in
+      ap (λ r. (havoc_run (Duties p I) r).end) e ∙ ap Failed (c.number ∙ ap suc same)

@@ -30,3 +30,7 @@ pub record IsFailure (p : Program) (I : List Placed) (w : List ℤ) (number : �
 -- a number that is told is that of an obligation
 abbrev pub TellsObligations : Program → List Placed → Type 0
 TellsObligations p I = (w : List ℤ) (number : ℕ) → (Havoc p I w).end ≡ Failed number → IsFailure p I w number
+
+-- a run that fails at an obligation tells its number
+abbrev pub TellsEach : Program → List Placed → Type 0
+TellsEach p I = (w : List ℤ) (d : Duty) (s : Left) (index : ℕ) → havoc_in p I (suc (length p.functions)) w ≡ Stop (Fails d) s → slice_get (Duties p I) index ≡ Some d → (Havoc p I w).end ≡ Failed (suc index)

@@ -3,7 +3,7 @@ ghost use Rattle.std.specs.Prelude.{List};
 ghost use Rattle.c_core.specs.Program.{IsProgram};
 ghost use Rattle.c_core.specs.Tree.{Program};
 ghost use Rattle.c_meaning.specs.Duties.{Duties, Placed};
-ghost use Rattle.c_duties.specs.Failing.{FailsAtDuties, TellsObligations};
+ghost use Rattle.c_duties.specs.Failing.{FailsAtDuties, TellsEach, TellsObligations};
 ghost use Rattle.c_duties.specs.Ordered.{AllDiffer, AreInOrder};
 
 /// Each havoc run that fails, fails at an obligation of the program, and the number that it tells is that of the first such obligation.
@@ -17,7 +17,8 @@ pub fn duties_are_in_order()
     ensures { (p : Program) (invariants : List Placed) → AreInOrder p invariants }
 {}
 
-/// No two obligations of a checked program are the same.
+/// No two obligations of a checked program are the same, so that a havoc run that fails at one tells just its number.
 pub fn duties_differ()
-    ensures { (p : Program) → IsProgram p → (invariants : List Placed) → AllDiffer (Duties p invariants) }
+    ensures differ { (p : Program) → IsProgram p → (invariants : List Placed) → AllDiffer (Duties p invariants) }
+    ensures each_told { (p : Program) → IsProgram p → (invariants : List Placed) → TellsEach p invariants }
 {}
