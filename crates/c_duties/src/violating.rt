@@ -1,43 +1,15 @@
 // Which full expressions can violate the property.
 ghost use Rattle.std.specs.Prelude.{◌≡◌};
-ghost use Rattle.c_core.specs.Operators.{is_shift as is_shift_of, op_of_step as op_of_step_in, overflows as overflows_of, overflows_one as overflows_one_of, type_for as type_for_of};
+ghost use Rattle.c_core.specs.Operators.{overflows as overflows_of, overflows_one as overflows_one_of};
 ghost use Rattle.c_core.specs.View.{expr_view, exprs_view, node_view};
 ghost use Rattle.c_meaning.specs.Duties as of_duties;
-ghost use Rattle.c_meaning.specs.Objects as objects;
 ghost use Rattle.c_meaning.specs.Parts.{some_argument, some_node, some_part};
 
 use c_core::{
-    BinOp, Callee, DataModel, Expr, IntType, Node, Property, StepOp, UnOp, common, promote, signed,
+    BinOp, Callee, DataModel, Expr, IntType, Node, Property, UnOp, op_of_step, promote, signed,
+    type_for,
 };
-
-fn type_of(e: &Expr) -> IntType
-    ensures { result ≡ objects.type_of (expr_view e.now) }
-{
-    match e.ty {
-        Some(ty) => ty,
-        None => IntType::Int,
-    }
-}
-
-fn is_shift(op: BinOp) -> bool
-    ensures { result ≡ is_shift_of op }
-{
-    match op {
-        BinOp::Shl | BinOp::Shr => true,
-        _ => false,
-    }
-}
-
-// The type in which an operator computes.
-fn type_for(model: DataModel, op: BinOp, a: IntType, b: IntType) -> IntType
-    ensures { result ≡ type_for_of model op a b }
-{
-    if is_shift(op) {
-        promote(model, a)
-    } else {
-        common(model, a, b)
-    }
-}
+use c_meaning::type_of;
 
 fn overflows(op: BinOp) -> bool
     ensures { result ≡ overflows_of op }
@@ -54,15 +26,6 @@ fn overflows_one(op: UnOp) -> bool
     match op {
         UnOp::Neg => true,
         _ => false,
-    }
-}
-
-fn op_of_step(op: StepOp) -> BinOp
-    ensures { result ≡ op_of_step_in op }
-{
-    match op {
-        StepOp::PreInc | StepOp::PostInc => BinOp::Add,
-        StepOp::PreDec | StepOp::PostDec => BinOp::Sub,
     }
 }
 
