@@ -28,7 +28,11 @@ fn of_property(line: u32, column: u32) -> Duty {
 }
 
 /// Invariants at a place, each at the loop there or at the statement. What they test is no matter here.
-fn placed(alloc: Global, spot: Spot, at_loop: &[bool]) -> Result<Seq<PlacedInvariant>, OutOfMemory> {
+fn placed(
+    alloc: Global,
+    spot: Spot,
+    at_loop: &[bool],
+) -> Result<Seq<PlacedInvariant>, OutOfMemory> {
     let mut invariants = Seq::new(alloc);
     for at_loop in at_loop {
         invariants.push(PlacedInvariant {
@@ -72,7 +76,9 @@ fn an_addition_may_overflow(rt: HostRuntime) -> Result<(), Fail> {
 }
 
 #[test]
-fn invariants_of_one_place_stand_by_kind_then_as_in_the_witness(rt: HostRuntime) -> Result<(), Fail> {
+fn invariants_of_one_place_stand_by_kind_then_as_in_the_witness(
+    rt: HostRuntime,
+) -> Result<(), Fail> {
     let alloc = rt.alloc();
     let program = count_to_ten(alloc, Property::UnreachCall)?;
     let invariants = placed(alloc, at(4, 3), [true, false, true].as_slice())?;
@@ -97,10 +103,16 @@ fn a_conjunction_of_bits_never_overflows(rt: HostRuntime) -> Result<(), Fail> {
     let alloc = rt.alloc();
     let none = Seq::new(alloc);
     let difference = combine_inputs(alloc, Property::NoOverflow, BinOp::Sub)?;
-    assert_eq!(rt; duties(alloc, &difference, &none)?.as_slice(), [of_property(5, 3)].as_slice());
+    assert_eq!(rt;
+        duties(alloc, &difference, &none)?.as_slice(),
+        [of_property(5, 3)].as_slice()
+    );
     let conjunction = combine_inputs(alloc, Property::NoOverflow, BinOp::And)?;
     assert_eq!(rt; duties(alloc, &conjunction, &none)?.len(), 0);
     let branch = branch_on_input(alloc, 5)?;
-    assert_eq!(rt; duties(alloc, &branch, &none)?.as_slice(), [of_property(6, 5)].as_slice());
+    assert_eq!(rt;
+        duties(alloc, &branch, &none)?.as_slice(),
+        [of_property(6, 5)].as_slice()
+    );
     Ok(())
 }
