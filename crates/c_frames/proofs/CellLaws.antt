@@ -10,10 +10,10 @@ use Rattle.c_meaning.specs.Parts.{is_in}
 use Rattle.c_meaning.proofs.Stateful.{keys}
 use Rattle.c_frames.specs.Frames.{IsCellOf, SameBut}
 
-same_number : (a b : ℕ) → nat_eq a b ≡ true → a ≡ b
+pub same_number : (a b : ℕ) → nat_eq a b ≡ true → a ≡ b
 same_number a b h = grind (arith, nat_tests)
 
-same_itself : (n : ℕ) → nat_eq n n ≡ true
+pub same_itself : (n : ℕ) → nat_eq n n ≡ true
 same_itself n = grind (arith, nat_tests)
 
 pub same_name : (a b : Key) → same_key a b ≡ true → a ≡ b
