@@ -1,2 +1,3 @@
 pub mod CellLaws
 pub mod Framing
+pub mod Refitting
