@@ -1,3 +1,4 @@
 pub mod CellLaws
 pub mod Framing
 pub mod Refitting
+pub mod Bodies
