@@ -282,7 +282,7 @@ module _ (p : Program) (h : IsProgram p) where
   reached : (L reach : List ℕ) (o : ℕ) → Sees L reach → (is_fixed p o || is_in o reach) ≡ true → (is_fixed p o || is_in o L) ≡ true
   reached L reach o z q = ⊎_elim (λ f. or_left _ _ f) (λ f. or_right (is_fixed p o) _ (z o f)) (or_cases (is_fixed p o) (is_in o reach) q)
 
-  asks : Asks p (named p)
+  pub asks : Asks p (named p)
   asks = record {
     Sees = λ L reach. Sees L reach;
     sees_more = λ L reach o f. sees_more L reach o f;

@@ -80,14 +80,14 @@ module _ (p : Program) where
       pub behind : keys high ≡ ks
       pub is : cs ≡ low ++ high
 
-    none_high : (cs : List Cell) → Over cs [] cs
+    pub none_high : (cs : List Cell) → Over cs [] cs
     none_high cs = record { low = cs; high = []; same = same_refl p A cs; behind = refl; is = sym (append-nil cs) }
 
     nothing : (cs : List Cell) → keys cs ≡ [] → cs ≡ []
     nothing [] e = refl
     nothing (c ∷ cs) e = absurd (cc)
 
-    over_same : (base cs : List Cell) → Over base [] cs → SameBut p A base cs
+    pub over_same : (base cs : List Cell) → Over base [] cs → SameBut p A base cs
     over_same base cs o = subst (λ ds. SameBut p A base ds) (sym (o.is ∙ ap (λ h. o.low ++ h) (nothing o.high o.behind) ∙ append-nil o.low)) o.same
 
     write_over : (base : List Cell) (ks : List Key) (k : Key) (v : ℤ) → (among k ks ≡ true) ⊎ IsCellOf p A k → (cs : List Cell) → Over base ks cs → Over base ks (put k v cs)

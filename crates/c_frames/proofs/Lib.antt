@@ -2,3 +2,5 @@ pub mod CellLaws
 pub mod Framing
 pub mod Refitting
 pub mod Bodies
+pub mod Closure
+pub mod FramedTurns

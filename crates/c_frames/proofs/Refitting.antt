@@ -133,12 +133,12 @@ module _ (p : Program) where
       pub fresh : Fresh L (declared_in (body_of l))
       pub seen : Within (λ q. some_of (some_node q) (fulls_of_loop l))
 
-    abbrev AgreesTo : Option IntType → Option IntType → Type 0
+    abbrev pub AgreesTo : Option IntType → Option IntType → Type 0
     AgreesTo None ty = Agreeing ty None
     AgreesTo (Some to) ty = Agreeing ty (Some (type_or_int ty))
 
     module _ {M N : Meaning} (R : Relation M N) where
-      abbrev OwnAgreesTo : Option IntType → Option IntType → Type 0
+      abbrev pub OwnAgreesTo : Option IntType → Option IntType → Type 0
       OwnAgreesTo None ty = R.Agree ty None
       OwnAgreesTo (Some to) ty = R.Agree ty (Some (type_or_int ty))
 
