@@ -1,5 +1,5 @@
 -- Laws of the list of live cells, and of lists that are the same but for some objects' cells.
-use Rattle.std.proofs.Common.{◌≡◌, ◌⊎◌, ◌<◌, ◌≤◌, ◌+◌, ℕ, zero, suc, ℤ, pos, Bool, true, false, cond, ◌&&◌, ◌||◌, nat_eq, IsTrue, List, [], ◌∷◌, ◌++◌, length, take, refl, sym, ap, ◌∙◌, subst, inl, inr, ⊎_elim, arith, append_assoc, append-nil, true≢false, length-append}
+use Rattle.std.proofs.Common.{◌≡◌, ◌⊎◌, ◌<◌, ◌≤◌, ◌+◌, ℕ, zero, suc, ℤ, pos, Bool, true, false, cond, not, ◌&&◌, ◌||◌, nat_eq, IsTrue, List, [], ◌∷◌, ◌++◌, length, take, refl, sym, ap, ◌∙◌, subst, inl, inr, ⊎_elim, arith, append_assoc, append-nil, true≢false, length-append}
 use Rattle.std.proofs.lemmas.Bool.{cases_Bool, or_left, or_right, or_cases, or_parts, and_parts}
 use Rattle.std.proofs.lemmas.Bool.Decides.{nat_tests}
 use Rattle.std.proofs.lemmas.List.{map-append}
@@ -227,3 +227,10 @@ module _ (p : Program) (os : List ℕ) where
           let q = same_name c.key k e in
           read_here k d ds (live_too false l) (name_too true e) ∙ ⊎_elim (λ v. v) (λ m. absurd (true≢false (sym (subst (λ x. is_in x.object os ≡ true) q m.0.0) ∙ n))) h.1 ∙ sym (read_here k c cs l e)
       by_place (Absent l e) ih = read_absent k d ds (live_too false l) (name_too false e) ∙ sym (read_absent k c cs l e)
+
+not_in : (b : Bool) → IsTrue (not b) → b ≡ false
+not_in true h = absurd (true≢false (sym h))
+not_in false h = refl
+
+pub others_read : (p : Program) (os : List ℕ) (cs ds : List Cell) → SameBut p os cs ds → (k : Key) → IsTrue (not (is_in k.object os)) → read k ds ≡ read k cs
+others_read p os cs ds h k n = same_read p os k cs ds (not_in (is_in k.object os) n) h

@@ -4,3 +4,4 @@ pub mod Refitting
 pub mod Bodies
 pub mod Closure
 pub mod FramedTurns
+pub mod Heads
