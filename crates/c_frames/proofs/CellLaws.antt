@@ -7,7 +7,7 @@ use Rattle.c_core.specs.Tree.{Program}
 use Rattle.c_meaning.specs.Cells.{Key, Cell, same_key, live, read, put, cells_from}
 use Rattle.c_meaning.specs.Objects.{size_of_object}
 use Rattle.c_meaning.specs.Parts.{is_in}
-use Rattle.c_meaning.proofs.Stateful.{keys}
+use Rattle.c_meaning.specs.Fitting.{keys}
 use Rattle.c_frames.specs.Frames.{IsCellOf, SameBut}
 
 pub same_number : (a b : ℕ) → nat_eq a b ≡ true → a ≡ b

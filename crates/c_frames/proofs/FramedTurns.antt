@@ -86,6 +86,7 @@ module _ (p : Program) where
         sees_more = λ M K o e. ap (λ os. os ++ o ∷ []) e ∙ append_assoc L K (o ∷ []);
         agree = λ a b e. tt;
         returned = λ ty e. free r2 ty;
+        returned_none = λ e. tt;
         const = λ ty v e. tt;
         cell = λ o i e. e;
         size = λ o n e. e;
@@ -114,6 +115,7 @@ module _ (p : Program) where
         sees_more = λ M K o e. ap (λ os. os ++ o ∷ []) e;
         agree = λ a b e. tt;
         returned = λ ty e. free r ty;
+        returned_none = λ e. tt;
         const = λ ty v e. tt;
         cell = λ o i e. e;
         size = λ o n e. e;

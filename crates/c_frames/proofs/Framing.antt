@@ -28,8 +28,8 @@ use Rattle.c_meaning.specs.Run as run
 use Rattle.c_meaning.specs.Run.{State, Moment, Here, Head, cells_of, with_cells, index_below, real}
 use Rattle.c_meaning.specs.Exec.{turn, run_in}
 use Rattle.c_meaning.specs.Fitting.{calls_in}
-use Rattle.c_meaning.specs.Related.{Units, Either, Relation, Preserves, FitsLoop, FitsS, FitsParams, with_names, after, LoopsPreserve}
-use Rattle.c_meaning.proofs.Stateful.{keys}
+use Rattle.c_meaning.specs.Related.{Units, Relation, Preserves, FitsLoop, FitsS, FitsParams, with_names, after, LoopsPreserve}
+use Rattle.c_meaning.specs.Fitting.{keys}
 use Rattle.c_meaning.proofs.Fundamental.{related_body, related_call, related_turn}
 use Rattle.c_frames.specs.Frames.{IsCellOf, SameBut}
 use Rattle.c_frames.proofs.CellLaws.{among, live_among, among-append, put_high, put_low, keys_put, keys-append, take_over, keys_length, names_take, same_refl, same_trans, same_put, same_length, Split, same_split, name_same, same_itself}
@@ -416,7 +416,8 @@ module _ (p : Program) where
           next = λ ty L. moves_ret L Next;
           leave = λ ty L. moves_ret L Broken;
           again = λ ty L. moves_ret L Again;
-          give = λ ty L v w q. moves_ret L (Gave v);
+          give = λ ty L v w q. moves_ret L (Gave (Some v));
+          give_none = λ ty L q. moves_ret L (Gave None);
           seq = λ ty L M N a a' b b' f g. moves_seq L M N a b f g;
           scoped = λ ty L M a b f. moves_scoped L M a f;
           continued = λ ty L M a b f. moves_continued L M a f;

@@ -22,7 +22,7 @@ use Rattle.c_meaning.specs.Changed.{changed_by}
 use Rattle.c_meaning.specs.Run as run
 use Rattle.c_meaning.specs.Run.{State, Moment, Told, Here, Head, cells_of, with_cells, state_of, first_state, Whole, Moments, real}
 use Rattle.c_meaning.specs.Exec.{turn, run_in, run_if, run_main}
-use Rattle.c_meaning.specs.Fitting.{calls_in}
+use Rattle.c_meaning.specs.Fitting.{Grows, calls_in}
 use Rattle.c_meaning.specs.Related.{given_by, given_by_one, Relation, Preserves, FitsS, FitsParams, with_names, after, CallsPreserve}
 use Rattle.c_meaning.proofs.Checked.{function_params}
 use Rattle.c_meaning.proofs.Fundamental.{related_body, related_call}
@@ -87,10 +87,10 @@ module _ (p : Program) where
     active = λ s n q. q;
     drawn = λ s kind spot ty q. q;
     Arrived = λ cs. Unit {0};
-    arrived = λ s q. tt;
-    told = λ s e q. All-cons (IsFramed p) (Told e s.cells) s.seen tt q;
-    here = λ s spot q. All-cons (IsFramed p) (Here spot s.cells) s.seen tt q;
-    head = λ s at l cs r q. q;
+    arrived = λ s q z. tt;
+    told = λ s e q z. All-cons (IsFramed p) (Told e s.cells) s.seen tt q;
+    here = λ s spot q z. All-cons (IsFramed p) (Here spot s.cells) s.seen tt q;
+    head = λ s at l cs r q z. q;
   }
 
   abbrev KeepsDone : Option IntType → List ℕ → List ℕ → (State Seen → Res End (State Seen) Flow) → Type 0
@@ -166,6 +166,7 @@ module _ (p : Program) where
     leave = K.leave;
     again = K.again;
     give = K.give;
+    give_none = K.give_none;
     seq = K.seq;
     scoped = K.scoped;
     continued = K.continued;
@@ -178,7 +179,7 @@ module _ (p : Program) where
         let s0 : State Seen = record s { seen = Head at l arrived s.cells ∷ s.seen } in
         by s0 (λ t g q e. turns_kept n arrived t q (same_trans p (changed_by p l) arrived s.cells t.cells same (framed s0 t e))) (m s0) refl (keeps.at s0 (All-cons (IsFramed p) (Head at l arrived s.cells) s.seen same h) tt)
       where
-        by : (s0 : State Seen) → ((t : State Seen) → st.Grows s0.cells t.cells → All (IsFramed p) t.seen → m s0 ≡ Go Next t → KeptDone ty L t (run.turns p Seen keep n at l arrived m t)) → (r : Res End (State Seen) Flow) → m s0 ≡ r → KeptDone ty L s0 r → KeptDone ty L s0 (bind r (turned (run.turns p Seen keep n at l arrived m)))
+        by : (s0 : State Seen) → ((t : State Seen) → Grows s0.cells t.cells → All (IsFramed p) t.seen → m s0 ≡ Go Next t → KeptDone ty L t (run.turns p Seen keep n at l arrived m t)) → (r : Res End (State Seen) Flow) → m s0 ≡ r → KeptDone ty L s0 r → KeptDone ty L s0 (bind r (turned (run.turns p Seen keep n at l arrived m)))
         by s0 f (Go Next t) e o = st.done_from End (State Seen) cells_of with_cells (λ cs s. refl) p inv ty L s0 t o.1 (run.turns p Seen keep n at l arrived m t) (f t o.1 o.0 e)
         by s0 f (Go Broken t) e o = (o.0, o.1, tt)
         by s0 f (Go Again t) e o = o
@@ -203,6 +204,7 @@ module _ (p : Program) where
       sees_more = λ L J o z. tt;
       agree = λ a b q. tt;
       returned = λ ty q. free r ty;
+      returned_none = λ q. tt;
       const = λ ty v q. tt;
       cell = λ o i q. tt;
       size = λ o n q. tt;

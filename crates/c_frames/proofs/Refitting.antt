@@ -149,6 +149,7 @@ module _ (p : Program) where
         pub sees_more : (L : List ℕ) (K : R.Scope) (o : ℕ) → Sees L K → Sees (L ++ o ∷ []) (R.more K o)
         pub agree : (a b : Option IntType) → Agreeing a b → R.Agree a b
         pub returned : (ty : Option IntType) → AgreesTo r1 ty → OwnAgreesTo r2 ty
+        pub returned_none : Agreeing None r1 → R.Agree None r2
         pub const : (ty : Option IntType) (v : ℤ) → IsTrue (is_constant p.model ty v) → R.IsConst ty v
         pub cell : (o i : ℕ) → i < size_of_object p o → R.HasCell o i
         pub size : (o n : ℕ) → n ≡ size_of_object p o → R.HasSize o n
@@ -286,7 +287,7 @@ module _ (p : Program) where
           refit_init o (Many es) f w = (refit_cells o 0 (length (exps_in es)) f.0, refit_es es f.1 (λ q h. w q (some_exps q es ∙ h)))
 
           refit_return : (e : Option Exp) → FitsReturn p named r1 L e → Fulls (exp_if e) → FitsReturn p R r2 K e
-          refit_return None f w = tt
+          refit_return None f w = c.returned_none f
           refit_return (Some (Expr spot ty n)) f w = let g = parts_of r1 f in whole_of r2 (refit_n ty n g.0 (head (Expr spot ty n) [] w)) (c.returned ty g.1)
             where
               parts_of : (r : Option IntType) → FitsAs p named L r (Expr spot ty n) → FitsN p named L ty n × AgreesTo r ty
