@@ -62,7 +62,7 @@ module _ (p : Program) where
   names-append [] qs = refl
   names-append (o ∷ os) qs = ap (λ ks. names_from o 0 (size_of_object p o) ++ ks) (names-append os qs) ∙ sym (append_assoc (names_from o 0 (size_of_object p o)) (names os) (names qs))
 
-  in_names : (os : List ℕ) (o i : ℕ) → is_in o os ≡ true → i < size_of_object p o → among (record { object = o; index = i }) (names os) ≡ true
+  pub in_names : (os : List ℕ) (o i : ℕ) → is_in o os ≡ true → i < size_of_object p o → among (record { object = o; index = i }) (names os) ≡ true
   in_names [] o i h l = absurd (true≢false (sym h))
   in_names (x ∷ os) o i h l =
       among-append (record { object = o; index = i }) (names_from x 0 (size_of_object p x)) (names os)

@@ -1,0 +1,6 @@
+//! What holds of every run where no havoc run fails: none is violated, and each invariant holds wherever it is placed.
+#![tactic(auto)]
+
+mod laws;
+
+pub use laws::placeholder;
