@@ -1,2 +1,2 @@
 pub mod Restoring
-
+pub mod Lifts
