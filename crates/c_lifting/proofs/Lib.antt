@@ -1,2 +1,3 @@
 pub mod Restoring
 pub mod Lifts
+pub mod Relating
