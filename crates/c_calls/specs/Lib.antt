@@ -1,0 +1,4 @@
+pub mod Loops
+pub mod Calling
+pub mod Uses
+pub mod Depth
