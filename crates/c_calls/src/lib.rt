@@ -1,4 +1,7 @@
 //! Which functions call which, whether main reaches a cycle of calls, and what a loop changes.
 #![tactic(auto)]
 
+mod laws;
 mod uses;
+
+pub use laws::called_functions_are_found;
