@@ -1,2 +1,4 @@
 mod Listing
 pub mod CallingLaws
+mod Agreeing
+pub mod DepthLaws

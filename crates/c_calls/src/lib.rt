@@ -4,4 +4,4 @@
 mod laws;
 mod uses;
 
-pub use laws::called_functions_are_found;
+pub use laws::{called_functions_are_found, depth_is_bounded};
