@@ -6,7 +6,7 @@ ghost use Rattle.c_meaning.specs.Changed.{called_from};
 ghost use Rattle.c_meaning.specs.Duties.{Placed};
 ghost use Rattle.c_meaning.specs.Havoc.{havoc_in};
 ghost use Rattle.c_calls.specs.Calling.{HasCalled, IsFirstRecursion};
-ghost use Rattle.c_calls.specs.Depth.{ChainsAreShort, IsDeepEnough};
+ghost use Rattle.c_calls.specs.Depth.{ChainsAreShort, IsNeverMet};
 
 /// The list of called functions by which a loop's changes are defined holds each function that is called, directly or
 /// through further calls, and no other.
@@ -18,6 +18,6 @@ pub fn called_functions_are_found()
 /// calls with which havoc runs are defined is never met, and each larger bound gives the same run.
 pub fn depth_is_bounded()
     ensures chains { (p : Program) → IsTrue (has_main p) → IsFirstRecursion p None → ChainsAreShort p }
-    ensures never_met { (p : Program) → IsFirstRecursion p None → (invariants : List Placed) (n : ℕ) → length p.functions < n → IsDeepEnough p invariants n }
+    ensures never_met { (p : Program) → IsFirstRecursion p None → (invariants : List Placed) (n : ℕ) → length p.functions < n → IsNeverMet p invariants n }
     ensures havoc_runs { (p : Program) → IsFirstRecursion p None → (invariants : List Placed) (n : ℕ) (values : List ℤ) → length p.functions < n → havoc_in p invariants n values ≡ havoc_in p invariants (suc (length p.functions)) values }
 {}

@@ -19,7 +19,7 @@ returns-clause-chains c p main none gs h =
     let l = chain_is_short p none p.main _ gs (main_path p none (main_within p (slice_get p.functions p.main) refl main)) h in omega arith
 
 pub returns-clause-never_met : goal.returns-clause-never_met
-returns-clause-never_met c p none I n above deep = depth_is_free p none (havoc p I) deep n (suc (length p.functions)) above (omega arith)
+returns-clause-never_met c p none I n above deep = sym (depth_is_free p none (havoc p I) deep n n above above)
 
 pub returns-clause-havoc_runs : goal.returns-clause-havoc_runs
 returns-clause-havoc_runs c p none I n w above =
