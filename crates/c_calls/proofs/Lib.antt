@@ -2,3 +2,6 @@ mod Listing
 pub mod CallingLaws
 mod Agreeing
 pub mod DepthLaws
+mod UsesLaws
+mod FoundLaws
+mod SpreadLaws

@@ -1,5 +1,5 @@
 -- Lists of numbers that are picked by a test.
-use Rattle.std.proofs.Common.{◌≡◌, ◌⊎◌, ℕ, zero, suc, ◌+◌, ◌<◌, ◌≤◌, Bool, true, false, cond, nat_eq, ◌||◌, List, [], ◌∷◌, ◌++◌, length, refl, sym, ap, ◌∙◌, subst, inl, inr, ⊎_elim, arith, true≢false, eqb-true, eq-eqb}
+use Rattle.std.proofs.Common.{◌≡◌, ◌⊎◌, ℕ, zero, suc, ◌+◌, ◌<◌, ◌≤◌, Bool, true, false, cond, nat_eq, ◌||◌, List, [], ◌∷◌, ◌++◌, length, get_or, refl, sym, ap, ◌∙◌, subst, inl, inr, ⊎_elim, arith, true≢false, eqb-true, eq-eqb}
 use Rattle.std.specs.Prelude.{IsTrue}
 use Rattle.std.proofs.lemmas.Bool.{cases_Bool, cases_lt, or_left, or_right, or_cases}
 use Rattle.c_meaning.specs.Parts.{some_of, those, is_in, numbers_from}
@@ -29,6 +29,11 @@ in_tail x y xs m = or_right (nat_eq x y) _ m
 
 pub in_cons : (x y : ℕ) (xs : List ℕ) → IsTrue (is_in x (y ∷ xs)) → (x ≡ y) ⊎ IsTrue (is_in x xs)
 in_cons x y xs m = ⊎_elim (λ e. inl (eqb-true x y e)) inr (or_cases _ _ m)
+
+pub at_index : (xs : List ℕ) (i d : ℕ) → i < length xs → IsTrue (is_in (get_or xs i d) xs)
+at_index [] i d h = absurd (omega arith)
+at_index (x ∷ xs) zero d h = in_head x xs
+at_index (x ∷ xs) (suc i) d h = in_tail (get_or xs i d) x xs (at_index xs i d (omega arith))
 
 pub some_from : (q : ℕ → Bool) (xs : List ℕ) (x : ℕ) → IsTrue (is_in x xs) → IsTrue (q x) → IsTrue (some_of q xs)
 some_from q [] x m h = m

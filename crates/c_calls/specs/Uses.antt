@@ -1,6 +1,7 @@
 -- What an expression or a statement changes and calls, in the order of the text.
-use Rattle.std.specs.Prelude.{ℕ, nat_eq, Bool, false, List, [], ◌∷◌, ◌++◌, Option, Some, None}
-use Rattle.c_core.specs.Tree.{Exp, Expr, Node, Const, Var, Index, Unary, Cast, Step, Binary, Logic, Choose, Comma, Assign, Call, Exps, NoExp, MoreExp, Init, Absent, One, Many, Names, NoName, MoreName, First, NoFirst, FirstExp, FirstNames, Stm, Stmt, Form, Empty, Do, Declare, Block, If, While, DoWhile, For, Break, Continue, Return, Label, Else, NoElse, OrElse, Stms, NoStm, MoreStm}
+use Rattle.std.specs.Prelude.{ℕ, nat_eq, Bool, false, List, [], ◌∷◌, ◌++◌, Option, Some, None, slice_get}
+use Rattle.std.specs.List.{flat_map}
+use Rattle.c_core.specs.Tree.{Exp, Expr, Node, Const, Var, Index, Unary, Cast, Step, Binary, Logic, Choose, Comma, Assign, Call, Exps, NoExp, MoreExp, Init, Absent, One, Many, Names, NoName, MoreName, First, NoFirst, FirstExp, FirstNames, Stm, Stmt, Form, Empty, Do, Declare, Block, If, While, DoWhile, For, Break, Continue, Return, Label, Else, NoElse, OrElse, Stms, NoStm, MoreStm, Function, Program}
 use Rattle.c_core.specs.declared.tree.Callee.{Callee}
 use Rattle.c_core.specs.declared.tree.Callee.TheVariants.{Defined}
 use Rattle.c_calls.specs.declared.uses.Use.{Use}
@@ -105,3 +106,14 @@ uses_of_loop (While e b) = uses_of e ++ uses_of_statement b
 uses_of_loop (DoWhile b e) = uses_of_statement b ++ uses_of e
 uses_of_loop (For i e s b) = uses_if e ++ uses_if s ++ uses_of_statement b
 uses_of_loop _ = []
+
+abbrev pub uses_of_function_if : Option Function → List Use
+uses_of_function_if None = []
+uses_of_function_if (Some f) = uses_of_statement f.body
+
+abbrev pub uses_of_function : Program → ℕ → List Use
+uses_of_function p f = uses_of_function_if (slice_get p.functions f)
+
+-- of full expressions, one after the other
+abbrev pub uses_of_all : List Exp → List Use
+uses_of_all es = flat_map uses_of es
