@@ -1,0 +1,7 @@
+mod Listing
+pub mod CallingLaws
+mod Agreeing
+pub mod DepthLaws
+mod UsesLaws
+mod FoundLaws
+mod SpreadLaws

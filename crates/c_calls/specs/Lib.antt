@@ -1,0 +1,5 @@
+pub mod Loops
+pub mod Calling
+pub mod Uses
+pub mod Marks
+pub mod Depth
