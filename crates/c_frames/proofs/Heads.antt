@@ -41,6 +41,10 @@ Seen = List Moment
 abbrev pub keep : Moment → Seen → Seen
 keep x xs = x ∷ xs
 
+pub all_reversed : {X : Type 0} (P : X → Type 0) (xs : List X) → All P xs → All P (reverse xs)
+all_reversed P [] q = q
+all_reversed P (x ∷ xs) q = subst (All P) (sym (reverse-append (x ∷ []) xs)) (All-push P (reverse xs) x (all_reversed P xs (All-tail P x xs q)) (All-head P x xs q))
+
 -- heads aside, which want a fact of their turns
 abbrev without_heads : Moment → Seen → Seen
 without_heads (Told e cs) xs = Told e cs ∷ xs
@@ -243,9 +247,5 @@ module _ (p : Program) where
         at_end (Go f t) o = o.0
         at_end (Stop x t) o = o
 
-    all_reversed : (xs : Seen) → All (IsFramed p) xs → All (IsFramed p) (reverse xs)
-    all_reversed [] q = q
-    all_reversed (x ∷ xs) q = subst (All (IsFramed p)) (sym (reverse-append (x ∷ []) xs)) (All-push (IsFramed p) (reverse xs) x (all_reversed xs (All-tail (IsFramed p) x xs q)) (All-head (IsFramed p) x xs q))
-
     pub heads_framed : (c : Choices) (N : ℕ) → All (IsFramed p) (Moments p c N)
-    heads_framed c N = all_reversed _ (keeps_if (suc N) (slice_get p.functions p.main) refl (first_state p Seen [] c N) (All-nil (IsFramed p)))
+    heads_framed c N = all_reversed (IsFramed p) _ (keeps_if (suc N) (slice_get p.functions p.main) refl (first_state p Seen [] c N) (All-nil (IsFramed p)))
