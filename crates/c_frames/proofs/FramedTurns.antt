@@ -28,7 +28,7 @@ use Rattle.c_frames.proofs.CellLaws.{same_itself}
 use Rattle.c_frames.proofs.Framing.{Over, none_high, over_same, Moves, moves_loop, MayWrite, framing, framing_keeps, Lands}
 use Rattle.c_frames.proofs.Refitting.{is_bad, named, most, Fresh, Looped, OwnAgreesTo, Refit, refit_s, refit_loop}
 use Rattle.c_frames.proofs.Bodies.{in_same, counted, uncounted, found_below, params_of, fresh_body, sound_body, named_body, asks}
-use Rattle.c_frames.proofs.Closure.{in_those, in_numbers, some_in, called_first, called_further}
+use Rattle.c_frames.proofs.Members.{in_those, in_numbers, some_in, called_first, called_further}
 
 fixed_same : (o : Option Object) → is_fixed_in o ≡ scope.is_fixed_object o
 fixed_same None = refl

@@ -2,6 +2,6 @@ pub mod CellLaws
 pub mod Framing
 pub mod Refitting
 pub mod Bodies
-pub mod Closure
+pub mod Members
 pub mod FramedTurns
 pub mod Heads

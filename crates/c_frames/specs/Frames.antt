@@ -12,12 +12,12 @@ module _ (p : Program) (changed : List ℕ) where
   abbrev pub IsCellOf : Key → Type 0
   IsCellOf k = IsTrue (is_in k.object changed) × (k.index < size_of_object p k.object)
 
-  -- the cells now are the cells then, in the same order and of the same names; only the innermost cell of a name, and only one of these objects, may hold another value
+  -- the cells now are those before, in their places and under their names; another value stands only in a name's innermost cell, and only of these objects
   abbrev pub SameBut : List Cell → List Cell → Type 0
   SameBut [] [] = Unit {0}
-  SameBut [] (now ∷ nows) = ⊥
-  SameBut (then_ ∷ thens) [] = ⊥
-  SameBut (then_ ∷ thens) (now ∷ nows) = (now.key ≡ then_.key) × ((now.value ≡ then_.value) ⊎ (IsCellOf then_.key × (live then_.key thens ≡ false))) × SameBut thens nows
+  SameBut [] (now ∷ later) = ⊥
+  SameBut (before ∷ behind) [] = ⊥
+  SameBut (before ∷ behind) (now ∷ later) = (now.key ≡ before.key) × ((now.value ≡ before.value) ⊎ (IsCellOf before.key × (live before.key behind ≡ false))) × SameBut behind later
 
 -- at a loop's head the cells are those at its arrival, but for what the loop changes
 abbrev pub IsFramed : Program → Moment → Type 0
