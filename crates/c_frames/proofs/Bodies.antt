@@ -1,6 +1,6 @@
 -- What a checked program's functions meet: targets are assigned, names are in reach, each object is declared once.
-use Rattle.std.proofs.Common.{◌≡◌, ◌⊎◌, ◌<◌, ◌≤◌, ◌+◌, ℕ, zero, suc, Bool, true, false, cond, not, ◌&&◌, ◌||◌, nat_eq, IsTrue, List, [], ◌∷◌, ◌++◌, length, Option, Some, None, is_some, slice_get, refl, sym, ap, ap₂, ◌∙◌, subst, ⊎_elim, arith, true≢false}
-use Rattle.std.specs.List.{list_all, list_any, range_with_len, flat_map}
+use Rattle.std.proofs.Common.{◌≡◌, ◌<◌, ◌≤◌, ◌+◌, ℕ, zero, suc, Bool, true, false, cond, not, ◌&&◌, ◌||◌, nat_eq, IsTrue, List, [], ◌∷◌, ◌++◌, length, Option, Some, None, is_some, slice_get, refl, sym, ap, ap₂, ◌∙◌, subst, ⊎_elim, arith, true≢false}
+use Rattle.std.specs.List.{list_all, range_with_len}
 use Rattle.std.proofs.lemmas.Bool.{or_from, or_left, or_right, or_cases, cases_Bool}
 use Rattle.std.proofs.lemmas.Bool.Decides.{nat_tests}
 use Rattle.std.proofs.lemmas.List.Folds.{list_any-append}
@@ -11,16 +11,13 @@ use Rattle.c_core.specs.Scope.{is_in, times_in, is_fixed, is_object, is_owned_on
 use Rattle.c_core.specs.Typing.{is_target, has_value, is_assignment, same_types, exp_fits, node_fits, is_typed, form_fits, statement_fits, function_fits}
 use Rattle.c_core.specs.Tree.{Exp, Expr, Node, Const, Var, Index, Unary, Cast, Step, Binary, Logic, Choose, Comma, Assign, Call, Exps, NoExp, MoreExp, Init, Absent, One, Many, Names, NoName, MoreName, First, NoFirst, FirstExp, FirstNames, Stm, Stmt, Form, Empty, Do, Declare, Block, If, While, DoWhile, For, Break, Continue, Return, Label, Else, NoElse, OrElse, Stms, NoStm, MoreStm, Function, Program}
 use Rattle.c_core.specs.declared.number.IntType.{IntType}
-use Rattle.c_core.specs.declared.number.Spot.{Spot}
 use Rattle.c_core.specs.declared.tree.Object.{Object}
-use Rattle.c_meaning.specs.Objects.{size_in, size_of_object}
 use Rattle.c_meaning.specs.Parts as own
 use Rattle.c_meaning.specs.Parts.{some_of, some_node, some_part, some_argument, exp_if, fulls_of, fulls_of_form, fulls_of_else, fulls_of_block, declared_in, declared_in_form, declared_in_else, declared_in_block}
-use Rattle.c_meaning.specs.Changed as changed
 use Rattle.c_meaning.specs.Related.{FitsS, with_names}
 use Rattle.c_meaning.proofs.Checked.{Asks, function_body}
 use Rattle.c_meaning.proofs.TypeFacts.{both, neither, at_every, of_both}
-use Rattle.c_frames.proofs.CellLaws.{same_itself, same_number}
+use Rattle.c_frames.proofs.CellLaws.{same_number}
 use Rattle.c_frames.proofs.Refitting.{is_bad, some-append, times-append, named, most, Fresh}
 
 pub in_same : (x : ℕ) (os : List ℕ) → own.is_in x os ≡ is_in x os

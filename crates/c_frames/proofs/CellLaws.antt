@@ -1,11 +1,10 @@
 -- Laws of the list of live cells, and of lists that are the same but for some objects' cells.
-use Rattle.std.proofs.Common.{◌≡◌, ◌⊎◌, ◌<◌, ◌≤◌, ◌+◌, ℕ, zero, suc, ℤ, pos, Bool, true, false, cond, not, ◌&&◌, ◌||◌, nat_eq, IsTrue, List, [], ◌∷◌, ◌++◌, length, take, refl, sym, ap, ◌∙◌, subst, inl, inr, ⊎_elim, arith, append_assoc, append-nil, true≢false, length-append}
-use Rattle.std.proofs.lemmas.Bool.{cases_Bool, or_left, or_right, or_cases, or_parts, and_parts}
+use Rattle.std.proofs.Common.{◌≡◌, ◌⊎◌, ◌+◌, ℕ, suc, ℤ, pos, Bool, true, false, not, ◌&&◌, ◌||◌, nat_eq, IsTrue, List, [], ◌∷◌, ◌++◌, length, take, refl, sym, ap, ◌∙◌, subst, inl, inr, ⊎_elim, arith, true≢false}
+use Rattle.std.proofs.lemmas.Bool.{cases_Bool, or_right, or_parts, and_parts}
 use Rattle.std.proofs.lemmas.Bool.Decides.{nat_tests}
 use Rattle.std.proofs.lemmas.List.{map-append}
 use Rattle.c_core.specs.Tree.{Program}
-use Rattle.c_meaning.specs.Cells.{Key, Cell, same_key, live, read, put, cells_from}
-use Rattle.c_meaning.specs.Objects.{size_of_object}
+use Rattle.c_meaning.specs.Cells.{Key, Cell, same_key, live, read, put}
 use Rattle.c_meaning.specs.Parts.{is_in}
 use Rattle.c_meaning.specs.Fitting.{keys}
 use Rattle.c_frames.specs.Frames.{IsCellOf, SameBut}

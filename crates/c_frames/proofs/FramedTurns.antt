@@ -1,31 +1,27 @@
 -- A turn of a loop changes only what the loop changes.
-use Rattle.std.proofs.Common.{◌≡◌, ◌⊎◌, ◌<◌, ◌≤◌, ◌+◌, ℕ, zero, suc, ℤ, Bool, true, false, cond, not, ◌&&◌, ◌||◌, nat_eq, IsTrue, List, [], ◌∷◌, ◌++◌, length, Option, Some, None, slice_get, refl, sym, ap, ◌∙◌, subst, inl, inr, ⊎_elim, arith, append_assoc, append-nil, true≢false}
-use Rattle.std.specs.List.{list_any}
-use Rattle.std.proofs.lemmas.Bool.{or_left, or_right, or_cases, cases_Bool, and_from}
+use Rattle.std.proofs.Common.{◌≡◌, ◌⊎◌, ◌<◌, ℕ, zero, suc, Bool, true, false, cond, not, ◌||◌, nat_eq, IsTrue, List, [], ◌∷◌, ◌++◌, length, Option, Some, None, slice_get, refl, sym, ap, ◌∙◌, subst, inl, inr, ⊎_elim, arith, append_assoc, append-nil, true≢false}
+use Rattle.std.proofs.lemmas.Bool.{or_left, or_right, or_cases, and_from}
 use Rattle.std.proofs.lemmas.List.Folds.{list_any-append}
 use Rattle.c_core.specs.Program.{IsProgram}
 use Rattle.c_core.specs.Scope as scope
 use Rattle.c_core.specs.Scope.{is_reached, times_in}
-use Rattle.c_core.specs.Tree.{Node, Stm, Function, Program}
+use Rattle.c_core.specs.Tree.{Node, Function, Program}
 use Rattle.c_core.specs.declared.number.IntType.{IntType}
 use Rattle.c_core.specs.declared.number.Spot.{Spot}
 use Rattle.c_core.specs.declared.tree.Object.{Object}
-use Rattle.c_meaning.specs.declared.run.End.{End}
-use Rattle.c_meaning.specs.Cells.{Cell}
 use Rattle.c_meaning.specs.Objects.{size_in, size_of_object}
-use Rattle.c_meaning.specs.Parts.{some_of, some_node, is_in, declared_in, changes, calls, fulls_of, fulls_of_function, fulls_if, function_numbers, object_numbers}
-use Rattle.c_meaning.specs.Meaning.{Loop, Meaning, Calls}
-use Rattle.c_meaning.specs.Acts.{Res, Go, Stop, Flow, Next, Broken, Again, Gave}
-use Rattle.c_meaning.specs.Changed.{fulls_of_loop, body_of, is_fixed, is_fixed_in, changed_here, changed_there, changed_by, called_from}
+use Rattle.c_meaning.specs.Parts.{some_of, some_node, is_in, declared_in, changes, fulls_of_function, fulls_if, object_numbers}
+use Rattle.c_meaning.specs.Meaning.{Loop, Meaning}
+use Rattle.c_meaning.specs.Acts.{Go, Next}
+use Rattle.c_meaning.specs.Changed.{fulls_of_loop, body_of, is_fixed_in, changed_here, changed_there, changed_by, called_from}
 use Rattle.c_meaning.specs.Run.{State, Moment, real}
-use Rattle.c_meaning.specs.Exec.{turn, run_in, call_of}
+use Rattle.c_meaning.specs.Exec.{turn, run_in}
 use Rattle.c_meaning.specs.Fitting.{calls_in}
-use Rattle.c_meaning.specs.Related.{FitsLoop, FitsS, FitsParams, with_names, after, Both, Typed, CallsPreserve}
+use Rattle.c_meaning.specs.Related.{FitsLoop, FitsS, FitsParams, with_names, after, CallsPreserve}
 use Rattle.c_meaning.proofs.Checked.{function_params}
 use Rattle.c_meaning.proofs.Fundamental.{related_body, related_call, related_turn}
 use Rattle.c_frames.specs.Frames.{SameBut}
-use Rattle.c_frames.proofs.CellLaws.{same_itself}
-use Rattle.c_frames.proofs.Framing.{Over, none_high, over_same, Moves, moves_loop, MayWrite, framing, framing_keeps, Lands}
+use Rattle.c_frames.proofs.Framing.{none_high, over_same, Moves, moves_loop, framing, framing_keeps, Lands}
 use Rattle.c_frames.proofs.Refitting.{is_bad, named, most, Fresh, Looped, OwnAgreesTo, Refit, refit_s, refit_loop}
 use Rattle.c_frames.proofs.Bodies.{in_same, counted, uncounted, found_below, params_of, fresh_body, sound_body, named_body, asks}
 use Rattle.c_frames.proofs.Members.{in_those, in_numbers, some_in, called_first, called_further}

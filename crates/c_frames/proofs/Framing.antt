@@ -1,36 +1,29 @@
 -- What a part of a real run changes: cells of some objects, and those declared in it.
-use Rattle.std.proofs.Common.{◌≡◌, ◌⊎◌, ◌<◌, ◌≤◌, ◌+◌, ◌-◌, ℕ, zero, suc, ℤ, pos, negsuc, Bool, true, false, cond, not, ◌||◌, nat_eq, nat_le, IsTrue, List, [], ◌∷◌, ◌++◌, length, take, Option, Some, None, slice_get, refl, sym, ap, ap₂, ◌∙◌, subst, inl, inr, ⊎_elim, arith, append_assoc, append-nil, true≢false, length-append}
+use Rattle.std.proofs.Common.{◌≡◌, ◌⊎◌, ◌<◌, ◌≤◌, ◌+◌, ℕ, zero, suc, ℤ, pos, negsuc, Bool, true, false, cond, nat_eq, nat_le, IsTrue, List, [], ◌∷◌, ◌++◌, length, take, Option, Some, None, refl, sym, ap, ap₂, ◌∙◌, subst, inl, inr, ⊎_elim, arith, append_assoc, append-nil, true≢false, length-append}
 use Rattle.std.proofs.lemmas.Bool.{cases_Bool, or_left, or_right, or_cases}
 use Rattle.std.proofs.lemmas.Bool.Decides.{nat_tests}
-use Rattle.c_core.specs.Types.{fit, is_zero, number_of}
+use Rattle.c_core.specs.Types.{fit}
 use Rattle.c_core.specs.Operators.{apply_of, apply_one_of}
-use Rattle.c_core.specs.Tree.{Stm, Function, Program}
-use Rattle.c_core.specs.declared.number.IntType.{IntType}
+use Rattle.c_core.specs.Tree.{Program}
 use Rattle.c_core.specs.declared.number.Spot.{Spot}
-use Rattle.c_core.specs.declared.number.BinOp.{BinOp}
-use Rattle.c_core.specs.declared.number.UnOp.{UnOp}
 use Rattle.c_core.specs.declared.number.Done.{Done}
 use Rattle.c_core.specs.declared.number.Done.TheVariants.{Value, Overflow, Undefined as NoValue}
 use Rattle.c_core.specs.declared.number.Property.{Property}
 use Rattle.c_core.specs.declared.number.Property.TheVariants.{UnreachCall, NoOverflow}
 use Rattle.c_meaning.specs.declared.run.End.{End}
-use Rattle.c_meaning.specs.declared.run.End.TheVariants.{Ended, Undefined, Violated, Spent, Deep}
+use Rattle.c_meaning.specs.declared.run.End.TheVariants.{Undefined, Violated, Deep}
 use Rattle.c_meaning.specs.declared.run.Event.{Event}
 use Rattle.c_meaning.specs.declared.run.Event.TheVariants.{At, Branch, Enter, Return, Fail}
-use Rattle.c_meaning.specs.declared.run.DrawKind.{DrawKind}
 use Rattle.c_meaning.specs.Cells.{Key, Cell, live, put, cells_from}
 use Rattle.c_meaning.specs.Objects.{size_of_object}
 use Rattle.c_meaning.specs.Parts.{is_in}
-use Rattle.c_meaning.specs.Meaning.{Where, Site, Loop, Meaning, Calls}
+use Rattle.c_meaning.specs.Meaning.{Where, Site, Loop}
 use Rattle.c_meaning.specs.Acts.{Res, Go, Stop, Flow, Next, Broken, Again, Gave, bind, go_on, turned, continuing, given}
 use Rattle.c_meaning.specs.Acts as acts
 use Rattle.c_meaning.specs.Run as run
 use Rattle.c_meaning.specs.Run.{State, Moment, Here, Head, cells_of, with_cells, index_below, real}
-use Rattle.c_meaning.specs.Exec.{turn, run_in}
-use Rattle.c_meaning.specs.Fitting.{calls_in}
-use Rattle.c_meaning.specs.Related.{Units, Relation, Preserves, FitsLoop, FitsS, FitsParams, with_names, after, LoopsPreserve}
+use Rattle.c_meaning.specs.Related.{Units, Relation, Preserves}
 use Rattle.c_meaning.specs.Fitting.{keys}
-use Rattle.c_meaning.proofs.Fundamental.{related_body, related_call, related_turn}
 use Rattle.c_frames.specs.Frames.{IsCellOf, SameBut}
 use Rattle.c_frames.proofs.CellLaws.{among, live_among, among-append, put_high, put_low, keys_put, keys-append, take_over, keys_length, names_take, same_refl, same_trans, same_put, same_length, Split, same_split, name_same, same_itself}
 

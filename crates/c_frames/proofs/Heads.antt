@@ -1,5 +1,5 @@
 -- At each head of a loop in a run, the cells are those at the arrival but for what the loop changes.
-use Rattle.std.proofs.Common.{◌≡◌, ◌+◌, ℕ, zero, suc, ℤ, pos, Bool, true, false, IsTrue, List, [], ◌∷◌, ◌++◌, length, reverse, Option, Some, None, slice_get, refl, sym, ap, ◌∙◌, subst, true≢false}
+use Rattle.std.proofs.Common.{◌≡◌, ℕ, zero, suc, Bool, true, List, [], ◌∷◌, ◌++◌, reverse, Option, Some, None, slice_get, refl, sym, ap, ◌∙◌, subst, true≢false}
 use Rattle.std.specs.List.{All}
 use Rattle.std.proofs.lemmas.List.{reverse-append}
 use Rattle.std.proofs.lemmas.List.Elements.{All-nil, All-cons, All-head, All-tail, All-push}
@@ -17,22 +17,20 @@ use Rattle.c_meaning.specs.Cells.{Cell}
 use Rattle.c_meaning.specs.Parts.{some_of, some_node, fulls_of_function, fulls_if}
 use Rattle.c_meaning.specs.Meaning.{Loop, Meaning}
 use Rattle.c_meaning.specs.Acts.{Res, Go, Stop, Flow, Next, Broken, Again, Gave, bind, turned}
-use Rattle.c_meaning.specs.Acts as acts
 use Rattle.c_meaning.specs.Changed.{changed_by}
 use Rattle.c_meaning.specs.Run as run
 use Rattle.c_meaning.specs.Run.{State, Moment, Told, Here, Head, cells_of, with_cells, state_of, first_state, Whole, Moments, real}
-use Rattle.c_meaning.specs.Exec.{turn, run_in, run_if, run_main}
+use Rattle.c_meaning.specs.Exec.{turn, run_in, run_if}
 use Rattle.c_meaning.specs.Fitting.{Grows, calls_in}
-use Rattle.c_meaning.specs.Related.{given_by, given_by_one, Relation, Preserves, FitsS, FitsParams, with_names, after, CallsPreserve}
-use Rattle.c_meaning.proofs.Checked.{function_params}
+use Rattle.c_meaning.specs.Related.{given_by, given_by_one, Relation, Preserves, FitsS, FitsParams, with_names, after}
 use Rattle.c_meaning.proofs.Fundamental.{related_body, related_call}
 use Rattle.c_meaning.proofs.Stateful as st
 use Rattle.c_meaning.proofs.Stateful.{grows_same}
 use Rattle.c_meaning.proofs.KeptRuns as runs
 use Rattle.c_frames.specs.Frames.{SameBut, IsFramed}
 use Rattle.c_frames.proofs.CellLaws.{same_refl, same_trans}
-use Rattle.c_frames.proofs.Refitting.{is_bad, named, Looped, OwnAgreesTo, AgreesTo, Refit, refit_s}
-use Rattle.c_frames.proofs.Bodies.{params_of, fresh_body, sound_body, named_body, asks}
+use Rattle.c_frames.proofs.Refitting.{is_bad, OwnAgreesTo, Refit, refit_s}
+use Rattle.c_frames.proofs.Bodies.{params_of, fresh_body, sound_body, named_body}
 use Rattle.c_frames.proofs.FramedTurns.{turn_framed}
 
 abbrev pub Seen : Type 0

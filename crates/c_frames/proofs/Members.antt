@@ -1,11 +1,11 @@
 -- Members of lists of numbers, and the functions called from expressions.
-use Rattle.std.proofs.Common.{◌≡◌, ◌⊎◌, ◌<◌, ◌≤◌, ◌+◌, ℕ, zero, suc, Bool, true, false, cond, ◌||◌, nat_eq, IsTrue, List, [], ◌∷◌, length, refl, sym, ◌∙◌, subst, ⊎_elim, arith, true≢false}
+use Rattle.std.proofs.Common.{◌≡◌, ◌⊎◌, ◌<◌, ◌≤◌, ◌+◌, ℕ, zero, suc, Bool, true, false, cond, ◌||◌, nat_eq, List, [], ◌∷◌, length, refl, sym, ◌∙◌, subst, ⊎_elim, arith, true≢false}
 use Rattle.std.proofs.lemmas.Bool.{or_left, or_right, or_cases}
 use Rattle.std.proofs.lemmas.Bool.Decides.{nat_tests}
 use Rattle.c_core.specs.Tree.{Exp, Program}
 use Rattle.c_meaning.specs.Parts.{some_of, those, is_in, numbers_from, some_node, calls, fulls_of_function}
 use Rattle.c_meaning.specs.Changed.{called_from}
-use Rattle.c_calls.specs.Calling.{IsCalledFrom, directly, further}
+use Rattle.c_calls.specs.Calling.{directly, further}
 use Rattle.c_calls.proofs.CallingLaws.{all_called}
 use Rattle.c_frames.proofs.CellLaws.{same_number}
 

@@ -1,8 +1,7 @@
 -- What a checked program's types and names give, for each other relation that asks of a region's nodes no more.
-use Rattle.std.proofs.Common.{◌≡◌, ◌<◌, ◌≤◌, ◌+◌, ℕ, zero, suc, ℤ, Bool, true, false, cond, not, ◌||◌, nat_eq, IsTrue, List, [], ◌∷◌, ◌++◌, length, Option, Some, None, slice_get, refl, sym, ap, ◌∙◌, subst, arith, append_assoc}
+use Rattle.std.proofs.Common.{◌≡◌, ◌<◌, ◌≤◌, ◌+◌, ℕ, zero, suc, ℤ, Bool, true, false, cond, not, ◌||◌, nat_eq, IsTrue, List, [], ◌∷◌, ◌++◌, length, Option, Some, None, slice_get, refl, ap, ◌∙◌, subst, arith, append_assoc}
 use Rattle.std.proofs.lemmas.Bool.{or_left, or_right}
-use Rattle.c_core.specs.Operators.{type_for, op_of_step}
-use Rattle.c_core.specs.Parts as parts
+use Rattle.c_core.specs.Operators.{op_of_step}
 use Rattle.c_core.specs.Parts.{exps_in}
 use Rattle.c_core.specs.Scope.{is_reached, is_fixed, times_in}
 use Rattle.c_core.specs.Typing.{is_constant, is_target}
@@ -37,7 +36,7 @@ some-append q (x ∷ xs) ys = ap (λ b. q x || b) (some-append q xs ys) ∙ or_a
     or_assoc true b c = refl
     or_assoc false b c = refl
 
-some_exps : (q : Node → Bool) (es : Exps) → some_of (some_node q) (own.exps_in es) ≡ some_argument q es
+pub some_exps : (q : Node → Bool) (es : Exps) → some_of (some_node q) (own.exps_in es) ≡ some_argument q es
 some_exps q NoExp = refl
 some_exps q (MoreExp e es) = ap (λ b. some_node q e || b) (some_exps q es)
 

@@ -1,5 +1,5 @@
 -- What a loop leaves as it was.
-use Rattle.std.specs.Prelude.{◌≡◌, ◌⊎◌, ◌<◌, ℕ, Bool, false, List, [], ◌∷◌, IsTrue}
+use Rattle.std.specs.Prelude.{◌≡◌, ◌⊎◌, ◌<◌, ℕ, false, List, [], ◌∷◌, IsTrue}
 use Rattle.c_core.specs.Tree.{Program}
 use Rattle.c_meaning.specs.Cells.{Key, Cell, live}
 use Rattle.c_meaning.specs.Objects.{size_of_object}
