@@ -171,7 +171,7 @@ joined : (xs ys : List DeclaredName) (os qs : List ℕ) → objects_of xs ≡ os
 joined xs ys os qs e f = objects-append xs ys ∙ ap₂ (λ a b. a ++ b) e f
 
 mutual
-  declared_same : (s : Stm) → objects_of (names_in s) ≡ declared_in s
+  pub declared_same : (s : Stm) → objects_of (names_in s) ≡ declared_in s
   declared_same (Stmt at f) = declared_same_form f
 
   declared_same_form : (f : Form) → objects_of (names_in_form f) ≡ declared_in_form f
@@ -206,7 +206,7 @@ in_range_of q a (suc n) x h l u =
     by true e g f = subst (λ y. IsTrue (q y)) (same_number a x e) g
     by false e g f = f (grind (arith, nat_tests))
 
-none_there : (q : ℕ → Bool) (x : ℕ) (os : List ℕ) → q x ≡ false → IsTrue (list_all q os) → times_in x os ≡ 0
+pub none_there : (q : ℕ → Bool) (x : ℕ) (os : List ℕ) → q x ≡ false → IsTrue (list_all q os) → times_in x os ≡ 0
 none_there q x [] e h = refl
 none_there q x (o ∷ os) e h = let b = both (q o) (list_all q os) h in by (nat_eq x o) refl b.0 (none_there q x os e b.1)
   where
@@ -237,7 +237,7 @@ found_below (y ∷ xs) zero x e = omega arith
 found_below (y ∷ xs) (suc i) x e = let l = found_below xs i x e in omega (arith, l)
 
 module _ (p : Program) (h : IsProgram p) where
-  owned_most : (x : ℕ) → times_in x (owned_by p.functions) ≤ most p x
+  pub owned_most : (x : ℕ) → times_in x (owned_by p.functions) ≤ most p x
   owned_most x = by (slice_get p.objects x) refl
     where
       by : (o : Option Object) → slice_get p.objects x ≡ o → times_in x (owned_by p.functions) ≤ most p x

@@ -1,2 +1,3 @@
 pub mod Rooms
 pub mod Calm
+pub mod Sums
