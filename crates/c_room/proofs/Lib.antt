@@ -1,3 +1,4 @@
 pub mod Rooms
 pub mod Calm
 pub mod Sums
+pub mod Paths
