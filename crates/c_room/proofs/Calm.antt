@@ -98,10 +98,10 @@ module _ (p : Program) (S : Type 0) (see : Moment → S → S) (a C : ℕ) (room
   keeps_choice true m k g f = g
   keeps_choice false m k g f = f
 
-  keeps_tell : (e : Event) → Keeps (run.tell p S see e)
+  pub keeps_tell : (e : Event) → Keeps (run.tell p S see e)
   keeps_tell e = record { at = λ n s l q r. (q, r) }
 
-  keeps_after : {X : Type 0} (e : Event) (k : Act X) → Keeps k → Keeps (λ s. bind (run.tell p S see e s) (λ _. k))
+  pub keeps_after : {X : Type 0} (e : Event) (k : Act X) → Keeps k → Keeps (λ s. bind (run.tell p S see e s) (λ _. k))
   keeps_after e k g = keeps_then (run.tell p S see e) (λ _. k) (keeps_tell e) (λ _. g)
 
   tick_calm : (k n : ℕ) (s : State S) → length s.cells ≤ n → s.active ≤ a → Calm n (run.tick_from p S see k s)
@@ -111,7 +111,7 @@ module _ (p : Program) (S : Type 0) (see : Moment → S → S) (a C : ℕ) (room
   pub keeps_tick : (t : Tick) → Keeps (M.tick t)
   keeps_tick t = record { at = λ n s l q r. tick_calm s.steps n s q r }
 
-  keeps_key : (spot : Spot) (o : ℕ) (i : Option ℕ) → Keeps (run.key_of p S see spot o i)
+  pub keeps_key : (spot : Spot) (o : ℕ) (i : Option ℕ) → Keeps (run.key_of p S see spot o i)
   keeps_key spot o None = keeps_stop (Undefined spot) tt
   keeps_key spot o (Some i) = let k : Key = record { object = o; index = i } in keeps_ret k
 
@@ -122,12 +122,12 @@ module _ (p : Program) (S : Type 0) (see : Moment → S → S) (a C : ℕ) (room
   keeps_overflowed NoOverflow at' spot v = keeps_violated at' spot None
   keeps_overflowed UnreachCall at' spot v = keeps_ret v
 
-  keeps_answered : (at' : Where) (spot : Spot) (d : Done) → Keeps (run.answered p S see at' spot d)
+  pub keeps_answered : (at' : Where) (spot : Spot) (d : Done) → Keeps (run.answered p S see at' spot d)
   keeps_answered at' spot (Value v) = keeps_ret v
   keeps_answered at' spot (Overflow v) = keeps_overflowed p.property at' spot v
   keeps_answered at' spot NoValue = keeps_stop (Undefined spot) tt
 
-  keeps_reached : (q : Property) (at' : Where) (site : Site) → Keeps (run.reached p S see q at' site)
+  pub keeps_reached : (q : Property) (at' : Where) (site : Site) → Keeps (run.reached p S see q at' site)
   keeps_reached UnreachCall at' site = keeps_violated at' site.spot (Some site.spot)
   keeps_reached NoOverflow at' site = keeps_stop Ended tt
 
@@ -136,39 +136,39 @@ module _ (p : Program) (S : Type 0) (see : Moment → S → S) (a C : ℕ) (room
   keeps_returned site None =
       keeps_after (Returned site.close None) (λ s. cond site.needed (run.stop p S see (Undefined site.spot)) (run.ret p S see (pos 0)) s) (keeps_cond site.needed _ _ (keeps_stop (Undefined site.spot) tt) (keeps_ret (pos 0)))
 
-  keeps_look : (k : Key) → Keeps (M.look k)
+  pub keeps_look : (k : Key) → Keeps (M.look k)
   keeps_look k = record { at = λ n s l q r. (q, r) }
 
   pub keeps_write : (k : Key) (v : ℤ) → Keeps (M.write k v)
   keeps_write k v = record { at = λ n s l q r. (subst (λ x. x ≤ n) (sym (length_put k v s.cells)) q, r) }
 
-  keeps_draw : (kind : DrawKind) (spot : Spot) (ty : IntType) → Keeps (M.draw kind spot ty)
+  pub keeps_draw : (kind : DrawKind) (spot : Spot) (ty : IntType) → Keeps (M.draw kind spot ty)
   keeps_draw kind spot ty = record { at = λ n s l q r. (q, r) }
 
-  moves_using : {X : Type 0} (c d : ℕ) (m : Act X) (k : X → Act Flow) → Keeps m → ((b : X) → Moves c d (k b)) → Moves c d (λ s. bind (m s) k)
+  pub moves_using : {X : Type 0} (c d : ℕ) (m : Act X) (k : X → Act Flow) → Keeps m → ((b : X) → Moves c d (k b)) → Moves c d (λ s. bind (m s) k)
   moves_using c d m k g f = record { at = λ n s l q r. by n l (m s) (g.at n s (omega (arith, l)) q r) }
     where
       by : (n : ℕ) → n + d ≤ C → (r : Res End (State S) _) → Calm n r → Lands (n + c) (bind r k)
       by n l (Go b t) o = (f b).at n t l o.0 o.1
       by n l (Stop e t) o = o
 
-  moves_next : (d : ℕ) → Moves 0 d M.next
+  pub moves_next : (d : ℕ) → Moves 0 d M.next
   moves_next d = record { at = λ n s l q r. (omega (arith, q), r) }
 
-  moves_leave : (c d : ℕ) → Moves c d M.leave
+  pub moves_leave : (c d : ℕ) → Moves c d M.leave
   moves_leave c d = record { at = λ n s l q r. r }
 
-  moves_again : (c d : ℕ) → Moves c d M.again
+  pub moves_again : (c d : ℕ) → Moves c d M.again
   moves_again c d = record { at = λ n s l q r. r }
 
-  moves_give : (c d : ℕ) (v : Option ℤ) → Moves c d (M.give v)
+  pub moves_give : (c d : ℕ) (v : Option ℤ) → Moves c d (M.give v)
   moves_give c d v = record { at = λ n s l q r. r }
 
   moves_cond : (c d : ℕ) (t : Bool) (m k : Act Flow) → Moves c d m → Moves c d k → Moves c d (λ s. cond t m k s)
   moves_cond c d true m k g f = record { at = λ n s. g.at n s }
   moves_cond c d false m k g f = record { at = λ n s. f.at n s }
 
-  moves_branch : (c d : ℕ) (spot : Spot) (t : Bool) (m k : Act Flow) → Moves c d m → Moves c d k → Moves c d (M.branch spot t m k)
+  pub moves_branch : (c d : ℕ) (spot : Spot) (t : Bool) (m k : Act Flow) → Moves c d m → Moves c d k → Moves c d (M.branch spot t m k)
   moves_branch c d spot t m k g f = moves_using c d (run.tell p S see (Branch spot t)) _ (keeps_tell (Branch spot t)) (λ _. moves_cond c d t m k g f)
 
   pub moves_seq : (c d e f : ℕ) (m k : Act Flow) → c ≤ d → Moves c d m → Moves e f k → Moves (c + e) (d + f) (λ s. bind (m s) (go_on k))
@@ -206,10 +206,10 @@ module _ (p : Program) (S : Type 0) (see : Moment → S → S) (a C : ℕ) (room
   calm_lands n (Go f t) o = flow_lands (n + 0) f t (omega (arith, o.0)) o.1
   calm_lands n (Stop e t) o = o
 
-  moves_scoped : (c d : ℕ) (m : Act Flow) → Moves c d m → Moves 0 d (M.scoped m)
+  pub moves_scoped : (c d : ℕ) (m : Act Flow) → Moves c d m → Moves 0 d (M.scoped m)
   moves_scoped c d m g = record { at = λ n s l q r. calm_lands n _ (cut_calm n s q (m s) (n + c) (g.at n s l q r)) }
 
-  moves_continued : (c d : ℕ) (m : Act Flow) → Moves c d m → Moves 0 d (M.continued m)
+  pub moves_continued : (c d : ℕ) (m : Act Flow) → Moves c d m → Moves 0 d (M.continued m)
   moves_continued c d m g = record { at = λ n s l q r. by n (acts.scoped End (State S) cells_of with_cells m s) (cut_calm n s q (m s) (n + c) (g.at n s l q r)) }
     where
       by : (n : ℕ) (r : Res End (State S) Flow) → Calm n r → Lands (n + 0) (bind r (λ f u. Go (continuing f) u))
@@ -230,7 +230,7 @@ module _ (p : Program) (S : Type 0) (see : Moment → S → S) (a C : ℕ) (room
       by h (Go (Gave v) t) o = (0, o)
       by h (Stop e t) o = (0, o)
 
-  moves_loop : (d : ℕ) (at' : Spot) (l : Loop) (m : Act Flow) → Moves 0 d m → Moves 0 d (M.loop at' l m)
+  pub moves_loop : (d : ℕ) (at' : Spot) (l : Loop) (m : Act Flow) → Moves 0 d m → Moves 0 d (M.loop at' l m)
   moves_loop d at' l m g = record { at = λ n s w q r. let x = turns_land d m g (suc s.steps) at' l s.cells n s w q r in calm_lands n _ (cut_calm n s q (run.loop p S see at' l m s) x.0 x.1) }
 
   pub moves_declare : (o c : ℕ) → Moves c c (M.declare o c)
@@ -259,10 +259,10 @@ module _ (p : Program) (S : Type 0) (see : Moment → S → S) (a C : ℕ) (room
       by n l (Stop e t) o = o
 
 
-  moves_wider : (c d e : ℕ) (m : Act Flow) → d ≤ e → Moves c d m → Moves c e m
+  pub moves_wider : (c d e : ℕ) (m : Act Flow) → d ≤ e → Moves c d m → Moves c e m
   moves_wider c d e m w g = record { at = λ n s l q r. g.at n s (omega (arith, l, w)) q r }
 
-  pub room_parts : Parts p M
+  abbrev pub room_parts : Parts p M
   room_parts = record {
     Keeps = λ m. Keeps m;
     Moves = λ c d m. Moves c d m;

@@ -18,7 +18,7 @@ use Rattle.c_meaning.specs.Objects.{object_of, type_of, type_of_object, size_of_
 use Rattle.c_meaning.specs.Parts.{some_of, some_node, some_part, some_argument, exp_if, fulls_of, fulls_of_form, fulls_of_else, fulls_of_block, fulls_of_init, fulls_of_names, fulls_of_first, objects_of_names, objects_of_first, declared_in, declared_in_form, declared_in_else, declared_in_block, calls}
 use Rattle.c_meaning.specs.Meaning.{Tick, AStatement, ANode, ACell, AParameter, Use, Used, Unused, Where, Site, Loop, Meaning, Calls, ForLoop}
 use Rattle.c_meaning.specs.Eval.{convert_to, operate, store, assign, tested, called, eval, node, target, place, evals}
-use Rattle.c_meaning.specs.Exec.{ticks, full, full_if, control, going, while_turn, do_turn, for_turn, draw_cells, initials, initial, declare, first, exec, form, otherwise, execs, body}
+use Rattle.c_meaning.specs.Exec.{ticks, full, full_if, control, going, while_turn, do_turn, for_turn, draw_cells, initials, initial, declare, first, exec, form, otherwise, execs, body, with_params}
 use Rattle.c_frames.proofs.CellLaws.{same_itself}
 use Rattle.c_frames.proofs.Refitting.{some-append, some_exps}
 
@@ -58,6 +58,11 @@ pub record Parts (p : Program) (M : Meaning) : Type 1 where
   pub continued : (c d : ℕ) (a : M.Done) → Moves c d a → Moves 0 d (M.continued a)
   pub loop : (d : ℕ) (spot : Spot) (l : Loop) (turn : M.Done) → Moves 0 d turn → Moves 0 d (M.loop spot l turn)
   pub wider : (c d e : ℕ) (a : M.Done) → d ≤ e → Moves c d a → Moves c e a
+
+-- so many cells, and one for each parameter
+abbrev pub params_and : List ℕ → ℕ → ℕ
+params_and [] c = c
+params_and (o ∷ os) c = 1 + params_and os c
 
 module _ (p : Program) where
   -- the cells of these objects
@@ -328,3 +333,11 @@ module _ (p : Program) where
 
       pub calm_body : (s : Stm) → Fulls (fulls_of s) → parts.Moves (own_size s) (sizes (declared_in s)) (body p M call result s)
       calm_body (Stmt at' f) h = parts.using _ _ _ _ (parts.tick AStatement) (λ _. calm_f at' f h)
+
+    -- each parameter is one cell
+    pub calm_params : (c d : ℕ) (os : List ℕ) (vs : List (M.Value × IntType)) (k : M.Done) → parts.Moves c d k → parts.Moves (params_and os c) (params_and os d) (with_params p M os vs k)
+    calm_params c d [] vs k g = g
+    calm_params c d (o ∷ os) [] k g = parts.seq 1 1 (params_and os c) (params_and os d) _ _ (omega arith) (parts.declare o 1) (calm_params c d os [] k g)
+    calm_params c d (o ∷ os) (v ∷ vs) k g =
+        parts.seq 1 1 (params_and os c) (params_and os d) _ _ (omega arith) (parts.declare o 1)
+        (parts.using (params_and os c) (params_and os d) _ _ (parts.convert v.1 (type_of_object p o) v.0) (λ w. parts.using (params_and os c) (params_and os d) _ _ (parts.write (M.cell o 0) w) (λ _. calm_params c d os vs k g)))

@@ -3,4 +3,4 @@
 
 mod laws;
 
-pub use laws::placeholder;
+pub use laws::runs_have_room;
