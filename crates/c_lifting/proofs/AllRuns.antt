@@ -1,5 +1,5 @@
 -- Where no havoc run fails, no run is violated, and invariants hold wherever they are placed.
-use Rattle.std.proofs.Common.{◌≡◌, ◌<◌, ◌≤◌, ◌+◌, ℕ, zero, suc, ℤ, Bool, true, IsTrue, List, [], ◌∷◌, length, Option, Some, None, slice_get, refl, sym, ap, ◌∙◌, subst, arith}
+use Rattle.std.proofs.Common.{◌≡◌, ◌≤◌, ℕ, zero, suc, Bool, true, List, [], ◌∷◌, length, Option, Some, None, slice_get, refl, sym, ap, ◌∙◌, subst, arith}
 use Rattle.std.specs.List.{All}
 use Rattle.std.proofs.lemmas.List.Elements.{All-nil}
 use Rattle.std.proofs.lemmas.Option.{slice_get_within}
@@ -8,19 +8,17 @@ use Rattle.c_core.specs.Tree.{Node, Function, Program}
 use Rattle.c_core.specs.declared.number.IntType.{IntType}
 use Rattle.c_core.specs.declared.number.Spot.{Spot}
 use Rattle.c_meaning.specs.declared.run.Choices.{Choices}
-use Rattle.c_meaning.specs.declared.run.Draw.{Draw}
-use Rattle.c_meaning.specs.declared.run.Duty.{Duty}
 use Rattle.c_meaning.specs.declared.run.End.{End}
-use Rattle.c_meaning.specs.declared.run.End.TheVariants.{Ended, Undefined, Violated, Spent, Deep}
-use Rattle.c_meaning.specs.Acts.{Res, Go, Stop, Flow, Next}
+use Rattle.c_meaning.specs.declared.run.End.TheVariants.{Violated, Spent}
+use Rattle.c_meaning.specs.Acts.{Res, Go, Stop, Flow}
 use Rattle.c_meaning.specs.Duties.{Placed, Duties, number_among}
 use Rattle.c_meaning.specs.Exec.{turn, run_in, run_if, run_main}
 use Rattle.c_meaning.specs.Fitting.{FitCells, calls_in}
 use Rattle.c_meaning.specs.Cells.{Cell}
-use Rattle.c_meaning.specs.Havoc.{Stopped, Fails, Left, havoc_run, havoc_in}
-use Rattle.c_meaning.specs.Parts.{some_of, some_node, calls, fulls_of_function, fulls_if}
-use Rattle.c_meaning.specs.Related.{FitsS, FitsParams, with_names}
-use Rattle.c_meaning.specs.Run.{State, first_cells, first_state, state_of, end_of, Whole, Run, Moments}
+use Rattle.c_meaning.specs.Havoc.{Stopped, Left, havoc_run}
+use Rattle.c_meaning.specs.Parts.{some_of, some_node, fulls_of_function, fulls_if}
+use Rattle.c_meaning.specs.Related.{FitsS, FitsParams}
+use Rattle.c_meaning.specs.Run.{State, first_cells, first_state, state_of, end_of, Whole, Run}
 use Rattle.c_meaning.proofs.FittingCells.{first_fit}
 use Rattle.c_meaning.proofs.Fundamental.{related_body, related_call}
 use Rattle.c_calls.specs.Calling.{IsCalledIn, IsFirstRecursion}
@@ -31,7 +29,7 @@ use Rattle.c_frames.proofs.FramedTurns.{turn_framed}
 use Rattle.c_frames.proofs.Heads.{Seen, keep, all_reversed, no_bad_in}
 use Rattle.c_frames.proofs.Refitting.{OwnAgreesTo, AgreesTo, Refit, refit_s}
 use Rattle.c_lifting.specs.Lifting.{NeverFails, IsLifted, Lifted}
-use Rattle.c_lifting.proofs.Lifts.{IsFine, Safe, Follows, Lifts, SameFlow, lifts_ret, lifts_stop, lifts_loop}
+use Rattle.c_lifting.proofs.Lifts.{IsFine, Safe, Follows, Lifts, SameFlow, lifts_stop, lifts_loop}
 use Rattle.c_lifting.proofs.Relating.{H, N, lifting, lifting_keeps}
 
 -- chains of calls from a function, itself among them, are of at most so many functions

@@ -1,7 +1,6 @@
 -- A part of a real run follows a part of a havoc run: where that can't fail, no violation comes, and what the real part gives some values give there too.
-use Rattle.std.proofs.Common.{◌≡◌, ◌⊎◌, ◌+◌, ◌-◌, ℕ, zero, suc, ℤ, pos, Bool, true, false, cond, not, ◌&&◌, nat_le, IsTrue, List, [], ◌∷◌, ◌++◌, length, take, Option, Some, None, refl, sym, ap, ◌∙◌, subst, inl, inr, ⊎_elim, true≢false, append_assoc}
+use Rattle.std.proofs.Common.{◌≡◌, ◌+◌, ◌-◌, ℕ, zero, suc, ℤ, pos, Bool, true, false, cond, not, ◌&&◌, nat_le, IsTrue, List, [], ◌∷◌, ◌++◌, length, Option, Some, None, refl, sym, ap, ◌∙◌, subst, true≢false, append_assoc}
 use Rattle.std.specs.List.{All}
-use Rattle.std.proofs.lemmas.Bool.{cases_Bool}
 use Rattle.std.proofs.lemmas.List.Elements.{All-nil, All-cons, All-head, All-tail}
 use Rattle.c_core.specs.Types.{fit}
 use Rattle.c_core.specs.Tree.{Program}
@@ -15,14 +14,14 @@ use Rattle.c_core.proofs.Fits.{fit_in_range}
 use Rattle.c_meaning.specs.declared.run.End.{End}
 use Rattle.c_meaning.specs.declared.run.End.TheVariants.{Ended, Undefined, Violated, Spent, Deep}
 use Rattle.c_meaning.specs.declared.run.Event.{Event}
-use Rattle.c_meaning.specs.declared.run.Event.TheVariants.{At, Branch, Enter, Return, Fail}
+use Rattle.c_meaning.specs.declared.run.Event.TheVariants.{At, Return}
 use Rattle.c_meaning.specs.declared.run.Draw.{Draw}
 use Rattle.c_meaning.specs.declared.run.DrawKind.{DrawKind}
 use Rattle.c_meaning.specs.declared.run.Duty.{Duty}
 use Rattle.c_meaning.specs.declared.run.DutyKind.{DutyKind}
 use Rattle.c_meaning.specs.declared.run.DutyKind.TheVariants.{Location, Entry, Kept, Property as AProperty}
-use Rattle.c_meaning.specs.Cells.{Key, Cell, read, put, cells_from}
-use Rattle.c_meaning.specs.Objects.{type_of_object, size_of_object}
+use Rattle.c_meaning.specs.Cells.{Key, Cell, read, put}
+use Rattle.c_meaning.specs.Objects.{type_of_object}
 use Rattle.c_meaning.specs.Meaning.{Where, Site, Loop}
 use Rattle.c_meaning.specs.Acts.{Res, Go, Stop, Flow, Next, Broken, Again, Gave, bind, go_on, turned, continuing, given}
 use Rattle.c_meaning.specs.Acts as acts
@@ -146,35 +145,41 @@ module _ (p : Program) (I : List Placed) where
   Same ty v w = (v ≡ w) × IsOf p.model ty w
 
   pub lifts_draw : (kind : DrawKind) (spot : Spot) (ty : IntType) → Lifts (Same (Some ty)) (havoc.draw p I kind spot ty) (run.draw p Seen keep kind spot ty)
-  lifts_draw kind spot ty = record { by = λ s ds f g safe. let v = or_zero (chosen kind spot s.choices) in (
-    fit p.model ty v,
-    (refl, fit_in_range p.model ty v),
-    record { values = v ∷ []; made = λ ds. ds ++ record { spot = spot; ty = ty; value = fit p.model ty v; from = kind } ∷ []; by = λ w ds. refl },
-    f,
-    g,
-  ) }
+  lifts_draw kind spot ty = record {
+    by = λ s ds f g safe. let v = or_zero (chosen kind spot s.choices) in (
+      fit p.model ty v,
+      (refl, fit_in_range p.model ty v),
+      record { values = v ∷ []; made = λ ds. ds ++ record { spot = spot; ty = ty; value = fit p.model ty v; from = kind } ∷ []; by = λ w ds. refl },
+      f,
+      g,
+    );
+  }
 
   -- one cell, of an object
   abbrev pub OneOf : ℕ → Key → Key → Type 0
   OneOf o x y = (x ≡ y) × (y.object ≡ o)
 
   pub lifts_look : (o : ℕ) (x y : Key) → OneOf o x y → Lifts (Same (Some (type_of_object p o))) (acts.look Stopped Left cells_left with_cells_left x) (acts.look End (State Seen) cells_of with_cells y)
-  lifts_look o x y q = record { by = λ s ds f g safe. (
-    read x s.cells,
-    (ap (λ k. read k s.cells) q.0, subst (λ z. IsOf p.model (Some (type_of_object p z)) (read y s.cells)) q.1 (read_fits p y s.cells f)),
-    can_same _ _ _ _ (λ w ds. refl),
-    f,
-    g,
-  ) }
+  lifts_look o x y q = record {
+    by = λ s ds f g safe. (
+      read x s.cells,
+      (ap (λ k. read k s.cells) q.0, subst (λ z. IsOf p.model (Some (type_of_object p z)) (read y s.cells)) q.1 (read_fits p y s.cells f)),
+      can_same _ _ _ _ (λ w ds. refl),
+      f,
+      g,
+    );
+  }
 
   pub lifts_write : (o : ℕ) (x y : Key) (v w : ℤ) → OneOf o x y → Same (Some (type_of_object p o)) v w → Lifts Units (acts.write Stopped Left cells_left with_cells_left x v) (acts.write End (State Seen) cells_of with_cells y w)
-  lifts_write o x y v w q r = record { by = λ s ds f g safe. (
-    tt,
-    tt,
-    can_same _ _ _ _ (λ u ds. ap (λ cs. Go tt (at cs u ds)) (ap (λ k. put k v s.cells) q.0 ∙ ap (λ z. put y z s.cells) r.0)),
-    put_fits p y w s.cells (subst (λ z. IsOf p.model (Some (type_of_object p z)) w) (sym q.1) r.1) f,
-    g,
-  ) }
+  lifts_write o x y v w q r = record {
+    by = λ s ds f g safe. (
+      tt,
+      tt,
+      can_same _ _ _ _ (λ u ds. ap (λ cs. Go tt (at cs u ds)) (ap (λ k. put k v s.cells) q.0 ∙ ap (λ z. put y z s.cells) r.0)),
+      put_fits p y w s.cells (subst (λ z. IsOf p.model (Some (type_of_object p z)) w) (sym q.1) r.1) f,
+      g,
+    );
+  }
 
   -- a flow, with a value of the function's result
   abbrev pub IsFlow : Option IntType → Flow → Type 0
@@ -311,13 +316,15 @@ module _ (p : Program) (I : List Placed) where
           (f (record { never = λ w d y g. safe.never w d y (ap (λ b. cond b (Stop (Fails (duty spot kind (Some i))) (at c w ds)) (havoc.test_from p I (suc i) xs at_loop spot kind (at c w ds))) e ∙ g) }))
 
   pub lifts_here : (spot : Spot) → Lifts Units (havoc.test_from p I 0 I false spot Location) (λ s. bind (run.note p Seen keep (Here spot s.cells) s) (λ _. run.tell p Seen keep (At spot)))
-  lifts_here spot = record { by = λ s ds f g safe. let h = tests_hold 0 I false spot Location s.cells ds safe in (
-    tt,
-    tt,
-    can_same _ _ _ _ (λ w ds. tests_pass 0 I false spot Location s.cells w ds h),
-    f,
-    All-cons P (Told (At spot) s.cells) (Here spot s.cells ∷ s.seen) tt (All-cons P (Here spot s.cells) s.seen h g),
-  ) }
+  lifts_here spot = record {
+    by = λ s ds f g safe. let h = tests_hold 0 I false spot Location s.cells ds safe in (
+      tt,
+      tt,
+      can_same _ _ _ _ (λ w ds. tests_pass 0 I false spot Location s.cells w ds h),
+      f,
+      All-cons P (Told (At spot) s.cells) (Here spot s.cells ∷ s.seen) tt (All-cons P (Here spot s.cells) s.seen h g),
+    );
+  }
 
   -- ---- loops
 
@@ -384,6 +391,8 @@ module _ (p : Program) (I : List Placed) where
           (lifts.by s0 ((drawn s.cells h).made ds0) h.1 (All-cons P (Head spot l c s.cells) s.seen h.2 good) (safe_first T close s.cells ((drawn s.cells h).made ds0) (turn_safe s.cells h)))
 
     pub lifts_loop : Lifts (SameFlow ty) (acts.scoped Stopped Left cells_left with_cells_left L) (acts.scoped End (State Seen) cells_of with_cells (run.loop p Seen keep spot l t))
-    lifts_loop = lifts_scoped (SameFlow ty) L (run.loop p Seen keep spot l t) (record { by = λ s ds fits good safe.
-      let hc = tests_hold 0 I true spot Entry s.cells ds (safe_first (havoc.test_from p I 0 I true spot Entry) (λ _ x. bind (havoc.redraw p I spot os x) (λ _ x. bind (havoc.assume_all p I I spot x) (λ _ x. bind (T x) close))) s.cells ds safe) in
-      turns_follow s.cells hc ds safe (suc s.steps) s good (same_refl p os s.cells, fits, hc) })
+    lifts_loop = lifts_scoped (SameFlow ty) L (run.loop p Seen keep spot l t) (record {
+      by = λ s ds fits good safe.
+          let hc = tests_hold 0 I true spot Entry s.cells ds (safe_first (havoc.test_from p I 0 I true spot Entry) (λ _ x. bind (havoc.redraw p I spot os x) (λ _ x. bind (havoc.assume_all p I I spot x) (λ _ x. bind (T x) close))) s.cells ds safe) in
+          turns_follow s.cells hc ds safe (suc s.steps) s good (same_refl p os s.cells, fits, hc);
+    })

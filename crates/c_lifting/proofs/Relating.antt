@@ -1,10 +1,8 @@
 -- Every tree's real meaning follows its havoc meaning.
-use Rattle.std.proofs.Common.{◌≡◌, ◌<◌, ◌+◌, ℕ, zero, suc, ℤ, pos, Bool, true, false, cond, not, IsTrue, List, [], ◌∷◌, length, Option, Some, None, slice_get, refl, sym, ap, ◌∙◌, subst}
-use Rattle.std.specs.List.{All}
-use Rattle.c_core.specs.Program.{IsProgram}
+use Rattle.std.proofs.Common.{◌≡◌, ℕ, ℤ, Bool, true, false, cond, not, IsTrue, List, Option, Some, None, refl, sym, ap, subst}
 use Rattle.c_core.specs.Types.{fit, is_zero, number_of}
 use Rattle.c_core.specs.Operators.{apply_of, apply_one_of}
-use Rattle.c_core.specs.Tree.{Node, Function, Program}
+use Rattle.c_core.specs.Tree.{Program}
 use Rattle.c_core.specs.Typing.{is_constant}
 use Rattle.c_core.specs.declared.number.IntType.{IntType}
 use Rattle.c_core.specs.declared.number.IntType.TheVariants.{Int}
@@ -13,28 +11,21 @@ use Rattle.c_core.specs.declared.number.BinOp.{BinOp}
 use Rattle.c_core.specs.declared.number.UnOp.{UnOp}
 use Rattle.c_core.proofs.Fits.{fit_in_range}
 use Rattle.c_meaning.specs.declared.run.End.{End}
-use Rattle.c_meaning.specs.declared.run.End.TheVariants.{Ended, Spent}
+use Rattle.c_meaning.specs.declared.run.End.TheVariants.{Ended}
 use Rattle.c_meaning.specs.declared.run.Event.TheVariants.{Branch, Enter, Return}
-use Rattle.c_meaning.specs.Cells.{Key, Cell}
-use Rattle.c_meaning.specs.Objects.{type_or_int, type_of_object, size_of_object}
-use Rattle.c_meaning.specs.Meaning.{Where, Loop, Meaning}
+use Rattle.c_meaning.specs.Cells.{Cell}
+use Rattle.c_meaning.specs.Objects.{size_of_object}
+use Rattle.c_meaning.specs.Meaning.{Where, Meaning}
 use Rattle.c_meaning.specs.Acts.{Res, Go, Stop, Flow, Next, Broken, Again, Gave, go_on}
 use Rattle.c_meaning.specs.Duties.{Placed}
-use Rattle.c_meaning.specs.Exec.{turn, run_in}
-use Rattle.c_meaning.specs.Fitting.{IsOf, calls_in}
 use Rattle.c_meaning.specs.Havoc as meaning
 use Rattle.c_meaning.specs.Havoc.{havoc}
-use Rattle.c_meaning.specs.Parts.{some_of, some_node, calls, fulls_of_function, fulls_if}
-use Rattle.c_meaning.specs.Related.{Units, given_by, given_by_one, Relation, Preserves, FitsS, FitsParams, with_names, after}
+use Rattle.c_meaning.specs.Related.{given_by, given_by_one, Relation, Preserves}
 use Rattle.c_meaning.specs.Run.{State, index_below, real}
 use Rattle.c_meaning.proofs.Checked.{Agreeing}
 use Rattle.c_meaning.proofs.FittingCells.{retyped_value, constant_value, digit_value, answered_value, answered_one_value}
-use Rattle.c_meaning.proofs.Fundamental.{related_body, related_call}
-use Rattle.c_frames.proofs.Heads.{Seen, keep, FramedTurn, no_bad_in}
-use Rattle.c_frames.proofs.FramedTurns.{turn_framed}
-use Rattle.c_frames.proofs.Refitting.{OwnAgreesTo, AgreesTo, Refit, refit_s}
-use Rattle.c_frames.proofs.Bodies.{params_of, fresh_body, named_body, found_below}
-use Rattle.c_lifting.proofs.Lifts.{Follows, Lifts, Same, OneOf, SameFlow, lifts_ret, lifts_stop, lifts_then, lifts_told, lifts_tell, lifts_tick, lifts_room, lifts_draw, lifts_look, lifts_write, lifts_declare, lifts_scoped, lifts_cond, lifts_key, lifts_answered, lifts_reached, lifts_called, lifts_go_on, lifts_continued, lifts_here, lifts_loop}
+use Rattle.c_frames.proofs.Heads.{Seen, keep, FramedTurn}
+use Rattle.c_lifting.proofs.Lifts.{Follows, Lifts, Same, OneOf, SameFlow, lifts_ret, lifts_stop, lifts_then, lifts_told, lifts_tell, lifts_tick, lifts_room, lifts_draw, lifts_look, lifts_write, lifts_declare, lifts_scoped, lifts_key, lifts_answered, lifts_reached, lifts_called, lifts_go_on, lifts_continued, lifts_here}
 
 module _ (p : Program) (I : List Placed) where
   abbrev pub H : Meaning

@@ -1,6 +1,6 @@
 -- A havoc run that draws what cells hold somewhere else comes to those cells.
-use Rattle.std.proofs.Common.{◌≡◌, ◌⊎◌, ◌<◌, ℕ, zero, suc, ℤ, pos, Bool, true, false, ◌||◌, nat_eq, IsTrue, List, [], ◌∷◌, ◌++◌, refl, sym, ap, ◌∙◌, subst, inl, inr, ⊎_elim, true≢false, append_assoc}
-use Rattle.std.proofs.lemmas.Bool.{or_cases, cases_Bool}
+use Rattle.std.proofs.Common.{◌≡◌, ◌⊎◌, ℕ, zero, suc, ℤ, true, false, List, [], ◌∷◌, ◌++◌, refl, sym, ap, ◌∙◌, subst, inl, inr, ⊎_elim, true≢false, append_assoc}
+use Rattle.std.proofs.lemmas.Bool.{or_cases}
 use Rattle.c_core.specs.Types.{fit}
 use Rattle.c_core.specs.Tree.{Program}
 use Rattle.c_core.specs.declared.number.Spot.{Spot}
@@ -9,13 +9,13 @@ use Rattle.c_meaning.specs.declared.run.Draw.{Draw}
 use Rattle.c_meaning.specs.declared.run.DrawKind.TheVariants.{Havoc as AHavocDraw}
 use Rattle.c_meaning.specs.Cells.{Key, Cell, same_key, live, read, put}
 use Rattle.c_meaning.specs.Objects.{type_of_object, size_of_object}
-use Rattle.c_meaning.specs.Acts.{Res, Go, Stop, bind}
+use Rattle.c_meaning.specs.Acts.{Res, Go, bind}
 use Rattle.c_meaning.specs.Duties.{Placed}
 use Rattle.c_meaning.specs.Fitting.{FitCells}
 use Rattle.c_meaning.specs.Havoc.{Stopped, Left, redraw_cells, redraw}
 use Rattle.c_meaning.proofs.FittingCells.{read_fits}
 use Rattle.c_frames.specs.Frames.{SameBut}
-use Rattle.c_frames.proofs.CellLaws.{among, Place, Behind, Here, Absent, place, put_behind, put_here, put_absent, put_dead, read_behind, read_here, read_absent, live_among, keys_put, same_live, same_name, name_same}
+use Rattle.c_frames.proofs.CellLaws.{among, Place, Behind, Here, Absent, place, put_behind, put_here, put_absent, put_dead, read_behind, read_here, live_among, keys_put, same_live, same_name, name_same}
 use Rattle.c_frames.proofs.Framing.{names_from, names, in_names}
 
 -- the cells, with the values that d has at these names
@@ -96,7 +96,7 @@ module _ (p : Program) (os : List ℕ) where
       let l : (k : Key) → live k xs ≡ live k ys = λ k. sym (same_live p os k xs ys h.2) in
       let a : Front ks y ys x xs = over_front ks y ys x xs (sym h.0) l in
       let v : a.z.value ≡ y.value =
-            ⊎_elim (λ e. ⊎_elim (λ z. z ∙ sym e) (λ z. z) a.either) (λ m. a.written (subst (λ n. among n ks ≡ true) (sym h.0) (in_names p os x.key.object x.key.index m.0.0 m.0.1)) (sym (l y.key) ∙ ap (λ n. live n xs) h.0 ∙ m.1)) h.1 in
+      ⊎_elim (λ e. ⊎_elim (λ z. z ∙ sym e) (λ z. z) a.either) (λ m. a.written (subst (λ n. among n ks ≡ true) (sym h.0) (in_names p os x.key.object x.key.index m.0.0 m.0.1)) (sym (l y.key) ∙ ap (λ n. live n xs) h.0 ∙ m.1)) h.1 in
       a.splits ∙ ap (λ z. z ∷ over ks ys xs) (cell_same a.z y a.key v) ∙ ap (λ r. y ∷ r) (restore xs ys h.2)
 
 over-append : (ks js : List Key) (d c : List Cell) → over (ks ++ js) d c ≡ over js d (over ks d c)

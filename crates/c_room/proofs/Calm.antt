@@ -1,14 +1,10 @@
 -- Parts of a real run that stay within so many cells and active calls: none of them ends for want of room.
-use Rattle.std.proofs.Common.{◌≡◌, ◌≤◌, ◌<◌, ◌+◌, ◌-◌, ℕ, zero, suc, ℤ, pos, Bool, true, false, cond, ◌||◌, nat_eq, nat_le, List, [], ◌∷◌, ◌++◌, length, take, Option, Some, None, slice_get, refl, sym, ap, ◌∙◌, subst, arith, append_assoc, length-append}
-use Rattle.std.proofs.lemmas.Bool.{or_left, or_right}
+use Rattle.std.proofs.Common.{◌≡◌, ◌≤◌, ◌+◌, ℕ, zero, suc, ℤ, pos, Bool, true, false, cond, nat_le, List, [], ◌∷◌, length, take, Option, Some, None, refl, sym, ap, ◌∙◌, subst, arith, length-append}
 use Rattle.std.proofs.lemmas.Bool.Decides.{nat_tests}
-use Rattle.c_core.specs.Operators.{type_for, right_type_for, op_of_step, apply_of, apply_one_of, is_prefix}
-use Rattle.c_core.specs.Types.{promote_of}
+use Rattle.c_core.specs.Operators.{apply_of, apply_one_of}
 use Rattle.c_core.specs.Tree.{Program}
 use Rattle.c_core.specs.declared.number.IntType.{IntType}
-use Rattle.c_core.specs.declared.number.IntType.TheVariants.{Int}
 use Rattle.c_core.specs.declared.number.Spot.{Spot}
-use Rattle.c_core.specs.declared.number.BinOp.{BinOp}
 use Rattle.c_core.specs.declared.number.Done.{Done}
 use Rattle.c_core.specs.declared.number.Done.TheVariants.{Value, Overflow, Undefined as NoValue}
 use Rattle.c_core.specs.declared.number.Property.{Property}
@@ -16,17 +12,15 @@ use Rattle.c_core.specs.declared.number.Property.TheVariants.{UnreachCall, NoOve
 use Rattle.c_meaning.specs.declared.run.End.{End}
 use Rattle.c_meaning.specs.declared.run.End.TheVariants.{Ended, Undefined, Violated, Spent, Deep}
 use Rattle.c_meaning.specs.declared.run.Event.{Event}
-use Rattle.c_meaning.specs.declared.run.Event.TheVariants.{At, Branch, Enter, Return as Returned, Fail}
+use Rattle.c_meaning.specs.declared.run.Event.TheVariants.{Branch, Enter, Return as Returned, Fail}
 use Rattle.c_meaning.specs.declared.run.DrawKind.{DrawKind}
-use Rattle.c_meaning.specs.declared.run.DrawKind.TheVariants.{Cell as ACellDraw}
 use Rattle.c_meaning.specs.Cells.{Key, Cell, put, cells_from}
-use Rattle.c_meaning.specs.Objects.{object_of, type_of, type_of_object, size_of_object}
-use Rattle.c_meaning.specs.Meaning.{Tick, AStatement, ANode, ACell, AParameter, Use, Used, Unused, Where, Site, Loop, Meaning, Calls, ForLoop}
+use Rattle.c_meaning.specs.Objects.{size_of_object}
+use Rattle.c_meaning.specs.Meaning.{Tick, Where, Site, Loop, Meaning}
 use Rattle.c_meaning.specs.Acts.{Res, Go, Stop, Flow, Next, Broken, Again, Gave, bind, go_on, turned, continuing, given}
 use Rattle.c_meaning.specs.Acts as acts
 use Rattle.c_meaning.specs.Run as run
 use Rattle.c_meaning.specs.Run.{State, Moment, Here, Head, cells_of, with_cells, most_cells, index_below, real}
-use Rattle.c_meaning.specs.Fitting.{keys}
 use Rattle.c_meaning.proofs.Stateful.{keys_put}
 use Rattle.c_room.proofs.Rooms.{Parts}
 use Rattle.c_frames.proofs.CellLaws.{keys_length}
@@ -257,7 +251,6 @@ module _ (p : Program) (S : Type 0) (see : Moment → S → S) (a C : ℕ) (room
       by : (n : ℕ) → n + d ≤ C → (r : Res End (State S) (Unit {0})) → Calm n r → Lands (n + c) (bind r (λ _. m))
       by n l (Go u t) o = g.at n t l o.0 o.1
       by n l (Stop e t) o = o
-
 
   pub moves_wider : (c d e : ℕ) (m : Act Flow) → d ≤ e → Moves c d m → Moves c e m
   moves_wider c d e m w g = record { at = λ n s l q r. g.at n s (omega (arith, l, w)) q r }

@@ -1,6 +1,6 @@
 -- Along a path of calls without recursion all objects together have room.
-use Rattle.std.proofs.Common.{◌≡◌, ◌⊎◌, ◌≤◌, ◌<◌, ◌+◌, ℕ, zero, suc, ℤ, Bool, true, false, cond, ◌||◌, nat_eq, nat_le, IsTrue, List, [], ◌∷◌, ◌++◌, length, Option, Some, None, slice_get, refl, sym, ap, ◌∙◌, subst, inl, inr, ⊎_elim, arith, true≢false, length-append}
-use Rattle.std.specs.List.{sum_by, flat_map}
+use Rattle.std.proofs.Common.{◌≡◌, ◌≤◌, ◌<◌, ◌+◌, ℕ, zero, suc, ℤ, Bool, true, false, cond, ◌||◌, nat_eq, nat_le, List, [], ◌∷◌, ◌++◌, length, Option, Some, None, slice_get, refl, sym, ap, ◌∙◌, subst, inl, inr, ⊎_elim, arith, true≢false, length-append}
+use Rattle.std.specs.List.{sum_by}
 use Rattle.std.proofs.lemmas.Bool.{or_cases, cases_Bool}
 use Rattle.std.proofs.lemmas.Bool.Decides.{nat_tests}
 use Rattle.std.proofs.lemmas.List.Sums.{sum_by-cons}
@@ -11,7 +11,7 @@ use Rattle.c_core.specs.Scope.{times_in, is_fixed_object, owned_by}
 use Rattle.c_core.specs.Tree.{Function, Program}
 use Rattle.c_core.specs.declared.tree.Object.{Object}
 use Rattle.c_core.specs.declared.tree.Start.{Start}
-use Rattle.c_meaning.specs.Cells.{Cell, cells_from}
+use Rattle.c_meaning.specs.Cells.{cells_from}
 use Rattle.c_meaning.specs.Objects.{size_in, size_of_object}
 use Rattle.c_meaning.specs.Parts.{is_in, declared_in, fulls_of_function}
 use Rattle.c_meaning.specs.Run.{start_values, static_cells, first_cells}
@@ -20,8 +20,8 @@ use Rattle.c_calls.proofs.DepthLaws.{Distinct, IsPath}
 use Rattle.c_frames.proofs.Bodies.{declared_same, owned_most}
 use Rattle.c_frames.proofs.CellLaws.{same_number}
 use Rattle.c_frames.proofs.Refitting.{times-append, most}
-use Rattle.c_room.proofs.Rooms.{sizes, sizes-append}
-use Rattle.c_room.proofs.Sums.{copies, sum_of, sum_below, sum_few, sum_bound, sum_list, sum_slice}
+use Rattle.c_room.proofs.Rooms.{sizes}
+use Rattle.c_room.proofs.Sums.{copies, sum_of, sum_few, sum_bound, sum_list, sum_slice}
 
 -- a function's parameters and the objects that its body declares
 abbrev pub owned_if : Option Function → List ℕ

@@ -1,10 +1,8 @@
 -- Where each part of a meaning stays within its room, the meaning of every tree does: as the lemma on two meanings, but that it knows how many cells are declared where room is asked for.
-use Rattle.std.proofs.Common.{◌≡◌, ◌≤◌, ◌<◌, ◌+◌, ◌-◌, ℕ, zero, suc, ℤ, pos, Bool, true, false, cond, ◌||◌, nat_eq, nat_le, List, [], ◌∷◌, ◌++◌, length, take, Option, Some, None, slice_get, refl, sym, ap, ◌∙◌, subst, arith, append_assoc, length-append, length-take-le}
+use Rattle.std.proofs.Common.{◌≡◌, ◌≤◌, ◌+◌, ℕ, zero, suc, Bool, true, false, ◌||◌, List, [], ◌∷◌, ◌++◌, Option, Some, None, sym, ap, ◌∙◌, subst, arith, append_assoc}
 use Rattle.std.proofs.lemmas.Bool.{or_left, or_right}
-use Rattle.std.proofs.lemmas.Bool.Decides.{nat_tests}
-use Rattle.c_core.specs.Operators.{type_for, right_type_for, op_of_step, apply_of, apply_one_of, is_prefix}
-use Rattle.c_core.specs.Types.{promote_of}
-use Rattle.c_core.specs.Tree.{Exp, Expr, Node, Const, Var, Index, Unary, Cast, Step, Binary, Logic, Choose, Comma, Assign, Call, Exps, NoExp, MoreExp, Init, Absent, One, Many, Names, NoName, MoreName, First, NoFirst, FirstExp, FirstNames, Stm, Stmt, Form, Empty, Do, Declare, Block, If, While, DoWhile, For, Break, Continue, Return, Label, Else, NoElse, OrElse, Stms, NoStm, MoreStm, Function, Program}
+use Rattle.c_core.specs.Operators.{op_of_step}
+use Rattle.c_core.specs.Tree.{Exp, Expr, Node, Const, Var, Index, Unary, Cast, Step, Binary, Logic, Choose, Comma, Assign, Call, Exps, NoExp, MoreExp, Init, Absent, One, Many, Names, NoName, MoreName, First, NoFirst, FirstExp, FirstNames, Stm, Stmt, Form, Empty, Do, Declare, Block, If, While, DoWhile, For, Break, Continue, Return, Label, Else, NoElse, OrElse, Stms, NoStm, MoreStm, Program}
 use Rattle.c_core.specs.declared.number.IntType.{IntType}
 use Rattle.c_core.specs.declared.number.IntType.TheVariants.{Int}
 use Rattle.c_core.specs.declared.number.Spot.{Spot}
@@ -14,14 +12,13 @@ use Rattle.c_core.specs.declared.tree.Callee.{Callee}
 use Rattle.c_core.specs.declared.tree.Callee.TheVariants.{Defined, Input as InputOf, ReachError, Abort, Exit}
 use Rattle.c_meaning.specs.declared.run.DrawKind.{DrawKind}
 use Rattle.c_meaning.specs.declared.run.DrawKind.TheVariants.{Input, Cell as ACellDraw}
-use Rattle.c_meaning.specs.Objects.{object_of, type_of, type_of_object, size_of_object}
+use Rattle.c_meaning.specs.Objects.{type_of, type_of_object, size_of_object}
 use Rattle.c_meaning.specs.Parts.{some_of, some_node, some_part, some_argument, exp_if, fulls_of, fulls_of_form, fulls_of_else, fulls_of_block, fulls_of_init, fulls_of_names, fulls_of_first, objects_of_names, objects_of_first, declared_in, declared_in_form, declared_in_else, declared_in_block, calls}
-use Rattle.c_meaning.specs.Meaning.{Tick, AStatement, ANode, ACell, AParameter, Use, Used, Unused, Where, Site, Loop, Meaning, Calls, ForLoop}
+use Rattle.c_meaning.specs.Meaning.{Tick, AStatement, ANode, ACell, Use, Used, Unused, Where, Site, Loop, Meaning, Calls, ForLoop}
 use Rattle.c_meaning.specs.Eval.{convert_to, operate, store, assign, tested, called, eval, node, target, place, evals}
-use Rattle.c_meaning.specs.Exec.{ticks, full, full_if, control, going, while_turn, do_turn, for_turn, draw_cells, initials, initial, declare, first, exec, form, otherwise, execs, body, with_params}
+use Rattle.c_meaning.specs.Exec.{ticks, full, full_if, control, going, for_turn, draw_cells, initials, initial, declare, first, exec, form, otherwise, execs, body, with_params}
 use Rattle.c_frames.proofs.CellLaws.{same_itself}
 use Rattle.c_frames.proofs.Refitting.{some-append, some_exps}
-
 
 -- a statement declares so many cells for what is behind it, and so many in all
 pub record Parts (p : Program) (M : Meaning) : Type 1 where
@@ -313,7 +310,7 @@ module _ (p : Program) where
             let v = back (fulls_of_first i) (exp_if e ++ exp_if s ++ fulls_of b) x in
             let u = front (exp_if e ++ exp_if s) (fulls_of b) v in
             let turn : parts.Moves 0 d (for_turn p M call at' e s (exec p M call result b)) =
-                  calm_going d at' e _ (front (exp_if e) (exp_if s) u) (parts.wider 0 (d + 0) d _ (omega arith) (parts.seq 0 d 0 0 _ _ (omega arith) (parts.continued (own_size b) d _ (calm_s b (back (exp_if e ++ exp_if s) (fulls_of b) v))) (calm_full_if 0 at' s _ (back (exp_if e) (exp_if s) u) (parts.next 0)))) in
+            calm_going d at' e _ (front (exp_if e) (exp_if s) u) (parts.wider 0 (d + 0) d _ (omega arith) (parts.seq 0 d 0 0 _ _ (omega arith) (parts.continued (own_size b) d _ (calm_s b (back (exp_if e ++ exp_if s) (fulls_of b) v))) (calm_full_if 0 at' s _ (back (exp_if e) (exp_if s) u) (parts.next 0)))) in
             let g = calm_first d at' i _ (front (fulls_of_first i) (exp_if e ++ exp_if s ++ fulls_of b) x) (parts.loop d at' (ForLoop e s b) _ turn) in
             moves_sized 0 (sizes (objects_of_first i) + d) _ _ (sym (sizes-append (objects_of_first i) (declared_in b))) (parts.scoped g.0 (sizes (objects_of_first i) + d) _ g.1)
         calm_f at' Break h = parts.leave 0 0

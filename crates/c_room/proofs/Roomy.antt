@@ -1,31 +1,29 @@
 -- No run ends for want of room.
-use Rattle.std.proofs.Common.{◌≡◌, ◌≤◌, ◌<◌, ◌+◌, ◌-◌, ℕ, zero, suc, ℤ, Bool, true, List, [], ◌∷◌, ◌++◌, length, take, Option, Some, None, slice_get, refl, sym, ap, ◌∙◌, subst, arith}
+use Rattle.std.proofs.Common.{◌≡◌, ◌≤◌, ◌+◌, ◌-◌, ℕ, zero, suc, ℤ, true, List, [], ◌∷◌, ◌++◌, length, Option, Some, None, slice_get, refl, ap, ◌∙◌, subst, arith}
 use Rattle.std.proofs.lemmas.Option.{slice_get_within}
-use Rattle.c_core.specs.Program.{IsProgram, most_declared_cells}
+use Rattle.c_core.specs.Program.{IsProgram}
 use Rattle.c_core.specs.Tree.{Function, Program}
 use Rattle.c_core.specs.declared.number.IntType.{IntType}
-use Rattle.c_meaning.specs.declared.run.Choices.{Choices}
 use Rattle.c_meaning.specs.declared.run.End.{End}
-use Rattle.c_meaning.specs.declared.run.End.TheVariants.{Ended, Deep, Spent}
+use Rattle.c_meaning.specs.declared.run.End.TheVariants.{Ended}
 use Rattle.c_meaning.specs.Acts.{Res, Go, Stop, Flow, Next, Broken, Again, Gave, bind, given}
 use Rattle.c_meaning.specs.Acts as acts
-use Rattle.c_meaning.specs.Cells.{Cell}
-use Rattle.c_meaning.specs.Exec.{ticks, with_params, call_of, run_in, run_if, run_main}
+use Rattle.c_meaning.specs.Exec.{ticks, with_params, call_of, run_in, run_if}
 use Rattle.c_meaning.specs.Fitting.{calls_in}
 use Rattle.c_meaning.specs.Meaning.{AParameter, Site, Meaning}
-use Rattle.c_meaning.specs.Objects.{size_of_object, type_of_object}
-use Rattle.c_meaning.specs.Parts.{some_of, some_node, declared_in, calls, fulls_of, fulls_of_function, fulls_if}
+use Rattle.c_meaning.specs.Objects.{size_of_object}
+use Rattle.c_meaning.specs.Parts.{some_of, some_node, declared_in, calls, fulls_of, fulls_if}
 use Rattle.c_meaning.specs.Related.{FitsParams}
 use Rattle.c_meaning.specs.Run as run
 use Rattle.c_meaning.specs.Run.{State, Moment, cells_of, with_cells, most_cells, real, first_cells, first_state, end_of, Whole, Run}
 use Rattle.c_meaning.proofs.Checked.{function_params}
-use Rattle.c_calls.specs.Calling.{IsCalledIn, IsFirstRecursion}
+use Rattle.c_calls.specs.Calling.{IsFirstRecursion}
 use Rattle.c_calls.proofs.DepthLaws.{IsPath, few, main_path}
 use Rattle.c_frames.proofs.Bodies.{asks}
 use Rattle.c_frames.proofs.Refitting.{named}
 use Rattle.c_room.specs.Room.{most_functions, HasRoom}
 use Rattle.c_room.proofs.Rooms.{sizes, sizes-append, own_size, params_and, keeps_ticks, calm_body, calm_params}
-use Rattle.c_room.proofs.Calm.{IsRoomy, Calm, Lands, Keeps, Moves, keeps_ret, keeps_stop, keeps_then, keeps_room, keeps_returned, cut_calm, room_parts}
+use Rattle.c_room.proofs.Calm.{IsRoomy, Calm, Lands, Keeps, Moves, keeps_stop, keeps_then, keeps_room, keeps_returned, cut_calm, room_parts}
 use Rattle.c_room.proofs.Paths.{limit, owned, all_owned, path_fits, path_on}
 
 module _ (p : Program) (S : Type 0) (see : Moment → S → S) where
@@ -52,9 +50,11 @@ module _ (p : Program) (S : Type 0) (see : Moment → S → S) where
     called_calm site n (Stop e t) l o = o
 
     body_calm : (vs : List (ℤ × IntType)) → Moves p S see (suc a) C' room' (params_and fn.params c) (params_and fn.params d) (whole vs) → C + params_and fn.params d ≤ C' → (site : Site) → Keeps p S see a C room (run.called p S see site (whole vs))
-    body_calm vs g w site = record { at = λ n s l q r.
-      let s1 : State S = record s { active = suc s.active } in
-      called_calm site n (acts.scoped End (State S) cells_of with_cells (whole vs) s1) l (cut_calm p S see (suc a) C' room' n s1 q (whole vs s1) (length s.cells + params_and fn.params c) (g.at (length s.cells) s1 (omega (arith, w, l, q)) (omega arith) (omega (arith, r)))) }
+    body_calm vs g w site = record {
+      at = λ n s l q r.
+          let s1 : State S = record s { active = suc s.active } in
+          called_calm site n (acts.scoped End (State S) cells_of with_cells (whole vs) s1) l (cut_calm p S see (suc a) C' room' n s1 q (whole vs s1) (length s.cells + params_and fn.params c) (g.at (length s.cells) s1 (omega (arith, w, l, q)) (omega arith) (omega (arith, r))));
+    }
 
     pub call_keeps : Moves p S see (suc a) C' room' c d (bodies fn) → C + params_and fn.params d ≤ C' → (site : Site) (vs : List (ℤ × IntType)) → Keeps p S see a C room (call_of p M bodies site (Some fn) vs)
     call_keeps g w site vs =

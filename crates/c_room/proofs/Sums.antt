@@ -1,9 +1,8 @@
 -- Sums over members of a list, and over all numbers below a bound.
-use Rattle.std.proofs.Common.{◌≡◌, ◌≤◌, ◌<◌, ◌+◌, ℕ, zero, suc, Bool, true, false, cond, nat_eq, nat_lt, List, [], ◌∷◌, ◌++◌, length, Option, Some, None, slice_get, refl, sym, ap, ◌∙◌, subst, arith}
-use Rattle.std.specs.List.{sum_by}
+use Rattle.std.proofs.Common.{◌≡◌, ◌≤◌, ◌<◌, ◌+◌, ℕ, zero, suc, Bool, true, false, cond, nat_eq, nat_lt, List, [], ◌∷◌, length, Option, Some, slice_get, refl, sym, ap, ◌∙◌, arith}
 use Rattle.std.proofs.lemmas.Bool.Decides.{nat_tests}
 use Rattle.c_core.specs.Scope.{times_in}
-use Rattle.c_frames.proofs.CellLaws.{same_number, same_itself}
+use Rattle.c_frames.proofs.CellLaws.{same_number}
 
 -- so often a number
 abbrev pub copies : ℕ → ℕ → ℕ
