@@ -5,16 +5,20 @@ use Rattle.c_core.specs.Tree.{Exp, Expr, Node, Const, Var, Index, Unary, Cast, S
 use Rattle.c_core.specs.declared.number.IntType.{IntType}
 use Rattle.c_core.specs.declared.number.Spot.{Spot}
 
+-- it has no items
 abbrev pub is_empty : {A : Type 0} → List A → Bool
 is_empty [] = true
 is_empty (x ∷ xs) = false
 
+-- the same line and column
 abbrev pub same_spot : Spot → Spot → Bool
 same_spot a b = nat_eq a.line b.line && nat_eq a.column b.column
 
+-- where an expression begins
 abbrev pub spot_of : Exp → Spot
 spot_of (Expr spot ty n) = spot
 
+-- where a statement begins
 abbrev pub spot_of_statement : Stm → Spot
 spot_of_statement (Stmt at f) = at
 
@@ -22,10 +26,12 @@ spot_of_statement (Stmt at f) = at
 abbrev pub type_of : Exp → Option IntType
 type_of (Expr spot ty n) = ty
 
+-- expressions as a list
 abbrev pub exps_in : Exps → List Exp
 exps_in NoExp = []
 exps_in (MoreExp e es) = e ∷ exps_in es
 
+-- a list of one, or of none
 abbrev pub exp_if : Option Exp → List Exp
 exp_if None = []
 exp_if (Some e) = e ∷ []
@@ -130,15 +136,18 @@ abbrev mutual
   statements_of_block NoStm = []
   statements_of_block (MoreStm s b) = statements_of s ++ statements_of_block b
 
+-- the full expressions of an initializer: each value of a list is one (C11 6.8p4)
 abbrev pub fulls_of_init : Init → List Exp
 fulls_of_init Absent = []
 fulls_of_init (One e) = e ∷ []
 fulls_of_init (Many es) = exps_in es
 
+-- the full expressions in the initializers of declared names
 abbrev pub fulls_of_names : Names → List Exp
 fulls_of_names NoName = []
 fulls_of_names (MoreName spot o i ns) = fulls_of_init i ++ fulls_of_names ns
 
+-- the full expressions in the first part of `for (`
 abbrev pub fulls_of_first : First → List Exp
 fulls_of_first NoFirst = []
 fulls_of_first (FirstExp e) = e ∷ []
@@ -159,6 +168,7 @@ own_fulls Continue = []
 own_fulls (Return e) = exp_if e
 own_fulls (Label b) = []
 
+-- the full expressions of a statement that aren't those of a statement inside it
 abbrev pub own_fulls_of : Stm → List Exp
 own_fulls_of (Stmt at f) = own_fulls f
 
@@ -166,6 +176,7 @@ own_fulls_of (Stmt at f) = own_fulls f
 abbrev pub statements_of_program : Program → List Stm
 statements_of_program p = flat_map (λ f. statements_of f.body) p.functions
 
+-- all full expressions of a program, statement by statement
 abbrev pub fulls_of_program : Program → List Exp
 fulls_of_program p = flat_map own_fulls_of (statements_of_program p)
 
@@ -173,10 +184,12 @@ fulls_of_program p = flat_map own_fulls_of (statements_of_program p)
 abbrev pub exps_of_program : Program → List Exp
 exps_of_program p = flat_map exps_of (fulls_of_program p)
 
+-- the declared objects, in their order
 abbrev pub objects_of_names : Names → List ℕ
 objects_of_names NoName = []
 objects_of_names (MoreName spot o i ns) = o ∷ objects_of_names ns
 
+-- the objects declared in the first part of `for (`
 abbrev pub objects_of_first : First → List ℕ
 objects_of_first NoFirst = []
 objects_of_first (FirstExp e) = []
@@ -187,6 +200,7 @@ abbrev pub declared_by_form : Form → List ℕ
 declared_by_form (Declare ns) = objects_of_names ns
 declared_by_form _ = []
 
+-- the objects that a statement declares for what is behind it
 abbrev pub declared_by : Stm → List ℕ
 declared_by (Stmt at f) = declared_by_form f
 
@@ -195,10 +209,12 @@ pub record DeclaredName : Type 0 where
   pub spot : Spot
   pub object : ℕ
 
+-- declared names with their places, in their order
 abbrev pub names_of : Names → List DeclaredName
 names_of NoName = []
 names_of (MoreName spot o i ns) = record { spot = spot; object = o } ∷ names_of ns
 
+-- the names declared in the first part of `for (`
 abbrev pub names_of_first : First → List DeclaredName
 names_of_first NoFirst = []
 names_of_first (FirstExp e) = []
@@ -231,6 +247,7 @@ abbrev mutual
   names_in_block NoStm = []
   names_in_block (MoreStm s b) = names_in s ++ names_in_block b
 
+-- all declared names of bodies, function by function
 abbrev pub names_of_program : Program → List DeclaredName
 names_of_program p = flat_map (λ f. names_in f.body) p.functions
 
@@ -238,6 +255,7 @@ abbrev pub spots_of_names : List DeclaredName → List Spot
 spots_of_names [] = []
 spots_of_names (name ∷ names) = name.spot ∷ spots_of_names names
 
+-- the objects of declared names
 abbrev pub objects_of : List DeclaredName → List ℕ
 objects_of [] = []
 objects_of (name ∷ names) = name.object ∷ objects_of names

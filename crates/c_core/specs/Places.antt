@@ -13,15 +13,18 @@ use Rattle.c_core.specs.declared.place.Place.{Place}
 use Rattle.c_core.specs.declared.tree.Callee.{Callee}
 use Rattle.c_core.specs.declared.tree.Callee.TheVariants.{Input, ReachError}
 
+-- kinds of places, numbered as they are listed
 abbrev pub number_of_kind : PlaceKind → ℕ
 number_of_kind Statement = 0
 number_of_kind Loop = 1
 number_of_kind Branch = 2
 number_of_kind CallEnd = 3
 
+-- the same kind
 abbrev pub same_kind : PlaceKind → PlaceKind → Bool
 same_kind a b = nat_eq (number_of_kind a) (number_of_kind b)
 
+-- a place of a kind
 abbrev pub place : PlaceKind → Spot → Place
 place kind spot = record { kind = kind; spot = spot }
 
@@ -48,15 +51,18 @@ abbrev mutual
   places_in_arguments NoExp = []
   places_in_arguments (MoreExp e es) = places_in e ++ places_in_arguments es
 
+-- the places in it, where there is one
 abbrev pub places_if : Option Exp → List Place
 places_if None = []
 places_if (Some e) = places_in e
 
+-- the places in an initializer
 abbrev pub places_in_init : Init → List Place
 places_in_init Absent = []
 places_in_init (One e) = places_in e
 places_in_init (Many es) = places_in_arguments es
 
+-- the places in the initializers of declared names
 abbrev pub places_in_names : Names → List Place
 places_in_names NoName = []
 places_in_names (MoreName spot o i ns) = places_in_init i ++ places_in_names ns
@@ -99,13 +105,16 @@ abbrev mutual
 abbrev pub places_of_body : Stm → List Place
 places_of_body (Stmt at f) = places_of_form at f
 
+-- all places of a program, function by function
 abbrev pub places_of : Program → List Place
 places_of p = flat_map (λ f. places_of_body f.body) p.functions
 
+-- the places among these of one kind
 abbrev pub of_kind : PlaceKind → List Place → List Spot
 of_kind kind [] = []
 of_kind kind (p ∷ places) = cond (same_kind kind p.kind) (p.spot ∷ of_kind kind places) (of_kind kind places)
 
+-- where a program has places of a kind
 abbrev pub spots_of_kind : PlaceKind → Program → List Spot
 spots_of_kind kind p = of_kind kind (places_of p)
 
@@ -114,6 +123,7 @@ abbrev pub is_named : ℕ → Option ℕ → Spot → Bool
 is_named line None spot = nat_eq spot.line line
 is_named line (Some column) spot = nat_eq spot.line line && nat_eq spot.column column
 
+-- the one of the smaller column; the first of two that are equal
 abbrev pub lefter : Spot → Option Spot → Spot
 lefter a None = a
 lefter a (Some b) = cond (nat_lt b.column a.column) b a
@@ -127,17 +137,21 @@ leftmost (spot ∷ spots) = Some (lefter spot (leftmost spots))
 abbrev pub place_at : Program → PlaceKind → ℕ → Option ℕ → Option Spot
 place_at p kind line column = leftmost (filter (is_named line column) (spots_of_kind kind p))
 
+-- `reach_error`
 abbrev pub is_reach_error : Callee → Bool
 is_reach_error ReachError = true
 is_reach_error _ = false
 
+-- a call of `reach_error`
 abbrev pub node_reaches_error : Node → Bool
 node_reaches_error (Call callee es close) = is_reach_error callee
 node_reaches_error _ = false
 
+-- a call of `reach_error`
 abbrev pub calls_reach_error : Exp → Bool
 calls_reach_error (Expr spot ty n) = node_reaches_error n
 
+-- where calls of `reach_error` begin, if the property is about them
 abbrev pub starts_of_reach_error : Property → List Exp → List Spot
 starts_of_reach_error UnreachCall es = map spot_of (filter calls_reach_error es)
 starts_of_reach_error NoOverflow es = []
@@ -150,13 +164,16 @@ aims_of p = spots_of_kind Statement p ++ map spot_of (fulls_of_program p) ++ sta
 abbrev pub aims_at : Program → ℕ → Option ℕ → List Spot
 aims_at p line column = filter (is_named line column) (aims_of p)
 
+-- a target may stand there: exactly at the column, or anywhere on the line without one
 abbrev pub aim_fits : Program → ℕ → Option ℕ → Bool
 aim_fits p line column = list_any (is_named line column) (aims_of p)
 
+-- a call whose arguments end at this parenthesis
 abbrev pub node_ends_at : Spot → Node → Bool
 node_ends_at close (Call callee es end) = same_spot end close
 node_ends_at close _ = false
 
+-- a call whose arguments end at this parenthesis
 abbrev pub ends_at : Spot → Exp → Bool
 ends_at close (Expr spot ty n) = node_ends_at close n
 
@@ -169,17 +186,21 @@ pub record InputCall : Type 0 where
   pub spot : Spot
   pub ty : IntType
 
+-- an input call at this place, if the callee is an input function
 abbrev pub input_by : Spot → Callee → Option InputCall
 input_by spot (Input ty) = Some (record { spot = spot; ty = ty })
 input_by spot _ = None
 
+-- an input call at this place, if the node is one
 abbrev pub input_of_node : Spot → Node → Option InputCall
 input_of_node spot (Call callee es close) = input_by spot callee
 input_of_node spot _ = None
 
+-- the input call that an expression is, if it is one
 abbrev pub input_of : Exp → Option InputCall
 input_of (Expr spot ty n) = input_of_node spot n
 
+-- the same, where there is an expression
 abbrev pub input_if : Option Exp → Option InputCall
 input_if None = None
 input_if (Some e) = input_of e
@@ -188,6 +209,7 @@ input_if (Some e) = input_of e
 abbrev pub input_at : Program → Spot → Option InputCall
 input_at p close = input_if (call_at p close)
 
+-- a block's rest begins with the statement at this place
 abbrev pub begins_at : Spot → Stms → Bool
 begins_at spot NoStm = false
 begins_at spot (MoreStm s b) = same_spot (spot_of_statement s) spot
@@ -197,13 +219,16 @@ abbrev pub before_in : Spot → Stms → Option Stm
 before_in spot NoStm = None
 before_in spot (MoreStm s b) = cond (begins_at spot b) (Some s) (before_in spot b)
 
+-- the statement before the one at this place, in the form's own block
 abbrev pub before_in_form : Spot → Form → Option Stm
 before_in_form spot (Block b) = before_in spot b
 before_in_form spot _ = None
 
+-- the statement before the one at this place, in the statement's own block
 abbrev pub before_in_statement : Spot → Stm → Option Stm
 before_in_statement spot (Stmt at f) = before_in_form spot f
 
+-- the first that there is
 abbrev pub first_some : {A : Type 0} → List (Option A) → Option A
 first_some [] = None
 first_some (None ∷ os) = first_some os

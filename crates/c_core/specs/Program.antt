@@ -16,6 +16,7 @@ use Rattle.c_core.specs.declared.tree.Start.{Start}
 abbrev pub object_fits : Object → Bool
 object_fits o = cond o.array (nat_le 1 o.cells) (nat_eq o.cells 1)
 
+-- each object has the cells that its kind wants
 abbrev pub objects_fit : Program → Bool
 objects_fit p = list_all object_fits p.objects
 
@@ -23,6 +24,7 @@ objects_fit p = list_all object_fits p.objects
 abbrev pub most_declared_cells : ℕ
 most_declared_cells = 100000
 
+-- at most so many cells are declared (a limit of the profile)
 abbrev pub cells_fit : Program → Bool
 cells_fit p = nat_le (sum_by (λ o. o.cells) p.objects) most_declared_cells
 
@@ -30,6 +32,7 @@ cells_fit p = nat_le (sum_by (λ o. o.cells) p.objects) most_declared_cells
 abbrev pub objects_rise : Program → Bool
 objects_rise p = rises (spots_of_objects p.objects)
 
+-- the object there is declared at this place
 abbrev pub stands_at : Spot → Option Object → Bool
 stands_at spot None = false
 stands_at spot (Some o) = same_spot o.spot spot
@@ -43,16 +46,20 @@ abbrev pub start_fits : DataModel → Start → Option Object → Bool
 start_fits m s None = false
 start_fits m s (Some o) = o.fixed && (nat_le (length s.values) o.cells && list_all (in_range m o.ty) s.values)
 
+-- each value of a static initializer is one of its object's cells and type (C11 6.7.9)
 abbrev pub starts_fit : Program → Bool
 starts_fit p = list_all (λ s. start_fits p.model s (slice_get p.objects s.object)) p.starts
 
+-- the objects that have a value at the start
 abbrev pub started_objects : List Start → List ℕ
 started_objects ss = map (λ s. s.object) ss
 
+-- no number comes twice
 abbrev pub are_distinct : List ℕ → Bool
 are_distinct [] = true
 are_distinct (o ∷ os) = not (is_in o os) && are_distinct os
 
+-- no object of static storage has two initial values
 abbrev pub starts_differ : Program → Bool
 starts_differ p = are_distinct (started_objects p.starts)
 
@@ -61,13 +68,16 @@ abbrev pub is_main : Option Function → Bool
 is_main None = false
 is_main (Some f) = is_empty f.params
 
+-- `main` is among the functions, and takes nothing
 abbrev pub has_main : Program → Bool
 has_main p = is_main (slice_get p.functions p.main)
 
+-- a parameter is a scalar
 abbrev pub is_param : Option Object → Bool
 is_param None = false
 is_param (Some o) = not o.array
 
+-- the parameters of each function are scalars (C11 6.9.1)
 abbrev pub params_fit : Program → Bool
 params_fit p = list_all (λ f. list_all (λ o. is_param (slice_get p.objects o)) f.params) p.functions
 
@@ -79,15 +89,19 @@ types_fit p = list_all (function_fits p) p.functions
 abbrev pub names_known : Program → Bool
 names_known p = list_all (is_object p) (owned_by p.functions)
 
+-- each object belongs to one place: static storage, a parameter list or a declaration
 abbrev pub owned_once : Program → Bool
 owned_once p = list_all (is_owned_once p) (range_with_len 0 (length p.objects))
 
+-- each function names only objects that are in scope where it names them (C11 6.2.1)
 abbrev pub names_in_reach : Program → Bool
 names_in_reach p = list_all (function_reaches p) p.functions
 
+-- declarations stand in blocks alone, and bodies are blocks
 abbrev pub blocks_fit : Program → Bool
 blocks_fit p = list_all function_nests p.functions
 
+-- `break` and `continue` stand in loops alone (C11 6.8.6)
 abbrev pub jumps_fit : Program → Bool
 jumps_fit p = list_all function_jumps p.functions
 
@@ -95,6 +109,7 @@ jumps_fit p = list_all function_jumps p.functions
 abbrev pub places_rise : Program → Bool
 places_rise p = rises (spots_of_functions p.functions)
 
+-- what the checker promises of a program, and what each law on runs asks
 pub record IsProgram (p : Program) : Type 0 where
   pub objects : IsTrue (objects_fit p)
   pub cells : IsTrue (cells_fit p)

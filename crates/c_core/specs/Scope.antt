@@ -5,6 +5,7 @@ use Rattle.c_core.specs.Tree.{Exp, Expr, Node, Var, Index, Names, NoName, MoreNa
 use Rattle.c_core.specs.Parts.{exp_if, every_exp, every_statement, fulls_of_init, objects_of_first, declared_by, names_in, objects_of}
 use Rattle.c_core.specs.declared.tree.Object.{Object}
 
+-- it is one of these objects
 abbrev pub is_in : ℕ → List ℕ → Bool
 is_in o os = list_any (nat_eq o) os
 
@@ -13,10 +14,12 @@ abbrev pub times_in : ℕ → List ℕ → ℕ
 times_in o [] = 0
 times_in o (x ∷ xs) = cond (nat_eq o x) (suc (times_in o xs)) (times_in o xs)
 
+-- it is an object of static storage
 abbrev pub is_fixed_object : Option Object → Bool
 is_fixed_object None = false
 is_fixed_object (Some o) = o.fixed
 
+-- the object of that number has static storage (C11 6.2.4)
 abbrev pub is_fixed : Program → ℕ → Bool
 is_fixed p o = is_fixed_object (slice_get p.objects o)
 
@@ -26,14 +29,17 @@ owned_by fs = flat_map (λ f. f.params ++ objects_of (names_in f.body)) fs
 
 -- where objects in reach are listed, innermost last, and those of static storage always are
 module _ (p : Program) where
+  -- it may be named: static, or declared around
   abbrev pub is_reached : List ℕ → ℕ → Bool
   is_reached reach o = is_fixed p o || is_in o reach
 
+  -- an object that the node itself names may be named
   abbrev pub node_reaches : List ℕ → Node → Bool
   node_reaches reach (Var o) = is_reached reach o
   node_reaches reach (Index o i) = is_reached reach o
   node_reaches reach _ = true
 
+  -- the same of the expression's own node
   abbrev pub exp_reaches : List ℕ → Exp → Bool
   exp_reaches reach (Expr spot ty n) = node_reaches reach n
 
@@ -46,6 +52,7 @@ module _ (p : Program) where
   declarators_reach reach NoName = true
   declarators_reach reach (MoreName spot o i ns) = list_all (reaches reach) (fulls_of_init i) && declarators_reach (reach ++ o ∷ []) ns
 
+  -- the names in the first part of `for (` may be named
   abbrev pub first_reaches : List ℕ → First → Bool
   first_reaches reach NoFirst = true
   first_reaches reach (FirstExp e) = reaches reach e
@@ -79,6 +86,7 @@ module _ (p : Program) where
     block_reaches reach NoStm = true
     block_reaches reach (MoreStm s b) = statement_reaches reach s && block_reaches (reach ++ declared_by s) b
 
+  -- in the body, with the parameters in scope
   abbrev pub function_reaches : Function → Bool
   function_reaches f = statement_reaches f.params f.body
 
@@ -86,16 +94,20 @@ module _ (p : Program) where
   abbrev pub is_owned_once : ℕ → Bool
   is_owned_once o = nat_eq (times_in o (owned_by p.functions)) (cond (is_fixed p o) 0 1)
 
+  -- an object has this number
   abbrev pub is_object : ℕ → Bool
   is_object o = is_some (slice_get p.objects o)
 
+-- a declaration
 abbrev pub is_declare_form : Form → Bool
 is_declare_form (Declare ns) = true
 is_declare_form _ = false
 
+-- a declaration
 abbrev pub is_declaration : Stm → Bool
 is_declaration (Stmt at f) = is_declare_form f
 
+-- the second arm is a declaration alone
 abbrev pub else_is_declaration : Else → Bool
 else_is_declaration NoElse = false
 else_is_declaration (OrElse b) = is_declaration b
@@ -109,13 +121,16 @@ form_nests (For i e s b) = not (is_declaration b)
 form_nests (Label b) = not (is_declaration b)
 form_nests _ = true
 
+-- no part of the statement that must be no declaration is one
 abbrev pub statement_nests : Stm → Bool
 statement_nests (Stmt at f) = form_nests f
 
+-- a block
 abbrev pub is_block_form : Form → Bool
 is_block_form (Block b) = true
 is_block_form _ = false
 
+-- a block
 abbrev pub is_block : Stm → Bool
 is_block (Stmt at f) = is_block_form f
 
@@ -150,5 +165,6 @@ abbrev mutual
   block_jumps looped NoStm = true
   block_jumps looped (MoreStm s b) = statement_jumps looped s && block_jumps looped b
 
+-- each `break` and `continue` of the body is in a loop
 abbrev pub function_jumps : Function → Bool
 function_jumps f = statement_jumps false f.body

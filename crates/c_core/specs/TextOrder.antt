@@ -6,9 +6,11 @@ use Rattle.c_core.specs.Parts.{same_spot}
 use Rattle.c_core.specs.declared.number.Spot.{Spot}
 use Rattle.c_core.specs.declared.tree.Object.{Object}
 
+-- earlier in the text: by line, then by column
 abbrev pub is_before : Spot → Spot → Bool
 is_before a b = nat_lt a.line b.line || (nat_eq a.line b.line && nat_lt a.column b.column)
 
+-- earlier than the first of these, if there is one
 abbrev pub is_before_first : Spot → List Spot → Bool
 is_before_first a [] = true
 is_before_first a (b ∷ spots) = is_before a b
@@ -24,9 +26,11 @@ whole spot [] = spot ∷ []
 whole spot (first ∷ spots) = cond (same_spot spot first) (first ∷ spots) (spot ∷ first ∷ spots)
 
 abbrev mutual
+  -- the places in an expression, in the order of the text
   pub spots_of : Exp → List Spot
   spots_of (Expr spot ty n) = spots_of_node spot n
 
+  -- the places in an expression by its node
   pub spots_of_node : Spot → Node → List Spot
   spots_of_node spot (Const v) = spot ∷ []
   spots_of_node spot (Var o) = spot ∷ []
@@ -41,32 +45,39 @@ abbrev mutual
   spots_of_node spot (Assign op a b) = whole spot (spots_of a) ++ spots_of b
   spots_of_node spot (Call callee es close) = spot ∷ spots_of_arguments es ++ close ∷ []
 
+  -- the places in arguments, in the order of the text
   pub spots_of_arguments : Exps → List Spot
   spots_of_arguments NoExp = []
   spots_of_arguments (MoreExp e es) = spots_of e ++ spots_of_arguments es
 
+-- the places in it, where there is one
 abbrev pub spots_if : Option Exp → List Spot
 spots_if None = []
 spots_if (Some e) = spots_of e
 
+-- the places in an initializer
 abbrev pub spots_of_init : Init → List Spot
 spots_of_init Absent = []
 spots_of_init (One e) = spots_of e
 spots_of_init (Many es) = spots_of_arguments es
 
+-- the places of declared names and in their initializers
 abbrev pub spots_of_declarators : Names → List Spot
 spots_of_declarators NoName = []
 spots_of_declarators (MoreName spot o i ns) = spot ∷ spots_of_init i ++ spots_of_declarators ns
 
+-- the places in the first part of `for (`
 abbrev pub spots_of_first : First → List Spot
 spots_of_first NoFirst = []
 spots_of_first (FirstExp e) = spots_of e
 spots_of_first (FirstNames ns) = spots_of_declarators ns
 
 abbrev mutual
+  -- the places in a statement, in the order of the text
   pub spots_of_statement : Stm → List Spot
   spots_of_statement (Stmt at f) = spots_of_form at f
 
+  -- the places in a statement by its form
   pub spots_of_form : Spot → Form → List Spot
   spots_of_form at Empty = at ∷ []
   spots_of_form at (Do e) = whole at (spots_of e)
@@ -81,10 +92,12 @@ abbrev mutual
   spots_of_form at (Return e) = at ∷ spots_if e
   spots_of_form at (Label b) = at ∷ spots_of_statement b
 
+  -- the places in the second arm
   pub spots_of_else : Else → List Spot
   spots_of_else NoElse = []
   spots_of_else (OrElse b) = spots_of_statement b
 
+  -- the places in the statements of a block
   pub spots_of_block : Stms → List Spot
   spots_of_block NoStm = []
   spots_of_block (MoreStm s b) = spots_of_statement s ++ spots_of_block b
@@ -94,5 +107,6 @@ abbrev pub spots_of_functions : List Function → List Spot
 spots_of_functions [] = []
 spots_of_functions (f ∷ fs) = spots_of_statement f.body ++ spots_of_functions fs
 
+-- where objects are declared
 abbrev pub spots_of_objects : List Object → List Spot
 spots_of_objects os = map (λ o. o.spot) os

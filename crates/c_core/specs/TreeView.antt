@@ -19,6 +19,7 @@ use Rattle.c_core.specs.declared.tree.Form.TheVariants.{Empty, Expr as Only, Dec
 use Rattle.c_core.specs.declared.tree.Function.{Function}
 
 abbrev mutual
+  -- a node as the tree of definitions
   pub node_view : Node → t.Node
   node_view (Const v) = t.Const v
   node_view (Var o) = t.Var o
@@ -34,36 +35,44 @@ abbrev mutual
   node_view (Assign' op b s ty n b' s' ty' n') = t.Assign op (t.Expr s ty (node_view n)) (t.Expr s' ty' (node_view n'))
   node_view (Call' callee shape row close) = t.Call callee (row_view row) close
 
+  -- the arguments of a call in their order
   pub row_view : {m : _} → Row_of-Expr m → t.Exps
   row_view end_of-Expr = t.NoExp
   row_view (more_of-Expr s ty n row) = t.MoreExp (t.Expr s ty (node_view n)) (row_view row)
 
+-- an expression as the tree of definitions
 abbrev pub expr_view : Expr → t.Exp
 expr_view e = t.Expr e.spot e.ty (node_view e.node)
 
+-- expressions in their order
 abbrev pub exprs_view : List Expr → t.Exps
 exprs_view [] = t.NoExp
 exprs_view (e ∷ es) = t.MoreExp (expr_view e) (exprs_view es)
 
+-- one, where there is one
 abbrev pub expr_view_if : Option Expr → Option t.Exp
 expr_view_if None = None
 expr_view_if (Some e) = Some (expr_view e)
 
+-- an initializer as the tree of definitions
 abbrev pub init_view : Init → t.Init
 init_view Absent = t.Absent
 init_view (One e) = t.One (expr_view e)
 init_view (Many es) = t.Many (exprs_view es)
 
+-- declared names in their order
 abbrev pub names_view : List Declared → t.Names
 names_view [] = t.NoName
 names_view (d ∷ ds) = t.MoreName d.spot d.object (init_view d.init) (names_view ds)
 
+-- the first part of `for (`
 abbrev pub first_view : First → t.First
 first_view NoFirst = t.NoFirst
 first_view (FirstExpr e) = t.FirstExp (expr_view e)
 first_view (FirstDeclare ds) = t.FirstNames (names_view ds)
 
 abbrev mutual
+  -- a form of statement as the tree of definitions
   pub form_view : Form → t.Form
   form_view Empty = t.Empty
   form_view (Only e) = t.Do (expr_view e)
@@ -78,14 +87,17 @@ abbrev mutual
   form_view (Return e) = t.Return (expr_view_if e)
   form_view (Label' b s f) = t.Label (t.Stmt s (form_view f))
 
+  -- the statements of a block in their order
   pub block_view : {m : _} → Row_of-Stmt m → t.Stms
   block_view end_of-Stmt = t.NoStm
   block_view (more_of-Stmt s f row) = t.MoreStm (t.Stmt s (form_view f)) (block_view row)
 
+  -- the second arm, where there is one
   pub else_view : Held-Form-If-2 → t.Else
   else_view None' = t.NoElse
   else_view (Some' b s f) = t.OrElse (t.Stmt s (form_view f))
 
+-- a statement as the tree of definitions
 abbrev pub stmt_view : Stmt → t.Stm
 stmt_view s = t.Stmt s.spot (form_view s.form)
 
@@ -93,9 +105,11 @@ abbrev pub stmts_view : List Stmt → t.Stms
 stmts_view [] = t.NoStm
 stmts_view (s ∷ ss) = t.MoreStm (stmt_view s) (stmts_view ss)
 
+-- a function as the one of definitions
 abbrev pub function_view : Function → t.Function
 function_view f = record { result = f.result; params = f.params; body = stmt_view f.body }
 
+-- functions in their order
 abbrev pub functions_view : List Function → List t.Function
 functions_view [] = []
 functions_view (f ∷ fs) = function_view f ∷ functions_view fs

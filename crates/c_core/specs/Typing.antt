@@ -30,6 +30,7 @@ number_of_type ULong = 9
 number_of_type LongLong = 10
 number_of_type ULongLong = 11
 
+-- the same type
 abbrev pub same_type : IntType → IntType → Bool
 same_type a b = nat_eq (number_of_type a) (number_of_type b)
 
@@ -38,6 +39,7 @@ abbrev pub is_type : IntType → Option IntType → Bool
 is_type ty None = false
 is_type ty (Some got) = same_type ty got
 
+-- it has this type, or is void where that is wanted
 abbrev pub same_types : Option IntType → Option IntType → Bool
 same_types None got = is_none got
 same_types (Some ty) got = is_type ty got
@@ -51,10 +53,12 @@ abbrev pub is_constant : DataModel → Option IntType → ℤ → Bool
 is_constant m None v = false
 is_constant m (Some ty) v = same_type ty (promote_of ty) && in_range m ty v
 
+-- a scalar of this type
 abbrev pub is_scalar : Option IntType → Option Object → Bool
 is_scalar ty None = false
 is_scalar ty (Some o) = not o.array && is_type o.ty ty
 
+-- an array of elements of this type (C11 6.5.2.1)
 abbrev pub is_element : Option IntType → Option Object → Bool
 is_element ty None = false
 is_element ty (Some o) = o.array && is_type o.ty ty
@@ -71,6 +75,7 @@ is_unary Not ty (Some a) = is_type Int ty
 abbrev pub binary_type : DataModel → BinOp → IntType → IntType → IntType
 binary_type m op a b = cond (is_comparison op) Int (type_for m op a b)
 
+-- the type is that of a binary operator on operands of these types (C11 6.5.5 to 6.5.14)
 abbrev pub is_binary : DataModel → BinOp → Option IntType → Option IntType → Option IntType → Bool
 is_binary m op ty None b = false
 is_binary m op ty (Some a) None = false
@@ -87,6 +92,7 @@ abbrev pub is_cast : Option IntType → Exp → Bool
 is_cast None a = true
 is_cast (Some ty) a = has_value a
 
+-- a name or an element: what may be assigned to (C11 6.3.2.1)
 abbrev pub is_target_node : Node → Bool
 is_target_node (Var o) = true
 is_target_node (Index o i) = true
@@ -123,6 +129,7 @@ init_fits (Some o) (One e) = not o.array && has_value e
 init_fits (Some o) (Many es) = o.array && (list_all has_value (exps_in es) && nat_le (length (exps_in es)) o.cells)
 
 module _ (p : Program) where
+  -- a call by its callee: its arguments' number and its type (C11 6.5.2.2)
   abbrev pub is_call : Option IntType → Callee → Exps → Bool
   is_call ty (Defined f) es = is_call_of ty es (slice_get p.functions f)
   is_call ty (Input input) es = are_values 0 es && (has_input input && is_type input ty)
@@ -151,6 +158,7 @@ module _ (p : Program) where
   node_fits ty (Assign op a b) = is_target a && (has_value b && (is_assignment op && same_types (type_of a) ty))
   node_fits ty (Call callee es close) = is_call ty callee es
 
+  -- the expression's own node has its type; its parts are judged by themselves
   abbrev pub exp_fits : Exp → Bool
   exp_fits (Expr spot ty n) = node_fits ty n
 
@@ -158,10 +166,12 @@ module _ (p : Program) where
   abbrev pub is_typed : Exp → Bool
   is_typed e = every_exp exp_fits e
 
+  -- each declared name's initializer fits it (C11 6.7.9)
   abbrev pub declarators_fit : Names → Bool
   declarators_fit NoName = true
   declarators_fit (MoreName spot o i ns) = init_fits (slice_get p.objects o) i && declarators_fit ns
 
+  -- the names declared in `for (` have initializers that fit
   abbrev pub first_fits : First → Bool
   first_fits NoFirst = true
   first_fits (FirstExp e) = true

@@ -3,6 +3,7 @@
 
 #[cfg(test)]
 mod built;
+mod computing;
 mod laws;
 mod number;
 mod operate;
@@ -16,6 +17,9 @@ mod types;
 #[cfg(test)]
 mod worked;
 
+pub use computing::{
+    computed, computed_one, fitted, is_shift, op_of_step, right_type_for, type_for,
+};
 pub use laws::{conversions_settle, wider_types_keep};
 pub use number::{BinOp, DataModel, Done, IntType, Property, Spot, StepOp, UnOp};
 pub use operate::{apply, apply_one};

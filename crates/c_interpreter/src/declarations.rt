@@ -5,11 +5,8 @@ ghost use Rattle.run_state.specs.Interpreting.{Gives, same, state_of, flow_of, d
 
 use crate::full_expressions::{full, only};
 use c_core::{Declared, Expr, First, Init, Program, Spot};
-use c_meaning::Watcher;
-use run_state::{
-    Element, Flow, Halt, Machine, add_cells, draw_cells, room, size_of_object, store, ticks,
-    type_of_object,
-};
+use c_meaning::{Watcher, size_of_object, type_of_object};
+use run_state::{Element, Flow, Halt, Machine, add_cells, draw_cells, room, store, ticks};
 
 // One value of an initializer.
 #[cycle(run)]

@@ -8,10 +8,10 @@ ghost use Rattle.run_state.specs.Interpreting.{Gives, same, state_of, where_of, 
 
 use crate::calls::call_number;
 use c_core::{BinOp, Callee, Expr, IntType, Node, Program, Spot, StepOp, UnOp, convert};
-use c_meaning::{End, Event, Watcher};
+use c_meaning::{End, Event, Watcher, holds, truth, type_of};
 use run_state::{
-    Around, CallSite, Element, Halt, Machine, Typed, bump, change, convert_to, element, holds,
-    input, is_needed, look, operate, operate_one, reach, store, tell, tick, truth, type_of,
+    Around, CallSite, Element, Halt, Machine, Typed, bump, change, convert_to, element, input,
+    is_needed, look, operate, operate_one, reach, store, tell, tick,
 };
 use wv_base::Seq;
 

@@ -3,11 +3,11 @@ use Rattle.std.proofs.Common.{◌≡◌, ℕ, zero, suc, ℤ, IsTrue, nat_eq, Li
 use Rattle.std.specs.List.{All}
 use Rattle.std.proofs.lemmas.List.Folds.{list_any-append}
 use Rattle.std.proofs.lemmas.List.Elements.{All-nil, All-cons, All-head, All-tail, All-push}
-use Rattle.std.proofs.lemmas.List.{append_assoc, append-nil, reverse-append}
-use Rattle.c_core.specs.Parts.{is_empty, type_of, declared_by}
+use Rattle.std.proofs.lemmas.List.{append_assoc, append-nil, map-append, reverse-append}
+use Rattle.c_core.specs.Parts.{is_empty, type_of, declared_by, every_statement}
 use Rattle.c_core.specs.Program.{IsProgram, is_main}
-use Rattle.c_core.specs.Scope.{is_in, is_fixed}
-use Rattle.c_core.specs.Typing.{is_constant}
+use Rattle.c_core.specs.Scope.{is_in, is_fixed, function_reaches, is_block, statement_nests, function_nests}
+use Rattle.c_core.specs.Typing.{is_constant, function_fits}
 use Rattle.c_core.specs.Types.{fit}
 use Rattle.c_core.specs.Tree.{Exp, Stm, Function, Program}
 use Rattle.c_core.specs.declared.number.IntType.{IntType}
@@ -25,15 +25,15 @@ use Rattle.c_meaning.specs.Run.{State, Moment, Told, Here, Head, cells_of, with_
 use Rattle.c_meaning.specs.Havoc.{Stopped, Left, cells_left, with_cells_left, redraw_cells, redraw}
 use Rattle.c_meaning.specs.Eval.{eval}
 use Rattle.c_meaning.specs.Exec.{exec, with_params, run_main}
-use Rattle.c_meaning.specs.Fitting.{IsOf, calls_in, FitCells, AreLive, AreSound, FitMoment, Leaves, GivesOne, LeavesSome, Begins, Redrawn, IsSeen, IsDone, CellsFit}
+use Rattle.c_meaning.specs.Fitting.{IsOf, keys, Grows, calls_in, FitCells, AreLive, AreSound, FitMoment, Leaves, GivesOne, LeavesSome, Begins, Redrawn, IsSeen, IsDone, CellsFit}
 use Rattle.c_meaning.specs.Related.{Units, FitsS, FitsParams, with_names, after}
 use Rattle.c_meaning.proofs.Checked.{Agreeing, Asks, function_params, function_body, fits_e, fits_s, sees_after}
 use Rattle.c_meaning.proofs.FittingCells.{retyped_value, constant_value, nought_value, digit_value, answered_value, answered_one_value, read_fits, put_fits, declared_fits, cut_fits, lives_on, lives_fewer, lives_declared, first_fit, first_live, either_cases, either_left, either_right}
 use Rattle.c_meaning.proofs.Stateful as st
-use Rattle.c_meaning.proofs.Stateful.{grows_same, keys_put}
+use Rattle.c_meaning.proofs.Stateful.{grows_same, grows_on, keys_put}
 use Rattle.c_meaning.proofs.KeptRuns as runs
 use Rattle.c_meaning.proofs.KeptHavocRuns as havocs
-use Rattle.c_meaning.proofs.TypeFacts.{neither}
+use Rattle.c_meaning.proofs.TypeFacts.{both, neither, at_every}
 
 all_reversed : {X : Type 0} (P : X → Type 0) (xs : List X) → All P xs → All P (reverse xs)
 all_reversed P [] h = h
@@ -119,6 +119,15 @@ module _ (p : Program) (h : IsProgram p) (E T : Type 0) (cells : T → List Cell
     with_cell : (L : List ℕ) (o : ℕ) (s : T) → 1 ≡ size_of_object p o → AreSound p L (cells s) → AreSound p (L ++ o ∷ []) (cells (with_new (cells s ++ cells_from o 0 1 []) s))
     with_cell L o s e g = subst (AreSound p (L ++ o ∷ [])) (sym (same (cells s ++ cells_from o 0 1 []) s)) (record { fit = declared_fits p o 1 (cells s) g.fit; live = lives_declared p L (cells s) o 1 e g.live })
 
+    grows_cell : (o : ℕ) (s : T) → Grows (cells s) (cells (with_new (cells s ++ cells_from o 0 1 []) s))
+    grows_cell o s = (keys (cells_from o 0 1 []), ap keys (same (cells s ++ cells_from o 0 1 []) s) ∙ map-append (λ c. c.key) (cells s) (cells_from o 0 1 []))
+
+    grows_value : (o : ℕ) (v : ℤ) (s : T) → let t = with_new (cells s ++ cells_from o 0 1 []) s in Grows (cells s) (cells (with_new (put (record { object = o; index = 0 }) v (cells t)) t))
+    grows_value o v s =
+        let t = with_new (cells s ++ cells_from o 0 1 []) s in
+        let k : Key = record { object = o; index = 0 } in
+        grows_on (cells s) (cells t) (cells (with_new (put k v (cells t)) t)) (grows_cell o s) (grows_same (cells t) (cells (with_new (put k v (cells t)) t)) (ap keys (same (put k v (cells t)) t) ∙ keys_put k v (cells t)))
+
     with_value : (L : List ℕ) (o : ℕ) (v : ℤ) (s : T) → IsOf p.model (Some (type_of_object p o)) v → AreSound p L (cells s) → AreSound p L (cells (with_new (put (record { object = o; index = 0 }) v (cells s)) s))
     with_value L o v s q g =
         let k : Key = record { object = o; index = 0 } in
@@ -156,16 +165,18 @@ module _ (p : Program) (h : IsProgram p) (E T : Type 0) (cells : T → List Cell
         by (Stop x t) o = o.0
 
     -- parameters are bound one by one, in a state that sees those before
-    bound : (to : T → Res E T Flow) (L os : List ℕ) (vs : List (ℤ × IntType)) (s : T) → FitsParams p (st.kept_parts E T cells with_new same p typed own k) os → AreSound p L (cells s) → (t : T) × AreSound p (L ++ os) (cells t) × (with_params p (st.stateful E T cells with_new p own) os vs to s ≡ to t)
-    bound to L [] vs s f g = (s, subst (λ M. AreSound p M (cells s)) (sym (append-nil L)) g, refl)
-    bound to L (o ∷ os) [] s f g = let b = bound to (L ++ o ∷ []) os [] _ f.2 (with_cell L o s f.0 g) in (b.0, subst (λ M. AreSound p M (cells b.0)) (append_assoc L (o ∷ []) os) b.1, b.2)
+    bound : (to : T → Res E T Flow) (L os : List ℕ) (vs : List (ℤ × IntType)) (s : T) → FitsParams p (st.kept_parts E T cells with_new same p typed own k) os → AreSound p L (cells s) → (t : T) × AreSound p (L ++ os) (cells t) × Grows (cells s) (cells t) × (with_params p (st.stateful E T cells with_new p own) os vs to s ≡ to t)
+    bound to L [] vs s f g = (s, subst (λ M. AreSound p M (cells s)) (sym (append-nil L)) g, grows_same (cells s) (cells s) refl, refl)
+    bound to L (o ∷ os) [] s f g =
+        let b = bound to (L ++ o ∷ []) os [] _ f.2 (with_cell L o s f.0 g) in
+        (b.0, subst (λ M. AreSound p M (cells b.0)) (append_assoc L (o ∷ []) os) b.1, grows_on (cells s) _ (cells b.0) (grows_cell o s) b.2, b.3)
     bound to L (o ∷ os) (v ∷ vs) s f g =
         let b = bound to (L ++ o ∷ []) os vs _ f.2 (with_value (L ++ o ∷ []) o (fit p.model (type_of_object p o) v.0) _ (fit_in_range p.model (type_of_object p o) v.0) (with_cell L o s f.0 g)) in
-        (b.0, subst (λ M. AreSound p M (cells b.0)) (append_assoc L (o ∷ []) os) b.1, b.2)
+        (b.0, subst (λ M. AreSound p M (cells b.0)) (append_assoc L (o ∷ []) os) b.1, grows_on (cells s) _ (cells b.0) (grows_value o (fit p.model (type_of_object p o) v.0) s) b.2, b.3)
 
-    pub body_begins : (i : ℕ) (fn : Function) (vs : List (ℤ × IntType)) (s : T) (to : T → Res E T Flow) → slice_get p.functions i ≡ Some fn → AreSound p [] (cells s) → Begins p cells fn to (with_params p (st.stateful E T cells with_new p own) fn.params vs to s)
+    pub body_begins : (i : ℕ) (fn : Function) (vs : List (ℤ × IntType)) (s : T) (to : T → Res E T Flow) → slice_get p.functions i ≡ Some fn → AreSound p [] (cells s) → Begins p cells (cells s) fn to (with_params p (st.stateful E T cells with_new p own) fn.params vs to s)
     unfolding asks
-    body_begins i fn vs s to e g = let b = bound to [] fn.params vs s (function_params p h _ asks i fn e) g in record { state = b.0; sound = b.1; is = b.2 }
+    body_begins i fn vs s to e g = let b = bound to [] fn.params vs s (function_params p h _ asks i fn e) g in record { state = b.0; sound = b.1; grows = b.2; is = b.3 }
 
     pub main_fits : (n : ℕ) (s : T) → FitCells p (cells s) → Also s → AreLive p [] (cells s) → FitCells p (cells (state_of (run_main p (st.stateful E T cells with_new p own) n s))) × Also (state_of (run_main p (st.stateful E T cells with_new p own) n s))
     main_fits n s f a l = st.keeps_main E T cells with_new same p typed own k fits n s (f, a) l
@@ -243,6 +254,11 @@ module _ (p : Program) (h : IsProgram p) where
   pub cells_fit : CellsFit p
   cells_fit = record {
     first = record { fit = first_fit p h; live = first_live p };
+    function = λ f fn e. record {
+      types = at_every (function_fits p) p.functions f fn h.types e;
+      names = at_every (function_reaches p) p.functions f fn h.reach e;
+      blocks = (both (is_block fn.body) (every_statement statement_nests fn.body) (at_every function_nests p.functions f fn h.blocks e)).1;
+    };
     body = λ f fn vs s k e g. body_begins p h End (State (List Moment)) cells_of with_cells (λ cs s. refl) (λ s. Unit {0}) (λ cs s a. a) (runs.own_parts p (List Moment) keep) unseen_keeps f fn vs s k e g;
     havoc_body = λ I f fn vs s k e g. body_begins p h Stopped Left cells_left with_cells_left (λ cs s. refl) (λ s. Unit {0}) (λ cs s a. a) (havocs.own_parts p I) (havoc_keeps I) f fn vs s k e g;
     redrawn = λ I spot os reach s g. redraws I spot os reach s g;

@@ -28,7 +28,7 @@ use Rattle.c_meaning.proofs.Fundamental.{related_eval, related_exec, related_bod
 pub grows_same : (cs ds : List Cell) → keys ds ≡ keys cs → Grows cs ds
 grows_same cs ds e = ([], e ∙ sym (append-nil (keys cs)))
 
-grows_on : (cs ds es : List Cell) → Grows cs ds → Grows ds es → Grows cs es
+pub grows_on : (cs ds es : List Cell) → Grows cs ds → Grows ds es → Grows cs es
 grows_on cs ds es g h = (g.0 ++ h.0, h.1 ∙ ap (λ ks. ks ++ h.0) g.1 ∙ append_assoc (keys cs) g.0 h.0)
 
 grows_from : (cs ds es : List Cell) → keys ds ≡ keys cs → Grows ds es → Grows cs es

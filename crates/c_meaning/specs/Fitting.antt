@@ -79,9 +79,10 @@ module _ (p : Program) where
     LeavesSome before reach behind result (Go flow s) = Grows before (cells s) × AreSound reach (cells s) × Leaves behind result flow (cells s)
     LeavesSome before reach behind result (Stop e s) = FitCells (cells s)
 
-    -- a body begins with its parameters in reach
-    pub record Begins (fn : Function) (body : T → Res E T Flow) (whole : Res E T Flow) : Type 0 where
+    -- a body begins with its parameters in reach, beside the cells that were before
+    pub record Begins (before : List Cell) (fn : Function) (body : T → Res E T Flow) (whole : Res E T Flow) : Type 0 where
       pub state : T
+      pub grows : Grows before (cells state)
       pub sound : AreSound fn.params (cells state)
       pub is : whole ≡ body state
 
@@ -106,6 +107,7 @@ module _ (p : Program) where
   -- of every run and every havoc run
   pub record CellsFit : Type 0 where
     pub first : AreSound [] (first_cells p)
+    pub function : (f : ℕ) (fn : Function) → slice_get p.functions f ≡ Some fn → IsDone fn.result fn.params fn.body
     pub run : (c : Choices) (N : ℕ) → All FitMoment (Moments p c N)
     pub run_end : (c : Choices) (N : ℕ) → FitCells (state_of (Whole p c N)).cells
     pub havoc_end : (I : List Placed) (w : List ℤ) → FitCells (state_of (havoc_in p I (suc (length p.functions)) w)).cells
@@ -114,12 +116,12 @@ module _ (p : Program) where
     pub statement : (n : ℕ) (result : Option IntType) (reach : List ℕ) (st : Stm) (s : State (List Moment)) → IsDone result reach st → AreSound reach s.cells
         → LeavesSome cells_of s.cells reach (reach ++ declared_by st) result (exec p (real p (List Moment) keep) (calls_in p (real p (List Moment) keep) n) result st s)
     pub body : (f : ℕ) (fn : Function) (vs : List (ℤ × IntType)) (s : State (List Moment)) (k : State (List Moment) → Res End (State (List Moment)) Flow) → slice_get p.functions f ≡ Some fn → AreSound [] s.cells
-        → Begins cells_of fn k (with_params p (real p (List Moment) keep) fn.params vs k s)
+        → Begins cells_of s.cells fn k (with_params p (real p (List Moment) keep) fn.params vs k s)
     pub havoc_value : (I : List Placed) (n : ℕ) (at : Where) (want : Use) (reach : List ℕ) (e : Exp) (s : Left) → IsSeen reach e → AreSound reach s.cells
         → GivesOne cells_left s.cells reach (type_of e) (eval p (havoc p I) (calls_in p (havoc p I) n) at want e s)
     pub havoc_statement : (I : List Placed) (n : ℕ) (result : Option IntType) (reach : List ℕ) (st : Stm) (s : Left) → IsDone result reach st → AreSound reach s.cells
         → LeavesSome cells_left s.cells reach (reach ++ declared_by st) result (exec p (havoc p I) (calls_in p (havoc p I) n) result st s)
     pub havoc_body : (I : List Placed) (f : ℕ) (fn : Function) (vs : List (ℤ × IntType)) (s : Left) (k : Left → Res Stopped Left Flow) → slice_get p.functions f ≡ Some fn → AreSound [] s.cells
-        → Begins cells_left fn k (with_params p (havoc p I) fn.params vs k s)
+        → Begins cells_left s.cells fn k (with_params p (havoc p I) fn.params vs k s)
     -- at a loop's head, where objects are drawn anew
     pub redrawn : (I : List Placed) (spot : Spot) (os reach : List ℕ) (s : Left) → AreSound reach s.cells → Redrawn reach s (redraw p I spot os s)

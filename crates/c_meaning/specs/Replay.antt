@@ -6,6 +6,7 @@ use Rattle.c_meaning.specs.declared.run.Choices.{Choices}
 use Rattle.c_meaning.specs.declared.run.Choices.TheVariants.{InTurn}
 use Rattle.c_meaning.specs.Run.{Run, Moments}
 
+-- the values of draws, in their order
 abbrev pub values_of : List Draw → List ℤ
 values_of ds = map (λ d. d.value) ds
 

@@ -38,7 +38,8 @@ pub fn draws_fit()
     ensures havoc_run { (p : Program) (invariants : List Placed) (values : List ℤ) → AreFitting p.model (Havoc p invariants values).draws }
 {}
 
-/// At every moment of a run of a checked program, and at the end of a havoc run, each cell holds a value of its object's type. An expression or a statement that begins where objects in reach have such cells gives a value of its type.
+/// At every moment of a run of a checked program each cell holds a value of its object's type, and objects of static storage have their cells; at the end of a run or a havoc run the first still holds.
+/// An expression or a statement that begins where objects in reach have such cells gives a value of its type and leaves them such cells, and so do the parameters of a call and the draws at a loop's head.
 pub fn cells_fit()
     ensures { (p : Program) → IsProgram p → CellsFit p }
 {}

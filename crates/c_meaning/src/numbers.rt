@@ -1,16 +1,12 @@
 // Numbers in a program's expressions: their types, operators with wrapping, cells read by their types.
-ghost use Rattle.std.specs.Prelude.{◌≡◌, IsTrue, not};
-ghost use Rattle.c_core.specs.Types.{fit, in_range, promote_of, IsPromoted, is_zero, number_of};
-ghost use Rattle.c_core.specs.Operators.{is_shift as is_shift_of, type_for as type_for_of};
+ghost use Rattle.std.specs.Prelude.{◌≡◌, not};
+ghost use Rattle.c_core.specs.Types.{is_zero, number_of};
 ghost use Rattle.c_core.specs.View.{program_view, expr_view};
 ghost use Rattle.c_meaning.specs.Objects as objects;
 ghost use Rattle.c_meaning.specs.Value.{wrapping as wrapping_of, operated, operated_one, converted as converted_of, seen_at, seen_in};
 
 use crate::memory::Memory;
-use c_core::{
-    BinOp, DataModel, Done, Expr, IntType, Program, UnOp, apply, apply_one, common, convert,
-    promote,
-};
+use c_core::{BinOp, Done, Expr, IntType, Program, UnOp, computed, computed_one, convert};
 
 /// The type of an expression; that of a void one isn't asked for.
 pub fn type_of(e: &Expr) -> IntType
@@ -46,7 +42,8 @@ pub fn converted(program: &Program, ty: Option<IntType>, value: i128) -> i128
     }
 }
 
-fn type_of_object(program: &Program, object: u32) -> IntType
+/// The type of an object.
+pub fn type_of_object(program: &Program, object: u32) -> IntType
     ensures { result ≡ objects.type_of_object (program_view program.now) object }
 {
     match program.objects.get(object as usize) {
@@ -55,7 +52,8 @@ fn type_of_object(program: &Program, object: u32) -> IntType
     }
 }
 
-fn size_of_object(program: &Program, object: u32) -> u32
+/// How many cells an object has.
+pub fn size_of_object(program: &Program, object: u32) -> u32
     ensures { result ≡ objects.size_of_object (program_view program.now) object }
 {
     match program.objects.get(object as usize) {
@@ -86,35 +84,6 @@ pub fn look_in(program: &Program, memory: &Memory, object: u32, index: i128) -> 
     }
 }
 
-fn is_shift(op: BinOp) -> bool
-    ensures { result ≡ is_shift_of op }
-{
-    match op {
-        BinOp::Shl | BinOp::Shr => true,
-        _ => false,
-    }
-}
-
-// The type in which an operator computes.
-fn type_for(model: DataModel, op: BinOp, a: IntType, b: IntType) -> IntType
-    ensures value { result ≡ type_for_of model op a b }
-    ensures promoted { IsPromoted result }
-{
-    if is_shift(op) {
-        promote(model, a)
-    } else {
-        common(model, a, b)
-    }
-}
-
-// A value converted to a type, of which it is then a value.
-fn fitted(model: DataModel, ty: IntType, value: i128) -> i128
-    ensures value { result ≡ fit model ty value }
-    ensures range { IsTrue (in_range model ty result) }
-{
-    convert(model, ty, value)
-}
-
 // An overflow wraps.
 fn wrapping(done: Done) -> Option<i128>
     ensures { result ≡ wrapping_of done }
@@ -137,19 +106,12 @@ pub fn operate(
 ) -> Option<i128>
     ensures { result ≡ operated (program_view program.now) op a x b y }
 {
-    let model = program.model;
-    let ty = type_for(model, op, a, b);
-    let left = fitted(model, ty, x);
-    if is_shift(op) {
-        return wrapping(apply(model, op, ty, left, convert(model, promote(model, b), y)));
-    }
-    wrapping(apply(model, op, ty, left, fitted(model, ty, y)))
+    wrapping(computed(program.model, op, a, x, b, y))
 }
 
 /// A unary operator over a value of a type.
 pub fn operate_one(program: &Program, op: UnOp, a: IntType, x: i128) -> Option<i128>
     ensures { result ≡ operated_one (program_view program.now) op a x }
 {
-    let ty = promote(program.model, a);
-    wrapping(apply_one(program.model, op, ty, fitted(program.model, ty, x)))
+    wrapping(computed_one(program.model, op, a, x))
 }

@@ -6,12 +6,14 @@ use Rattle.c_tokens.specs.declared.token.Punct.{Punct}
 use Rattle.c_tokens.specs.declared.token.Punct.TheVariants as sign
 use Rattle.c_parser.specs.Signs.{◌>>=◌, sign_of, same_sign, sign_token}
 
+-- what a token is among brackets
 pub data Bracket : Type 0 where
   NoBracket : Bracket
   -- a bracket that this one closes
   Opening : Punct → Bracket
   Closing : Punct → Bracket
 
+-- the same of a sign
 abbrev pub bracket_of : Option Punct → Bracket
 bracket_of None = NoBracket
 bracket_of (Some sign.ParenOpen) = Opening sign.ParenClose
@@ -22,11 +24,13 @@ bracket_of (Some sign.BracketClose) = Closing sign.BracketClose
 bracket_of (Some sign.BraceClose) = Closing sign.BraceClose
 bracket_of (Some s) = NoBracket
 
+-- the same of a token
 abbrev pub bracket : Token → Bracket
 bracket t = bracket_of (sign_of t.kind)
 
 -- `Inner` is what is passed in one more pair of brackets
 module _ (Inner : List Token → List Token → Type 0) where
+  -- tokens whose brackets match are passed over
   pub data Passed : List Token → List Token → Type 0 where
     NothingPassed : {rest : List Token} → Passed rest rest
     OnePassed : {t : Token} {ts rest : List Token} → bracket t ≡ NoBracket → Passed ts rest → Passed (t ∷ ts) rest

@@ -12,6 +12,7 @@ use Rattle.c_parser.specs.ReadExpressions.{Read, closing}
 
 -- `Pair` is what is passed in one more pair of brackets
 module _ (Pair : List Token → List Token → Type 0) where
+  -- attributes, with whatever stands in their parentheses
   pub data Attributes : List Token → List Token → Type 0 where
     NoMoreAttributes : {rest : List Token} → Attributes rest rest
     AnAttribute : {ts mid rest : List Token} {w : List ℕ} {p q r : Spot} →
@@ -35,11 +36,13 @@ module _ (Pair : List Token → List Token → Type 0) where
     pub specifiers : Specifiers outside ts words rest
     pub spelled : type_of words ≡ Some ty
 
+-- a declared name with its type, its size and its initializer
 abbrev pub declared : Spot → List ℕ → IntType → Option Exp → Init → Declared
 declared p w ty size init = record { spot = p; name = w; ty = ty; size = size; init = init }
 
 -- `Whole k` is what is spelled with the strength k, `Inner k` the same in one more pair of brackets
 module _ (Pair : List Token → List Token → Type 0) (Whole Inner : ℕ → List Token → Exp → List Token → Type 0) where
+  -- the size of an array in its brackets, or none (C11 6.7.6.2)
   pub data Size : List Token → Option Exp → List Token → Type 0 where
     NoSize : {rest : List Token} → Size rest None rest
     ASize : {ts rest : List Token} {e : Exp} {p q : Spot} →
@@ -54,6 +57,7 @@ module _ (Pair : List Token → List Token → Type 0) (Whole Inner : ℕ → Li
     MoreValues : {ts mid rest : List Token} {e : Exp} {es : List Exp} {q : Spot} →
         Inner assignment ts e (sign_token sign.Comma q ∷ mid) → Values mid es rest → Values ts (e ∷ es) rest
 
+  -- `=` and a value or a list of values, or nothing (C11 6.7.9)
   pub data Initializer : List Token → Init → List Token → Type 0 where
     NoInitializer : {rest : List Token} → Initializer rest Absent rest
     OneValue : {ts rest : List Token} {e : Exp} {p : Spot} → Whole assignment ts e rest → Initializer (sign_token sign.Assign p ∷ ts) (One e) rest
@@ -61,6 +65,7 @@ module _ (Pair : List Token → List Token → Type 0) (Whole Inner : ℕ → Li
         Values ts es (sign_token sign.BraceClose r ∷ rest) →
         Initializer (sign_token sign.Assign p ∷ sign_token sign.BraceOpen q ∷ ts) (Many (exps es)) rest
 
+  -- a declared name of a type (C11 6.7.6)
   pub data Declarator (ty : IntType) : List Token → Declared → List Token → Type 0 where
     ADeclarator : {ts mid rest : List Token} {w : List ℕ} {size : Option Exp} {init : Init} {p : Spot} →
         is_name w ≡ true → Size ts size mid → Initializer mid init rest → Declarator ty (word_token w p ∷ ts) (declared p w ty size init) rest

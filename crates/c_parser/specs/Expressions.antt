@@ -30,6 +30,7 @@ module _ (room : Bool) (Inner : ℕ → List Token → Exp → List Token → Ty
     MoreArguments : {ts mid rest : List Token} {e : Exp} {es : List Exp} {q : Spot} →
         Inner assignment ts e (sign_token sign.Comma q ∷ mid) → Arguments mid es rest → Arguments ts (e ∷ es) rest
 
+  -- what the tokens spell at a strength, from a whole expression to a primary one (C11 6.5)
   pub data Expression : ℕ → List Token → Exp → List Token → Type 0 where
     -- what holds together more strongly
     Stronger : {k : ℕ} {ts rest : List Token} {e : Exp} → Expression (suc k) ts e rest → Expression k ts e rest
@@ -69,6 +70,7 @@ module _ (room : Bool) (Inner : ℕ → List Token → Exp → List Token → Ty
     AGroup : {ts rest : List Token} {e : Exp} {p r : Spot} →
         Inner expr ts e (sign_token sign.ParenClose r ∷ rest) → Expression primary (sign_token sign.ParenOpen p ∷ ts) (moved p e) rest
 
+-- one bracket more may be open
 abbrev pub has_room : ℕ → Bool
 has_room b = nat_lt 0 b
 

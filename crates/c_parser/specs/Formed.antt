@@ -13,9 +13,11 @@ use Rattle.c_parser.specs.TextOrder.{spots_of_items, tokens_rise}
 -- ---- every node of every expression
 
 abbrev mutual
+  -- each node of an expression, its own first
   pub every_node : (Node → Bool) → Exp → Bool
   every_node q (Expr p n) = q n && every_part q n
 
+  -- each node of a node's parts
   pub every_part : (Node → Bool) → Node → Bool
   every_part q (Number v decimal unsigned longs) = true
   every_part q (Char v) = true
@@ -31,32 +33,39 @@ abbrev mutual
   every_part q (Assign op a b) = every_node q a && every_node q b
   every_part q (Call f p es close) = every_argument q es
 
+  -- each node of arguments
   pub every_argument : (Node → Bool) → Exps → Bool
   every_argument q NoExp = true
   every_argument q (MoreExp e es) = every_node q e && every_argument q es
 
+-- each node, where there is an expression
 abbrev pub every_if : (Node → Bool) → Option Exp → Bool
 every_if q None = true
 every_if q (Some e) = every_node q e
 
+-- each node of an initializer
 abbrev pub every_in_init : (Node → Bool) → Init → Bool
 every_in_init q Absent = true
 every_in_init q (One e) = every_node q e
 every_in_init q (Many es) = every_argument q es
 
+-- each node of the sizes and initializers of declared names
 abbrev pub every_in_declared : (Node → Bool) → List Declared → Bool
 every_in_declared q [] = true
 every_in_declared q (d ∷ ds) = every_if q d.size && (every_in_init q d.init && every_in_declared q ds)
 
+-- each node of the first part of `for (`
 abbrev pub every_in_first : (Node → Bool) → First → Bool
 every_in_first q NoFirst = true
 every_in_first q (FirstExp e) = every_node q e
 every_in_first q (FirstDeclared ds) = every_in_declared q ds
 
 abbrev mutual
+  -- each node of a statement
   pub every_in_statement : (Node → Bool) → Stm → Bool
   every_in_statement q (Stmt p f) = every_in_form q f
 
+  -- each node of a statement by its form
   pub every_in_form : (Node → Bool) → Form → Bool
   every_in_form q Empty = true
   every_in_form q (Do e) = every_node q e
@@ -71,14 +80,17 @@ abbrev mutual
   every_in_form q (Return e) = every_if q e
   every_in_form q (Label w s) = every_in_statement q s
 
+  -- each node of the second arm
   pub every_in_else : (Node → Bool) → Else → Bool
   every_in_else q NoElse = true
   every_in_else q (OrElse s) = every_in_statement q s
 
+  -- each node of the statements of a block
   pub every_in_block : (Node → Bool) → Stms → Bool
   every_in_block q NoStm = true
   every_in_block q (MoreStm s b) = every_in_statement q s && every_in_block q b
 
+-- each node of an item
 abbrev pub every_in_item : (Node → Bool) → Item → Bool
 every_in_item q (Function p w result xs s) = every_in_statement q s
 every_in_item q (Prototype p w result types) = true
@@ -119,12 +131,14 @@ abbrev pub is_block : Stm → Bool
 is_block (Stmt p (Block b)) = true
 is_block (Stmt p f) = false
 
+-- the body of a function is a block
 abbrev pub has_block : Item → Bool
 has_block (Function p w result xs s) = is_block s
 has_block (Prototype p w result types) = true
 has_block (Global ds) = true
 has_block (Closed p w) = true
 
+-- each declaration of the body stands directly in a block
 abbrev pub item_nests : Item → Bool
 item_nests (Function p w result xs s) = nests false s
 item_nests (Prototype p w result types) = true

@@ -3,6 +3,7 @@ use Rattle.std.specs.Prelude.{ℕ, suc, max, List, [], ◌∷◌, Option, Some, 
 use Rattle.c_parser.specs.Tree.{Exp, Expr, Node, Number, Char, Var, Index, Unary, Cast, Step, Binary, Logic, Choose, Comma, Assign, Call, Exps, NoExp, MoreExp, Init, Absent, One, Many, Declared, First, NoFirst, FirstExp, FirstDeclared, Stm, Stmt, Form, Empty, Do, Declare, Block, If, While, DoWhile, For, Break, Continue, Return, Label, Else, NoElse, OrElse, Stms, NoStm, MoreStm}
 
 abbrev mutual
+  -- how high the tree of an expression is
   pub height : Exp → ℕ
   height (Expr p n) = suc (height_in n)
 
@@ -22,14 +23,17 @@ abbrev mutual
   height_in (Assign op a b) = max (height a) (height b)
   height_in (Call f p es close) = heights es
 
+  -- the height of the highest of these
   pub heights : Exps → ℕ
   heights NoExp = 0
   heights (MoreExp e es) = max (height e) (heights es)
 
+-- the height of the one that there is
 abbrev pub height_if : Option Exp → ℕ
 height_if None = 0
 height_if (Some e) = height e
 
+-- the height of an initializer's highest value
 abbrev pub height_of_init : Init → ℕ
 height_of_init Absent = 0
 height_of_init (One e) = height e
@@ -40,15 +44,18 @@ abbrev pub height_of_declared : List Declared → ℕ
 height_of_declared [] = 0
 height_of_declared (d ∷ ds) = max (max (height_if d.size) (height_of_init d.init)) (height_of_declared ds)
 
+-- the height of the first part of `for (`
 abbrev pub height_of_first : First → ℕ
 height_of_first NoFirst = 0
 height_of_first (FirstExp e) = height e
 height_of_first (FirstDeclared ds) = height_of_declared ds
 
 abbrev mutual
+  -- how high the tree of a statement is
   pub height_of : Stm → ℕ
   height_of (Stmt p f) = suc (height_in_form f)
 
+  -- the height of a statement's highest part
   pub height_in_form : Form → ℕ
   height_in_form Empty = 0
   height_in_form (Do e) = height e
@@ -63,10 +70,12 @@ abbrev mutual
   height_in_form (Return e) = height_if e
   height_in_form (Label x s) = height_of s
 
+  -- the height of the second arm
   pub height_of_else : Else → ℕ
   height_of_else NoElse = 0
   height_of_else (OrElse s) = height_of s
 
+  -- the height of a block's highest statement
   pub height_of_block : Stms → ℕ
   height_of_block NoStm = 0
   height_of_block (MoreStm s b) = max (height_of s) (height_of_block b)

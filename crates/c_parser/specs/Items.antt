@@ -18,6 +18,7 @@ use Rattle.c_parser.specs.Brackets.{Bracket, NoBracket, Opening, Closing, bracke
 use Rattle.c_parser.specs.Declarations.{Attributes, Typed}
 use Rattle.c_parser.specs.Statements.{Declares, BracedWithin}
 
+-- the name `reach_error`
 abbrev pub reach_error : List ℕ
 reach_error = codes "reach_error"
 
@@ -29,6 +30,7 @@ module _ (Pair : List Token → List Token → Type 0) where
         Typed Pair true ts (Some ty) (word_token w p ∷ rest) → is_name w ≡ true →
         Parameter ts (record { spot = p; name = w; ty = ty }) rest
 
+  -- parameters with names, separated by commas (C11 6.7.6)
   pub data ParameterList : List Token → List Param → List Token → Type 0 where
     LastParameter : {ts rest : List Token} {x : Param} → Parameter ts x rest → ParameterList ts (x ∷ []) rest
     MoreParameters : {ts mid rest : List Token} {x : Param} {xs : List Param} {q : Spot} →
@@ -40,11 +42,13 @@ module _ (Pair : List Token → List Token → Type 0) where
     VoidParameters : {rest : List Token} {p : Spot} → Parameters (word_token (codes "void") p ∷ rest) [] rest
     SomeParameters : {ts rest : List Token} {xs : List Param} → ParameterList ts xs rest → Parameters ts xs rest
 
+  -- the type of a parameter, whose name may be absent in a prototype
   pub data ParameterType : List Token → IntType → List Token → Type 0 where
     Unnamed : {ts rest : List Token} {ty : IntType} → Typed Pair true ts (Some ty) rest → ParameterType ts ty rest
     Named : {ts rest : List Token} {ty : IntType} {w : List ℕ} {p : Spot} →
         Typed Pair true ts (Some ty) (word_token w p ∷ rest) → is_name w ≡ true → ParameterType ts ty rest
 
+  -- types of parameters, separated by commas
   pub data TypeList : List Token → List IntType → List Token → Type 0 where
     LastType : {ts rest : List Token} {ty : IntType} → ParameterType ts ty rest → TypeList ts (ty ∷ []) rest
     MoreTypes : {ts mid rest : List Token} {ty : IntType} {tys : List IntType} {q : Spot} →
@@ -61,6 +65,7 @@ abbrev pub ParametersWithin : ℕ → List Token → List Param → List Token �
 ParametersWithin zero ts xs rest = ⊥
 ParametersWithin (suc b) ts xs rest = Parameters (PassedWithin b) ts xs rest
 
+-- a prototype's parameters, within so many open brackets more
 abbrev pub TypesWithin : ℕ → List Token → Option (List IntType) → List Token → Type 0
 TypesWithin zero ts tys rest = ⊥
 TypesWithin (suc b) ts tys rest = ParameterTypes (PassedWithin b) ts tys rest
@@ -81,6 +86,7 @@ is_closed_sign sign.Comma = true
 is_closed_sign sign.Ellipsis = true
 is_closed_sign s = false
 
+-- a token that may stand in a closed item
 abbrev pub may_be_closed : TokenKind → Bool
 may_be_closed (kind.Word w) = true
 may_be_closed (kind.Number v decimal unsigned longs) = true
@@ -101,6 +107,7 @@ outside n [] = []
 outside zero (t ∷ ts) = t ∷ outside (depth_behind zero (bracket t)) ts
 outside (suc n) (t ∷ ts) = outside (depth_behind (suc n) (bracket t)) ts
 
+-- one of these tokens is `;`
 abbrev pub has_semicolon : List Token → Bool
 has_semicolon [] = false
 has_semicolon (t ∷ ts) = is_this sign.Semicolon (sign_of t.kind) || has_semicolon ts
@@ -111,6 +118,7 @@ closed_word false w = None
 closed_word true None = None
 closed_word true (Some w) = if is_attribute w then None else Some w
 
+-- this name, or one that comes later
 abbrev pub or_later : Option (List ℕ) → Spot → Option (List ℕ × Spot) → Option (List ℕ × Spot)
 or_later None p later = later
 or_later (Some w) p later = Some (w, p)
@@ -127,16 +135,19 @@ AreLow h (d ∷ ds) = (height_if d.size ≤ h) × ((height_of_init d.init ≤ h)
 
 -- With at most b brackets open at one place, and at most the height h: what the front of the tokens spells.
 
+-- a form of item: its tokens, the item that they spell if they spell one, the tokens behind it
 abbrev pub ItemForm : Type 1
 ItemForm = List Token → Option Item → List Token → Type 0
 
 module _ (h b : ℕ) where
+  -- `reach_error` with its body, which is no item
   pub data Reach : List Token → Option Item → List Token → Type 0 where
     AReach : {ts first second third rest : List Token} {result : Option IntType} {p q u : Spot} (r z : Spot) →
         Typed (PassedWithin b) true ts result (word_token reach_error p ∷ sign_token sign.ParenOpen q ∷ first) →
         PassedWithin b first (sign_token sign.ParenClose r ∷ second) → Attributes (PassedWithin b) second (sign_token sign.BraceOpen u ∷ third) →
         PassedWithin b third (sign_token sign.BraceClose z ∷ rest) → Reach ts None rest
 
+  -- a function with its body (C11 6.9.1)
   pub data Function : List Token → Option Item → List Token → Type 0 where
     AFunction : {ts first second third rest : List Token} {result : Option IntType} {w : List ℕ} {xs : List Param} {p q u : Spot} (ss : List Stm) (r z : Spot) →
         Typed (PassedWithin b) true ts result (word_token w p ∷ sign_token sign.ParenOpen q ∷ first) → is_name w ≡ true →
@@ -144,12 +155,14 @@ module _ (h b : ℕ) where
         BracedWithin b third ss (sign_token sign.BraceClose z ∷ rest) → height_of (Stmt u (Block (stms ss))) ≤ h →
         Function ts (Some (item.Function p w result xs (Stmt u (Block (stms ss))))) rest
 
+  -- a prototype (C11 6.7.6.3)
   pub data Prototype : List Token → Option Item → List Token → Type 0 where
     APrototype : {ts first second rest : List Token} {result : Option IntType} {w : List ℕ} {p q z : Spot} (tys : Option (List IntType)) (r : Spot) →
         Typed (PassedWithin b) true ts result (word_token w p ∷ sign_token sign.ParenOpen q ∷ first) → is_name w ≡ true →
         TypesWithin b first tys (sign_token sign.ParenClose r ∷ second) → Attributes (PassedWithin b) second (sign_token sign.Semicolon z ∷ rest) →
         Prototype ts (unless_reach w (item.Prototype p w result tys)) rest
 
+  -- declarations outside of functions (C11 6.9)
   pub data Global : List Token → Option Item → List Token → Type 0 where
     AGlobal : {ts rest : List Token} {ds : List Declared} → Declares b true ts ds rest → AreLow h ds → Global ts (Some (item.Global ds)) rest
 
@@ -160,5 +173,6 @@ module _ (h b : ℕ) where
         list_all (λ (t : Token). may_be_closed t.kind) front ≡ true → closed_name (outside 0 front) ≡ Some name →
         Closed (front ++ sign_token sign.Semicolon q ∷ rest) (Some (item.Closed name.1 name.0)) rest
 
+  -- a lone `;`, which is no item
   pub data Nothing : List Token → Option Item → List Token → Type 0 where
     ASemicolon : {rest : List Token} {q : Spot} → Nothing (sign_token sign.Semicolon q ∷ rest) None rest

@@ -10,6 +10,7 @@ use Rattle.c_parser.specs.declared.item.Source.{Source}
 use Rattle.c_parser.specs.declared.fault.ParseFault.{ParseFault}
 use Rattle.c_parser.specs.declared.fault.ParseFault.TheVariants.{Syntax, OutOfMemory}
 
+-- a source that was read, as the tree of definitions
 abbrev pub source_view : Source → List t.Item
 source_view s = map item_view s.items
 

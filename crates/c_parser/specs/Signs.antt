@@ -15,12 +15,15 @@ use Rattle.c_tokens.specs.declared.token.Punct.TheVariants as sign
 use Rattle.c_tokens.specs.Numbers.{is_spelled}
 use Rattle.c_parser.specs.Tree.{Exp, Node, Binary, Logic, Comma}
 
+-- a token of a kind at a place
 abbrev pub token : TokenKind → Spot → Token
 token k p = record { kind = k; spot = p }
 
+-- a sign at a place
 abbrev pub sign_token : Punct → Spot → Token
 sign_token s p = token (kind.Punct s) p
 
+-- a word at a place
 abbrev pub word_token : List ℕ → Spot → Token
 word_token w p = token (kind.Word w) p
 
@@ -29,6 +32,7 @@ abbrev pub place : List Token → Spot
 place [] = record { line = 1; column = 1 }
 place (t ∷ ts) = t.spot
 
+-- the sign that a token is, if it is one
 abbrev pub sign_of : TokenKind → Option Punct
 sign_of (kind.Word w) = None
 sign_of (kind.Number v decimal unsigned longs) = None
@@ -36,6 +40,7 @@ sign_of (kind.Char v) = None
 sign_of kind.Str = None
 sign_of (kind.Punct s) = Some s
 
+-- the word that a token is, if it is one
 abbrev pub word_of : TokenKind → Option (List ℕ)
 word_of (kind.Word w) = Some w
 word_of (kind.Number v decimal unsigned longs) = None
@@ -48,6 +53,7 @@ abbrev pub sign_at : List Token → Option Punct
 sign_at [] = None
 sign_at (t ∷ ts) = sign_of t.kind
 
+-- the word that these tokens begin with
 abbrev pub word_at : List Token → Option (List ℕ)
 word_at [] = None
 word_at (t ∷ ts) = word_of t.kind
@@ -101,9 +107,11 @@ number_of_sign sign.Tilde = 43
 number_of_sign sign.PlusPlus = 44
 number_of_sign sign.MinusMinus = 45
 
+-- the same sign
 abbrev pub same_sign : Punct → Punct → Bool
 same_sign s r = nat_eq (number_of_sign s) (number_of_sign r)
 
+-- it is this sign
 abbrev pub is_this : Punct → Option Punct → Bool
 is_this s None = false
 is_this s (Some r) = same_sign s r
@@ -112,6 +120,7 @@ is_this s (Some r) = same_sign s r
 abbrev pub is_sign : Punct → List Token → Bool
 is_sign s ts = is_this s (sign_at ts)
 
+-- it is this word
 abbrev pub is_spelling : List ℕ → Option (List ℕ) → Bool
 is_spelling w None = false
 is_spelling w (Some v) = is_spelled w v
@@ -125,24 +134,31 @@ is_word w ts = is_spelling w (word_at ts)
 abbrev pub expr : ℕ
 expr = 1
 
+-- strengths: an assignment (C11 6.5.16)
 abbrev pub assignment : ℕ
 assignment = 2
 
+-- `?:` and what is stronger (C11 6.5.15)
 abbrev pub conditional : ℕ
 conditional = 3
 
+-- the weakest binary operator, `||`
 abbrev pub binary : ℕ
 binary = 4
 
+-- a cast (C11 6.5.4)
 abbrev pub cast : ℕ
 cast = 14
 
+-- an operator before its operand (C11 6.5.3)
 abbrev pub unary : ℕ
 unary = 15
 
+-- indices, calls and `++` or `--` behind (C11 6.5.2)
 abbrev pub postfix : ℕ
 postfix = 16
 
+-- constants, names and parentheses (C11 6.5.1)
 abbrev pub primary : ℕ
 primary = 17
 
@@ -153,6 +169,7 @@ pub data Joint : Type 0 where
   Either : Joint
   Plain : BinOp → Joint
 
+-- two operands joined, as the tree that it is
 abbrev pub joined : Joint → Exp → Exp → Node
 joined Sequence a b = Comma a b
 joined Both a b = Logic true a b
@@ -196,6 +213,7 @@ steps_before sign.PlusPlus = Some step.PreInc
 steps_before sign.MinusMinus = Some step.PreDec
 steps_before _ = None
 
+-- `++` and `--` behind their operand
 abbrev pub steps_behind : Punct → Option StepOp
 steps_behind sign.PlusPlus = Some step.PostInc
 steps_behind sign.MinusMinus = Some step.PostDec

@@ -28,6 +28,7 @@ abbrev pub with_item : Option Item → List Item → List Item
 with_item None xs = xs
 with_item (Some x) xs = x ∷ xs
 
+-- the items of a source, one behind another
 pub data Items (h b : ℕ) : List Token → List Item → Type 0 where
   NoMoreItems : Items h b [] []
   MoreItems : {ts rest : List Token} {x : Option Item} {xs : List Item} → Takes h b ts x rest → Items h b rest xs → Items h b ts (with_item x xs)

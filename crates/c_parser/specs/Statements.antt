@@ -17,10 +17,12 @@ Parts = First × Option Exp × Option Exp
 
 -- `Whole` is an expression, `Declares` a declaration
 module _ (Whole : List Token → Exp → List Token → Type 0) (Declares : List Token → List Declared → List Token → Type 0) where
+  -- an expression, or none
   pub data Optional : List Token → Option Exp → List Token → Type 0 where
     NoExpression : {rest : List Token} → Optional rest None rest
     AnExpression : {ts rest : List Token} {e : Exp} → Whole ts e rest → Optional ts (Some e) rest
 
+  -- the first part of `for (`, with the `;` behind it
   pub data FirstPart : List Token → First → List Token → Type 0 where
     DeclaredFirst : {ts rest : List Token} {ds : List Declared} → Declares ts ds rest → FirstPart ts (FirstDeclared ds) rest
     ExpressionFirst : {ts rest : List Token} {e : Exp} {q : Spot} → Whole ts e (sign_token sign.Semicolon q ∷ rest) → FirstPart ts (FirstExp e) rest
@@ -35,6 +37,7 @@ module _ (Whole : List Token → Exp → List Token → Type 0) (Declares : List
 -- `Paren` is an expression in one more pair of brackets, `Header` the parts of a `for`, `Braced` what stands in braces
 module _ (Whole Paren : List Token → Exp → List Token → Type 0) (Declares : List Token → List Declared → List Token → Type 0)
     (Header : List Token → Parts → List Token → Type 0) (Braced : List Token → List Stm → List Token → Type 0) where
+  -- a statement by its production (C11 6.8)
   pub data Statement : List Token → Stm → List Token → Type 0 where
     AnEmpty : {rest : List Token} {p : Spot} → Statement (sign_token sign.Semicolon p ∷ rest) (Stmt p form.Empty) rest
     AnExpressionStatement : {ts rest : List Token} {e : Exp} {q : Spot} →
@@ -78,6 +81,7 @@ module _ (Whole Paren : List Token → Exp → List Token → Type 0) (Declares 
 
 -- With at most b brackets open at one place.
 
+-- a declaration, within so many open brackets more
 abbrev pub Declares : ℕ → Bool → List Token → List Declared → List Token → Type 0
 Declares b outside = Declaration (PassedWithin b) (Spells b) (Within b) outside
 
@@ -86,6 +90,7 @@ unfoldable pub HeaderWithin : ℕ → List Token → Parts → List Token → Ty
 HeaderWithin zero ts parts rest = ⊥
 HeaderWithin (suc b) ts parts rest = ForParts (Spells b expr) (Declares b false) ts parts rest
 
+-- the statements up to a block's `}`, within so many open brackets more
 unfoldable pub BracedWithin : ℕ → List Token → List Stm → List Token → Type 0
 BracedWithin zero ts ss rest = ⊥
 BracedWithin (suc b) ts ss rest = Elements (Spells b expr) (Within b expr) (Declares b false) (HeaderWithin b) (BracedWithin b) ts ss rest

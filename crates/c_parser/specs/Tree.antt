@@ -32,10 +32,12 @@ mutual
     -- with its closing parenthesis
     Call : List ℕ → Spot → Exps → Spot → Node
 
+  -- arguments, or the values of a list
   pub data Exps : Type 0 where
     NoExp : Exps
     MoreExp : Exp → Exps → Exps
 
+-- no initializer, one value, or a list of values
 pub data Init : Type 0 where
   Absent : Init
   One : Exp → Init
@@ -49,6 +51,7 @@ pub record Declared : Type 0 where
   pub size : Option Exp
   pub init : Init
 
+-- the first part of `for (`
 pub data First : Type 0 where
   NoFirst : First
   FirstExp : Exp → First
@@ -59,6 +62,7 @@ mutual
   pub data Stm : Type 0 where
     Stmt : Spot → Form → Stm
 
+  -- a statement by its form and its parts (C11 6.8)
   pub data Form : Type 0 where
     Empty : Form
     Do : Exp → Form
@@ -73,14 +77,17 @@ mutual
     Return : Option Exp → Form
     Label : List ℕ → Stm → Form
 
+  -- the second arm of `if`
   pub data Else : Type 0 where
     NoElse : Else
     OrElse : Stm → Else
 
+  -- the statements of a block
   pub data Stms : Type 0 where
     NoStm : Stms
     MoreStm : Stm → Stms → Stms
 
+-- a parameter with its name
 pub record Param : Type 0 where
   pub spot : Spot
   pub name : List ℕ
@@ -95,10 +102,12 @@ pub data Item : Type 0 where
   Global : List Declared → Item
   Closed : Spot → List ℕ → Item
 
+-- expressions as arguments
 abbrev pub exps : List Exp → Exps
 exps [] = NoExp
 exps (e ∷ es) = MoreExp e (exps es)
 
+-- statements as a block's
 abbrev pub stms : List Stm → Stms
 stms [] = NoStm
 stms (s ∷ ss) = MoreStm s (stms ss)

@@ -84,6 +84,7 @@ abbrev mutual
   is_nameless_node (Assign o a b) = is_nameless a && is_nameless b
   is_nameless_node (Call f p es close) = false
 
+-- a sign that compares, as the operator that it is (C11 6.5.8, 6.5.9)
 abbrev pub compares : Punct → Option BinOp
 compares sign.Equal = Some op.Eq
 compares sign.NotEqual = Some op.Ne
@@ -97,6 +98,7 @@ compares s = None
 abbrev pub shift : ℕ
 shift = 11
 
+-- each token is this sign
 abbrev pub are_all : Punct → List Token → Bool
 are_all s ts = list_all (λ (t : Token). is_this s (sign_of t.kind)) ts
 

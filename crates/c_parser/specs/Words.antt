@@ -4,10 +4,12 @@ use Rattle.c_core.specs.declared.number.IntType.{IntType}
 use Rattle.c_core.specs.declared.number.IntType.TheVariants as ty
 use Rattle.c_tokens.specs.Numbers.{is_spelled}
 
+-- the word is one of these
 abbrev pub is_among : List (List ℕ) → List ℕ → Bool
 is_among [] w = false
 is_among (v ∷ vs) w = is_spelled v w || is_among vs w
 
+-- the keywords (C11 6.4.1)
 abbrev pub keywords : List (List ℕ)
 keywords =
     codes "auto" ∷ codes "break" ∷ codes "case" ∷ codes "char" ∷ codes "const" ∷ codes "continue" ∷ codes "default" ∷ codes "do" ∷
@@ -26,9 +28,11 @@ gnu_keywords =
 abbrev pub is_name : List ℕ → Bool
 is_name w = not (is_among keywords w || is_among gnu_keywords w)
 
+-- the words before an attribute's parentheses
 abbrev pub attribute_words : List (List ℕ)
 attribute_words = codes "__attribute__" ∷ codes "__asm__" ∷ []
 
+-- it begins an attribute
 abbrev pub is_attribute : List ℕ → Bool
 is_attribute w = is_among attribute_words w
 
@@ -38,6 +42,7 @@ specifiers =
     codes "const" ∷ codes "__const" ∷ codes "inline" ∷ codes "__inline" ∷ codes "__inline__" ∷ codes "_Noreturn" ∷
     codes "register" ∷ codes "auto" ∷ codes "__extension__" ∷ []
 
+-- it says something of a declaration besides its type
 abbrev pub is_specifier : List ℕ → Bool
 is_specifier w = is_among specifiers w
 
@@ -45,6 +50,7 @@ is_specifier w = is_among specifiers w
 abbrev pub storage_words : List (List ℕ)
 storage_words = codes "extern" ∷ codes "static" ∷ []
 
+-- it is a storage word, which no declaration of a function's body has
 abbrev pub is_storage : List ℕ → Bool
 is_storage w = is_among storage_words w
 
@@ -52,6 +58,7 @@ is_storage w = is_among storage_words w
 abbrev pub may_specify : Bool → List ℕ → Bool
 may_specify outside w = is_specifier w || (outside && is_storage w)
 
+-- the words of types (C11 6.7.2)
 pub data TypeWord : Type 0 where
   Void : TypeWord
   Bool' : TypeWord
@@ -62,15 +69,18 @@ pub data TypeWord : Type 0 where
   Signed : TypeWord
   Unsigned : TypeWord
 
+-- how they are spelled
 abbrev pub type_words : List (List ℕ × TypeWord)
 type_words =
     (codes "void", Void) ∷ (codes "_Bool", Bool') ∷ (codes "char", Char) ∷ (codes "short", Short) ∷ (codes "int", Int) ∷
     (codes "long", Long) ∷ (codes "signed", Signed) ∷ (codes "unsigned", Unsigned) ∷ []
 
+-- the word of a type that is spelled so in these rows
 abbrev pub type_word_among : List (List ℕ × TypeWord) → List ℕ → Option TypeWord
 type_word_among [] w = None
 type_word_among (row ∷ rows) w = if is_spelled row.0 w then Some row.1 else type_word_among rows w
 
+-- the word of a type that is spelled so, if one is
 abbrev pub type_word : List ℕ → Option TypeWord
 type_word w = type_word_among type_words w
 
@@ -85,9 +95,11 @@ number_of_word Long = 5
 number_of_word Signed = 6
 number_of_word Unsigned = 7
 
+-- the same word
 abbrev pub same_word : TypeWord → TypeWord → Bool
 same_word v w = nat_eq (number_of_word v) (number_of_word w)
 
+-- how often a word stands in a list
 abbrev pub times : TypeWord → List TypeWord → ℕ
 times w [] = 0
 times w (v ∷ vs) = if same_word v w then suc (times w vs) else times w vs
@@ -115,6 +127,7 @@ types =
     (Int ∷ [], Some ty.Int) ∷ (Signed ∷ [], Some ty.Int) ∷ (Signed ∷ Int ∷ [], Some ty.Int) ∷
     (Unsigned ∷ [], Some ty.UInt) ∷ (Unsigned ∷ Int ∷ [], Some ty.UInt) ∷ []
 
+-- the type whose row has the same words in any order, if one has
 abbrev pub type_among : List (List TypeWord × Option IntType) → List TypeWord → Option (Option IntType)
 type_among [] words = None
 type_among (row ∷ rows) words = if same_words type_words row.0 words then Some row.1 else type_among rows words

@@ -1,18 +1,23 @@
 -- The bytes of a source text and their classes, in ASCII.
 use Rattle.std.specs.Prelude.{ℕ, ◌-◌, Bool, ◌&&◌, ◌||◌, ◌==◌, nat_le, if◌then◌else◌}
 
+-- the horizontal tab
 abbrev pub tab : ℕ
 tab = 9
 
+-- the line feed, which ends a line
 abbrev pub line_feed : ℕ
 line_feed = 10
 
+-- the form feed
 abbrev pub form_feed : ℕ
 form_feed = 12
 
+-- the carriage return
 abbrev pub carriage_return : ℕ
 carriage_return = 13
 
+-- the space
 abbrev pub space : ℕ
 space = 32
 
@@ -44,6 +49,7 @@ backslash = 92
 abbrev pub small_x : ℕ
 small_x = 120
 
+-- from the first to the second, both included
 abbrev pub is_within : ℕ → ℕ → ℕ → Bool
 is_within low high b = nat_le low b && nat_le b high
 

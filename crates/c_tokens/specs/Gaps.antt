@@ -11,6 +11,7 @@ use Rattle.c_tokens.specs.Numbers.{is_spelled}
 abbrev pub line_length : List ℕ → ℕ
 line_length text = position_or_len (λ b. b == line_feed) text
 
+-- the text begins with this byte
 abbrev pub begins_with : ℕ → List ℕ → Bool
 begins_with b [] = false
 begins_with b (c ∷ text) = c == b
@@ -25,6 +26,7 @@ abbrev pub close_length : List ℕ → Option ℕ
 close_length [] = None
 close_length (b ∷ text) = if closes (b ∷ text) then Some 2 else option_map (λ n. n + 1) (close_length text)
 
+-- a comment of so many bytes up to its end, or one without an end
 abbrev pub closed : Option ℕ → Gap
 closed None = Unclosed
 closed (Some n) = Space (n + 2)
@@ -38,10 +40,12 @@ comment (b ∷ text) = if b == slash then Space (line_length text + 2) else if b
 abbrev pub is_passed_name : List ℕ → Bool
 is_passed_name name = is_spelled (codes "include") name || (is_spelled (codes "line") name || is_spelled (codes "pragma") name)
 
+-- the text begins with a digit
 abbrev pub begins_with_digit : List ℕ → Bool
 begins_with_digit [] = false
 begins_with_digit (b ∷ text) = is_digit b
 
+-- the rest of a directive's line is one that is passed over
 abbrev pub is_passed_over : List ℕ → Bool
 is_passed_over line =
     let first = drop (prefix_len is_blank line) line in

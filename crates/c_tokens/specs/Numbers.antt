@@ -9,11 +9,13 @@ use Rattle.c_tokens.specs.Bytes.{is_digit, is_octal_digit, is_hexadecimal_digit,
 abbrev pub number_in : ℕ → List ℕ → ℕ
 number_in radix digits = fold (λ n d. n * radix + digit_value d) 0 digits
 
+-- letters behind a constant, and what they say of its type (C11 6.4.4.1)
 pub record Suffix : Type 0 where
   pub spelling : List ℕ
   pub unsigned : Bool
   pub longs : ℕ
 
+-- one of them
 abbrev pub suffix : List ℕ → Bool → ℕ → Suffix
 suffix spelling unsigned longs = record { spelling = spelling; unsigned = unsigned; longs = longs }
 
@@ -29,6 +31,7 @@ suffixes =
     suffix (codes "ull") true 2 ∷ suffix (codes "uLL") true 2 ∷ suffix (codes "Ull") true 2 ∷ suffix (codes "ULL") true 2 ∷
     suffix (codes "llu") true 2 ∷ suffix (codes "llU") true 2 ∷ suffix (codes "LLu") true 2 ∷ suffix (codes "LLU") true 2 ∷ []
 
+-- the bytes are these
 abbrev pub is_spelled : List ℕ → List ℕ → Bool
 is_spelled [] [] = true
 is_spelled [] (b ∷ w) = false
@@ -40,6 +43,7 @@ abbrev pub suffix_among : List Suffix → List ℕ → Option (Bool × ℕ)
 suffix_among [] w = None
 suffix_among (s ∷ rows) w = if is_spelled s.spelling w then Some (s.unsigned, s.longs) else suffix_among rows w
 
+-- what the letters say, if they are a suffix
 abbrev pub suffix_of : List ℕ → Option (Bool × ℕ)
 suffix_of w = suffix_among suffixes w
 

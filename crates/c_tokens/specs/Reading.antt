@@ -39,9 +39,11 @@ pub data Ending : Type 0 where
   -- at a directive on this line that is not passed over
   BadDirective : ℕ → Ending
 
+-- a token of a kind where it begins
 abbrev pub token : TokenKind → Place → Token
 token kind at = record { kind = kind; spot = at.spot }
 
+-- the character `(`
 abbrev pub paren_open : ℕ
 paren_open = 40
 
@@ -76,9 +78,11 @@ AnswersFrom directives at text (Err (TokenAt line column)) = (ts : List Token) �
 AnswersFrom directives at text (Err (Directive line)) = (ts : List Token) × Reads directives at text ts (BadDirective line)
 AnswersFrom directives at text (Err OutOfMemory) = Unit {0}
 
+-- what reading a text answers, where directives are read or not
 abbrev pub AnswersBy : Bool → List ℕ → Result (List Token) TokenFault → Type 0
 AnswersBy directives = AnswersFrom directives start
 
+-- what reading a program's text answers
 abbrev pub Answers : List ℕ → Result (List Token) TokenFault → Type 0
 Answers = AnswersBy true
 

@@ -18,10 +18,12 @@ use Rattle.check_rules.specs.Parts.{bodies_of}
 use Rattle.check_rules.specs.First.{IsUnrefused, wrong_main}
 
 module _ (m : DataModel) (bodies : List (List ℕ)) where
+  -- a typed expression, where there is one
   abbrev pub typed_if : List Entry → Option raw.Exp → Option t.Exp
   typed_if es None = None
   typed_if es (Some e) = Some (typed m bodies es e)
 
+  -- a typed initializer
   abbrev pub typed_init : List Entry → raw.Init → t.Init
   typed_init es raw.Absent = t.Absent
   typed_init es (raw.One e) = t.One (typed m bodies es e)
@@ -33,15 +35,18 @@ module _ (m : DataModel) (bodies : List (List ℕ)) where
   typed_names s (d ∷ ds) =
       t.MoreName d.spot (length s.objects) (typed_init (seen (after_name m bodies false s d)) d.init) (typed_names (after_name m bodies false s d) ds)
 
+  -- the typed first part of `for (`
   abbrev pub typed_first : Scope → raw.First → t.First
   typed_first s raw.NoFirst = t.NoFirst
   typed_first s (raw.FirstExp e) = t.FirstExp (typed m bodies (seen s) e)
   typed_first s (raw.FirstDeclared ds) = t.FirstNames (typed_names s ds)
 
   abbrev mutual
+    -- a typed statement in the scope before it
     pub typed_statement : Scope → raw.Stm → t.Stm
     typed_statement s (raw.Stmt p f) = t.Stmt p (typed_form s f)
 
+    -- a typed statement by its form
     pub typed_form : Scope → raw.Form → t.Form
     typed_form s raw.Empty = t.Empty
     typed_form s (raw.Do e) = t.Do (typed m bodies (seen s) e)
@@ -58,10 +63,12 @@ module _ (m : DataModel) (bodies : List (List ℕ)) where
     typed_form s (raw.Return e) = t.Return (typed_if (seen s) e)
     typed_form s (raw.Label w a) = t.Label (typed_statement (opened s) a)
 
+    -- the typed second arm, a block of its own
     pub typed_else : Scope → raw.Else → t.Else
     typed_else s raw.NoElse = t.NoElse
     typed_else s (raw.OrElse b) = t.OrElse (typed_statement (opened s) b)
 
+    -- the typed statements of a block, each in the scope behind the one before
     pub typed_block : Scope → raw.Stms → t.Stms
     typed_block s raw.NoStm = t.NoStm
     typed_block s (raw.MoreStm x b) = t.MoreStm (typed_statement s x) (typed_block (after_statement m bodies s x) b)
@@ -71,9 +78,11 @@ module _ (m : DataModel) (bodies : List (List ℕ)) where
   numbers_from n [] = []
   numbers_from n (x ∷ xs) = n ∷ numbers_from (n + 1) xs
 
+  -- where a body begins
   abbrev pub body_place : raw.Stm → Spot
   body_place (raw.Stmt p f) = p
 
+  -- the typed function of an item
   abbrev pub typed_function : Scope → List ℕ → Option IntType → List raw.Param → raw.Stm → t.Function
   typed_function s name result xs body = record {
     result = result;
@@ -81,12 +90,14 @@ module _ (m : DataModel) (bodies : List (List ℕ)) where
     body = t.Stmt (body_place body) (t.Block (typed_block (after_parameters (inside s name result xs) xs) (statements_of body)));
   }
 
+  -- the typed functions with bodies, in the order of the text
   abbrev pub functions_of : Scope → List raw.Item → List t.Function
   functions_of s [] = []
   functions_of s (raw.Function p name result xs body ∷ items) =
       typed_function s name result xs body ∷ functions_of (after_item m bodies s (raw.Function p name result xs body)) items
   functions_of s (item ∷ items) = functions_of (after_item m bodies s item) items
 
+  -- 0 where there is no value
   abbrev pub or_zero : Option ℤ → ℤ
   or_zero None = pos 0
   or_zero (Some v) = v
@@ -95,13 +106,16 @@ module _ (m : DataModel) (bodies : List (List ℕ)) where
   abbrev pub start_value : List Entry → IntType → raw.Exp → ℤ
   start_value es ty e = fit m ty (or_zero (constant m (typed m bodies es e)))
 
+  -- the values of a list
   abbrev pub start_values : List Entry → IntType → raw.Exps → List ℤ
   start_values es ty raw.NoExp = []
   start_values es ty (raw.MoreExp e gs) = start_value es ty e ∷ start_values es ty gs
 
+  -- an object's initial values
   abbrev pub start : ℕ → List ℤ → Start
   start n values = record { object = n; values = values }
 
+  -- the initial values of a static object, if it is initialized
   abbrev pub start_of_init : List Entry → ℕ → IntType → raw.Init → List Start
   start_of_init es n ty raw.Absent = []
   start_of_init es n ty (raw.One e) = start n (start_value es ty e ∷ []) ∷ []
@@ -112,6 +126,7 @@ module _ (m : DataModel) (bodies : List (List ℕ)) where
   starts_of_names s [] = []
   starts_of_names s (d ∷ ds) = start_of_init (seen (after_name m bodies true s d)) (length s.objects) d.ty d.init ++ starts_of_names (after_name m bodies true s d) ds
 
+  -- all initial values of a source
   abbrev pub starts_of : Scope → List raw.Item → List Start
   starts_of s [] = []
   starts_of s (raw.Global ds ∷ items) = starts_of_names s ds ++ starts_of (after_item m bodies s (raw.Global ds)) items

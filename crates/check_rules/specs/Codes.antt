@@ -20,13 +20,16 @@ use Rattle.check_rules.specs.Typed.{typed}
 use Rattle.check_rules.specs.Scopes.{Scope, seen, object_of, size_of}
 use Rattle.check_rules.specs.Parts.{Role, Value, Target, Effect, Part, Expression, Declaring, Naming, Initializing, Returning, Leaving, Labelling, bodies_of}
 
+-- one of these names
 abbrev pub is_among : List (List ℕ) → List ℕ → Bool
 is_among names x = list_any (bytes_eq x) names
 
+-- how many arguments
 abbrev pub count : Exps → ℕ
 count NoExp = 0
 count (MoreExp e gs) = count gs + 1
 
+-- where an expression begins
 abbrev pub start : Exp → Spot
 start (Expr p n) = p
 
@@ -39,22 +42,26 @@ word_of (Index x w a) = Some x
 word_of (Call f w gs close) = Some f
 word_of _ = None
 
+-- where the node's own word stands
 abbrev pub place_of_word : Spot → Node → Spot
 place_of_word p (Var x w) = w
 place_of_word p (Index x w a) = w
 place_of_word p (Call f w gs close) = w
 place_of_word p _ = p
 
+-- a word that names nothing in scope
 abbrev pub names_nothing : List Entry → Option (List ℕ) → Bool
 names_nothing es None = false
 names_nothing es (Some x) = is_none (named es x)
 
+-- refused as `check-name`: an unknown name
 abbrev pub nameless : Part → Bool
 nameless (Expression es r (Expr p n)) = names_nothing es (word_of n)
 nameless _ = false
 
 -- ---- a name is declared again in one scope
 
+-- the same types in the same order
 abbrev pub same_lists : List IntType → List IntType → Bool
 same_lists [] [] = true
 same_lists [] (t ∷ ts) = false
@@ -86,9 +93,11 @@ alters (Some callee.ReachError) k = false
 alters (Some built) (kind.Function result stated has_body) = has_body || not (same_types (result_of_callee built) result)
 alters _ _ = false
 
+-- what a declared object is called, and what it is
 abbrev pub entry_of : Bool → Scope → raw.Declared → Entry
 entry_of fixed s d = entry d.name (kind.Object (length s.objects) d.ty (is_some d.size) fixed)
 
+-- refused as `check-again`: declared twice, or a label set twice
 abbrev pub doubled : Part → Bool
 doubled (Declaring fixed s d) = is_again s (entry_of fixed s d)
 doubled (Naming s e p) = is_again s e || alters (built_in e.name) e.kind
@@ -116,6 +125,7 @@ count_in (kind.Function result None has_body) = None
 count_in (kind.Function result (Some types) has_body) = Some (length types)
 count_in kind.Closed = None
 
+-- the first of the two that there is
 abbrev pub or_else : Option ℕ → Option ℕ → Option ℕ
 or_else None o = o
 or_else (Some n) o = Some n
@@ -131,10 +141,12 @@ count_defined [] f = None
 count_defined (raw.Function p name result xs body ∷ rest) f = cond (bytes_eq name f) (Some (length xs)) (count_defined rest f)
 count_defined (item ∷ rest) f = count_defined rest f
 
+-- there is a number, and it is another
 abbrev pub is_not : ℕ → Option ℕ → Bool
 is_not n None = false
 is_not n (Some k) = not (nat_eq n k)
 
+-- one is void and the other has a value
 abbrev pub is_one_void : Option IntType → Option IntType → Bool
 is_one_void None b = is_some b
 is_one_void (Some a) b = is_none b
@@ -156,6 +168,7 @@ abbrev pub is_wrong_return : Option IntType → Bool → Bool
 is_wrong_return None given = given
 is_wrong_return (Some ty) given = not given
 
+-- how many values an initializer has
 abbrev pub count_of_init : raw.Init → ℕ
 count_of_init raw.Absent = 0
 count_of_init (raw.One e) = 1
@@ -166,20 +179,24 @@ abbrev pub is_too_small : ℕ → Option ℕ → Bool
 is_too_small n None = true
 is_too_small n (Some size) = nat_lt size n
 
+-- the names of closed items
 abbrev pub closed_names : List raw.Item → List (List ℕ)
 closed_names [] = []
 closed_names (raw.Closed p name ∷ rest) = name ∷ closed_names rest
 closed_names (item ∷ rest) = closed_names rest
 
+-- the cells of objects together
 abbrev pub cells_in : List Object → ℕ
 cells_in objects = sum_by (λ o. o.cells) objects
 
+-- the limit on cells is passed with this object
 abbrev pub passes_limit : ℕ → ℕ → Bool
 passes_limit before cells = nat_le before most_declared_cells && nat_lt most_declared_cells (before + cells)
 
 module _ (m : DataModel) (items : List raw.Item) where
   -- ---- types
 
+  -- how many arguments a call wants, if anything says it
   abbrev pub count_for : Option Callee → List Entry → List ℕ → Option ℕ
   count_for None es f = or_else (count_stated es f) (count_defined items f)
   count_for (Some built) es f = Some (length (parameters_of_callee built))
@@ -190,6 +207,7 @@ module _ (m : DataModel) (items : List raw.Item) where
   miscalled es f n (Some (kind.Object o ty array fixed)) = true
   miscalled es f n (Some k) = is_not n (count_for (built_in f) es f)
 
+  -- the type of an expression where these names are seen
   abbrev pub type_in : List Entry → Exp → Option IntType
   type_in es e = type_of (typed m (bodies_of items) es e)
 
@@ -208,6 +226,7 @@ module _ (m : DataModel) (items : List raw.Item) where
   unfit Target es (Expr p n) = not (is_place n)
   unfit Effect es e = false
 
+  -- refused as `check-typing`
   abbrev pub mistyped : Part → Bool
   mistyped (Expression es r (Expr p n)) = misused es n || unfit r es (Expr p n)
   mistyped (Declaring fixed s d) = is_wrong_init d.size d.init
@@ -218,10 +237,12 @@ module _ (m : DataModel) (items : List raw.Item) where
 
   -- ---- sizes
 
+  -- a size that is none, or one below the number of values
   abbrev pub is_wrong_size : List Entry → Option Exp → raw.Init → Bool
   is_wrong_size es None init = false
   is_wrong_size es (Some e) init = is_too_small (count_of_init init) (size_of m (bodies_of items) es e)
 
+  -- refused as `check-size`
   abbrev pub missized : Part → Bool
   missized (Declaring fixed s d) = is_wrong_size (seen s) d.size d.init
   missized _ = false
@@ -232,10 +253,12 @@ module _ (m : DataModel) (items : List raw.Item) where
   abbrev pub is_bodiless : List ℕ → Bool
   is_bodiless f = is_among (closed_names items) f || (is_none (built_in f) && not (is_among (bodies_of items) f))
 
+  -- a call of a function without a body
   abbrev pub calls_bodiless : List Entry → Node → Bool
   calls_bodiless es (Call f w gs close) = is_function (named es f) && is_bodiless f
   calls_bodiless es _ = false
 
+  -- refused as `check-body`
   abbrev pub bodiless : Part → Bool
   bodiless (Expression es r (Expr p n)) = calls_bodiless es n
   bodiless _ = false

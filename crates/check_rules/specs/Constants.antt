@@ -29,6 +29,7 @@ of_rank decimal true pair = pair.unsigned ∷ []
 of_rank true false pair = pair.signed ∷ []
 of_rank false false pair = pair.signed ∷ pair.unsigned ∷ []
 
+-- the first type that holds the value (C11 6.4.4.1p5)
 abbrev pub first_that_holds : DataModel → ℕ → List IntType → Option IntType
 first_that_holds m v [] = None
 first_that_holds m v (ty ∷ tys) = cond (in_range m ty (pos v)) (Some ty) (first_that_holds m v tys)
@@ -51,14 +52,17 @@ is_constant_node (Assign op a b) = false
 is_constant_node (Call callee es close) = false
 is_constant_node _ = true
 
+-- the expression's own node may stand in a constant
 abbrev pub is_constant_part : Exp → Bool
 is_constant_part (Expr spot ty n) = is_constant_node n
 
+-- the value, where it is defined and doesn't overflow
 abbrev pub outcome : Done → Option ℤ
 outcome (Value v) = Some v
 outcome (Overflow v) = None
 outcome Undefined = None
 
+-- fitted to a type; void leaves it as it is
 abbrev pub converted : DataModel → Option IntType → ℤ → ℤ
 converted m None v = v
 converted m (Some ty) v = fit m ty v

@@ -16,6 +16,7 @@ use Rattle.check_rules.specs.Parts.{Part, parts_of_source}
 use Rattle.check_rules.specs.Codes.{nameless, doubled, mistyped, missized, bodiless, crowded, place_of, place_of_name}
 use Rattle.check_rules.specs.Order.{IsUnordered}
 
+-- a code at a place
 abbrev pub refusal : CheckCode → Spot → Refusal
 refusal c p = record { code = c; spot = p }
 
@@ -30,6 +31,7 @@ rank code.Body = 5
 rank code.Main = 6
 rank code.Cells = 7
 
+-- earlier in the text; at one place by the order of the codes
 abbrev pub comes_first : Refusal → Refusal → Bool
 comes_first a b = is_before a.spot b.spot || (not (is_before b.spot a.spot) && nat_lt (rank a.code) (rank b.code))
 
@@ -45,6 +47,7 @@ module _ (m : DataModel) (items : List raw.Item) where
   Holds code.Main part = ⊥
   Holds code.Cells part = crowded m items part ≡ true
 
+  -- where a part is refused: a name at the word, all else where the part begins
   abbrev pub place : CheckCode → Part → Spot
   place code.Name part = place_of_name part
   place c part = place_of part
@@ -56,29 +59,36 @@ module _ (m : DataModel) (items : List raw.Item) where
     pub holds : Holds r.code part
     pub there : place r.code part ≡ r.spot
 
+  -- it is a refusal, and no other comes before it
   abbrev pub IsFirst : Refusal → Type 0
   IsFirst r = IsRefused r × ((other : Refusal) → IsRefused other → comes_first other r ≡ false)
 
+  -- nothing is refused
   abbrev pub IsUnrefused : Type 0
   IsUnrefused = (r : Refusal) → IsRefused r → ⊥
 
 -- ---- the function `main`, judged last
 
+-- line 1, column 1
 abbrev pub start_of_source : Spot
 start_of_source = record { line = 1; column = 1 }
 
+-- the type `int`
 abbrev pub is_int : IntType → Bool
 is_int ty.Int = true
 is_int ty = false
 
+-- `int` or void: what `main` may give
 abbrev pub is_result_of_main : Option IntType → Bool
 is_result_of_main None = true
 is_result_of_main (Some ty) = is_int ty
 
+-- there are no parameters
 abbrev pub has_none : List raw.Param → Bool
 has_none [] = true
 has_none (x ∷ xs) = false
 
+-- the place, where something doesn't fit
 abbrev pub unless_fit : Spot → Bool → Option Spot
 unless_fit p true = None
 unless_fit p false = Some p

@@ -15,10 +15,12 @@ pub data Kind : Type 0 where
   -- a declaration of which only the name is known, as those of system headers
   Closed : Kind
 
+-- a declared name
 pub record Entry : Type 0 where
   pub name : List ℕ
   pub kind : Kind
 
+-- a name and what it is
 abbrev pub entry : List ℕ → Kind → Entry
 entry name kind = record { name = name; kind = kind }
 
@@ -39,9 +41,11 @@ pub record BuiltIn : Type 0 where
   pub name : List ℕ
   pub callee : Callee
 
+-- a built-in function
 abbrev pub built : List ℕ → Callee → BuiltIn
 built name callee = record { name = name; callee = callee }
 
+-- the built-in functions
 abbrev pub built_ins : List BuiltIn
 built_ins =
     built (codes "__VERIFIER_nondet_bool") (Input BoolType) ∷
@@ -60,10 +64,12 @@ built_ins =
     built (codes "abort") Abort ∷
     built (codes "exit") Exit ∷ []
 
+-- the function of this name in these rows
 abbrev pub callee_among : List BuiltIn → List ℕ → Option Callee
 callee_among [] x = None
 callee_among (b ∷ bs) x = cond (bytes_eq b.name x) (Some b.callee) (callee_among bs x)
 
+-- the built-in function of this name, if there is one
 abbrev pub built_in : List ℕ → Option Callee
 built_in x = callee_among built_ins x
 
@@ -77,10 +83,12 @@ abbrev pub parameters_of_callee : Callee → List IntType
 parameters_of_callee Exit = Int ∷ []
 parameters_of_callee _ = []
 
+-- an input function
 abbrev pub is_input : Option Callee → Bool
 is_input (Some (Input ty)) = true
 is_input _ = false
 
+-- what a built-in function is among declared names
 abbrev pub kind_of_callee : Callee → Kind
 kind_of_callee callee = Function (result_of_callee callee) (Some (parameters_of_callee callee)) true
 
@@ -94,6 +102,7 @@ or_built_in o None = o
 abbrev pub named : List Entry → List ℕ → Option Kind
 named es x = or_built_in (declared_as es x) (built_in x)
 
+-- it may be called
 abbrev pub is_function : Option Kind → Bool
 is_function None = false
 is_function (Some (Object n ty array fixed)) = false

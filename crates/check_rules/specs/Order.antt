@@ -12,10 +12,12 @@ use Rattle.check_rules.specs.Typed.{callee_of}
 use Rattle.check_rules.specs.Scopes.{Scope, seen, after_item, outermost}
 use Rattle.check_rules.specs.Parts.{Value, Target, Part, Expression, Initializing, parts, parts_in, parts_of_body, bodies_of}
 
+-- this object
 abbrev pub is_object : ℕ → Option Kind → Bool
 is_object o (Some (kind.Object n ty array fixed)) = nat_eq n o
 is_object o _ = false
 
+-- this object, if it is of static storage
 abbrev pub is_static : ℕ → Option Kind → Bool
 is_static o (Some (kind.Object n ty array fixed)) = nat_eq n o && fixed
 is_static o _ = false
@@ -32,14 +34,17 @@ reads test (Expression es Target e) = false
 reads test (Expression es r (Expr p n)) = test (object_named es n)
 reads test _ = false
 
+-- a part that assigns or steps an object of this test
 abbrev pub changes : (Option Kind → Bool) → Part → Bool
 changes test (Expression es Target (Expr p n)) = test (object_named es n)
 changes test _ = false
 
+-- it calls the function of that number
 abbrev pub has_number : ℕ → Callee → Bool
 has_number k (callee.Defined f) = nat_eq f k
 has_number k _ = false
 
+-- one of the parts passes the test
 pub data SomeOf (test : Part → Bool) : List Part → Type 0 where
   This : {p : Part} {ps : List Part} → test p ≡ true → SomeOf test (p ∷ ps)
   Other : {p : Part} {ps : List Part} → SomeOf test ps → SomeOf test (p ∷ ps)
@@ -51,10 +56,12 @@ parts_of_bodies m bodies s (raw.Function p name result xs body ∷ items) =
     parts_of_body m bodies s name result xs body ∷ parts_of_bodies m bodies (after_item m bodies s (raw.Function p name result xs body)) items
 parts_of_bodies m bodies s (item ∷ items) = parts_of_bodies m bodies (after_item m bodies s item) items
 
+-- the parts of each argument apart
 abbrev pub arguments : List Entry → Exps → List (List Part)
 arguments es NoExp = []
 arguments es (MoreExp e gs) = parts es Value e ∷ arguments es gs
 
+-- the parts of an expression but itself
 abbrev pub parts_below : List Entry → Exp → List Part
 parts_below es (Expr p n) = parts_in es n
 
@@ -65,14 +72,17 @@ operands es (Assign op a b) = parts_below es a ∷ parts es Value b ∷ []
 operands es (Call f w gs close) = arguments es gs
 operands es _ = []
 
+-- the left side of an assignment to this object
 abbrev pub IsTarget : ℕ → List Entry → Exp → Type 0
 IsTarget o es (Expr p n) = is_object o (object_named es n) ≡ true
 
 module _ (m : DataModel) (items : List raw.Item) where
+  -- a part that calls the function of this number
   abbrev pub calls_function : ℕ → Part → Bool
   calls_function k (Expression es r (Expr p (Call f w gs close))) = is_function (named es f) && has_number k (callee_of (bodies_of items) f)
   calls_function k part = false
 
+  -- the parts of the body of the function of this number
   abbrev pub IsBody : ℕ → List Part → Type 0
   IsBody k ps = (slice_get (parts_of_bodies m (bodies_of items) outermost items) k ≡ Some ps)
 
@@ -93,9 +103,11 @@ module _ (m : DataModel) (items : List raw.Item) where
   abbrev pub Changes : ℕ → List Part → Type 0
   Changes o ps = SomeOf (changes (is_object o)) ps ⊎ Through (changes (is_static o)) ps
 
+  -- an object is read, here or through calls
   abbrev pub Reads : ℕ → List Part → Type 0
   Reads o ps = SomeOf (reads (is_object o)) ps ⊎ Through (reads (is_static o)) ps
 
+  -- an object is read or changed
   abbrev pub Touches : ℕ → List Part → Type 0
   Touches o ps = Reads o ps ⊎ Changes o ps
 
@@ -105,11 +117,13 @@ module _ (m : DataModel) (items : List raw.Item) where
     pub changed : Changes object ps
     pub touched : Touches object qs
 
+  -- a function with a body is called
   pub record CallsOne (ps : List Part) : Type 0 where
     pub function : ℕ
     pub below : function < length (bodies_of items)
     pub called : SomeOf (calls_function function) ps
 
+  -- two operands of which one changes what the other touches, or of which both call functions (C11 6.5p2)
   abbrev pub AreUnsequenced : List Part → List Part → Type 0
   AreUnsequenced ps qs = Clash ps qs ⊎ (Clash qs ps ⊎ (CallsOne ps × CallsOne qs))
 
@@ -130,6 +144,7 @@ module _ (m : DataModel) (items : List raw.Item) where
     pub its : IsTarget object es target
     pub changed : SomeOf (changes (is_object object)) (parts_below es target ++ parts es Value from)
 
+  -- an assignment whose target is changed a second time, in its index or beside it
   abbrev pub IsStoredTwice : List Entry → Node → Type 0
   IsStoredTwice es (Step op a) = ChangedInIndex es a
   IsStoredTwice es (Assign op a b) = ChangedInIndex es a ⊎ ChangedBeside es a b
@@ -139,6 +154,7 @@ module _ (m : DataModel) (items : List raw.Item) where
   abbrev pub InitializesItself : Scope → Exp → Type 0
   InitializesItself s e = Touches (length s.objects - 1) (parts (seen s) Value e)
 
+  -- refused as `check-order`
   abbrev pub IsUnordered : Part → Type 0
   IsUnordered (Expression es r (Expr p n)) = SomePair (operands es n) ⊎ IsStoredTwice es n
   IsUnordered (Initializing fixed s e) = InitializesItself s e

@@ -14,6 +14,7 @@ pub data Role : Type 0 where
   Target : Role
   Effect : Role
 
+-- what a rule is asked of, with all that it needs of what is around it
 pub data Part : Type 0 where
   -- an expression, with the names that it sees
   Expression : List Entry → Role → Exp → Part
@@ -30,6 +31,7 @@ pub data Part : Type 0 where
   -- a label, with those before it in its function
   Labelling : List (List ℕ) → List ℕ → Spot → Part
 
+-- a cast to void wants no value of its operand
 abbrev pub of_cast : Option IntType → Role
 of_cast None = Effect
 of_cast (Some ty) = Value
@@ -37,9 +39,11 @@ of_cast (Some ty) = Value
 -- every expression in an expression
 module _ (es : List Entry) where
   abbrev mutual
+    -- an expression and the expressions in it, with what is asked of each
     pub parts : Role → Exp → List Part
     parts r (Expr p n) = Expression es r (Expr p n) ∷ parts_in n
 
+    -- the parts of a node, with what is asked of each
     pub parts_in : Node → List Part
     parts_in (Index x w a) = parts Value a
     parts_in (Unary op a) = parts Value a
@@ -54,10 +58,12 @@ module _ (es : List Entry) where
     parts_in (Call f w gs close) = parts_of gs
     parts_in _ = []
 
+    -- the parts of arguments, each of which has a value
     pub parts_of : Exps → List Part
     parts_of NoExp = []
     parts_of (MoreExp e gs) = parts Value e ++ parts_of gs
 
+-- the parts of it, where there is one
 abbrev pub parts_if : List Entry → Role → Option Exp → List Part
 parts_if es r None = []
 parts_if es r (Some e) = parts es r e
@@ -66,23 +72,28 @@ parts_if es r (Some e) = parts es r e
 abbrev pub parts_of_value : Bool → Scope → Exp → List Part
 parts_of_value fixed s e = Initializing fixed s e ∷ parts (seen s) Value e
 
+-- the parts of the values of a list
 abbrev pub parts_of_values : Bool → Scope → Exps → List Part
 parts_of_values fixed s NoExp = []
 parts_of_values fixed s (MoreExp e gs) = parts_of_value fixed s e ++ parts_of_values fixed s gs
 
+-- the parts of an initializer
 abbrev pub parts_of_init : Bool → Scope → raw.Init → List Part
 parts_of_init fixed s raw.Absent = []
 parts_of_init fixed s (raw.One e) = parts_of_value fixed s e
 parts_of_init fixed s (raw.Many gs) = parts_of_values fixed s gs
 
 module _ (m : DataModel) (bodies : List (List ℕ)) where
+  -- the parts of a declared name: its size, itself, its initializer
   abbrev pub parts_of_name : Bool → Scope → raw.Declared → List Part
   parts_of_name fixed s d = parts_if (seen s) Value d.size ++ Declaring fixed s d ∷ parts_of_init fixed (after_name m bodies fixed s d) d.init
 
+  -- the parts of declared names, each in the scope behind the one before
   abbrev pub parts_of_names : Bool → Scope → List raw.Declared → List Part
   parts_of_names fixed s [] = []
   parts_of_names fixed s (d ∷ ds) = parts_of_name fixed s d ++ parts_of_names fixed (after_name m bodies fixed s d) ds
 
+  -- the parts of the first part of `for (`
   abbrev pub parts_of_first : Scope → raw.First → List Part
   parts_of_first s raw.NoFirst = []
   parts_of_first s (raw.FirstExp e) = parts (seen s) Effect e
@@ -91,9 +102,11 @@ module _ (m : DataModel) (bodies : List (List ℕ)) where
   -- in a function of this result; `looped`: a loop is around the statement
   module _ (result : Option IntType) where
     abbrev mutual
+      -- the parts of a statement, in a loop or not, in the scope before it
       pub parts_of_statement : Bool → Scope → raw.Stm → List Part
       parts_of_statement looped s (raw.Stmt p f) = parts_of_form looped s p f
 
+      -- the parts of a statement by its form
       pub parts_of_form : Bool → Scope → Spot → raw.Form → List Part
       parts_of_form looped s p (raw.Do e) = parts (seen s) Effect e
       parts_of_form looped s p (raw.Declare ds) = parts_of_names false s ds
@@ -111,10 +124,12 @@ module _ (m : DataModel) (bodies : List (List ℕ)) where
       parts_of_form looped s p (raw.Label w a) = parts_of_statement looped (opened s) a
       parts_of_form looped s p raw.Empty = []
 
+      -- the parts of the second arm, a block of its own
       pub parts_of_else : Bool → Scope → raw.Else → List Part
       parts_of_else looped s raw.NoElse = []
       parts_of_else looped s (raw.OrElse b) = parts_of_statement looped (opened s) b
 
+      -- the parts of a block's statements, each in the scope behind the one before
       pub parts_of_block : Bool → Scope → raw.Stms → List Part
       parts_of_block looped s raw.NoStm = []
       parts_of_block looped s (raw.MoreStm x b) = parts_of_statement looped s x ++ parts_of_block looped (after_statement m bodies s x) b
@@ -125,9 +140,11 @@ pub record Label : Type 0 where
   pub spot : Spot
 
 abbrev mutual
+  -- the labels of a statement, in the order of the text
   pub labels_of : raw.Stm → List Label
   labels_of (raw.Stmt p f) = labels_in p f
 
+  -- the labels of a statement by its form
   pub labels_in : Spot → raw.Form → List Label
   labels_in p (raw.Block b) = labels_of_block b
   labels_in p (raw.If e a b) = labels_of a ++ labels_of_else b
@@ -137,18 +154,22 @@ abbrev mutual
   labels_in p (raw.Label w a) = record { name = w; spot = p } ∷ labels_of a
   labels_in p _ = []
 
+  -- the labels of the second arm
   pub labels_of_else : raw.Else → List Label
   labels_of_else raw.NoElse = []
   labels_of_else (raw.OrElse b) = labels_of b
 
+  -- the labels of a block's statements
   pub labels_of_block : raw.Stms → List Label
   labels_of_block raw.NoStm = []
   labels_of_block (raw.MoreStm x b) = labels_of x ++ labels_of_block b
 
+-- each label, with those before it
 abbrev pub parts_of_labels : List (List ℕ) → List Label → List Part
 parts_of_labels before [] = []
 parts_of_labels before (l ∷ ls) = Labelling before l.name l.spot ∷ parts_of_labels (before ++ l.name ∷ []) ls
 
+-- the parts of parameters, each in the scope behind the one before
 abbrev pub parts_of_parameters : Scope → List raw.Param → List Part
 parts_of_parameters s [] = []
 parts_of_parameters s (x ∷ xs) = Declaring false s (plain x) ∷ parts_of_parameters (with_object s (parameter x)) xs
@@ -162,6 +183,7 @@ module _ (m : DataModel) (bodies : List (List ℕ)) where
   abbrev pub parts_of_body : Scope → List ℕ → Option IntType → List raw.Param → raw.Stm → List Part
   parts_of_body s name result xs body = parts_of_block m bodies result false (after_parameters (inside s name result xs) xs) (statements_of body)
 
+  -- the parts of an item, in the scope before it
   abbrev pub parts_of_item : Scope → raw.Item → List Part
   parts_of_item s (raw.Function p name result xs body) =
       Naming s (entry_of_function name result xs) p ∷ parts_of_parameters (inside s name result xs) xs ++ parts_of_body s name result xs body ++ parts_of_labels [] (labels_of body)
@@ -169,6 +191,7 @@ module _ (m : DataModel) (bodies : List (List ℕ)) where
   parts_of_item s (raw.Global ds) = parts_of_names m bodies true s ds
   parts_of_item s (raw.Closed p name) = []
 
+  -- the parts of items, each in the scope behind the one before
   abbrev pub parts_of_items : Scope → List raw.Item → List Part
   parts_of_items s [] = []
   parts_of_items s (x ∷ xs) = parts_of_item s x ++ parts_of_items (after_item m bodies s x) xs

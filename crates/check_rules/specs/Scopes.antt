@@ -19,6 +19,7 @@ pub record Scope : Type 0 where
 abbrev pub seen : Scope → List Entry
 seen s = s.outer ++ s.inner
 
+-- what is seen outside, what is declared here, and the objects so far
 abbrev pub scope : List Entry → List Entry → List Object → Scope
 scope outer inner objects = record { outer = outer; inner = inner; objects = objects }
 
@@ -30,6 +31,7 @@ opened s = scope (seen s) [] s.objects
 abbrev pub closed : Scope → Scope → Scope
 closed s t = scope s.outer s.inner t.objects
 
+-- with one name more
 abbrev pub with_entry : Scope → Entry → Scope
 with_entry s e = scope s.outer (s.inner ++ e ∷ []) s.objects
 
@@ -38,14 +40,17 @@ abbrev pub with_object : Scope → Object → Scope
 with_object s o =
     scope s.outer (s.inner ++ entry o.name (kind.Object (length s.objects) o.ty o.array o.fixed) ∷ []) (s.objects ++ o ∷ [])
 
+-- an array has 1 to 256 cells
 abbrev pub in_bounds : ℕ → Option ℕ
 in_bounds n = cond (nat_le 1 n && nat_le n 256) (Some n) None
 
+-- a value as a size, if it is one
 abbrev pub as_size : Option ℤ → Option ℕ
 as_size None = None
 as_size (Some (pos n)) = in_bounds n
 as_size (Some (negsuc n)) = None
 
+-- a size that is refused counts as 1
 abbrev pub cells_or_one : Option ℕ → ℕ
 cells_or_one None = 1
 cells_or_one (Some n) = n
@@ -55,6 +60,7 @@ module _ (m : DataModel) (bodies : List (List ℕ)) where
   abbrev pub size_of : List Entry → raw.Exp → Option ℕ
   size_of es e = as_size (constant m (typed m bodies es e))
 
+  -- the cells of an object: 1, or its array's size
   abbrev pub cells_of : List Entry → Option raw.Exp → ℕ
   cells_of es None = 1
   cells_of es (Some e) = cells_or_one (size_of es e)
@@ -67,10 +73,12 @@ module _ (m : DataModel) (bodies : List (List ℕ)) where
   abbrev pub after_name : Bool → Scope → raw.Declared → Scope
   after_name fixed s d = with_object s (object_of fixed (seen s) d)
 
+  -- the scope behind declared names
   abbrev pub after_names : Bool → Scope → List raw.Declared → Scope
   after_names fixed s [] = s
   after_names fixed s (d ∷ ds) = after_names fixed (after_name fixed s d) ds
 
+  -- the scope behind the first part of `for (`
   abbrev pub after_first : Scope → raw.First → Scope
   after_first s raw.NoFirst = s
   after_first s (raw.FirstExp e) = s
@@ -99,9 +107,11 @@ module _ (m : DataModel) (bodies : List (List ℕ)) where
     after_block s raw.NoStm = s
     after_block s (raw.MoreStm x b) = after_block (after_statement s x) b
 
+-- the object of a parameter
 abbrev pub parameter : raw.Param → Object
 parameter x = record { name = x.name; ty = x.ty; cells = 1; array = false; fixed = false; spot = x.spot }
 
+-- the scope behind parameters
 abbrev pub after_parameters : Scope → List raw.Param → Scope
 after_parameters s [] = s
 after_parameters s (x ∷ xs) = after_parameters (with_object s (parameter x)) xs
@@ -115,12 +125,15 @@ statements_of _ = raw.NoStm
 abbrev pub stated_by : List ℕ → Option (List IntType) → Option (List IntType)
 stated_by name types = cond (is_input (built_in name)) None types
 
+-- the types of parameters
 abbrev pub types_of : List raw.Param → List IntType
 types_of xs = map (λ x. x.ty) xs
 
+-- what a function with a body is called, and what it is
 abbrev pub entry_of_function : List ℕ → Option IntType → List raw.Param → Entry
 entry_of_function name result xs = entry name (kind.Function result (Some (types_of xs)) true)
 
+-- what a prototype is called, and what it is
 abbrev pub entry_of_prototype : List ℕ → Option IntType → Option (List IntType) → Entry
 entry_of_prototype name result types = entry name (kind.Function result (stated_by name types) false)
 
@@ -129,6 +142,7 @@ abbrev pub inside : Scope → List ℕ → Option IntType → List raw.Param →
 inside s name result xs = opened (with_entry s (entry_of_function name result xs))
 
 module _ (m : DataModel) (bodies : List (List ℕ)) where
+  -- the scope behind an item
   abbrev pub after_item : Scope → raw.Item → Scope
   after_item s (raw.Function p name result xs body) =
       closed (with_entry s (entry_of_function name result xs)) (after_block m bodies (after_parameters (inside s name result xs) xs) (statements_of body))
@@ -136,9 +150,11 @@ module _ (m : DataModel) (bodies : List (List ℕ)) where
   after_item s (raw.Global ds) = after_names m bodies true s ds
   after_item s (raw.Closed p name) = with_entry s (entry name kind.Closed)
 
+  -- the scope behind items
   abbrev pub after_items : Scope → List raw.Item → Scope
   after_items s [] = s
   after_items s (x ∷ xs) = after_items (after_item s x) xs
 
+-- the scope before the first item
 abbrev pub outermost : Scope
 outermost = scope [] [] []

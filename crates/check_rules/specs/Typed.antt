@@ -23,6 +23,7 @@ use Rattle.check_rules.specs.Constants.{constant_type, valued}
 abbrev pub no_object : ℕ
 no_object = 4294967295
 
+-- the number of the object that a name means
 abbrev pub number_named : Option Kind → ℕ
 number_named None = no_object
 number_named (Some (Object n ty array fixed)) = n
@@ -36,12 +37,14 @@ type_named (Some (Object n ty array fixed)) = ty
 type_named (Some (Function result stated has_body)) = Int
 type_named (Some Closed) = Int
 
+-- the result of the function that a name means; of what is none, `int`
 abbrev pub result_named : Option Kind → Option IntType
 result_named None = Some Int
 result_named (Some (Object n ty array fixed)) = Some Int
 result_named (Some (Function result stated has_body)) = result
 result_named (Some Closed) = Some Int
 
+-- the type of an operator on one operand (C11 6.5.3.3)
 abbrev pub unary_type : UnOp → IntType → IntType
 unary_type Plus ty = promote_of ty
 unary_type Neg ty = promote_of ty
@@ -55,6 +58,7 @@ choice_type m None (Some b) = Some (common_of m Int b)
 choice_type m (Some a) None = Some (common_of m a Int)
 choice_type m (Some a) (Some b) = Some (common_of m a b)
 
+-- a built-in function, else the one of that number
 abbrev pub callee_or : Option Callee → ℕ → Callee
 callee_or None f = Defined f
 callee_or (Some callee) f = callee
@@ -71,9 +75,11 @@ callee_for false bodies x = Defined (length bodies)
 -- the names of the functions with a body; the names in scope
 module _ (m : DataModel) (bodies : List (List ℕ)) (es : List Entry) where
   abbrev mutual
+    -- the typed expression where these names are seen
     pub typed : Exp → t.Exp
     typed (Expr p n) = typed_node p n
 
+    -- the typed expression by its node
     pub typed_node : Spot → Node → t.Exp
     typed_node p (Number v decimal unsigned longs) = t.Expr p (Some (valued (constant_type m v decimal unsigned longs))) (t.Const (pos v))
     typed_node p (Char v) = t.Expr p (Some Int) (t.Const v)
@@ -89,6 +95,7 @@ module _ (m : DataModel) (bodies : List (List ℕ)) (es : List Entry) where
     typed_node p (Assign op a b) = t.Expr p (Some (valued (type_of (typed a)))) (t.Assign op (typed a) (typed b))
     typed_node p (Call f w gs close) = t.Expr p (result_named (named es f)) (t.Call (callee_for (is_function (named es f)) bodies f) (typed_all gs) close)
 
+    -- typed arguments
     pub typed_all : Exps → t.Exps
     typed_all NoExp = t.NoExp
     typed_all (MoreExp e gs) = t.MoreExp (typed e) (typed_all gs)

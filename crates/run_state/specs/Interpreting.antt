@@ -11,9 +11,8 @@ use Rattle.c_core.specs.declared.number.IntType.{IntType}
 use Rattle.c_core.specs.declared.number.Spot.{Spot}
 use Rattle.c_core.specs.declared.number.DataModel.{DataModel}
 use Rattle.c_core.specs.declared.number.BinOp.{BinOp}
-use Rattle.c_core.specs.declared.number.Done.{Done}
 use Rattle.c_core.specs.Types.{fit, is_zero}
-use Rattle.c_core.specs.Operators.{apply_of, type_for, right_type_for, op_of_step, is_prefix}
+use Rattle.c_core.specs.Operators.{type_for, op_of_step, is_prefix}
 use Rattle.c_core.specs.declared.number.IntType.TheVariants.{Int}
 use Rattle.c_core.specs.declared.number.StepOp.{StepOp}
 use Rattle.c_meaning.specs.declared.run.End.{End}
@@ -99,11 +98,6 @@ pairs_of (v ∷ vs) = (v.value, v.ty) ∷ pairs_of vs
 abbrev pub other_pairs : List (ℤ × IntType) → List (ℤ × IntType)
 other_pairs [] = []
 other_pairs (v ∷ vs) = vs
-
--- what an operator gives over values of two types, converted to those in which it computes
-abbrev pub computed_of : DataModel → BinOp → IntType → ℤ → IntType → ℤ → Done
-computed_of m op a x b y =
-    apply_of m op (type_for m op a b) (fit m (type_for m op a b) x) (fit m (right_type_for op (type_for m op a b) b) y)
 
 -- a returned value, converted to the function's result
 abbrev pub gave_as : DataModel → Option IntType → ℤ → acts.Flow

@@ -9,9 +9,8 @@ ghost use Rattle.run_state.specs.Interpreting.{Gives, same, state_of, watched, c
 
 use crate::draws::draw;
 use crate::machine::{Halt, Machine};
-use crate::values::{size_of_object, type_of_object};
 use c_core::{Program, Spot};
-use c_meaning::{DrawKind, End, Memory, Watcher};
+use c_meaning::{DrawKind, End, Memory, Watcher, size_of_object, type_of_object};
 use wv_base::OutOfMemory;
 
 /// Takes so many steps, or all that are left.

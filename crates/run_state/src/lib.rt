@@ -17,7 +17,4 @@ pub use initial::start;
 pub use machine::{Around, CallSite, Element, Flow, Halt, Left, LeftAt, Machine, Typed};
 pub use parameters::set_parameters;
 pub use steps::{arrive, branch, one_more, room, tell, tick, violate};
-pub use values::{
-    bump, change, convert_to, element, gave, holds, look, operate, operate_one, size_of_object,
-    store, truth, type_of, type_of_object,
-};
+pub use values::{bump, change, convert_to, element, gave, look, operate, operate_one, store};

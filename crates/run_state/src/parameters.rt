@@ -6,9 +6,9 @@ ghost use Rattle.run_state.specs.Interpreting.{Gives, same, state_of, pairs_of, 
 
 use crate::cells::add_cells;
 use crate::machine::{Element, Halt, Machine, Typed};
-use crate::values::{store, type_of_object};
+use crate::values::store;
 use c_core::Program;
-use c_meaning::Watcher;
+use c_meaning::{Watcher, type_of_object};
 
 /// Each parameter has a cell, which gets the value of its argument, or 0 where there is none.
 pub fn set_parameters<W: Watcher>(

@@ -1,8 +1,7 @@
 // Values: operators, cells, places of arrays' elements.
-ghost use Rattle.std.specs.Prelude.{◌≡◌, Ok, IsTrue, not, cond};
-ghost use Rattle.c_core.specs.Types.{fit, in_range, promote_of, IsPromoted, is_zero, number_of};
-ghost use Rattle.c_core.specs.Operators.{is_shift as is_shift_of, apply_one_of, type_for as type_for_of, op_of_step, is_prefix};
-ghost use Rattle.c_core.specs.View.{program_view, expr_view};
+ghost use Rattle.std.specs.Prelude.{◌≡◌, Ok, cond};
+ghost use Rattle.c_core.specs.Operators.{computed_one as computed_one_of, is_prefix};
+ghost use Rattle.c_core.specs.View.{program_view};
 ghost use Rattle.c_core.specs.declared.number.IntType.{IntType as NumberType};
 ghost use Rattle.c_meaning.specs.Cells.{read};
 ghost use Rattle.c_meaning.specs.Eval.{operate as operate_of, store as store_of, convert_to as convert_to_of};
@@ -10,115 +9,15 @@ ghost use Rattle.c_meaning.specs.Objects as objects;
 ghost use Rattle.c_meaning.specs.Run as run;
 ghost use Rattle.c_meaning.specs.Run.{State};
 ghost use Rattle.c_meaning.specs.Watching.{seen_by};
-ghost use Rattle.run_state.specs.Interpreting.{Gives, same, state_of, where_of, key_of, computed_of, watched, flow_of, gave_as, changed, bumped};
+ghost use Rattle.run_state.specs.Interpreting.{Gives, same, state_of, where_of, key_of, watched, flow_of, gave_as, changed, bumped};
 
 use crate::machine::{Around, Element, Flow, Halt, Machine, Typed};
 use crate::steps::violate;
 use c_core::{
-    BinOp, DataModel, Done, Expr, IntType, Program, Property, Spot, StepOp, UnOp, apply, apply_one,
-    common, convert, promote,
+    BinOp, Done, IntType, Program, Property, Spot, StepOp, UnOp, computed, computed_one, convert,
+    op_of_step,
 };
-use c_meaning::{End, Watcher};
-
-/// The type of an expression; that of a void one isn't asked for.
-pub fn type_of(e: &Expr) -> IntType
-    ensures { result ≡ objects.type_of (expr_view e.now) }
-{
-    match e.ty {
-        Some(ty) => ty,
-        None => IntType::Int,
-    }
-}
-
-/// Is a value other than zero?
-pub fn holds(value: i128) -> bool
-    ensures { result ≡ not (is_zero value) }
-{
-    value != 0
-}
-
-/// 1 where a value is other than zero, else 0.
-pub fn truth(value: i128) -> i128
-    ensures { result ≡ number_of (not (is_zero value)) }
-{
-    if holds(value) { 1 } else { 0 }
-}
-
-/// The type of an object.
-pub fn type_of_object(program: &Program, object: u32) -> IntType
-    ensures { result ≡ objects.type_of_object (program_view program.now) object }
-{
-    match program.objects.get(object as usize) {
-        Some(found) => found.ty,
-        None => IntType::Int,
-    }
-}
-
-/// How many cells an object has.
-pub fn size_of_object(program: &Program, object: u32) -> u32
-    ensures { result ≡ objects.size_of_object (program_view program.now) object }
-{
-    match program.objects.get(object as usize) {
-        Some(found) => found.cells,
-        None => 0,
-    }
-}
-
-fn is_shift(op: BinOp) -> bool
-    ensures { result ≡ is_shift_of op }
-{
-    match op {
-        BinOp::Shl | BinOp::Shr => true,
-        _ => false,
-    }
-}
-
-// The type in which an operator computes.
-fn type_for(model: DataModel, op: BinOp, a: IntType, b: IntType) -> IntType
-    ensures value { result ≡ type_for_of model op a b }
-    ensures promoted { IsPromoted result }
-{
-    if is_shift(op) {
-        promote(model, a)
-    } else {
-        common(model, a, b)
-    }
-}
-
-// A value converted to a type, of which it is then a value.
-fn fitted(model: DataModel, ty: IntType, value: i128) -> i128
-    ensures value { result ≡ fit model ty value }
-    ensures range { IsTrue (in_range model ty result) }
-{
-    convert(model, ty, value)
-}
-
-// What an operator gives over values of two types.
-fn computed(model: DataModel, op: BinOp, left: Typed, right: Typed) -> Done
-    ensures { result ≡ computed_of model op left.ty left.value right.ty right.value }
-{
-    let ty = type_for(model, op, left.ty, right.ty);
-    let a = fitted(model, ty, left.value);
-    if is_shift(op) {
-        apply(
-            model,
-            op,
-            ty,
-            a,
-            fitted(model, promote(model, right.ty), right.value),
-        )
-    } else {
-        apply(model, op, ty, a, fitted(model, ty, right.value))
-    }
-}
-
-// What a unary operator gives over a value of a type.
-fn computed_one(model: DataModel, op: UnOp, of: Typed) -> Done
-    ensures { result ≡ apply_one_of model op (promote_of of.ty) (fit model (promote_of of.ty) of.value) }
-{
-    let ty = promote(model, of.ty);
-    apply_one(model, op, ty, fitted(model, ty, of.value))
-}
+use c_meaning::{End, Watcher, size_of_object};
 
 // An overflow is the violation, or its value wraps.
 fn finish<W: Watcher>(
@@ -154,7 +53,14 @@ pub fn operate<W: Watcher>(
 ) -> Result<i128, Halt>
     ensures gives { Gives same result (state_of machine.now (W.seen watcher.new)) (operate_of (program_view program.now) (watched (program_view program.now) W.Seen W.after) (where_of at) spot op left.ty left.value right.ty right.value (state_of machine.now (W.seen watcher.old))) }
 {
-    let done = computed(program.model, op, left, right);
+    let done = computed(
+        program.model,
+        op,
+        left.ty,
+        left.value,
+        right.ty,
+        right.value,
+    );
     let value = finish(program, machine, watcher, at, spot, done)?;
     Ok(value)
 }
@@ -169,9 +75,9 @@ pub fn operate_one<W: Watcher>(
     op: UnOp,
     of: Typed,
 ) -> Result<i128, Halt>
-    ensures gives { Gives same result (state_of machine.now (W.seen watcher.new)) (run.answered (program_view program.now) W.Seen (seen_by W.after) (where_of at) spot (apply_one_of program.now.model op (promote_of of.ty) (fit program.now.model (promote_of of.ty) of.value)) (state_of machine.now (W.seen watcher.old))) }
+    ensures gives { Gives same result (state_of machine.now (W.seen watcher.new)) (run.answered (program_view program.now) W.Seen (seen_by W.after) (where_of at) spot (computed_one_of program.now.model op of.ty of.value) (state_of machine.now (W.seen watcher.old))) }
 {
-    let done = computed_one(program.model, op, of);
+    let done = computed_one(program.model, op, of.ty, of.value);
     let value = finish(program, machine, watcher, at, spot, done)?;
     Ok(value)
 }
@@ -261,16 +167,6 @@ pub fn change<W: Watcher>(
     Ok(store::<W>(program, machine, key, old.ty, value))
 }
 
-// The operator of a step.
-fn op_of(op: StepOp) -> BinOp
-    ensures { result ≡ op_of_step op }
-{
-    match op {
-        StepOp::PreInc | StepOp::PostInc => BinOp::Add,
-        StepOp::PreDec | StepOp::PostDec => BinOp::Sub,
-    }
-}
-
 // The value of a step, which left a value in place of another.
 fn step_gives(op: StepOp, new: i128, old: i128) -> i128
     ensures { result ≡ cond (is_prefix op) new old }
@@ -306,7 +202,7 @@ pub fn bump<W: Watcher>(
         watcher,
         at,
         spot,
-        op_of(op),
+        op_of_step(op),
         Typed { value: old, ty },
         one,
     )?;

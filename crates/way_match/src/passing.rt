@@ -1,6 +1,6 @@
 // Which events pass a waypoint.
-ghost use Rattle.std.specs.Prelude.{◌≡◌, IsTrue, length};
-ghost use Rattle.c_core.specs.Types.{fit, in_range, common_of, IsPromoted};
+ghost use Rattle.std.specs.Prelude.{◌≡◌, length};
+ghost use Rattle.c_core.specs.Types.{common_of, IsPromoted};
 ghost use Rattle.c_core.specs.View.{program_view, expr_view};
 ghost use Rattle.c_meaning.specs.Objects.{same_spot as same_spot_of, type_of as type_of_exp};
 ghost use Rattle.c_meaning.specs.Value.{and_then, is_true, wrapping, holds as holds_in};
@@ -11,7 +11,7 @@ ghost use Rattle.way_match.specs.View.{aim_view, point_view, points_view, test_v
 
 use crate::point::{Aim, Point, ReturnTest};
 use crate::prepared::{Comparison, type_of};
-use c_core::{BinOp, DataModel, Done, Expr, IntType, Program, Spot, apply, common, convert};
+use c_core::{BinOp, DataModel, Done, Expr, IntType, Program, Spot, apply, common, fitted};
 use c_meaning::{Event, Memory, value_in};
 
 fn same_spot(a: Spot, b: Spot) -> bool
@@ -54,14 +54,6 @@ fn common_type(model: DataModel, a: IntType, b: IntType) -> IntType
     ensures promoted { IsPromoted result }
 {
     common(model, a, b)
-}
-
-// A value converted to a type, of which it is then a value.
-fn fitted(model: DataModel, ty: IntType, value: i128) -> i128
-    ensures value { result ≡ fit model ty value }
-    ensures range { IsTrue (in_range model ty result) }
-{
-    convert(model, ty, value)
 }
 
 fn compare(model: DataModel, op: BinOp, a: IntType, x: i128, b: IntType, y: i128) -> Done

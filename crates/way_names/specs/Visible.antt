@@ -10,6 +10,7 @@ use Rattle.c_core.specs.declared.place.PlaceKind.{PlaceKind}
 use Rattle.c_core.specs.declared.place.PlaceKind.TheVariants.{Statement, Loop}
 use Rattle.c_core.specs.declared.tree.Object.{Object}
 
+-- a static object that is declared before this place
 abbrev pub is_visible : Spot → Object → Bool
 is_visible spot o = o.fixed && is_before o.spot spot
 
@@ -18,6 +19,7 @@ abbrev pub fixed_from : ℕ → Spot → List Object → List ℕ
 fixed_from n spot [] = []
 fixed_from n spot (o ∷ os) = cond (is_visible spot o) (n ∷ fixed_from (suc n) spot os) (fixed_from (suc n) spot os)
 
+-- the static objects that are declared before this place, in their order
 abbrev pub fixed_before : Program → Spot → List ℕ
 fixed_before p spot = fixed_from 0 spot p.objects
 
@@ -26,6 +28,7 @@ pub record Sight : Type 0 where
   pub spot : Spot
   pub names : List ℕ
 
+-- the names that are visible at a place
 abbrev pub sight : Spot → List ℕ → Sight
 sight spot names = record { spot = spot; names = names }
 
@@ -74,14 +77,17 @@ abbrev mutual
 abbrev pub sights_in_body : PlaceKind → List ℕ → Stm → List Sight
 sights_in_body kind names (Stmt at f) = sights_in_form kind names f
 
+-- what is visible at the places of a kind in these bodies
 abbrev pub sights_in_functions : PlaceKind → List ℕ → List Function → List Sight
 sights_in_functions kind names [] = []
 sights_in_functions kind names (f ∷ fs) = sights_in_body kind (names ++ f.params) f.body ++ sights_in_functions kind names fs
 
+-- the names of the first entry for this place
 abbrev pub seen_from : Spot → List Sight → Option (List ℕ)
 seen_from spot [] = None
 seen_from spot (s ∷ ss) = cond (same_spot s.spot spot) (Some s.names) (seen_from spot ss)
 
+-- these names, unless there are others
 abbrev pub names_or : List ℕ → Option (List ℕ) → List ℕ
 names_or names None = names
 names_or names (Some seen) = seen

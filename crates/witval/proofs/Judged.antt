@@ -1,15 +1,15 @@
 -- The reply to the bytes read is the reply that the files call for.
-use Rattle.std.proofs.Common.{◌≡◌, Result, Ok, Err, IfOk, ℕ, List, Bool, true, false, Option, Some, None, IfSome, refl, sym, subst, inl}
+use Rattle.std.proofs.Common.{◌≡◌, Result, Ok, Err, IfOk, ℕ, List, Bool, true, false, Option, Some, None, IfSome, codes, refl, sym, subst, inl}
 use Rattle.std.proofs.lemmas.List.Elements.{All-nil}
 use Rattle.std.specs.Str.{bytes_eq}
 use Rattle.c_core.specs.declared.number.DataModel.{DataModel}
 use Rattle.c_core.specs.declared.number.Property.{Property}
-use Rattle.c_core.specs.declared.program.Program.{Program}
-use Rattle.c_core.specs.Tree as tree
-use Rattle.c_parser.specs.Tree as raw
+use Rattle.c_core.specs.Tree.{Program}
+use Rattle.c_core.specs.View.{program_view}
+use Rattle.c_parser.specs.Parsing.{source_view}
+use Rattle.c_parser.specs.Tree.{Item}
 use Rattle.c_parser.specs.declared.fault.ParseFault.{ParseFault}
 use Rattle.c_parser.specs.declared.fault.ParseFault.TheVariants as parse
-use Rattle.c_parser.specs.declared.item.Source.{Source}
 use Rattle.check_rules.specs.declared.fault.CheckCode.{CheckCode}
 use Rattle.check_rules.specs.declared.fault.CheckCode.TheVariants as code
 use Rattle.check_rules.specs.declared.fault.CheckFault.{CheckFault}
@@ -21,7 +21,7 @@ use Rattle.sha2.specs.Sha256.{sha256}
 use Rattle.way_bind.specs.declared.fault.BindFault.{BindFault}
 use Rattle.way_bind.specs.declared.fault.BindFault.TheVariants as bind
 use Rattle.way_match.specs.Points.{BoundSegment}
-use Rattle.way_match.specs.declared.point.Bound.{Bound}
+use Rattle.way_match.specs.View.{segments_view}
 use Rattle.wv_base.specs.Shelf.{ShelfState, Files, file_of}
 use Rattle.wv_report.specs.Json.{HasJsonIntegers, IsJsonInteger}
 use Rattle.wv_report.specs.declared.reply.Reply.{Reply}
@@ -39,8 +39,10 @@ use Rattle.wv_yaml.specs.declared.tree.Tree.{Tree}
 use Rattle.yaml_scalars.specs.declared.fault.YamlFault.{YamlFault}
 use Rattle.yaml_scalars.specs.declared.fault.YamlFault.TheVariants.{Bytes, Grammar, Duplicate, OutOfMemory}
 use Rattle.witval.specs.Inputs.{OfFiles, AreInputs, IsWitness, ToldOne}
-use Rattle.witval.specs.Readings.{IsBindRefusal, IsCheckRefusal, IsRefusal, IsSchemaRefusal, IsSyntaxRefusal, IsTaskRefusal, IsTokenRefusal, RightAfterAnswer, RightAfterProperty, RightAfterSchema, RightAfterTask, RightByBind, RightByCheck, RightByClaims, RightByParse, RightByTokens, check_code, place_text}
-use Rattle.witval.specs.Tasks.{RightOnInputs, RightOnProgram, RightOnSegments, RightOnSequence, RightOnSource, RightOnText, RightOnTokens, RightOnTree, RightOnWitness, RightUnder, holds_sets}
+use Rattle.witval.specs.Refusals.{IsBindRefusal, IsCheckRefusal, IsRefusal, IsSchemaRefusal, IsSyntaxRefusal, IsTaskRefusal, IsTokenRefusal, check_code, place_text, plain, unbuilt}
+use Rattle.witval.specs.Stages.{given, known, unless, itself}
+use Rattle.witval.specs.Tasks.{RightOnInputs, RightOnSegments, holds_sets}
+use Rattle.witval.specs.inside.Rests.{RightOnProgram, RightOnSequence, RightOnSource, RightOnText, RightOnTokens, RightOnTree, RightOnWitness, RightUnder}
 use Rattle.witval.specs.Replies.{CanonicalIn, NoReply, NoTreeReply, NoWitnessReply, OnWitness, SummaryIn, RightAlone, RightOnBytes, RightFor, too_long}
 use Rattle.witval.specs.declared.input.Inputs.{Inputs}
 use Rattle.witval.specs.declared.output.Output.{Output}
@@ -113,95 +115,68 @@ bind_refusals (bind.Expression waypoint) reply e = subst NotOfLength (sym e) ref
 bind_refusals (bind.Scope waypoint) reply e = subst NotOfLength (sym e) refl
 bind_refusals bind.OutOfMemory reply e = absurd e
 
-on_segments : (steps : ℕ) (p : tree.Program) (ss : List BoundSegment) (reply : Reply) → RightOnSegments steps p ss reply → NotOfLength reply
+on_segments : (steps : ℕ) (p : Program) (ss : List BoundSegment) (reply : Reply) → RightOnSegments steps p ss reply → NotOfLength reply
 unfolding NotOfLength
 on_segments steps p ss (Judged verdict) e = shows_integers p ss steps verdict e.right
 on_segments steps p ss (Refused code detail) e = absurd e
 on_segments steps p ss (ReadFault file) e = absurd e
 
-after_bind : (answer : Result Bound BindFault) (within : List BoundSegment → Reply → Type 0) → ((ss : List BoundSegment) (reply : Reply) → within ss reply → NotOfLength reply)
-    → (reply : Reply) → RightByBind answer within reply → NotOfLength reply
-after_bind (Ok bound) within good reply right = good _ reply right
-after_bind (Err fault) within good reply right = bind_refusals fault reply right
+-- a stage is kept where what is right with what it finds is kept
+given_kept : {A : Type 0} (refusal : Reply) (o : Option A) (within : A → Reply → Type 0) → NotOfLength refusal → ((a : A) (reply : Reply) → within a reply → NotOfLength reply)
+    → (reply : Reply) → given refusal o within reply → NotOfLength reply
+given_kept refusal (Some a) within refused kept reply right = kept a reply right
+given_kept refusal None within refused kept reply right = subst NotOfLength (sym right) refused
 
-by_claims : (sets : Bool) (within : Reply → Type 0) → ((reply : Reply) → within reply → NotOfLength reply) → (reply : Reply) → RightByClaims sets within reply → NotOfLength reply
+known_kept : {A B F : Type 0} (view : A → B) (IsRefused : F → Reply → Type 0) (answer : Result A F) (within : B → Reply → Type 0)
+    → ((fault : F) (reply : Reply) → IsRefused fault reply → NotOfLength reply) → ((b : B) (reply : Reply) → within b reply → NotOfLength reply)
+    → (reply : Reply) → known view IsRefused answer within reply → NotOfLength reply
+known_kept view IsRefused (Ok a) within refused kept reply right = kept (view a) reply right
+known_kept view IsRefused (Err fault) within refused kept reply right = refused fault reply right
+
+unless_kept : (holds : Bool) (refusal : Reply) (within : Reply → Type 0) → NotOfLength refusal → ((reply : Reply) → within reply → NotOfLength reply)
+    → (reply : Reply) → unless holds refusal (λ _. within) reply → NotOfLength reply
+unless_kept true refusal within refused kept reply right = subst NotOfLength (sym right) refused
+unless_kept false refusal within refused kept reply right = kept reply right
+
+on_sequence : (steps : ℕ) (witness : Witness) (p : Program) (reply : Reply) → RightOnSequence steps witness p reply → NotOfLength reply
+on_sequence steps witness p reply right = known_kept segments_view IsBindRefusal right.0 (RightOnSegments steps p) bind_refusals (on_segments steps p) reply right.2
+
+on_program : (steps : ℕ) (witness : Witness) (p : Program) (reply : Reply) → RightOnProgram steps witness p reply → NotOfLength reply
 unfolding NotOfLength
-by_claims true within good reply right = subst NotOfLength (sym right) refl
-by_claims false within good reply right = good reply right
+on_program steps witness p reply right = unless_kept (holds_sets witness) (unbuilt (codes "witness")) (RightOnSequence steps witness p) refl (on_sequence steps witness p) reply right
 
-after_check : (answer : Result Program CheckFault) (within : tree.Program → Reply → Type 0) → ((p : tree.Program) (reply : Reply) → within p reply → NotOfLength reply)
-    → (reply : Reply) → RightByCheck answer within reply → NotOfLength reply
-after_check (Ok program) within good reply right = good _ reply right
-after_check (Err fault) within good reply right = check_refusals fault reply right
-
-after_tokens : (answer : Result (List Token) TokenFault) (within : List Token → Reply → Type 0) → ((ts : List Token) (reply : Reply) → within ts reply → NotOfLength reply)
-    → (reply : Reply) → RightByTokens answer within reply → NotOfLength reply
-after_tokens (Ok ts) within good reply right = good ts reply right
-after_tokens (Err fault) within good reply right = token_refusals fault reply right
-
-after_parse : (answer : Result Source ParseFault) (within : List raw.Item → Reply → Type 0) → ((items : List raw.Item) (reply : Reply) → within items reply → NotOfLength reply)
-    → (reply : Reply) → RightByParse answer within reply → NotOfLength reply
-after_parse (Ok source) within good reply right = good _ reply right
-after_parse (Err fault) within good reply right = syntax_refusals fault reply right
-
-after_task : (answer : Result DataModel TaskFault) (within : DataModel → Reply → Type 0) → ((model : DataModel) (reply : Reply) → within model reply → NotOfLength reply)
-    → (reply : Reply) → RightAfterTask answer within reply → NotOfLength reply
-after_task (Ok model) within good reply right = good model reply right
-after_task (Err fault) within good reply right = task_refusals fault reply right
-
-after_schema : (answer : Result Witness SchemaFault) (within : Witness → Reply → Type 0) → ((witness : Witness) (reply : Reply) → within witness reply → NotOfLength reply)
-    → (reply : Reply) → RightAfterSchema answer within reply → NotOfLength reply
-after_schema (Ok witness) within good reply right = good witness reply right
-after_schema (Err fault) within good reply right = schema_refusals fault reply right
-
-after_answer : (answer : Result Tree YamlFault) (within : Tree → Reply → Type 0) → ((tree : Tree) (reply : Reply) → within tree reply → NotOfLength reply)
-    → (reply : Reply) → RightAfterAnswer answer within reply → NotOfLength reply
-after_answer (Ok tree) within good reply right = good tree reply right
-after_answer (Err fault) within good reply right = refusals fault reply right
-
-after_property : (o : Option Property) (within : Property → Reply → Type 0) → ((property : Property) (reply : Reply) → within property reply → NotOfLength reply)
-    → (reply : Reply) → RightAfterProperty o within reply → NotOfLength reply
-unfolding NotOfLength
-after_property (Some property) within good reply right = good property reply right
-after_property None within good reply right = subst NotOfLength (sym right) refl
-
-sequence_not_of_length : (steps : ℕ) (witness : Witness) (p : tree.Program) (reply : Reply) → RightOnSequence steps witness p reply → NotOfLength reply
-sequence_not_of_length steps witness p reply right = after_bind right.0 (RightOnSegments steps p) (on_segments steps p) reply right.2
-
-program_not_of_length : (steps : ℕ) (witness : Witness) (p : tree.Program) (reply : Reply) → RightOnProgram steps witness p reply → NotOfLength reply
-program_not_of_length steps witness p reply right = by_claims (holds_sets witness) (RightOnSequence steps witness p) (sequence_not_of_length steps witness p) reply right
-
-source_not_of_length : (steps : ℕ) (property : Property) (witness : Witness) (model : DataModel) (items : List raw.Item) (reply : Reply)
+on_source : (steps : ℕ) (property : Property) (witness : Witness) (model : DataModel) (items : List Item) (reply : Reply)
     → RightOnSource steps property witness model items reply → NotOfLength reply
-source_not_of_length steps property witness model items reply right =
-    after_check right.0 (RightOnProgram steps witness) (program_not_of_length steps witness) reply right.2
+on_source steps property witness model items reply right =
+    known_kept program_view IsCheckRefusal right.0 (RightOnProgram steps witness) check_refusals (on_program steps witness) reply right.2
 
-tokens_not_of_length : (steps : ℕ) (property : Property) (witness : Witness) (model : DataModel) (ts : List Token) (reply : Reply)
+on_tokens : (steps : ℕ) (property : Property) (witness : Witness) (model : DataModel) (ts : List Token) (reply : Reply)
     → RightOnTokens steps property witness model ts reply → NotOfLength reply
-tokens_not_of_length steps property witness model ts reply right =
-    after_parse right.0 (RightOnSource steps property witness model) (source_not_of_length steps property witness model) reply right.2
+on_tokens steps property witness model ts reply right =
+    known_kept source_view IsSyntaxRefusal right.0 (RightOnSource steps property witness model) syntax_refusals (on_source steps property witness model) reply right.2
 
-text_not_of_length : (steps : ℕ) (property : Property) (text : List ℕ) (witness : Witness) (model : DataModel) (reply : Reply)
+on_text : (steps : ℕ) (property : Property) (text : List ℕ) (witness : Witness) (model : DataModel) (reply : Reply)
     → RightOnText steps property text witness model reply → NotOfLength reply
-text_not_of_length steps property text witness model reply right =
-    after_tokens right.0 (RightOnTokens steps property witness model) (tokens_not_of_length steps property witness model) reply right.2
+on_text steps property text witness model reply right =
+    known_kept itself IsTokenRefusal right.0 (RightOnTokens steps property witness model) token_refusals (on_tokens steps property witness model) reply right.2
 
-witness_not_of_length : (steps : ℕ) (property : Property) (text : List ℕ) (witness : Witness) (reply : Reply) → RightOnWitness steps property text witness reply → NotOfLength reply
-witness_not_of_length steps property text witness reply right =
-    after_task (task_judged (sha256 text) property witness.entries) (RightOnText steps property text witness)
-    (text_not_of_length steps property text witness) reply right
+on_witness : (steps : ℕ) (property : Property) (text : List ℕ) (witness : Witness) (reply : Reply) → RightOnWitness steps property text witness reply → NotOfLength reply
+on_witness steps property text witness reply right =
+    known_kept itself IsTaskRefusal (task_judged (sha256 text) property witness.entries) (RightOnText steps property text witness) task_refusals
+    (on_text steps property text witness) reply right
 
-tree_not_of_length : (steps : ℕ) (property : Property) (text : List ℕ) (tree : Tree) (reply : Reply) → RightOnTree steps property text tree reply → NotOfLength reply
-tree_not_of_length steps property text tree reply right =
-    after_schema (witness_of tree) (RightOnWitness steps property text) (witness_not_of_length steps property text) reply right
+on_tree : (steps : ℕ) (property : Property) (text : List ℕ) (tree : Tree) (reply : Reply) → RightOnTree steps property text tree reply → NotOfLength reply
+on_tree steps property text tree reply right =
+    known_kept itself IsSchemaRefusal (witness_of tree) (RightOnWitness steps property text) schema_refusals (on_witness steps property text) reply right
 
-under_not_of_length : (steps : ℕ) (text witness : List ℕ) (property : Property) (reply : Reply) → RightUnder steps text witness property reply → NotOfLength reply
-under_not_of_length steps text witness property reply right =
-    after_answer right.0 (RightOnTree steps property text) (tree_not_of_length steps property text) reply right.2
+under : (steps : ℕ) (text witness : List ℕ) (property : Property) (reply : Reply) → RightUnder steps text witness property reply → NotOfLength reply
+under steps text witness property reply right =
+    known_kept itself IsRefusal right.0 (RightOnTree steps property text) refusals (on_tree steps property text) reply right.2
 
 inputs_not_of_length : (steps : ℕ) (program property witness : List ℕ) (reply : Reply) → RightOnInputs steps program property witness reply → NotOfLength reply
+unfolding NotOfLength
 inputs_not_of_length steps program property witness reply right =
-    after_property (property_of property) (RightUnder steps program witness) (under_not_of_length steps program witness) reply right
+    given_kept (plain (codes "property")) (property_of property) (RightUnder steps program witness) refl (under steps program witness) reply right
 
 -- the files hold the bytes that were read
 on_files : (steps : ℕ) (program property witness : List ℕ) (inputs : Inputs) (reply : Reply) → AreInputs inputs program property witness
@@ -254,7 +229,7 @@ refused Grammar reply e = subst IsRefused (sym e) tt
 refused Duplicate reply e = subst IsRefused (sym e) tt
 refused OutOfMemory reply e = absurd e
 
-no_tree : (answer : Result Tree YamlFault) (reply : Reply) → RightAfterAnswer answer NoReply reply → IsRefused reply × NotOfLength reply
+no_tree : (answer : Result Tree YamlFault) (reply : Reply) → known itself IsRefusal answer NoReply reply → IsRefused reply × NotOfLength reply
 no_tree (Ok tree) reply right = absurd right
 no_tree (Err fault) reply right = (refused fault reply right, refusals fault reply right)
 
@@ -268,11 +243,11 @@ schema_refused (schema.Shape segment) reply e = subst IsRefused (sym e) tt
 schema_refused schema.Entries reply e = subst IsRefused (sym e) tt
 schema_refused schema.OutOfMemory reply e = absurd e
 
-no_witness : (answer : Result Witness SchemaFault) (reply : Reply) → RightAfterSchema answer NoWitnessReply reply → IsRefused reply × NotOfLength reply
+no_witness : (answer : Result Witness SchemaFault) (reply : Reply) → known itself IsSchemaRefusal answer NoWitnessReply reply → IsRefused reply × NotOfLength reply
 no_witness (Ok witness) reply right = absurd right
 no_witness (Err fault) reply right = (schema_refused fault reply right, schema_refusals fault reply right)
 
-no_summary : (answer : Result Tree YamlFault) (reply : Reply) → RightAfterAnswer answer NoTreeReply reply → IsRefused reply × NotOfLength reply
+no_summary : (answer : Result Tree YamlFault) (reply : Reply) → known itself IsRefusal answer NoTreeReply reply → IsRefused reply × NotOfLength reply
 no_summary (Ok tree) reply right = no_witness (witness_of tree) reply right
 no_summary (Err fault) reply right = (refused fault reply right, refusals fault reply right)
 

@@ -12,8 +12,9 @@ use Rattle.wv_task.specs.Task.{Gives, judged as task_judged}
 use Rattle.wv_task.specs.declared.fault.TaskFault.{TaskFault}
 use Rattle.wv_task.specs.declared.fault.TaskFault.TheVariants as task
 use Rattle.wv_yaml.specs.declared.tree.Tree.{Tree}
-use Rattle.witval.specs.Readings.{IsSchemaRefusal, IsTaskRefusal, RightAfterSchema, RightAfterTask}
-use Rattle.witval.specs.Tasks.{RightOnText, RightOnTree, RightOnWitness}
+use Rattle.witval.specs.Refusals.{IsSchemaRefusal, IsTaskRefusal}
+use Rattle.witval.specs.Stages.{known, itself}
+use Rattle.witval.specs.inside.Rests.{RightOnText, RightOnTree, RightOnWitness}
 use Rattle.wv_show.specs.Show.{summary_of}
 use Rattle.witval.specs.Replies.{NoWitnessReply, SummaryOf}
 use Rattle.witval.specs.declared.output.Output.TheVariants.{Report, Summary}
@@ -35,12 +36,12 @@ witness_answer t w answer = ap₂ schema_judged answer.0 (sym answer.1)
 pub after_witness : {E : Type 0} (steps : ℕ) (property : Property) (program : List ℕ) (t : Tree) (w : Witness) (result : Result Reply E) → IsAnswer t (Ok w)
     → IfOk result (RightOnWitness steps property program w) → IfOk result (RightOnTree steps property program t)
 after_witness steps property program t w result answer right =
-    subst (λ a. IfOk result (RightAfterSchema a (RightOnWitness steps property program))) (sym (witness_answer t w answer)) right
+    subst (λ a. IfOk result (known itself IsSchemaRefusal a (RightOnWitness steps property program))) (sym (witness_answer t w answer)) right
 
 refused_by_schema : {E : Type 0} (steps : ℕ) (property : Property) (program : List ℕ) (t : Tree) (fault : SchemaFault) (result : Result Reply E) → schema_fault t ≡ Some fault
     → IfOk result (IsSchemaRefusal fault) → IfOk result (RightOnTree steps property program t)
 refused_by_schema steps property program t fault result e right =
-    subst (λ a. IfOk result (RightAfterSchema a (RightOnWitness steps property program))) (sym (schema_answer t fault e)) right
+    subst (λ a. IfOk result (known itself IsSchemaRefusal a (RightOnWitness steps property program))) (sym (schema_answer t fault e)) right
 
 pub after_fault : {E : Type 0} (steps : ℕ) (property : Property) (program : List ℕ) (t : Tree) (fault : SchemaFault) (result : Result Reply E) → IsAnswer t (Err fault)
     → IfOk result (IsSchemaRefusal fault) → IfOk result (RightOnTree steps property program t)
@@ -56,12 +57,12 @@ after_fault steps property program t schema.OutOfMemory result e right = never _
 pub after_model : {E : Type 0} (steps : ℕ) (property : Property) (program : List ℕ) (w : Witness) (model : DataModel) (result : Result Reply E)
     → Gives (task_judged (sha256 program) property w.entries) (Ok model) → IfOk result (RightOnText steps property program w model) → IfOk result (RightOnWitness steps property program w)
 after_model steps property program w model result answer right =
-    subst (λ a. IfOk result (RightAfterTask a (RightOnText steps property program w))) (sym answer) right
+    subst (λ a. IfOk result (known itself IsTaskRefusal a (RightOnText steps property program w))) (sym answer) right
 
 refused_by_task : {E : Type 0} (steps : ℕ) (property : Property) (program : List ℕ) (w : Witness) (fault : TaskFault) (result : Result Reply E)
     → task_judged (sha256 program) property w.entries ≡ Err fault → IfOk result (IsTaskRefusal fault) → IfOk result (RightOnWitness steps property program w)
 refused_by_task steps property program w fault result e right =
-    subst (λ a. IfOk result (RightAfterTask a (RightOnText steps property program w))) (sym e) right
+    subst (λ a. IfOk result (known itself IsTaskRefusal a (RightOnText steps property program w))) (sym e) right
 
 pub after_task_fault : {E : Type 0} (steps : ℕ) (property : Property) (program : List ℕ) (w : Witness) (fault : TaskFault) (result : Result Reply E)
     → Gives (task_judged (sha256 program) property w.entries) (Err fault) → IfOk result (IsTaskRefusal fault) → IfOk result (RightOnWitness steps property program w)
@@ -78,7 +79,7 @@ pub shown_by : (t : Tree) (w : Witness) (text : List ℕ) → IsAnswer t (Ok w) 
 shown_by t w text answer is = (w, witness_answer t w answer, is)
 
 not_shown_by : (t : Tree) (fault : SchemaFault) (reply : Reply) → schema_fault t ≡ Some fault → IsSchemaRefusal fault reply → SummaryOf (Report reply) t
-not_shown_by t fault reply e right = subst (λ a. RightAfterSchema a NoWitnessReply reply) (sym (schema_answer t fault e)) right
+not_shown_by t fault reply e right = subst (λ a. known itself IsSchemaRefusal a NoWitnessReply reply) (sym (schema_answer t fault e)) right
 
 pub not_shown : (t : Tree) (fault : SchemaFault) (reply : Reply) → IsAnswer t (Err fault) → IsSchemaRefusal fault reply → SummaryOf (Report reply) t
 not_shown t (schema.Missing path) reply e right = not_shown_by t _ reply e right

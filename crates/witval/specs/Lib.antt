@@ -1,5 +1,7 @@
 pub mod Inputs
-pub mod Readings
+pub mod Refusals
+pub mod Stages
 pub mod Tasks
 pub mod Replies
 pub mod Running
+pub mod inside

@@ -12,7 +12,8 @@ use Rattle.wv_yaml.specs.declared.tree.Tree.{Tree}
 use Rattle.wv_yaml.specs.Canon.{canon}
 use Rattle.wv_yaml.specs.Reading.{IsAnswer}
 use Rattle.witval.specs.Inputs.{Told, ToldOne, Faulted, FaultedAt, TookTooMuch, TookTooMuchOf, word_of, limit_of, first_too_long, too_long_alone}
-use Rattle.witval.specs.Readings.{RightAfterReading, RightAfterSchema, plain, unbuilt}
+use Rattle.witval.specs.Refusals.{IsRefusal, IsSchemaRefusal, plain, unbuilt}
+use Rattle.witval.specs.Stages.{known, answered, itself}
 use Rattle.witval.specs.Tasks.{RightOnInputs}
 use Rattle.witval.specs.declared.input.File.{File}
 use Rattle.witval.specs.declared.input.File.TheVariants.{Witness as WitnessFile}
@@ -54,7 +55,7 @@ NoReply tree reply = ⊥
 
 -- what the bytes of a witness of allowed length call for, where its canonical form is asked for
 abbrev pub CanonicalIn : Output → List ℕ → Type 0
-CanonicalIn (Report reply) witness = RightAfterReading witness NoReply reply
+CanonicalIn (Report reply) witness = answered (IsAnswer witness) itself IsRefusal NoReply reply
 CanonicalIn (Canonical text) witness = (tree : Tree) × IsAnswer witness (Ok tree) × (text ≡ canon tree)
 CanonicalIn (Summary text) witness = ⊥
 
@@ -64,7 +65,7 @@ NoWitnessReply witness reply = ⊥
 
 -- where a summary is asked for, a report is the refusal of a tree that is no witness
 abbrev pub NoTreeReply : Tree → Reply → Type 0
-NoTreeReply tree reply = RightAfterSchema (witness_of tree) NoWitnessReply reply
+NoTreeReply tree reply = known itself IsSchemaRefusal (witness_of tree) NoWitnessReply reply
 
 -- what a tree calls for, where the summary of its witness is asked for
 abbrev pub SummaryOf : Output → Tree → Type 0
@@ -74,7 +75,7 @@ SummaryOf (Summary text) tree = (witness : Witness) × (witness_of tree ≡ Ok w
 
 -- the same of the bytes of a witness of allowed length
 abbrev pub SummaryIn : Output → List ℕ → Type 0
-SummaryIn (Report reply) witness = RightAfterReading witness NoTreeReply reply
+SummaryIn (Report reply) witness = answered (IsAnswer witness) itself IsRefusal NoTreeReply reply
 SummaryIn (Canonical text) witness = ⊥
 SummaryIn (Summary text) witness = (tree : Tree) × IsAnswer witness (Ok tree) × SummaryOf (Summary text) tree
 

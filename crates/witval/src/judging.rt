@@ -6,7 +6,8 @@ ghost use Rattle.c_parser.specs.Parsing.{source_view};
 ghost use Rattle.way_match.specs.View.{segments_view};
 ghost use Rattle.wv_schema.specs.Shapes.{is_set};
 ghost use Rattle.witval.specs.Inputs.{AreWithin};
-ghost use Rattle.witval.specs.Tasks.{RightOnInputs, RightOnProgram, RightOnSegments, RightOnSequence, RightOnSource, RightOnText, RightOnTokens, RightOnTree, RightOnWitness, RightUnder, holds_sets};
+ghost use Rattle.witval.specs.Tasks.{RightOnInputs, RightOnSegments, holds_sets};
+ghost use Rattle.witval.specs.inside.Rests.{RightOnProgram, RightOnSequence, RightOnSource, RightOnText, RightOnTokens, RightOnTree, RightOnWitness, RightUnder};
 
 use crate::binding::bind;
 use crate::input::Inputs;

@@ -2,7 +2,7 @@
 ghost use Rattle.std.specs.Prelude.{◌≡◌, ◌++◌, ◌∷◌, [], IfOk, codes, decimal};
 ghost use Rattle.wv_report.specs.declared.reply.Reply.TheVariants as replies;
 ghost use Rattle.witval.specs.Inputs.{word_of};
-ghost use Rattle.witval.specs.Readings.{IsBindRefusal, IsCheckRefusal, IsRefusal, IsSchemaRefusal, IsSyntaxRefusal, IsTaskRefusal, IsTokenRefusal, both_hashes, check_code, place_text, plain, unbuilt};
+ghost use Rattle.witval.specs.Refusals.{IsBindRefusal, IsCheckRefusal, IsRefusal, IsSchemaRefusal, IsSyntaxRefusal, IsTaskRefusal, IsTokenRefusal, both_hashes, check_code, place_text, plain, unbuilt};
 ghost use Rattle.witval.specs.Replies.{too_long};
 
 use crate::input::File;

@@ -40,6 +40,7 @@ location_pairs v =
     ++ (text_pair (codes "line") (decimal v.line)
     ∷ (counts_if (codes "column") v.column ++ texts_if (codes "function") v.function))
 
+-- the type of a waypoint as it is written
 abbrev pub way_word : WayKind → List ℕ
 way_word Assumption = codes "assumption"
 way_word Target = codes "target"
@@ -74,6 +75,7 @@ segment_tree v =
     (AList (map (step_tree (codes "avoid")) v.avoids ++ (step_tree (codes "follow") v.follow ∷ [])))
     ∷ [])
 
+-- the type of an invariant as it is written
 abbrev pub invariant_word : InvariantKind → List ℕ
 invariant_word Loop = codes "loop_invariant"
 invariant_word LocationInvariant = codes "location_invariant"
@@ -110,6 +112,7 @@ metadata_tree v =
     ∷ pair (codes "task") (task_tree v)
     ∷ [])
 
+-- the type of an entry as it is written
 abbrev pub content_word : Content → List ℕ
 content_word (Violation segments) = codes "violation_sequence"
 content_word (Invariants invariants) = codes "invariant_set"

@@ -10,6 +10,7 @@ use Rattle.wv_schema.specs.declared.fault.SchemaFault.TheVariants.{Missing, Wron
 use Rattle.wv_schema.specs.Paths.{text_in, items_in, pairs_in, Found, Nowhere, Lacking, There, found, item_place, place_below}
 use Rattle.wv_schema.specs.Table.{Rule, AnyText, OneOf, TwoZero, Count, Kind, AText, AList, AMap, Texts, TextMap, Row}
 
+-- the text is one of these words
 abbrev pub is_among : List (List ℕ) → List ℕ → Bool
 is_among [] text = false
 is_among (word ∷ words) text = bytes_eq text word || is_among words text
@@ -18,6 +19,7 @@ is_among (word ∷ words) text = bytes_eq text word || is_among words text
 unfoldable pub is_count : List ℕ → Bool
 is_count text = nat_le 1 (length text) && (nat_le (length text) 7 && (all_ascii_digits text && nat_le 1 (digits_value 10 text)))
 
+-- a text meets the rule of its row
 unfoldable pub meets : Rule → List ℕ → Bool
 meets AnyText text = true
 meets (OneOf words) text = is_among words text
@@ -31,10 +33,12 @@ broken (OneOf words) path = BadValue path
 broken TwoZero path = Version
 broken Count path = BadValue path
 
+-- the fault, where something doesn't hold
 abbrev pub when_not : Bool → SchemaFault → Option SchemaFault
 when_not true fault = None
 when_not false fault = Some fault
 
+-- a text is wanted that meets a rule
 abbrev pub text_fault : Rule → List ℕ → Option (List ℕ) → Option SchemaFault
 text_fault rule path None = Some (WrongKind path)
 text_fault rule path (Some text) = when_not (meets rule text) (broken rule path)
@@ -44,21 +48,26 @@ abbrev pub items_fault : (List ℕ → Tree → Option SchemaFault) → List ℕ
 items_fault fault at n [] = None
 items_fault fault at n (t ∷ ts) = option_or (fault (item_place at n) t) (items_fault fault at (n + 1) ts)
 
+-- a text is wanted, any
 abbrev pub no_text_fault : List ℕ → Tree → Option SchemaFault
 no_text_fault path t = when_not (is_some (text_in t)) (WrongKind path)
 
+-- the values of these pairs are texts
 abbrev pub are_texts : List Pair → Bool
 are_texts [] = true
 are_texts (p ∷ ps) = is_some (text_in p.value) && are_texts ps
 
+-- a list of texts is wanted
 abbrev pub list_fault : List ℕ → Option (List Tree) → Option SchemaFault
 list_fault path None = Some (WrongKind path)
 list_fault path (Some ts) = items_fault no_text_fault path 0 ts
 
+-- a map of texts is wanted
 abbrev pub map_fault : List ℕ → Option (List Pair) → Option SchemaFault
 map_fault path None = Some (WrongKind path)
 map_fault path (Some ps) = when_not (are_texts ps) (WrongKind path)
 
+-- what a row says of the value that it finds
 abbrev pub kind_fault : Kind → List ℕ → Tree → Option SchemaFault
 kind_fault (AText rule) path t = text_fault rule path (text_in t)
 kind_fault AList path t = when_not (is_some (items_in t)) (WrongKind path)
@@ -73,6 +82,7 @@ found_fault true kind path Lacking = Some (Missing path)
 found_fault false kind path Lacking = None
 found_fault is_needed kind path (There t) = kind_fault kind path t
 
+-- what a row says of a map: the value is there where it is needed, and of its kind
 unfoldable pub row_fault : List ℕ → List Pair → Row → Option SchemaFault
 row_fault at ps row = found_fault row.is_needed row.kind (place_below at row.above row.key) (found row.above row.key ps)
 

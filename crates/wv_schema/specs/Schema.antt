@@ -16,13 +16,16 @@ use Rattle.wv_schema.specs.Shapes.{shape_fault, entries_fault}
 unfoldable pub step_rows : List Pair → List Row
 step_rows ps = in_map (codes "waypoint") (waypoint_fields (kind_at (map_at (codes "waypoint") ps)))
 
+-- the first rule that a waypoint in its list breaks
 unfoldable pub step_fault : List ℕ → Tree → Option SchemaFault
 step_fault at t = rows_fault at step_rows (pairs_in t)
 
+-- the first rule that a segment breaks: its own fields, then its waypoints
 unfoldable pub segment_fault : List ℕ → Tree → Option SchemaFault
 segment_fault at t =
     option_or (rows_fault at (λ ps. segment_fields) (pairs_in t)) (items_fault step_fault (key_place at (codes "segment")) 0 (steps_in t))
 
+-- the first rule that an invariant breaks
 unfoldable pub claim_fault : List ℕ → Tree → Option SchemaFault
 claim_fault at t = rows_fault at (λ ps. in_map (codes "invariant") invariant_fields) (pairs_in t)
 
@@ -31,6 +34,7 @@ unfoldable pub content_fault : List ℕ → Bool → List Tree → Option Schema
 content_fault at true ts = option_or (items_fault segment_fault at 0 ts) (shape_fault ts)
 content_fault at false ts = items_fault claim_fault at 0 ts
 
+-- the first rule that an entry breaks: its fields, then its content
 unfoldable pub entry_fault : List ℕ → Tree → Option SchemaFault
 entry_fault at t =
     option_or (rows_fault at (λ ps. entry_fields) (pairs_in t))
@@ -41,6 +45,7 @@ abbrev pub fault_of_items : Option (List Tree) → Option SchemaFault
 fault_of_items None = Some (WrongKind (codes "witness"))
 fault_of_items (Some ts) = option_or (items_fault entry_fault [] 0 ts) (entries_fault (map entry_in ts))
 
+-- the first rule that a witness breaks
 unfoldable pub schema_fault : Tree → Option SchemaFault
 schema_fault t = fault_of_items (items_in t)
 
@@ -63,6 +68,7 @@ Gives view (Err e) fault y = Fails e fault
 abbrev pub IsAnswer : Tree → Result Witness SchemaFault → Type 0
 IsAnswer t result = Gives (λ (w : Witness). w) result (schema_fault t) (witness_in t)
 
+-- the witness, unless it breaks a rule
 abbrev pub judged : Option SchemaFault → Witness → Result Witness SchemaFault
 judged None witness = Ok witness
 judged (Some fault) witness = Err fault

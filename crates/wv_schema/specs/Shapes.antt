@@ -13,9 +13,11 @@ use Rattle.wv_schema.specs.declared.witness.Entry.{Entry}
 use Rattle.wv_schema.specs.Judging.{when_not}
 use Rattle.wv_schema.specs.Values.{text_at, kind_at, waypoint_pairs, front, last, steps_in}
 
+-- its action is `follow`
 unfoldable pub is_follow : Tree → Bool
 is_follow t = bytes_eq (text_at (codes "action") (waypoint_pairs t)) (codes "follow")
 
+-- the type `target`
 abbrev pub is_target_kind : WayKind → Bool
 is_target_kind Assumption = false
 is_target_kind Target = true
@@ -23,9 +25,11 @@ is_target_kind FunctionEnter = false
 is_target_kind FunctionReturn = false
 is_target_kind Branching = false
 
+-- a target
 unfoldable pub is_target : Tree → Bool
 is_target t = is_target_kind (kind_at (waypoint_pairs t))
 
+-- nothing is left
 abbrev pub is_end : {X : Type 0} → List X → Bool
 is_end [] = true
 is_end (x ∷ xs) = false
@@ -36,12 +40,15 @@ is_end (x ∷ xs) = false
 abbrev pub ends_avoiding : List Tree → Bool
 ends_avoiding ts = not (is_follow (last ts))
 
+-- a waypoint to follow stands before the last one
 abbrev pub follows_early : List Tree → Bool
 follows_early ts = list_any is_follow (front ts)
 
+-- a target stands elsewhere than last in the last segment, followed
 abbrev pub has_stray_target : Bool → List Tree → Bool
 has_stray_target is_final ts = list_any is_target (front ts) || (is_target (last ts) && not (is_final && is_follow (last ts)))
 
+-- the last segment doesn't end with a target
 abbrev pub lacks_target : Bool → List Tree → Bool
 lacks_target is_final ts = is_final && not (is_target (last ts))
 
@@ -64,13 +71,16 @@ misshapen (t ∷ ts) = misshapen_from 1 (t ∷ ts)
 unfoldable pub shape_fault : List Tree → Option SchemaFault
 shape_fault ts = option_map (λ n. Shape (min n (2 ^ 32 - 1))) (misshapen ts)
 
+-- a violation sequence
 abbrev pub violates : Content → Bool
 violates (Violation segments) = true
 violates (Invariants list) = false
 
+-- its content is a violation sequence
 abbrev pub is_sequence : Entry → Bool
 is_sequence entry = violates entry.content
 
+-- its content is an invariant set
 abbrev pub is_set : Entry → Bool
 is_set entry = not (violates entry.content)
 
@@ -78,8 +88,10 @@ is_set entry = not (violates entry.content)
 abbrev pub are_mixed : List Entry → Bool
 are_mixed entries = list_any is_sequence entries && list_any is_set entries
 
+-- more than one violation sequence
 abbrev pub has_two_sequences : List Entry → Bool
 has_two_sequences entries = nat_le 2 (count_by is_sequence entries)
 
+-- no entry, entries of both types, or two violation sequences
 unfoldable pub entries_fault : List Entry → Option SchemaFault
 entries_fault entries = when_not (not (is_end entries || (are_mixed entries || has_two_sequences entries))) Entries

@@ -29,9 +29,11 @@ pub record Row : Type 0 where
   pub kind : Kind
   pub is_needed : Bool
 
+-- a field that must be there
 abbrev pub needs : List ℕ → Kind → Row
 needs key kind = record { above = []; key = key; kind = kind; is_needed = true }
 
+-- a field that may be there
 abbrev pub may_have : List ℕ → Kind → Row
 may_have key kind = record { above = []; key = key; kind = kind; is_needed = false }
 
@@ -39,26 +41,33 @@ may_have key kind = record { above = []; key = key; kind = kind; is_needed = fal
 abbrev pub below : List ℕ → Row → Row
 below key row = record row { above = key ∷ row.above }
 
+-- rows in the map of a key
 abbrev pub within : List ℕ → List Row → List Row
 within key [] = []
 within key (row ∷ rows) = below key row ∷ within key rows
 
+-- the values of `entry_type`
 abbrev pub entry_types : List (List ℕ)
 entry_types = codes "violation_sequence" ∷ codes "invariant_set" ∷ []
 
+-- the values of a waypoint's `type`
 abbrev pub waypoint_types : List (List ℕ)
 waypoint_types =
     codes "assumption" ∷ codes "target" ∷ codes "function_enter" ∷ codes "function_return" ∷ codes "branching" ∷ []
 
+-- the values of `action`
 abbrev pub actions : List (List ℕ)
 actions = codes "follow" ∷ codes "avoid" ∷ []
 
+-- the values of an invariant's `type`
 abbrev pub invariant_types : List (List ℕ)
 invariant_types = codes "loop_invariant" ∷ codes "location_invariant" ∷ []
 
+-- the values of `format`
 abbrev pub formats : List (List ℕ)
 formats = codes "c_expression" ∷ codes "acsl_expression" ∷ codes "ext_c_expression" ∷ []
 
+-- the values of a branching waypoint's constraint
 abbrev pub ways : List (List ℕ)
 ways = codes "true" ∷ codes "false" ∷ []
 
@@ -70,12 +79,14 @@ in_map key rows = needs key AMap ∷ within key rows
 abbrev pub in_map_if : List ℕ → List Row → List Row
 in_map_if key rows = may_have key AMap ∷ within key rows
 
+-- the fields of `producer`
 unfoldable pub producer_fields : List Row
 producer_fields =
     needs (codes "name") (AText AnyText)
     ∷ needs (codes "version") (AText AnyText)
     ∷ []
 
+-- the fields of `task`
 unfoldable pub task_fields : List Row
 task_fields =
     needs (codes "input_files") Texts
@@ -85,6 +96,7 @@ task_fields =
     ∷ needs (codes "language") (AText AnyText)
     ∷ []
 
+-- the fields of `metadata`
 unfoldable pub metadata_fields : List Row
 metadata_fields =
     needs (codes "format_version") (AText TwoZero)
@@ -102,6 +114,7 @@ entry_fields =
 unfoldable pub segment_fields : List Row
 segment_fields = needs (codes "segment") AList ∷ []
 
+-- the fields of `location`
 unfoldable pub location_fields : List Row
 location_fields =
     may_have (codes "file_name") (AText AnyText)
@@ -110,12 +123,14 @@ location_fields =
     ∷ may_have (codes "function") (AText AnyText)
     ∷ []
 
+-- the fields of a constraint that is an expression
 unfoldable pub expression_fields : List Row
 expression_fields =
     needs (codes "value") (AText AnyText)
     ∷ may_have (codes "format") (AText (OneOf formats))
     ∷ []
 
+-- the fields of a constraint that is a way
 unfoldable pub way_fields : List Row
 way_fields = needs (codes "value") (AText (OneOf ways)) ∷ []
 

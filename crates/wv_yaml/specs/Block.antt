@@ -8,6 +8,7 @@ use Rattle.yaml_lines.specs.Chunks.{chunked, ◌>>=◌, collected}
 use Rattle.yaml_lines.specs.Marks.{trimmed, gap, nothing, quiet, ahead, dash}
 use Rattle.wv_yaml.specs.Flow.{pair_of, as_list, as_map}
 
+-- a line that begins an item or a pair, with the lines that are more indented
 abbrev pub Chunk : Type 0
 Chunk = Line × List Line
 
@@ -15,9 +16,11 @@ Chunk = Line × List Line
 abbrev pub is_item : ℕ → Line → Bool
 is_item n l = (l.indent == n) && dash l.text
 
+-- a line that begins a pair at this indentation
 abbrev pub is_pair : ℕ → Line → Bool
 is_pair n l = (l.indent == n) && (not (dash l.text) && not (quiet l.text))
 
+-- there are only spaces
 abbrev pub all_spaces : List ℕ → Bool
 all_spaces [] = true
 all_spaces (c ∷ cs) = (c == 32) && all_spaces cs

@@ -26,19 +26,24 @@ escaped c =
 abbrev pub between_quotes : List ℕ → List ℕ
 between_quotes cs = 34 ∷ (encode_utf8_all (flat_map escaped cs) ++ (34 ∷ []))
 
+-- a text in double quotes
 abbrev pub quoted_text : List ℕ → List ℕ
 quoted_text text = between_quotes (chars text)
 
+-- A to Z, a to z
 abbrev pub is_letter : ℕ → Bool
 is_letter c = within 65 90 c || within 97 122 c
 
+-- 0 to 9
 abbrev pub is_decimal : ℕ → Bool
 is_decimal c = within 48 57 c
 
+-- each character is so
 abbrev pub all_of : (ℕ → Bool) → List ℕ → Bool
 all_of p [] = true
 all_of p (c ∷ cs) = p c && all_of p cs
 
+-- a letter, a digit or `_`
 abbrev pub is_word_char : ℕ → Bool
 is_word_char c = is_letter c || (is_decimal c || (c == 95))
 
@@ -47,6 +52,7 @@ abbrev pub is_name : List ℕ → Bool
 is_name [] = false
 is_name (c ∷ cs) = (is_letter c || (c == 95)) && all_of is_word_char cs
 
+-- a key: bare where it is a name, else quoted
 abbrev pub key_text : List ℕ → List ℕ
 key_text k = if is_name k then k else quoted_text k
 
@@ -55,6 +61,7 @@ abbrev pub is_count : List ℕ → Bool
 is_count [] = false
 is_count (c ∷ cs) = within 49 57 c && (all_of is_decimal cs && nat_le (length cs) 6)
 
+-- the same bytes
 abbrev pub bytes_are : List ℕ → List ℕ → Bool
 bytes_are [] [] = true
 bytes_are (x ∷ xs) (y ∷ ys) = (x == y) && bytes_are xs ys
@@ -74,19 +81,23 @@ abbrev pub has_items : {m : _} → Row_of-Tree m → Bool
 has_items end_of-Tree = false
 has_items (more_of-Tree t rest) = true
 
+-- the map isn't empty
 abbrev pub has_pairs : {m : _} → Row_of-Pair m → Bool
 has_pairs end_of-Pair = false
 has_pairs (more_of-Pair k v rest) = true
 
+-- a text, or a collection without items, stands on its key's line
 abbrev pub is_inline : Tree → Bool
 is_inline (Text v) = true
 is_inline (List' s row) = not (has_items row)
 is_inline (Map' s row) = not (has_pairs row)
 
+-- what stands before an item: nothing behind an indicator, else a line's indentation
 abbrev pub lead : ℕ → Bool → List ℕ
 lead n true = []
 lead n false = indented n []
 
+-- what stands behind a colon: a space, or the next line's indentation
 abbrev pub after_colon : ℕ → Bool → List ℕ
 after_colon n true = 32 ∷ []
 after_colon n false = 10 ∷ indented n []
@@ -118,6 +129,7 @@ pairs_bytes n first [] = []
 pairs_bytes n first (p ∷ ps) =
     lead n first ++ (key_text p.key ++ (58 ∷ (after_colon (n + 2) (is_inline p.value) ++ (form (n + 2) (is_place p.key) p.value ++ pairs_bytes n false ps))))
 
+-- the canonical text of a tree
 unfoldable pub canon : Tree → List ℕ
 canon t = form 0 false t
 

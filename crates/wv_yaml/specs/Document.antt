@@ -26,9 +26,11 @@ is_triple c (x ∷ y ∷ z ∷ rest) = (x == c) && ((y == c) && ((z == c) && par
 abbrev pub is_start : Line → Bool
 is_start l = (l.indent == 0) && is_triple 45 l.text
 
+-- a line `...`
 abbrev pub is_stop : Line → Bool
 is_stop l = (l.indent == 0) && is_triple 46 l.text
 
+-- a line that neither begins nor ends a document
 abbrev pub is_plain_line : Line → Bool
 is_plain_line l = not (is_start l || is_stop l)
 
@@ -86,6 +88,7 @@ pub data Closed : List Line → Type 0 where
   Open : Closed []
   Stopped : (l : Line) (ls : List Line) → is_stop l ≡ true → is_alone l ≡ true → Quiet ls → Closed (l ∷ ls)
 
+-- the top node: a flow collection, or a block from the first line on
 pub data Top : List Line → Tree → Type 0 where
   TopFlow : (l : Line) (ls : List Line) (t : Tree) → begins_flow (trimmed l.text) ≡ true → FlowText max_depth (joined 0 (trimmed l.text) ls) t → Top (l ∷ ls) t
   TopBlock : (l : Line) (ls : List Line) (t : Tree) → begins_flow (trimmed l.text) ≡ false → Block KeyText Inline max_depth (l ∷ ls) t → Top (l ∷ ls) t

@@ -8,6 +8,7 @@ use Rattle.wv_yaml.specs.declared.tree.Pair.{Pair}
 use Rattle.yaml_lines.specs.Chunks.{Pairwise, ◌>>=◌, collected, provided}
 use Rattle.yaml_lines.specs.Marks.{is_end}
 
+-- a key with its value
 abbrev pub pair_of : List ℕ → Tree → Pair
 pair_of k v = record { key = k; value = v }
 
@@ -118,11 +119,13 @@ pub data Separated : List (List Token) → List Token → Type 0 where
   LastComma : (p : List Token) → Separated (p ∷ []) (p ++ (Comma ∷ []))
   NextPart : (p q : List Token) (ps : List (List Token)) (ts : List Token) → Separated (q ∷ ps) ts → Separated (p ∷ q ∷ ps) (p ++ (Comma ∷ ts))
 
+-- a pair of a flow mapping
 pub record PairOf (R : List Token → Tree → Type 0) (ts : List Token) (p : Pair) : Type 0 where
   pub rest : List Token
   pub key : ts ≡ Key p.key ∷ rest
   pub value : R rest p.value
 
+-- a value in flow style (YAML 1.2.2, 7.4)
 pub data FlowValue (R : List Token → Tree → Type 0) : List Token → Tree → Type 0 where
   FlowWord : (v : List ℕ) → FlowValue R (Word v ∷ []) (tree.Text v)
   FlowList : (entries : List (List Token)) (inner : List Token) (items : List Tree) → Separated entries inner → Pairwise R entries items →
@@ -130,6 +133,7 @@ pub data FlowValue (R : List Token → Tree → Type 0) : List Token → Tree �
   FlowMap : (entries : List (List Token)) (inner : List Token) (pairs : List Pair) → Separated entries inner → Pairwise (PairOf R) entries pairs →
       FlowValue R (OpenMap ∷ (inner ++ (CloseMap ∷ []))) (tree.Map pairs)
 
+-- the tokens are one scalar
 abbrev pub IsFlowWord : List Token → Tree → Type 0
 IsFlowWord ts t = (v : List ℕ) × (ts ≡ Word v ∷ []) × (t ≡ tree.Text v)
 

@@ -55,6 +55,7 @@ quoted_alone inside cs = inside cs >>= λ r. provided (is_silent (drop r.1 cs)) 
 abbrev pub flow_text : ℕ → List ℕ → Option Tree
 flow_text d text = tokens false 0 text >>= λ ts. flow d ts
 
+-- `[` and `{`
 abbrev pub opens_flow : ℕ → Bool
 opens_flow c = (c == 91) || (c == 123)
 
@@ -68,6 +69,7 @@ scalar here n (c ∷ cs) body =
     else (if (c == 124) || (c == 62) then (if here then block_scalar (c == 62) n cs body else None)
     else plain_lines n (c ∷ cs) body))
 
+-- the text begins a flow collection
 abbrev pub begins_flow : List ℕ → Bool
 begins_flow [] = false
 begins_flow (c ∷ cs) = opens_flow c
@@ -83,6 +85,7 @@ pub record KeyEnd (name gap rest : List ℕ) : Type 0 where
   pub apart : parted rest ≡ true
   pub short : length name ≤ max_key
 
+-- a key with the blanks before its colon, and what is behind it (YAML 1.2.2, 7.4, 8.2.2)
 pub data KeyAt : List ℕ → List ℕ → List ℕ → Type 0 where
   PlainKey : (text name rest : List ℕ) → plain_start parted text ≡ true → Part stops text name (58 ∷ rest) → KeyEnd name [] rest → KeyAt text name rest
   DoubleKey : (inner name gap rest : List ℕ) → Double inner name (gap ++ (58 ∷ rest)) → KeyEnd name gap rest → KeyAt (34 ∷ inner) name rest
@@ -96,9 +99,11 @@ KeyText text name rest = (value : List ℕ) × KeyAt text value rest × (name �
 abbrev pub FlowText : ℕ → List ℕ → Tree → Type 0
 FlowText d text t = (ts : List Token) × Lexed false text ts × Flow d ts t
 
+-- nothing but blanks and comments
 abbrev pub Silent : List ℕ → Type 0
 Silent text = Lexed false text []
 
+-- a value that begins on a line, and the lines that it goes on over
 pub data Inline (d : ℕ) (here : Bool) (n : ℕ) (body : List Line) : List ℕ → Tree → Type 0 where
   -- a plain scalar that goes on over lines, or ends with a comment on its first
   PlainOver : (text value more : List ℕ) → plain_start parted text ≡ true → Part stops text value [] → Continues n body more →

@@ -17,10 +17,12 @@ abbrev mutual
   Repeats (List' s row) = ItemRepeats row
   Repeats (Map' s row) = PairRepeats row
 
+  -- a key comes twice in an item
   pub ItemRepeats : {m : _} → Row_of-Tree m → Type 0
   ItemRepeats end_of-Tree = ⊥
   ItemRepeats (more_of-Tree t rest) = Repeats t ⊎ ItemRepeats rest
 
+  -- a key comes twice, among these pairs or in a value
   pub PairRepeats : {m : _} → Row_of-Pair m → Type 0
   PairRepeats end_of-Pair = ⊥
   PairRepeats (more_of-Pair k v rest) = HasKey k rest ⊎ (Repeats v ⊎ PairRepeats rest)

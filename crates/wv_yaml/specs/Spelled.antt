@@ -47,6 +47,7 @@ module _ (KeyAt : List ℕ → List ℕ → List ℕ → Type 0) (Inline : Bool 
       Compact : nothing l.text ≡ false → compact ≡ true → Begins l.text → R (l ∷ body) t → Entry n compact l body t
       EntryBeside : nothing l.text ≡ false → (compact ≡ true → Begins l.text → ⊥) → Inline true n body l.text t → Entry n compact l body t
 
+    -- an item of a block sequence: `-`, blanks, the item (YAML 1.2.2, 8.2.1)
     pub record Item (n : ℕ) (c : Chunk) (t : Tree) : Type 0 where
       pub gap : List ℕ
       pub text : List ℕ
@@ -56,6 +57,7 @@ module _ (KeyAt : List ℕ → List ℕ → List ℕ → Type 0) (Inline : Bool 
       -- the column of what follows is the number of characters before it
       pub entry : Entry n (all_spaces gap) (line_at (n + 1 + length gap) text c.0.ended) c.1 t
 
+    -- a pair of a block mapping: the key, then its value (YAML 1.2.2, 8.2.2)
     pub record PairAt (n : ℕ) (c : Chunk) (p : Pair) : Type 0 where
       pub name : List ℕ
       pub gap : List ℕ
@@ -67,6 +69,7 @@ module _ (KeyAt : List ℕ → List ℕ → List ℕ → Type 0) (Inline : Bool 
       pub spelled : Value n text c.1 value
       pub is : p ≡ pair_of name value
 
+    -- a block sequence from a line on
     pub record Sequence (n : ℕ) (l : Line) (ls : List Line) (t : Tree) : Type 0 where
       pub chunks : List Chunk
       pub items : List Tree
@@ -75,6 +78,7 @@ module _ (KeyAt : List ℕ → List ℕ → List ℕ → Type 0) (Inline : Bool 
       pub each : Pairwise (Item n) chunks items
       pub is : t ≡ tree.List items
 
+    -- a block mapping from a line on
     pub record Mapping (n : ℕ) (l : Line) (ls : List Line) (t : Tree) : Type 0 where
       pub chunks : List Chunk
       pub pairs : List Pair
@@ -83,6 +87,7 @@ module _ (KeyAt : List ℕ → List ℕ → List ℕ → Type 0) (Inline : Bool 
       pub each : Pairwise (PairAt n) chunks pairs
       pub is : t ≡ tree.Map pairs
 
+    -- a block collection
     pub data Collection (l : Line) (ls : List Line) (t : Tree) : Type 0 where
       Items : Sequence l.indent l ls t → Collection l ls t
       Pairs : Mapping l.indent l ls t → Collection l ls t

@@ -8,6 +8,7 @@ pub record Line : Type 0 where
   pub text : List ℕ
   pub ended : Bool
 
+-- a line by its spaces, the text behind them and whether a break ends it
 abbrev pub line_at : ℕ → List ℕ → Bool → Line
 line_at n text ended = record { indent = n; text = text; ended = ended }
 

@@ -4,6 +4,7 @@ use Rattle.yaml_lines.specs.Line.{Line, line_at}
 use Rattle.yaml_lines.specs.Chunks.{NoneOf}
 use Rattle.yaml_lines.specs.Marks.{begins_with, indented, is_end, is_empty}
 
+-- from the first to the second, both included
 abbrev pub within : ℕ → ℕ → ℕ → Bool
 within low high c = nat_le low c && nat_le c high
 
@@ -12,6 +13,7 @@ abbrev pub may_stand : ℕ → List ℕ → Bool
 may_stand c cs =
     (c == 9) || (c == 10) || ((c == 13) && begins_with 10 cs) || within 32 126 c || (c == 0x85) || within 0xA0 0xFFFD c || nat_le 0x1_0000 c
 
+-- each character may stand in a text
 abbrev pub allowed : List ℕ → Bool
 allowed [] = true
 allowed (c ∷ cs) = may_stand c cs && allowed cs
@@ -59,6 +61,7 @@ lines_in cs = lines_from [] cs
 
 -- Lines, as a relation.
 
+-- a line feed or a carriage return
 abbrev pub is_break : ℕ → Bool
 is_break c = (c == 10) || (c == 13)
 

@@ -12,10 +12,12 @@ abbrev pub is_end : {X : Type 0} → List X → Bool
 is_end [] = true
 is_end (x ∷ xs) = false
 
+-- the text begins with this character
 abbrev pub begins_with : ℕ → List ℕ → Bool
 begins_with b [] = false
 begins_with b (c ∷ cs) = c == b
 
+-- the text begins with a blank
 abbrev pub begins_blank : List ℕ → Bool
 begins_blank [] = false
 begins_blank (c ∷ cs) = blank c
@@ -25,6 +27,7 @@ abbrev pub gap : List ℕ → List ℕ
 gap [] = []
 gap (c ∷ cs) = if blank c then c ∷ gap cs else []
 
+-- without the blanks at the front
 abbrev pub trimmed : List ℕ → List ℕ
 trimmed [] = []
 trimmed (c ∷ cs) = if blank c then trimmed cs else c ∷ cs
@@ -106,5 +109,6 @@ EndsWell [] = Unit {0}
 EndsWell (c ∷ []) = blank c ≡ false
 EndsWell (c ∷ d ∷ ds) = EndsWell (d ∷ ds)
 
+-- lines of blanks and comments alone
 abbrev pub Quiet : List Line → Type 0
 Quiet ls = Each (λ l. quiet l.text) ls

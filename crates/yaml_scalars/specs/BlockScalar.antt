@@ -7,6 +7,7 @@ use Rattle.yaml_scalars.specs.declared.header.Header.{Header}
 use Rattle.yaml_lines.specs.Chunks.{Each, ◌>>=◌, provided}
 use Rattle.yaml_lines.specs.Marks.{blank, begins_blank, is_end, quiet, all_quiet, is_tail, indented, breaks, folded, count_of, Quiet}
 
+-- 1 to 9
 abbrev pub is_digit : ℕ → Bool
 is_digit c = nat_le 49 c && nat_le c 57
 
@@ -38,9 +39,11 @@ header_of folds (c ∷ cs) =
 abbrev pub Row : Type 0
 Row = List ℕ × Bool
 
+-- a line without so many of its spaces
 abbrev pub row_at : ℕ → Line → Row
 row_at m l = (indented (l.indent - m) l.text, l.ended)
 
+-- a line of which no character counts
 abbrev pub empty_row : Line → Row
 empty_row l = ([], l.ended)
 
@@ -58,9 +61,11 @@ abbrev pub text_in : Option ℕ → Line → List ℕ
 text_in None l = []
 text_in (Some m) l = l.text
 
+-- nothing stands there
 abbrev pub is_empty_row : Row → Bool
 is_empty_row r = is_end r.0
 
+-- a line break ends it
 abbrev pub has_break : Row → Bool
 has_break r = r.1
 
@@ -92,6 +97,7 @@ is_spaces l = is_end l.text
 abbrev pub belongs : ℕ → Line → Bool
 belongs m l = is_spaces l || nat_le m l.indent
 
+-- the front in which each is so
 abbrev pub while : {X : Type 0} → (X → Bool) → List X → List X
 while p [] = []
 while p (x ∷ xs) = if p x then x ∷ while p xs else []
@@ -131,10 +137,12 @@ block_scalar folds n header body =
 
 -- The same as relations.
 
+-- nothing, or blanks and a comment
 abbrev pub Tail : List ℕ → Type 0
 Tail [] = Unit {0}
 Tail (c ∷ cs) = (blank c ≡ true) × (quiet cs ≡ true)
 
+-- how a header says what happens to the last line breaks (YAML 1.2.2, 8.1.1.2)
 pub data IsSign : ℕ → Chomp → Type 0 where
   Minus : IsSign 45 Strip
   Plus : IsSign 43 Keep
@@ -176,6 +184,7 @@ pub data Rows (n : ℕ) (body : List Line) (rows : List Row) : ℕ → Type 0 wh
   NoContent : (spaces others : List Line) → body ≡ spaces ++ others → Each is_spaces spaces → while (λ l. is_spaces l || nat_lt n l.indent) others ≡ [] →
       Quiet others → rows ≡ map empty_row spaces → Rows n body rows 0
 
+-- a block scalar: its header, the rows of its lines, the value that they spell (YAML 1.2.2, 8.1)
 pub record BlockText (folds : Bool) (n : ℕ) (text : List ℕ) (body : List Line) (value : List ℕ) : Type 0 where
   pub header : Header
   pub rows : List Row

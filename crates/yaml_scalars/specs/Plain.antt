@@ -27,6 +27,7 @@ abbrev pub flow_parted : List ℕ → Bool
 flow_parted [] = true
 flow_parted (c ∷ cs) = blank c || (c == 10) || (c == 13) || flow_sign c
 
+-- a plain scalar in flow style ends before this character (YAML 1.2.2, 7.3.3)
 abbrev pub flow_stops : Bool → ℕ → List ℕ → Bool
 flow_stops behind c cs = (c == 10) || (c == 13) || flow_sign c || ((c == 58) && flow_parted cs) || ((c == 35) && behind)
 

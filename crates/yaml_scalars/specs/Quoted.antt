@@ -8,9 +8,11 @@ use Rattle.yaml_lines.specs.Marks.{blank, begins_with, breaks, folded, count_of}
 abbrev pub is_feed : ℕ → Bool
 is_feed c = c == 10
 
+-- a blank or a line feed
 abbrev pub white : ℕ → Bool
 white c = blank c || is_feed c
 
+-- the blanks and line feeds at the front
 abbrev pub white_front : List ℕ → List ℕ
 white_front [] = []
 white_front (c ∷ cs) = if white c then c ∷ white_front cs else []
@@ -58,6 +60,7 @@ simple e =
 abbrev pub digits_of : ℕ → ℕ
 digits_of e = if e == 120 then 2 else (if e == 117 then 4 else (if e == 85 then 8 else 0))
 
+-- the value of a hexadecimal digit
 abbrev pub digit : ℕ → Option ℕ
 digit c =
     if nat_le 48 c && nat_le c 57 then Some (c - 48)
@@ -155,8 +158,10 @@ pub data Inside (quote : ℕ) (closes : List ℕ → Bool) (Piece : List ℕ →
   More : (spelled meant text value rest : List ℕ) → Piece text spelled meant → Inside quote closes Piece text value rest →
       Inside quote closes Piece (spelled ++ text) (meant ++ value) rest
 
+-- behind the opening quote: the value of a text in double quotes, and what is left (YAML 1.2.2, 7.3.1)
 abbrev pub Double : List ℕ → List ℕ → List ℕ → Type 0
 Double text value rest = Inside 34 (λ _. true) DoublePiece text value rest
 
+-- behind the opening quote: the value of a text in single quotes, and what is left (YAML 1.2.2, 7.3.2)
 abbrev pub Single : List ℕ → List ℕ → List ℕ → Type 0
 Single text value rest = Inside 39 (λ rest. not (begins_with 39 rest)) SinglePiece text value rest

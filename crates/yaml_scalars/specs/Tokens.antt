@@ -14,6 +14,7 @@ use Rattle.yaml_scalars.specs.Quoted.{white, double_step, single_step, quoted, D
 abbrev pub max_key : ℕ
 max_key = 1024
 
+-- the sign of a flow collection
 abbrev pub sign_of : ℕ → Token
 sign_of c =
     if c == 91 then token.OpenList else (if c == 93 then token.CloseList else (if c == 123 then token.OpenMap else (if c == 125 then token.CloseMap else token.Comma)))
@@ -39,14 +40,17 @@ abbrev pub line_parted : List ℕ → Bool
 line_parted [] = true
 line_parted (c ∷ cs) = blank c || is_break c
 
+-- a colon that ends a key in flow style
 abbrev pub key_colon : Bool → List ℕ → Bool
 key_colon is_quoted [] = false
 key_colon is_quoted (c ∷ cs) = (c == 58) && (is_quoted || line_parted cs)
 
+-- no line break
 abbrev pub on_one_line : List ℕ → Bool
 on_one_line [] = true
 on_one_line (c ∷ cs) = not (is_break c) && on_one_line cs
 
+-- a scalar in flow style that is a key: on one line, short enough, with a colon behind it
 abbrev pub is_key : Bool → List ℕ → List ℕ → List ℕ → Bool
 is_key is_quoted spelled value rest = on_one_line spelled && (nat_le (length value) max_key && key_colon is_quoted (trimmed rest))
 
@@ -116,6 +120,7 @@ pub data WordAt : Bool → List ℕ → List ℕ → List ℕ → Type 0 where
   DoubleWord : (spelled value rest : List ℕ) → Double (spelled ++ rest) value rest → WordAt true (34 ∷ spelled) value rest
   SingleWord : (spelled value rest : List ℕ) → Single (spelled ++ rest) value rest → WordAt true (39 ∷ spelled) value rest
 
+-- the text ends here, or its line does
 abbrev pub EndsLine : List ℕ → Type 0
 EndsLine [] = Unit {0}
 EndsLine (c ∷ cs) = is_break c ≡ true

@@ -3,7 +3,7 @@ use mir.Val.{SFits}
 use mir.Syntax.{w128}
 use Rattle.std.proofs.lemmas.Int.{to_z-of_z}
 use Rattle.c_core.proofs.Fits.{fit_in_range}
-use Rattle.check_types.proofs.operators.fitted.Goals as goal
+use Rattle.c_core.proofs.computing.fitted.Goals as goal
 
 pub returns-clause-range : goal.returns-clause-range
 returns-clause-range c =
