@@ -1,5 +1,5 @@
--- Where no havoc run fails, no run is violated, and invariants hold wherever they are placed.
-use Rattle.std.proofs.Common.{◌≡◌, ◌≤◌, ℕ, zero, suc, Bool, true, List, [], ◌∷◌, length, Option, Some, None, slice_get, refl, sym, ap, ◌∙◌, subst, arith}
+-- Where every obligation holds, no run is violated, and invariants hold wherever they are placed.
+use Rattle.std.proofs.Common.{◌≡◌, ◌≤◌, ℕ, zero, suc, ℤ, Bool, true, List, [], ◌∷◌, length, Option, Some, None, slice_get, refl, sym, ap, ◌∙◌, subst, arith}
 use Rattle.std.specs.List.{All}
 use Rattle.std.proofs.lemmas.List.Elements.{All-nil}
 use Rattle.std.proofs.lemmas.Option.{slice_get_within}
@@ -15,7 +15,9 @@ use Rattle.c_meaning.specs.Duties.{Placed, Duties, number_among}
 use Rattle.c_meaning.specs.Exec.{turn, run_in, run_if, run_main}
 use Rattle.c_meaning.specs.Fitting.{FitCells, calls_in}
 use Rattle.c_meaning.specs.Cells.{Cell}
-use Rattle.c_meaning.specs.Havoc.{Stopped, Left, havoc_run}
+use Rattle.c_meaning.specs.declared.run.HavocEnd.TheVariants.{Failed}
+use Rattle.c_meaning.specs.Havoc.{Stopped, Left, havoc_run, Havoc}
+use Rattle.c_duties.proofs.Numbers.{tells_obligations}
 use Rattle.c_meaning.specs.Parts.{some_of, some_node, fulls_of_function, fulls_if}
 use Rattle.c_meaning.specs.Related.{FitsS, FitsParams}
 use Rattle.c_meaning.specs.Run.{State, first_cells, first_state, state_of, end_of, Whole, Run}
@@ -28,7 +30,7 @@ use Rattle.c_frames.proofs.Bodies.{params_of, fresh_body, named_body}
 use Rattle.c_frames.proofs.FramedTurns.{turn_framed}
 use Rattle.c_frames.proofs.Heads.{Seen, keep, all_reversed, no_bad_in}
 use Rattle.c_frames.proofs.Refitting.{OwnAgreesTo, AgreesTo, Refit, refit_s}
-use Rattle.c_lifting.specs.Lifting.{NeverFails, IsLifted, Lifted}
+use Rattle.c_lifting.specs.Lifting.{EveryObligationHolds, IsLifted, Lifted}
 use Rattle.c_lifting.proofs.Lifts.{IsFine, Safe, Follows, Lifts, SameFlow, lifts_stop, lifts_loop}
 use Rattle.c_lifting.proofs.Relating.{H, N, lifting, lifting_keeps}
 
@@ -88,12 +90,15 @@ module _ (p : Program) (h : IsProgram p) (I : List Placed) where
       (λ L at result l m k. lifts_loop p I result at l (turn p (H p I) (calls_in p (H p I) d) result at l) (turn p (N p I) (calls_in p (N p I) n) result at l) k (λ s t c. m n result s t c))
       fn.result tt fn.body (body_fits d g fn e q)
 
-  module _ (none : IsFirstRecursion p None) (never : NeverFails p I) where
+  module _ (none : IsFirstRecursion p None) (all : EveryObligationHolds p I) where
     main_shallow : (fn : Function) → slice_get p.functions p.main ≡ Some fn → Shallow p (suc (length p.functions)) p.main
     main_shallow fn e = shallow p (suc (length p.functions)) p.main (λ gs c. let l = chain_is_short p none p.main (p.main ∷ []) gs (main_path p none (slice_get_within p.functions p.main fn e)) c in omega (arith, l))
 
     abbrev Result : Type 0
     Result = Res End (State Seen) Flow
+
+    never : (w : List ℤ) (number : ℕ) → (Havoc p I w).end ≡ Failed number → ⊥
+    never w number e = let f = tells_obligations p I w number e in let l = f.at.within in all number (omega (arith, f.counted)) (omega (arith, f.counted, l)) w e
 
     safe : Safe (run_main p (H p I) (suc (length p.functions))) (first_cells p) []
     safe = record { never = λ w d x e. never w (number_among d (Duties p I)) (ap (λ r. (havoc_run (Duties p I) r).end) e) }

@@ -1,5 +1,5 @@
--- What holds of every run of a program whose havoc runs never fail.
-use Rattle.std.specs.Prelude.{◌≡◌, ℕ, ℤ, Bool, true, false, List, IsTrue}
+-- What holds of every run of a program all of whose obligations hold.
+use Rattle.std.specs.Prelude.{◌≡◌, ◌≤◌, ℕ, ℤ, Bool, true, false, List, length, IsTrue}
 use Rattle.std.specs.List.{All}
 use Rattle.c_core.specs.Tree.{Program}
 use Rattle.c_core.specs.declared.number.Spot.{Spot}
@@ -8,15 +8,19 @@ use Rattle.c_meaning.specs.declared.run.End.TheVariants.{Violated}
 use Rattle.c_meaning.specs.declared.run.HavocEnd.TheVariants.{Failed}
 use Rattle.c_meaning.specs.Cells.{Cell}
 use Rattle.c_meaning.specs.Value.{holds}
-use Rattle.c_meaning.specs.Duties.{Placed}
+use Rattle.c_meaning.specs.Duties.{Placed, Duties}
 use Rattle.c_meaning.specs.Havoc.{stands, Havoc}
 use Rattle.c_meaning.specs.Run.{Moment, Told, Here, Head, Run, Moments}
 
 -- I: the invariants in witness order
 module _ (p : Program) (I : List Placed) where
-  -- no list of values makes the havoc run fail at an obligation
-  abbrev pub NeverFails : Type 0
-  NeverFails = (values : List ℤ) (number : ℕ) → (Havoc p I values).end ≡ Failed number → ⊥
+  -- an obligation holds where no list of values gives a havoc run that ends at it
+  abbrev pub ObligationHolds : ℕ → Type 0
+  ObligationHolds number = (values : List ℤ) → (Havoc p I values).end ≡ Failed number → ⊥
+
+  -- all of them, numbered from 1 on
+  abbrev pub EveryObligationHolds : Type 0
+  EveryObligationHolds = (number : ℕ) → 1 ≤ number → number ≤ length (Duties p I) → ObligationHolds number
 
   -- each invariant of this place, at its loop or at its statement, holds in these cells
   abbrev pub HoldsAt : Bool → Spot → Placed → List Cell → Type 0
