@@ -18,7 +18,7 @@ use Rattle.c_meaning.specs.Related.{FitsS, with_names}
 use Rattle.c_meaning.proofs.Checked.{Asks, function_body}
 use Rattle.c_meaning.proofs.TypeFacts.{both, neither, at_every, of_both}
 use Rattle.c_frames.proofs.CellLaws.{same_number}
-use Rattle.c_frames.proofs.Refitting.{is_bad, some-append, times-append, named, most, Fresh}
+use Rattle.c_frames.proofs.Refitting.{assigns_no_target, some-append, times-append, named, most, Fresh}
 
 pub in_same : (x : ℕ) (os : List ℕ) → own.is_in x os ≡ is_in x os
 in_same x [] = refl
@@ -38,54 +38,54 @@ uncounted x os e = ⊎_elim (λ t. absurd (omega (arith, e, counted x os t))) (�
 -- ---- what is assigned or stepped is a target
 
 module _ (p : Program) where
-  no_bad_node : (ty : Option IntType) (n : Node) → IsTrue (node_fits p ty n) → is_bad n ≡ false
-  no_bad_node ty (Step op a) t = ap not (both (is_target a) (same_types (parts.type_of a) ty) t).0
-  no_bad_node ty (Assign op a b) t = ap not (both (is_target a) (has_value b && (is_assignment op && same_types (parts.type_of a) ty)) t).0
-  no_bad_node ty (Const v) t = refl
-  no_bad_node ty (Var o) t = refl
-  no_bad_node ty (Index o i) t = refl
-  no_bad_node ty (Unary op a) t = refl
-  no_bad_node ty (Cast a) t = refl
-  no_bad_node ty (Binary op a b) t = refl
-  no_bad_node ty (Logic test a b) t = refl
-  no_bad_node ty (Choose mark e a b) t = refl
-  no_bad_node ty (Comma a b) t = refl
-  no_bad_node ty (Call callee es close) t = refl
+  targets_node : (ty : Option IntType) (n : Node) → IsTrue (node_fits p ty n) → assigns_no_target n ≡ false
+  targets_node ty (Step op a) t = ap not (both (is_target a) (same_types (parts.type_of a) ty) t).0
+  targets_node ty (Assign op a b) t = ap not (both (is_target a) (has_value b && (is_assignment op && same_types (parts.type_of a) ty)) t).0
+  targets_node ty (Const v) t = refl
+  targets_node ty (Var o) t = refl
+  targets_node ty (Index o i) t = refl
+  targets_node ty (Unary op a) t = refl
+  targets_node ty (Cast a) t = refl
+  targets_node ty (Binary op a b) t = refl
+  targets_node ty (Logic test a b) t = refl
+  targets_node ty (Choose mark e a b) t = refl
+  targets_node ty (Comma a b) t = refl
+  targets_node ty (Call callee es close) t = refl
 
-  abbrev bad : Exp → Bool
-  bad e = some_node is_bad e
+  abbrev astray : Exp → Bool
+  astray e = some_node assigns_no_target e
 
   mutual
-    no_bad_e : (e : Exp) → IsTrue (every_exp (exp_fits p) e) → bad e ≡ false
-    no_bad_e (Expr spot ty n) t = let a = both (exp_fits p (Expr spot ty n)) (every_part (exp_fits p) n) t in or_from _ _ (no_bad_node ty n a.0) (no_bad_p n a.1)
+    targets_e : (e : Exp) → IsTrue (every_exp (exp_fits p) e) → astray e ≡ false
+    targets_e (Expr spot ty n) t = let a = both (exp_fits p (Expr spot ty n)) (every_part (exp_fits p) n) t in or_from _ _ (targets_node ty n a.0) (targets_p n a.1)
 
-    no_bad_p : (n : Node) → IsTrue (every_part (exp_fits p) n) → some_part is_bad n ≡ false
-    no_bad_p (Const v) t = refl
-    no_bad_p (Var o) t = refl
-    no_bad_p (Index o i) t = no_bad_e i t
-    no_bad_p (Unary op a) t = no_bad_e a t
-    no_bad_p (Cast a) t = no_bad_e a t
-    no_bad_p (Step op a) t = no_bad_e a t
-    no_bad_p (Binary op a b) t = let g = both (every_exp (exp_fits p) a) (every_exp (exp_fits p) b) t in or_from _ _ (no_bad_e a g.0) (no_bad_e b g.1)
-    no_bad_p (Logic test a b) t = let g = both (every_exp (exp_fits p) a) (every_exp (exp_fits p) b) t in or_from _ _ (no_bad_e a g.0) (no_bad_e b g.1)
-    no_bad_p (Choose mark e a b) t =
+    targets_p : (n : Node) → IsTrue (every_part (exp_fits p) n) → some_part assigns_no_target n ≡ false
+    targets_p (Const v) t = refl
+    targets_p (Var o) t = refl
+    targets_p (Index o i) t = targets_e i t
+    targets_p (Unary op a) t = targets_e a t
+    targets_p (Cast a) t = targets_e a t
+    targets_p (Step op a) t = targets_e a t
+    targets_p (Binary op a b) t = let g = both (every_exp (exp_fits p) a) (every_exp (exp_fits p) b) t in or_from _ _ (targets_e a g.0) (targets_e b g.1)
+    targets_p (Logic test a b) t = let g = both (every_exp (exp_fits p) a) (every_exp (exp_fits p) b) t in or_from _ _ (targets_e a g.0) (targets_e b g.1)
+    targets_p (Choose mark e a b) t =
         let g = both (every_exp (exp_fits p) e) (every_exp (exp_fits p) a && every_exp (exp_fits p) b) t in
         let h = both (every_exp (exp_fits p) a) (every_exp (exp_fits p) b) g.1 in
-        or_from _ _ (no_bad_e e g.0) (or_from _ _ (no_bad_e a h.0) (no_bad_e b h.1))
-    no_bad_p (Comma a b) t = let g = both (every_exp (exp_fits p) a) (every_exp (exp_fits p) b) t in or_from _ _ (no_bad_e a g.0) (no_bad_e b g.1)
-    no_bad_p (Assign op a b) t = let g = both (every_exp (exp_fits p) a) (every_exp (exp_fits p) b) t in or_from _ _ (no_bad_e a g.0) (no_bad_e b g.1)
-    no_bad_p (Call callee es close) t = no_bad_es es t
+        or_from _ _ (targets_e e g.0) (or_from _ _ (targets_e a h.0) (targets_e b h.1))
+    targets_p (Comma a b) t = let g = both (every_exp (exp_fits p) a) (every_exp (exp_fits p) b) t in or_from _ _ (targets_e a g.0) (targets_e b g.1)
+    targets_p (Assign op a b) t = let g = both (every_exp (exp_fits p) a) (every_exp (exp_fits p) b) t in or_from _ _ (targets_e a g.0) (targets_e b g.1)
+    targets_p (Call callee es close) t = targets_es es t
 
-    no_bad_es : (es : Exps) → IsTrue (every_argument (exp_fits p) es) → some_argument is_bad es ≡ false
-    no_bad_es NoExp t = refl
-    no_bad_es (MoreExp e es) t = let g = both (every_exp (exp_fits p) e) (every_argument (exp_fits p) es) t in or_from _ _ (no_bad_e e g.0) (no_bad_es es g.1)
+    targets_es : (es : Exps) → IsTrue (every_argument (exp_fits p) es) → some_argument assigns_no_target es ≡ false
+    targets_es NoExp t = refl
+    targets_es (MoreExp e es) t = let g = both (every_exp (exp_fits p) e) (every_argument (exp_fits p) es) t in or_from _ _ (targets_e e g.0) (targets_es es g.1)
 
-  no_bads : (es : List Exp) → IsTrue (list_all (is_typed p) es) → some_of bad es ≡ false
-  no_bads [] t = refl
-  no_bads (e ∷ es) t = let g = both (is_typed p e) (list_all (is_typed p) es) t in or_from _ _ (no_bad_e e g.0) (no_bads es g.1)
+  targets_all : (es : List Exp) → IsTrue (list_all (is_typed p) es) → some_of astray es ≡ false
+  targets_all [] t = refl
+  targets_all (e ∷ es) t = let g = both (is_typed p e) (list_all (is_typed p) es) t in or_from _ _ (targets_e e g.0) (targets_all es g.1)
 
-  none_append : (xs ys : List Exp) → some_of bad xs ≡ false → some_of bad ys ≡ false → some_of bad (xs ++ ys) ≡ false
-  none_append xs ys f g = some-append bad xs ys ∙ or_from _ _ f g
+  none_append : (xs ys : List Exp) → some_of astray xs ≡ false → some_of astray ys ≡ false → some_of astray (xs ++ ys) ≡ false
+  none_append xs ys f g = some-append astray xs ys ∙ or_from _ _ f g
 
   same_exps : (es : Exps) → own.exps_in es ≡ parts.exps_in es
   same_exps NoExp = refl
@@ -109,48 +109,48 @@ module _ (p : Program) where
   same_if None = refl
   same_if (Some e) = refl
 
-  no_bads_if : (e : Option Exp) → IsTrue (list_all (is_typed p) (parts.exp_if e)) → some_of bad (exp_if e) ≡ false
-  no_bads_if e t = ap (some_of bad) (same_if e) ∙ no_bads (parts.exp_if e) t
+  targets_if : (e : Option Exp) → IsTrue (list_all (is_typed p) (parts.exp_if e)) → some_of astray (exp_if e) ≡ false
+  targets_if e t = ap (some_of astray) (same_if e) ∙ targets_all (parts.exp_if e) t
 
   module _ (result : Option IntType) where
     abbrev test : Stm → Bool
     test s = statement_fits p result s
 
     mutual
-      no_bad_s : (s : Stm) → IsTrue (every_statement test s) → some_of bad (fulls_of s) ≡ false
-      no_bad_s (Stmt at f) t =
+      targets_s : (s : Stm) → IsTrue (every_statement test s) → some_of astray (fulls_of s) ≡ false
+      targets_s (Stmt at f) t =
           let a = both (test (Stmt at f)) (every_statement_in test f) t in
-          no_bad_f f (both (form_fits p result f) (list_all (is_typed p) (own_fulls f)) a.0).1 a.1
+          targets_f f (both (form_fits p result f) (list_all (is_typed p) (own_fulls f)) a.0).1 a.1
 
-      no_bad_f : (f : Form) → IsTrue (list_all (is_typed p) (own_fulls f)) → IsTrue (every_statement_in test f) → some_of bad (fulls_of_form f) ≡ false
-      no_bad_f Empty t u = refl
-      no_bad_f (Do e) t u = no_bads (e ∷ []) t
-      no_bad_f (Declare ns) t u = ap (some_of bad) (same_fulls ns) ∙ no_bads (parts.fulls_of_names ns) t
-      no_bad_f (Block b) t u = no_bad_b b u
-      no_bad_f (If e a b) t u =
+      targets_f : (f : Form) → IsTrue (list_all (is_typed p) (own_fulls f)) → IsTrue (every_statement_in test f) → some_of astray (fulls_of_form f) ≡ false
+      targets_f Empty t u = refl
+      targets_f (Do e) t u = targets_all (e ∷ []) t
+      targets_f (Declare ns) t u = ap (some_of astray) (same_fulls ns) ∙ targets_all (parts.fulls_of_names ns) t
+      targets_f (Block b) t u = targets_b b u
+      targets_f (If e a b) t u =
           let g = both (every_statement test a) (every_statement_else test b) u in
-          or_from _ _ (no_bad_e e (both (is_typed p e) true t).0) (none_append (fulls_of a) (fulls_of_else b) (no_bad_s a g.0) (no_bad_else b g.1))
-      no_bad_f (While e b) t u = or_from _ _ (no_bad_e e (both (is_typed p e) true t).0) (no_bad_s b u)
-      no_bad_f (DoWhile b e) t u = none_append (fulls_of b) (e ∷ []) (no_bad_s b u) (no_bads (e ∷ []) t)
-      no_bad_f (For i e s b) t u =
+          or_from _ _ (targets_e e (both (is_typed p e) true t).0) (none_append (fulls_of a) (fulls_of_else b) (targets_s a g.0) (targets_else b g.1))
+      targets_f (While e b) t u = or_from _ _ (targets_e e (both (is_typed p e) true t).0) (targets_s b u)
+      targets_f (DoWhile b e) t u = none_append (fulls_of b) (e ∷ []) (targets_s b u) (targets_all (e ∷ []) t)
+      targets_f (For i e s b) t u =
           let w = of_both (is_typed p) (parts.fulls_of_first i ++ parts.exp_if e) (parts.exp_if s) t in
           let v = of_both (is_typed p) (parts.fulls_of_first i) (parts.exp_if e) w.0 in
           none_append (own.fulls_of_first i ++ exp_if e ++ exp_if s) (fulls_of b)
-          (none_append (own.fulls_of_first i ++ exp_if e) (exp_if s) (none_append (own.fulls_of_first i) (exp_if e) (ap (some_of bad) (same_first i) ∙ no_bads (parts.fulls_of_first i) v.0) (no_bads_if e v.1)) (no_bads_if s w.1)) (no_bad_s b u)
-      no_bad_f Break t u = refl
-      no_bad_f Continue t u = refl
-      no_bad_f (Return e) t u = no_bads_if e t
-      no_bad_f (Label b) t u = no_bad_s b u
+          (none_append (own.fulls_of_first i ++ exp_if e) (exp_if s) (none_append (own.fulls_of_first i) (exp_if e) (ap (some_of astray) (same_first i) ∙ targets_all (parts.fulls_of_first i) v.0) (targets_if e v.1)) (targets_if s w.1)) (targets_s b u)
+      targets_f Break t u = refl
+      targets_f Continue t u = refl
+      targets_f (Return e) t u = targets_if e t
+      targets_f (Label b) t u = targets_s b u
 
-      no_bad_else : (b : Else) → IsTrue (every_statement_else test b) → some_of bad (fulls_of_else b) ≡ false
-      no_bad_else NoElse t = refl
-      no_bad_else (OrElse b) t = no_bad_s b t
+      targets_else : (b : Else) → IsTrue (every_statement_else test b) → some_of astray (fulls_of_else b) ≡ false
+      targets_else NoElse t = refl
+      targets_else (OrElse b) t = targets_s b t
 
-      no_bad_b : (b : Stms) → IsTrue (every_statement_of test b) → some_of bad (fulls_of_block b) ≡ false
-      no_bad_b NoStm t = refl
-      no_bad_b (MoreStm s b) t =
+      targets_b : (b : Stms) → IsTrue (every_statement_of test b) → some_of astray (fulls_of_block b) ≡ false
+      targets_b NoStm t = refl
+      targets_b (MoreStm s b) t =
           let g = both (every_statement test s) (every_statement_of test b) t in
-          none_append (fulls_of s) (fulls_of_block b) (no_bad_s s g.0) (no_bad_b b g.1)
+          none_append (fulls_of s) (fulls_of_block b) (targets_s s g.0) (targets_b b g.1)
 
 -- ---- declared names
 
@@ -260,8 +260,8 @@ module _ (p : Program) (h : IsProgram p) where
   fresh_body i fn e x =
       omega (arith, owned_most x, one_of x i p.functions fn e, times-append x fn.params (objects_of (names_in fn.body)), ap (times_in x) (declared_same fn.body), with_params [] fn.params x)
 
-  pub sound_body : (i : ℕ) (fn : Function) → slice_get p.functions i ≡ Some fn → some_of (some_node is_bad) (fulls_of fn.body) ≡ false
-  sound_body i fn e = no_bad_s p fn.result fn.body (at_every (function_fits p) p.functions i fn h.types e)
+  pub targets_body : (i : ℕ) (fn : Function) → slice_get p.functions i ≡ Some fn → some_of (some_node assigns_no_target) (fulls_of fn.body) ≡ false
+  targets_body i fn e = targets_s p fn.result fn.body (at_every (function_fits p) p.functions i fn h.types e)
 
   -- objects in reach are in the scope
   abbrev Sees : List ℕ → List ℕ → Type 0

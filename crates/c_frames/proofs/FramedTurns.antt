@@ -22,8 +22,8 @@ use Rattle.c_meaning.proofs.Checked.{function_params}
 use Rattle.c_meaning.proofs.Fundamental.{related_body, related_call, related_turn}
 use Rattle.c_frames.specs.Frames.{SameBut}
 use Rattle.c_frames.proofs.Framing.{none_high, over_same, Moves, moves_loop, framing, framing_keeps, Lands}
-use Rattle.c_frames.proofs.Refitting.{is_bad, named, most, Fresh, Looped, OwnAgreesTo, Refit, refit_s, refit_loop}
-use Rattle.c_frames.proofs.Bodies.{in_same, counted, uncounted, found_below, params_of, fresh_body, sound_body, named_body, asks}
+use Rattle.c_frames.proofs.Refitting.{assigns_no_target, named, most, Fresh, Looped, OwnAgreesTo, Refit, refit_s, refit_loop}
+use Rattle.c_frames.proofs.Bodies.{in_same, counted, uncounted, found_below, params_of, fresh_body, targets_body, named_body, asks}
 use Rattle.c_frames.proofs.Members.{in_those, in_numbers, some_in, called_first, called_further}
 
 fixed_same : (o : Option Object) → is_fixed_in o ≡ scope.is_fixed_object o
@@ -75,7 +75,7 @@ module _ (p : Program) where
       abbrev InLoop : (Node → Bool) → Type 0
       InLoop q = some_of (some_node q) (fulls_of_loop l) ≡ true
 
-      turn_refit : (L : List ℕ) (r1 r2 : Option IntType) → Fresh p L (declared_in (body_of l)) → (InLoop is_bad → ⊥) → Refit p InLoop (framing p A S see Called) r1 r2
+      turn_refit : (L : List ℕ) (r1 r2 : Option IntType) → Fresh p L (declared_in (body_of l)) → (InLoop assigns_no_target → ⊥) → Refit p InLoop (framing p A S see Called) r1 r2
       turn_refit L r1 r2 f sound = record {
         sound = sound;
         Sees = λ M K. M ≡ L ++ K;
@@ -106,7 +106,7 @@ module _ (p : Program) where
 
       callee_refit : (g : ℕ) (fn : Function) (r : Option IntType) → slice_get p.functions g ≡ Some fn → Called g → Refit p (InFunction g) (framing p A S see Called) r r
       callee_refit g fn r e i = record {
-        sound = λ b. true≢false (sym b ∙ ap (λ o. some_of (some_node is_bad) (fulls_if o)) e ∙ sound_body p h g fn e);
+        sound = λ b. true≢false (sym b ∙ ap (λ o. some_of (some_node assigns_no_target) (fulls_if o)) e ∙ targets_body p h g fn e);
         Sees = λ M K. M ≡ K;
         sees_more = λ M K o e. ap (λ os. os ++ o ∷ []) e;
         agree = λ a b e. tt;
@@ -168,8 +168,8 @@ module _ (p : Program) where
       turn_lands n result at s t f e = over_same p A s.cells t.cells (subst (λ r. Lands p A S see s.cells [] [] r) e ((turn_moves n result at f).at s.cells s (none_high p A s.cells))).2
 
       -- a loop of a region in which targets are assigned
-      pub turn_framed : (Seen : (Node → Bool) → Type 0) → (Seen is_bad → ⊥) → (L : List ℕ) → Looped p Seen L l → (n : ℕ) (result : Option IntType) (at : Spot) (s t : State S) → turn p M (calls_in p M n) result at l s ≡ Go Next t → SameBut p A s.cells t.cells
+      pub turn_framed : (Seen : (Node → Bool) → Type 0) → (Seen assigns_no_target → ⊥) → (L : List ℕ) → Looped p Seen L l → (n : ℕ) (result : Option IntType) (at : Spot) (s t : State S) → turn p M (calls_in p M n) result at l s ≡ Go Next t → SameBut p A s.cells t.cells
       unfolding turn_refit
       turn_framed Seen sound L k n result at s t e =
           turn_lands n result at s t
-          (refit_loop p InLoop (framing p A S see Called) k.result result (turn_refit L k.result result k.fresh (λ b. sound (k.seen is_bad b))) L [] (sym (append-nil L)) l k.fits k.fresh (λ q s. s)) e
+          (refit_loop p InLoop (framing p A S see Called) k.result result (turn_refit L k.result result k.fresh (λ b. sound (k.seen assigns_no_target b))) L [] (sym (append-nil L)) l k.fits k.fresh (λ q s. s)) e

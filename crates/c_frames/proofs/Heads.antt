@@ -29,8 +29,8 @@ use Rattle.c_meaning.proofs.Stateful.{grows_same}
 use Rattle.c_meaning.proofs.KeptRuns as runs
 use Rattle.c_frames.specs.Frames.{SameBut, IsFramed}
 use Rattle.c_frames.proofs.CellLaws.{same_refl, same_trans}
-use Rattle.c_frames.proofs.Refitting.{is_bad, OwnAgreesTo, Refit, refit_s}
-use Rattle.c_frames.proofs.Bodies.{params_of, fresh_body, sound_body, named_body}
+use Rattle.c_frames.proofs.Refitting.{assigns_no_target, OwnAgreesTo, Refit, refit_s}
+use Rattle.c_frames.proofs.Bodies.{params_of, fresh_body, targets_body, named_body}
 use Rattle.c_frames.proofs.FramedTurns.{turn_framed}
 
 abbrev pub Seen : Type 0
@@ -196,12 +196,12 @@ module _ (p : Program) where
     abbrev InFunction : ℕ → (Node → Bool) → Type 0
     InFunction g q = some_of (some_node q) (fulls_of_function p g) ≡ true
 
-    pub no_bad_in : (g : ℕ) (fn : Function) → slice_get p.functions g ≡ Some fn → InFunction g is_bad → ⊥
-    no_bad_in g fn e b = true≢false (sym b ∙ ap (λ o. some_of (some_node is_bad) (fulls_if o)) e ∙ sound_body p h g fn e)
+    pub targets_in : (g : ℕ) (fn : Function) → slice_get p.functions g ≡ Some fn → InFunction g assigns_no_target → ⊥
+    targets_in g fn e b = true≢false (sym b ∙ ap (λ o. some_of (some_node assigns_no_target) (fulls_if o)) e ∙ targets_body p h g fn e)
 
     refit : (g : ℕ) (fn : Function) (r : Option IntType) → slice_get p.functions g ≡ Some fn → Refit p (InFunction g) heads r r
     refit g fn r e = record {
-      sound = no_bad_in g fn e;
+      sound = targets_in g fn e;
       Sees = λ L J. Unit {0};
       sees_more = λ L J o z. tt;
       agree = λ a b q. tt;
@@ -213,7 +213,7 @@ module _ (p : Program) where
       read = λ L J o z q. tt;
       write = λ L J o z q c. tt;
       call = λ f fn q s. tt;
-      loop = λ L J at l z k. λ n result s t q. turn_framed p l h Seen keep (InFunction g) (no_bad_in g fn e) L k n result at s t q;
+      loop = λ L J at l z k. λ n result s t q. turn_framed p l h Seen keep (InFunction g) (targets_in g fn e) L k n result at s t q;
     }
       where
         free : (r ty : Option IntType) → OwnAgreesTo p (InFunction g) heads r ty

@@ -23,10 +23,10 @@ use Rattle.c_meaning.proofs.Checked.{Agreeing}
 use Rattle.c_frames.proofs.CellLaws.{same_itself}
 
 -- a node that assigns or steps what is no target
-abbrev pub is_bad : Node → Bool
-is_bad (Step op a) = not (is_target a)
-is_bad (Assign op a b) = not (is_target a)
-is_bad _ = false
+abbrev pub assigns_no_target : Node → Bool
+assigns_no_target (Step op a) = not (is_target a)
+assigns_no_target (Assign op a b) = not (is_target a)
+assigns_no_target _ = false
 
 pub some-append : {A : Type 0} (q : A → Bool) (xs ys : List A) → some_of q (xs ++ ys) ≡ (some_of q xs || some_of q ys)
 some-append q [] ys = refl
@@ -143,7 +143,7 @@ module _ (p : Program) where
 
       -- what the relation asks of the region's nodes
       pub record Refit (r1 r2 : Option IntType) : Type 1 where
-        pub sound : Seen is_bad → ⊥
+        pub sound : Seen assigns_no_target → ⊥
         pub Sees : List ℕ → R.Scope → Type 0
         pub sees_more : (L : List ℕ) (K : R.Scope) (o : ℕ) → Sees L K → Sees (L ++ o ∷ []) (R.more K o)
         pub agree : (a b : Option IntType) → Agreeing a b → R.Agree a b
@@ -184,7 +184,7 @@ module _ (p : Program) where
         inner n w = λ q h. w q (or_right (q n) _ h)
 
         -- what is assigned or stepped is a target
-        target_seen : (a : Exp) → (IsTrue (names_object (object_of a) a) → Seen (changes (object_of a))) → (IsTrue (not (is_target a)) → Seen is_bad) → Seen (changes (object_of a))
+        target_seen : (a : Exp) → (IsTrue (names_object (object_of a) a) → Seen (changes (object_of a))) → (IsTrue (not (is_target a)) → Seen assigns_no_target) → Seen (changes (object_of a))
         target_seen (Expr spot ty (Var x)) h b = h (same_itself x)
         target_seen (Expr spot ty (Index x i)) h b = h (same_itself x)
         target_seen (Expr spot ty (Const v)) h b = absurd (c.sound (b refl))
@@ -228,7 +228,7 @@ module _ (p : Program) where
             refit_n ty (Unary op a) f w = (refit_v a f.0 (inner (Unary op a) w), c.agree _ ty f.1)
             refit_n ty (Cast a) f w = refit_as ty a f (inner (Cast a) w)
             refit_n ty (Step op a) f w =
-                (c.write L K (object_of a) z f.0 (target_seen a (λ h. w (changes (object_of a)) (or_left _ _ h)) (λ h. w is_bad (or_left _ _ h))), refit_t a f.1 (inner (Step op a) w), refit_compound (object_of a) (Some (op_of_step op)) (type_of a) Int f.2, c.agree _ ty f.3)
+                (c.write L K (object_of a) z f.0 (target_seen a (λ h. w (changes (object_of a)) (or_left _ _ h)) (λ h. w assigns_no_target (or_left _ _ h))), refit_t a f.1 (inner (Step op a) w), refit_compound (object_of a) (Some (op_of_step op)) (type_of a) Int f.2, c.agree _ ty f.3)
             refit_n ty (Binary op a b) f w =
                 let v = inner (Binary op a b) w in
                 (refit_v a f.0 (left (λ q. some_node q a) (λ q. some_node q b) v), refit_v b f.1 (right (λ q. some_node q a) (λ q. some_node q b) v), c.agree _ ty f.2)
@@ -244,7 +244,7 @@ module _ (p : Program) where
                 (refit_e a f.0 (left (λ q. some_node q a) (λ q. some_node q b) v), refit_e b f.1 (right (λ q. some_node q a) (λ q. some_node q b) v), c.agree _ ty f.2)
             refit_n ty (Assign op a b) f w =
                 let v = inner (Assign op a b) w in
-                (c.write L K (object_of a) z f.0 (target_seen a (λ h. w (changes (object_of a)) (or_left _ _ h)) (λ h. w is_bad (or_left _ _ h))), refit_t a f.1 (left (λ q. some_node q a) (λ q. some_node q b) v), refit_v b f.2 (right (λ q. some_node q a) (λ q. some_node q b) v), refit_compound (object_of a) op (type_of a) (type_of b) f.3, c.agree _ ty f.4)
+                (c.write L K (object_of a) z f.0 (target_seen a (λ h. w (changes (object_of a)) (or_left _ _ h)) (λ h. w assigns_no_target (or_left _ _ h))), refit_t a f.1 (left (λ q. some_node q a) (λ q. some_node q b) v), refit_v b f.2 (right (λ q. some_node q a) (λ q. some_node q b) v), refit_compound (object_of a) op (type_of a) (type_of b) f.3, c.agree _ ty f.4)
             refit_n ty (Call callee es close) f w = (refit_callee ty callee es close f.0 w, refit_es es f.1 (inner (Call callee es close) w))
 
             refit_t : (e : Exp) → FitsT p named L e → Within (λ q. some_node q e) → FitsT p R K e

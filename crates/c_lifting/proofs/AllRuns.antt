@@ -28,7 +28,7 @@ use Rattle.c_calls.specs.Depth.{IsChainFrom}
 use Rattle.c_calls.proofs.DepthLaws.{chain_is_short, main_path}
 use Rattle.c_frames.proofs.Bodies.{params_of, fresh_body, named_body}
 use Rattle.c_frames.proofs.FramedTurns.{turn_framed}
-use Rattle.c_frames.proofs.Heads.{Seen, keep, all_reversed, no_bad_in}
+use Rattle.c_frames.proofs.Heads.{Seen, keep, all_reversed, targets_in}
 use Rattle.c_frames.proofs.Refitting.{OwnAgreesTo, AgreesTo, Refit, refit_s}
 use Rattle.c_lifting.specs.Lifting.{EveryObligationHolds, IsLifted, Lifted}
 use Rattle.c_lifting.proofs.Lifts.{IsFine, Safe, Follows, Lifts, SameFlow, lifts_stop, lifts_loop}
@@ -52,7 +52,7 @@ module _ (p : Program) (h : IsProgram p) (I : List Placed) where
 
   refit : (d g : ℕ) (fn : Function) (r : Option IntType) → slice_get p.functions g ≡ Some fn → Shallow p (suc d) g → Refit p (InFunction g) (lifting p I (Calls d)) r r
   refit d g fn r e q = record {
-    sound = no_bad_in p h g fn e;
+    sound = targets_in p h g fn e;
     Sees = λ L J. Unit {0};
     sees_more = λ L J o z. tt;
     agree = λ a b q. q;
@@ -64,7 +64,7 @@ module _ (p : Program) (h : IsProgram p) (I : List Placed) where
     read = λ L J o z q. tt;
     write = λ L J o z q c. tt;
     call = λ f fn z s. q f (slice_get_within p.functions f fn z, s);
-    loop = λ L J at l z k. λ n result s t c. turn_framed p l h Seen keep (InFunction g) (no_bad_in p h g fn e) L k n result at s t c;
+    loop = λ L J at l z k. λ n result s t c. turn_framed p l h Seen keep (InFunction g) (targets_in p h g fn e) L k n result at s t c;
   }
     where
       again : (r ty : Option IntType) → AgreesTo p (InFunction g) r ty → OwnAgreesTo p (InFunction g) (lifting p I (Calls d)) r ty

@@ -22,10 +22,11 @@ module _ (p : Program) (I : List Placed) where
   abbrev pub EveryObligationHolds : Type 0
   EveryObligationHolds = (number : ℕ) → 1 ≤ number → number ≤ length (Duties p I) → ObligationHolds number
 
-  -- each invariant of this place, at its loop or at its statement, holds in these cells
+  -- an invariant holds in these cells, if it is one of this place, at its loop or at its statement
   abbrev pub HoldsAt : Bool → Spot → Placed → List Cell → Type 0
   HoldsAt at_loop spot x cs = IsTrue (stands p I at_loop spot x) → IsTrue (holds p x.test cs)
 
+  -- all invariants of this place hold in these cells
   abbrev pub AllHold : Bool → Spot → List Cell → Type 0
   AllHold at_loop spot cs = All (λ x. HoldsAt at_loop spot x cs) I
 
