@@ -22,10 +22,10 @@ or_false : (b : Bool) → (b || false) ≡ b
 or_false true = refl
 or_false false = refl
 
-some_injective : {A : Type 0} (a b : A) → Some a ≡ Some b → a ≡ b
+pub some_injective : {A : Type 0} (a b : A) → Some a ≡ Some b → a ≡ b
 some_injective a b e = cc
 
-none_is_none : {A : Type 0} {a : A} → None ≡ Some a → ⊥
+pub none_is_none : {A : Type 0} {a : A} → None ≡ Some a → ⊥
 none_is_none e = cc
 
 -- a test of nodes and a test of what is listed that tell the same of each node

@@ -23,7 +23,7 @@ loop-next-preserved c =
     record {
       count = c.add_called.ensures.count ∙ c.loop-next.invariant.count;
       spread = subst (λ (l : List ℕ). IsSpread p c.args.found.now.order.items l (c.loop-next.next + 1)) (sym same)
-      (spread_goes_on p c.args.found.now.order.items now c.loop-next.next f (omega arith) c.index-function.ensures c.loop-next.invariant.spread);
+          (spread_goes_on p c.args.found.now.order.items now c.loop-next.next f (omega arith) c.index-function.ensures c.loop-next.invariant.spread);
     }
 
 pub returns-clause-members : goal.returns-clause-members
