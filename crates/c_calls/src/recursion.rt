@@ -1,6 +1,8 @@
 // Whether main reaches a cycle of calls.
-ghost use Rattle.std.specs.Prelude.{◌≡◌, ℕ, ◌<◌, ◌+◌, ◌^◌, ◌↔◌, nat_le, [], ◌∷◌, length, IfOk, IsTrue};
-ghost use Rattle.c_core.specs.View.{program_view};
+ghost use Rattle.std.specs.Prelude.{◌≡◌, ℕ, ◌↔◌, nat_le, [], ◌∷◌, length, IfOk, IsTrue};
+ghost use Rattle.c_core.specs.View.{program_view, stmt_view};
+ghost use Rattle.c_meaning.specs.Parts.{is_in};
+ghost use Rattle.c_calls.specs.Uses.{uses_of_statement};
 ghost use Rattle.c_calls.specs.Calling.{HasReached, IsFirstOnCycle, IsFirstRecursion, Reaches};
 ghost use Rattle.c_calls.specs.Levels.{each_call, level_of, IsLevelled};
 ghost use Rattle.c_calls.specs.Marks.{is_marked};
@@ -10,7 +12,7 @@ use crate::levels::levels;
 use crate::marks::has_mark;
 use crate::search::{called, function_uses, spread};
 use crate::uses::{push_statement, Use};
-use c_core::Program;
+use c_core::{Function, Program};
 use std::alloc::Global;
 use wv_base::OutOfMemory;
 
@@ -48,15 +50,27 @@ fn are_at_least(levels: &[u32], floor: u64, uses: &[Use]) -> bool
     true
 }
 
-// Whether the calls of each function lead to its own level or above.
-fn never_fall(alloc: Global, program: &Program, levels: &[u32]) -> Result<bool, OutOfMemory>
+// Whether the calls of a function lead to its own level or above.
+fn rises(
+    alloc: Global,
+    levels: &[u32],
+    number: usize,
+    function: &Function,
+) -> Result<bool, OutOfMemory>
+    ensures { IfOk result (λ holds. holds ≡ each_call (λ g. nat_le (level_of levels.now number) (level_of levels.now g)) (uses_of_statement (stmt_view function.now.body))) }
+{
+    let mut uses = Vec::new(alloc);
+    push_statement(&mut uses, &function.body)?;
+    let own = level_of(levels, number) as u64;
+    Ok(are_at_least(levels, own, uses.as_slice()))
+}
+
+// Whether the calls of each function do.
+fn all_rise(alloc: Global, program: &Program, levels: &[u32]) -> Result<bool, OutOfMemory>
     ensures { IfOk result (λ holds. IsTrue holds → IsLevelled (program_view program.now) levels.now) }
 {
     for (number, function) in program.functions.as_slice().iter().enumerate() {
-        let mut uses = Vec::new(alloc);
-        push_statement(&mut uses, &function.body)?;
-        let own = level_of(levels, number);
-        if !are_at_least(levels, own as u64, uses.as_slice()) {
+        if !rises(alloc, levels, number, function)? {
             return Ok(false);
         }
     }
@@ -68,16 +82,18 @@ fn lies_on_cycle(
     alloc: Global,
     program: &Program,
     levels: &[u32],
-    never_fall: bool,
+    levelled: bool,
     function: u32,
 ) -> Result<bool, OutOfMemory>
-    requires { IsTrue never_fall → IsLevelled (program_view program.now) levels.now }
+    requires { IsTrue levelled → IsLevelled (program_view program.now) levels.now }
     ensures { IfOk result (λ on_cycle. IsTrue on_cycle ↔ Reaches (program_view program.now) function function) }
 {
     let uses = function_uses(alloc, program, function)?;
     let above = level_of(levels, function as usize) as u64 + 1;
-    if never_fall && are_at_least(levels, above, uses.as_slice()) {
-        return Ok(false);
+    if levelled {
+        if are_at_least(levels, above, uses.as_slice()) {
+            return Ok(false);
+        }
     }
     let found = called(alloc, program, uses.as_slice())?;
     Ok(has_mark(found.marks.as_slice(), function))
@@ -87,17 +103,21 @@ fn lies_on_cycle(
 fn first_on_cycle(
     alloc: Global,
     program: &Program,
+    order: &[u32],
     reached: &[bool],
     levels: &[u32],
-    never_fall: bool,
+    levelled: bool,
 ) -> Result<Option<u32>, OutOfMemory>
-    requires levelled { IsTrue never_fall → IsLevelled (program_view program.now) levels.now }
-    requires small { (f : ℕ) → IsTrue (is_marked reached.now f) → f < 2 ^ 32 }
+    requires level { IsTrue levelled → IsLevelled (program_view program.now) levels.now }
+    requires listed { (f : ℕ) → IsTrue (is_marked reached.now f) → IsTrue (is_in f order.now) }
     ensures { IfOk result (λ first. IsFirstOnCycle (program_view program.now) (is_marked reached.now) first) }
 {
     for (number, is_reached) in reached.iter().enumerate() {
-        if *is_reached && lies_on_cycle(alloc, program, levels, never_fall, number as u32)? {
-            return Ok(Some(number as u32));
+        if *is_reached {
+            let function = number as u32;
+            if lies_on_cycle(alloc, program, levels, levelled, function)? {
+                return Ok(Some(function));
+            }
         }
     }
     Ok(None)
@@ -110,12 +130,14 @@ pub fn calls_itself(alloc: Global, program: &Program) -> Result<Option<u32>, Out
 {
     let found = from_main(alloc, program)?;
     let levels = levels(alloc, program)?;
-    let never_fall = never_fall(alloc, program, levels.as_slice())?;
-    first_on_cycle(
+    let levelled = all_rise(alloc, program, levels.as_slice())?;
+    let first = first_on_cycle(
         alloc,
         program,
+        found.order.as_slice(),
         found.marks.as_slice(),
         levels.as_slice(),
-        never_fall,
-    )
+        levelled,
+    )?;
+    Ok(first)
 }
