@@ -1,8 +1,8 @@
 -- The marked objects are those that a loop changes.
-use Rattle.std.proofs.Common.{◌≡◌, ℕ, ◌<◌, Bool, true, false, cond, not, ◌&&◌, ◌||◌, List, [], ◌∷◌, length, get_or, ◌+◌, ◌++◌, zero, suc, slice_get, Option, Some, None, refl, sym, ap, ◌∙◌, subst, arith}
+use Rattle.std.proofs.Common.{◌≡◌, ℕ, ◌<◌, Bool, true, false, cond, not, ◌&&◌, ◌||◌, List, [], ◌∷◌, length, get_or, ◌+◌, ◌++◌, zero, suc, slice_get, Option, Some, None, refl, sym, ap, ◌∙◌, arith}
 use Rattle.std.specs.Prelude.{IsTrue}
 use Rattle.std.proofs.lemmas.Bool.{false_from_ne_true}
-use Rattle.c_core.specs.Tree.{Exp, Node, Form, Empty, Do, Declare, Block, If, While, DoWhile, For, Break, Continue, Return, Label, Program}
+use Rattle.c_core.specs.Tree.{Exp, Form, While, DoWhile, For, Program}
 use Rattle.c_meaning.specs.Changed.{body_of, called_from, changed_by, fulls_of_loop, is_fixed, is_fixed_in}
 use Rattle.c_meaning.specs.Meaning.{Loop, WhileLoop, DoLoop, ForLoop}
 use Rattle.c_meaning.specs.Parts.{some_of, some_node, those, is_in, changes, declared_in, fulls_of_function, object_numbers, numbers_from}
@@ -56,12 +56,12 @@ module _ (p : Program) (f : Form) (fs : List ℕ) (here inside there : List Bool
 
   of_a_loop : (l : Loop) → loop_of f ≡ Some l → those (λ o. is_changed here inside there o (is_fixed p o)) (object_numbers p) ≡ changed_by p l
   of_a_loop l e = those_same _ _ (object_numbers p) (λ o m.
-    let o_is = object_is o m in
-    let c = called (fulls_of_loop l) (of_loop f l e) in
-    let d = all_called p (fulls_of_loop l) in
-    ap (λ b. (b && not (is_marked inside o)) || (is_fixed p o && is_marked there o)) (h o o_is ∙ ap (some_of (is_change o)) (of_loop f l e) ∙ sym (changes_listed o (fulls_of_loop l)))
-    ∙ ap (λ b. (some_of (some_node (changes o)) (fulls_of_loop l) && not b) || (is_fixed p o && is_marked there o)) (i o o_is ∙ ap (is_in o) (declared_of f l e))
-    ∙ ap (λ b. (some_of (some_node (changes o)) (fulls_of_loop l) && not (is_in o (declared_in (body_of l)))) || (is_fixed p o && b)) (t o o_is ∙ changes_there o ∙ same_some _ fs (called_from p (fulls_of_loop l)) (λ x n. (d.members x).1 ((c.members x).0 n)) (λ x n. (c.members x).1 ((d.members x).0 n))))
+      let o_is = object_is o m in
+      let c = called (fulls_of_loop l) (of_loop f l e) in
+      let d = all_called p (fulls_of_loop l) in
+      ap (λ b. (b && not (is_marked inside o)) || (is_fixed p o && is_marked there o)) (h o o_is ∙ ap (some_of (is_change o)) (of_loop f l e) ∙ sym (changes_listed o (fulls_of_loop l)))
+      ∙ ap (λ b. (some_of (some_node (changes o)) (fulls_of_loop l) && not b) || (is_fixed p o && is_marked there o)) (i o o_is ∙ ap (is_in o) (declared_of f l e))
+      ∙ ap (λ b. (some_of (some_node (changes o)) (fulls_of_loop l) && not (is_in o (declared_in (body_of l)))) || (is_fixed p o && b)) (t o o_is ∙ changes_there o ∙ same_some _ fs (called_from p (fulls_of_loop l)) (λ x n. (d.members x).1 ((c.members x).0 n)) (λ x n. (c.members x).1 ((d.members x).0 n))))
 
   nothing_called : (g : ℕ) → IsCalledFrom p [] g → ⊥
   nothing_called _ (directly g c) = not_both _ refl c.1
@@ -69,12 +69,12 @@ module _ (p : Program) (f : Form) (fs : List ℕ) (here inside there : List Bool
 
   of_no_loop : loop_of f ≡ None → those (λ o. is_changed here inside there o (is_fixed p o)) (object_numbers p) ≡ []
   of_no_loop e = none_picked _ (object_numbers p) (λ o m.
-    let o_is = object_is o m in
-    let c = called [] (no_uses f e) in
-    let none : some_of (λ g. some_of (is_change o) (uses_of_function p g)) fs ≡ false = false_from_ne_true _ (λ s. let r = some_member _ fs s in nothing_called r.0 ((c.members r.0).0 r.1)) in
-    ap (λ b. (b && not (is_marked inside o)) || (is_fixed p o && is_marked there o)) (h o o_is ∙ ap (some_of (is_change o)) (no_uses f e))
-    ∙ ap (λ b. is_fixed p o && b) (t o o_is ∙ none)
-    ∙ and_false (is_fixed p o))
+      let o_is = object_is o m in
+      let c = called [] (no_uses f e) in
+      let none : some_of (λ g. some_of (is_change o) (uses_of_function p g)) fs ≡ false = false_from_ne_true _ (λ s. let r = some_member _ fs s in nothing_called r.0 ((c.members r.0).0 r.1)) in
+      ap (λ b. (b && not (is_marked inside o)) || (is_fixed p o && is_marked there o)) (h o o_is ∙ ap (some_of (is_change o)) (no_uses f e))
+      ∙ ap (λ b. is_fixed p o && b) (t o o_is ∙ none)
+      ∙ and_false (is_fixed p o))
 
   pub all_changed : those (λ o. is_changed here inside there o (is_fixed p o)) (object_numbers p) ≡ changed_if p (loop_of f)
   all_changed = by_loop (loop_of f) refl

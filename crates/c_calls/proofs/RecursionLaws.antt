@@ -1,12 +1,12 @@
 -- Functions that lie on a cycle of calls, and those that can't.
-use Rattle.std.proofs.Common.{◌≡◌, ◌⊎◌, ℕ, zero, suc, ◌+◌, ◌<◌, ◌≤◌, Bool, true, false, nat_le, nat_eq, ◌&&◌, cond, Option, Some, None, slice_get, List, [], ◌∷◌, length, get_or, refl, sym, ap, ◌∙◌, subst, inl, inr, ⊎_elim, arith, eqb-true, true≢false}
+use Rattle.std.proofs.Common.{◌≡◌, ℕ, zero, suc, ◌+◌, ◌<◌, Bool, true, nat_le, ◌&&◌, cond, Option, Some, None, slice_get, List, [], ◌∷◌, length, get_or, refl, sym, ap, ◌∙◌, subst, inl, inr, ⊎_elim, arith, eqb-true}
 use Rattle.std.specs.Prelude.{IsTrue, ◌↔◌}
 use Rattle.std.proofs.lemmas.Bool.{and_parts, cases_lt, leb-true, lt-ltb, or_cases}
 use Rattle.std.proofs.lemmas.Option.{slice_get_within}
 use Rattle.c_core.specs.Program.{has_main, is_main}
 use Rattle.c_core.specs.Tree.{Exp, Function, Program}
-use Rattle.c_meaning.specs.Parts.{some_of, some_node, is_in, calls, fulls_of_function}
-use Rattle.c_calls.specs.Calling.{IsCalledIn, IsCalledFrom, directly, further, Reaches, IsReached, IsRecursion, IsFirstOnCycle, IsFirstRecursion, ComesFrom, itself, calling, HasCalled, HasReached}
+use Rattle.c_meaning.specs.Parts.{some_of, is_in, fulls_of_function}
+use Rattle.c_calls.specs.Calling.{IsCalledIn, IsCalledFrom, directly, further, Reaches, IsReached, IsFirstOnCycle, IsFirstRecursion, ComesFrom, itself, calling, HasCalled, HasReached}
 use Rattle.c_calls.specs.Marks.{added, is_marked}
 use Rattle.c_calls.specs.Levels.{each_call, level_of, IsLevelled}
 use Rattle.c_calls.specs.Uses.{is_call, uses_of_function}

@@ -2,7 +2,6 @@
 use Rattle.std.specs.Prelude.{◌≡◌, ◌<◌, ◌↔◌, ◌⊎◌, ℕ, Bool, List, length, Option, Some, None, IsTrue}
 use Rattle.c_core.specs.Tree.{Exp, Program}
 use Rattle.c_meaning.specs.Parts.{some_of, some_node, is_in, calls, fulls_of_function}
-use Rattle.c_meaning.specs.Changed.{called_from}
 
 -- a call of a function of the program stands in these expressions
 abbrev pub IsCalledIn : Program → List Exp → ℕ → Type 0

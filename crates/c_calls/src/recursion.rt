@@ -7,11 +7,11 @@ ghost use Rattle.c_calls.specs.Calling.{HasReached, IsFirstOnCycle, IsFirstRecur
 ghost use Rattle.c_calls.specs.Levels.{each_call, level_of, IsLevelled};
 ghost use Rattle.c_calls.specs.Marks.{is_marked};
 
-use crate::found::{add, nothing_found, Found};
+use crate::found::{Found, add, nothing_found};
 use crate::levels::levels;
 use crate::marks::has_mark;
 use crate::search::{called, function_uses, spread};
-use crate::uses::{push_statement, Use};
+use crate::uses::{Use, push_statement};
 use c_core::{Function, Program};
 use std::alloc::Global;
 use wv_base::OutOfMemory;

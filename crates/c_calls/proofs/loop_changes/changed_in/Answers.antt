@@ -1,7 +1,6 @@
-use Rattle.std.proofs.Common.{◌≡◌, ◌≤◌, ◌++◌, length, sym, ap, ◌∙◌, arith}
+use Rattle.std.proofs.Common.{◌≡◌, ◌++◌, ap, ◌∙◌, arith}
 use Rattle.c_core.specs.View.{form_view, program_view}
-use Rattle.c_meaning.specs.Parts.{some_of, is_in}
-use Rattle.c_calls.specs.Loops.{declared_in_loop}
+use Rattle.c_meaning.specs.Parts.{some_of}
 use Rattle.c_calls.specs.Marks.{is_marked}
 use Rattle.c_calls.specs.Uses.{is_change, uses_of_function, uses_of_loop}
 use Rattle.c_calls.proofs.ChangedLaws.{all_changed}

@@ -1,4 +1,4 @@
-use Rattle.std.proofs.Common.{◌≡◌, ◌<◌, ℕ, Bool, true, false, cond, List, [], ◌∷◌, ◌++◌, length, get_or, sym, ap, ◌∙◌, subst, arith}
+use Rattle.std.proofs.Common.{◌≡◌, ◌<◌, ℕ, Bool, true, false, List, [], ◌∷◌, ◌++◌, length, get_or, sym, ap, ◌∙◌, subst, arith}
 use Rattle.std.proofs.lemmas.List.{append-nil}
 use Rattle.c_core.specs.View.{program_view}
 use Rattle.c_core.specs.declared.tree.Object.{Object}
@@ -20,8 +20,8 @@ loop-number-preserved c =
     let at : o ≡ get_or objects n o = subst (λ (xs : List Object). o ≡ get_or xs n o) c.as_slice-object-items.ensures c.object-item.is in
     let tested : c.is_changed.result ≡ q n = c.is_changed.ensures ∙ ap (is_changed c.args.here.now c.args.inside.now c.args.there.now n) (sym (fixed_at objects n o inside at)) in
     elim c.if-is_changed.branch [
-      then-is_changed+in_ok-push w ↦
-        ap (λ v. v.items) w.objects-is ∙ w.in_ok-push.ensures.items ∙ ap (λ l. l ++ n ∷ []) c.loop-number.invariant ∙ one_more_picked q n true (sym w.if-is_changed.true ∙ tested)
+      | then-is_changed+in_ok-push w ↦
+          ap (λ v. v.items) w.objects-is ∙ w.in_ok-push.ensures.items ∙ ap (λ l. l ++ n ∷ []) c.loop-number.invariant ∙ one_more_picked q n true (sym w.if-is_changed.true ∙ tested)
       | else-is_changed w ↦
-        ap (λ v. v.items) w.objects-is ∙ c.loop-number.invariant ∙ sym (append-nil (those q (numbers_from 0 n))) ∙ one_more_picked q n false (sym w.if-is_changed.false ∙ tested)
+          ap (λ v. v.items) w.objects-is ∙ c.loop-number.invariant ∙ sym (append-nil (those q (numbers_from 0 n))) ∙ one_more_picked q n false (sym w.if-is_changed.false ∙ tested)
     ]

@@ -1,4 +1,4 @@
-use Rattle.std.proofs.Common.{◌≡◌, length}
+use Rattle.std.proofs.Common.{◌≡◌}
 use Rattle.c_core.specs.View.{program_view}
 use Rattle.c_meaning.specs.Changed.{is_fixed}
 use Rattle.c_meaning.specs.Parts.{those, numbers_from}

@@ -1,4 +1,4 @@
-use Rattle.std.proofs.Common.{◌≡◌, ◌+◌, ap, sym, ◌∙◌, drop}
+use Rattle.std.proofs.Common.{◌+◌, ap, sym, ◌∙◌, drop}
 use Rattle.std.specs.List.{flat_map}
 use Rattle.std.specs.Option.{option_copied, option_map}
 use Rattle.c_core.specs.Parts.{statements_of}

@@ -1,4 +1,4 @@
-use Rattle.std.proofs.Common.{◌≡◌, length, List, Bool, ℕ, sym, ap, ◌∙◌, subst}
+use Rattle.std.proofs.Common.{List, Bool, sym, ap, ◌∙◌, subst}
 use Rattle.std.specs.Prelude.{IsTrue}
 use Rattle.c_core.specs.View.{program_view}
 use Rattle.c_meaning.specs.Parts.{is_in}

@@ -15,6 +15,6 @@ returns-clause-members c =
     let known = main_within p c.args.program.now.checked.main in
     let inside : main < length c.args.program.now.functions = omega arith in
     let same : c.add.new.found.order.items ≡ main ∷ [] =
-      c.in_ok-add.ensures.order ∙ ap (λ n. added n c.in_ok-found.found.order.items main) count ∙ ap (λ l. added (length c.args.program.now.functions) l main) c.in_ok-found.ensures.order
-      ∙ main_added (length c.args.program.now.functions) main inside in
+    c.in_ok-add.ensures.order ∙ ap (λ n. added n c.in_ok-found.found.order.items main) count ∙ ap (λ l. added (length c.args.program.now.functions) l main) c.in_ok-found.ensures.order
+    ∙ main_added (length c.args.program.now.functions) main inside in
     subst (λ (l : List ℕ). HasReached p l c.spread.new.found.order.items) same c.in_ok-spread.ensures.members

@@ -1,4 +1,4 @@
-use Rattle.std.proofs.Common.{◌≡◌, ◌+◌, length, nat_le, refl, sym, ap, ◌∙◌}
+use Rattle.std.proofs.Common.{◌≡◌, ◌+◌, nat_le, refl, sym, ap, ◌∙◌}
 use Rattle.std.specs.Prelude.{IsTrue}
 use Rattle.c_core.specs.View.{program_view}
 use Rattle.c_meaning.specs.Parts.{fulls_of_function}
@@ -16,9 +16,9 @@ returns-then-are_at_least c =
     let f = c.args.function in
     let levels = c.args.levels.now in
     let above : IsTrue (each_call (λ g. nat_le (level_of levels f + 1) (level_of levels g)) (uses_of_function p f)) =
-      ap (λ n. each_call (λ g. nat_le (n + 1) (level_of levels g)) (uses_of_function p f)) (sym c.level_of.ensures)
-      ∙ ap (each_call (λ g. nat_le (c.level_of.result + 1) (level_of levels g))) (sym (c.as_slice.ensures.value ∙ c.in_ok-uses.ensures))
-      ∙ sym c.are_at_least.ensures ∙ c.if-are_at_least.true in
+    ap (λ n. each_call (λ g. nat_le (n + 1) (level_of levels g)) (uses_of_function p f)) (sym c.level_of.ensures)
+    ∙ ap (each_call (λ g. nat_le (c.level_of.result + 1) (level_of levels g))) (sym (c.as_slice.ensures.value ∙ c.in_ok-uses.ensures))
+    ∙ sym c.are_at_least.ensures ∙ c.if-are_at_least.true in
     (λ e. not_both _ refl e, λ r. absurd (no_cycle p levels (c.requires c.if-levelled.true) f above r))
 
 pub returns : goal.returns

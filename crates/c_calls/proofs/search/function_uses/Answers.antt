@@ -1,4 +1,4 @@
-use Rattle.std.proofs.Common.{◌≡◌, ◌++◌, ap, ◌∙◌}
+use Rattle.std.proofs.Common.{◌++◌, ap, ◌∙◌}
 use Rattle.c_core.specs.TreeView.{stmt_view}
 use Rattle.c_calls.specs.Uses.{uses_of_statement}
 use Rattle.c_calls.proofs.UsesLaws.{no_body, body_of}

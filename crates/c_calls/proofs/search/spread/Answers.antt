@@ -1,7 +1,6 @@
 use Rattle.std.proofs.Common.{◌≡◌, ◌+◌, length, sym, ap, ◌∙◌, subst, arith, List, ℕ}
 use Rattle.c_core.specs.View.{program_view}
 use Rattle.c_calls.specs.Marks.{all_added}
-use Rattle.c_calls.specs.Uses.{uses_of_function}
 use Rattle.c_calls.proofs.SpreadLaws.{IsSpread, spread_begins, spread_goes_on, spread_ends}
 use Rattle.c_calls.proofs.UsesLaws.{as_many}
 use Rattle.c_calls.proofs.search.spread.Goals as goal
