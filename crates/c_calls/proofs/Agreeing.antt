@@ -1,18 +1,18 @@
 -- Where two meanings of calls agree on the functions that a part calls, the part has one meaning.
 use std.Path.{fun_ext}
-use Rattle.std.proofs.Common.{◌≡◌, ℕ, zero, suc, ℤ, pos, Bool, true, false, ◌||◌, List, [], ◌∷◌, ◌++◌, Option, Some, None, refl, sym, ap, ◌∙◌, eq-eqb}
+use Rattle.std.proofs.Common.{◌≡◌, ℕ, suc, pos, Bool, true, false, ◌||◌, List, [], ◌∷◌, ◌++◌, Option, Some, None, refl, ap, ◌∙◌, eq-eqb}
 use Rattle.std.specs.Prelude.{IsTrue}
 use Rattle.std.proofs.lemmas.Bool.{or_left, or_right}
-use Rattle.c_core.specs.Tree.{Exp, Expr, Node, Const, Var, Index, Unary, Cast, Step, Binary, Logic, Choose, Comma, Assign, Call, Exps, NoExp, MoreExp, Init, Absent, One, Many, Names, NoName, MoreName, First, NoFirst, FirstExp, FirstNames, Stm, Stmt, Form, Empty, Do, Declare, Block, If, While, DoWhile, For, Break, Continue, Return, Label, Else, NoElse, OrElse, Stms, NoStm, MoreStm, Function, Program}
+use Rattle.c_core.specs.Tree.{Exp, Expr, Node, Const, Var, Index, Unary, Cast, Step, Binary, Logic, Choose, Comma, Assign, Call, Exps, NoExp, MoreExp, Init, Absent, One, Many, Names, NoName, MoreName, First, NoFirst, FirstExp, FirstNames, Stm, Stmt, Form, Empty, Do, Declare, Block, If, While, DoWhile, For, Break, Continue, Return, Label, Else, NoElse, OrElse, Stms, NoStm, MoreStm, Program}
 use Rattle.c_core.specs.declared.number.IntType.{IntType}
 use Rattle.c_core.specs.declared.number.IntType.TheVariants.{Int}
 use Rattle.c_core.specs.declared.number.Spot.{Spot}
 use Rattle.c_core.specs.declared.tree.Callee.{Callee}
 use Rattle.c_core.specs.declared.tree.Callee.TheVariants.{Defined, Input, ReachError, Abort, Exit}
 use Rattle.c_meaning.specs.Meaning.{Use, Used, Unused, Where, Site, WhileLoop, DoLoop, ForLoop, Meaning, Calls}
-use Rattle.c_meaning.specs.Objects.{type_of, type_of_object, size_of_object}
+use Rattle.c_meaning.specs.Objects.{type_of}
 use Rattle.c_meaning.specs.Eval.{convert_to, tested, assign, eval, node, target, place, evals, called}
-use Rattle.c_meaning.specs.Exec.{full, full_if, control, going, while_turn, do_turn, for_turn, initials, initial, declare, first, exec, form, otherwise, execs, body}
+use Rattle.c_meaning.specs.Exec.{full, full_if, control, going, initials, initial, declare, first, exec, form, otherwise, execs, body}
 use Rattle.c_meaning.specs.Parts.{some_of, some_node, some_part, some_argument, calls, exps_in, exp_if, fulls_of_init, fulls_of_names, fulls_of_first, fulls_of, fulls_of_form, fulls_of_else, fulls_of_block}
 use Rattle.c_calls.proofs.Listing.{some_append}
 

@@ -5,7 +5,7 @@ use Rattle.std.proofs.lemmas.Bool.{cases_lt, or_left, or_right, or_cases}
 use Rattle.c_core.specs.Tree.{Exp, Program}
 use Rattle.c_meaning.specs.Parts.{some_of, some_node, those, is_in, calls, fulls_of_function, function_numbers}
 use Rattle.c_meaning.specs.Changed.{and_called, and_called_often, called_from}
-use Rattle.c_calls.specs.Calling.{IsCalledIn, IsCalledFrom, directly, further, HasCalled}
+use Rattle.c_calls.specs.Calling.{IsCalledFrom, directly, further, HasCalled}
 use Rattle.c_calls.proofs.Listing.{some_from, some_member, those_in, in_those, those_again, those_stay, those_within, length_numbers, in_numbers, numbers_in}
 
 module _ (p : Program) where

@@ -5,12 +5,12 @@ use Rattle.std.proofs.lemmas.Bool.{cases_Bool, eqb-false, or_parts, not_from_tru
 use Rattle.std.proofs.lemmas.Option.{slice_get_within}
 use Rattle.c_core.specs.Tree.{Exp, Function, Program}
 use Rattle.c_core.specs.declared.number.IntType.{IntType}
-use Rattle.c_meaning.specs.Meaning.{Meaning, Site, Calls}
-use Rattle.c_meaning.specs.Exec.{body, call_of, run_in, run_if, run_main}
-use Rattle.c_meaning.specs.Parts.{some_of, some_node, those, is_in, calls, fulls_of, fulls_of_function, fulls_if}
-use Rattle.c_calls.specs.Calling.{IsCalledIn, IsCalledFrom, directly, further, Reaches, IsReached, IsRecursion, IsFirstRecursion}
-use Rattle.c_calls.specs.Depth.{IsChainFrom, ChainsAreShort}
-use Rattle.c_calls.proofs.Listing.{not_both, in_head, in_tail, in_cons, those_in, in_those}
+use Rattle.c_meaning.specs.Meaning.{Meaning, Site}
+use Rattle.c_meaning.specs.Exec.{call_of, run_in, run_if, run_main}
+use Rattle.c_meaning.specs.Parts.{some_of, some_node, those, is_in, calls, fulls_of_function, fulls_if}
+use Rattle.c_calls.specs.Calling.{IsCalledIn, IsCalledFrom, directly, further, Reaches, IsReached, IsFirstRecursion}
+use Rattle.c_calls.specs.Depth.{IsChainFrom}
+use Rattle.c_calls.proofs.Listing.{not_both, in_head, in_cons, those_in}
 use Rattle.c_calls.proofs.Agreeing.{same_body}
 
 abbrev pub Distinct : List ℕ → Type 0

@@ -5,3 +5,7 @@ pub mod DepthLaws
 mod UsesLaws
 mod FoundLaws
 mod SpreadLaws
+mod LoopLaws
+mod ChangedLaws
+mod ObjectLaws
+mod RecursionLaws

@@ -1,5 +1,5 @@
 -- A search that takes one found function after the other finds all that these come to.
-use Rattle.std.proofs.Common.{◌≡◌, ◌⊎◌, ℕ, suc, ◌+◌, ◌<◌, ◌≤◌, List, [], ◌∷◌, ◌++◌, length, get_or, take, refl, sym, ap, ◌∙◌, subst, inl, inr, ⊎_elim, arith}
+use Rattle.std.proofs.Common.{◌≡◌, ℕ, ◌+◌, ◌<◌, ◌≤◌, List, [], ◌∷◌, ◌++◌, length, get_or, take, refl, sym, ap, ◌∙◌, subst, ⊎_elim, arith}
 use Rattle.std.specs.Prelude.{IsTrue}
 use Rattle.std.proofs.lemmas.List.{take_more, take_all, take-append-le}
 use Rattle.c_core.specs.Tree.{Exp, Program}
@@ -29,10 +29,10 @@ module _ (p : Program) where
     closed = λ f g m. not_both _ refl m;
   }
 
-  listed_call : (f g : ℕ) → IsTrue (some_of (some_node (calls g)) (fulls_of_function p f)) → IsTrue (some_of (is_call g) (uses_of_function p f))
+  pub listed_call : (f g : ℕ) → IsTrue (some_of (some_node (calls g)) (fulls_of_function p f)) → IsTrue (some_of (is_call g) (uses_of_function p f))
   listed_call f g h = ap (some_of (is_call g)) (of_function p f) ∙ sym (calls_listed g (fulls_of_function p f)) ∙ h
 
-  call_listed : (f g : ℕ) → IsTrue (some_of (is_call g) (uses_of_function p f)) → IsTrue (some_of (some_node (calls g)) (fulls_of_function p f))
+  pub call_listed : (f g : ℕ) → IsTrue (some_of (is_call g) (uses_of_function p f)) → IsTrue (some_of (some_node (calls g)) (fulls_of_function p f))
   call_listed f g h = calls_listed g (fulls_of_function p f) ∙ sym (ap (some_of (is_call g)) (of_function p f)) ∙ h
 
   pub spread_goes_on : (fs now : List ℕ) (next f : ℕ) → next < length now → f ≡ get_or now next f → IsSpread fs now next → IsSpread fs (all_added count now (uses_of_function p f)) (next + 1)
@@ -40,9 +40,9 @@ module _ (p : Program) where
     kept = λ g m. all_still_in count (uses_of_function p f) now g (s.kept g m);
     reached = λ g m. ⊎_elim (s.reached g) (λ c. calling f g (s.reached f here) (c.0, call_listed f g c.1)) (all_was_in count (uses_of_function p f) now g m);
     closed = λ g h m c. ⊎_elim
-    (λ k. all_still_in count (uses_of_function p f) now h (s.closed g h k c))
-    (λ e. all_now_in count (uses_of_function p f) now h c.0 (listed_call f h (subst (λ x. IsTrue (some_of (some_node (calls h)) (fulls_of_function p x))) (e ∙ sym at) c.1)))
-    (in_back g (get_or now next f) (take next now) (subst (λ l. IsTrue (is_in g l)) front m));
+        (λ k. all_still_in count (uses_of_function p f) now h (s.closed g h k c))
+        (λ e. all_now_in count (uses_of_function p f) now h c.0 (listed_call f h (subst (λ x. IsTrue (some_of (some_node (calls h)) (fulls_of_function p x))) (e ∙ sym at) c.1)))
+        (in_back g (get_or now next f) (take next now) (subst (λ l. IsTrue (is_in g l)) front m));
   }
     where
       here : IsTrue (is_in f now)

@@ -2,19 +2,17 @@
 use Rattle.std.proofs.Common.{◌≡◌, ℕ, zero, suc, Bool, true, false, ◌||◌, List, [], ◌∷◌, ◌++◌, Option, Some, None, length, slice_get, refl, sym, ap, ◌∙◌, append_assoc}
 use Rattle.std.proofs.lemmas.List.{append-nil}
 use Rattle.std.proofs.lemmas.List.Concat.{flat_map-append}
-use Rattle.std.specs.List.{flat_map}
 use Rattle.std.specs.Option.{option_map}
 use Rattle.c_core.specs.Tree as t
 use Rattle.c_core.specs.Tree.{Exp, Expr, Node, Const, Var, Index, Unary, Cast, Step, Binary, Logic, Choose, Comma, Assign, Call, Exps, NoExp, MoreExp, Init, Absent, One, Many, Names, NoName, MoreName, First, NoFirst, FirstExp, FirstNames, Stm, Stmt, Form, Empty, Do, Declare, Block, If, While, DoWhile, For, Break, Continue, Return, Label, Else, NoElse, OrElse, Stms, NoStm, MoreStm, Program}
 use Rattle.c_core.specs.TreeView.{function_view, functions_view, stmt_view}
-use Rattle.c_core.specs.declared.tree.Callee.{Callee}
 use Rattle.c_core.specs.declared.tree.Callee.TheVariants.{Defined, Input, ReachError, Abort, Exit}
 use Rattle.c_core.specs.declared.tree.Function.{Function}
 use Rattle.c_meaning.specs.Changed.{fulls_of_loop}
 use Rattle.c_meaning.specs.Meaning.{Loop, WhileLoop, DoLoop, ForLoop}
-use Rattle.c_meaning.specs.Parts.{some_of, some_node, some_part, some_argument, changes, calls, names_object, calls_callee, exps_in, exp_if, fulls_of_init, fulls_of_names, fulls_of_first, fulls_of, fulls_of_form, fulls_of_else, fulls_of_block, fulls_of_function, fulls_if}
+use Rattle.c_meaning.specs.Parts.{some_of, some_node, some_part, some_argument, changes, calls, names_object, exps_in, exp_if, fulls_of_init, fulls_of_names, fulls_of_first, fulls_of, fulls_of_form, fulls_of_else, fulls_of_block, fulls_of_function, fulls_if}
 use Rattle.c_calls.specs.Loops.{loop_of}
-use Rattle.c_calls.specs.Uses.{is_change, is_call, change_of, call_of, own_uses, uses_of, uses_in, uses_of_arguments, uses_if, uses_of_init, uses_of_names, uses_of_first, uses_of_statement, uses_of_form, uses_of_else, uses_of_block, uses_of_loop, uses_of_function_if, uses_of_function, uses_of_all}
+use Rattle.c_calls.specs.Uses.{is_change, is_call, change_of, own_uses, uses_of, uses_in, uses_of_arguments, uses_if, uses_of_init, uses_of_names, uses_of_first, uses_of_statement, uses_of_form, uses_of_else, uses_of_block, uses_of_loop, uses_of_function_if, uses_of_function, uses_of_all}
 use Rattle.c_calls.specs.declared.uses.Use.{Use}
 use Rattle.c_calls.proofs.Listing.{some_append}
 
@@ -22,10 +20,10 @@ or_false : (b : Bool) → (b || false) ≡ b
 or_false true = refl
 or_false false = refl
 
-some_injective : {A : Type 0} (a b : A) → Some a ≡ Some b → a ≡ b
+pub some_injective : {A : Type 0} (a b : A) → Some a ≡ Some b → a ≡ b
 some_injective a b e = cc
 
-none_is_none : {A : Type 0} {a : A} → None ≡ Some a → ⊥
+pub none_is_none : {A : Type 0} {a : A} → None ≡ Some a → ⊥
 none_is_none e = cc
 
 -- a test of nodes and a test of what is listed that tell the same of each node

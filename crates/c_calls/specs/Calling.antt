@@ -1,8 +1,7 @@
 -- Functions called from expressions and from functions, directly or through further calls.
-use Rattle.std.specs.Prelude.{◌≡◌, ◌<◌, ◌↔◌, ◌⊎◌, ℕ, List, length, Option, Some, None, IsTrue}
+use Rattle.std.specs.Prelude.{◌≡◌, ◌<◌, ◌↔◌, ◌⊎◌, ℕ, Bool, List, length, Option, Some, None, IsTrue}
 use Rattle.c_core.specs.Tree.{Exp, Program}
 use Rattle.c_meaning.specs.Parts.{some_of, some_node, is_in, calls, fulls_of_function}
-use Rattle.c_meaning.specs.Changed.{called_from}
 
 -- a call of a function of the program stands in these expressions
 abbrev pub IsCalledIn : Program → List Exp → ℕ → Type 0
@@ -38,6 +37,11 @@ IsReached p f = (f ≡ p.main) ⊎ Reaches p p.main f
 pub record IsRecursion (p : Program) (f : ℕ) : Type 0 where
   pub reached : IsReached p f
   pub cycle : Reaches p f f
+
+-- the first of these functions that lies on a cycle, none where none does
+abbrev pub IsFirstOnCycle : Program → (ℕ → Bool) → Option ℕ → Type 0
+IsFirstOnCycle p q None = (f : ℕ) → IsTrue (q f) → Reaches p f f → ⊥
+IsFirstOnCycle p q (Some f) = IsTrue (q f) × Reaches p f f × ((g : ℕ) → g < f → IsTrue (q g) → Reaches p g g → ⊥)
 
 -- the first of them in the order of definitions, none where main reaches no cycle
 abbrev pub IsFirstRecursion : Program → Option ℕ → Type 0

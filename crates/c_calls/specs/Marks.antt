@@ -20,3 +20,11 @@ abbrev pub all_added : ℕ → List ℕ → List Use → List ℕ
 all_added count fs [] = fs
 all_added count fs (Changes o ∷ uses) = all_added count fs uses
 all_added count fs (Calls f ∷ uses) = all_added count (added count fs f) uses
+
+-- of so many numbers those of a test are marked
+abbrev pub AreMarked : ℕ → (ℕ → Bool) → List Bool → Type 0
+AreMarked count q marks = (n : ℕ) → n < count → is_marked marks n ≡ q n
+
+-- changed in a loop and not declared in it, or of static storage and changed by a called function
+abbrev pub is_changed : List Bool → List Bool → List Bool → ℕ → Bool → Bool
+is_changed here inside there o fixed = (is_marked here o && not (is_marked inside o)) || (fixed && is_marked there o)

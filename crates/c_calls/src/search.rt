@@ -6,8 +6,8 @@ ghost use Rattle.c_meaning.specs.Parts.{fulls_of_function};
 ghost use Rattle.c_calls.specs.Calling.{HasCalled, HasReached};
 ghost use Rattle.c_calls.specs.Uses.{uses_of_all, uses_of_function};
 
-use crate::found::{add_called, nothing_found, Found};
-use crate::uses::{push_statement, Use};
+use crate::found::{Found, add_called, nothing_found};
+use crate::uses::{Use, push_statement};
 use c_core::Program;
 use std::alloc::Global;
 use wv_base::OutOfMemory;
@@ -29,7 +29,7 @@ pub fn function_uses(
 }
 
 /// Appends the functions that these come to a call of, each body looked at once.
-fn spread(alloc: Global, program: &Program, found: &mut Found) -> Result<(), OutOfMemory>
+pub fn spread(alloc: Global, program: &Program, found: &mut Found) -> Result<(), OutOfMemory>
     requires { length found.old.marks.items ≡ length program.now.functions }
     ensures members { OnOk result (HasReached (program_view program.now) found.old.order.items found.new.order.items) }
     ensures count { OnOk result (length found.new.marks.items ≡ length found.old.marks.items) }

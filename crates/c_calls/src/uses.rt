@@ -215,7 +215,10 @@ pub fn push_loop(uses: &mut Vec<Use>, form: &Form) -> Result<(), OutOfMemory>
             push_expression(uses, test)?;
         }
         Form::For {
-            test, step, body, ..
+            test,
+            step,
+            body,
+            ..
         } => {
             push_if(uses, test)?;
             push_if(uses, step)?;

@@ -1,7 +1,6 @@
 use Rattle.std.proofs.Common.{◌≡◌, ◌+◌, length, sym, ap, ◌∙◌, subst, arith, List, ℕ}
 use Rattle.c_core.specs.View.{program_view}
 use Rattle.c_calls.specs.Marks.{all_added}
-use Rattle.c_calls.specs.Uses.{uses_of_function}
 use Rattle.c_calls.proofs.SpreadLaws.{IsSpread, spread_begins, spread_goes_on, spread_ends}
 use Rattle.c_calls.proofs.UsesLaws.{as_many}
 use Rattle.c_calls.proofs.search.spread.Goals as goal
@@ -23,7 +22,7 @@ loop-next-preserved c =
     record {
       count = c.add_called.ensures.count ∙ c.loop-next.invariant.count;
       spread = subst (λ (l : List ℕ). IsSpread p c.args.found.now.order.items l (c.loop-next.next + 1)) (sym same)
-      (spread_goes_on p c.args.found.now.order.items now c.loop-next.next f (omega arith) c.index-function.ensures c.loop-next.invariant.spread);
+          (spread_goes_on p c.args.found.now.order.items now c.loop-next.next f (omega arith) c.index-function.ensures c.loop-next.invariant.spread);
     }
 
 pub returns-clause-members : goal.returns-clause-members

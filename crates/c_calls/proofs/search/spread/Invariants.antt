@@ -1,4 +1,4 @@
-use Rattle.std.proofs.Common.{◌≡◌, ◌≤◌, ◌-◌, length}
+use Rattle.std.proofs.Common.{◌≡◌, ◌-◌, length}
 use Rattle.c_core.specs.View.{program_view}
 use Rattle.c_calls.proofs.SpreadLaws.{IsSpread}
 use Rattle.c_calls.proofs.search.spread.Given as goal
