@@ -1,0 +1,7 @@
+pub mod CellLaws
+pub mod Framing
+pub mod Refitting
+pub mod Bodies
+pub mod Members
+pub mod FramedTurns
+pub mod Heads

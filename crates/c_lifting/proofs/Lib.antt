@@ -1,0 +1,4 @@
+pub mod Restoring
+pub mod Lifts
+pub mod Relating
+pub mod AllRuns

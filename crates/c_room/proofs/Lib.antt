@@ -1,0 +1,5 @@
+pub mod Rooms
+pub mod Calm
+pub mod Sums
+pub mod Paths
+pub mod Roomy
