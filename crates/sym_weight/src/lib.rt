@@ -1,0 +1,2 @@
+//! How much a program weighs as a circuit.
+#![tactic(auto)]
