@@ -21,8 +21,7 @@ pub record Sum : Type 1 where
   -- a call of this function, by its number, goes through the function's body
   pub body : ℕ → Amount
 
--- at_place: what the invariants weigh that stand at a loop (true) or a statement (false) at a place
-module _ (p : Program) (at_place : Bool → Spot → ℕ) (S : Sum) where
+module _ (p : Program) (S : Sum) where
   -- arguments go to parameters
   abbrev pub passed : List ℕ → Exps → S.Amount
   passed [] es = S.none
@@ -110,47 +109,49 @@ module _ (p : Program) (at_place : Bool → Spot → ℕ) (S : Sum) where
   redrawn [] = S.none
   redrawn (o ∷ os) = S.both (S.part (4 * bits_of_object p o) (bits_of_object p o)) (redrawn os)
 
-  -- a loop's head: its invariants are tested on arrival, assumed, and tested after the turn
-  abbrev pub head : Spot → Loop → S.Amount
-  head at l = S.both (S.part (3 * at_place true at) 0) (redrawn (changed_by p l))
+  -- at_place: what the invariants weigh that stand at a loop (true) or a statement (false) at a place
+  module _ (at_place : Bool → Spot → ℕ) where
+    -- a loop's head: its invariants are tested on arrival, assumed, and tested after the turn
+    abbrev pub head : Spot → Loop → S.Amount
+    head at l = S.both (S.part (3 * at_place true at) 0) (redrawn (changed_by p l))
 
-  -- in a function of this result
-  module _ (result : Option IntType) where
-    abbrev mutual
-      pub statement : Stm → S.Amount
-      statement (Stmt at f) = S.both (S.part (statement_weight + at_place false at) 0) (form at f)
+    -- in a function of this result
+    module _ (result : Option IntType) where
+      abbrev mutual
+        pub statement : Stm → S.Amount
+        statement (Stmt at f) = S.both (S.part (statement_weight + at_place false at) 0) (form at f)
 
-      pub form : Spot → Form → S.Amount
-      form at Empty = S.none
-      form at (Do e) = expression e
-      form at (Declare ns) = declared ns
-      form at (Block b) = statements b
-      form at (If e a b) = S.both (control e) (S.both (statement a) (otherwise b))
-      form at (While e b) = S.both (head at (WhileLoop e b)) (S.both (control e) (statement b))
-      form at (DoWhile b e) = S.both (head at (DoLoop b e)) (S.both (statement b) (control e))
-      form at (For i e s b) = S.both (first i) (S.both (head at (ForLoop e s b)) (S.both (control_if e) (S.both (expression_if s) (statement b))))
-      form at Break = S.none
-      form at Continue = S.none
-      form at (Return None) = S.none
-      form at (Return (Some e)) = S.both (expression e) (S.part (returned p.model result (type_of e)) 0)
-      form at (Label b) = statement b
+        pub form : Spot → Form → S.Amount
+        form at Empty = S.none
+        form at (Do e) = expression e
+        form at (Declare ns) = declared ns
+        form at (Block b) = statements b
+        form at (If e a b) = S.both (control e) (S.both (statement a) (otherwise b))
+        form at (While e b) = S.both (head at (WhileLoop e b)) (S.both (control e) (statement b))
+        form at (DoWhile b e) = S.both (head at (DoLoop b e)) (S.both (statement b) (control e))
+        form at (For i e s b) = S.both (first i) (S.both (head at (ForLoop e s b)) (S.both (control_if e) (S.both (expression_if s) (statement b))))
+        form at Break = S.none
+        form at Continue = S.none
+        form at (Return None) = S.none
+        form at (Return (Some e)) = S.both (expression e) (S.part (returned p.model result (type_of e)) 0)
+        form at (Label b) = statement b
 
-      pub otherwise : Else → S.Amount
-      otherwise NoElse = S.none
-      otherwise (OrElse b) = statement b
+        pub otherwise : Else → S.Amount
+        otherwise NoElse = S.none
+        otherwise (OrElse b) = statement b
 
-      pub statements : Stms → S.Amount
-      statements NoStm = S.none
-      statements (MoreStm s b) = S.both (statement s) (statements b)
+        pub statements : Stms → S.Amount
+        statements NoStm = S.none
+        statements (MoreStm s b) = S.both (statement s) (statements b)
 
-    -- a function's body is no place of an invariant
-    abbrev pub function_body : Stm → S.Amount
-    function_body (Stmt at f) = S.both (S.part statement_weight 0) (form at f)
+      -- a function's body is no place of an invariant
+      abbrev pub function_body : Stm → S.Amount
+      function_body (Stmt at f) = S.both (S.part statement_weight 0) (form at f)
 
-  abbrev pub function_of : Option Function → S.Amount
-  function_of None = S.none
-  function_of (Some f) = function_body f.result f.body
+    abbrev pub function_of : Option Function → S.Amount
+    function_of None = S.none
+    function_of (Some f) = function_body f.result f.body
 
-  -- the body of a function, by its number
-  abbrev pub function : ℕ → S.Amount
-  function f = function_of (slice_get p.functions f)
+    -- the body of a function, by its number
+    abbrev pub function : ℕ → S.Amount
+    function f = function_of (slice_get p.functions f)

@@ -123,6 +123,11 @@ module _ (p : Program) where
   abbrev pub written : Exp → ℕ
   written (Expr spot ty n) = written_node n
 
+  -- C11 6.5.16.1, 6.5.16.2
+  abbrev pub assignment : Option BinOp → Exp → Exp → ℕ
+  assignment None a b = conversion p.model (type_of b) (type_of a) + written a
+  assignment (Some op) a b = computed p.model op (type_of a) (type_of b) + (read a + written a)
+
   -- what a node of this type does, besides being a node
   abbrev pub node_work : Option IntType → Node → ℕ
   node_work ty (Const v) = 0
@@ -136,8 +141,7 @@ module _ (p : Program) where
   node_work ty (Choose mark e a b) =
       tested p.model e + (conversion_to p.model ty (type_of a) + (conversion_to p.model ty (type_of b) + chosen p.model ty))
   node_work ty (Comma a b) = 0
-  node_work ty (Assign None a b) = conversion p.model (type_of b) (type_of a) + written a
-  node_work ty (Assign (Some op) a b) = computed p.model op (type_of a) (type_of b) + (read a + written a)
+  node_work ty (Assign op a b) = assignment op a b
   node_work ty (Call callee es close) = call_weight
 
   -- bits that an input call draws

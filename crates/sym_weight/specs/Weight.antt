@@ -25,7 +25,7 @@ chaining body = record { Amount = ℕ; none = 0; both = λ a b. max a b; part = 
 
 -- one evaluation of an invariant; it calls nothing
 abbrev pub evaluation : Program → Exp → ℕ
-evaluation p e = statement_weight + (expression p nowhere (weighing (λ f. 0)) e + tested p.model e)
+evaluation p e = statement_weight + (expression p (weighing (λ f. 0)) e + tested p.model e)
 
 -- the invariants of a loop (true) or a statement (false) at a place
 abbrev pub placed_weight : Program → List Placed → Bool → Spot → ℕ
@@ -35,16 +35,16 @@ placed_weight p (x ∷ xs) at_loop spot = cond (stands p [] at_loop spot x) (eva
 -- a function's body, with calls unfolded at most n deep
 abbrev pub weight_in : Program → List Placed → ℕ → ℕ → ℕ
 weight_in p I zero f = 0
-weight_in p I (suc n) f = function p (placed_weight p I) (weighing (weight_in p I n)) f
+weight_in p I (suc n) f = function p (weighing (weight_in p I n)) (placed_weight p I) f
 
 abbrev pub bits_in : Program → ℕ → ℕ → ℕ
 bits_in p zero f = 0
-bits_in p (suc n) f = function p nowhere (drawing (bits_in p n)) f
+bits_in p (suc n) f = function p (drawing (bits_in p n)) nowhere f
 
 -- calls of defined functions in a chain from a function, at most n
 abbrev pub chain_in : Program → ℕ → ℕ → ℕ
 chain_in p zero f = 0
-chain_in p (suc n) f = function p nowhere (chaining (chain_in p n)) f
+chain_in p (suc n) f = function p (chaining (chain_in p n)) nowhere f
 
 -- where main reaches no cycle of calls, no chain has more functions than the program
 abbrev pub most_active : Program → ℕ

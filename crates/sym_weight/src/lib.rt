@@ -1,2 +1,5 @@
 //! How much a program weighs as a circuit.
 #![tactic(auto)]
+
+mod cost;
+mod table;
