@@ -2,14 +2,13 @@
 use Rattle.std.specs.Prelude.{ℕ, ◌+◌, ◌*◌, Bool, false, true, List, [], ◌∷◌, Option, Some, None, slice_get}
 use Rattle.c_core.specs.Tree.{Exp, Expr, Node, Const, Var, Index, Unary, Cast, Step, Binary, Logic, Choose, Comma, Assign, Call, Exps, NoExp, MoreExp, Init, Absent, One, Many, Names, NoName, MoreName, First, NoFirst, FirstExp, FirstNames, Stm, Stmt, Form, Empty, Do, Declare, Block, If, While, DoWhile, For, Break, Continue, Return, Label, Else, NoElse, OrElse, Stms, NoStm, MoreStm, Function, Program}
 use Rattle.c_core.specs.declared.number.IntType.{IntType}
-use Rattle.c_core.specs.declared.number.IntType.TheVariants.{Int}
 use Rattle.c_core.specs.declared.number.Spot.{Spot}
 use Rattle.c_core.specs.declared.tree.Callee.{Callee}
 use Rattle.c_core.specs.declared.tree.Callee.TheVariants.{Defined, Exit}
 use Rattle.c_meaning.specs.Meaning.{Loop, WhileLoop, DoLoop, ForLoop}
 use Rattle.c_meaning.specs.Changed.{changed_by}
 use Rattle.c_meaning.specs.Objects.{type_of, type_of_object}
-use Rattle.sym_weight.specs.Table.{statement_weight, expression_weight, tested, stored, returned, params_of, bits_of_object, node_work, node_bits}
+use Rattle.sym_weight.specs.Table.{statement_weight, expression_weight, tested, stored, returned, params_of, passed, passed_to_exit, bits_of_object, node_work, node_bits}
 
 -- amounts, and how they are put together
 pub record Sum : Type 1 where
@@ -22,20 +21,9 @@ pub record Sum : Type 1 where
   pub body : ℕ → Amount
 
 module _ (p : Program) (S : Sum) where
-  -- arguments go to parameters
-  abbrev pub passed : List ℕ → Exps → S.Amount
-  passed [] es = S.none
-  passed (o ∷ os) NoExp = S.none
-  passed (o ∷ os) (MoreExp e es) = S.both (S.part (stored p.model (type_of e) (type_of_object p o)) 0) (passed os es)
-
-  -- `exit` has one parameter, an `int`
-  abbrev pub passed_to_exit : Exps → S.Amount
-  passed_to_exit NoExp = S.none
-  passed_to_exit (MoreExp e es) = S.part (stored p.model (type_of e) Int) 0
-
   abbrev pub called : Callee → Exps → S.Amount
-  called (Defined f) es = S.both (passed (params_of (slice_get p.functions f)) es) (S.body f)
-  called Exit es = passed_to_exit es
+  called (Defined f) es = S.both (S.part (passed p (params_of (slice_get p.functions f)) es) 0) (S.body f)
+  called Exit es = S.part (passed_to_exit p.model es) 0
   called _ es = S.none
 
   abbrev mutual

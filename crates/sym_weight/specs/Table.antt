@@ -1,9 +1,9 @@
 -- What each part of a program weighs as a circuit, without the parts in it. A width is in bits.
-use Rattle.std.specs.Prelude.{ℕ, ◌+◌, ◌*◌, ◌^◌, cond, List, [], Option, Some, None}
+use Rattle.std.specs.Prelude.{ℕ, ◌+◌, ◌*◌, ◌^◌, cond, List, [], ◌∷◌, Option, Some, None}
 use Rattle.c_core.specs.Types.{width_of, promote_of}
 use Rattle.c_core.specs.Typing.{same_type}
 use Rattle.c_core.specs.Operators.{type_for, right_type_for, op_of_step}
-use Rattle.c_core.specs.Tree.{Exp, Expr, Node, Const, Var, Index, Unary, Cast, Step, Binary, Logic, Choose, Comma, Assign, Call, Function, Program}
+use Rattle.c_core.specs.Tree.{Exp, Expr, Node, Const, Var, Index, Unary, Cast, Step, Binary, Logic, Choose, Comma, Assign, Call, Exps, NoExp, MoreExp, Function, Program}
 use Rattle.c_core.specs.declared.number.DataModel.{DataModel}
 use Rattle.c_core.specs.declared.number.IntType.{IntType}
 use Rattle.c_core.specs.declared.number.IntType.TheVariants.{Int}
@@ -94,6 +94,16 @@ abbrev pub params_of : Option Function → List ℕ
 params_of None = []
 params_of (Some f) = f.params
 
+-- `exit` has one parameter, an `int` (C11 7.22.4.4)
+abbrev pub passed_to_exit : DataModel → Exps → ℕ
+passed_to_exit m NoExp = 0
+passed_to_exit m (MoreExp e es) = stored m (type_of e) Int
+
+-- the arguments behind the first
+abbrev pub others : Exps → Exps
+others NoExp = NoExp
+others (MoreExp e es) = es
+
 module _ (p : Program) where
   abbrev pub width_of_object : ℕ → ℕ
   width_of_object o = width_of p.model (type_of_object p o)
@@ -152,3 +162,13 @@ module _ (p : Program) where
   abbrev pub node_bits : Node → ℕ
   node_bits (Call callee es close) = callee_bits callee
   node_bits _ = 0
+
+  -- an argument is put into a parameter, where there is one
+  abbrev pub passed_first : ℕ → Exps → ℕ
+  passed_first o NoExp = 0
+  passed_first o (MoreExp e es) = stored p.model (type_of e) (type_of_object p o)
+
+  -- arguments are put into parameters
+  abbrev pub passed : List ℕ → Exps → ℕ
+  passed [] es = 0
+  passed (o ∷ os) es = passed_first o es + passed os (others es)

@@ -2,4 +2,5 @@
 #![tactic(auto)]
 
 mod cost;
+mod expressions;
 mod table;

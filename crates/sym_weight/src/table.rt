@@ -274,7 +274,8 @@ pub fn node_work(program: &Program, ty: Option<IntType>, node: &Node) -> u64
         }
         Node::Cast(of) => conversion_to(model, ty, type_of(of)),
         Node::Step { op, target } => {
-            stepped(model, *op, type_of(target)) + (read(program, target) + written(program, target))
+            stepped(model, *op, type_of(target))
+                + (read(program, target) + written(program, target))
         }
         Node::Binary { op, left, right } => operation(model, *op, type_of(left), type_of(right)),
         Node::Logic { left, right, .. } => tested(model, left) + tested(model, right),
