@@ -1,4 +1,5 @@
 pub mod Table
 pub mod Sum
 pub mod Weight
+pub mod Looping
 pub mod Tally

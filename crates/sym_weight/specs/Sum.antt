@@ -8,7 +8,7 @@ use Rattle.c_core.specs.declared.tree.Callee.TheVariants.{Defined, Exit}
 use Rattle.c_meaning.specs.Meaning.{Loop, WhileLoop, DoLoop, ForLoop}
 use Rattle.c_meaning.specs.Changed.{changed_by}
 use Rattle.c_meaning.specs.Objects.{type_of, type_of_object}
-use Rattle.sym_weight.specs.Table.{statement_weight, expression_weight, tested, stored, returned, params_of, passed, passed_to_exit, bits_of_object, node_work, node_bits}
+use Rattle.sym_weight.specs.Table.{statement_weight, expression_weight, tested, stored, returned, params_of, passed, passed_to_exit, bits_of_object, bits_of_objects, node_work, node_bits}
 
 -- amounts, and how they are put together
 pub record Sum : Type 1 where
@@ -92,16 +92,16 @@ module _ (p : Program) (S : Sum) where
   first (FirstExp e) = expression e
   first (FirstNames ns) = declared ns
 
-  -- each cell of the objects that a loop changes is drawn at its head
-  abbrev pub redrawn : List ℕ → S.Amount
-  redrawn [] = S.none
-  redrawn (o ∷ os) = S.both (S.part (4 * bits_of_object p o) (bits_of_object p o)) (redrawn os)
+  -- a value returned from a function of this result
+  abbrev pub given : Option IntType → Option Exp → S.Amount
+  given result None = S.none
+  given result (Some e) = S.both (expression e) (S.part (returned p.model result (type_of e)) 0)
 
   -- at_place: what the invariants weigh that stand at a loop (true) or a statement (false) at a place
   module _ (at_place : Bool → Spot → ℕ) where
-    -- a loop's head: its invariants are tested on arrival, assumed, and tested after the turn
-    abbrev pub head : Spot → Loop → S.Amount
-    head at l = S.both (S.part (3 * at_place true at) 0) (redrawn (changed_by p l))
+    -- the head of a loop that changes these objects: its invariants are tested on arrival, assumed, and tested after the turn; each cell is drawn
+    abbrev pub head : Spot → List ℕ → S.Amount
+    head at changed = S.part (3 * at_place true at + 4 * bits_of_objects p changed) (bits_of_objects p changed)
 
     -- in a function of this result
     module _ (result : Option IntType) where
@@ -115,13 +115,12 @@ module _ (p : Program) (S : Sum) where
         form at (Declare ns) = declared ns
         form at (Block b) = statements b
         form at (If e a b) = S.both (control e) (S.both (statement a) (otherwise b))
-        form at (While e b) = S.both (head at (WhileLoop e b)) (S.both (control e) (statement b))
-        form at (DoWhile b e) = S.both (head at (DoLoop b e)) (S.both (statement b) (control e))
-        form at (For i e s b) = S.both (first i) (S.both (head at (ForLoop e s b)) (S.both (control_if e) (S.both (expression_if s) (statement b))))
+        form at (While e b) = S.both (head at (changed_by p (WhileLoop e b))) (S.both (control e) (statement b))
+        form at (DoWhile b e) = S.both (head at (changed_by p (DoLoop b e))) (S.both (statement b) (control e))
+        form at (For i e s b) = S.both (first i) (S.both (head at (changed_by p (ForLoop e s b))) (S.both (control_if e) (S.both (expression_if s) (statement b))))
         form at Break = S.none
         form at Continue = S.none
-        form at (Return None) = S.none
-        form at (Return (Some e)) = S.both (expression e) (S.part (returned p.model result (type_of e)) 0)
+        form at (Return e) = given result e
         form at (Label b) = statement b
 
         pub otherwise : Else → S.Amount

@@ -112,6 +112,10 @@ module _ (p : Program) where
   abbrev pub bits_of_object : ℕ → ℕ
   bits_of_object o = size_of_object p o * width_of_object o
 
+  abbrev pub bits_of_objects : List ℕ → ℕ
+  bits_of_objects [] = 0
+  bits_of_objects (o ∷ os) = bits_of_object o + bits_of_objects os
+
   -- an element of an array, each time that it is read or written
   abbrev pub element : ℕ → ℕ
   element o = size_of_object p o * (4 * width_of_object o + 16) + 256

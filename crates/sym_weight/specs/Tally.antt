@@ -1,11 +1,15 @@
 -- What a function's body weighs and draws by itself, and which functions it calls, as often as it does.
-use Rattle.std.specs.Prelude.{ℕ, ◌+◌, ◌-◌, ◌^◌, min, Bool, List, [], ◌∷◌, ◌++◌, map}
+use Rattle.std.specs.Prelude.{ℕ, ◌+◌, ◌-◌, ◌^◌, min, Bool, true, false, List, [], ◌∷◌, ◌++◌, map}
+use Rattle.std.specs.BTreeMap.{BTreeMap, get_by}
+use Rattle.std.specs.Option.{unwrap_or}
+use Rattle.std.specs.Ordering.{nat_cmp, ordering_then}
 use Rattle.c_core.specs.Tree.{Exp, Program}
 use Rattle.c_core.specs.View.{expr_view}
 use Rattle.c_core.specs.declared.number.Spot.{Spot}
 use Rattle.c_meaning.specs.Duties.{Placed}
 use Rattle.c_meaning.specs.declared.run.PlacedInvariant.{PlacedInvariant}
 use Rattle.sym_weight.specs.declared.cost.Cost.{Cost}
+use Rattle.sym_weight.specs.declared.statements.Weigher.{Weigher}
 use Rattle.sym_weight.specs.Sum.{Sum}
 
 -- a sum beyond the type's end counts as its end
@@ -36,3 +40,15 @@ placed_view x = record { at_loop = x.at_loop; spot = x.spot; test = expr_view x.
 
 abbrev pub placed_views : List PlacedInvariant → List Placed
 placed_views xs = map placed_view xs
+
+-- weights by place
+abbrev pub weight_at : BTreeMap (ℕ × ℕ) ℕ → Spot → ℕ
+weight_at m spot = unwrap_or (get_by (λ k. ordering_then (nat_cmp spot.line k.0) (nat_cmp spot.column k.1)) m) 0
+
+-- the weights of the invariants of loops and of statements, by place
+abbrev pub placed_by : BTreeMap (ℕ × ℕ) ℕ → BTreeMap (ℕ × ℕ) ℕ → Bool → Spot → ℕ
+placed_by loops statements true spot = weight_at loops spot
+placed_by loops statements false spot = weight_at statements spot
+
+abbrev pub placed_of : Weigher → Bool → Spot → ℕ
+placed_of w = placed_by w.at_loops.now w.at_statements.now
