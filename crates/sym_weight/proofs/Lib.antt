@@ -1,3 +1,4 @@
 pub mod Costs
 pub mod Passing
+pub mod Relating
 pub mod Viewed

@@ -3,3 +3,4 @@ pub mod Sum
 pub mod Weight
 pub mod Looping
 pub mod Tally
+pub mod Totals
