@@ -1,4 +1,9 @@
 pub mod Costs
+pub mod Light
+pub mod Owning
 pub mod Passing
 pub mod Relating
+pub mod Rounds
+pub mod Tallied
+pub mod Unfolding
 pub mod Viewed

@@ -1,5 +1,5 @@
 -- What a function's body weighs and draws by itself, and which functions it calls, as often as it does.
-use Rattle.std.specs.Prelude.{ℕ, ◌+◌, ◌-◌, ◌^◌, min, Bool, true, false, List, [], ◌∷◌, ◌++◌, map}
+use Rattle.std.specs.Prelude.{ℕ, ◌+◌, ◌-◌, ◌^◌, min, Bool, true, false, List, [], ◌∷◌, ◌++◌, Some, map}
 use Rattle.std.specs.BTreeMap.{BTreeMap, get_by}
 use Rattle.std.specs.Option.{unwrap_or}
 use Rattle.std.specs.Ordering.{nat_cmp, ordering_then}
@@ -9,8 +9,9 @@ use Rattle.c_core.specs.declared.number.Spot.{Spot}
 use Rattle.c_meaning.specs.Duties.{Placed}
 use Rattle.c_meaning.specs.declared.run.PlacedInvariant.{PlacedInvariant}
 use Rattle.sym_weight.specs.declared.cost.Cost.{Cost}
+use Rattle.sym_weight.specs.declared.cost.Tally as rust
 use Rattle.sym_weight.specs.declared.statements.Weigher.{Weigher}
-use Rattle.sym_weight.specs.Sum.{Sum}
+use Rattle.sym_weight.specs.Sum.{Sum, function_of}
 
 -- a sum beyond the type's end counts as its end
 abbrev pub capped : ℕ → ℕ
@@ -34,6 +35,16 @@ tallying = record {
   part = λ weight bits. record { cost = cost weight bits; calls = [] };
   body = λ f. record { cost = cost 0 0; calls = f ∷ [] };
 }
+
+abbrev pub tally_view : rust.Tally → Tally
+tally_view t = record { cost = t.cost; calls = t.calls }
+
+abbrev pub tallies_view : List rust.Tally → List Tally
+tallies_view ts = map tally_view ts
+
+-- of each function of the program
+abbrev pub all_tallies : Program → (Bool → Spot → ℕ) → List Tally
+all_tallies p at_place = map (λ f. function_of p tallying at_place (Some f)) p.functions
 
 abbrev pub placed_view : PlacedInvariant → Placed
 placed_view x = record { at_loop = x.at_loop; spot = x.spot; test = expr_view x.test }

@@ -1,6 +1,8 @@
 ghost use Rattle.std.specs.Prelude.{◌≡◌};
 ghost use Rattle.sym_weight.specs.Tally as tally;
 
+use wv_base::Seq;
+
 /// A weight and a number of drawn bits; what is beyond the type's end counts as its end.
 #[derive(Clone, Copy, Debug, PartialEq, Eq)]
 pub struct Cost {
@@ -37,4 +39,11 @@ pub fn plus(a: Cost, b: Cost) -> Cost
         weight: a.weight.saturating_add(b.weight),
         bits: a.bits.saturating_add(b.bits),
     }
+}
+
+/// What a function's body weighs and draws by itself, and the functions that it calls, each as often as it does.
+#[derive(Drop)]
+pub struct Tally {
+    pub cost: Cost,
+    pub calls: Seq<u32>,
 }

@@ -7,3 +7,4 @@ mod expressions;
 mod placed;
 mod statements;
 mod table;
+mod totals;
