@@ -1,7 +1,10 @@
 pub mod Costs
+pub mod Deciding
 pub mod Light
+pub mod Listing
 pub mod Owning
 pub mod Passing
+pub mod Placing
 pub mod Relating
 pub mod Rounds
 pub mod Tallied

@@ -1,5 +1,5 @@
 -- The functions of a Rust program are those of its view.
-use Rattle.std.proofs.Common.{◌≡◌, ℕ, zero, suc, List, [], ◌∷◌, slice_get, refl}
+use Rattle.std.proofs.Common.{◌≡◌, ℕ, zero, suc, List, [], ◌∷◌, length, slice_get, refl, ap}
 use Rattle.std.specs.Option.{option_map}
 use Rattle.c_core.specs.TreeView.{function_view, functions_view}
 use Rattle.c_core.specs.declared.tree.Function.{Function}
@@ -8,3 +8,7 @@ pub functions_found : (fs : List Function) (i : ℕ) → option_map function_vie
 functions_found [] i = refl
 functions_found (f ∷ fs) zero = refl
 functions_found (f ∷ fs) (suc i) = functions_found fs i
+
+pub functions_counted : (fs : List Function) → length (functions_view fs) ≡ length fs
+functions_counted [] = refl
+functions_counted (f ∷ fs) = ap (λ n. suc n) (functions_counted fs)

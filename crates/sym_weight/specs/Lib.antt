@@ -4,3 +4,4 @@ pub mod Weight
 pub mod Looping
 pub mod Tally
 pub mod Totals
+pub mod Weighed

@@ -3,7 +3,7 @@ use Rattle.std.specs.Prelude.{ℕ, ◌+◌, ◌-◌, ◌^◌, min, Bool, true, f
 use Rattle.std.specs.BTreeMap.{BTreeMap, get_by}
 use Rattle.std.specs.Option.{unwrap_or}
 use Rattle.std.specs.Ordering.{nat_cmp, ordering_then}
-use Rattle.c_core.specs.Tree.{Exp, Program}
+use Rattle.c_core.specs.Tree.{Function, Program}
 use Rattle.c_core.specs.View.{expr_view}
 use Rattle.c_core.specs.declared.number.Spot.{Spot}
 use Rattle.c_meaning.specs.Duties.{Placed}
@@ -42,9 +42,12 @@ tally_view t = record { cost = t.cost; calls = t.calls }
 abbrev pub tallies_view : List rust.Tally → List Tally
 tallies_view ts = map tally_view ts
 
--- of each function of the program
+-- of each of these functions
+abbrev pub tallies_of : Program → (Bool → Spot → ℕ) → List Function → List Tally
+tallies_of p at_place fs = map (λ f. function_of p tallying at_place (Some f)) fs
+
 abbrev pub all_tallies : Program → (Bool → Spot → ℕ) → List Tally
-all_tallies p at_place = map (λ f. function_of p tallying at_place (Some f)) p.functions
+all_tallies p at_place = tallies_of p at_place p.functions
 
 abbrev pub placed_view : PlacedInvariant → Placed
 placed_view x = record { at_loop = x.at_loop; spot = x.spot; test = expr_view x.test }

@@ -1,10 +1,15 @@
-//! How much a program weighs as a circuit.
+//! How much a program weighs as a circuit, and the test that refuses it before any circuit is made.
 #![tactic(auto)]
 
 mod changed;
 mod cost;
 mod expressions;
+mod functions;
+mod limits;
 mod placed;
 mod statements;
 mod table;
 mod totals;
+
+pub use limits::weigh;
+pub use totals::Total;

@@ -203,8 +203,9 @@ fn statement(
     Ok(plus(own, inner))
 }
 
+/// What a statement of this form weighs, at this place, in a function that returns this.
 #[cycle(statement)]
-fn form(
+pub fn form(
     weigher: Weigher,
     calls: &mut Vec<u32>,
     returns: Option<IntType>,
