@@ -1,7 +1,7 @@
 pub mod Table
 pub mod Sum
 pub mod Weight
-pub mod Looping
+pub mod Views
 pub mod Tally
 pub mod Totals
 pub mod Weighed

@@ -49,12 +49,6 @@ tallies_of p at_place fs = map (λ f. function_of p tallying at_place (Some f)) 
 abbrev pub all_tallies : Program → (Bool → Spot → ℕ) → List Tally
 all_tallies p at_place = tallies_of p at_place p.functions
 
-abbrev pub placed_view : PlacedInvariant → Placed
-placed_view x = record { at_loop = x.at_loop; spot = x.spot; test = expr_view x.test }
-
-abbrev pub placed_views : List PlacedInvariant → List Placed
-placed_views xs = map placed_view xs
-
 -- weights by place
 abbrev pub weight_at : BTreeMap (ℕ × ℕ) ℕ → Spot → ℕ
 weight_at m spot = unwrap_or (get_by (λ k. ordering_then (nat_cmp spot.line k.0) (nat_cmp spot.column k.1)) m) 0

@@ -1,7 +1,6 @@
 //! How much a program weighs as a circuit, and the test that refuses it before any circuit is made.
 #![tactic(auto)]
 
-mod changed;
 mod cost;
 mod expressions;
 mod functions;

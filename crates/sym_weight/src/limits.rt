@@ -1,7 +1,8 @@
 // The test that refuses a program before any circuit is made.
 ghost use Rattle.std.specs.Prelude.{◌≡◌, suc, min, length, IfOk};
 ghost use Rattle.c_core.specs.View.{program_view};
-ghost use Rattle.sym_weight.specs.Tally.{all_tallies, placed_of, placed_views};
+ghost use Rattle.sym_weight.specs.Tally.{all_tallies, placed_of};
+ghost use Rattle.sym_weight.specs.Views.{placed_views};
 ghost use Rattle.sym_weight.specs.Totals as totals;
 ghost use Rattle.sym_weight.specs.Weighed.{Weighs, judged};
 

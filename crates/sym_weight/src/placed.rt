@@ -5,7 +5,8 @@ ghost use Rattle.c_core.specs.declared.number.Spot.{Spot};
 ghost use Rattle.c_meaning.specs.Havoc.{stands};
 ghost use Rattle.c_meaning.specs.Objects.{same_spot};
 ghost use Rattle.sym_weight.specs.Tally as tally;
-ghost use Rattle.sym_weight.specs.Tally.{capped, placed_view, placed_views};
+ghost use Rattle.sym_weight.specs.Tally.{capped};
+ghost use Rattle.sym_weight.specs.Views.{placed_view, placed_views};
 ghost use Rattle.sym_weight.specs.Weight as weight;
 
 use crate::expressions::expression;

@@ -1,16 +1,17 @@
 // What statements weigh and draw, and the functions that they call.
 ghost use Rattle.std.specs.Prelude.{◌≡◌, ◌++◌, IfOk, OnOk};
+ghost use Rattle.c_calls.specs.Loops.{changed_if, loop_of};
 ghost use Rattle.c_core.specs.View.{expr_view, expr_view_if, exprs_view, first_view, form_view, init_view, names_view, program_view, stmt_view, stmts_view};
-ghost use Rattle.sym_weight.specs.Looping.{changed_if, else_of, loop_of};
 ghost use Rattle.sym_weight.specs.Sum as sums;
 ghost use Rattle.sym_weight.specs.Table as table;
 ghost use Rattle.sym_weight.specs.Tally.{capped, placed_of, tallying};
+ghost use Rattle.sym_weight.specs.Views.{else_of};
 
-use crate::changed::changed;
 use crate::cost::{Cost, draws, nothing, plus, weighs};
 use crate::expressions::expression;
 use crate::placed::{Weights, weight_at};
 use crate::table::{bits_of_object, returned, stored, tested, type_of, type_of_object};
+use c_calls::changed_in;
 use c_core::{Declared, Expr, First, Form, Init, IntType, Program, Spot, Stmt};
 use std::alloc::Global;
 use wv_base::OutOfMemory;
@@ -155,7 +156,7 @@ fn bits_of_objects(program: &Program, objects: &[u32]) -> u64
 fn head(weigher: Weigher, spot: Spot, form: &Form) -> Result<Cost, OutOfMemory>
     ensures { IfOk result (λ c. c ≡ (sums.head (program_view weigher.entry.program.now) tallying (placed_of weigher.entry) spot (changed_if (program_view weigher.entry.program.now) (loop_of (form_view form.now)))).cost) }
 {
-    let objects = changed(weigher.alloc, weigher.program, form)?;
+    let objects = changed_in(weigher.alloc, weigher.program, form)?;
     let bits = bits_of_objects(weigher.program, objects.as_slice());
     let tests = 3u64.saturating_mul(weight_at(weigher.at_loops, spot));
     let draws = 4u64.saturating_mul(bits);

@@ -1,6 +1,7 @@
 use Rattle.std.proofs.Common.{true, false, subst, ap, sym, ◌∙◌}
 use Rattle.c_core.specs.View.{program_view}
-use Rattle.sym_weight.specs.Tally.{capped, placed_by, placed_views}
+use Rattle.sym_weight.specs.Tally.{capped, placed_by}
+use Rattle.sym_weight.specs.Views.{placed_views}
 use Rattle.sym_weight.specs.Weight.{placed_weight}
 use Rattle.sym_weight.specs.Weighed.{Weighs}
 use Rattle.sym_weight.proofs.Deciding.{decided, depth, maps_are_weights}

@@ -1,6 +1,7 @@
 use Rattle.std.proofs.Common.{◌≡◌, ◌+◌, suc, ◌∷◌, drop, drop-cons, ap, sym, ◌∙◌, arith}
 use Rattle.c_core.specs.View.{program_view}
-use Rattle.sym_weight.specs.Tally.{placed_view, placed_views, weight_at}
+use Rattle.sym_weight.specs.Tally.{weight_at}
+use Rattle.sym_weight.specs.Views.{placed_view, placed_views}
 use Rattle.sym_weight.proofs.Placing.{placed_on, settled_on}
 use Rattle.sym_weight.proofs.placed.placed_weights.Goals as goal
 

@@ -1,7 +1,8 @@
 use Rattle.std.proofs.Common.{◌≡◌, ◌+◌, drop}
 use Rattle.c_core.specs.View.{program_view}
 use Rattle.c_core.specs.declared.number.Spot.{Spot}
-use Rattle.sym_weight.specs.Tally.{capped, placed_views, weight_at}
+use Rattle.sym_weight.specs.Tally.{capped, weight_at}
+use Rattle.sym_weight.specs.Views.{placed_views}
 use Rattle.sym_weight.specs.Weight.{placed_weight}
 use Rattle.sym_weight.proofs.placed.placed_weights.Given as goal
 

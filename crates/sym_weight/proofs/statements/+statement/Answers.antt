@@ -1,6 +1,7 @@
 use Rattle.std.proofs.Common.{◌≡◌, ◌++◌, Option, None, Some, refl, ap, sym, ◌∙◌}
 use Rattle.std.specs.declared.alloc.Global.{Global}
 use Rattle.std.specs.declared.boxed.Box.{Box}
+use Rattle.c_calls.specs.Loops.{changed_if, loop_of}
 use Rattle.c_core.specs.Tree.{Block, DoWhile, For, If, While}
 use Rattle.c_core.specs.View.{expr_view, expr_view_if, first_view, form_view, program_view, stmt_view, stmts_view}
 use Rattle.c_core.specs.declared.tree.Expr.{Expr}
@@ -9,9 +10,9 @@ use Rattle.c_core.specs.declared.tree.Stmt.{Stmt}
 use Rattle.c_core.proofs.View.{view_of_block}
 use Rattle.c_meaning.specs.Changed.{changed_by}
 use Rattle.c_meaning.specs.Meaning.{WhileLoop, DoLoop, ForLoop}
-use Rattle.sym_weight.specs.Looping.{changed_if, else_of, loop_of}
 use Rattle.sym_weight.specs.Sum.{control, control_if, expression_if, first, form, head, otherwise, statement, statements}
 use Rattle.sym_weight.specs.Tally.{cost, placed_of, plus, tallying}
+use Rattle.sym_weight.specs.Views.{else_of}
 use Rattle.sym_weight.proofs.Costs.{statements_alone, three, five}
 use Rattle.sym_weight.proofs.statements.+statement.Goals as goal
 
