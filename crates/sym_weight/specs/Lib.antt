@@ -5,3 +5,4 @@ pub mod Views
 pub mod Tally
 pub mod Totals
 pub mod Weighed
+pub mod Laws

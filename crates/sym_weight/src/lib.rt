@@ -4,11 +4,13 @@
 mod cost;
 mod expressions;
 mod functions;
+mod laws;
 mod limits;
 mod placed;
 mod statements;
 mod table;
 mod totals;
 
+pub use laws::{calls_outweigh, draws_are_light};
 pub use limits::weigh;
 pub use totals::Total;
