@@ -1,0 +1,55 @@
+-- Sums that stop at the end of a type.
+use Rattle.std.proofs.Common.{◌≡◌, ℕ, ◌+◌, ◌*◌, refl, ap, sym, ◌∙◌, Bool, Option, arith}
+use Rattle.c_core.specs.Tree.{Exps, NoExp, MoreExp, Names, NoName, MoreName, Stms, NoStm, MoreStm, Program}
+use Rattle.c_core.specs.declared.number.IntType.{IntType}
+use Rattle.c_core.specs.declared.number.Spot.{Spot}
+use Rattle.sym_weight.specs.declared.cost.Cost.{Cost}
+use Rattle.sym_weight.specs.Sum.{arguments, initials, declared, statements}
+use Rattle.sym_weight.specs.Tally.{capped, cost, plus, tallying}
+
+pub capped_twice : (a : ℕ) → capped (capped a) ≡ capped a
+capped_twice a = omega arith
+
+pub capped_sum : (a b c : ℕ) → capped (capped (a + b) + c) ≡ capped (a + (b + c))
+capped_sum a b c = omega arith
+
+-- three times one sum and four times another
+pub capped_head : (a b : ℕ) → capped (capped (3 * a) + capped (4 * capped b)) ≡ capped (3 * a + 4 * b)
+capped_head a b = omega arith
+
+capped_after_zero : (a : ℕ) → capped (0 + capped a) ≡ capped a
+capped_after_zero a = omega arith
+
+-- nothing before a sum leaves it as it is
+nothing_before : (a b : Cost) → plus (cost 0 0) (plus a b) ≡ plus a b
+nothing_before a b =
+    ap (λ w. record { weight = w; bits = capped (0 + capped (a.bits + b.bits)) }) (capped_after_zero (a.weight + b.weight))
+    ∙ ap (λ w. record { weight = capped (a.weight + b.weight); bits = w }) (capped_after_zero (a.bits + b.bits))
+
+pub arguments_alone : (p : Program) (es : Exps) → plus (cost 0 0) (arguments p tallying es).cost ≡ (arguments p tallying es).cost
+arguments_alone p NoExp = refl
+arguments_alone p (MoreExp e es) = nothing_before _ _
+
+pub initials_alone : (p : Program) (o : ℕ) (es : Exps) → plus (cost 0 0) (initials p tallying o es).cost ≡ (initials p tallying o es).cost
+initials_alone p o NoExp = refl
+initials_alone p o (MoreExp e es) = nothing_before _ _
+
+pub declared_alone : (p : Program) (ns : Names) → plus (cost 0 0) (declared p tallying ns).cost ≡ (declared p tallying ns).cost
+declared_alone p NoName = refl
+declared_alone p (MoreName spot o i ns) = nothing_before _ _
+
+pub statements_alone : (p : Program) (at_place : Bool → Spot → ℕ) (result : Option IntType) (b : Stms)
+    → plus (cost 0 0) (statements p tallying at_place result b).cost ≡ (statements p tallying at_place result b).cost
+statements_alone p at_place result NoStm = refl
+statements_alone p at_place result (MoreStm s b) = nothing_before _ _
+
+-- a sum of parts, each of which is known
+pub three : (X Y Z x y z yz r whole : Cost) → x ≡ X → y ≡ Y → z ≡ Z → yz ≡ plus y z → r ≡ plus x yz → whole ≡ plus X (plus Y Z) → r ≡ whole
+three X Y Z x y z yz r whole a b c d e w =
+    e ∙ ap (λ t. plus x t) d ∙ ap (λ t. plus t (plus y z)) a ∙ ap (λ t. plus X (plus t z)) b ∙ ap (λ t. plus X (plus Y t)) c ∙ sym w
+
+pub five : (V W X Y Z v w x y z yz xyz wxyz r whole : Cost) → v ≡ V → w ≡ W → x ≡ X → y ≡ Y → z ≡ Z → yz ≡ plus y z → xyz ≡ plus x yz → wxyz ≡ plus w xyz → r ≡ plus v wxyz
+    → whole ≡ plus V (plus W (plus X (plus Y Z))) → r ≡ whole
+five V W X Y Z v w x y z yz xyz wxyz r whole a b c d e f g h i k =
+    i ∙ ap (λ t. plus v t) h ∙ ap (λ t. plus t (plus w xyz)) a ∙ ap (λ t. plus V (plus t xyz)) b
+    ∙ ap (λ t. plus V (plus W t)) (three X Y Z x y z yz xyz (plus X (plus Y Z)) c d e f g refl) ∙ sym k

@@ -1,0 +1,12 @@
+pub mod Costs
+pub mod Deciding
+pub mod Light
+pub mod Listing
+pub mod Owning
+pub mod Passing
+pub mod Placing
+pub mod Relating
+pub mod Rounds
+pub mod Tallied
+pub mod Unfolding
+pub mod Viewed

@@ -1,0 +1,103 @@
+use Rattle.std.proofs.Common.{◌≡◌, ◌++◌, Option, None, Some, refl, ap, sym, ◌∙◌}
+use Rattle.std.specs.declared.alloc.Global.{Global}
+use Rattle.std.specs.declared.boxed.Box.{Box}
+use Rattle.c_calls.specs.Loops.{changed_if, loop_of}
+use Rattle.c_core.specs.Tree.{Block, DoWhile, For, If, While}
+use Rattle.c_core.specs.View.{expr_view, expr_view_if, first_view, form_view, program_view, stmt_view, stmts_view}
+use Rattle.c_core.specs.declared.tree.Expr.{Expr}
+use Rattle.c_core.specs.declared.tree.Form as tree
+use Rattle.c_core.specs.declared.tree.Stmt.{Stmt}
+use Rattle.c_core.proofs.View.{view_of_block}
+use Rattle.c_meaning.specs.Changed.{changed_by}
+use Rattle.c_meaning.specs.Meaning.{WhileLoop, DoLoop, ForLoop}
+use Rattle.sym_weight.specs.Sum.{control, control_if, expression_if, first, form, head, otherwise, statement, statements}
+use Rattle.sym_weight.specs.Tally.{cost, placed_of, plus, tallying}
+use Rattle.sym_weight.specs.Views.{else_of}
+use Rattle.sym_weight.proofs.Costs.{statements_alone, three, five}
+use Rattle.sym_weight.proofs.statements.+statement.Goals as goal
+
+view_of_if : (e : Expr) (a : Box Stmt Global) (b : Option (Box Stmt Global)) → form_view (tree.If e a b) ≡ If (expr_view e) (stmt_view a.value) (else_of b)
+view_of_if e a None = refl
+view_of_if e a (Some b) = refl
+
+pub form-returns-in_ok-inner-in-Block-clause-cost : goal.form-returns-in_ok-inner-in-Block-clause-cost
+form-returns-in_ok-inner-in-Block-clause-cost t c =
+    let p = program_view c.args.weigher.program.now in
+    let e : form_view c.args.form.now ≡ Block (stmts_view c.in-Block.body) = ap form_view c.in-Block.is ∙ view_of_block c.in-Block.body in
+    c.in_ok-inner-in-Block.ensures.cost
+    ∙ ap (λ ss. (statements p tallying (placed_of c.args.weigher) c.args.returns (stmts_view ss)).cost) c.as_slice-in-Block.ensures
+    ∙ sym (ap (λ f. (form p tallying (placed_of c.args.weigher) c.args.returns c.args.spot f).cost) e)
+
+pub form-returns-in_ok-inner-in-Block-clause-calls : goal.form-returns-in_ok-inner-in-Block-clause-calls
+form-returns-in_ok-inner-in-Block-clause-calls t c =
+    let p = program_view c.args.weigher.program.now in
+    let e : form_view c.args.form.now ≡ Block (stmts_view c.in-Block.body) = ap form_view c.in-Block.is ∙ view_of_block c.in-Block.body in
+    c.in_ok-inner-in-Block.ensures.calls
+    ∙ ap (λ ss. c.args.calls.now.items ++ (statements p tallying (placed_of c.args.weigher) c.args.returns (stmts_view ss)).calls) c.as_slice-in-Block.ensures
+    ∙ sym (ap (λ f. c.args.calls.now.items ++ (form p tallying (placed_of c.args.weigher) c.args.returns c.args.spot f).calls) e)
+
+pub form-returns-in_ok-no-in-If-clause-cost : goal.form-returns-in_ok-no-in-If-clause-cost
+form-returns-in_ok-no-in-If-clause-cost t c =
+    let p = program_view c.args.weigher.program.now in
+    let e : form_view c.args.form.now ≡ If (expr_view c.in-If.test) (stmt_view c.in-If.yes.value) (else_of c.in-If.no) = ap form_view c.in-If.is ∙ view_of_if c.in-If.test c.in-If.yes c.in-If.no in
+    three (control p tallying (expr_view c.in-If.test)).cost
+    (statement p tallying (placed_of c.args.weigher) c.args.returns (stmt_view c.in-If.yes.value)).cost
+    (otherwise p tallying (placed_of c.args.weigher) c.args.returns (else_of c.in-If.no)).cost
+    c.in_ok-test-in-If.test c.in_ok-yes-in-If.yes c.in_ok-no-in-If.no _ _ _
+    c.in_ok-test-in-If.ensures.cost
+    (c.in_ok-yes-in-If.ensures.cost ∙ ap (λ s. (statement p tallying (placed_of c.args.weigher) c.args.returns (stmt_view s)).cost) c.deref.ensures)
+    c.in_ok-no-in-If.ensures.cost c.plus.ensures c.plus-in-If.ensures
+    (ap (λ f. (form p tallying (placed_of c.args.weigher) c.args.returns c.args.spot f).cost) e)
+
+pub form-returns-in_ok-body-in-While-clause-cost : goal.form-returns-in_ok-body-in-While-clause-cost
+form-returns-in_ok-body-in-While-clause-cost t c =
+    let p = program_view c.args.weigher.program.now in
+    let e : form_view c.args.form.now ≡ While (expr_view c.in-While.test) (stmt_view c.in-While.body.value) = ap form_view c.in-While.is in
+    three (head p tallying (placed_of c.args.weigher) c.args.spot (changed_by p (WhileLoop (expr_view c.in-While.test) (stmt_view c.in-While.body.value)))).cost
+    (control p tallying (expr_view c.in-While.test)).cost
+    (statement p tallying (placed_of c.args.weigher) c.args.returns (stmt_view c.in-While.body.value)).cost
+    c.in_ok-head-in-While.head c.in_ok-test-in-While.test c.in_ok-body-in-While.body _ _ _
+    (c.in_ok-head-in-While.ensures ∙ ap (λ f. (head p tallying (placed_of c.args.weigher) c.args.spot (changed_if p (loop_of f))).cost) e)
+    c.in_ok-test-in-While.ensures.cost
+    (c.in_ok-body-in-While.ensures.cost ∙ ap (λ s. (statement p tallying (placed_of c.args.weigher) c.args.returns (stmt_view s)).cost) c.deref-in-While.ensures)
+    c.plus-in-While.ensures c.plus-in-While-2.ensures
+    (ap (λ f. (form p tallying (placed_of c.args.weigher) c.args.returns c.args.spot f).cost) e)
+
+pub form-returns-in_ok-test-in-Do-clause-cost : goal.form-returns-in_ok-test-in-Do-clause-cost
+form-returns-in_ok-test-in-Do-clause-cost t c =
+    let p = program_view c.args.weigher.program.now in
+    let e : form_view c.args.form.now ≡ DoWhile (stmt_view c.in-Do.body.value) (expr_view c.in-Do.test) = ap form_view c.in-Do.is in
+    three (head p tallying (placed_of c.args.weigher) c.args.spot (changed_by p (DoLoop (stmt_view c.in-Do.body.value) (expr_view c.in-Do.test)))).cost
+    (statement p tallying (placed_of c.args.weigher) c.args.returns (stmt_view c.in-Do.body.value)).cost
+    (control p tallying (expr_view c.in-Do.test)).cost
+    c.in_ok-head-in-Do.head c.in_ok-body-in-Do.body c.in_ok-test-in-Do.test _ _ _
+    (c.in_ok-head-in-Do.ensures ∙ ap (λ f. (head p tallying (placed_of c.args.weigher) c.args.spot (changed_if p (loop_of f))).cost) e)
+    (c.in_ok-body-in-Do.ensures.cost ∙ ap (λ s. (statement p tallying (placed_of c.args.weigher) c.args.returns (stmt_view s)).cost) c.deref-in-Do.ensures)
+    c.in_ok-test-in-Do.ensures.cost
+    c.plus-in-Do.ensures c.plus-in-Do-2.ensures
+    (ap (λ f. (form p tallying (placed_of c.args.weigher) c.args.returns c.args.spot f).cost) e)
+
+pub form-returns-in_ok-body-in-For-clause-cost : goal.form-returns-in_ok-body-in-For-clause-cost
+form-returns-in_ok-body-in-For-clause-cost t c =
+    let p = program_view c.args.weigher.program.now in
+    let e : form_view c.args.form.now ≡ For (first_view c.in-For.start) (expr_view_if c.in-For.test) (expr_view_if c.in-For.step) (stmt_view c.in-For.body.value) = ap form_view c.in-For.is in
+    five (first p tallying (first_view c.in-For.start)).cost
+    (head p tallying (placed_of c.args.weigher) c.args.spot (changed_by p (ForLoop (expr_view_if c.in-For.test) (expr_view_if c.in-For.step) (stmt_view c.in-For.body.value)))).cost
+    (control_if p tallying (expr_view_if c.in-For.test)).cost
+    (expression_if p tallying (expr_view_if c.in-For.step)).cost
+    (statement p tallying (placed_of c.args.weigher) c.args.returns (stmt_view c.in-For.body.value)).cost
+    c.in_ok-start-in-For.start c.in_ok-head-in-For.head c.in_ok-test-in-For.test c.in_ok-step-in-For.step c.in_ok-body-in-For.body _ _ _ _ _
+    c.in_ok-start-in-For.ensures.cost
+    (c.in_ok-head-in-For.ensures ∙ ap (λ f. (head p tallying (placed_of c.args.weigher) c.args.spot (changed_if p (loop_of f))).cost) e)
+    c.in_ok-test-in-For.ensures.cost c.in_ok-step-in-For.ensures.cost
+    (c.in_ok-body-in-For.ensures.cost ∙ ap (λ s. (statement p tallying (placed_of c.args.weigher) c.args.returns (stmt_view s)).cost) c.deref-in-For.ensures)
+    c.plus-in-For.ensures c.plus-in-For-2.ensures c.plus-in-For-3.ensures c.plus-in-For-4.ensures
+    (ap (λ f. (form p tallying (placed_of c.args.weigher) c.args.returns c.args.spot f).cost) e)
+
+pub statements-loop-s-init : goal.statements-loop-s-init
+statements-loop-s-init t c = record {
+  settled = ap (λ s. plus s (cost 0 0)) c.nothing-sum.ensures ∙ sym c.nothing-sum.ensures;
+  value = ap (λ s. plus s (statements (program_view c.args.weigher.program.now) tallying (placed_of c.args.weigher) c.args.returns (stmts_view c.args.body.now)).cost) c.nothing-sum.ensures
+      ∙ statements_alone (program_view c.args.weigher.program.now) (placed_of c.args.weigher) c.args.returns (stmts_view c.args.body.now);
+  calls = refl;
+}

@@ -1,0 +1,15 @@
+use Rattle.std.proofs.Common.{◌≡◌, ◌++◌, drop}
+use Rattle.c_core.specs.View.{program_view, stmts_view}
+use Rattle.sym_weight.specs.Sum.{statements}
+use Rattle.sym_weight.specs.Tally.{cost, placed_of, plus, tallying}
+use Rattle.sym_weight.proofs.statements.+statement.Given as goal
+
+-- with what is left it becomes what the whole gives
+abbrev pub invariant-statements-loop-s : goal.invariant-statements-loop-s
+invariant-statements-loop-s l = record {
+  settled : plus l.sum (cost 0 0) ≡ l.sum;
+  value : plus l.sum (statements (program_view l.weigher.program.now) tallying (placed_of l.weigher) l.returns (stmts_view (drop l.s-index l.body))).cost
+      ≡ (statements (program_view l.weigher.program.now) tallying (placed_of l.weigher) l.returns (stmts_view l.body)).cost;
+  calls : l.calls.items ++ (statements (program_view l.weigher.program.now) tallying (placed_of l.weigher) l.returns (stmts_view (drop l.s-index l.body))).calls
+      ≡ l.initial.calls.items ++ (statements (program_view l.weigher.program.now) tallying (placed_of l.weigher) l.returns (stmts_view l.body)).calls;
+}

@@ -1,0 +1,16 @@
+//! How much a program weighs as a circuit, and the test that refuses it before any circuit is made.
+#![tactic(auto)]
+
+mod cost;
+mod expressions;
+mod functions;
+mod laws;
+mod limits;
+mod placed;
+mod statements;
+mod table;
+mod totals;
+
+pub use laws::{calls_outweigh, draws_are_light};
+pub use limits::weigh;
+pub use totals::Total;
