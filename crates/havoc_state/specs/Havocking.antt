@@ -13,11 +13,11 @@ use Rattle.c_core.specs.Operators.{type_for, op_of_step, is_prefix}
 use Rattle.c_meaning.specs.declared.run.DrawKind.TheVariants.{Input, Cell as CellDraw, Havoc as HavocDraw}
 use Rattle.c_meaning.specs.declared.run.DutyKind.TheVariants.{Entry, Location}
 use Rattle.c_meaning.specs.declared.run.HavocEnd.{HavocEnd}
-use Rattle.c_meaning.specs.declared.run.HavocEnd.TheVariants.{Passed, Dismissed, Failed}
+use Rattle.c_meaning.specs.declared.run.HavocEnd.TheVariants.{Passed}
 use Rattle.c_meaning.specs.declared.run.Duty.{Duty}
 use Rattle.c_meaning.specs.Cells.{Key, Cell, put, cells_from, read}
 use Rattle.c_meaning.specs.Changed.{changed_by}
-use Rattle.c_meaning.specs.Duties.{Placed, number_among}
+use Rattle.c_meaning.specs.Duties.{Placed}
 use Rattle.c_meaning.specs.Meaning.{Use, Used, Unused, Where, Site, Meaning, Calls, Loop, WhileLoop, DoLoop, ForLoop}
 use Rattle.c_meaning.specs.Acts.{Res, Go, Stop, bind}
 use Rattle.c_meaning.specs.Acts as acts
@@ -29,6 +29,7 @@ use Rattle.c_meaning.specs.Objects.{type_of, type_of_object, size_of_object}
 use Rattle.c_meaning.specs.Eval.{eval, target, place, tested, convert_to, operate, store, called, node}
 use Rattle.c_meaning.specs.Exec.{call_of, with_params, run_in, run_main, full, initial, declare, exec, form, otherwise, execs, draw_cells, initials, while_turn, do_turn, for_turn, full_if, control, turn}
 use Rattle.run_state.specs.Interpreting.{other_pairs}
+use Rattle.run_state.specs.declared.machine.Flow.{Flow}
 use Rattle.havoc_state.specs.declared.machine.Machine.{Machine}
 use Rattle.havoc_state.specs.declared.machine.Ending.{Ending}
 use Rattle.havoc_state.specs.declared.machine.Ending.TheVariants.{Passes as EndPasses, Dismisses as EndDismisses, Fails as EndFails}
@@ -49,6 +50,12 @@ abbrev pub Gives : {A B T : Type 0} → (A → B) → Result A Halt → T → Re
 Gives view (Ok a) s r = r ≡ Go (view a) s
 Gives view (Err (Ends e)) s r = r ≡ Stop (stopped_of e) s
 Gives view (Err NoMemory) s r = Unit {0}
+
+-- the end of a run that came to its end, or halted
+abbrev pub EndsAs : List Duty → Result Flow Halt → HavocEnd → Type 0
+EndsAs ds (Ok f) e = e ≡ Passed
+EndsAs ds (Err (Ends s)) e = e ≡ h.end_among ds (stopped_of s)
+EndsAs ds (Err NoMemory) e = ⊥
 
 -- an invariant stands at a place and doesn't hold
 abbrev pub broken : Program → Bool → Spot → Placed → List Cell → Bool
@@ -260,6 +267,10 @@ module _ (p : Program) (I : List Placed) where
 
   abbrev pub with_arguments : ℕ → Function → List (ℤ × IntType) → Left → Res Stopped Left acts.Flow
   with_arguments n f vs s = with_params p havocked f.params vs (run_in p havocked n f) s
+
+  -- what is declared in a call ends with it
+  abbrev pub scoped_with : ℕ → Function → List (ℤ × IntType) → Left → Res Stopped Left acts.Flow
+  scoped_with n f vs s = acts.scoped Stopped Left cells_left with_cells_left (with_arguments n f vs) s
 
   abbrev pub called_with : ℕ → Site → Function → List (ℤ × IntType) → Left → Res Stopped Left ℤ
   called_with n site f vs s = havocked.called site (with_params p havocked f.params vs (run_in p havocked n f)) s

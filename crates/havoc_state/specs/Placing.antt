@@ -1,5 +1,5 @@
 -- Placed invariants of Rust as pure ones.
-use Rattle.std.specs.Prelude.{List, [], ◌∷◌}
+use Rattle.std.specs.Prelude.{List, map}
 use Rattle.c_core.specs.View.{expr_view}
 use Rattle.c_meaning.specs.Duties.{Placed}
 use Rattle.c_meaning.specs.declared.run.PlacedInvariant.{PlacedInvariant}
@@ -8,5 +8,4 @@ abbrev pub placed : PlacedInvariant → Placed
 placed x = record { at_loop = x.at_loop; spot = x.spot; test = expr_view x.test }
 
 abbrev pub placed_view : List PlacedInvariant → List Placed
-placed_view [] = []
-placed_view (x ∷ xs) = placed x ∷ placed_view xs
+placed_view xs = map placed xs

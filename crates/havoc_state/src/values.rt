@@ -19,7 +19,7 @@ ghost use Rattle.havoc_state.specs.Havocking.{Gives, left_of, havocked, changed,
 
 use crate::machine::{Ending, Halt, Machine};
 use c_core::{
-    BinOp, DataModel, Done, IntType, Program, Property, Spot, StepOp, UnOp, apply, apply_one,
+    BinOp, DataModel, Done, IntType, Program, Property, StepOp, UnOp, apply, apply_one,
     common, convert, promote,
 };
 use c_meaning::{Duty, DutyKind};
@@ -106,27 +106,25 @@ fn finish(program: &Program, at: Around, done: Done) -> Result<i128, Halt>
     }
 }
 
-/// A binary operator over values of two types, for the expression at a place.
+/// A binary operator over values of two types.
 pub fn operate(
     program: &Program,
     at: Around,
-    spot: Spot,
     op: BinOp,
     left: Typed,
     right: Typed,
 ) -> Result<i128, Halt>
-    ensures { (s : Left) → Gives same result s (operate_of (program_view program.now) (havocked (program_view program.now) []) (where_of at) spot op left.ty left.value right.ty right.value s) }
+    ensures { (s : Left) → Gives same result s (operate_of (program_view program.now) (havocked (program_view program.now) []) (where_of at) at.full op left.ty left.value right.ty right.value s) }
 {
     let done = computed(program.model, op, left, right);
     let value = finish(program, at, done)?;
     Ok(value)
 }
 
-/// A unary operator over a value of a type, for the expression at a place.
+/// A unary operator over a value of a type.
 pub fn operate_one(
     program: &Program,
     at: Around,
-    spot: Spot,
     op: UnOp,
     of: Typed,
 ) -> Result<i128, Halt>
@@ -192,15 +190,14 @@ pub fn change(
     program: &Program,
     machine: &mut Machine,
     at: Around,
-    spot: Spot,
     op: BinOp,
     key: Element,
     old: Typed,
     with: Typed,
 ) -> Result<i128, Halt>
-    ensures { Gives same result (left_of machine.new) (changed (program_view program.now) [] (where_of at) spot op (key_of key) old.ty old.value with.ty with.value (left_of machine.old)) }
+    ensures { Gives same result (left_of machine.new) (changed (program_view program.now) [] (where_of at) at.full op (key_of key) old.ty old.value with.ty with.value (left_of machine.old)) }
 {
-    let value = operate(program, at, spot, op, old, with)?;
+    let value = operate(program, at, op, old, with)?;
     Ok(store(program, machine, key, old.ty, value))
 }
 
@@ -229,19 +226,18 @@ pub fn bump(
     program: &Program,
     machine: &mut Machine,
     at: Around,
-    spot: Spot,
     op: StepOp,
     key: Element,
     ty: IntType,
 ) -> Result<i128, Halt>
-    ensures { Gives same result (left_of machine.new) (bumped (program_view program.now) [] (where_of at) spot op (key_of key) ty (left_of machine.old)) }
+    ensures { Gives same result (left_of machine.new) (bumped (program_view program.now) [] (where_of at) at.full op (key_of key) ty (left_of machine.old)) }
 {
     let old = look(machine, key);
     let one = Typed {
         value: 1,
         ty: IntType::Int,
     };
-    let value = operate(program, at, spot, op_of(op), Typed { value: old, ty }, one)?;
+    let value = operate(program, at, op_of(op), Typed { value: old, ty }, one)?;
     let new = store(program, machine, key, ty, value);
     Ok(step_gives(op, new, old))
 }

@@ -1,0 +1,36 @@
+// Before the turn of a loop.
+ghost use Rattle.std.specs.Prelude.{◌≡◌, IfOk};
+ghost use Rattle.c_core.specs.View.{program_view, form_view};
+ghost use Rattle.run_state.specs.Interpreting.{same, loop_in};
+ghost use Rattle.havoc_state.specs.Placing.{placed_view};
+ghost use Rattle.havoc_state.specs.Havocking.{Gives, left_of, changed_in, opened};
+
+use c_core::{Form, Program, Spot};
+use c_meaning::{DutyKind, PlacedInvariant};
+use havoc_state::{Halt, Machine, assume, check, redraw};
+use std::alloc::Global;
+use wv_base::{OutOfMemory, Seq};
+
+// The objects that a loop changes; of a form that is no loop, none.
+fn changed(_alloc: Global, _program: &Program, _form: &Form) -> Result<Seq<u32>, OutOfMemory>
+    ensures { IfOk result (λ objects. objects ≡ changed_in (program_view _program.now) (loop_in (form_view _form.now))) }
+{
+    Err(OutOfMemory)
+}
+
+/// On arrival the invariants of the loop have to hold; what the loop changes is drawn; the run goes on where they
+/// hold again.
+pub fn open_loop(
+    program: &Program,
+    invariants: &[PlacedInvariant],
+    machine: &mut Machine,
+    at: Spot,
+    f: &Form,
+) -> Result<(), Halt>
+    ensures { Gives same result (left_of machine.new) (opened (program_view program.now) (placed_view invariants.now) at (loop_in (form_view f.now)) (left_of machine.old)) }
+{
+    check(program, invariants, machine, true, at, DutyKind::Entry)?;
+    let objects = changed(machine.alloc, program, f)?;
+    redraw(program, machine, at, objects.as_slice())?;
+    assume(program, invariants, machine, at)
+}
