@@ -1,0 +1,3 @@
+pub mod Obliged
+pub mod Ordered
+pub mod Failing
