@@ -1,7 +1,9 @@
 -- The end of a havoc run.
-use Rattle.std.proofs.Common.{◌≡◌, ◌+◌, ℕ, suc, true, false, cond, List, ◌∷◌, drop, Result, Ok, Err, sym, ap, ◌∙◌, arith}
-use Rattle.c_meaning.specs.declared.run.Draw.{Draw}
+use Rattle.std.proofs.Common.{◌≡◌, ◌+◌, ℕ, suc, true, false, cond, List, ◌∷◌, drop, Result, Ok, Err, sym, ap, ◌∙◌, arith, [], length, refl, None}
+use Rattle.c_core.specs.View.{functions_view}
+use Rattle.c_core.specs.declared.tree.Function.{Function}
 use Rattle.c_meaning.specs.declared.run.Duty.{Duty}
+use Rattle.c_meaning.specs.declared.run.DutyKind.TheVariants.{Location}
 use Rattle.c_meaning.specs.declared.run.HavocEnd.{HavocEnd}
 use Rattle.c_meaning.specs.declared.run.HavocRun.{HavocRun}
 use Rattle.c_meaning.specs.Acts.{Res, Flow}
@@ -31,3 +33,10 @@ module _ (d : Duty) (ds : List Duty) (i : ℕ) (x : Duty) (behind : drop i ds �
   further_on h =
       let e : number_among d ds ≡ i + suc (number_among d (drop (suc i) ds)) = next_duty ∙ ap (λ b. i + cond b 1 (suc (number_among d (drop (suc i) ds)))) h in
       omega (arith, e)
+
+pub as_many : (fs : List Function) → length fs ≡ length (functions_view fs)
+as_many [] = refl
+as_many (f ∷ fs) = ap suc (as_many fs)
+
+abbrev pub no_duty : Duty
+no_duty = record { spot = record { line = 0; column = 0 }; kind = Location; invariant = None }

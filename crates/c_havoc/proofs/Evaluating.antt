@@ -1,5 +1,5 @@
 -- Expressions, part by part.
-use Rattle.std.proofs.Common.{◌≡◌, ◌∙◌, ap, subst, sym, ◌&&◌, is_some, Bool, true, false, ℕ, suc, ℤ, List, [], ◌∷◌, ◌++◌, drop, Option, None, Some, Result, Ok, Err, refl}
+use Rattle.std.proofs.Common.{◌≡◌, ◌∙◌, ap, subst, sym, not, cond, ◌&&◌, is_some, Bool, true, false, ℕ, suc, ℤ, List, [], ◌∷◌, ◌++◌, drop, Option, None, Some, Result, Ok, Err, refl}
 use Rattle.std.proofs.lemmas.List.{append_assoc, append-nil}
 use Rattle.c_core.specs.Tree.{Program, Exp, Expr, Node, Cast, Logic, Call, Exps, NoExp, MoreExp}
 use Rattle.c_core.specs.View.{expr_view, exprs_view}
@@ -7,6 +7,7 @@ use Rattle.c_core.specs.declared.tree.Expr.{Expr as RustExpr}
 use Rattle.c_core.specs.declared.tree.Callee.{Callee}
 use Rattle.c_core.specs.declared.number.IntType.{IntType}
 use Rattle.c_core.specs.declared.number.Spot.{Spot}
+use Rattle.c_core.specs.Types.{is_zero}
 use Rattle.c_meaning.specs.Objects.{type_of}
 use Rattle.c_meaning.specs.Eval.{evals, is_used}
 use Rattle.c_meaning.specs.Meaning.{Use, Used, Where}
@@ -44,6 +45,15 @@ module _ (p : Program) (I : List Placed) (n : ℕ) where
       → Gives same r u (noded p I n at Used spot' None (Logic both a b) s) → Gives same r u (noded p I n at want spot ty (Logic both a b) s)
   logic_gives at want spot spot' ty true a b s u r g = g
   logic_gives at want spot spot' ty false a b s u r g = g
+
+  -- at a mark, the part that is picked
+  pub picked_first : (a b : Left → Res Stopped Left ℤ) (v : ℤ) (s u : Left) (r : Result ℤ Halt)
+      → not (is_zero v) ≡ true → Gives same r u (a s) → Gives same r u (cond (not (is_zero v)) a b s)
+  picked_first a b v s u r h g = subst (λ t. Gives same r u (cond t a b s)) (sym h) g
+
+  pub picked_second : (a b : Left → Res Stopped Left ℤ) (v : ℤ) (s u : Left) (r : Result ℤ Halt)
+      → not (is_zero v) ≡ false → Gives same r u (b s) → Gives same r u (cond (not (is_zero v)) a b s)
+  picked_second a b v s u r h g = subst (λ t. Gives same r u (cond t a b s)) (sym h) g
 
   -- arguments, listed after others
   after_first : (at : Where) (vs : List (ℤ × IntType)) (ty : IntType) (es : Exps) (r : Res Stopped Left ℤ)

@@ -2,7 +2,7 @@
 ghost use Rattle.std.specs.Prelude.{◌≡◌, IfOk};
 ghost use Rattle.c_core.specs.View.{program_view, form_view};
 ghost use Rattle.run_state.specs.Interpreting.{same, loop_in};
-ghost use Rattle.havoc_state.specs.Placing.{placed_view};
+ghost use Rattle.c_duties.specs.Obliged.{placed_view};
 ghost use Rattle.havoc_state.specs.Havocking.{Gives, left_of, changed_in, opened};
 
 use c_core::{Form, Program, Spot};

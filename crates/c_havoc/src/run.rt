@@ -4,26 +4,17 @@ ghost use Rattle.c_core.specs.View.{program_view};
 ghost use Rattle.c_meaning.specs.Duties.{Duties, number_among as number_among_of, same_duty as same_duty_of};
 ghost use Rattle.c_meaning.specs.Havoc.{Havoc, Fails, end_among};
 ghost use Rattle.run_state.specs.Interpreting.{flow_of};
-ghost use Rattle.havoc_state.specs.Placing.{placed_view};
+ghost use Rattle.c_duties.specs.Obliged.{placed_view};
 ghost use Rattle.havoc_state.specs.Havocking.{Gives, EndsAs, left_of, in_main};
 
 use crate::calls::body;
 use c_core::Program;
+use c_duties::duties;
 use c_meaning::{Duty, DutyKind, HavocEnd, HavocRun, PlacedInvariant};
 use havoc_state::{Ending, Halt, Machine, start};
 use run_state::Flow;
 use std::alloc::Global;
 use wv_base::{OutOfMemory, Seq};
-
-fn duties(
-    _alloc: Global,
-    _program: &Program,
-    _invariants: &Seq<PlacedInvariant>,
-) -> Result<Seq<Duty>, OutOfMemory>
-    ensures { IfOk result (λ duties. duties ≡ Duties (program_view _program.now) (placed_view _invariants.now)) }
-{
-    Err(OutOfMemory)
-}
 
 fn is_same(a: Duty, b: Duty) -> bool
     ensures { result ≡ same_duty_of a b }
@@ -31,7 +22,17 @@ fn is_same(a: Duty, b: Duty) -> bool
     a == b
 }
 
-// The number of a duty among duties, from 1. Numbers have 32 bits.
+// The next number. Numbers have 32 bits.
+fn next(number: u32) -> Result<u32, OutOfMemory>
+    ensures { IfOk result (λ after. after ≡ suc number) }
+{
+    match number.checked_add(1) {
+        Some(after) => Ok(after),
+        None => Err(OutOfMemory),
+    }
+}
+
+// The number of a duty among duties, from 1.
 fn number_among(duties: &[Duty], duty: Duty) -> Result<u32, OutOfMemory>
     ensures { IfOk result (λ number. number ≡ number_among_of duty duties.now) }
 {
@@ -40,7 +41,7 @@ fn number_among(duties: &[Duty], duty: Duty) -> Result<u32, OutOfMemory>
         if is_same(*other, duty) {
             return Ok(number);
         }
-        number = number.checked_add(1).ok_or(OutOfMemory)?;
+        number = next(number)?;
     }
     Ok(number)
 }

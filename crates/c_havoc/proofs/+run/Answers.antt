@@ -11,11 +11,11 @@ use Rattle.c_meaning.specs.Objects.{type_of}
 use Rattle.run_state.specs.Interpreting.{same, key_of, use_of, where_of, pairs_of, flow_of, else_part, loop_in, site_of}
 use Rattle.run_state.specs.declared.machine.Typed.{Typed}
 use Rattle.run_state.proofs.Starting.{function_at, no_function_at}
-use Rattle.havoc_state.specs.Placing.{placed_view}
+use Rattle.c_duties.specs.Obliged.{placed_view}
 use Rattle.havoc_state.specs.Havocking.{left_of}
 use Rattle.havoc_state.proofs.Giving.{halted, passed}
 use Rattle.c_havoc.proofs.Sizes.{size_of_node, size_of_exps, size_if, size_of_init, size_of_names, size_of_first, size_of_stm, size_of_form, size_of_else, size_of_stms, size_of_loop, level_above, body_within_all, loop_within, for_within, exp_within, stm_within, name_within}
-use Rattle.c_havoc.proofs.Evaluating.{as_form, as_noded, as_place, cast_gives, logic_gives, list_on, list_halted, entered, evals_give}
+use Rattle.c_havoc.proofs.Evaluating.{as_form, as_noded, as_place, cast_gives, logic_gives, list_on, list_halted, entered, evals_give, picked_first, picked_second}
 use Rattle.c_havoc.proofs.Executing.{view_of_if, sequence_halted, sequence_on, sequence_left, chosen, choice_halts, declare_halted, declare_on, initial_stored, values_halted, values_on}
 use Rattle.c_havoc.proofs.Looping.{while_given, do_given, for_given, while_chosen, while_halts, for_chosen, test_done, test_halts}
 use Rattle.c_havoc.proofs.Calling.{parameters_halted, parameters_passed, number_found, number_missing}
@@ -135,7 +135,7 @@ expressions::target-element_at-requires t c =
 pub expressions::target-returns-in-Index : goal.expressions::target-returns-in-Index
 expressions::target-returns-in-Index t c =
     let e : node_view c.args.e.now.node ≡ Index c.in-Index.object (expr_view c.deref.result.now) = rw (c.in-Index.is, c.deref.ensures) refl in
-    as_place (program_view c.args.program.now) (placed_view c.args.invariants.now) c.args.depth _ _ _ _ _ _ _ c.element_at.result e c.element_at.ensures
+    as_place (program_view c.args.program.now) (placed_view c.args.invariants.now) c.args.depth _ _ c.args.e.now.ty _ _ _ _ c.element_at.result e c.element_at.ensures
 
 pub expressions::element_at-returns : goal.expressions::element_at-returns
 expressions::element_at-returns t c =
@@ -178,6 +178,20 @@ expressions::converted-returns t c =
     let y : SFits w128 c.convert_to.result = search rules in
     let k = rw (to_z-of_z w128 c.in_ok-value.value z) at (c.convert_to.ensures (type_of (expr_view c.args.e.now)) (left_of c.eval.new.machine)) in
     rw (to_z-of_z w128 c.convert_to.result y) (passed same same c.in_ok-value.value _ _ _ _ (Ok c.convert_to.result) c.in_ok-value.ensures k)
+
+pub expressions::choose-returns-then-holds : goal.expressions::choose-returns-then-holds
+expressions::choose-returns-then-holds t c =
+    let z : SFits w128 c.in_ok-value.value = search rules in
+    let h = rw (to_z-of_z w128 c.in_ok-value.value z) at c.holds.ensures in
+    passed same same c.in_ok-value.value _ _ _ _ c.converted.result c.in_ok-value.ensures
+    (picked_first (program_view c.args.program.now) (placed_view c.args.invariants.now) c.args.depth _ _ c.in_ok-value.value (left_of c.eval.new.machine) _ c.converted.result (sym h ∙ c.if-holds.true) c.converted.ensures)
+
+pub expressions::choose-returns-else-holds : goal.expressions::choose-returns-else-holds
+expressions::choose-returns-else-holds t c =
+    let z : SFits w128 c.in_ok-value.value = search rules in
+    let h = rw (to_z-of_z w128 c.in_ok-value.value z) at c.holds.ensures in
+    passed same same c.in_ok-value.value _ _ _ _ c.converted-else-holds.result c.in_ok-value.ensures
+    (picked_second (program_view c.args.program.now) (placed_view c.args.invariants.now) c.args.depth _ _ c.in_ok-value.value (left_of c.eval.new.machine) _ c.converted-else-holds.result (sym h ∙ c.if-holds.false) c.converted-else-holds.ensures)
 
 pub expressions::assign-returns-in-None : goal.expressions::assign-returns-in-None
 expressions::assign-returns-in-None t c =
@@ -250,7 +264,7 @@ statements::form-returns-in-If t c =
 pub statements::form-choose-requires : goal.statements::form-choose-requires
 statements::form-choose-requires t c =
     let e = ap form_view c.in-If.is ∙ view_of_if c.in-If.test c.in-If.yes c.in-If.no in
-    (omega (arith, c.decreases, ap size_of_form e), tt)
+    (omega (arith, c.decreases, ap size_of_form e, ap (λ s. size_of_stm (stmt_view s)) c.deref.ensures), tt)
 
 pub statements::form-returns-in-Label : goal.statements::form-returns-in-Label
 statements::form-returns-in-Label t c = rw (c.in-Label.is, ← c.deref-in-Label.ensures) c.exec.ensures
@@ -275,8 +289,8 @@ pub statements::form-loop_scope-requires : goal.statements::form-loop_scope-requ
 statements::form-loop_scope-requires t c =
     (omega (arith, c.decreases, loop_within (form_view c.args.f.now)), tt)
 
-pub statements::form-loop_scope-in-Do-requires : goal.statements::form-loop_scope-in-Do-requires
-statements::form-loop_scope-in-Do-requires t c = (omega (arith, c.decreases, loop_within (form_view c.args.f.now)), tt)
+pub statements::form-loop_scope-requires-in-Do : goal.statements::form-loop_scope-requires-in-Do
+statements::form-loop_scope-requires-in-Do t c = (omega (arith, c.decreases, loop_within (form_view c.args.f.now)), tt)
 
 pub statements::form-for_scope-requires : goal.statements::form-for_scope-requires
 statements::form-for_scope-requires t c = (omega (arith, c.decreases, for_within (form_view c.args.f.now) (first_view c.in-For.first) (expr_view_if c.in-For.test) (expr_view_if c.in-For.step) (stmt_view c.in-For.body.value) (ap form_view c.in-For.is)), tt)

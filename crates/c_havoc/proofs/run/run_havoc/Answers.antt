@@ -1,9 +1,10 @@
-use Rattle.std.proofs.Common.{◌≡◌, ◌∙◌, suc, length, ap, sym}
-use Rattle.c_core.specs.View.{program_view}
+use Rattle.std.proofs.Common.{◌≡◌, ◌∙◌, suc, ap}
+use Rattle.c_core.specs.View.{program_view, functions_view}
+use Rattle.c_core.specs.declared.program.Program.{Program}
 use Rattle.c_meaning.specs.Duties.{Duties}
 use Rattle.c_meaning.specs.Havoc.{havoc_run}
-use Rattle.havoc_state.specs.Placing.{placed_view}
-use Rattle.havoc_state.specs.Havocking.{left_of, first_left, in_main}
+use Rattle.c_duties.specs.Obliged.{placed_view}
+use Rattle.havoc_state.specs.Havocking.{left_of, in_main}
 use Rattle.c_havoc.proofs.Ending.{run_ends, as_many}
 use Rattle.c_havoc.proofs.run.run_havoc.Goals as goal
 
@@ -11,5 +12,5 @@ pub returns : goal.returns
 returns c =
     let p = program_view c.args.program.now in
     let I = placed_view c.args.invariants.now in
-    let h = rw c.as_slice-2.ensures at c.run_main.ensures in
-    ?
+    let h = rw (c.as_slice-2.ensures, c.in_ok-machine.ensures, c.as_slice.ensures, c.len.ensures, as_many c.args.program.now.functions) at c.run_main.ensures in
+    run_ends (Duties p I) c.run_main.result c.in_ok-end.end (left_of c.run_main.new.machine) _ c.in_ok-end.ensures h
