@@ -12,5 +12,5 @@ pub returns : goal.returns
 returns c =
     let p = program_view c.args.program.now in
     let I = placed_view c.args.invariants.now in
-    let h = rw (c.as_slice-2.ensures, c.in_ok-machine.ensures, c.as_slice.ensures, c.len.ensures, as_many c.args.program.now.functions) at c.run_main.ensures in
-    run_ends (Duties p I) c.run_main.result c.in_ok-end.end (left_of c.run_main.new.machine) _ c.in_ok-end.ensures h
+    let h = rw (c.as_slice-2.ensures, c.in_ok-machine.ensures, c.as_slice.ensures, c.len-depth.ensures, as_many c.args.program.now.functions) at c.run_main-outcome.ensures in
+    run_ends (Duties p I) c.run_main-outcome.result c.in_ok-end.end (left_of c.run_main-outcome.new.machine) _ c.in_ok-end.ensures h
