@@ -1,5 +1,5 @@
 -- Calls of functions, part by part.
-use Rattle.std.proofs.Common.{◌≡◌, ℕ, zero, suc, ℤ, List, [], ◌∷◌, ◌++◌, length, slice_get, Some, None, Result, Ok, Err, refl, sym, ap, subst, ◌∙◌}
+use Rattle.std.proofs.Common.{◌≡◌, ℕ, ℤ, List, [], ◌∷◌, ◌++◌, length, slice_get, Some, None, Result, Ok, Err, refl, sym, ap, subst, ◌∙◌}
 use Rattle.c_core.specs.Tree as t
 use Rattle.c_core.specs.Tree.{Program, Function}
 use Rattle.c_core.specs.declared.number.IntType.{IntType}
@@ -9,7 +9,6 @@ use Rattle.c_meaning.specs.Acts as acts
 use Rattle.c_meaning.specs.Acts.{Res, Go, Stop, bind}
 use Rattle.c_meaning.specs.Duties.{Placed}
 use Rattle.c_meaning.specs.Exec.{with_params, run_in, run_if, call_of}
-use Rattle.c_meaning.specs.Havoc as h
 use Rattle.c_meaning.specs.Havoc.{Stopped, Left, Passes, with_cells_left}
 use Rattle.run_state.specs.Interpreting.{same, flow_of}
 use Rattle.run_state.specs.declared.machine.Flow.{Flow}

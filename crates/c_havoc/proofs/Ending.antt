@@ -5,7 +5,6 @@ use Rattle.c_core.specs.declared.tree.Function.{Function}
 use Rattle.c_meaning.specs.declared.run.Duty.{Duty}
 use Rattle.c_meaning.specs.declared.run.DutyKind.TheVariants.{Location}
 use Rattle.c_meaning.specs.declared.run.HavocEnd.{HavocEnd}
-use Rattle.c_meaning.specs.declared.run.HavocRun.{HavocRun}
 use Rattle.c_meaning.specs.Acts.{Res, Flow}
 use Rattle.c_meaning.specs.Duties.{number_among, same_duty}
 use Rattle.c_meaning.specs.Havoc.{Stopped, Left, havoc_run}

@@ -1,5 +1,5 @@
 -- Statements, part by part.
-use Rattle.std.proofs.Common.{◌≡◌, ℕ, suc, ℤ, Bool, true, cond, not, List, [], ◌∷◌, ◌++◌, drop, Option, Some, None, Result, Ok, Err, refl, sym, ap, subst, ◌∙◌}
+use Rattle.std.proofs.Common.{◌≡◌, ℕ, suc, ℤ, Bool, true, cond, not, List, [], ◌∷◌, ◌++◌, drop, Option, Some, None, Err, refl, sym, ap, subst, ◌∙◌}
 use Rattle.std.specs.declared.boxed.Box.{Box}
 use Rattle.std.specs.declared.alloc.Global.{Global}
 use Rattle.c_core.specs.Tree as t
@@ -25,7 +25,7 @@ use Rattle.run_state.specs.Interpreting.{same, flow_of, else_part}
 use Rattle.run_state.specs.declared.machine.Flow.{Flow}
 use Rattle.run_state.specs.declared.machine.Flow.TheVariants.{Next, Broken, Again, Gave}
 use Rattle.run_state.proofs.Giving.{bind_on}
-use Rattle.havoc_state.specs.Havocking.{Gives, havocked, calls, fulled, decided, executed, formed, sequenced, armed, otherwised, declaring, introduced, initialised, initialised_one, initialised_by, goes_on, arrived}
+use Rattle.havoc_state.specs.Havocking.{Gives, havocked, fulled, decided, executed, formed, sequenced, armed, otherwised, declaring, introduced, initialised, initialised_one, initialised_by, goes_on}
 use Rattle.havoc_state.specs.declared.machine.Halt.{Halt}
 use Rattle.havoc_state.specs.declared.machine.Halt.TheVariants.{Ends, NoMemory}
 use Rattle.havoc_state.proofs.Declaring.{writing}

@@ -1,5 +1,5 @@
 -- Loops, part by part.
-use Rattle.std.proofs.Common.{◌≡◌, ℕ, Bool, true, false, cond, List, Option, Some, None, Result, Ok, Err, length, refl, sym, ap, subst, ◌∙◌}
+use Rattle.std.proofs.Common.{◌≡◌, ℕ, Bool, true, false, cond, List, Option, Some, None, Result, Err, length, refl, sym, ap, subst}
 use Rattle.c_core.specs.Tree as t
 use Rattle.c_core.specs.Tree.{Program, Exp, First, NoFirst, FirstExp, FirstNames}
 use Rattle.c_core.specs.declared.number.IntType.{IntType}
@@ -13,10 +13,11 @@ use Rattle.c_meaning.specs.Duties.{Placed}
 use Rattle.c_meaning.specs.Exec.{first}
 use Rattle.c_meaning.specs.Havoc as h
 use Rattle.c_meaning.specs.Havoc.{Stopped, Left, cells_left, with_cells_left}
-use Rattle.run_state.specs.Interpreting.{same, flow_of, loop_in}
+use Rattle.run_state.specs.Interpreting.{same, flow_of}
+use Rattle.c_calls.specs.Loops.{loop_of, changed_if}
 use Rattle.run_state.specs.declared.machine.Flow.{Flow}
 use Rattle.run_state.proofs.Giving.{bind_on}
-use Rattle.havoc_state.specs.Havocking.{Gives, havocked, calls, changed_in, fulled, decided, formed, declaring, bodied, test_turned, goes_on, for_rest, while_turned, for_turned, turning, opened, turned_once, looped, begun, for_looped}
+use Rattle.havoc_state.specs.Havocking.{Gives, havocked, calls, fulled, decided, formed, declaring, bodied, test_turned, goes_on, for_rest, while_turned, for_turned, turning, opened, turned_once, looped, begun, for_looped}
 use Rattle.havoc_state.specs.declared.machine.Halt.{Halt}
 use Rattle.havoc_state.proofs.Giving.{halted, passed}
 use Rattle.c_havoc.proofs.Executing.{control_goes, control_halts, untested}
@@ -41,16 +42,16 @@ bind_thrice (Stop e s) q k l = refl
 
 module _ (p : Program) (I : List Placed) where
   -- before the turn: the parts, one by one
-  module _ (at : Spot) (l : Option Loop) (os : List ℕ) (changes : os ≡ changed_in p l) (s : Left) (checked : h.test_from p I 0 I true at Entry s ≡ Go tt s) where
+  module _ (at : Spot) (l : Option Loop) (os : List ℕ) (changes : os ≡ changed_if p l) (s : Left) (checked : h.test_from p I 0 I true at Entry s ≡ Go tt s) where
     pub redraw_halts : (u : Left) (e : Halt) → Gives same (Err e) u (h.redraw p I at os s) → Gives same (Err e) u (opened p I at l s)
     redraw_halts u e g =
         passed same same tt s u (h.test_from p I 0 I true at Entry s) _ (Err e) checked
-        (halted same same e u (h.redraw p I at (changed_in p l) s) _ (subst (λ xs. Gives same (Err e) u (h.redraw p I at xs s)) changes g))
+        (halted same same e u (h.redraw p I at (changed_if p l) s) _ (subst (λ xs. Gives same (Err e) u (h.redraw p I at xs s)) changes g))
 
     pub opens : (u v : Left) (r : Result (Unit {0}) Halt) → h.redraw p I at os s ≡ Go tt u → Gives same r v (h.assume_all p I I at u) → Gives same r v (opened p I at l s)
     opens u v r g a =
         passed same same tt s v (h.test_from p I 0 I true at Entry s) _ r checked
-        (passed same same tt u v (h.redraw p I at (changed_in p l) s) _ r (subst (λ xs. h.redraw p I at xs s ≡ Go tt u) changes g) a)
+        (passed same same tt u v (h.redraw p I at (changed_if p l) s) _ r (subst (λ xs. h.redraw p I at xs s ≡ Go tt u) changes g) a)
 
 module _ (p : Program) (I : List Placed) (n : ℕ) where
   pub test_done : (at : Spot) (e : Exp) (c : Bool) (s u : Left) → decided p I n at e s ≡ Go c u
@@ -90,13 +91,13 @@ module _ (p : Program) (I : List Placed) (n : ℕ) where
 
     -- the forms that are loops
     pub while_given : (f : t.Form) (e : Exp) (x : t.Stm) → f ≡ t.While e x → (r : Result Flow Halt) (s u : Left)
-        → Gives flow_of r u (looped p I n w at (loop_in f) s) → Gives flow_of r u (formed p I n w at f s)
-    while_given f e x is r s u = subst (λ y. Gives flow_of r u (looped p I n w at (loop_in y) s) → Gives flow_of r u (formed p I n w at y s)) (sym is)
+        → Gives flow_of r u (looped p I n w at (loop_of f) s) → Gives flow_of r u (formed p I n w at f s)
+    while_given f e x is r s u = subst (λ y. Gives flow_of r u (looped p I n w at (loop_of y) s) → Gives flow_of r u (formed p I n w at y s)) (sym is)
         (subst (Gives flow_of r u) (sym (loop_is (WhileLoop e x) s)))
 
     pub do_given : (f : t.Form) (x : t.Stm) (e : Exp) → f ≡ t.DoWhile x e → (r : Result Flow Halt) (s u : Left)
-        → Gives flow_of r u (looped p I n w at (loop_in f) s) → Gives flow_of r u (formed p I n w at f s)
-    do_given f x e is r s u = subst (λ y. Gives flow_of r u (looped p I n w at (loop_in y) s) → Gives flow_of r u (formed p I n w at y s)) (sym is)
+        → Gives flow_of r u (looped p I n w at (loop_of f) s) → Gives flow_of r u (formed p I n w at f s)
+    do_given f x e is r s u = subst (λ y. Gives flow_of r u (looped p I n w at (loop_of y) s) → Gives flow_of r u (formed p I n w at y s)) (sym is)
         (subst (Gives flow_of r u) (sym (loop_is (DoLoop x e) s)))
 
     for_is : (i : First) (e step : Option Exp) (x : t.Stm) (s : Left) → formed p I n w at (t.For i e step x) s ≡ for_looped p I n w at i (Some (ForLoop e step x)) s
@@ -106,6 +107,6 @@ module _ (p : Program) (I : List Placed) (n : ℕ) where
         (looped p I n w at (Some (ForLoop e step x))) (loop_is (ForLoop e step x)) s)
 
     pub for_given : (f : t.Form) (i : First) (e step : Option Exp) (x : t.Stm) → f ≡ t.For i e step x → (r : Result Flow Halt) (s u : Left)
-        → Gives flow_of r u (for_looped p I n w at i (loop_in f) s) → Gives flow_of r u (formed p I n w at f s)
-    for_given f i e step x is r s u = subst (λ y. Gives flow_of r u (for_looped p I n w at i (loop_in y) s) → Gives flow_of r u (formed p I n w at y s)) (sym is)
+        → Gives flow_of r u (for_looped p I n w at i (loop_of f) s) → Gives flow_of r u (formed p I n w at f s)
+    for_given f i e step x is r s u = subst (λ y. Gives flow_of r u (for_looped p I n w at i (loop_of y) s) → Gives flow_of r u (formed p I n w at y s)) (sym is)
         (subst (Gives flow_of r u) (sym (for_is i e step x s)))

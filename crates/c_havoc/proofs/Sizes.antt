@@ -6,7 +6,7 @@ use Rattle.c_core.specs.declared.tree.Expr.{Expr as RustExpr}
 use Rattle.c_core.specs.declared.tree.Stmt.{Stmt as RustStmt}
 use Rattle.c_core.specs.declared.tree.Declared.{Declared}
 use Rattle.c_meaning.specs.Meaning.{Loop, WhileLoop, DoLoop, ForLoop}
-use Rattle.run_state.specs.Interpreting.{loop_in}
+use Rattle.c_calls.specs.Loops.{loop_of}
 
 abbrev mutual
   pub size : Exp → ℕ
@@ -100,7 +100,7 @@ body_within_all (g ∷ fs) zero f h = omega (arith, ap body_size h)
     body_size (Some x) = size_of_stm x.body
 body_within_all (g ∷ fs) (suc i) f h = omega (arith, body_within_all fs i f h)
 
-pub loop_within : (f : Form) → size_of_loop (loop_in f) ≤ size_of_form f
+pub loop_within : (f : Form) → size_of_loop (loop_of f) ≤ size_of_form f
 loop_within Empty = omega arith
 loop_within (Do e) = omega arith
 loop_within (Declare ns) = omega arith
@@ -114,8 +114,8 @@ loop_within Continue = omega arith
 loop_within (Return e) = omega arith
 loop_within (Label b) = omega arith
 
-pub for_within : (f : Form) (i : First) (e s : Option Exp) (b : Stm) → f ≡ For i e s b → size_of_first i + size_of_loop (loop_in f) ≤ size_of_form f
-for_within f i e s b h = subst (λ g. size_of_first i + size_of_loop (loop_in g) ≤ size_of_form g) (sym h) (omega arith)
+pub for_within : (f : Form) (i : First) (e s : Option Exp) (b : Stm) → f ≡ For i e s b → size_of_first i + size_of_loop (loop_of f) ≤ size_of_form f
+for_within f i e s b h = subst (λ g. size_of_first i + size_of_loop (loop_of g) ≤ size_of_form g) (sym h) (omega arith)
 
 pub exp_within : (es : List RustExpr) (i : ℕ) (e : RustExpr) → drop i es ≡ e ∷ drop (suc i) es → size (expr_view e) ≤ size_of_exps (exprs_view es)
 exp_within [] zero e d = absurd (cc)

@@ -49,7 +49,9 @@ fn initial_values(
             return Err(Halt::NoMemory);
         }
         initial_value(
-            program, invariants, machine,
+            program,
+            invariants,
+            machine,
             depth,
             at,
             object,
@@ -78,7 +80,9 @@ fn initial(
         Init::Absent => draw_cells(program, machine, spot, object),
         Init::One(e) => initial_value(program, invariants, machine, depth, at, object, 0, e),
         Init::Many(es) => initial_values(
-            program, invariants, machine,
+            program,
+            invariants,
+            machine,
             depth,
             at,
             object,
@@ -102,7 +106,9 @@ fn introduce(
     let size = size_of_object(program, name.object);
     add_started(&mut machine.memory, name.object, size, &[])?;
     initial(
-        program, invariants, machine,
+        program,
+        invariants,
+        machine,
         depth,
         at,
         name.spot,

@@ -56,15 +56,8 @@ pub fn eval(
             target: to,
             from,
         } => assign(program, invariants, machine, depth, at, *op, to, from),
-        Node::Step { op, target: to } => step(
-            program, invariants, machine, depth, at, *op, to,
-        ),
-        Node::Choose {
-            test,
-            yes,
-            no,
-            ..
-        } => choose(
+        Node::Step { op, target: to } => step(program, invariants, machine, depth, at, *op, to),
+        Node::Choose { test, yes, no, .. } => choose(
             program, invariants, machine, depth, at, e.ty, test, yes, no,
         ),
         Node::Call {
@@ -72,7 +65,9 @@ pub fn eval(
             args,
             close,
         } => call(
-            program, invariants, machine,
+            program,
+            invariants,
+            machine,
             depth,
             at,
             used,
@@ -100,7 +95,9 @@ fn binary(
 {
     let a = eval(program, invariants, machine, depth, at, true, left)?;
     let b = eval(program, invariants, machine, depth, at, true, right)?;
-    operate(program, at,
+    operate(
+        program,
+        at,
         op,
         Typed {
             value: a,
@@ -187,7 +184,9 @@ fn unary(
     ensures { Gives same result (left_of machine.new) (noded (program_view program.now) (placed_view invariants.now) depth (where_of at) Used at.full None (t.Unary op (expr_view of.now)) (left_of machine.old)) }
 {
     let value = eval(program, invariants, machine, depth, at, true, of)?;
-    operate_one(program, at,
+    operate_one(
+        program,
+        at,
         op,
         Typed {
             value,
@@ -334,7 +333,10 @@ fn update(
     let key = target(program, invariants, machine, depth, at, to)?;
     let old = look(machine, key);
     let value = eval(program, invariants, machine, depth, at, true, from)?;
-    change(program, machine, at,
+    change(
+        program,
+        machine,
+        at,
         op,
         key,
         Typed {
@@ -464,7 +466,9 @@ fn call(
         needed: is_needed(used, ty),
     };
     called(
-        program, invariants, machine,
+        program,
+        invariants,
+        machine,
         depth,
         at,
         site,

@@ -25,7 +25,9 @@ pub fn full(
     ensures { Gives same result (left_of machine.new) (fulled (program_view program.now) (placed_view invariants.now) depth at (use_of used) (expr_view e.now) (left_of machine.old)) }
 {
     eval(
-        program, invariants, machine,
+        program,
+        invariants,
+        machine,
         depth,
         Around {
             statement: at,

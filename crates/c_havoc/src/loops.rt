@@ -1,22 +1,14 @@
 // Before the turn of a loop.
-ghost use Rattle.std.specs.Prelude.{◌≡◌, IfOk};
 ghost use Rattle.c_core.specs.View.{program_view, form_view};
-ghost use Rattle.run_state.specs.Interpreting.{same, loop_in};
+ghost use Rattle.run_state.specs.Interpreting.{same};
+ghost use Rattle.c_calls.specs.Loops.{loop_of};
 ghost use Rattle.c_duties.specs.Obliged.{placed_view};
-ghost use Rattle.havoc_state.specs.Havocking.{Gives, left_of, changed_in, opened};
+ghost use Rattle.havoc_state.specs.Havocking.{Gives, left_of, opened};
 
+use c_calls::changed_in;
 use c_core::{Form, Program, Spot};
 use c_meaning::{DutyKind, PlacedInvariant};
 use havoc_state::{Halt, Machine, assume, check, redraw};
-use std::alloc::Global;
-use wv_base::{OutOfMemory, Seq};
-
-// The objects that a loop changes; of a form that is no loop, none.
-fn changed(_alloc: Global, _program: &Program, _form: &Form) -> Result<Seq<u32>, OutOfMemory>
-    ensures { IfOk result (λ objects. objects ≡ changed_in (program_view _program.now) (loop_in (form_view _form.now))) }
-{
-    Err(OutOfMemory)
-}
 
 /// On arrival the invariants of the loop have to hold; what the loop changes is drawn; the run goes on where they
 /// hold again.
@@ -27,10 +19,10 @@ pub fn open_loop(
     at: Spot,
     f: &Form,
 ) -> Result<(), Halt>
-    ensures { Gives same result (left_of machine.new) (opened (program_view program.now) (placed_view invariants.now) at (loop_in (form_view f.now)) (left_of machine.old)) }
+    ensures { Gives same result (left_of machine.new) (opened (program_view program.now) (placed_view invariants.now) at (loop_of (form_view f.now)) (left_of machine.old)) }
 {
     check(program, invariants, machine, true, at, DutyKind::Entry)?;
-    let objects = changed(machine.alloc, program, f)?;
+    let objects = changed_in(machine.alloc, program, f)?;
     redraw(program, machine, at, objects.as_slice())?;
     assume(program, invariants, machine, at)
 }

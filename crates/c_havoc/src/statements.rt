@@ -3,7 +3,8 @@ ghost use Rattle.std.specs.Prelude.{◌≡◌};
 ghost use Rattle.c_core.specs.Tree as t;
 ghost use Rattle.c_core.specs.View.{program_view, expr_view, expr_view_if, stmt_view, stmts_view, first_view, form_view};
 ghost use Rattle.c_meaning.specs.Acts as acts;
-ghost use Rattle.run_state.specs.Interpreting.{flow_of, else_part, loop_in};
+ghost use Rattle.run_state.specs.Interpreting.{flow_of, else_part};
+ghost use Rattle.c_calls.specs.Loops.{loop_of};
 ghost use Rattle.c_duties.specs.Obliged.{placed_view};
 ghost use Rattle.havoc_state.specs.Havocking.{Gives, left_of, executed, formed, sequenced, blocked, armed, otherwised, bodied, for_rest, while_turned, do_turned, for_turned, turning, turned_once, looped, for_parts as for_parts_of, for_looped};
 
@@ -48,7 +49,9 @@ pub fn form(
         Form::Declare(names) => declare(program, invariants, machine, depth, at, names.as_slice()),
         Form::Block(body) => block(program, invariants, machine, depth, wanted, body.as_slice()),
         Form::If { test, yes, no } => {
-            choose(program, invariants, machine, depth, wanted, at, test, yes, no)
+            choose(
+                program, invariants, machine, depth, wanted, at, test, yes, no,
+            )
         }
         Form::Break => Ok(Flow::Broken),
         Form::Continue => Ok(Flow::Again),
@@ -274,7 +277,7 @@ fn turn(
     at: Spot,
     f: &Form,
 ) -> Result<Flow, Halt>
-    ensures { Gives flow_of result (left_of machine.new) (turning (program_view program.now) (placed_view invariants.now) depth wanted at (loop_in (form_view f.now)) (left_of machine.old)) }
+    ensures { Gives flow_of result (left_of machine.new) (turning (program_view program.now) (placed_view invariants.now) depth wanted at (loop_of (form_view f.now)) (left_of machine.old)) }
 {
     match f {
         Form::While { test, body } => while_turn(
@@ -306,7 +309,7 @@ fn turn_once(
     at: Spot,
     f: &Form,
 ) -> Result<Flow, Halt>
-    ensures { Gives flow_of result (left_of machine.new) (turned_once (program_view program.now) (placed_view invariants.now) depth wanted at (loop_in (form_view f.now)) (left_of machine.old)) }
+    ensures { Gives flow_of result (left_of machine.new) (turned_once (program_view program.now) (placed_view invariants.now) depth wanted at (loop_of (form_view f.now)) (left_of machine.old)) }
 {
     open_loop(program, invariants, machine, at, f)?;
     let flow = turn(program, invariants, machine, depth, wanted, at, f)?;
@@ -324,7 +327,7 @@ fn loop_scope(
     at: Spot,
     f: &Form,
 ) -> Result<Flow, Halt>
-    ensures { Gives flow_of result (left_of machine.new) (looped (program_view program.now) (placed_view invariants.now) depth wanted at (loop_in (form_view f.now)) (left_of machine.old)) }
+    ensures { Gives flow_of result (left_of machine.new) (looped (program_view program.now) (placed_view invariants.now) depth wanted at (loop_of (form_view f.now)) (left_of machine.old)) }
 {
     let cells = machine.memory.count();
     let flow = turn_once(program, invariants, machine, depth, wanted, at, f)?;
@@ -343,7 +346,7 @@ fn for_parts(
     first: &First,
     f: &Form,
 ) -> Result<Flow, Halt>
-    ensures { Gives flow_of result (left_of machine.new) (for_parts_of (program_view program.now) (placed_view invariants.now) depth wanted at (first_view first.now) (loop_in (form_view f.now)) (left_of machine.old)) }
+    ensures { Gives flow_of result (left_of machine.new) (for_parts_of (program_view program.now) (placed_view invariants.now) depth wanted at (first_view first.now) (loop_of (form_view f.now)) (left_of machine.old)) }
 {
     match begin(program, invariants, machine, depth, at, first)? {
         Flow::Next => loop_scope(program, invariants, machine, depth, wanted, at, f),
@@ -363,7 +366,7 @@ fn for_scope(
     first: &First,
     f: &Form,
 ) -> Result<Flow, Halt>
-    ensures { Gives flow_of result (left_of machine.new) (for_looped (program_view program.now) (placed_view invariants.now) depth wanted at (first_view first.now) (loop_in (form_view f.now)) (left_of machine.old)) }
+    ensures { Gives flow_of result (left_of machine.new) (for_looped (program_view program.now) (placed_view invariants.now) depth wanted at (first_view first.now) (loop_of (form_view f.now)) (left_of machine.old)) }
 {
     let cells = machine.memory.count();
     let flow = for_parts(program, invariants, machine, depth, wanted, at, first, f)?;

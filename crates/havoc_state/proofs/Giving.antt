@@ -1,5 +1,5 @@
 -- A part that gives, with what comes after it.
-use Rattle.std.proofs.Common.{◌≡◌, ap, subst, sym, Result, Ok, Err}
+use Rattle.std.proofs.Common.{ap, subst, sym, Result, Ok, Err}
 use Rattle.c_meaning.specs.Acts.{Res, bind}
 use Rattle.c_meaning.specs.Havoc.{Stopped}
 use Rattle.havoc_state.specs.Havocking.{Gives}

@@ -1,10 +1,10 @@
 -- Invariants in turn.
-use Rattle.std.proofs.Common.{◌≡◌, ℕ, suc, Bool, true, false, cond, List, [], ◌∷◌, drop, Some, sym, ap, ◌∙◌}
+use Rattle.std.proofs.Common.{◌≡◌, ℕ, suc, Bool, true, false, cond, List, ◌∷◌, drop, Some, sym, ap, ◌∙◌}
 use Rattle.c_core.specs.Tree.{Program}
 use Rattle.c_core.specs.declared.number.Spot.{Spot}
 use Rattle.c_meaning.specs.declared.run.DutyKind.{DutyKind}
 use Rattle.c_meaning.specs.declared.run.PlacedInvariant.{PlacedInvariant}
-use Rattle.c_meaning.specs.Acts.{Res, Go, Stop}
+use Rattle.c_meaning.specs.Acts.{Res, Stop}
 use Rattle.c_meaning.specs.Duties.{Placed, duty}
 use Rattle.c_meaning.specs.Havoc as h
 use Rattle.c_meaning.specs.Havoc.{Stopped, Left, Fails, Dismisses}
@@ -16,9 +16,6 @@ module _ (p : Program) (I : List Placed) (spot : Spot) (xs : List PlacedInvarian
   module _ (at_loop : Bool) (kind : DutyKind) (rest : h.test_from p I i (placed_view (drop i xs)) at_loop spot kind s ≡ whole) where
     next_test : cond (broken p at_loop spot (placed x) s.cells) (Stop (Fails (duty spot kind (Some i))) s) (h.test_from p I (suc i) (placed_view (drop (suc i) xs)) at_loop spot kind s) ≡ whole
     next_test = ap (λ ys. h.test_from p I i (placed_view ys) at_loop spot kind s) (sym behind) ∙ rest
-
-    pub test_fails : broken p at_loop spot (placed x) s.cells ≡ true → whole ≡ Stop (Fails (duty spot kind (Some i))) s
-    test_fails b = sym next_test ∙ ap (λ t. cond t (Stop (Fails (duty spot kind (Some i))) s) (h.test_from p I (suc i) (placed_view (drop (suc i) xs)) at_loop spot kind s)) b
 
     pub test_on : broken p at_loop spot (placed x) s.cells ≡ false → h.test_from p I (suc i) (placed_view (drop (suc i) xs)) at_loop spot kind s ≡ whole
     test_on b = sym (ap (λ t. cond t (Stop (Fails (duty spot kind (Some i))) s) (h.test_from p I (suc i) (placed_view (drop (suc i) xs)) at_loop spot kind s)) b) ∙ next_test

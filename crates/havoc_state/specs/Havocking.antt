@@ -10,15 +10,14 @@ use Rattle.c_core.specs.declared.number.BinOp.{BinOp}
 use Rattle.c_core.specs.declared.number.StepOp.{StepOp}
 use Rattle.c_core.specs.Types.{fit, is_zero}
 use Rattle.c_core.specs.Operators.{type_for, op_of_step, is_prefix}
-use Rattle.c_meaning.specs.declared.run.DrawKind.TheVariants.{Input, Cell as CellDraw, Havoc as HavocDraw}
+use Rattle.c_meaning.specs.declared.run.DrawKind.TheVariants.{Cell as CellDraw, Havoc as HavocDraw}
 use Rattle.c_meaning.specs.declared.run.DutyKind.TheVariants.{Entry, Location}
 use Rattle.c_meaning.specs.declared.run.HavocEnd.{HavocEnd}
 use Rattle.c_meaning.specs.declared.run.HavocEnd.TheVariants.{Passed}
 use Rattle.c_meaning.specs.declared.run.Duty.{Duty}
 use Rattle.c_meaning.specs.Cells.{Key, Cell, put, cells_from, read}
-use Rattle.c_meaning.specs.Changed.{changed_by}
 use Rattle.c_meaning.specs.Duties.{Placed}
-use Rattle.c_meaning.specs.Meaning.{Use, Used, Unused, Where, Site, Meaning, Calls, Loop, WhileLoop, DoLoop, ForLoop}
+use Rattle.c_meaning.specs.Meaning.{Use, Used, Unused, Where, Site, Meaning, Calls, Loop}
 use Rattle.c_meaning.specs.Acts.{Res, Go, Stop, bind}
 use Rattle.c_meaning.specs.Acts as acts
 use Rattle.c_meaning.specs.Havoc as h
@@ -28,6 +27,7 @@ use Rattle.c_meaning.specs.Value.{holds}
 use Rattle.c_meaning.specs.Objects.{type_of, type_of_object, size_of_object}
 use Rattle.c_meaning.specs.Eval.{eval, target, place, tested, convert_to, operate, store, called, node}
 use Rattle.c_meaning.specs.Exec.{call_of, with_params, run_in, run_main, full, initial, declare, exec, form, otherwise, execs, draw_cells, initials, while_turn, do_turn, for_turn, full_if, control, turn}
+use Rattle.c_calls.specs.Loops.{changed_if}
 use Rattle.run_state.specs.Interpreting.{other_pairs}
 use Rattle.run_state.specs.declared.machine.Flow.{Flow}
 use Rattle.havoc_state.specs.declared.machine.Machine.{Machine}
@@ -64,11 +64,6 @@ broken p at_loop spot x cs = h.stands p [] at_loop spot x && not (holds p x.test
 -- static objects have their first values, and nothing is drawn
 abbrev pub first_left : Program → List ℤ → Left
 first_left p w = record { cells = first_cells p; values = w; draws = [] }
-
--- what a loop changes, of a statement that may be one
-abbrev pub changed_in : Program → Option Loop → List ℕ
-changed_in p None = []
-changed_in p (Some l) = changed_by p l
 
 -- I: the invariants in witness order
 module _ (p : Program) (I : List Placed) where
@@ -228,7 +223,7 @@ module _ (p : Program) (I : List Placed) where
   -- before the turn: the invariants hold on arrival, what the loop changes is drawn, the invariants are assumed
   abbrev pub opened : Spot → Option Loop → Left → Res Stopped Left (Unit {0})
   opened at l s =
-      bind (h.test_from p I 0 I true at Entry s) (λ _ u. bind (h.redraw p I at (changed_in p l) u) (λ _. h.assume_all p I I at))
+      bind (h.test_from p I 0 I true at Entry s) (λ _ u. bind (h.redraw p I at (changed_if p l) u) (λ _. h.assume_all p I I at))
 
   -- a loop at its head
   abbrev pub turned_once : ℕ → Option IntType → Spot → Option Loop → Left → Res Stopped Left acts.Flow

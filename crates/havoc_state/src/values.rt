@@ -19,8 +19,8 @@ ghost use Rattle.havoc_state.specs.Havocking.{Gives, left_of, havocked, changed,
 
 use crate::machine::{Ending, Halt, Machine};
 use c_core::{
-    BinOp, DataModel, Done, IntType, Program, Property, StepOp, UnOp, apply, apply_one,
-    common, convert, promote,
+    BinOp, DataModel, Done, IntType, Program, Property, StepOp, UnOp, apply, apply_one, common,
+    convert, promote,
 };
 use c_meaning::{Duty, DutyKind};
 use run_state::{Around, Element, Typed, size_of_object};
@@ -122,12 +122,7 @@ pub fn operate(
 }
 
 /// A unary operator over a value of a type.
-pub fn operate_one(
-    program: &Program,
-    at: Around,
-    op: UnOp,
-    of: Typed,
-) -> Result<i128, Halt>
+pub fn operate_one(program: &Program, at: Around, op: UnOp, of: Typed) -> Result<i128, Halt>
     ensures { (s : Left) → Gives same result s (havoc.answered (program_view program.now) [] (where_of at) (apply_one_of program.now.model op (promote_of of.ty) (fit program.now.model (promote_of of.ty) of.value)) s) }
 {
     let done = computed_one(program.model, op, of);

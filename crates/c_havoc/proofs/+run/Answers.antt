@@ -8,7 +8,8 @@ use Rattle.c_core.specs.View.{program_view, expr_view, exprs_view, node_view, ex
 use Rattle.c_core.specs.declared.number.IntType.TheVariants.{Int}
 use Rattle.c_meaning.specs.Meaning.{Used}
 use Rattle.c_meaning.specs.Objects.{type_of}
-use Rattle.run_state.specs.Interpreting.{same, key_of, use_of, where_of, pairs_of, flow_of, else_part, loop_in, site_of}
+use Rattle.run_state.specs.Interpreting.{same, key_of, use_of, where_of, pairs_of, flow_of, else_part, site_of}
+use Rattle.c_calls.specs.Loops.{loop_of}
 use Rattle.run_state.specs.declared.machine.Typed.{Typed}
 use Rattle.run_state.proofs.Starting.{function_at, no_function_at}
 use Rattle.c_duties.specs.Obliged.{placed_view}
@@ -354,19 +355,19 @@ pub statements::turn-returns-in-While : goal.statements::turn-returns-in-While
 statements::turn-returns-in-While t c = rw (c.in-While.is, ← c.deref.ensures) c.while_turn.ensures
 
 pub statements::turn-while_turn-requires : goal.statements::turn-while_turn-requires
-statements::turn-while_turn-requires t c = (omega (arith, c.decreases, ap (λ f. size_of_loop (loop_in (form_view f))) c.in-While.is, ap (λ s. size_of_stm (stmt_view s)) c.deref.ensures), tt)
+statements::turn-while_turn-requires t c = (omega (arith, c.decreases, ap (λ f. size_of_loop (loop_of (form_view f))) c.in-While.is, ap (λ s. size_of_stm (stmt_view s)) c.deref.ensures), tt)
 
 pub statements::turn-returns-in-Do : goal.statements::turn-returns-in-Do
 statements::turn-returns-in-Do t c = rw (c.in-Do.is, ← c.deref-in-Do.ensures) c.do_turn.ensures
 
 pub statements::turn-do_turn-requires : goal.statements::turn-do_turn-requires
-statements::turn-do_turn-requires t c = (omega (arith, c.decreases, ap (λ f. size_of_loop (loop_in (form_view f))) c.in-Do.is, ap (λ s. size_of_stm (stmt_view s)) c.deref-in-Do.ensures), tt)
+statements::turn-do_turn-requires t c = (omega (arith, c.decreases, ap (λ f. size_of_loop (loop_of (form_view f))) c.in-Do.is, ap (λ s. size_of_stm (stmt_view s)) c.deref-in-Do.ensures), tt)
 
 pub statements::turn-returns-in-For : goal.statements::turn-returns-in-For
 statements::turn-returns-in-For t c = rw (c.in-For.is, ← c.deref-in-For.ensures) c.for_turn.ensures
 
 pub statements::turn-for_turn-requires : goal.statements::turn-for_turn-requires
-statements::turn-for_turn-requires t c = (omega (arith, c.decreases, ap (λ f. size_of_loop (loop_in (form_view f))) c.in-For.is, ap (λ s. size_of_stm (stmt_view s)) c.deref-in-For.ensures), tt)
+statements::turn-for_turn-requires t c = (omega (arith, c.decreases, ap (λ f. size_of_loop (loop_of (form_view f))) c.in-For.is, ap (λ s. size_of_stm (stmt_view s)) c.deref-in-For.ensures), tt)
 
 pub statements::while_turn-returns-in_err-decide : goal.statements::while_turn-returns-in_err-decide
 statements::while_turn-returns-in_err-decide t c =

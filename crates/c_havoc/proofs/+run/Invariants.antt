@@ -1,6 +1,7 @@
 use Rattle.std.proofs.Common.{◌≡◌, ◌+◌, ◌*◌, [], drop, suc}
 use Rattle.c_core.specs.View.{program_view, expr_view, exprs_view, expr_view_if, stmt_view, stmts_view, form_view, first_view, init_view, names_view}
-use Rattle.run_state.specs.Interpreting.{where_of, pairs_of, loop_in, else_part}
+use Rattle.run_state.specs.Interpreting.{where_of, pairs_of, else_part}
+use Rattle.c_calls.specs.Loops.{loop_of}
 use Rattle.c_duties.specs.Obliged.{placed_view}
 use Rattle.havoc_state.specs.Havocking.{left_of, listed, sequenced, declaring, initialised_by}
 use Rattle.c_havoc.proofs.Sizes.{level, size, size_of_exps, size_if, size_of_init, size_of_names, size_of_first, size_of_stm, size_of_form, size_of_else, size_of_stms, size_of_loop}
@@ -149,19 +150,19 @@ abbrev pub decreases-statements::for_turn : goal.decreases-statements::for_turn
 decreases-statements::for_turn l = level (program_view l.program.now) (suc l.depth) + 32 * (size_if (expr_view_if l.test.now) + size_if (expr_view_if l.step.now) + size_of_stm (stmt_view l.body.now)) + 13
 
 abbrev pub decreases-statements::turn : goal.decreases-statements::turn
-decreases-statements::turn l = level (program_view l.program.now) (suc l.depth) + 32 * (size_of_loop (loop_in (form_view l.f.now))) + 14
+decreases-statements::turn l = level (program_view l.program.now) (suc l.depth) + 32 * (size_of_loop (loop_of (form_view l.f.now))) + 14
 
 abbrev pub decreases-statements::turn_once : goal.decreases-statements::turn_once
-decreases-statements::turn_once l = level (program_view l.program.now) (suc l.depth) + 32 * (size_of_loop (loop_in (form_view l.f.now))) + 15
+decreases-statements::turn_once l = level (program_view l.program.now) (suc l.depth) + 32 * (size_of_loop (loop_of (form_view l.f.now))) + 15
 
 abbrev pub decreases-statements::loop_scope : goal.decreases-statements::loop_scope
-decreases-statements::loop_scope l = level (program_view l.program.now) (suc l.depth) + 32 * (size_of_loop (loop_in (form_view l.f.now))) + 16
+decreases-statements::loop_scope l = level (program_view l.program.now) (suc l.depth) + 32 * (size_of_loop (loop_of (form_view l.f.now))) + 16
 
 abbrev pub decreases-statements::for_parts : goal.decreases-statements::for_parts
-decreases-statements::for_parts l = level (program_view l.program.now) (suc l.depth) + 32 * (size_of_first (first_view l.first.now) + size_of_loop (loop_in (form_view l.f.now))) + 17
+decreases-statements::for_parts l = level (program_view l.program.now) (suc l.depth) + 32 * (size_of_first (first_view l.first.now) + size_of_loop (loop_of (form_view l.f.now))) + 17
 
 abbrev pub decreases-statements::for_scope : goal.decreases-statements::for_scope
-decreases-statements::for_scope l = level (program_view l.program.now) (suc l.depth) + 32 * (size_of_first (first_view l.first.now) + size_of_loop (loop_in (form_view l.f.now))) + 18
+decreases-statements::for_scope l = level (program_view l.program.now) (suc l.depth) + 32 * (size_of_first (first_view l.first.now) + size_of_loop (loop_of (form_view l.f.now))) + 18
 
 abbrev pub decreases-calls::body : goal.decreases-calls::body
 decreases-calls::body l = level (program_view l.program.now) (suc l.depth) + 32 * (size_of_stm (stmt_view l.function.now.body)) + 1

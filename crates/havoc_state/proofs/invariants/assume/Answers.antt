@@ -1,4 +1,4 @@
-use Rattle.std.proofs.Common.{rules, ◌≡◌, ◌+◌, ◌∷◌, ◌∙◌, suc, drop, drop-cons, ap, sym, arith}
+use Rattle.std.proofs.Common.{◌≡◌, ◌+◌, ◌∷◌, ◌∙◌, suc, drop, drop-cons, ap, sym, arith}
 use Rattle.c_core.specs.View.{program_view}
 use Rattle.c_duties.specs.Obliged.{placed_view}
 use Rattle.havoc_state.specs.Havocking.{left_of}

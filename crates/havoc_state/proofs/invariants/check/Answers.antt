@@ -1,10 +1,8 @@
-use Rattle.std.proofs.Common.{rules, ◌≡◌, ◌+◌, ◌∷◌, ◌∙◌, suc, Some, drop, drop-cons, ap, sym, arith}
+use Rattle.std.proofs.Common.{◌≡◌, ◌+◌, ◌∷◌, ◌∙◌, suc, drop, drop-cons, ap, sym, arith}
 use Rattle.c_core.specs.View.{program_view}
-use Rattle.c_meaning.specs.Acts.{Stop}
-use Rattle.c_meaning.specs.Havoc.{Fails}
 use Rattle.c_duties.specs.Obliged.{placed_view}
 use Rattle.havoc_state.specs.Havocking.{left_of}
-use Rattle.havoc_state.proofs.Testing.{test_fails, test_on}
+use Rattle.havoc_state.proofs.Testing.{test_on}
 use Rattle.havoc_state.proofs.invariants.check.Goals as goal
 
 pub loop-index-preserved : goal.loop-index-preserved
