@@ -4,8 +4,8 @@ use Rattle.std.proofs.lemmas.Bool.{le-leb}
 use Rattle.c_core.specs.Tree.{Program}
 use Rattle.c_core.specs.Program.{IsProgram, objects_fit, cells_fit, objects_rise, names_in_place, starts_fit, starts_differ, has_main, params_fit, types_fit, names_known, owned_once, names_in_reach, blocks_fit, jumps_fit, places_rise}
 use Rattle.c_core.specs.declared.number.Property.{Property}
-use Rattle.run_examples.specs.Programs.{hold_shorts, count_deep}
-use Rattle.c_meaning.specs.Examples.{branch_on_input, count_to_ten, count_to_three, recurse}
+use Rattle.run_examples.specs.Programs.{fill_in_loops, hold_shorts, count_deep}
+use Rattle.c_meaning.specs.Examples.{branch_on_input, count_calls, count_to_ten, count_to_three, recurse}
 
 abbrev objects_are : Program → Bool
 objects_are p = objects_fit p && (cells_fit p && (objects_rise p && (names_in_place p && params_fit p)))
@@ -68,6 +68,12 @@ three_checked = checked count_to_three refl refl refl refl
 
 pub recursion_checked : IsProgram recurse
 recursion_checked = checked recurse refl refl refl refl
+
+pub calls_checked : IsProgram count_calls
+calls_checked = checked count_calls refl refl refl refl
+
+pub loops_checked : IsProgram fill_in_loops
+loops_checked = checked fill_in_loops refl refl refl refl
 
 pub shorts_checked : IsProgram hold_shorts
 shorts_checked = checked hold_shorts refl refl refl refl

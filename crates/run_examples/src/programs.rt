@@ -1,15 +1,15 @@
 // The programs. Lines and columns are those of the texts beside their definitions.
-ghost use Rattle.std.specs.Prelude.{◌≡◌, ◌≤◌, ◌<◌, ◌^◌, IfOk};
-ghost use Rattle.c_core.specs.View.{function_view, program_view};
+ghost use Rattle.std.specs.Prelude.{◌≡◌, ◌≤◌, ◌<◌, ◌^◌, [], ◌∷◌, None, IfOk};
+ghost use Rattle.c_core.specs.View.{function_view, program_view, stmt_view};
 ghost use Rattle.c_meaning.specs.Examples as example;
 ghost use Rattle.run_examples.specs.Programs as more;
 
 use crate::trees::{
     array, assignment, at, block, call, call_with, change_by_one, declaration, element, four,
-    function, if_then, int_input, local, main_alone, number, object, one, only, operation, program,
-    reach_error, return_number, statement, three, two, while_do,
+    function, global, if_then, int_input, local, main_alone, number, object, one, only, operation,
+    program, program_started, reach_error, return_number, statement, three, two, while_do,
 };
-use c_core::{BinOp, Callee, Declared, Form, Function, Init, IntType, Object, Program, Property};
+use c_core::{BinOp, Callee, Declared, Form, Function, Init, IntType, Object, Program, Property, Start, Stmt};
 use std::alloc::Global;
 use wv_base::{OutOfMemory, Seq, Text};
 
@@ -93,6 +93,85 @@ pub fn count_to_three(alloc: Global) -> Result<Program, OutOfMemory>
     )?;
     let objects = one(alloc, local(alloc, 3, 7))?;
     main_alone(alloc, Property::UnreachCall, objects, block(2, 12, body))
+}
+
+// A function without parameters and result whose body is one statement.
+fn procedure(alloc: Global, line: u32, body: Stmt) -> Result<Function, OutOfMemory>
+    ensures { IfOk result (λ f. function_view f ≡ example.function None [] (example.block line 10 (stmt_view body ∷ []))) }
+{
+    let body = block(line, 10, one(alloc, body)?);
+    Ok(function(alloc, None, Seq::new(alloc), body))
+}
+
+/// Calls in a loop change a static object; the error follows where they did.
+pub fn count_calls(alloc: Global) -> Result<Program, OutOfMemory>
+    ensures { IfOk result (λ p. program_view p ≡ example.count_calls) }
+{
+    let counted = procedure(alloc, 3, change_by_one(alloc, 3, 12, 0, 16, 20)?)?;
+    let further = call(alloc, 4, 12, None, Callee::Defined(0), 14);
+    let calls = procedure(alloc, 4, only(4, 12, further))?;
+    let zero = declaration(alloc, 6, 3, 7, 1, number(6, 11, 0))?;
+    let below = operation(alloc, 7, 10, BinOp::Lt, object(7, 10, 1), number(7, 14, 3))?;
+    let turn = two(
+        alloc,
+        only(8, 5, call(alloc, 8, 5, None, Callee::Defined(1), 7)),
+        change_by_one(alloc, 9, 5, 1, 9, 13)?,
+    )?;
+    let turns = while_do(alloc, 7, 3, below, block(7, 17, turn))?;
+    let other = operation(alloc, 11, 7, BinOp::Ne, object(11, 7, 0), number(11, 12, 0))?;
+    let arm = block(11, 15, one(alloc, reach_error(alloc, 12, 5, 17))?);
+    let branch = if_then(alloc, 11, 3, other, arm)?;
+    let body = four(alloc, zero, turns, branch, return_number(14, 3, 10, 0))?;
+    let main = function(
+        alloc,
+        Some(IntType::Int),
+        Seq::new(alloc),
+        block(5, 12, body),
+    );
+    let functions = three(alloc, counted, calls, main)?;
+    let objects = two(alloc, global(alloc, 2, 5), local(alloc, 6, 7))?;
+    let starts = one(
+        alloc,
+        Start {
+            object: 0,
+            values: one(alloc, 0)?,
+        },
+    )?;
+    Ok(program_started(
+        Property::UnreachCall,
+        objects,
+        starts,
+        functions,
+        2,
+    ))
+}
+
+/// An element is written in an inner loop, which is left by `break`.
+pub fn fill_in_loops(alloc: Global) -> Result<Program, OutOfMemory>
+    ensures { IfOk result (λ p. program_view p ≡ more.fill_in_loops) }
+{
+    let target = element(alloc, 7, 7, 0, object(7, 9, 1))?;
+    let write = assignment(alloc, 7, 7, target, object(7, 14, 1))?;
+    let inner = two(alloc, only(7, 7, write), statement(8, 7, Form::Break))?;
+    let inner = while_do(alloc, 6, 5, number(6, 12, 1), block(6, 15, inner))?;
+    let below = operation(alloc, 5, 10, BinOp::Lt, object(5, 10, 1), number(5, 14, 2))?;
+    let outer = two(alloc, inner, change_by_one(alloc, 10, 5, 1, 9, 13)?)?;
+    let outer = while_do(alloc, 5, 3, below, block(5, 17, outer))?;
+    let found = element(alloc, 12, 7, 0, number(12, 9, 1))?;
+    let other = operation(alloc, 12, 7, BinOp::Ne, found, number(12, 15, 1))?;
+    let arm = block(12, 18, one(alloc, reach_error(alloc, 13, 5, 17))?);
+    let branch = if_then(alloc, 12, 3, other, arm)?;
+    let zero = declaration(alloc, 4, 3, 7, 1, number(4, 11, 0))?;
+    let body = four(alloc, zero, outer, branch, return_number(15, 3, 10, 0))?;
+    let main = function(
+        alloc,
+        Some(IntType::Int),
+        Seq::new(alloc),
+        block(3, 12, body),
+    );
+    let objects = two(alloc, array(alloc, 2, true, 2, 5), local(alloc, 4, 7))?;
+    let functions = one(alloc, main)?;
+    Ok(program(alloc, Property::UnreachCall, objects, functions, 0))
 }
 
 /// The error stands behind a recursion of four calls.

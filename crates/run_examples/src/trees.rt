@@ -8,7 +8,7 @@ ghost use Rattle.run_examples.specs.Programs as more;
 
 use c_core::{
     BinOp, Callee, DataModel, Declared, Expr, Form, Function, Init, IntType, Node, Object, Program,
-    Property, Spot, Stmt,
+    Property, Spot, Start, Stmt,
 };
 use std::alloc::Global;
 use wv_base::{OutOfMemory, Seq, Text};
@@ -312,6 +312,20 @@ pub fn local(alloc: Global, line: u32, column: u32) -> Object
     }
 }
 
+/// A variable of the file.
+pub fn global(alloc: Global, line: u32, column: u32) -> Object
+    ensures { result ≡ example.cell IntType.Int true line column }
+{
+    Object {
+        name: Text::new(alloc),
+        ty: IntType::Int,
+        cells: 1,
+        array: false,
+        fixed: true,
+        spot: at(line, column),
+    }
+}
+
 /// An array of `int`.
 pub fn array(alloc: Global, cells: u32, fixed: bool, line: u32, column: u32) -> Object
     ensures { result ≡ more.array cells fixed line column }
@@ -337,6 +351,26 @@ pub fn function(alloc: Global, ty: Option<IntType>, params: Seq<u32>, body: Stmt
     }
 }
 
+pub fn program_started(
+    property: Property,
+    objects: Seq<Object>,
+    starts: Seq<Start>,
+    functions: Seq<Function>,
+    main: u32,
+) -> Program
+    requires { IsProgram (example.program property objects starts (functions_view functions) main) }
+    ensures { program_view result ≡ example.program property objects starts (functions_view functions) main }
+{
+    Program {
+        model: DataModel::Ilp32,
+        property,
+        objects,
+        starts,
+        functions,
+        main,
+    }
+}
+
 pub fn program(
     alloc: Global,
     property: Property,
@@ -347,14 +381,7 @@ pub fn program(
     requires { IsProgram (example.program property objects [] (functions_view functions) main) }
     ensures { program_view result ≡ example.program property objects [] (functions_view functions) main }
 {
-    Program {
-        model: DataModel::Ilp32,
-        property,
-        objects,
-        starts: Seq::new(alloc),
-        functions,
-        main,
-    }
+    program_started(property, objects, Seq::new(alloc), functions, main)
 }
 
 /// A program of `main` alone.

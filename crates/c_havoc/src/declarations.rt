@@ -1,0 +1,155 @@
+// Declared names and their initializers.
+ghost use Rattle.c_core.specs.View.{program_view, expr_view, exprs_view, names_view, first_view, init_view};
+ghost use Rattle.run_state.specs.Interpreting.{same, flow_of};
+ghost use Rattle.c_duties.specs.Obliged.{placed_view};
+ghost use Rattle.havoc_state.specs.Havocking.{Gives, left_of, declaring, introduced, initialised, initialised_one, initialised_by, begun};
+
+use crate::full_expressions::{full, only};
+use c_core::{Declared, Expr, First, Init, Program, Spot};
+use c_meaning::PlacedInvariant;
+use havoc_state::{Halt, Machine, draw_cells, store};
+use run_state::{Element, Flow, add_started, size_of_object, type_of_object};
+
+// One value of an initializer.
+#[cycle(run)]
+fn initial_value(
+    program: &Program,
+    invariants: &[PlacedInvariant],
+    machine: &mut Machine,
+    depth: u64,
+    at: Spot,
+    object: u32,
+    index: u32,
+    e: &Expr,
+) -> Result<(), Halt>
+    ensures { Gives same result (left_of machine.new) (initialised_one (program_view program.now) (placed_view invariants.now) depth at object index (expr_view e.now) (left_of machine.old)) }
+{
+    let value = full(program, invariants, machine, depth, at, true, e)?;
+    let ty = type_of_object(program, object);
+    store(program, machine, Element { object, index }, ty, value);
+    Ok(())
+}
+
+// The values of an initializer, one after another.
+#[cycle(run)]
+fn initial_values(
+    program: &Program,
+    invariants: &[PlacedInvariant],
+    machine: &mut Machine,
+    depth: u64,
+    at: Spot,
+    object: u32,
+    es: &[Expr],
+) -> Result<(), Halt>
+    ensures { Gives same result (left_of machine.new) (initialised_by (program_view program.now) (placed_view invariants.now) depth at object 0 (exprs_view es.now) (left_of machine.old)) }
+{
+    for (index, e) in es.iter().enumerate() {
+        // cells are numbered by 32 bits
+        if index > u32::MAX as usize {
+            return Err(Halt::NoMemory);
+        }
+        initial_value(
+            program,
+            invariants,
+            machine,
+            depth,
+            at,
+            object,
+            index as u32,
+            e,
+        )?;
+    }
+    Ok(())
+}
+
+// The initializer of a declared name.
+#[cycle(run)]
+fn initial(
+    program: &Program,
+    invariants: &[PlacedInvariant],
+    machine: &mut Machine,
+    depth: u64,
+    at: Spot,
+    spot: Spot,
+    object: u32,
+    init: &Init,
+) -> Result<(), Halt>
+    ensures { Gives same result (left_of machine.new) (initialised (program_view program.now) (placed_view invariants.now) depth at spot object (init_view init.now) (left_of machine.old)) }
+{
+    match init {
+        Init::Absent => draw_cells(program, machine, spot, object),
+        Init::One(e) => initial_value(program, invariants, machine, depth, at, object, 0, e),
+        Init::Many(es) => initial_values(
+            program,
+            invariants,
+            machine,
+            depth,
+            at,
+            object,
+            es.as_slice(),
+        ),
+    }
+}
+
+// A declared name: its cells, then its initializer.
+#[cycle(run)]
+fn introduce(
+    program: &Program,
+    invariants: &[PlacedInvariant],
+    machine: &mut Machine,
+    depth: u64,
+    at: Spot,
+    name: &Declared,
+) -> Result<(), Halt>
+    ensures { Gives same result (left_of machine.new) (introduced (program_view program.now) (placed_view invariants.now) depth at name.now.spot name.now.object (init_view name.now.init) (left_of machine.old)) }
+{
+    let size = size_of_object(program, name.object);
+    add_started(&mut machine.memory, name.object, size, &[])?;
+    initial(
+        program,
+        invariants,
+        machine,
+        depth,
+        at,
+        name.spot,
+        name.object,
+        &name.init,
+    )
+}
+
+/// Declared names, one after another.
+#[cycle(run)]
+pub fn declare(
+    program: &Program,
+    invariants: &[PlacedInvariant],
+    machine: &mut Machine,
+    depth: u64,
+    at: Spot,
+    names: &[Declared],
+) -> Result<Flow, Halt>
+    ensures { Gives flow_of result (left_of machine.new) (declaring (program_view program.now) (placed_view invariants.now) depth at (names_view names.now) (left_of machine.old)) }
+{
+    for name in names {
+        introduce(program, invariants, machine, depth, at, name)?;
+    }
+    Ok(Flow::Next)
+}
+
+/// What comes before the turns of a `for`.
+#[cycle(run)]
+pub fn begin(
+    program: &Program,
+    invariants: &[PlacedInvariant],
+    machine: &mut Machine,
+    depth: u64,
+    at: Spot,
+    first: &First,
+) -> Result<Flow, Halt>
+    ensures { Gives flow_of result (left_of machine.new) (begun (program_view program.now) (placed_view invariants.now) depth at (first_view first.now) (left_of machine.old)) }
+{
+    match first {
+        First::Absent => Ok(Flow::Next),
+        First::Expr(e) => only(program, invariants, machine, depth, None, at, e),
+        First::Declare(names) => declare(program, invariants, machine, depth, at, names.as_slice()),
+    }
+}

@@ -1,0 +1,238 @@
+// Values: operators, cells, places of arrays' elements.
+ghost use Rattle.std.specs.Prelude.{◌≡◌, [], None, Ok, IsTrue, cond};
+ghost use Rattle.c_core.specs.Types.{fit, in_range, promote_of, IsPromoted};
+ghost use Rattle.c_core.specs.Operators.{is_shift as is_shift_of, apply_one_of, type_for as type_for_of, op_of_step, is_prefix};
+ghost use Rattle.c_core.specs.View.{program_view};
+ghost use Rattle.c_core.specs.declared.number.IntType.{IntType as NumberType};
+ghost use Rattle.c_meaning.specs.Cells.{read};
+ghost use Rattle.c_meaning.specs.Duties.{duty};
+ghost use Rattle.c_meaning.specs.Eval.{operate as operate_of, store as store_of, convert_to as convert_to_of};
+ghost use Rattle.c_meaning.specs.Havoc as havoc;
+ghost use Rattle.c_meaning.specs.Havoc.{Left};
+ghost use Rattle.c_meaning.specs.Objects as objects;
+ghost use Rattle.c_meaning.specs.Run as run;
+ghost use Rattle.run_state.specs.Interpreting.{same, where_of, key_of, computed_of};
+ghost use Rattle.c_meaning.specs.declared.run.DutyKind.TheVariants.{Property as PropertyKind};
+ghost use Rattle.havoc_state.specs.declared.machine.Ending.TheVariants.{Fails as EndFails};
+ghost use Rattle.havoc_state.specs.declared.machine.Halt.TheVariants.{Ends};
+ghost use Rattle.havoc_state.specs.Havocking.{Gives, left_of, havocked, changed, bumped};
+
+use crate::machine::{Ending, Halt, Machine};
+use c_core::{
+    BinOp, DataModel, Done, IntType, Program, Property, StepOp, UnOp, apply, apply_one, common,
+    convert, promote,
+};
+use c_meaning::{Duty, DutyKind};
+use run_state::{Around, Element, Typed, size_of_object};
+
+fn is_shift(op: BinOp) -> bool
+    ensures { result ≡ is_shift_of op }
+{
+    match op {
+        BinOp::Shl | BinOp::Shr => true,
+        _ => false,
+    }
+}
+
+// The type in which an operator computes.
+fn type_for(model: DataModel, op: BinOp, a: IntType, b: IntType) -> IntType
+    ensures value { result ≡ type_for_of model op a b }
+    ensures promoted { IsPromoted result }
+{
+    if is_shift(op) {
+        promote(model, a)
+    } else {
+        common(model, a, b)
+    }
+}
+
+// A value converted to a type, of which it is then a value.
+fn fitted(model: DataModel, ty: IntType, value: i128) -> i128
+    ensures value { result ≡ fit model ty value }
+    ensures range { IsTrue (in_range model ty result) }
+{
+    convert(model, ty, value)
+}
+
+// What an operator gives over values of two types.
+fn computed(model: DataModel, op: BinOp, left: Typed, right: Typed) -> Done
+    ensures { result ≡ computed_of model op left.ty left.value right.ty right.value }
+{
+    let ty = type_for(model, op, left.ty, right.ty);
+    let a = fitted(model, ty, left.value);
+    if is_shift(op) {
+        apply(
+            model,
+            op,
+            ty,
+            a,
+            fitted(model, promote(model, right.ty), right.value),
+        )
+    } else {
+        apply(model, op, ty, a, fitted(model, ty, right.value))
+    }
+}
+
+// What a unary operator gives over a value of a type.
+fn computed_one(model: DataModel, op: UnOp, of: Typed) -> Done
+    ensures { result ≡ apply_one_of model op (promote_of of.ty) (fit model (promote_of of.ty) of.value) }
+{
+    let ty = promote(model, of.ty);
+    apply_one(model, op, ty, fitted(model, ty, of.value))
+}
+
+/// The property is violated in a full expression.
+pub fn violate(at: Around) -> Halt
+    ensures { result ≡ Ends (EndFails (duty at.full PropertyKind None)) }
+{
+    Halt::Ends(Ending::Fails(Duty {
+        spot: at.full,
+        kind: DutyKind::Property,
+        invariant: None,
+    }))
+}
+
+// An overflow is the violation, or its value wraps.
+fn finish(program: &Program, at: Around, done: Done) -> Result<i128, Halt>
+    ensures { (s : Left) → Gives same result s (havoc.answered (program_view program.now) [] (where_of at) done s) }
+{
+    match done {
+        Done::Value(value) => Ok(value),
+        Done::Undefined => Err(Halt::Ends(Ending::Passes)),
+        Done::Overflow(value) => match program.property {
+            Property::UnreachCall => Ok(value),
+            Property::NoOverflow => Err(violate(at)),
+        },
+    }
+}
+
+/// A binary operator over values of two types.
+pub fn operate(
+    program: &Program,
+    at: Around,
+    op: BinOp,
+    left: Typed,
+    right: Typed,
+) -> Result<i128, Halt>
+    ensures { (s : Left) → Gives same result s (operate_of (program_view program.now) (havocked (program_view program.now) []) (where_of at) at.full op left.ty left.value right.ty right.value s) }
+{
+    let done = computed(program.model, op, left, right);
+    let value = finish(program, at, done)?;
+    Ok(value)
+}
+
+/// A unary operator over a value of a type.
+pub fn operate_one(program: &Program, at: Around, op: UnOp, of: Typed) -> Result<i128, Halt>
+    ensures { (s : Left) → Gives same result s (havoc.answered (program_view program.now) [] (where_of at) (apply_one_of program.now.model op (promote_of of.ty) (fit program.now.model (promote_of of.ty) of.value)) s) }
+{
+    let done = computed_one(program.model, op, of);
+    let value = finish(program, at, done)?;
+    Ok(value)
+}
+
+/// The element of an array at an index.
+pub fn element(program: &Program, object: u32, index: i128) -> Result<Element, Halt>
+    ensures { (s : Left) → Gives key_of result s (havoc.key_of (program_view program.now) [] object (run.index_below (objects.size_of_object (program_view program.now) object) index) s) }
+{
+    let size = size_of_object(program, object);
+    if index >= 0 && index < size as i128 {
+        Ok(Element {
+            object,
+            index: index as u32,
+        })
+    } else {
+        Err(Halt::Ends(Ending::Passes))
+    }
+}
+
+/// The value of a cell.
+pub fn look(machine: &Machine, at: Element) -> i128
+    ensures { result ≡ read (key_of at) machine.now.memory.cells }
+{
+    match machine.memory.cell(at.object, at.index) {
+        Some(value) => value,
+        None => 0,
+    }
+}
+
+/// Writes a value, converted to a type, and gives it.
+pub fn store(
+    program: &Program,
+    machine: &mut Machine,
+    at: Element,
+    to: IntType,
+    value: i128,
+) -> i128
+    ensures { (from : NumberType) → Gives same (Ok result) (left_of machine.new) (store_of (program_view program.now) (havocked (program_view program.now) []) (key_of at) from to value (left_of machine.old)) }
+{
+    let stored = convert(program.model, to, value);
+    machine.memory.set(at.object, at.index, stored);
+    stored
+}
+
+/// Converts a value where it is to have a type.
+pub fn convert_to(program: &Program, ty: Option<IntType>, value: i128) -> i128
+    ensures { (from : NumberType) (s : Left) → Gives same (Ok result) s (convert_to_of (program_view program.now) (havocked (program_view program.now) []) ty from value s) }
+{
+    match ty {
+        None => value,
+        Some(to) => convert(program.model, to, value),
+    }
+}
+
+/// Writes what an operator gives over a cell's value and another.
+pub fn change(
+    program: &Program,
+    machine: &mut Machine,
+    at: Around,
+    op: BinOp,
+    key: Element,
+    old: Typed,
+    with: Typed,
+) -> Result<i128, Halt>
+    ensures { Gives same result (left_of machine.new) (changed (program_view program.now) [] (where_of at) at.full op (key_of key) old.ty old.value with.ty with.value (left_of machine.old)) }
+{
+    let value = operate(program, at, op, old, with)?;
+    Ok(store(program, machine, key, old.ty, value))
+}
+
+// The operator of a step.
+fn op_of(op: StepOp) -> BinOp
+    ensures { result ≡ op_of_step op }
+{
+    match op {
+        StepOp::PreInc | StepOp::PostInc => BinOp::Add,
+        StepOp::PreDec | StepOp::PostDec => BinOp::Sub,
+    }
+}
+
+// The value of a step, which left a value in place of another.
+fn step_gives(op: StepOp, new: i128, old: i128) -> i128
+    ensures { result ≡ cond (is_prefix op) new old }
+{
+    match op {
+        StepOp::PreInc | StepOp::PreDec => new,
+        StepOp::PostInc | StepOp::PostDec => old,
+    }
+}
+
+/// One more or one less in a cell; the value after or before.
+pub fn bump(
+    program: &Program,
+    machine: &mut Machine,
+    at: Around,
+    op: StepOp,
+    key: Element,
+    ty: IntType,
+) -> Result<i128, Halt>
+    ensures { Gives same result (left_of machine.new) (bumped (program_view program.now) [] (where_of at) at.full op (key_of key) ty (left_of machine.old)) }
+{
+    let old = look(machine, key);
+    let one = Typed {
+        value: 1,
+        ty: IntType::Int,
+    };
+    let value = operate(program, at, op_of(op), Typed { value: old, ty }, one)?;
+    let new = store(program, machine, key, ty, value);
+    Ok(step_gives(op, new, old))
+}
