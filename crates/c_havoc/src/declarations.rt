@@ -6,9 +6,9 @@ ghost use Rattle.havoc_state.specs.Havocking.{Gives, left_of, declaring, introdu
 
 use crate::full_expressions::{full, only};
 use c_core::{Declared, Expr, First, Init, Program, Spot};
-use c_meaning::PlacedInvariant;
+use c_meaning::{PlacedInvariant, size_of_object, type_of_object};
 use havoc_state::{Halt, Machine, draw_cells, store};
-use run_state::{Element, Flow, add_started, size_of_object, type_of_object};
+use run_state::{Element, Flow, add_started};
 
 // One value of an initializer.
 #[cycle(run)]

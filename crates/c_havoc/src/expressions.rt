@@ -9,12 +9,12 @@ ghost use Rattle.havoc_state.specs.Havocking.{Gives, left_of, evaluated, noded, 
 
 use crate::calls::call_number;
 use c_core::{BinOp, Callee, Expr, IntType, Node, Program, Spot, StepOp, UnOp, convert};
-use c_meaning::{DrawKind, PlacedInvariant};
+use c_meaning::{DrawKind, PlacedInvariant, holds, truth, type_of};
 use havoc_state::{
     Ending, Halt, Machine, bump, change, convert_to, draw, element, look, operate, operate_one,
     reach, store,
 };
-use run_state::{Around, CallSite, Element, Typed, holds, is_needed, truth, type_of};
+use run_state::{Around, CallSite, Element, Typed, is_needed};
 use wv_base::Seq;
 
 /// The value of an expression.

@@ -7,9 +7,9 @@ ghost use Rattle.havoc_state.specs.Havocking.{Gives, left_of, fulled, decided, f
 
 use crate::expressions::eval;
 use c_core::{Expr, IntType, Program, Spot};
-use c_meaning::PlacedInvariant;
+use c_meaning::{PlacedInvariant, holds};
 use havoc_state::{Halt, Machine};
-use run_state::{Around, Flow, gave, holds};
+use run_state::{Around, Flow, gave};
 
 /// A full expression of the statement at a place.
 #[cycle(run)]

@@ -7,8 +7,7 @@ ghost use Rattle.havoc_state.specs.Havocking.{Gives, left_of, cell_drawn, cells_
 use crate::draws::draw;
 use crate::machine::{Halt, Machine};
 use c_core::{Program, Spot};
-use c_meaning::DrawKind;
-use run_state::{size_of_object, type_of_object};
+use c_meaning::{DrawKind, size_of_object, type_of_object};
 
 // A cell of an object draws its value.
 fn draw_cell(

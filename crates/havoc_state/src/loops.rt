@@ -10,8 +10,8 @@ use crate::draws::draw;
 use crate::invariants::check;
 use crate::machine::{Ending, Halt, Machine};
 use c_core::{Program, Spot};
-use c_meaning::{DrawKind, DutyKind, PlacedInvariant};
-use run_state::{Flow, size_of_object, type_of_object};
+use c_meaning::{DrawKind, DutyKind, PlacedInvariant, size_of_object, type_of_object};
+use run_state::Flow;
 
 // A cell draws a value.
 fn redraw_cell(

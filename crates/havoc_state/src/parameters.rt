@@ -7,7 +7,8 @@ ghost use Rattle.havoc_state.specs.Havocking.{Gives, left_of, parameter_set, nex
 use crate::machine::{Halt, Machine};
 use crate::values::store;
 use c_core::Program;
-use run_state::{Element, Typed, add_started, type_of_object};
+use c_meaning::type_of_object;
+use run_state::{Element, Typed, add_started};
 
 /// Each parameter has a cell, which gets the value of its argument, or 0 where there is none.
 pub fn set_parameters(

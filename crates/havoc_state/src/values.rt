@@ -1,7 +1,7 @@
 // Values: operators, cells, places of arrays' elements.
-ghost use Rattle.std.specs.Prelude.{◌≡◌, [], None, Ok, IsTrue, cond};
-ghost use Rattle.c_core.specs.Types.{fit, in_range, promote_of, IsPromoted};
-ghost use Rattle.c_core.specs.Operators.{is_shift as is_shift_of, apply_one_of, type_for as type_for_of, op_of_step, is_prefix};
+ghost use Rattle.std.specs.Prelude.{◌≡◌, [], None, Ok, cond};
+ghost use Rattle.c_core.specs.Types.{fit, promote_of};
+ghost use Rattle.c_core.specs.Operators.{apply_one_of, is_prefix};
 ghost use Rattle.c_core.specs.View.{program_view};
 ghost use Rattle.c_core.specs.declared.number.IntType.{IntType as NumberType};
 ghost use Rattle.c_meaning.specs.Cells.{read};
@@ -11,7 +11,7 @@ ghost use Rattle.c_meaning.specs.Havoc as havoc;
 ghost use Rattle.c_meaning.specs.Havoc.{Left};
 ghost use Rattle.c_meaning.specs.Objects as objects;
 ghost use Rattle.c_meaning.specs.Run as run;
-ghost use Rattle.run_state.specs.Interpreting.{same, where_of, key_of, computed_of};
+ghost use Rattle.run_state.specs.Interpreting.{same, where_of, key_of};
 ghost use Rattle.c_meaning.specs.declared.run.DutyKind.TheVariants.{Property as PropertyKind};
 ghost use Rattle.havoc_state.specs.declared.machine.Ending.TheVariants.{Fails as EndFails};
 ghost use Rattle.havoc_state.specs.declared.machine.Halt.TheVariants.{Ends};
@@ -19,67 +19,11 @@ ghost use Rattle.havoc_state.specs.Havocking.{Gives, left_of, havocked, changed,
 
 use crate::machine::{Ending, Halt, Machine};
 use c_core::{
-    BinOp, DataModel, Done, IntType, Program, Property, StepOp, UnOp, apply, apply_one, common,
-    convert, promote,
+    BinOp, Done, IntType, Program, Property, StepOp, UnOp, computed, computed_one, convert,
+    op_of_step,
 };
-use c_meaning::{Duty, DutyKind};
-use run_state::{Around, Element, Typed, size_of_object};
-
-fn is_shift(op: BinOp) -> bool
-    ensures { result ≡ is_shift_of op }
-{
-    match op {
-        BinOp::Shl | BinOp::Shr => true,
-        _ => false,
-    }
-}
-
-// The type in which an operator computes.
-fn type_for(model: DataModel, op: BinOp, a: IntType, b: IntType) -> IntType
-    ensures value { result ≡ type_for_of model op a b }
-    ensures promoted { IsPromoted result }
-{
-    if is_shift(op) {
-        promote(model, a)
-    } else {
-        common(model, a, b)
-    }
-}
-
-// A value converted to a type, of which it is then a value.
-fn fitted(model: DataModel, ty: IntType, value: i128) -> i128
-    ensures value { result ≡ fit model ty value }
-    ensures range { IsTrue (in_range model ty result) }
-{
-    convert(model, ty, value)
-}
-
-// What an operator gives over values of two types.
-fn computed(model: DataModel, op: BinOp, left: Typed, right: Typed) -> Done
-    ensures { result ≡ computed_of model op left.ty left.value right.ty right.value }
-{
-    let ty = type_for(model, op, left.ty, right.ty);
-    let a = fitted(model, ty, left.value);
-    if is_shift(op) {
-        apply(
-            model,
-            op,
-            ty,
-            a,
-            fitted(model, promote(model, right.ty), right.value),
-        )
-    } else {
-        apply(model, op, ty, a, fitted(model, ty, right.value))
-    }
-}
-
-// What a unary operator gives over a value of a type.
-fn computed_one(model: DataModel, op: UnOp, of: Typed) -> Done
-    ensures { result ≡ apply_one_of model op (promote_of of.ty) (fit model (promote_of of.ty) of.value) }
-{
-    let ty = promote(model, of.ty);
-    apply_one(model, op, ty, fitted(model, ty, of.value))
-}
+use c_meaning::{Duty, DutyKind, size_of_object};
+use run_state::{Around, Element, Typed};
 
 /// The property is violated in a full expression.
 pub fn violate(at: Around) -> Halt
@@ -116,7 +60,14 @@ pub fn operate(
 ) -> Result<i128, Halt>
     ensures { (s : Left) → Gives same result s (operate_of (program_view program.now) (havocked (program_view program.now) []) (where_of at) at.full op left.ty left.value right.ty right.value s) }
 {
-    let done = computed(program.model, op, left, right);
+    let done = computed(
+        program.model,
+        op,
+        left.ty,
+        left.value,
+        right.ty,
+        right.value,
+    );
     let value = finish(program, at, done)?;
     Ok(value)
 }
@@ -125,7 +76,7 @@ pub fn operate(
 pub fn operate_one(program: &Program, at: Around, op: UnOp, of: Typed) -> Result<i128, Halt>
     ensures { (s : Left) → Gives same result s (havoc.answered (program_view program.now) [] (where_of at) (apply_one_of program.now.model op (promote_of of.ty) (fit program.now.model (promote_of of.ty) of.value)) s) }
 {
-    let done = computed_one(program.model, op, of);
+    let done = computed_one(program.model, op, of.ty, of.value);
     let value = finish(program, at, done)?;
     Ok(value)
 }
@@ -196,16 +147,6 @@ pub fn change(
     Ok(store(program, machine, key, old.ty, value))
 }
 
-// The operator of a step.
-fn op_of(op: StepOp) -> BinOp
-    ensures { result ≡ op_of_step op }
-{
-    match op {
-        StepOp::PreInc | StepOp::PostInc => BinOp::Add,
-        StepOp::PreDec | StepOp::PostDec => BinOp::Sub,
-    }
-}
-
 // The value of a step, which left a value in place of another.
 fn step_gives(op: StepOp, new: i128, old: i128) -> i128
     ensures { result ≡ cond (is_prefix op) new old }
@@ -232,7 +173,7 @@ pub fn bump(
         value: 1,
         ty: IntType::Int,
     };
-    let value = operate(program, at, op_of(op), Typed { value: old, ty }, one)?;
+    let value = operate(program, at, op_of_step(op), Typed { value: old, ty }, one)?;
     let new = store(program, machine, key, ty, value);
     Ok(step_gives(op, new, old))
 }

@@ -7,8 +7,9 @@ ghost use Rattle.sym_weight.specs.Tally as tally;
 ghost use Rattle.sym_weight.specs.Tally.{tallying};
 
 use crate::cost::{Cost, draws, nothing, plus, weighs};
-use crate::table::{node_bits, node_work, stored, type_of, type_of_object};
+use crate::table::{node_bits, node_work, stored};
 use c_core::{Callee, DataModel, Expr, IntType, Node, Program};
+use c_meaning::{type_of, type_of_object};
 use wv_base::OutOfMemory;
 
 // An argument, where there is one for the parameter.

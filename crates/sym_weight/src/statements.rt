@@ -10,9 +10,10 @@ ghost use Rattle.sym_weight.specs.Views.{else_of};
 use crate::cost::{Cost, draws, nothing, plus, weighs};
 use crate::expressions::expression;
 use crate::placed::{Weights, weight_at};
-use crate::table::{bits_of_object, returned, stored, tested, type_of, type_of_object};
+use crate::table::{bits_of_object, returned, stored, tested};
 use c_calls::changed_in;
 use c_core::{Declared, Expr, First, Form, Init, IntType, Program, Spot, Stmt};
+use c_meaning::{type_of, type_of_object};
 use std::alloc::Global;
 use wv_base::OutOfMemory;
 

@@ -8,37 +8,10 @@ ghost use Rattle.c_meaning.specs.Objects as objects;
 ghost use Rattle.sym_weight.specs.Table as table;
 
 use c_core::{
-    BinOp, Callee, DataModel, Expr, IntType, Node, Program, StepOp, UnOp, common, promote,
+    BinOp, Callee, DataModel, Expr, IntType, Node, Program, StepOp, UnOp, op_of_step, promote,
+    right_type_for, type_for,
 };
-
-/// The type of an expression; that of a void one isn't asked for.
-pub fn type_of(e: &Expr) -> IntType
-    ensures { result ≡ objects.type_of (expr_view e.now) }
-{
-    match e.ty {
-        Some(ty) => ty,
-        None => IntType::Int,
-    }
-}
-
-/// The type of an object.
-pub fn type_of_object(program: &Program, object: u32) -> IntType
-    ensures { result ≡ objects.type_of_object (program_view program.now) object }
-{
-    match program.objects.get(object as usize) {
-        Some(object) => object.ty,
-        None => IntType::Int,
-    }
-}
-
-fn size_of_object(program: &Program, object: u32) -> u32
-    ensures { result ≡ objects.size_of_object (program_view program.now) object }
-{
-    match program.objects.get(object as usize) {
-        Some(object) => object.cells,
-        None => 0,
-    }
-}
+use c_meaning::{size_of_object, type_of, type_of_object};
 
 fn number_of_type(ty: IntType) -> u8
     ensures { result ≡ typing.number_of_type ty }
@@ -63,42 +36,6 @@ fn same_type(a: IntType, b: IntType) -> bool
     ensures { result ≡ typing.same_type a b }
 {
     number_of_type(a) == number_of_type(b)
-}
-
-fn is_shift(op: BinOp) -> bool
-    ensures { result ≡ operators.is_shift op }
-{
-    match op {
-        BinOp::Shl | BinOp::Shr => true,
-        _ => false,
-    }
-}
-
-fn op_of_step(op: StepOp) -> BinOp
-    ensures { result ≡ operators.op_of_step op }
-{
-    match op {
-        StepOp::PreInc | StepOp::PostInc => BinOp::Add,
-        StepOp::PreDec | StepOp::PostDec => BinOp::Sub,
-    }
-}
-
-// The type in which an operator computes.
-fn type_for(model: DataModel, op: BinOp, a: IntType, b: IntType) -> IntType
-    ensures { result ≡ operators.type_for model op a b }
-{
-    if is_shift(op) {
-        promote(model, a)
-    } else {
-        common(model, a, b)
-    }
-}
-
-// The type of its right side.
-fn right_type_for(model: DataModel, op: BinOp, ty: IntType, b: IntType) -> IntType
-    ensures { result ≡ operators.right_type_for op ty b }
-{
-    if is_shift(op) { promote(model, b) } else { ty }
 }
 
 fn width(model: DataModel, ty: IntType) -> u64

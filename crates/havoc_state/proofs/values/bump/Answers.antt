@@ -16,7 +16,7 @@ returns-in_err-value c =
     let e : c.from_residual.result ≡ Err c.in_err-value.field-0.0 = search rules in
     let x : SFits w128 c.look-old.result = search rules in
     let s = left_of c.args.machine.now in
-    let answer = rw (to_z-of_z w128 c.look-old.result x, c.look-old.ensures, c.op_of.ensures) at (c.in_err-value.ensures s) in
+    let answer = rw (to_z-of_z w128 c.look-old.result x, c.look-old.ensures, c.op_of_step.ensures) at (c.in_err-value.ensures s) in
     rw e (halted same same c.in_err-value.field-0.0 s _ _ answer)
 
 pub returns : goal.returns
@@ -27,7 +27,7 @@ returns c =
     let w : SFits w128 c.step_gives.result = search rules in
     let s = left_of c.args.machine.now in
     let from = type_for c.args.program.now.model (op_of_step c.args.op) c.args.ty Int in
-    let answer = rw (to_z-of_z w128 c.look-old.result x, c.look-old.ensures, c.op_of.ensures) at (c.in_ok-value.ensures s) in
+    let answer = rw (to_z-of_z w128 c.look-old.result x, c.look-old.ensures, c.op_of_step.ensures) at (c.in_ok-value.ensures s) in
     let k = rw (to_z-of_z w128 c.in_ok-value.value z) at (c.store-new.ensures from) in
     let e = rw (to_z-of_z w128 c.store-new.result y, to_z-of_z w128 c.look-old.result x, c.look-old.ensures) at c.step_gives.ensures in
     let old = read (key_of c.args.key) c.args.machine.now.memory.cells in
