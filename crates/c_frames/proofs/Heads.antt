@@ -49,7 +49,7 @@ without_heads (Told e cs) xs = Told e cs ∷ xs
 without_heads (Here spot cs) xs = Here spot cs ∷ xs
 without_heads (Head at l arrived cs) xs = xs
 
-any_done : (ty : IntType) (d : Done) → st.IsDone (λ ty v. Unit {0}) ty d
+pub any_done : (ty : IntType) (d : Done) → st.IsDone (λ ty v. Unit {0}) ty d
 any_done ty (Value v) = tt
 any_done ty (Overflow v) = tt
 any_done ty Undefined = tt
@@ -108,7 +108,7 @@ module _ (p : Program) where
   abbrev pub FramedTurn : Spot → Loop → Type 0
   FramedTurn at l = (n : ℕ) (result : Option IntType) (s t : State Seen) → turn p M (calls_in p M n) result at l s ≡ Go Next t → SameBut p (changed_by p l) s.cells t.cells
 
-  abbrev heads : Relation M M
+  abbrev pub heads : Relation M M
   heads = record {
     Scope = List ℕ;
     more = λ L o. L ++ o ∷ [];
@@ -224,7 +224,7 @@ module _ (p : Program) where
     params_fit [] = tt
     params_fit (o ∷ os) = (tt, tt, params_fit os)
 
-    body_fits : (g : ℕ) (fn : Function) → slice_get p.functions g ≡ Some fn → (E : List ℕ) → FitsS p heads fn.result (with_names p heads E fn.params) fn.body
+    pub body_fits : (g : ℕ) (fn : Function) → slice_get p.functions g ≡ Some fn → (E : List ℕ) → FitsS p heads fn.result (with_names p heads E fn.params) fn.body
     unfolding refit
     body_fits g fn e E = refit_s p (InFunction g) heads fn.result fn.result (refit g fn fn.result e) (params_of p h fn) (with_names p heads E fn.params) tt fn.body (named_body p h g fn e) (fresh_body p h g fn e) (λ q s. ap (λ o. some_of (some_node q) (fulls_if o)) e ∙ s)
 

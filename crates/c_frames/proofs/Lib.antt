@@ -5,3 +5,4 @@ pub mod Bodies
 pub mod Members
 pub mod FramedTurns
 pub mod Heads
+pub mod Turns

@@ -3,4 +3,4 @@
 
 mod laws;
 
-pub use laws::{heads_are_framed, others_read_as_before};
+pub use laws::{heads_are_framed, others_read_as_before, turns_are_framed};
