@@ -5,8 +5,7 @@ use Rattle.std.proofs.lemmas.List.Elements.{All-contains}
 use Rattle.clauses.specs.Clause.{IsNumber}
 use Rattle.clauses.specs.Assignment.{number_holds}
 use Rattle.sat_core.specs.Answers.{value_at}
-use Rattle.sat_core.proofs.Lists.{contains_at}
-use Rattle.sat_core.proofs.Scans.{item_at}
+use Rattle.sat_newness.proofs.Lists.{contains_at, item_at}
 use Rattle.sat_core.proofs.Models.{clause_true}
 use Rattle.sat_core.proofs.check.satisfies.Goals as goal
 
