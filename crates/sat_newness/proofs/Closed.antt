@@ -1,6 +1,5 @@
 -- What unit propagation comes to stays within a table that settles the clauses.
-use Rattle.std.proofs.Common.{◌≡◌, ◌≢◌, ℕ, zero, suc, ◌+◌, ◌-◌, ◌*◌, ◌^◌, ◌<◌, ◌≤◌, ◌⊎◌, inl, inr, Bool, true, false, not, Some, List, [], ◌∷◌, ◌++◌, length, take, ℤ, pos, negsuc, neg_ℤ, refl, sym, ◌∙◌, ap, subst, arith}
-use Rattle.std.specs.Prelude.{slice_get, slice_index}
+use Rattle.std.proofs.Common.{◌≡◌, ◌≢◌, ℕ, zero, suc, ◌+◌, ◌<◌, ◌≤◌, ◌⊎◌, inl, inr, Bool, true, false, not, List, ℤ, pos, neg_ℤ, refl, sym, ◌∙◌, subst, arith}
 use Rattle.std.specs.Ordering.{int_eq}
 use Rattle.std.specs.List.{Contains}
 use Rattle.std.proofs.lemmas.Bool.{cases_lt}
@@ -8,7 +7,7 @@ use Rattle.std.proofs.lemmas.Bool.Decides.{Decides-int_eq}
 use Rattle.clauses.specs.Tseitin.{number_of, input_numbers}
 use Rattle.clauses.specs.Units.{Units, given_one, forced, Fails}
 use Rattle.clauses.specs.Spent.{IsNew, Decides}
-use Rattle.sat_newness.specs.Weights.{code, weight, Makes, IsTable, IsMade, HasTwo, IsSettled, AreSettled, IsLast, HasAllTo, HasOpen}
+use Rattle.sat_newness.specs.Weights.{weight, Makes, IsTable, IsSettled, AreSettled, IsLast, HasAllTo, HasOpen}
 use Rattle.sat_newness.proofs.Others.{neg_neg, Decides-cases, others, others_from, others_at, input_at}
 
 -- a number weighs nothing where its opposite is true

@@ -1,10 +1,10 @@
 -- Pairs of numbers, and the clauses that they settle.
-use Rattle.std.proofs.Common.{◌≡◌, ◌≢◌, ℕ, zero, suc, ◌+◌, ◌-◌, ◌*◌, ◌^◌, ◌<◌, ◌≤◌, ◌⊎◌, inl, inr, Bool, Option, Some, None, List, [], ◌∷◌, ◌++◌, length, take, ℤ, pos, negsuc, neg_ℤ, refl, sym, ◌∙◌, ap, subst, arith}
+use Rattle.std.proofs.Common.{◌≡◌, ◌≢◌, ℕ, zero, suc, ◌+◌, ◌-◌, ◌^◌, ◌<◌, ◌≤◌, ◌⊎◌, inl, inr, Some, List, [], ◌∷◌, ◌++◌, length, take, ℤ, sym, ◌∙◌, ap, subst, arith}
 use Rattle.std.specs.Prelude.{slice_get, slice_set, slice_index, replicate}
 use Rattle.std.specs.List.{Contains}
 use Rattle.std.proofs.lemmas.Bool.{cases_lt}
-use Rattle.std.proofs.lemmas.Option.{none-some, same_Some, slice_get_within, slice_get-get_or, get_or_from_slice_get}
-use Rattle.std.proofs.lemmas.List.{take_all, length-map}
+use Rattle.std.proofs.lemmas.Option.{none-some, same_Some, slice_get_within, get_or_from_slice_get}
+use Rattle.std.proofs.lemmas.List.{take_all}
 use Rattle.std.proofs.lemmas.List.Elements.{Contains-append_cases}
 use Rattle.std.proofs.Math.Seq.{take-suc}
 use Rattle.std.proofs.Math.Nat.{pow-le-pow_right}
@@ -13,9 +13,9 @@ use Rattle.clauses.specs.Log.{given}
 use Rattle.clauses.specs.Spent.{IsNew, AreNew, Decides}
 use Rattle.sat_newness.specs.declared.pairs.Pair.{Pair}
 use Rattle.sat_newness.specs.Clauses.{clauses_of}
-use Rattle.sat_newness.specs.Weights.{code, weight, Makes, IsTable, IsSettled, AreSettled, IsLast}
+use Rattle.sat_newness.specs.Weights.{code, weight, IsTable, IsSettled, AreSettled, IsLast}
 use Rattle.sat_newness.specs.Pairs.{HoldsAt, IsPairOf, ArePairs, Settles, IsFound, AreSettledTo}
-use Rattle.sat_newness.proofs.Lists.{get_push, get_append, get_take, at_contains, contains_at, get_set_same, get_set_other}
+use Rattle.sat_newness.proofs.Lists.{get_push, get_append, at_contains, get_set_same, get_set_other}
 use Rattle.sat_newness.proofs.Logs.{new_more, given_more}
 use Rattle.sat_newness.proofs.Closed.{new_by}
 

@@ -1,5 +1,5 @@
 -- Tables of weights, by which unit propagation is bounded from above: what it makes true weighs 2.
-use Rattle.std.specs.Prelude.{◌≡◌, ◌≢◌, ℕ, ◌+◌, ◌*◌, ◌<◌, ◌≤◌, ◌⊎◌, List, slice_index, ℤ, pos, negsuc, neg_ℤ}
+use Rattle.std.specs.Prelude.{◌≢◌, ℕ, ◌+◌, ◌*◌, ◌<◌, ◌≤◌, ◌⊎◌, List, slice_index, ℤ, pos, negsuc, neg_ℤ}
 use Rattle.std.specs.List.{Contains}
 
 -- where a table keeps a number: that of variable n at 2n, its opposite behind it

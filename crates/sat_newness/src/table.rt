@@ -9,11 +9,7 @@ pub fn at(table: &[u8], code: u32) -> u8
     ensures { result ≡ slice_index table.now code }
 {
     let place = code as usize;
-    if place < table.len() {
-        table[place]
-    } else {
-        0
-    }
+    if place < table.len() { table[place] } else { 0 }
 }
 
 /// Where tables keep a number.

@@ -54,12 +54,7 @@ fn has_open(table: &[u8], variables: u32) -> bool
 }
 
 /// Whether a table shows that the first k variables, and fewer of them, don't decide the clauses.
-pub fn is_undecided(
-    alloc: Global,
-    table: &[u8],
-    cnf: &Cnf,
-    k: u32,
-) -> Result<bool, OutOfMemory>
+pub fn is_undecided(alloc: Global, table: &[u8], cnf: &Cnf, k: u32) -> Result<bool, OutOfMemory>
     requires { k < 32 }
     ensures { IfOk result (λ r. IsTrue r → (j : ℕ) → j ≤ k → Decides j cnf.now.variables cnf.now.clauses → ⊥) }
 {

@@ -25,7 +25,10 @@ fn write(search: &Search, table: &mut [u8]) {
 fn first_open(search: &Search, k: u32) -> Option<u32> {
     for before in 0..k {
         let variable = before + 1;
-        if matches!(search.values.value(Lit::of_variable(variable, true)), Value::Open) {
+        if matches!(
+            search.values.value(Lit::of_variable(variable, true)),
+            Value::Open
+        ) {
             return Some(variable);
         }
     }

@@ -148,7 +148,8 @@ impl Search {
     pub fn decide_variable(&mut self, variable: usize) -> Result<(), OutOfMemory> {
         let value = self.values.phase(variable);
         if variable < 0x8000_0000 {
-            self.values.decide(Lit::of_variable(variable as u32, value))?;
+            self.values
+                .decide(Lit::of_variable(variable as u32, value))?;
         }
         Ok(())
     }

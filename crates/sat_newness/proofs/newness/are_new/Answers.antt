@@ -1,10 +1,10 @@
-use Rattle.std.proofs.Common.{◌≡◌, ◌+◌, [], ◌∷◌, ◌++◌, length, take, drop, List, subst, sym, ◌∙◌, refl, ap, arith}
+use Rattle.std.proofs.Common.{◌≡◌, [], ◌∷◌, ◌++◌, length, take, drop, List, subst, sym, ◌∙◌, refl, ap, arith}
 use Rattle.std.proofs.lemmas.List.{length_push}
 use Rattle.std.proofs.Math.Seq.{take-append_seam}
 use Rattle.sat_newness.specs.declared.pairs.Pair.{Pair}
 use Rattle.sat_newness.specs.Clauses.{clauses_of}
 use Rattle.sat_newness.specs.Pairs.{ArePairs}
-use Rattle.sat_newness.proofs.Settled.{new_all, no_pairs_held, pairs_more}
+use Rattle.sat_newness.proofs.Settled.{pairs_more}
 use Rattle.sat_newness.proofs.newness.are_new.Goals as goal
 
 pub loop-count-preserved : goal.loop-count-preserved

@@ -1,10 +1,9 @@
-use Rattle.std.proofs.Common.{◌≡◌, ◌<◌, sym, ◌∙◌, ap, refl, subst, arith, length, Some, List, ℤ}
-use Rattle.std.specs.Prelude.{slice_get}
+use Rattle.std.proofs.Common.{◌<◌, sym, subst, arith, length, List}
 use Rattle.std.proofs.lemmas.Option.{slice_get-get_or}
 use Rattle.sat_newness.specs.declared.pairs.Pair.{Pair}
 use Rattle.sat_newness.specs.Clauses.{clauses_of}
 use Rattle.sat_newness.specs.Pairs.{ArePairs}
-use Rattle.sat_newness.proofs.Settled.{pairs_set, settled_none, settled_next, settled_kept}
+use Rattle.sat_newness.proofs.Settled.{pairs_set, settled_next, settled_kept}
 use Rattle.sat_newness.proofs.pairs.are_settled.Goals as goal
 use Rattle.sat_newness.proofs.pairs.are_settled.Goals.{then-not-settles+in-Some, else-not-settles}
 

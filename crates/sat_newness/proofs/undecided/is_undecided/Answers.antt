@@ -1,5 +1,4 @@
-use Rattle.std.proofs.Common.{◌≡◌, ℕ, ◌+◌, length, List, subst, sym, ◌∙◌, refl, ap, arith}
-use Rattle.std.specs.Prelude.{replicate}
+use Rattle.std.proofs.Common.{◌≡◌, ℕ, length, subst, ◌∙◌, refl, ap}
 use Rattle.std.proofs.lemmas.List.{length-replicate}
 use Rattle.sat_newness.specs.declared.pairs.Pair.{Pair}
 use Rattle.sat_newness.specs.Clauses.{clauses_of}
