@@ -2,11 +2,11 @@
 use Rattle.std.proofs.Common.{◌≡◌, ◌≢◌, ℕ, ◌+◌, ◌-◌, ◌<◌, inl, inr, Bool, Some, List, [], ◌∷◌, ◌++◌, length, get_or, ℤ, refl, sym, ◌∙◌, ap, subst, arith}
 use Rattle.std.specs.Prelude.{slice_get}
 use Rattle.std.specs.List.{Contains}
-use Rattle.std.proofs.lemmas.List.{append_assoc, append-nil, map_push, length_push, length-map}
+use Rattle.std.proofs.lemmas.List.{append_assoc, append-nil, length_push, length-map}
 use Rattle.std.proofs.lemmas.List.Elements.{Contains-append_left, Contains-push, Contains-push_cases, Contains-get_or}
 use Rattle.clauses.specs.declared.log.Chain.{Chain}
 use Rattle.clauses.specs.Log.{given, IsRight, IsAccepted}
-use Rattle.clauses.specs.Spent.{IsNew, AreNew, IsSpent}
+use Rattle.clauses.specs.Spent.{AreNew, IsSpent}
 use Rattle.clauses.proofs.Count.{AreDistinct, AreShort, short_within}
 use Rattle.sat_newness.specs.Clauses.{clauses_of}
 use Rattle.sat_core.specs.Derived.{AreOnce}

@@ -1,5 +1,5 @@
-use Rattle.std.proofs.Common.{◌≡◌, ◌∙◌, ap, subst, sym, arith, length, pos, w32, FitsSigned, true, ℤ}
-use Rattle.std.specs.Prelude.{slice_get, slice_index_or, unsigned_abs, Some}
+use Rattle.std.proofs.Common.{◌≡◌, ◌∙◌, subst, arith, pos, w32, FitsSigned, true, ℤ}
+use Rattle.std.specs.Prelude.{slice_get, slice_index_or, Some}
 use Rattle.std.proofs.lemmas.Int.{to_z-of_z, fits_signed_from_abs}
 use Rattle.std.proofs.lemmas.List.Elements.{All-contains}
 use Rattle.clauses.specs.Clause.{IsNumber}
