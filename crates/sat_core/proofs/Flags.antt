@@ -10,8 +10,7 @@ use Rattle.std.proofs.lemmas.List.Elements.{Contains-append_left, Contains-push,
 use Rattle.clauses.specs.Clause.{Rises, RisesFrom}
 use Rattle.clauses.specs.Tseitin.{flag_at}
 use Rattle.sat_core.specs.Derived.{AreMarked, AreMarkedUpTo, AreFlagged, AreTwo}
-use Rattle.sat_core.proofs.Lists.{contains_at, at_contains}
-use Rattle.sat_core.proofs.Running.{cons_here, cons_there}
+use Rattle.sat_newness.proofs.Lists.{contains_at, at_contains, cons_here, cons_there}
 use Rattle.sat_core.proofs.Seen.{rises_less}
 
 pub none_flagged : (n v : ℕ) → flag_at (replicate n false) v ≡ true → ⊥

@@ -1,24 +1,21 @@
 -- Why a derived clause is new, and which values it is the first to block.
-use Rattle.std.proofs.Common.{◌≡◌, ◌≢◌, ℕ, zero, suc, ◌+◌, ◌-◌, ◌<◌, ◌≤◌, ◌⊎◌, inl, inr, Bool, true, false, not, cond, Some, List, [], ◌∷◌, ◌++◌, length, ℤ, pos, neg_ℤ, refl, sym, ◌∙◌, ap, subst, arith}
-use Rattle.std.proofs.Common.{Decides as DecidesBool}
+use Rattle.std.proofs.Common.{◌≡◌, ◌≢◌, ℕ, zero, suc, ◌+◌, ◌-◌, ◌<◌, ◌≤◌, inl, inr, Bool, true, false, not, Some, List, [], ◌∷◌, ◌++◌, length, ℤ, pos, neg_ℤ, refl, sym, ◌∙◌, ap, subst, arith}
 use Rattle.std.specs.Prelude.{slice_get, slice_index_or}
-use Rattle.std.specs.Ordering.{int_eq}
 use Rattle.std.specs.List.{Contains}
-use Rattle.std.proofs.lemmas.Bool.{cases_lt, false≢true}
-use Rattle.std.proofs.lemmas.Bool.Decides.{Decides-int_eq}
+use Rattle.std.proofs.lemmas.Bool.{cases_lt}
 use Rattle.std.proofs.lemmas.List.{length_push}
 use Rattle.std.proofs.lemmas.Option.{same_Some, get_or_from_slice_get}
-use Rattle.std.proofs.lemmas.List.Elements.{Contains-append_left, Contains-push_cases}
+use Rattle.std.proofs.lemmas.List.Elements.{Contains-append_left}
 use Rattle.clauses.specs.Tseitin.{number_of, input_numbers}
 use Rattle.clauses.specs.Units.{Units, given_one, forced, Fails}
 use Rattle.sat_core.specs.declared.trail.Assigned.{Assigned}
 use Rattle.sat_core.specs.Trail.{number, Holds, HasValue, Settled, IsTrail}
 use Rattle.sat_core.specs.Derived.{IsOfDecisions}
 use Rattle.sat_core.specs.Learned.{IsFresh}
-use Rattle.sat_core.proofs.Lists.{get_append, get_pushed}
-use Rattle.sat_core.proofs.Places.{neg_neg, one_place, consistent, valued, valued_neg}
+use Rattle.sat_newness.proofs.Lists.{get_append, get_pushed, cons_here, cons_there, cons_cases}
+use Rattle.sat_newness.proofs.Others.{neg_neg, others, others_from, others_at, input_at}
+use Rattle.sat_core.proofs.Places.{one_place, consistent, valued, valued_neg}
 use Rattle.sat_core.proofs.Kept.{decision, same_pos}
-use Rattle.sat_core.proofs.Running.{cons_here, cons_there, cons_cases}
 
 -- unit propagation stays within settled values
 pub units_hold : (clauses : List (List ℤ)) (given : List ℤ) (t : List Assigned) (n : ℕ) → Settled clauses t n → ((x : ℤ) → Contains given x → Holds t n x) → (x : ℤ) → Units clauses given x → Holds t n x
@@ -71,32 +68,6 @@ top_of (x ∷ z ∷ zs) p ne =
       }
     ]
 
--- the opposites of all numbers but one
-abbrev others : ℤ → List ℤ → List ℤ
-others m [] = []
-others m (x ∷ xs) = cond (int_eq x m) (others m xs) (neg_ℤ x ∷ others m xs)
-
-others_from : (m : ℤ) (c : List ℤ) (y : ℤ) → Contains (others m c) y → Contains c (neg_ℤ y) × (neg_ℤ y ≢ m)
-others_from m [] y i = absurd (omega (arith, i.1))
-others_from m (x ∷ xs) y i = others_from_at m x xs y (int_eq x m) (Decides-int_eq x m) i (others_from m xs y)
-  where
-    others_from_at : (m x : ℤ) (xs : List ℤ) (y : ℤ) (b : Bool) → DecidesBool b (x ≡ m) → Contains (cond b (others m xs) (neg_ℤ x ∷ others m xs)) y → (Contains (others m xs) y → Contains xs (neg_ℤ y) × (neg_ℤ y ≢ m)) → Contains (x ∷ xs) (neg_ℤ y) × (neg_ℤ y ≢ m)
-    others_from_at m x xs y true d i ih = let h = ih i in (cons_there x (neg_ℤ y) xs h.0, h.1)
-    others_from_at m x xs y false d i ih = elim (cons_cases (neg_ℤ x) y (others m xs) i) as (λ _. Contains (x ∷ xs) (neg_ℤ y) × (neg_ℤ y ≢ m)) [
-      | inl e ↦ let q : x ≡ neg_ℤ y = sym (neg_neg x) ∙ ap neg_ℤ e in (subst (λ (z : ℤ). Contains (x ∷ xs) z) q (cons_here x xs), λ k. false≢true (d.1 (q ∙ k)))
-      | inr k ↦ let h = ih k in (cons_there x (neg_ℤ y) xs h.0, h.1)
-    ]
-
-others_at : (m : ℤ) (c : List ℤ) (y : ℤ) → Contains c (neg_ℤ y) → neg_ℤ y ≢ m → Contains (others m c) y
-others_at m [] y i ne = absurd (omega (arith, i.1))
-others_at m (x ∷ xs) y i ne = others_at_step m x xs y (int_eq x m) (Decides-int_eq x m) (cons_cases x (neg_ℤ y) xs i) ne (λ k. others_at m xs y k ne)
-  where
-    others_at_step : (m x : ℤ) (xs : List ℤ) (y : ℤ) (b : Bool) → DecidesBool b (x ≡ m) → (x ≡ neg_ℤ y) ⊎ Contains xs (neg_ℤ y) → neg_ℤ y ≢ m → (Contains xs (neg_ℤ y) → Contains (others m xs) y) → Contains (cond b (others m xs) (neg_ℤ x ∷ others m xs)) y
-    others_at_step m x xs y true d (inl e) ne ih = absurd (ne (sym e ∙ d.0 refl))
-    others_at_step m x xs y true d (inr k) ne ih = ih k
-    others_at_step m x xs y false d (inl e) ne ih = subst (λ (z : ℤ). Contains (neg_ℤ x ∷ others m xs) z) (ap neg_ℤ e ∙ neg_neg y) (cons_here (neg_ℤ x) (others m xs))
-    others_at_step m x xs y false d (inr k) ne ih = cons_there (neg_ℤ x) y (others m xs) (ih k)
-
 -- the values of the first variables
 pub record Values (t : List Assigned) (n m : ℕ) : Type 0 where
   pub list : List Bool
@@ -121,14 +92,6 @@ values_of t n (suc m) h =
         )
       ];
     }
-
-input_at : (v : ℕ → Bool) (k : ℕ) (x : ℤ) → Contains (input_numbers v k) x → (j : ℕ) × (j < k) × (x ≡ number_of (not (v j)) (j + 1))
-unfolding input_numbers
-input_at v zero x i = absurd (omega (arith, i.1))
-input_at v (suc k) x i = elim (Contains-push_cases (input_numbers v k) (number_of (not (v k)) (k + 1)) x i) as (λ _. (j : ℕ) × (j < suc k) × (x ≡ number_of (not (v j)) (j + 1))) [
-  | inl h ↦ let r = input_at v k x h in (r.0, omega (arith, r.1), r.2)
-  | inr e ↦ (k, omega arith, sym e)
-]
 
 pub number_false : (e : Assigned) → e.value ≡ false → number e ≡ neg_ℤ (pos e.variable)
 number_false e h = ap (λ b. number_of (not b) e.variable) h

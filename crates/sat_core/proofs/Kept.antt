@@ -1,25 +1,21 @@
 -- What a trail keeps where values or clauses come, or values go.
-use Rattle.std.proofs.Common.{◌≡◌, ℕ, ◌<◌, ◌≤◌, ◌⊎◌, inl, inr, Bool, true, false, Option, Some, None, List, [], ◌∷◌, ◌++◌, length, take, ℤ, pos, neg_ℤ, refl, sym, ◌∙◌, subst, arith}
+use Rattle.std.proofs.Common.{◌≡◌, ℕ, ◌<◌, ◌≤◌, inl, inr, Option, Some, None, List, [], ◌∷◌, ◌++◌, length, take, ℤ, pos, neg_ℤ, refl, sym, ◌∙◌, subst, arith}
 use Rattle.std.specs.Prelude.{slice_get}
 use Rattle.std.specs.List.{Contains}
-use Rattle.std.proofs.Common.{Decides}
 use Rattle.std.specs.Ordering.{int_eq}
-use Rattle.std.proofs.lemmas.Bool.{cases_lt, false≢true}
+use Rattle.std.proofs.lemmas.Bool.{cases_lt}
 use Rattle.std.proofs.lemmas.Bool.Decides.{Decides-int_eq}
 use Rattle.std.proofs.lemmas.Option.{none-some, same_Some, slice_get_within}
 use Rattle.std.proofs.lemmas.List.Elements.{Contains-push_cases}
 use Rattle.sat_core.specs.declared.trail.Assigned.{Assigned}
 use Rattle.sat_core.specs.Trail.{number, Holds, HasValue, IsSettledBy, Settled, Implied, Decided, Why, Follows, IsTrail}
 use Rattle.sat_core.specs.Derived.{AreTwo, AreBelow, IsOfDecisions}
-use Rattle.sat_core.proofs.Lists.{get_append, get_push, get_take}
+use Rattle.sat_newness.proofs.Lists.{get_append, get_push, get_take}
+use Rattle.sat_newness.proofs.Others.{Decides-cases}
 use Rattle.sat_core.proofs.Places.{one_place, valued_neg, value_later, holds_grown, value_grown, holds_ungrown, value_ungrown, holds_cut, value_cut, holds_uncut, value_uncut}
 
 pub same_pos : (m n : ℕ) → pos m ≡ pos n → m ≡ n
 same_pos m n e = cc
-
-pub Decides-cases : (b : Bool) (P : Type 0) → Decides b P → P ⊎ (P → ⊥)
-Decides-cases true P d = inl (d.0 refl)
-Decides-cases false P d = inr (λ p. false≢true (d.1 p))
 
 settled_moved : (clauses : List (List ℤ)) (t u : List Assigned) (n : ℕ) → ((x : ℤ) → Holds t n x → Holds u n x) → ((x : ℤ) → Holds u n x → Holds t n x) → Settled clauses t n → Settled clauses u n
 settled_moved clauses t u n to from s = record {

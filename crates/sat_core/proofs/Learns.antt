@@ -13,13 +13,14 @@ use Rattle.clauses.specs.declared.log.Chain.{Chain}
 use Rattle.clauses.specs.declared.log.Resolve.{Resolve}
 use Rattle.clauses.specs.Log.{given, AreSame}
 use Rattle.sat_core.specs.declared.trail.Assigned.{Assigned}
-use Rattle.sat_core.specs.Trail.{number, IsTrail, Settled, IsNumberOf, AreNumbersOf, clauses_of}
+use Rattle.sat_newness.specs.Clauses.{clauses_of}
+use Rattle.sat_core.specs.Trail.{number, IsTrail, Settled, IsNumberOf, AreNumbersOf}
 use Rattle.sat_core.specs.Values.{Told, IsState}
 use Rattle.sat_core.specs.Found.{IsLeastOpen}
 use Rattle.sat_core.specs.Derived.{running, IsAnalyzed, AreFlagged, AreTwo, AreBelow, IsOfDecisions}
 use Rattle.sat_core.specs.Learned.{IsLearned}
 use Rattle.sat_core.specs.Answers.{HasLearned, IsLog, IsSolving}
-use Rattle.sat_core.proofs.Places.{neg_neg}
+use Rattle.sat_newness.proofs.Others.{neg_neg}
 use Rattle.sat_core.proofs.Kept.{learned_trail, decision, trail_grown}
 use Rattle.sat_core.proofs.Running.{runs_from, runs_at, derives_same}
 use Rattle.sat_core.proofs.Fresh.{fresh, number_false}

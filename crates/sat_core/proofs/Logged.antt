@@ -2,32 +2,22 @@
 use Rattle.std.proofs.Common.{◌≡◌, ◌≢◌, ℕ, ◌+◌, ◌-◌, ◌<◌, inl, inr, Bool, Some, List, [], ◌∷◌, ◌++◌, length, get_or, ℤ, refl, sym, ◌∙◌, ap, subst, arith}
 use Rattle.std.specs.Prelude.{slice_get}
 use Rattle.std.specs.List.{Contains}
-use Rattle.std.proofs.lemmas.List.{append_assoc, append-nil, map_push, length_push, length-map}
+use Rattle.std.proofs.lemmas.List.{append_assoc, append-nil, length_push, length-map}
 use Rattle.std.proofs.lemmas.List.Elements.{Contains-append_left, Contains-push, Contains-push_cases, Contains-get_or}
 use Rattle.clauses.specs.declared.log.Chain.{Chain}
 use Rattle.clauses.specs.Log.{given, IsRight, IsAccepted}
-use Rattle.clauses.specs.Spent.{IsNew, AreNew, IsSpent}
+use Rattle.clauses.specs.Spent.{AreNew, IsSpent}
 use Rattle.clauses.proofs.Count.{AreDistinct, AreShort, short_within}
-use Rattle.sat_core.specs.Trail.{clauses_of}
+use Rattle.sat_newness.specs.Clauses.{clauses_of}
 use Rattle.sat_core.specs.Derived.{AreOnce}
 use Rattle.sat_core.specs.Learned.{Blocks, IsLearned}
 use Rattle.sat_core.specs.Answers.{AreAllOnce, IsRefuted, AreApart, IsLog}
-use Rattle.sat_core.proofs.Lists.{get_pushed}
-use Rattle.sat_core.proofs.Running.{cons_cases}
+use Rattle.sat_newness.proofs.Lists.{get_pushed, cons_cases}
+use Rattle.sat_newness.proofs.Logs.{new_more, given_more, clauses_more}
 
 accepted_more : (clauses : List (List ℤ)) (chains : List Chain) (chain : Chain) → IsAccepted clauses chains → IsRight (clauses ++ given chains) chain → IsAccepted clauses (chains ++ chain ∷ [])
 accepted_more clauses [] chain a r = (subst (λ (cs : List (List ℤ)). IsRight cs chain) (append-nil clauses) r, tt)
 accepted_more clauses (x ∷ xs) chain a r = (a.0, accepted_more (clauses ++ x.gives ∷ []) xs chain a.1 (subst (λ (cs : List (List ℤ)). IsRight cs chain) (sym (append_assoc clauses (x.gives ∷ []) (given xs))) r))
-
-new_more : (clauses cs : List (List ℤ)) (c : List ℤ) → AreNew clauses cs → c ≢ [] → IsNew (clauses ++ cs) c → AreNew clauses (cs ++ c ∷ [])
-new_more clauses [] c a ne n = (ne, subst (λ (ds : List (List ℤ)). IsNew ds c) (append-nil clauses) n, tt)
-new_more clauses (x ∷ xs) c a ne n = (a.0, a.1, new_more (clauses ++ x ∷ []) xs c a.2 ne (subst (λ (ds : List (List ℤ)). IsNew ds c) (sym (append_assoc clauses (x ∷ []) xs)) n))
-
-given_more : (chains : List Chain) (chain : Chain) → given (chains ++ chain ∷ []) ≡ given chains ++ chain.gives ∷ []
-given_more chains chain = map_push (λ c. c.gives) chains chain
-
-pub clauses_more : (clauses : List (List ℤ)) (chains : List Chain) (chain : Chain) → clauses_of clauses (chains ++ chain ∷ []) ≡ clauses_of clauses chains ++ chain.gives ∷ []
-clauses_more clauses chains chain = ap (λ gs. clauses ++ gs) (given_more chains chain) ∙ sym (append_assoc clauses (given chains) (chain.gives ∷ []))
 
 once_more : (chains : List Chain) (chain : Chain) → AreAllOnce chains → AreOnce chain.steps → AreAllOnce (chains ++ chain ∷ [])
 once_more chains chain a o = λ x i. elim (Contains-push_cases chains chain x i) as (λ _. AreOnce x.steps) [

@@ -14,7 +14,7 @@ use Rattle.sat_core.specs.Trail.{number, Holds, HasValue}
 use Rattle.sat_core.specs.Values.{IsState}
 use Rattle.sat_core.specs.Found.{IsComplete}
 use Rattle.sat_core.specs.Answers.{value_at, IsModel, AreValues, AreFirstValues}
-use Rattle.sat_core.proofs.Running.{cons_here, cons_there, cons_cases}
+use Rattle.sat_newness.proofs.Lists.{cons_here, cons_there, cons_cases}
 
 either_is : (y : ℤ) (b : Bool) → (number_of (not b) (unsigned_abs y) ≡ y) ⊎ (number_of (not b) (unsigned_abs y) ≡ neg_ℤ y)
 either_is (pos n) true = inl refl

@@ -6,17 +6,8 @@ use Rattle.std.proofs.lemmas.Option.{same_Some}
 use Rattle.clauses.specs.Tseitin.{number_of}
 use Rattle.sat_core.specs.declared.trail.Assigned.{Assigned}
 use Rattle.sat_core.specs.Trail.{number, Holds, HasValue, IsTrail}
-use Rattle.sat_core.proofs.Lists.{get_front, get_append, get_take, get_taken}
-
-pub neg_neg : (x : ℤ) → neg_ℤ (neg_ℤ x) ≡ x
-neg_neg (pos zero) = refl
-neg_neg (pos (suc n)) = refl
-neg_neg (negsuc n) = refl
-
-pub abs_neg : (x : ℤ) → unsigned_abs (neg_ℤ x) ≡ unsigned_abs x
-abs_neg (pos zero) = refl
-abs_neg (pos (suc n)) = refl
-abs_neg (negsuc n) = refl
+use Rattle.sat_newness.proofs.Lists.{get_front, get_append, get_take, get_taken}
+use Rattle.sat_newness.proofs.Others.{abs_neg}
 
 abs_number : (b : Bool) (v : ℕ) → unsigned_abs (number_of b v) ≡ v
 abs_number true v = abs_neg (pos v)

@@ -11,8 +11,9 @@ use Rattle.clauses.specs.Log.{Resolvent, AreSame, IsClauseAt, Derives}
 use Rattle.sat_core.specs.declared.trail.Assigned.{Assigned}
 use Rattle.sat_core.specs.Trail.{number, Holds, HasValue, IsTrail, AreNumbersOf}
 use Rattle.sat_core.specs.Derived.{IsConflict, running, AreMarked, IsAnalyzed}
-use Rattle.sat_core.proofs.Lists.{get_push, contains_at}
-use Rattle.sat_core.proofs.Places.{neg_neg, abs_neg, variable_of, one_place, same_entry, consistent, valued_neg}
+use Rattle.sat_newness.proofs.Lists.{get_push, contains_at, cons_here, cons_there, cons_cases}
+use Rattle.sat_newness.proofs.Others.{neg_neg, abs_neg}
+use Rattle.sat_core.proofs.Places.{variable_of, one_place, same_entry, consistent, valued_neg}
 
 -- a number of the clause, and where its opposite stands
 pub record Runs (seen : List Bool) (t : List Assigned) (y : ℤ) : Type 0 where
@@ -21,16 +22,6 @@ pub record Runs (seen : List Bool) (t : List Assigned) (y : ℤ) : Type 0 where
   pub there : slice_get t at ≡ Some entry
   pub flagged : flag_at seen entry.variable ≡ true
   pub is : neg_ℤ (number entry) ≡ y
-
-pub cons_here : {A : Type 0} (x : A) (xs : List A) → Contains (x ∷ xs) x
-cons_here x xs = (0, omega arith, refl)
-
-pub cons_there : {A : Type 0} (x y : A) (xs : List A) → Contains xs y → Contains (x ∷ xs) y
-cons_there x y xs c = (suc c.0, omega (arith, c.1), c.2)
-
-pub cons_cases : {A : Type 0} (x y : A) (xs : List A) → Contains (x ∷ xs) y → (x ≡ y) ⊎ Contains xs y
-cons_cases x y xs (zero, lt, e) = inl e
-cons_cases x y xs (suc k, lt, e) = inr (k, omega arith, e)
 
 kept_or : (b : Bool) (x : ℤ) (xs : List ℤ) (y : ℤ) → Contains xs y → Contains (cond b (x ∷ xs) xs) y
 kept_or true x xs y c = cons_there x y xs c

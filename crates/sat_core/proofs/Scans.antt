@@ -1,25 +1,22 @@
 -- What a scan of the clauses keeps.
 use Rattle.std.proofs.Common.{◌≡◌, ℕ, zero, suc, ◌+◌, ◌<◌, ◌≤◌, ◌⊎◌, inl, inr, Bool, true, false, not, Option, Some, None, List, [], ◌∷◌, ◌++◌, length, ℤ, pos, negsuc, neg_ℤ, refl, sym, ◌∙◌, ap, subst, arith}
-use Rattle.std.specs.Prelude.{slice_get, slice_index_or, unsigned_abs}
+use Rattle.std.specs.Prelude.{slice_get, unsigned_abs}
 use Rattle.std.specs.List.{Contains}
 use lib.Signed.{lt_z}
 use Rattle.std.proofs.lemmas.Bool.{cases_lt, lt-ltb, false≢true}
-use Rattle.std.proofs.lemmas.Option.{same_Some, slice_get_within, slice_get-get_or}
+use Rattle.std.proofs.lemmas.Option.{same_Some, slice_get_within}
 use Rattle.std.proofs.lemmas.List.{length-append, length-map}
 use Rattle.clauses.specs.Tseitin.{number_of}
 use Rattle.clauses.specs.declared.log.Chain.{Chain}
 use Rattle.clauses.specs.Log.{given}
 use Rattle.sat_core.specs.declared.trail.Assigned.{Assigned}
-use Rattle.sat_core.specs.Trail.{Holds, HasValue, IsSettledBy, Settled, IsTrail, IsNumberOf, AreNumbersOf, clauses_of}
+use Rattle.sat_newness.specs.Clauses.{clauses_of}
+use Rattle.sat_core.specs.Trail.{Holds, HasValue, IsSettledBy, Settled, IsTrail, IsNumberOf, AreNumbersOf}
 use Rattle.sat_core.specs.Values.{Told, IsValue, open_variables}
 use Rattle.sat_core.specs.Found.{IsUnit, IsTrueBy, HasTwoOpen, AreScanned}
-use Rattle.sat_core.proofs.Lists.{contains_at, at_contains}
+use Rattle.sat_newness.proofs.Lists.{contains_at, at_contains, cons_cases}
 use Rattle.sat_core.proofs.Kept.{trail_grown}
-use Rattle.sat_core.proofs.Running.{cons_cases}
 use Rattle.sat_core.proofs.Seen.{settled_other}
-
-pub item_at : (c items : List ℤ) (n : ℕ) → items ≡ c → n < length items → slice_get c n ≡ Some (slice_index_or items n (pos 0))
-item_at c items n e lt = subst (λ (l : List ℤ). slice_get l n ≡ Some (slice_index_or items n (pos 0))) e (slice_get-get_or items n (pos 0) lt)
 
 pub false_of_value : (t : List Assigned) (x y : ℤ) (r : Option Bool) → IsValue t x r → r ≡ Some false → x ≡ y → Holds t (length t) (neg_ℤ y)
 false_of_value t x y r h e q = subst (λ (z : ℤ). Holds t (length t) (neg_ℤ z)) q (subst (λ (o : Option Bool). IsValue t x o) e h)

@@ -11,9 +11,9 @@ use Rattle.clauses.specs.Clause.{Rises, RisesFrom}
 use Rattle.sat_core.specs.declared.trail.Assigned.{Assigned}
 use Rattle.sat_core.specs.Trail.{Holds, HasValue, IsSettledBy, IsTrail}
 use Rattle.sat_core.specs.Found.{IsUnit, IsTrueBy, HasTwoOpen, AreSeen}
-use Rattle.sat_core.proofs.Lists.{contains_at, at_contains}
+use Rattle.sat_newness.proofs.Lists.{contains_at, at_contains}
+use Rattle.sat_newness.proofs.Others.{Decides-cases}
 use Rattle.sat_core.proofs.Places.{consistent, valued_neg}
-use Rattle.sat_core.proofs.Kept.{Decides-cases}
 
 -- later numbers of a rising list are greater
 less_less : (x y z : ℤ) → x <ℤ y → y <ℤ z → x <ℤ z

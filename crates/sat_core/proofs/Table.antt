@@ -10,7 +10,7 @@ use Rattle.clauses.specs.Tseitin.{number_of}
 use Rattle.sat_core.specs.declared.trail.Assigned.{Assigned}
 use Rattle.sat_core.specs.Trail.{Holds, HasValue}
 use Rattle.sat_core.specs.Values.{Valued, Told, IsCut, IsValue, open_variables}
-use Rattle.sat_core.proofs.Lists.{get_take, get_append, get_push, get_pushed, get_set_same, get_set_other}
+use Rattle.sat_newness.proofs.Lists.{get_take, get_append, get_push, get_pushed, get_set_same, get_set_other}
 use Rattle.sat_core.proofs.Places.{value_uncut}
 
 -- ---- what the table says of a number

@@ -7,7 +7,7 @@ use Rattle.clauses.specs.Log.{given, IsAccepted, Refutes}
 use Rattle.clauses.specs.Spent.{AreNew, IsSpent, Decides}
 use Rattle.sat_core.specs.declared.solver.Answer.{Answer}
 use Rattle.sat_core.specs.declared.solver.Answer.TheVariants.{Model, Refuted, Spent}
-use Rattle.sat_core.specs.Trail.{clauses_of}
+use Rattle.sat_newness.specs.Clauses.{clauses_of}
 use Rattle.sat_core.specs.declared.trail.Assigned.{Assigned}
 use Rattle.sat_core.specs.Values.{IsState}
 use Rattle.sat_core.specs.Derived.{AreOnce}

@@ -1,9 +1,7 @@
 -- The trail: which values came, in which order, and why.
-use Rattle.std.specs.Prelude.{◌≡◌, ◌≢◌, ℕ, ◌<◌, ◌^◌, false, not, Option, Some, None, List, ◌++◌, slice_get, ℤ, neg_ℤ, unsigned_abs}
+use Rattle.std.specs.Prelude.{◌≡◌, ◌≢◌, ℕ, ◌<◌, ◌^◌, false, not, Option, Some, None, List, slice_get, ℤ, neg_ℤ, unsigned_abs}
 use Rattle.std.specs.List.{Contains}
 use Rattle.clauses.specs.Tseitin.{number_of}
-use Rattle.clauses.specs.declared.log.Chain.{Chain}
-use Rattle.clauses.specs.Log.{given}
 use Rattle.sat_core.specs.declared.trail.Assigned.{Assigned}
 
 -- the number that a value makes true
@@ -62,10 +60,6 @@ pub record Follows (clauses : List (List ℤ)) (size : ℕ) (t : List Assigned) 
 -- each value may come after those before it
 pub record IsTrail (clauses : List (List ℤ)) (size : ℕ) (t : List Assigned) : Type 0 where
   pub each : (n : ℕ) (e : Assigned) → slice_get t n ≡ Some e → Follows clauses size t n e
-
--- the given clauses, then those that the chains give
-abbrev pub clauses_of : List (List ℤ) → List Chain → List (List ℤ)
-clauses_of clauses chains = clauses ++ given chains
 
 -- a number of a variable below the size, whose opposite fits too
 pub record IsNumberOf (size : ℕ) (x : ℤ) : Type 0 where

@@ -3,13 +3,14 @@ ghost use Rattle.std.specs.Prelude.{◌≡◌, ℕ, ◌<◌, ◌≤◌, ◌^◌,
 ghost use Rattle.std.specs.List.{Contains};
 ghost use Rattle.clauses.specs.Clause.{Rises};
 ghost use Rattle.clauses.specs.Tseitin.{flag_at};
-ghost use Rattle.sat_core.specs.Trail.{clauses_of, AreNumbersOf};
+ghost use Rattle.sat_newness.specs.Clauses.{clauses_of};
+ghost use Rattle.sat_core.specs.Trail.{AreNumbersOf};
 ghost use Rattle.sat_core.specs.Values.{IsState};
 ghost use Rattle.sat_core.specs.Derived.{IsConflict, AreMarked, IsAnalyzed, AreFlagged, AreTwo, AreBelow};
 
-use crate::database::clause_at;
 use crate::trail::Trail;
 use clauses::{Chain, Clause, Resolve};
+use sat_newness::clause_at;
 use std::alloc::Global;
 use wv_base::{OutOfMemory, Seq};
 

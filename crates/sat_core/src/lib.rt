@@ -4,7 +4,6 @@
 
 mod analyze;
 mod check;
-mod database;
 mod laws;
 mod plain;
 mod propagate;

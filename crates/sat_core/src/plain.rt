@@ -3,7 +3,7 @@
 ghost use Rattle.std.specs.Prelude.{◌≡◌, ℕ, ◌+◌, ◌<◌, ◌≤◌, ◌^◌, [], ◌∷◌, ◌++◌, true, length, IfOk, OnOk, List, ℤ};
 ghost use Rattle.std.specs.List.{Contains};
 ghost use Rattle.clauses.specs.Clause.{IsClause};
-ghost use Rattle.sat_core.specs.Trail.{clauses_of};
+ghost use Rattle.sat_newness.specs.Clauses.{clauses_of};
 ghost use Rattle.sat_core.specs.Values.{IsState};
 ghost use Rattle.sat_core.specs.Derived.{IsConflict};
 ghost use Rattle.sat_core.specs.Found.{IsSearched};

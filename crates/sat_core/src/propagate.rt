@@ -1,12 +1,13 @@
 // Unit propagation, by scanning the clauses until no unit is left.
 ghost use Rattle.std.specs.Prelude.{◌≡◌, ℕ, ◌<◌, ◌≤◌, ◌^◌, [], ◌∷◌, length, IfOk, OnOk};
-ghost use Rattle.sat_core.specs.Trail.{clauses_of, AreNumbersOf};
+ghost use Rattle.sat_newness.specs.Clauses.{clauses_of};
+ghost use Rattle.sat_core.specs.Trail.{AreNumbersOf};
 ghost use Rattle.sat_core.specs.Values.{Told, IsState, open_variables};
 ghost use Rattle.sat_core.specs.Found.{IsStateOf, IsScan, IsPropagated};
 
-use crate::database::clause_at;
 use crate::trail::Trail;
 use clauses::{Chain, Clause};
+use sat_newness::clause_at;
 use wv_base::{OutOfMemory, Seq};
 
 /// What the values make of a clause: all its numbers false, all but one open one, or neither.

@@ -5,6 +5,7 @@ ghost use Rattle.sat_core.specs.Answers.{IsAnswer};
 use crate::check::{is_model, is_refutation};
 use crate::plain::solve_plainly;
 use clauses::{Cnf, Refutation};
+use sat_newness::is_spent;
 use sat_search::{Outcome, find};
 use std::alloc::Global;
 use wv_base::{OutOfMemory, Seq};
@@ -18,11 +19,17 @@ pub enum Answer {
     Spent(Refutation),
 }
 
-// what the search finds, where it stands the check
-fn find_checked(alloc: Global, cnf: &Cnf, budget: u64) -> Result<Option<Answer>, OutOfMemory>
+// what a search finds, where it stands the check
+fn find_checked(
+    alloc: Global,
+    cnf: &Cnf,
+    budget: u64,
+    keeps: bool,
+) -> Result<Option<Answer>, OutOfMemory>
+    requires { budget ≤ 2 ^ 30 }
     ensures { IfOk result (λ r. IfSome r (λ a. IsAnswer cnf.now.variables cnf.now.clauses budget a)) }
 {
-    match find(alloc, cnf, budget)? {
+    match find(alloc, cnf, budget, keeps)? {
         Outcome::Model(values) => {
             if is_model(cnf, values.as_slice()) {
                 return Ok(Some(Answer::Model(values)));
@@ -31,6 +38,11 @@ fn find_checked(alloc: Global, cnf: &Cnf, budget: u64) -> Result<Option<Answer>,
         Outcome::Refuted(log) => {
             if is_refutation(alloc, cnf, &log, budget)? {
                 return Ok(Some(Answer::Refuted(log)));
+            }
+        }
+        Outcome::Spent(log, asserting) => {
+            if is_spent(alloc, cnf, &log, asserting, budget)? {
+                return Ok(Some(Answer::Spent(log)));
             }
         }
         Outcome::Nothing => {}
@@ -45,7 +57,11 @@ pub fn solve(alloc: Global, cnf: &Cnf, budget: u64) -> Result<Answer, OutOfMemor
     requires bounded { budget ≤ 2 ^ 30 }
     ensures { IfOk result (λ r. IsAnswer cnf.now.variables cnf.now.clauses budget r) }
 {
-    match find_checked(alloc, cnf, budget)? {
+    // a search that drops clauses decides more; one that keeps them all shows that each is new
+    if let Some(answer) = find_checked(alloc, cnf, budget, false)? {
+        return Ok(answer);
+    }
+    match find_checked(alloc, cnf, budget, true)? {
         Some(answer) => Ok(answer),
         None => solve_plainly(alloc, cnf, budget),
     }

@@ -49,6 +49,62 @@ fn a_budget_of_two_refutes(rt: HostRuntime) -> Result<(), Fail> {
 }
 
 #[test]
+fn a_budget_of_seven_is_not_spent(rt: HostRuntime) -> Result<(), Fail> {
+    let cnf = cnf(rt.alloc(), 2, &[&[1, 2], &[-2, 1], &[-1, 2], &[-2, -1]])?;
+    assert!(rt; cnf.clauses.len() < 100);
+    let Answer::Refuted(log) = solve(rt.alloc(), &cnf, 7)? else {
+        return Err("not refuted".into());
+    };
+    assert_eq!(rt; log.chains.len(), 2);
+    assert!(rt; accepts(rt.alloc(), &cnf, &log)?);
+    Ok(())
+}
+
+// the variable of a pigeon in one of five holes
+fn pigeon_in(pigeon: i32, hole: i32) -> i32 {
+    pigeon.wrapping_mul(5).wrapping_add(hole).wrapping_add(1)
+}
+
+// six pigeons, each in one of five holes, no two in one
+fn pigeons(alloc: Global) -> Result<Cnf, Fail> {
+    let mut clauses = Seq::new(alloc);
+    for pigeon in 0..6 {
+        let mut holes = Seq::new(alloc);
+        for hole in 0..5 {
+            holes.push(pigeon_in(pigeon, hole))?;
+            for other in 0..pigeon {
+                let two = [
+                    pigeon_in(pigeon, hole).wrapping_neg(),
+                    pigeon_in(other, hole).wrapping_neg(),
+                ];
+                clauses.push(Clause::new(list(alloc, &two)?).ok_or("no clause")?)?;
+            }
+        }
+        clauses.push(Clause::new(holes).ok_or("no clause")?)?;
+    }
+    let cnf = Cnf::new(30, clauses).ok_or("another variable")?;
+    Ok(cnf)
+}
+
+#[test]
+fn a_budget_is_spent_on_so_many_clauses(rt: HostRuntime) -> Result<(), Fail> {
+    let cnf = pigeons(rt.alloc())?;
+    assert!(rt; cnf.clauses.len() < 100);
+    for budget in [1u64, 2, 7, 40] {
+        let Answer::Spent(log) = solve(rt.alloc(), &cnf, budget)? else {
+            return Err("not spent".into());
+        };
+        assert_eq!(rt; log.chains.len() as u64, budget);
+        assert!(rt; accepts_log(rt.alloc(), &cnf, &log)?);
+    }
+    let Answer::Refuted(log) = solve(rt.alloc(), &cnf, 10_000)? else {
+        return Err("not refuted".into());
+    };
+    assert!(rt; accepts(rt.alloc(), &cnf, &log)?);
+    Ok(())
+}
+
+#[test]
 fn a_number_and_its_opposite(rt: HostRuntime) -> Result<(), Fail> {
     let cnf = cnf(rt.alloc(), 1, &[&[1], &[-1]])?;
     assert!(rt; cnf.clauses.len() < 100);

@@ -245,6 +245,7 @@ impl Search {
             return Ok(());
         };
         put(&mut self.conflict.learned, 0, asserting);
+        self.asserting.push(asserting.number())?;
         self.minimize()?;
         self.resolve_redundant()?;
         self.resolve_fixed()?;

@@ -5,6 +5,7 @@
 mod arena;
 mod cells;
 mod conflict;
+mod hints;
 mod learn;
 mod lit;
 mod log;
@@ -16,4 +17,5 @@ mod values;
 mod watches;
 
 pub use cells::filled;
+pub use hints::{Hints, weights_of_first};
 pub use search::{Outcome, find};

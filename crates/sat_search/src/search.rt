@@ -27,6 +27,8 @@ pub struct Search {
     pub reduction: Reduction,
     /// whether all learned clauses are kept
     pub keeps: bool,
+    /// the number of each learned clause that made it a unit
+    pub asserting: Vec<i32>,
     /// one more than there are variables
     pub many: usize,
 }
@@ -39,7 +41,7 @@ enum Visit {
 }
 
 impl Search {
-    fn new(alloc: Global, variables: u32, keeps: bool) -> Result<Search, OutOfMemory> {
+    pub fn new(alloc: Global, variables: u32, keeps: bool) -> Result<Search, OutOfMemory> {
         Ok(Search {
             alloc,
             given: 0,
@@ -52,6 +54,7 @@ impl Search {
             restart: Restart::new(),
             reduction: Reduction::new(alloc),
             keeps,
+            asserting: Vec::new(alloc),
             many: variables as usize + 1,
         })
     }
@@ -107,7 +110,7 @@ impl Search {
     }
 
     // all given clauses: one whose literals are all false
-    fn add_all(&mut self, given: &Seq<Clause>) -> Result<Option<u32>, OutOfMemory> {
+    pub fn add_all(&mut self, given: &Seq<Clause>) -> Result<Option<u32>, OutOfMemory> {
         let mut conflict = None;
         for clause in given.as_slice() {
             let found = self.add_given(clause)?;
@@ -116,6 +119,39 @@ impl Search {
             }
         }
         Ok(conflict)
+    }
+
+    /// A clause more, at level 0, which is watched by literals that aren't false.
+    pub fn add_later(&mut self, clause: &Clause) -> Result<(), OutOfMemory> {
+        let index = self.arena.push_given(clause)?;
+        self.reduction.add(0)?;
+        let span = self.arena.span(index);
+        let first = span.start as usize;
+        let mut open = first;
+        for place in first..first + span.count as usize {
+            let literal = self.arena.literal(place);
+            if !self.values.is_false(literal) {
+                let other = self.arena.literal(open);
+                self.arena.set_literal(place, other);
+                self.arena.set_literal(open, literal);
+                open = open.wrapping_add(1);
+            }
+        }
+        if open < first + 2 {
+            let _ = self.assert_unit(index)?;
+            return Ok(());
+        }
+        self.attach(index)
+    }
+
+    /// Decides a variable, by the value that it had last.
+    pub fn decide_variable(&mut self, variable: usize) -> Result<(), OutOfMemory> {
+        let value = self.values.phase(variable);
+        if variable < 0x8000_0000 {
+            self.values
+                .decide(Lit::of_variable(variable as u32, value))?;
+        }
+        Ok(())
     }
 
     // a literal behind the first two of a clause that isn't false
@@ -238,8 +274,7 @@ impl Search {
             let Some(variable) = self.pick_branch() else {
                 return Ok(None);
             };
-            let value = self.values.phase(variable as usize);
-            self.values.decide(Lit::of_variable(variable, value))?;
+            self.decide_variable(variable as usize)?;
         }
         Ok(None)
     }
@@ -251,6 +286,10 @@ impl Search {
             values.push(self.values.has_value(variable, true))?;
         }
         Ok(values)
+    }
+
+    fn publish(&self) -> Result<Option<Refutation>, OutOfMemory> {
+        self.log.publish(self.alloc, &self.arena, self.given)
     }
 
     // all clauses learned, until one is empty or the budget is spent: whether one is
@@ -298,12 +337,14 @@ enum Found {
 pub enum Outcome {
     Model(Seq<bool>),
     Refuted(Refutation),
+    /// with the number of each clause that makes it new
+    Spent(Refutation, Vec<i32>),
     Nothing,
 }
 
 /// Looks for values that satisfy every clause, or for a refutation, by at most `budget` conflicts.
-pub fn find(alloc: Global, cnf: &Cnf, budget: u64) -> Result<Outcome, OutOfMemory> {
-    let mut search = Search::new(alloc, cnf.variables, false)?;
+pub fn find(alloc: Global, cnf: &Cnf, budget: u64, keeps: bool) -> Result<Outcome, OutOfMemory> {
+    let mut search = Search::new(alloc, cnf.variables, keeps)?;
     let found = match search.add_all(&cnf.clauses)? {
         None => search.run(budget)?,
         Some(conflict) => {
@@ -313,10 +354,14 @@ pub fn find(alloc: Global, cnf: &Cnf, budget: u64) -> Result<Outcome, OutOfMemor
     };
     match found {
         Found::Model => Ok(Outcome::Model(search.model()?)),
-        Found::Nothing => Ok(Outcome::Nothing),
-        Found::Refuted => match search.log.publish(alloc, &search.arena, search.given)? {
+        Found::Refuted => match search.publish()? {
             Some(log) => Ok(Outcome::Refuted(log)),
             None => Ok(Outcome::Nothing),
         },
+        Found::Nothing if keeps => match search.publish()? {
+            Some(log) => Ok(Outcome::Spent(log, search.asserting)),
+            None => Ok(Outcome::Nothing),
+        },
+        Found::Nothing => Ok(Outcome::Nothing),
     }
 }

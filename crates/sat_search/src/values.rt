@@ -67,6 +67,15 @@ impl Values {
         matches!(self.value(literal), Value::True)
     }
 
+    /// How far the values go towards making the literal of a code true: 2 if they do, 1 if it is open.
+    pub fn weight(&self, code: usize) -> u8 {
+        match at(&self.values, code, Value::Open) {
+            Value::True => 2,
+            Value::Open => 1,
+            Value::False => 0,
+        }
+    }
+
     /// Whether a variable has a value.
     pub fn has_value(&self, variable: usize, value: bool) -> bool {
         if variable < 0x8000_0000 {
@@ -146,6 +155,6 @@ impl Values {
     /// Ends all levels above this one.
     pub fn end_levels(&mut self, level: u32) {
         self.begins.truncate(level as usize);
-        self.head = self.trail.len();
+        self.head = self.head.min(self.trail.len());
     }
 }

@@ -2,7 +2,8 @@ use Rattle.std.proofs.Common.{◌≡◌, ℕ, ◌<◌, ◌+◌, ◌-◌, sym, �
 use Rattle.std.proofs.lemmas.List.{length-replicate}
 use Rattle.std.proofs.lemmas.Option.{same_Some}
 use Rattle.clauses.specs.declared.log.Resolve.{Resolve}
-use Rattle.sat_core.specs.Trail.{clauses_of, AreNumbersOf}
+use Rattle.sat_newness.specs.Clauses.{clauses_of}
+use Rattle.sat_core.specs.Trail.{AreNumbersOf}
 use Rattle.sat_core.specs.Derived.{IsAnalyzed, AreMarked}
 use Rattle.sat_core.proofs.Scans.{one_numbers}
 use Rattle.sat_core.proofs.Flags.{lent, none_flagged}

@@ -1,5 +1,5 @@
 use Rattle.std.proofs.Common.{length, ◌-◌}
-use Rattle.sat_core.specs.Trail.{clauses_of}
+use Rattle.sat_newness.specs.Clauses.{clauses_of}
 use Rattle.sat_core.specs.Derived.{IsAnalyzed}
 use Rattle.sat_core.proofs.analyze.analyze.Given as goal
 

@@ -1,8 +1,7 @@
 use Rattle.std.proofs.Common.{◌≡◌, ℕ, ◌<◌, ◌≤◌, ◌-◌, sym, ◌∙◌, ap, subst, arith, length, Some, pos, w32, FitsSigned}
 use Rattle.std.specs.Prelude.{slice_get, slice_index_or, unsigned_abs}
 use Rattle.std.proofs.lemmas.Int.{to_z-of_z, fits_signed_from_abs}
-use Rattle.sat_core.proofs.Lists.{contains_at}
-use Rattle.sat_core.proofs.Scans.{item_at}
+use Rattle.sat_newness.proofs.Lists.{contains_at, item_at}
 use Rattle.sat_core.proofs.Flags.{two_of}
 use Rattle.sat_core.proofs.analyze.last_but_one.Goals as goal
 

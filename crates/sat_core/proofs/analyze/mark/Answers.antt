@@ -2,9 +2,7 @@ use Rattle.std.proofs.Common.{◌≡◌, ℕ, ◌<◌, ◌+◌, sym, ◌∙◌, 
 use Rattle.std.specs.Prelude.{slice_get, slice_set, slice_index_or, unsigned_abs}
 use Rattle.std.proofs.lemmas.Int.{to_z-of_z, fits_signed_from_abs}
 use Rattle.sat_core.specs.Derived.{AreMarkedUpTo}
-use Rattle.sat_core.proofs.Running.{cons_here}
-use Rattle.sat_core.proofs.Lists.{contains_at}
-use Rattle.sat_core.proofs.Scans.{item_at}
+use Rattle.sat_newness.proofs.Lists.{contains_at, cons_here, item_at}
 use Rattle.sat_core.proofs.Flags.{marked_more, marked_all}
 use Rattle.sat_core.proofs.analyze.mark.Goals as goal
 

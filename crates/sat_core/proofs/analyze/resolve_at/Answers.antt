@@ -3,7 +3,8 @@ use Rattle.std.specs.Prelude.{slice_get, slice_set}
 use Rattle.std.proofs.lemmas.Bool.{both_ways}
 use Rattle.std.proofs.lemmas.Option.{slice_get_read, slice_get_within, same_Some}
 use Rattle.clauses.specs.declared.log.Resolve.{Resolve}
-use Rattle.sat_core.specs.Trail.{clauses_of, number, Implied, AreNumbersOf}
+use Rattle.sat_newness.specs.Clauses.{clauses_of}
+use Rattle.sat_core.specs.Trail.{number, Implied, AreNumbersOf}
 use Rattle.sat_core.specs.Derived.{IsAnalyzed, AreMarked}
 use Rattle.sat_core.proofs.Kept.{implied_of}
 use Rattle.sat_core.proofs.Scans.{one_numbers, clauses_many}

@@ -5,7 +5,7 @@ use Rattle.std.proofs.lemmas.Option.{same_Some, slice_get_read, slice_get_within
 use Rattle.clauses.specs.declared.log.Chain.{Chain}
 use Rattle.clauses.specs.declared.log.Resolve.{Resolve}
 use Rattle.sat_core.specs.Derived.{AreOnce}
-use Rattle.sat_core.proofs.Lists.{at_contains}
+use Rattle.sat_newness.proofs.Lists.{at_contains}
 use Rattle.sat_core.proofs.check.are_once.Goals as goal
 
 pub loop-chain-preserved : goal.loop-chain-preserved

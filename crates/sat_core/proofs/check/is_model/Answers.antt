@@ -4,7 +4,7 @@ use Rattle.std.proofs.lemmas.Bool.{cases_lt}
 use Rattle.std.proofs.lemmas.Option.{same_Some, slice_get_read, slice_get_within}
 use Rattle.clauses.specs.Assignment.{clause_holds}
 use Rattle.sat_core.specs.Answers.{value_at}
-use Rattle.sat_core.proofs.Lists.{at_contains}
+use Rattle.sat_newness.proofs.Lists.{at_contains}
 use Rattle.sat_core.proofs.Models.{all_true}
 use Rattle.sat_core.proofs.check.is_model.Goals as goal
 

@@ -1,12 +1,11 @@
-use Rattle.std.proofs.Common.{◌≡◌, ◌∙◌, ap, subst, sym, arith, length, pos, w32, FitsSigned, true, ℤ}
-use Rattle.std.specs.Prelude.{slice_get, slice_index_or, unsigned_abs, Some}
+use Rattle.std.proofs.Common.{◌≡◌, ◌∙◌, subst, arith, pos, w32, FitsSigned, true, ℤ}
+use Rattle.std.specs.Prelude.{slice_get, slice_index_or, Some}
 use Rattle.std.proofs.lemmas.Int.{to_z-of_z, fits_signed_from_abs}
 use Rattle.std.proofs.lemmas.List.Elements.{All-contains}
 use Rattle.clauses.specs.Clause.{IsNumber}
 use Rattle.clauses.specs.Assignment.{number_holds}
 use Rattle.sat_core.specs.Answers.{value_at}
-use Rattle.sat_core.proofs.Lists.{contains_at}
-use Rattle.sat_core.proofs.Scans.{item_at}
+use Rattle.sat_newness.proofs.Lists.{contains_at, item_at}
 use Rattle.sat_core.proofs.Models.{clause_true}
 use Rattle.sat_core.proofs.check.satisfies.Goals as goal
 

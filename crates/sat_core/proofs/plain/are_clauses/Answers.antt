@@ -3,7 +3,7 @@ use Rattle.std.specs.Prelude.{slice_get}
 use Rattle.std.proofs.lemmas.Bool.{cases_lt}
 use Rattle.std.proofs.lemmas.Option.{same_Some, slice_get_read, slice_get_within}
 use Rattle.clauses.specs.Clause.{IsClause}
-use Rattle.sat_core.proofs.Lists.{at_contains}
+use Rattle.sat_newness.proofs.Lists.{at_contains}
 use Rattle.sat_core.proofs.plain.are_clauses.Goals as goal
 
 pub loop-clause-preserved : goal.loop-clause-preserved

@@ -3,11 +3,11 @@ use Rattle.std.proofs.lemmas.Option.{slice_get_within}
 use Rattle.clauses.specs.Log.{given}
 use Rattle.clauses.specs.declared.log.Chain.{Chain}
 use Rattle.clauses.specs.declared.log.Resolve.{Resolve}
-use Rattle.sat_core.specs.Trail.{clauses_of}
+use Rattle.sat_newness.specs.Clauses.{clauses_of}
 use Rattle.sat_core.specs.Values.{IsState}
 use Rattle.sat_core.specs.Derived.{AreFlagged, IsAnalyzed}
+use Rattle.sat_newness.proofs.Logs.{clauses_more}
 use Rattle.sat_core.proofs.Scans.{clauses_many}
-use Rattle.sat_core.proofs.Logged.{clauses_more}
 use Rattle.sat_core.proofs.Learns.{is_clause, learned_state, learned_of, has_learned}
 use Rattle.sat_core.proofs.plain.learn.Goals as goal
 

@@ -1,5 +1,6 @@
 use Rattle.std.proofs.Common.{length, arith, ◌∙◌, subst, Option, ℕ}
-use Rattle.sat_core.specs.Trail.{clauses_of, Settled}
+use Rattle.sat_newness.specs.Clauses.{clauses_of}
+use Rattle.sat_core.specs.Trail.{Settled}
 use Rattle.sat_core.specs.Found.{IsPropagated}
 use Rattle.sat_core.proofs.Learns.{decided_state}
 use Rattle.sat_core.proofs.plain.search.Goals as goal

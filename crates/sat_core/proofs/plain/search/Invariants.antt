@@ -1,5 +1,5 @@
 use Rattle.std.proofs.Common.{length}
-use Rattle.sat_core.specs.Trail.{clauses_of}
+use Rattle.sat_newness.specs.Clauses.{clauses_of}
 use Rattle.sat_core.specs.Values.{open_variables}
 use Rattle.sat_core.specs.Found.{IsBetween}
 use Rattle.sat_core.proofs.plain.search.Given as goal

@@ -1,7 +1,7 @@
 use Rattle.std.proofs.Common.{◌≡◌, ℕ, ◌+◌, sym, ◌∙◌, subst, arith, length, Option, List}
 use Rattle.clauses.specs.declared.log.Chain.{Chain}
 use Rattle.clauses.specs.Log.{given}
-use Rattle.sat_core.specs.Trail.{clauses_of}
+use Rattle.sat_newness.specs.Clauses.{clauses_of}
 use Rattle.sat_core.specs.Found.{IsSearched, IsComplete}
 use Rattle.sat_core.specs.Learned.{IsLearned}
 use Rattle.sat_core.specs.Answers.{IsRefuted}

@@ -2,10 +2,9 @@ use Rattle.std.proofs.Common.{◌≡◌, ◌<◌, ◌+◌, sym, ◌∙◌, ap, s
 use Rattle.std.specs.Prelude.{slice_get, slice_index_or, unsigned_abs}
 use Rattle.std.proofs.lemmas.Int.{to_z-of_z, fits_signed_from_abs}
 use Rattle.sat_core.specs.Found.{IsUnit, AreSeen}
-use Rattle.sat_core.proofs.Running.{cons_here}
-use Rattle.sat_core.proofs.Lists.{contains_at}
+use Rattle.sat_newness.proofs.Lists.{contains_at, cons_here, item_at}
 use Rattle.sat_core.proofs.Seen.{seen_false, seen_open, seen_two, seen_all, seen_unit}
-use Rattle.sat_core.proofs.Scans.{item_at, false_of_value, open_of_value}
+use Rattle.sat_core.proofs.Scans.{false_of_value, open_of_value}
 use Rattle.sat_core.proofs.propagate.look.Goals as goal
 use Rattle.sat_core.proofs.propagate.look.Goals.{in-Some-false, in-None+in-None-open}
 

@@ -3,10 +3,10 @@ use Rattle.std.specs.Prelude.{unsigned_abs}
 use Rattle.std.proofs.lemmas.Int.{to_z-of_z, fits_signed_from_abs}
 use lib.Signed.{lt_z}
 use Rattle.sat_core.specs.declared.trail.Trail.{Trail}
-use Rattle.sat_core.specs.Trail.{clauses_of}
+use Rattle.sat_newness.specs.Clauses.{clauses_of}
 use Rattle.sat_core.specs.Values.{open_variables}
 use Rattle.sat_core.specs.Found.{AreScanned}
-use Rattle.sat_core.proofs.Lists.{contains_at}
+use Rattle.sat_newness.proofs.Lists.{contains_at}
 use Rattle.sat_core.proofs.Scans.{one_numbers, clauses_many, scanned_other, scanned_unit, scanned_all}
 use Rattle.sat_core.proofs.propagate.scan.Goals as goal
 use Rattle.sat_core.proofs.propagate.scan.Goals.{in-Unit+in_ok-assign-in-Unit, in-Other}

@@ -1,6 +1,6 @@
 -- What stands at a place of a list, by `slice_get`.
-use Rattle.std.proofs.Common.{◌≡◌, ◌≢◌, ℕ, zero, suc, ◌<◌, ◌⊎◌, inl, inr, Some, List, [], ◌∷◌, ◌++◌, length, take, refl, ◌∙◌, ap, arith}
-use Rattle.std.specs.Prelude.{slice_get, slice_set}
+use Rattle.std.proofs.Common.{◌≡◌, ◌≢◌, ℕ, zero, suc, ◌<◌, ◌⊎◌, inl, inr, Some, List, [], ◌∷◌, ◌++◌, length, take, ℤ, pos, refl, ◌∙◌, ap, subst, arith}
+use Rattle.std.specs.Prelude.{slice_get, slice_set, slice_index_or}
 use Rattle.std.specs.List.{Contains}
 use Rattle.std.proofs.lemmas.Option.{none-some, same_Some, slice_get_within, slice_get-get_or, get_or_from_slice_get}
 
@@ -58,3 +58,17 @@ get_set_other (x ∷ xs) zero zero y h = absurd (h refl)
 get_set_other (x ∷ xs) zero (suc m) y h = refl
 get_set_other (x ∷ xs) (suc n) zero y h = refl
 get_set_other (x ∷ xs) (suc n) (suc m) y h = get_set_other xs n m y (λ e. h (ap suc e))
+
+-- the first and the others
+pub cons_here : {A : Type 0} (x : A) (xs : List A) → Contains (x ∷ xs) x
+cons_here x xs = (0, omega arith, refl)
+
+pub cons_there : {A : Type 0} (x y : A) (xs : List A) → Contains xs y → Contains (x ∷ xs) y
+cons_there x y xs c = (suc c.0, omega (arith, c.1), c.2)
+
+pub cons_cases : {A : Type 0} (x y : A) (xs : List A) → Contains (x ∷ xs) y → (x ≡ y) ⊎ Contains xs y
+cons_cases x y xs (zero, lt, e) = inl e
+cons_cases x y xs (suc k, lt, e) = inr (k, omega arith, e)
+
+pub item_at : (c items : List ℤ) (n : ℕ) → items ≡ c → n < length items → slice_get c n ≡ Some (slice_index_or items n (pos 0))
+item_at c items n e lt = subst (λ (l : List ℤ). slice_get l n ≡ Some (slice_index_or items n (pos 0))) e (slice_get-get_or items n (pos 0) lt)

@@ -1,6 +1,6 @@
 // The clauses: first the given ones, then what the chains give.
-ghost use Rattle.std.specs.Prelude.{◌≡◌, ◌+◌, ◌<◌, ◌^◌, length, slice_get, Some};
-ghost use Rattle.sat_core.specs.Trail.{clauses_of};
+ghost use Rattle.std.specs.Prelude.{◌≡◌, ◌+◌, ◌<◌, length, slice_get, Some};
+ghost use Rattle.sat_newness.specs.Clauses.{clauses_of};
 
 use clauses::{Chain, Clause};
 use wv_base::Seq;
