@@ -9,7 +9,9 @@ use crate::trees::{
     function, global, if_then, int_input, local, main_alone, number, object, one, only, operation,
     program, program_started, reach_error, return_number, statement, three, two, while_do,
 };
-use c_core::{BinOp, Callee, Declared, Form, Function, Init, IntType, Object, Program, Property, Start, Stmt};
+use c_core::{
+    BinOp, Callee, Declared, Form, Function, Init, IntType, Object, Program, Property, Start, Stmt,
+};
 use std::alloc::Global;
 use wv_base::{OutOfMemory, Seq, Text};
 
@@ -137,13 +139,7 @@ pub fn count_calls(alloc: Global) -> Result<Program, OutOfMemory>
             values: one(alloc, 0)?,
         },
     )?;
-    Ok(program_started(
-        Property::UnreachCall,
-        objects,
-        starts,
-        functions,
-        2,
-    ))
+    Ok(program_started(Property::UnreachCall, objects, starts, functions, 2))
 }
 
 /// An element is written in an inner loop, which is left by `break`.
