@@ -1,5 +1,5 @@
 -- What the code tallies is what a part weighs and draws by itself, as far as numbers go.
-use Rattle.std.proofs.Common.{◌≡◌, ℕ, ◌+◌, ◌*◌, List, [], ◌∷◌, ◌++◌, Bool, true, false, Option, Some, None, refl, sym, ap, ◌∙◌, arith}
+use Rattle.std.proofs.Common.{◌≡◌, ℕ, ◌+◌, ◌*◌, List, [], ◌∷◌, ◌++◌, Bool, true, false, Option, refl, ap, ◌∙◌, arith}
 use Rattle.c_core.specs.Tree.{Exp, Function, Program}
 use Rattle.c_core.specs.declared.number.Spot.{Spot}
 use Rattle.c_meaning.specs.Duties.{Placed}
@@ -23,9 +23,10 @@ abbrev pub Tells : Tally → Own → Type 0
 Tells t o = (t.cost ≡ cost o.weight o.bits) × (t.calls ≡ o.calls)
 
 tells_both : (a b : Tally) (c d : Own) → Tells a c → Tells b d → Tells (tallying.both a b) (owning.both c d)
-tells_both a b c d h k =
-    (ap (λ x. plus x b.cost) h.0 ∙ ap (λ x. plus (cost c.weight c.bits) x) k.0 ∙ costs_both c.weight d.weight c.bits d.bits,
-    ap (λ x. x ++ b.calls) h.1 ∙ ap (λ x. c.calls ++ x) k.1)
+tells_both a b c d h k = (
+  ap (λ x. plus x b.cost) h.0 ∙ ap (λ x. plus (cost c.weight c.bits) x) k.0 ∙ costs_both c.weight d.weight c.bits d.bits,
+  ap (λ x. x ++ b.calls) h.1 ∙ ap (λ x. c.calls ++ x) k.1,
+)
 
 tally_relates : Relates tallying owning Tells
 tally_relates = record {

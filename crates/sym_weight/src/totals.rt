@@ -77,11 +77,7 @@ fn next_total(all: &[Total], tally: &Tally) -> Total
     }
 }
 
-fn next_totals(
-    alloc: Global,
-    tallies: &[Tally],
-    all: &[Total],
-) -> Result<Vec<Total>, OutOfMemory>
+fn next_totals(alloc: Global, tallies: &[Tally], all: &[Total]) -> Result<Vec<Total>, OutOfMemory>
     ensures { IfOk result (λ next. next.items ≡ map (totals.next_total all.now) (tallies_view tallies.now)) }
 {
     let mut next = Vec::new(alloc);
