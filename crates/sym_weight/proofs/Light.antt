@@ -1,5 +1,5 @@
 -- A program draws no more bits than it weighs; a call weighs more than the body of its function.
-use Rattle.std.proofs.Common.{ℕ, zero, suc, ◌+◌, ◌<◌, ◌≤◌, List, Option, arith}
+use Rattle.std.proofs.Common.{ℕ, zero, suc, ◌<◌, ◌≤◌, List, Option, arith}
 use Rattle.c_core.specs.Tree.{Expr, Call, Exps, Program}
 use Rattle.c_core.specs.declared.number.IntType.{IntType}
 use Rattle.c_core.specs.declared.number.Spot.{Spot}

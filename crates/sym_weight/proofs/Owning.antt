@@ -1,8 +1,7 @@
 -- What a part weighs and draws without the functions that it calls, and how sums with calls come of it.
-use Rattle.std.proofs.Common.{◌≡◌, ℕ, zero, suc, ◌+◌, ◌*◌, ◌<◌, ◌≤◌, max, List, [], ◌∷◌, ◌++◌, Bool, true, false, refl, sym, ap, ◌∙◌, subst, arith}
+use Rattle.std.proofs.Common.{◌≡◌, ℕ, suc, ◌+◌, max, List, [], ◌∷◌, ◌++◌, refl, sym, arith}
 use Rattle.std.proofs.Math.Nat.{add-zero}
 use Rattle.c_core.specs.Tree.{Program}
-use Rattle.c_core.specs.declared.number.Spot.{Spot}
 use Rattle.c_meaning.specs.Duties.{Placed}
 use Rattle.sym_weight.specs.Sum.{Sum, function}
 use Rattle.sym_weight.specs.Totals.{sum_over, longest_over}

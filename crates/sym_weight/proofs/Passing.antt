@@ -1,5 +1,5 @@
 -- Arguments, one by one.
-use Rattle.std.proofs.Common.{◌≡◌, ℕ, zero, suc, ◌+◌, List, [], ◌∷◌, drop, refl, ap, sym, ◌∙◌, subst, arith}
+use Rattle.std.proofs.Common.{◌≡◌, ℕ, zero, suc, ◌+◌, List, [], ◌∷◌, drop, refl, ap, sym, ◌∙◌}
 use Rattle.c_core.specs.Tree.{Program}
 use Rattle.c_core.specs.View.{exprs_view}
 use Rattle.c_core.specs.declared.tree.Expr.{Expr}

@@ -1,5 +1,5 @@
 -- Two sums of one program whose amounts are related part by part are related on every part.
-use Rattle.std.proofs.Common.{ℕ, ◌+◌, ◌*◌, ◌≤◌, List, [], ◌∷◌, Bool, true, false, Option, None, Some, slice_get, arith}
+use Rattle.std.proofs.Common.{ℕ, ◌+◌, ◌*◌, ◌≤◌, List, Bool, true, false, Option, None, Some, slice_get, arith}
 use Rattle.c_core.specs.Types.{width_of}
 use Rattle.c_core.specs.Tree.{Exp, Expr, Node, Const, Var, Index, Unary, Cast, Step, Binary, Logic, Choose, Comma, Assign, Call, Exps, NoExp, MoreExp, Init, Absent, One, Many, Names, NoName, MoreName, First, NoFirst, FirstExp, FirstNames, Stm, Stmt, Form, Empty, Do, Declare, Block, If, While, DoWhile, For, Break, Continue, Return, Label, Else, NoElse, OrElse, Stms, NoStm, MoreStm, Function, Program}
 use Rattle.c_core.specs.declared.number.DataModel.{DataModel}

@@ -1,5 +1,5 @@
 -- After n rounds each function's total is that of its calls unfolded n deep.
-use Rattle.std.proofs.Common.{◌≡◌, ℕ, zero, suc, ◌+◌, max, List, [], ◌∷◌, Bool, Option, Some, None, slice_get, map, refl, sym, ap, ◌∙◌, arith}
+use Rattle.std.proofs.Common.{◌≡◌, ℕ, zero, suc, ◌+◌, max, List, [], ◌∷◌, Bool, Option, Some, None, slice_get, refl, sym, ap, ◌∙◌, arith}
 use Rattle.std.proofs.lemmas.Option.{slice_get-map}
 use Rattle.std.specs.Option.{option_map}
 use Rattle.c_core.specs.Tree.{Function, Program}
@@ -10,7 +10,7 @@ use Rattle.sym_weight.specs.Sum.{function_of}
 use Rattle.sym_weight.specs.Tally.{Tally, all_tallies, capped, tallying}
 use Rattle.sym_weight.specs.Totals.{sum_over, longest_over, total_at, total_in, called_weight, called_bits, called_chain, next_total, totals_after}
 use Rattle.sym_weight.specs.Weight.{placed_weight, weight_in, bits_in, chain_in}
-use Rattle.sym_weight.proofs.Owning.{Own, owning, own_of, weight_step, bits_step, chain_step}
+use Rattle.sym_weight.proofs.Owning.{Own, owning, weight_step, bits_step, chain_step}
 use Rattle.sym_weight.proofs.Tallied.{Tells, AreWeights, function_told}
 
 more_capped : (a b s t : ℕ) → a ≡ capped b → capped s ≡ capped t → capped (a + s) ≡ capped (b + t)

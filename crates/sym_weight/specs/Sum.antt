@@ -1,11 +1,11 @@
 -- What a program sums up to, part by part: each loop's parts once, calls by what stands for the bodies of the functions.
-use Rattle.std.specs.Prelude.{ℕ, ◌+◌, ◌*◌, Bool, false, true, List, [], ◌∷◌, Option, Some, None, slice_get}
+use Rattle.std.specs.Prelude.{ℕ, ◌+◌, ◌*◌, Bool, false, true, List, Option, Some, None, slice_get}
 use Rattle.c_core.specs.Tree.{Exp, Expr, Node, Const, Var, Index, Unary, Cast, Step, Binary, Logic, Choose, Comma, Assign, Call, Exps, NoExp, MoreExp, Init, Absent, One, Many, Names, NoName, MoreName, First, NoFirst, FirstExp, FirstNames, Stm, Stmt, Form, Empty, Do, Declare, Block, If, While, DoWhile, For, Break, Continue, Return, Label, Else, NoElse, OrElse, Stms, NoStm, MoreStm, Function, Program}
 use Rattle.c_core.specs.declared.number.IntType.{IntType}
 use Rattle.c_core.specs.declared.number.Spot.{Spot}
 use Rattle.c_core.specs.declared.tree.Callee.{Callee}
 use Rattle.c_core.specs.declared.tree.Callee.TheVariants.{Defined, Exit}
-use Rattle.c_meaning.specs.Meaning.{Loop, WhileLoop, DoLoop, ForLoop}
+use Rattle.c_meaning.specs.Meaning.{WhileLoop, DoLoop, ForLoop}
 use Rattle.c_meaning.specs.Changed.{changed_by}
 use Rattle.c_meaning.specs.Objects.{type_of, type_of_object}
 use Rattle.sym_weight.specs.Table.{statement_weight, expression_weight, tested, stored, returned, params_of, passed, passed_to_exit, bits_of_object, bits_of_objects, node_work, node_bits}

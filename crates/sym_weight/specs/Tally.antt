@@ -4,10 +4,7 @@ use Rattle.std.specs.BTreeMap.{BTreeMap, get_by}
 use Rattle.std.specs.Option.{unwrap_or}
 use Rattle.std.specs.Ordering.{nat_cmp, ordering_then}
 use Rattle.c_core.specs.Tree.{Function, Program}
-use Rattle.c_core.specs.View.{expr_view}
 use Rattle.c_core.specs.declared.number.Spot.{Spot}
-use Rattle.c_meaning.specs.Duties.{Placed}
-use Rattle.c_meaning.specs.declared.run.PlacedInvariant.{PlacedInvariant}
 use Rattle.sym_weight.specs.declared.cost.Cost.{Cost}
 use Rattle.sym_weight.specs.declared.cost.Tally as rust
 use Rattle.sym_weight.specs.declared.statements.Weigher.{Weigher}

@@ -1,5 +1,5 @@
 -- What is told of a program: how much it weighs, or that it is too big.
-use Rattle.std.specs.Prelude.{◌≡◌, ℕ, nat_le, ◌&&◌, cond, List, Option, Some, None}
+use Rattle.std.specs.Prelude.{◌≡◌, nat_le, ◌&&◌, cond, List, Option, Some, None}
 use Rattle.c_core.specs.Tree.{Program}
 use Rattle.c_meaning.specs.Duties.{Placed}
 use Rattle.sym_weight.specs.declared.totals.Total.{Total}

@@ -4,7 +4,6 @@ use Rattle.std.proofs.lemmas.List.{at_drop_all}
 use Rattle.c_core.specs.View.{exprs_view, program_view}
 use Rattle.sym_weight.specs.Table.{passed}
 use Rattle.sym_weight.specs.Tally.{capped}
-use Rattle.sym_weight.specs.declared.cost.Cost.{Cost}
 use Rattle.sym_weight.proofs.Costs.{capped_twice}
 use Rattle.sym_weight.proofs.Passing.{passed_on}
 use Rattle.sym_weight.proofs.expressions.passed.Goals as goal
