@@ -1,5 +1,5 @@
 // Trees, part by part.
-ghost use Rattle.std.specs.Prelude.{◌≡◌, [], ◌∷◌, IfOk, None, Some};
+ghost use Rattle.std.specs.Prelude.{◌≡◌, [], ◌∷◌, IfOk, None, Some, true};
 ghost use Rattle.c_core.specs.Tree as t;
 ghost use Rattle.c_core.specs.Program.{IsProgram};
 ghost use Rattle.c_core.specs.View.{expr_view, form_view, function_view, functions_view, node_view, program_view, stmt_view, stmts_view};
