@@ -44,6 +44,15 @@ fn word(code: CheckCode) -> &'static str {
     }
 }
 
+/// The program of a source text, if there is one.
+pub fn program_of(alloc: Global, text: &[u8]) -> Option<Program> {
+    let source = parsed(alloc, text)?;
+    match check(alloc, &source, DataModel::Lp64, Property::UnreachCall) {
+        Ok(program) => Some(program),
+        Err(_) => None,
+    }
+}
+
 /// Prints what is told of a source text.
 fn report(rt: &HostRuntime, text: &[u8]) -> io::Result<()> {
     let Some(source) = parsed(rt.alloc(), text) else {

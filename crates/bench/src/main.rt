@@ -4,6 +4,7 @@
 
 mod check;
 mod frontend;
+mod obligations;
 mod operators;
 mod replay;
 mod task;
@@ -23,7 +24,7 @@ fn words_of(rt: &HostRuntime) -> io::Result<Vec<String>> {
 }
 
 fn usage(rt: &HostRuntime) -> io::Result<ExitCode> {
-    println!(rt; "usage: bench check|circuits|frontend|replay|task|yaml WORD..")?;
+    println!(rt; "usage: bench check|circuits|frontend|obligations|replay|task|yaml WORD..")?;
     Ok(ExitCode::from(7))
 }
 
@@ -36,6 +37,7 @@ fn run(rt: &HostRuntime) -> io::Result<ExitCode> {
         "check" => check::run(rt, words)?,
         "circuits" => operators::run(rt, words)?,
         "frontend" => frontend::run(rt, words)?,
+        "obligations" => obligations::run(rt, words)?,
         "replay" => replay::run(rt, words)?,
         "task" => task::run(rt, words)?,
         "yaml" => yaml::run(rt, words)?,
