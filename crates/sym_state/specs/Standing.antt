@@ -49,20 +49,17 @@ module _ (p : Program) (v : ℕ → Bool) (net : List NetNode) where
   draws_at [] = []
   draws_at (d ∷ ds) = cond (holds v net d.live) (draw_at d ∷ draws_at ds) (draws_at ds)
 
-abbrev pub stand_in : Program → (ℕ → Bool) → List NetNode → Sym → Stand
-stand_in p v net s = record {
-  live = holds v net s.live;
-  broken = holds v net s.broken;
-  again = holds v net s.again;
-  gave = holds v net s.gave;
-  given = typed p.model s.result v net s.given.bits;
-  failing = map (holds v net) s.failing.items;
-  cells = map (cell_at p v net) s.cells.items;
-  draws = draws_at p v net s.sites.items;
-}
-
 abbrev pub stand : Program → (ℕ → Bool) → Sym → Stand
-stand p v s = stand_in p v s.net s
+stand p v s = record {
+  live = holds v s.net s.live;
+  broken = holds v s.net s.broken;
+  again = holds v s.net s.again;
+  gave = holds v s.net s.gave;
+  given = typed p.model s.result v s.net s.given.bits;
+  failing = map (holds v s.net) s.failing.items;
+  cells = map (cell_at p v s.net) s.cells.items;
+  draws = draws_at p v s.net s.sites.items;
+}
 
 -- a site's bits are the inputs from a number on, and whether a run is there was known before them
 pub record IsSite (m : DataModel) (net : List NetNode) (base : ℕ) (d : DrawSite) : Type 0 where
@@ -82,18 +79,15 @@ abbrev pub IsCell : Program → List NetNode → SymCell → Type 0
 IsCell p net c = AreTyped p.model (type_of_object p c.object) net c.bits.bits
 
 -- all bits are the net's, and each of its inputs is a site's
-pub record IsStateIn (p : Program) (net : List NetNode) (s : Sym) : Type 0 where
-  pub live : IsIn net s.live
-  pub broken : IsIn net s.broken
-  pub again : IsIn net s.again
-  pub gave : IsIn net s.gave
-  pub given : AreTyped p.model s.result net s.given.bits
-  pub failing : AreIn net s.failing.items
-  pub cells : All (IsCell p net) s.cells.items
-  pub sites : AreSites p.model net 0 s.sites.items (count_inputs net)
-
-abbrev pub IsState : Program → Sym → Type 0
-IsState p s = IsStateIn p s.net s
+pub record IsState (p : Program) (s : Sym) : Type 0 where
+  pub live : IsIn s.net s.live
+  pub broken : IsIn s.net s.broken
+  pub again : IsIn s.net s.again
+  pub gave : IsIn s.net s.gave
+  pub given : AreTyped p.model s.result s.net s.given.bits
+  pub failing : AreIn s.net s.failing.items
+  pub cells : All (IsCell p s.net) s.cells.items
+  pub sites : AreSites p.model s.net 0 s.sites.items (count_inputs s.net)
 
 -- at most so many and-nodes and inputs were added, behind all others
 pub record Added (ands inputs : ℕ) (old new : List NetNode) : Type 0 where
@@ -159,6 +153,10 @@ abbrev pub marked : ℕ → Bool → List Bool → List Bool
 marked k b [] = []
 marked zero b (f ∷ fs) = (f || b) ∷ fs
 marked (suc k) b (f ∷ fs) = f ∷ marked k b fs
+
+-- the failing bit of number k, from 0 on, is true where b is
+abbrev pub marking : ℕ → Bool → Stand → Stand
+marking k b s = record s { failing = marked k b s.failing }
 
 -- a run that is here fails the obligation of number k, from 0 on, where b holds
 abbrev pub failed : ℕ → Bool → Stand → Stand

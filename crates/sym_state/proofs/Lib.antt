@@ -1,0 +1,5 @@
+pub mod Nets
+pub mod Turning
+pub mod Innermost
+pub mod Sites
+pub mod Stored
