@@ -3,3 +3,4 @@ pub mod Turning
 pub mod Innermost
 pub mod Sites
 pub mod Stored
+pub mod Composed
