@@ -4,7 +4,7 @@
 -- `stand p v s`. The run is here where `live` is true. It is on its way out of a loop's body, a loop or a function where `again`,
 -- `broken` or `gave` is. It failed at the obligation whose failing bit is true. Elsewhere it ended and failed nothing.
 -- Which cells there are doesn't depend on the inputs, so no cell is merged where ways join: a write chooses by `live`.
-use Rattle.std.specs.Prelude.{◌≡◌, ℕ, zero, suc, ◌+◌, ◌≤◌, Bool, true, false, cond, not, ◌&&◌, ◌||◌, nat_eq, ℤ, List, [], ◌∷◌, ◌++◌, length, map}
+use Rattle.std.specs.Prelude.{◌≡◌, ℕ, zero, suc, ◌+◌, ◌≤◌, Bool, true, false, cond, not, ◌&&◌, ◌||◌, ℤ, List, [], ◌∷◌, ◌++◌, length, map}
 use Rattle.std.specs.List.{All}
 use Rattle.c_core.specs.Tree.{Program}
 use Rattle.c_core.specs.Types.{width_of}
@@ -119,7 +119,8 @@ pub record Moves (old new : Stand) : Type 0 where
 abbrev pub marks : ℕ → ℕ → List Bool
 marks k zero = []
 marks zero (suc n) = false ∷ marks zero n
-marks (suc k) (suc n) = nat_eq k 0 ∷ marks k n
+marks (suc zero) (suc n) = true ∷ marks zero n
+marks (suc (suc k)) (suc n) = false ∷ marks (suc k) n
 
 -- the run is here, and failed nothing
 pub record IsHere (n : ℕ) (s : Stand) : Type 0 where

@@ -1,0 +1,9 @@
+//! Values as bits: operators, conversions, tests and elements of arrays over a symbolic state. Its one promise: each call does to
+//! every run that is here what the definition of runs does, and lets all others be.
+#![tactic(auto)]
+
+mod operators;
+mod truths;
+
+pub use operators::{operate, operate_one};
+pub use truths::{choose, convert, test, truth};
