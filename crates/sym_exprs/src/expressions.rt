@@ -1,19 +1,18 @@
 // Expressions: one function for each form.
-ghost use Rattle.std.specs.Prelude.{◌≡◌, IfOk, None, Some, true, false};
+ghost use Rattle.std.specs.Prelude.{IfOk};
 ghost use Rattle.c_core.specs.Tree as t;
-ghost use Rattle.c_core.specs.View.{program_view, expr_view, exprs_view, node_view};
+ghost use Rattle.c_core.specs.View.{program_view, expr_view};
 ghost use Rattle.c_meaning.specs.Meaning.{Used};
 ghost use Rattle.sym_weight.specs.Tally.{placed_views};
-ghost use Rattle.sym_exprs.specs.Evaluating.{use_of, Ready, Values, ReadyWhere, ValuesWhere};
+ghost use Rattle.sym_exprs.specs.Evaluating.{use_of, Ready, Values};
 
-use crate::joins::kept_if;
-use c_core::{BinOp, Callee, Expr, IntType, Node, Program, Spot, StepOp, UnOp};
+use c_core::{BinOp, Expr, IntType, Node, Program, Spot, UnOp};
 use c_meaning::PlacedInvariant;
-use circuits::{Bit, Bits, const_bits, not};
+use circuits::{Bits, const_bits};
 use run_state::type_of;
 use std::alloc::Global;
-use sym_state::{Around, Sym, copied, join, look, narrow};
-use sym_values::{choose as choose_value, convert, end, input, operate, operate_one, reach, store, test, truth, type_for};
+use sym_state::{Around, Sym, look};
+use sym_values::{convert, operate, operate_one};
 use wv_base::{OutOfMemory, Seq};
 
 /// An expression, at a statement and a full expression, with calls at most `depth` deep. A void one gives any bits.
@@ -33,7 +32,9 @@ pub fn eval(
 {
     match &e.node {
         Node::Binary { op, left, right } => {
-            let r = binary(alloc, program, invariants, sym, depth, at, e.spot, e.ty, *op, left, right)?;
+            let r = binary(
+                alloc, program, invariants, sym, depth, at, e.spot, e.ty, *op, left, right,
+            )?;
             Ok(r)
         }
         Node::Const(value) => {
@@ -45,7 +46,9 @@ pub fn eval(
             Ok(r)
         }
         Node::Unary { op, of } => {
-            let r = unary(alloc, program, invariants, sym, depth, at, e.spot, e.ty, *op, of)?;
+            let r = unary(
+                alloc, program, invariants, sym, depth, at, e.spot, e.ty, *op, of,
+            )?;
             Ok(r)
         }
         Node::Cast(of) => {
@@ -53,23 +56,26 @@ pub fn eval(
             Ok(r)
         }
         Node::Comma { first, last } => {
-            let r = comma(alloc, program, invariants, sym, depth, at, e.spot, e.ty, first, last)?;
+            let r = comma(
+                alloc, program, invariants, sym, depth, at, e.spot, e.ty, first, last,
+            )?;
             Ok(r)
         }
-        Node::Logic { both, left, right } => {
-            let r = logic(alloc, program, invariants, sym, depth, at, e.spot, e.ty, *both, left, right)?;
-            Ok(r)
-        }
+        Node::Index { object, at: place } => unreachable!(),
+        Node::Step { op, target } => unreachable!(),
+        Node::Logic { both, left, right } => unreachable!(),
         Node::Choose {
             mark,
             test,
             yes,
             no,
-        } => {
-            let r = choose(alloc, program, invariants, sym, depth, at, e.spot, e.ty, *mark, test, yes, no)?;
-            Ok(r)
-        }
-        _ => unreachable!(),
+        } => unreachable!(),
+        Node::Assign { op, target, from } => unreachable!(),
+        Node::Call {
+            callee,
+            args,
+            close,
+        } => unreachable!(),
     }
 }
 
@@ -113,7 +119,18 @@ fn binary(
 {
     let x = eval(alloc, program, invariants, sym, depth, at, true, left)?;
     let y = eval(alloc, program, invariants, sym, depth, at, true, right)?;
-    let r = operate(alloc, program, sym, at, spot, op, type_of(left), &x, type_of(right), &y)?;
+    let r = operate(
+        alloc,
+        program,
+        sym,
+        at,
+        spot,
+        op,
+        type_of(left),
+        &x,
+        type_of(right),
+        &y,
+    )?;
     Ok(r)
 }
 
@@ -165,54 +182,3 @@ fn comma(
     let r = eval(alloc, program, invariants, sym, depth, at, true, last)?;
     Ok(r)
 }
-
-// An expression is evaluated in the runs in which a bit is true.
-#[cycle(walk)]
-fn eval_where(
-    alloc: Global,
-    program: &Program,
-    invariants: &Seq<PlacedInvariant>,
-    sym: &mut Sym,
-    depth: u32,
-    at: Around,
-    go: Bit,
-    e: &Expr,
-) -> Result<Bits, OutOfMemory>
-    requires { ReadyWhere (program_view program.now) (placed_views invariants.now) depth at go sym.old (expr_view e.now) }
-    ensures { IfOk result (λ r. ValuesWhere (program_view program.now) (placed_views invariants.now) depth at go (expr_view e.now) sym.old sym.new r.bits) }
-{
-    let skipped = sym.net.and(sym.live, not(go))?;
-    let live = sym.live;
-    narrow(sym, program, live, go)?;
-    let r = eval(alloc, program, invariants, sym, depth, at, true, e)?;
-    join(sym, program, skipped)?;
-    Ok(r)
-}
-
-#[cycle(walk)]
-fn logic(
-    alloc: Global,
-    program: &Program,
-    invariants: &Seq<PlacedInvariant>,
-    sym: &mut Sym,
-    depth: u32,
-    at: Around,
-    spot: Spot,
-    ty: Option<IntType>,
-    both: bool,
-    left: &Expr,
-    right: &Expr,
-) -> Result<Bits, OutOfMemory>
-    requires { Ready (program_view program.now) (placed_views invariants.now) depth at sym.old (t.Expr spot ty (t.Logic both (expr_view left.now) (expr_view right.now))) }
-    ensures { IfOk result (λ r. Values (program_view program.now) (placed_views invariants.now) depth at Used (t.Expr spot ty (t.Logic both (expr_view left.now) (expr_view right.now))) sym.old sym.new r.bits) }
-{
-    let x = eval(alloc, program, invariants, sym, depth, at, true, left)?;
-    let first = test(alloc, program, sym, type_of(left), &x)?;
-    let go = kept_if(both, first);
-    let y = eval_where(alloc, program, invariants, sym, depth, at, go, right)?;
-    let second = test(alloc, program, sym, type_of(right), &y)?;
-    let all = sym.net.and(go, kept_if(both, second))?;
-    let r = truth(alloc, program, sym, kept_if(both, all))?;
-    Ok(r)
-}
-

@@ -3,6 +3,5 @@
 #![tactic(auto)]
 
 mod expressions;
-mod joins;
 
 pub use expressions::eval;

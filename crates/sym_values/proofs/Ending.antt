@@ -39,8 +39,7 @@ input_gives p I spot ty s n bits x =
         does = λ v here vs rest t.
             let a = stand p v s in
             let u : Taken p.model (d v ∷ []) vs rest = subst (λ l. Taken p.model (cond l (d v ∷ []) []) vs rest) here.live t in
-            subst (λ z. Came (Duties p I) (λ w. w ≡ (d v).value) z rest (draw p I Input spot ty (left_of a vs))) (sym (x.turned.is v))
-            (
+            subst (λ z. Came (Duties p I) (λ w. w ≡ (d v).value) z rest (draw p I Input spot ty (left_of a vs))) (sym (x.turned.is v)) (
               record { live = here.live; broken = here.broken; again = here.again; gave = here.gave; failing = here.failing },
               (λ i. record { cells = a.cells; values = u.1 i; draws = (ap (λ q. a.draws ++ record { spot = spot; ty = ty; value = q; from = Input } ∷ []) u.0 ∙ ap (λ l. a.draws ++ cond l (d v ∷ []) []) (sym here.live)) i }),
               u.0,
@@ -75,8 +74,7 @@ module _ (p : Program) (I : List Placed) (s n : Sym) (b : Bit) (m : Means s.net 
       turned_follows p (Duties p I) (λ v. failed at.duty (holds v s.net b)) x (λ v. refl)
       (λ v d i. record (stand p v s) { live = (ap (λ l. l && not (holds v s.net b)) d ∙ sym d) i; failing = (ap (λ l. marked at.duty (l && holds v s.net b) (stand p v s).failing) d ∙ marked_none at.duty (stand p v s).failing) i })
       (λ v here rest.
-      subst (λ y. Came (Duties p I) (λ z. Unit {0}) (failed at.duty (holds v s.net b) (stand p v s)) rest (reached p I y (where_of at) (left_of (stand p v s) rest))) (sym e)
-      (
+      subst (λ y. Came (Duties p I) (λ z. Unit {0}) (failed at.duty (holds v s.net b) (stand p v s)) rest (reached p I y (where_of at) (left_of (stand p v s) rest))) (sym e) (
         record {
           live = stops v (stand p v s).live;
           broken = here.broken;
