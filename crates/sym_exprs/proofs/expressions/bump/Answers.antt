@@ -57,4 +57,3 @@ returns-else-is_prefix c =
     let n = c.args.depth in
     bump_step p I n c.args.at Used c.args.spot c.args.place c.args.ty c.args.of c.args.op c.args.object c.type_or_int-a.result c.type_for-ty.result c.op_of_step-by.result c.type_or_int-a.ensures c.op_of_step-by.ensures c.type_for-ty.ensures.value c.requires
     c.in_ok-x.ensures c.in_ok-one.ensures (c.in_ok-z.ensures I c.requires.duty) (c.in_ok-w.ensures I) false (sym c.is_prefix.ensures ∙ c.if-is_prefix.false)
-

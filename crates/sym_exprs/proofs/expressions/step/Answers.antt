@@ -29,4 +29,3 @@ unreachable-requires c =
     let I = placed_views c.args.invariants.now in
     let n = c.args.depth in
     step_scalar p I n c.args.spot c.args.ty c.args.op (expr_view c.args.target.now) c.in-None.ensures c.requires.good
-
