@@ -1,5 +1,5 @@
 -- `&&`, `||` and `?:`: parts that are evaluated in some of the runs.
-use Rattle.std.proofs.Common.{◌≡◌, ℕ, ◌+◌, ◌*◌, ◌≤◌, ◌<◌, ◌^◌, Bool, true, false, cond, not, ◌&&◌, ◌||◌, ℤ, pos, List, [], length, refl, sym, ◌∙◌, ap, ap₂, subst, arith, Option, Some, None, IsTrue, is_some}
+use Rattle.std.proofs.Common.{◌≡◌, ℕ, ◌+◌, ◌*◌, ◌<◌, ◌^◌, Bool, true, false, cond, not, ◌&&◌, ◌||◌, ℤ, pos, List, length, refl, sym, ◌∙◌, ap, ap₂, subst, arith, Option, Some, None, IsTrue, is_some}
 use Rattle.c_core.specs.Tree.{Program, Exp, Expr, Logic, Choose}
 use Rattle.c_core.specs.Types.{width_of, fit, is_zero, number_of}
 use Rattle.c_core.specs.Parts.{type_of as type_if}
@@ -22,9 +22,9 @@ use Rattle.circuits.specs.Outcome.{conversion_cost}
 use Rattle.circuits.proofs.Nets.{holds-opposite}
 use Rattle.sym_state.specs.declared.state.Sym.{Sym}
 use Rattle.sym_state.specs.declared.state.Around.{Around}
-use Rattle.sym_state.specs.Standing.{stand, IsState, Added, Turned, with_live}
+use Rattle.sym_state.specs.Standing.{Turned, with_live}
 use Rattle.sym_state.specs.Following.{Deed, Follows, AreOf, IsNumber}
-use Rattle.sym_state.proofs.Nets.{added_of, holds_added, in_added, longer_by, typed_added, are_typed_added, state_grown, stand_grown}
+use Rattle.sym_state.proofs.Nets.{added_of, holds_added, in_added, longer_by, typed_added, are_typed_added}
 use Rattle.sym_state.proofs.Turning.{turned_then}
 use Rattle.sym_state.proofs.Composed.{follows_then, follows_as, net_follows}
 use Rattle.sym_values.specs.Valuing.{Reckoned, Decided, Gives}

@@ -1,18 +1,17 @@
 use mir.Val.{SFits}
 use mir.Syntax.{w128}
 use Rattle.std.proofs.lemmas.Int.{to_z-of_z}
-use Rattle.std.proofs.Common.{rules, ◌≡◌, ◌+◌, ◌*◌, ◌<◌, ◌∙◌, refl, sym, ap, ap₂, subst, arith, None, Some, true, IsTrue}
-use Rattle.c_core.specs.Tree.{Expr, Index, Unary, Cast, Step, Binary, Logic, Choose, Comma, Assign, Call, Const, Var}
+use Rattle.std.proofs.Common.{rules, ◌≡◌, ◌∙◌, refl, sym, ap, subst, arith, None, Some, IsTrue}
+use Rattle.c_core.specs.Tree.{Expr, Unary, Cast, Step, Binary, Logic, Choose, Comma, Assign, Call, Const, Var}
 use Rattle.c_core.specs.View.{program_view, expr_view, exprs_view, node_view}
 use Rattle.c_core.proofs.View.{view_of_call}
 use Rattle.c_meaning.specs.Meaning.{Used, Unused}
-use Rattle.c_meaning.specs.Objects.{type_of}
 use Rattle.sym_weight.specs.Tally.{placed_views}
 use Rattle.sym_exprs.specs.Evaluating.{use_of, weight_of, is_good, Ready, Values}
 use Rattle.sym_state.proofs.Nets.{added_of, in_added, longer_by, state_grown}
 use Rattle.sym_exprs.proofs.Choosing.{kept_in, where_ready, where_values, logic_first, logic_where, logic_second, logic_bits, logic_step, good_choose, pick_first, pick_yes, pick_yes_value, pick_no, pick_no_value, pick_last, pick_step, choose_none}
 use Rattle.sym_exprs.proofs.Assigning.{good_assign, assign_scalar, replace_sides, replace_step, update_object, update_sides, update_last, update_step}
-use Rattle.sym_exprs.proofs.Forms.{good_logic, good_unary, good_cast, good_binary, good_comma, good_scalar, unbuilt, first_ready, next_ready, const_step, var_step, unary_side, unary_step, binary_sides, binary_step, void_values, cast_side, cast_step, comma_values}
+use Rattle.sym_exprs.proofs.Forms.{good_logic, good_unary, good_cast, good_binary, good_comma, first_ready, next_ready, const_step, var_step, unary_side, unary_step, binary_sides, binary_step, void_values, cast_side, cast_step, comma_values}
 use Rattle.sym_exprs.proofs.expressions.+walk.Goals as goal
 
 pub binary-eval-requires : goal.binary-eval-requires
