@@ -1,0 +1,4 @@
+pub mod Standing
+pub mod Places
+pub mod Following
+pub mod Drawn

@@ -1,0 +1,127 @@
+// Operators.
+ghost use Rattle.std.specs.Prelude.{◌≡◌, ◌+◌, ◌<◌, ◌^◌, IfOk, IsFalse, List, Some, length};
+ghost use Rattle.c_core.specs.Types.{IsPromoted, promote_of};
+ghost use Rattle.c_core.specs.Operators as operators;
+ghost use Rattle.c_core.specs.View.{program_view};
+ghost use Rattle.c_meaning.specs.Duties.{Placed};
+ghost use Rattle.circuits.specs.Net.{holds, IsIn};
+ghost use Rattle.circuits.specs.Numbers.{AreTyped};
+ghost use Rattle.circuits.specs.Outcome.{binary_type, one_type};
+ghost use Rattle.sym_state.specs.Standing.{IsState, Turned};
+ghost use Rattle.sym_values.specs.Valuing.{judged, operated_cost, operated_one_cost, IsDutyAt, Gives, operated, operated_one};
+
+use c_core::{BinOp, DataModel, IntType, Program, Property, Spot, UnOp, common, promote};
+use circuits::{Bit, Bits, apply_bits, convert_bits, one_bits};
+use std::alloc::Global;
+use sym_state::{Around, Sym, fail, stop};
+use wv_base::OutOfMemory;
+
+fn is_shift(op: BinOp) -> bool
+    ensures { result ≡ operators.is_shift op }
+{
+    match op {
+        BinOp::Shl | BinOp::Shr => true,
+        _ => false,
+    }
+}
+
+/// The type in which an operator computes.
+pub fn type_for(model: DataModel, op: BinOp, a: IntType, b: IntType) -> IntType
+    ensures value { result ≡ operators.type_for model op a b }
+    ensures promoted { IsPromoted result }
+{
+    if is_shift(op) {
+        promote(model, a)
+    } else {
+        common(model, a, b)
+    }
+}
+
+// The type of its right side.
+fn right_type_for(model: DataModel, op: BinOp, ty: IntType, b: IntType) -> IntType
+    requires { IsPromoted ty }
+    ensures value { result ≡ operators.right_type_for op ty b }
+    ensures promoted { IsPromoted result }
+    ensures same { IsFalse (operators.is_shift op) → result ≡ ty }
+{
+    if is_shift(op) { promote(model, b) } else { ty }
+}
+
+// Runs end where the operator overflows, if that is the violation, and where it is undefined.
+fn end_runs(
+    sym: &mut Sym,
+    program: &Program,
+    at: Around,
+    overflow: Bit,
+    undefined: Bit,
+) -> Result<(), OutOfMemory>
+    requires fits { IsState (program_view program.now) sym.old }
+    requires overflow_in { IsIn sym.old.net overflow }
+    requires undefined_in { IsIn sym.old.net undefined }
+    requires room { length sym.old.net < 2 ^ 27 }
+    ensures { IfOk result (λ r. Turned (program_view program.now) 4 0 sym.old sym.new (λ v. judged program.now.property at.duty (holds v sym.old.net overflow) (holds v sym.old.net undefined))) }
+{
+    match program.property {
+        Property::NoOverflow => {
+            fail(sym, program, at.duty, overflow)?;
+            stop(sym, program, undefined)?;
+            Ok(())
+        }
+        Property::UnreachCall => {
+            stop(sym, program, undefined)?;
+            Ok(())
+        }
+    }
+}
+
+/// An operator of two numbers, whose sides are converted first.
+pub fn operate(
+    alloc: Global,
+    program: &Program,
+    sym: &mut Sym,
+    at: Around,
+    spot: Spot,
+    op: BinOp,
+    a: IntType,
+    x: &Bits,
+    b: IntType,
+    y: &Bits,
+) -> Result<Bits, OutOfMemory>
+    requires fits { IsState (program_view program.now) sym.old }
+    requires x_in { AreTyped program.now.model a sym.old.net x.now.bits }
+    requires y_in { AreTyped program.now.model b sym.old.net y.now.bits }
+    requires room { length sym.old.net + operated_cost program.now.model op a b < 2 ^ 27 }
+    ensures { IfOk result (λ r. (I : List Placed) → IsDutyAt (program_view program.now) I at → Gives (program_view program.now) I (operated_cost program.now.model op a b) 0 sym.old sym.new (Some (binary_type op (operators.type_for program.now.model op a b))) r.bits (operated (program_view program.now) I at spot op a x.now.bits b y.now.bits sym.old)) }
+{
+    let model = program.model;
+    let ty = type_for(model, op, a, b);
+    let right = right_type_for(model, op, ty, b);
+    let u = convert_bits(alloc, &mut sym.net, model, a, ty, x)?;
+    let w = convert_bits(alloc, &mut sym.net, model, b, right, y)?;
+    let out = apply_bits(alloc, &mut sym.net, model, op, ty, &u, right, &w)?;
+    end_runs(sym, program, at, out.overflow, out.undefined)?;
+    Ok(out.value)
+}
+
+/// An operator of one number, which is promoted first.
+pub fn operate_one(
+    alloc: Global,
+    program: &Program,
+    sym: &mut Sym,
+    at: Around,
+    op: UnOp,
+    a: IntType,
+    x: &Bits,
+) -> Result<Bits, OutOfMemory>
+    requires fits { IsState (program_view program.now) sym.old }
+    requires x_in { AreTyped program.now.model a sym.old.net x.now.bits }
+    requires room { length sym.old.net + operated_one_cost program.now.model op a < 2 ^ 27 }
+    ensures { IfOk result (λ r. (I : List Placed) → IsDutyAt (program_view program.now) I at → Gives (program_view program.now) I (operated_one_cost program.now.model op a) 0 sym.old sym.new (Some (one_type op (promote_of a))) r.bits (operated_one (program_view program.now) I at op a x.now.bits sym.old)) }
+{
+    let model = program.model;
+    let ty = promote(model, a);
+    let u = convert_bits(alloc, &mut sym.net, model, a, ty, x)?;
+    let out = one_bits(alloc, &mut sym.net, model, op, ty, &u)?;
+    end_runs(sym, program, at, out.overflow, out.undefined)?;
+    Ok(out.value)
+}
