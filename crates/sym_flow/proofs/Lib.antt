@@ -1,0 +1,5 @@
+pub mod Statements
+pub mod Bools
+pub mod Leaves
+pub mod Around
+pub mod Bodies
