@@ -3,3 +3,4 @@ pub mod Bools
 pub mod Leaves
 pub mod Around
 pub mod Bodies
+pub mod Becoming

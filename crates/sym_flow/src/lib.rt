@@ -3,4 +3,8 @@
 //! and lets all others be.
 #![tactic(auto)]
 
-pub fn nothing() {}
+mod scopes;
+mod ways;
+
+pub use scopes::{cut, end_body, end_loop, start_body, start_loop};
+pub use ways::{give, go_again, go_back, leave_loop};
