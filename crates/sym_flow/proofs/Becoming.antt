@@ -143,10 +143,10 @@ module _ (p : Program) where
 
   -- the cells of around, over a net that grew
   module _ {k : ℕ} (s : Sym) (net : List NetNode) (h : IsState p s) (g : Grown k s.net net) (n : ℕ) (cells : Vec SymCell Global) (e : cells.items ≡ take n s.cells.items) where
-    front_in : All (IsCell p net) cells.items
+    pub front_in : All (IsCell p net) cells.items
     front_in = rw e (all_front (IsCell p net) n s.cells.items (state_grown p g h).cells)
 
-    front_are : (v : ℕ → Bool) → map (cell_at p v net) cells.items ≡ take n (stand p v s).cells
+    pub front_are : (v : ℕ → Bool) → map (cell_at p v net) cells.items ≡ take n (stand p v s).cells
     front_are v = ap (map (cell_at p v net)) e ∙ map_front (cell_at p v net) n s.cells.items ∙ ap (take n) (still_cells s net h g v)
 
   pub cut_became : (s : Sym) (n : ℕ) (cells : Vec SymCell Global) → IsState p s → cells.items ≡ take n s.cells.items → Became p 0 s (record s { cells = cells }) (λ v. cut_to n)

@@ -52,13 +52,13 @@ cut_away {n = n} {s = s} {b = b} o l x y z f d k = record {
 }
 
 -- a run that was on its way out and goes on behind the part
-cut_here : {ds : List Duty} {x y z : Bool} {n : ℕ} {rest : List ℤ} {s : Left} {b : Stand} (c : Stand) → IsAway ds x y z n rest s b → c.draws ≡ b.draws → c.cells ≡ take n b.cells → cut_left n s ≡ left_of c rest
+pub cut_here : {ds : List Duty} {x y z : Bool} {n : ℕ} {rest : List ℤ} {s : Left} {b : Stand} (c : Stand) → IsAway ds x y z n rest s b → c.draws ≡ b.draws → c.cells ≡ take n b.cells → cut_left n s ≡ left_of c rest
 cut_here {n = n} {s = s} {b = b} c o d k =
     let cells : take n s.cells ≡ c.cells = sym (same_front n s.cells b.cells o.junk o.cells o.least) ∙ sym k in
     let draws : s.draws ≡ c.draws = o.draws ∙ sym d in
     λ i. record { cells = cells i; values = o.values i; draws = draws i }
 
-kept_cells : {a b : Stand} (n : ℕ) → Kept a b → length a.cells ≡ n → take n b.cells ≡ a.cells ++ []
+pub kept_cells : {a b : Stand} (n : ℕ) → Kept a b → length a.cells ≡ n → take n b.cells ≡ a.cells ++ []
 kept_cells {a} {b} n k e = ap (take n) k.cells ∙ take_at a.cells k.junk n e ∙ sym (append-nil a.cells)
 
 module _ (p : Program) (ds : List Duty) (result : Option IntType) where

@@ -1,5 +1,5 @@
 -- What the ways out of statements, and cells that come and go, do to a state.
-use Rattle.std.specs.Prelude.{◌≡◌, ℕ, Bool, true, false, cond, not, ◌&&◌, ◌||◌, ℤ, pos, List, [], ◌++◌, length, take}
+use Rattle.std.specs.Prelude.{◌≡◌, ℕ, Bool, true, false, cond, ◌||◌, ℤ, List, [], ◌++◌, length, take}
 use Rattle.c_core.specs.Tree.{Program}
 use Rattle.c_meaning.specs.Cells.{cells_from}
 use Rattle.sym_state.specs.declared.state.Sym.{Sym}
@@ -38,7 +38,11 @@ cut_to n s = record s { cells = take n s.cells }
 abbrev pub declaring : ℕ → ℕ → Stand → Stand
 declaring o n s = record s { cells = s.cells ++ cells_from o 0 n [] }
 
--- ---- around a loop's body, a loop and a function: fresh bits, and ways that come together
+-- one cell more of an object
+abbrev pub with_cell : ℕ → ℕ → Stand → Stand
+with_cell o i s = record s { cells = s.cells ++ cells_from o i 1 [] }
+
+-- ---- around a loop's body and a loop: fresh bits, and ways that come together
 -- no run goes to the end of a body
 abbrev pub fresh_again : Stand → Stand
 fresh_again s = record s { again = false }
@@ -54,7 +58,3 @@ behind_body kept n s = record s { live = s.live || s.again; again = kept; cells 
 -- behind a loop around which are n cells: runs that left it
 abbrev pub behind_loop : Bool → ℕ → Stand → Stand
 behind_loop kept n s = record s { live = s.live || s.broken; broken = kept; cells = take n s.cells }
-
--- no run is on its way out of a function
-abbrev pub fresh_function : Stand → Stand
-fresh_function s = record s { broken = false; again = false; gave = false; given = pos 0 }
