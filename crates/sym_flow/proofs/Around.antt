@@ -1,13 +1,13 @@
 -- A part with fresh bits around it, and what comes together behind it.
-use Rattle.std.proofs.Common.{◌≡◌, ℕ, ◌+◌, ◌≤◌, Bool, true, false, ℤ, List, [], ◌++◌, length, refl, sym, ◌∙◌, ap, subst, arith, Option}
+use Rattle.std.proofs.Common.{◌≡◌, ℕ, ◌+◌, ◌≤◌, Bool, false, ℤ, List, ◌++◌, length, refl, sym, ◌∙◌, ap, subst, arith, Option}
 use Rattle.c_core.specs.Tree.{Program}
 use Rattle.c_core.specs.declared.number.IntType.{IntType}
 use Rattle.c_meaning.specs.declared.run.Duty.{Duty}
 use Rattle.c_meaning.specs.Acts.{Res, Flow}
 use Rattle.c_meaning.specs.Havoc.{Stopped, Left}
 use Rattle.sym_state.specs.declared.state.Sym.{Sym}
-use Rattle.sym_state.specs.Standing.{Stand, stand, IsState, Kept, Moves, IsHere}
-use Rattle.sym_state.specs.Following.{left_of, Taken, Deed}
+use Rattle.sym_state.specs.Standing.{Stand, stand, IsState, Kept, IsHere}
+use Rattle.sym_state.specs.Following.{left_of, Deed}
 use Rattle.sym_state.proofs.Nets.{added_then, unchanged}
 use Rattle.sym_flow.specs.Leaving.{Went, Runs}
 use Rattle.sym_flow.specs.Ways.{Became}

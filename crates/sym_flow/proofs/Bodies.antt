@@ -1,5 +1,5 @@
 -- Scopes, bodies of loops, and loops: where ways come together.
-use Rattle.std.proofs.Common.{◌≡◌, ℕ, ◌+◌, ◌≤◌, Bool, true, false, ◌||◌, ℤ, List, [], ◌++◌, length, take, refl, sym, ◌∙◌, ap, ap₂, subst, arith, append-nil, Option}
+use Rattle.std.proofs.Common.{◌≡◌, ℕ, ◌+◌, ◌≤◌, Bool, false, ◌||◌, ℤ, List, [], ◌++◌, length, take, refl, sym, ◌∙◌, ap, ap₂, subst, arith, append-nil, Option}
 use Rattle.std.proofs.lemmas.List.{take_at, take-append-le, length-take-le}
 use Rattle.c_core.specs.Tree.{Program}
 use Rattle.c_core.specs.declared.number.IntType.{IntType}
@@ -12,8 +12,8 @@ use Rattle.sym_state.specs.Standing.{Stand, stand, IsState, Kept, IsHere}
 use Rattle.sym_state.specs.Following.{left_of, Deed}
 use Rattle.sym_flow.specs.Leaving.{IsAway, Went, Runs}
 use Rattle.sym_flow.specs.Ways.{Became, cut_to, fresh_again, fresh_broken, behind_body, behind_loop}
-use Rattle.sym_flow.proofs.Bools.{or_no, or_yes, count_cells, became_count, here_as, over_as}
-use Rattle.sym_flow.proofs.Statements.{given_then, runs_as}
+use Rattle.sym_flow.proofs.Bools.{or_no, count_cells, became_count, here_as, over_as}
+use Rattle.sym_flow.proofs.Statements.{given_then}
 use Rattle.sym_flow.proofs.Around.{Frames, same_became, around_runs}
 
 -- after a loop: who left it goes on behind it

@@ -7,7 +7,7 @@ use Rattle.c_core.specs.declared.number.DataModel.{DataModel}
 use Rattle.c_core.specs.declared.number.Spot.{Spot}
 use Rattle.c_meaning.specs.declared.run.Duty.{Duty}
 use Rattle.c_meaning.specs.Meaning.{Used, Calls}
-use Rattle.c_meaning.specs.Acts.{Res, Go, Stop, Flow, bind}
+use Rattle.c_meaning.specs.Acts.{Res, Flow}
 use Rattle.c_meaning.specs.Duties.{Placed}
 use Rattle.c_meaning.specs.Exec.{full, control}
 use Rattle.c_meaning.specs.Havoc.{Stopped, Left, havoc}

@@ -1,6 +1,5 @@
 -- A call of a function: its body in a scope of its own, and the value that it gave.
-use Rattle.std.proofs.Common.{◌≡◌, ℕ, ◌+◌, ◌≤◌, Bool, true, false, cond, ◌||◌, ℤ, pos, List, [], ◌++◌, length, take, refl, sym, ◌∙◌, ap, ap₂, subst, arith, append-nil, true≢false, Option, Some, None}
-use Rattle.std.proofs.lemmas.List.{take_at, take-append-le, length-take-le}
+use Rattle.std.proofs.Common.{◌≡◌, ℕ, ◌+◌, ◌≤◌, Bool, true, false, cond, ◌||◌, ℤ, pos, List, [], ◌++◌, length, take, refl, sym, ◌∙◌, ap, ap₂, subst, arith, true≢false, Option, Some, None}
 use Rattle.c_core.specs.Tree.{Program}
 use Rattle.c_core.specs.declared.number.IntType.{IntType}
 use Rattle.c_meaning.specs.declared.run.Duty.{Duty}
@@ -18,14 +17,14 @@ use Rattle.std.specs.declared.vec.Vec.{Vec}
 use Rattle.std.specs.declared.alloc.Global.{Global}
 use Rattle.sym_state.specs.declared.state.Sym.{Sym}
 use Rattle.sym_state.specs.declared.state.SymCell.{SymCell}
-use Rattle.sym_state.specs.Standing.{Stand, stand, IsState, Added, Kept, Moves, IsHere, IsOver, marks}
-use Rattle.sym_state.specs.Following.{left_of, Taken, Deed, Came, Follows}
+use Rattle.sym_state.specs.Standing.{Stand, stand, IsState, Added, Kept, IsHere, IsOver, marks}
+use Rattle.sym_state.specs.Following.{left_of, Deed, Came, Follows}
 use Rattle.sym_state.proofs.Nets.{added_then, added_of, unchanged, in_added, holds_added, typed_added, are_typed_added, state_grown, stand_grown}
-use Rattle.sym_flow.specs.Leaving.{IsAway, IsGiven, Went, Runs}
+use Rattle.sym_flow.specs.Leaving.{IsGiven, Went, Runs}
 use Rattle.sym_flow.specs.Calling.{fresh_function, behind_call, Enters, Returns, IsAround, IsAroundIn, CameBack, is_value}
 use Rattle.sym_flow.specs.declared.calling.Caller.{Caller}
 use Rattle.sym_flow.proofs.Becoming.{front_in, front_are}
-use Rattle.sym_flow.proofs.Bools.{or_no, or_yes, count_cells, over_as}
+use Rattle.sym_flow.proofs.Bools.{count_cells, over_as}
 use Rattle.sym_flow.proofs.Bodies.{cut_left, cut_here, kept_cells}
 
 either_way : (needed x y : Bool) (b : Bool) → x ≡ b → y ≡ b → cond needed x y ≡ b

@@ -1,5 +1,5 @@
 -- Declarations and parameters: cells that come, and what they hold.
-use Rattle.std.proofs.Common.{◌≡◌, ℕ, zero, suc, ◌+◌, ◌*◌, ◌≤◌, Bool, true, false, cond, ℤ, pos, List, [], ◌∷◌, ◌++◌, length, map, drop, refl, sym, ◌∙◌, ap, ap₂, subst, arith, append-nil, append_assoc, length-append, Option}
+use Rattle.std.proofs.Common.{◌≡◌, ℕ, zero, suc, ◌+◌, ◌≤◌, Bool, false, ℤ, pos, List, [], ◌∷◌, ◌++◌, map, refl, sym, ◌∙◌, ap, subst, arith, append-nil, length-append, Option}
 use Rattle.std.specs.declared.vec.Vec.{Vec}
 use Rattle.std.specs.declared.alloc.Global.{Global}
 use Rattle.std.specs.List.{All}
@@ -12,23 +12,22 @@ use Rattle.c_core.specs.declared.number.Spot.{Spot}
 use Rattle.c_meaning.specs.declared.run.Duty.{Duty}
 use Rattle.c_meaning.specs.Acts.{Res, Go, Stop, Flow, Next, Broken, Again, Gave, bind, go_on, write}
 use Rattle.c_meaning.specs.Acts as acts
-use Rattle.c_meaning.specs.Cells.{Cell, cells_from}
+use Rattle.c_meaning.specs.Cells.{cells_from}
 use Rattle.c_meaning.specs.Duties.{Placed}
 use Rattle.c_meaning.specs.Exec.{ticks, full, initial, initials, declare, with_params}
 use Rattle.c_meaning.specs.Havoc.{Stopped, Left, cells_left, with_cells_left, havoc}
 use Rattle.c_meaning.specs.Meaning.{Tick, ACell, Used, Calls}
-use Rattle.c_meaning.specs.Objects.{type_of, type_of_object, size_of_object}
+use Rattle.c_meaning.specs.Objects.{type_of_object, size_of_object}
 use Rattle.run_state.proofs.Taking.{appended}
-use Rattle.circuits.specs.declared.net.Bit.{Bit}
 use Rattle.circuits.specs.Numbers.{typed, Reads}
 use Rattle.circuits.proofs.Nets.{grown_not, own}
 use Rattle.sym_state.specs.declared.state.Sym.{Sym}
 use Rattle.sym_state.specs.declared.state.SymCell.{SymCell}
 use Rattle.sym_state.specs.Places.{key}
-use Rattle.sym_state.specs.Standing.{Stand, stand, cell_at, IsCell, IsState, Kept, IsHere}
-use Rattle.sym_state.specs.Following.{left_of, Deed, Follows}
-use Rattle.sym_state.proofs.Composed.{follows_then, follows_as}
-use Rattle.sym_flow.specs.Leaving.{Went, Runs}
+use Rattle.sym_state.specs.Standing.{stand, cell_at, IsCell, IsState}
+use Rattle.sym_state.specs.Following.{Follows}
+use Rattle.sym_state.proofs.Composed.{follows_then}
+use Rattle.sym_flow.specs.Leaving.{Runs}
 use Rattle.sym_flow.specs.Ways.{Became, declaring, with_cell}
 use Rattle.sym_flow.proofs.Bools.{count_cells, became_count}
 use Rattle.sym_flow.proofs.Statements.{became_runs, runs_then, runs_as, follows_runs}

@@ -1,8 +1,8 @@
 -- Cells that draw their values in turn.
-use Rattle.std.proofs.Common.{◌≡◌, ℕ, zero, suc, ◌+◌, ◌*◌, ◌≤◌, ◌<◌, ◌^◌, Bool, true, false, cond, ℤ, List, [], ◌∷◌, ◌++◌, length, take, drop, get_or, refl, sym, ◌∙◌, ap, ap₂, subst, arith, append-nil}
+use Rattle.std.proofs.Common.{◌≡◌, ℕ, zero, suc, ◌+◌, ◌*◌, ◌≤◌, ◌<◌, ◌^◌, Bool, false, cond, ℤ, List, [], ◌∷◌, ◌++◌, length, take, drop, get_or, refl, sym, ◌∙◌, ap, subst, arith, append-nil}
 use Rattle.std.proofs.Math.Nat.{mul-le-mul_right}
 use Rattle.std.proofs.Math.Seq.{take-suc}
-use Rattle.std.proofs.lemmas.List.{take-append-drop, take_all}
+use Rattle.std.proofs.lemmas.List.{take-append-drop}
 use Rattle.c_core.specs.Tree.{Program}
 use Rattle.c_core.specs.Types.{width_of}
 use Rattle.c_core.specs.declared.number.IntType.{IntType}
@@ -25,9 +25,9 @@ use Rattle.circuits.specs.Numbers.{typed}
 use Rattle.sym_state.specs.declared.state.Sym.{Sym}
 use Rattle.sym_state.specs.Drawn.{draw_of, IsDrawn}
 use Rattle.sym_state.specs.Places.{key}
-use Rattle.sym_state.specs.Standing.{Stand, stand, IsState, IsHere, Turned, drawing, stored}
+use Rattle.sym_state.specs.Standing.{Stand, stand, IsState, Turned, drawing, stored}
 use Rattle.sym_state.specs.Following.{left_of, Taken, Deed, Came, Follows}
-use Rattle.sym_state.proofs.Nets.{unchanged, longer_by}
+use Rattle.sym_state.proofs.Nets.{unchanged}
 use Rattle.sym_state.proofs.Composed.{same_kept, follows_then, follows_as, turned_follows}
 use Rattle.sym_flow.specs.Drawing.{cell_drawn, cells_drawn, bits_of_cells, bits_of_objects}
 
@@ -63,8 +63,7 @@ module _ (p : Program) (ds : List Duty) where
         does = λ v here vs rest t.
             let a = stand p v s in
             let u : Taken p.model (d v ∷ []) vs rest = subst (λ l. Taken p.model (cond l (d v ∷ []) []) vs rest) here.live t in
-            subst (λ z. Came ds (λ w. w ≡ (d v).value) z rest (draw p [] from spot ty (left_of a vs))) (sym (x.turned.is v))
-            (
+            subst (λ z. Came ds (λ w. w ≡ (d v).value) z rest (draw p [] from spot ty (left_of a vs))) (sym (x.turned.is v)) (
               record { live = here.live; broken = here.broken; again = here.again; gave = here.gave; failing = here.failing },
               (λ i. record { cells = a.cells; values = u.1 i; draws = (ap (λ q. a.draws ++ record { spot = spot; ty = ty; value = q; from = from } ∷ []) u.0 ∙ ap (λ l. a.draws ++ cond l (d v ∷ []) []) (sym here.live)) i }),
               u.0,

@@ -1,26 +1,24 @@
 -- Each form of statement, against the definition: from what its parts do, what it does.
-use Rattle.std.proofs.Common.{◌≡◌, ℕ, zero, suc, ◌+◌, ◌≤◌, Bool, true, false, cond, not, ◌&&◌, ◌||◌, ℤ, List, [], ◌∷◌, length, refl, sym, ◌∙◌, ap, arith, Option, Some, None}
-use Rattle.c_core.specs.Tree.{Program, Exp, First, NoFirst, FirstExp, FirstNames, Stm, Stmt, Form, Empty, Do, Declare, Block, If, While, DoWhile, For, Break, Continue, Return, Label, Else, NoElse, OrElse, Stms, NoStm, MoreStm, Function, Names}
-use Rattle.c_core.specs.Types.{fit, is_zero}
+use Rattle.std.proofs.Common.{◌≡◌, ℕ, ◌+◌, ◌≤◌, Bool, false, ℤ, List, length, refl, sym, ◌∙◌, ap, arith, Option, Some, None}
+use Rattle.c_core.specs.Tree.{Program, Exp, FirstExp, FirstNames, Stm, Stmt, Form, Empty, Do, Return, Stms, NoStm, MoreStm, Function, Names}
+use Rattle.c_core.specs.Types.{fit}
 use Rattle.c_core.specs.declared.number.IntType.{IntType}
 use Rattle.c_core.specs.declared.number.Spot.{Spot}
 use Rattle.c_meaning.specs.declared.run.Duty.{Duty}
 use Rattle.c_meaning.specs.declared.run.DutyKind.TheVariants.{Location}
-use Rattle.c_meaning.specs.Acts.{Res, Go, Stop, Flow, Next, Broken, Again, Gave, bind, go_on, scoped, continued, given}
+use Rattle.c_meaning.specs.Acts.{Res, Go, Flow, Next, Broken, Gave, bind, scoped, continued, given}
 use Rattle.c_meaning.specs.Duties.{Placed}
 use Rattle.c_meaning.specs.Eval.{convert_to}
-use Rattle.c_meaning.specs.Exec.{full, full_if, control, going, while_turn, do_turn, for_turn, first, declare, exec, form, otherwise, execs, body, with_params, call_of}
+use Rattle.c_meaning.specs.Exec.{full, full_if, control, while_turn, do_turn, for_turn, first, declare, exec, form, execs, body, with_params, call_of}
 use Rattle.c_meaning.specs.Havoc.{Stopped, Left, cells_left, with_cells_left, havoc, test_from, returned}
 use Rattle.c_meaning.specs.Meaning.{AParameter, Used, Unused, Site, Calls}
 use Rattle.c_meaning.specs.Objects.{type_of}
-use Rattle.circuits.specs.declared.net.Bit.{Bit}
-use Rattle.circuits.specs.Net.{holds}
 use Rattle.sym_state.specs.declared.state.Sym.{Sym}
-use Rattle.sym_state.specs.Standing.{Stand, stand, IsState}
-use Rattle.sym_state.specs.Following.{Deed, Follows}
+use Rattle.sym_state.specs.Standing.{IsState}
+use Rattle.sym_state.specs.Following.{Follows}
 use Rattle.sym_state.proofs.Composed.{follows_as}
 use Rattle.sym_flow.specs.Leaving.{Runs}
-use Rattle.sym_flow.proofs.Statements.{follows_runs, runs_then, runs_as, skip_runs}
+use Rattle.sym_flow.proofs.Statements.{follows_runs, runs_then, skip_runs}
 use Rattle.sym_flow.proofs.Declares.{no_ticks}
 
 module _ (p : Program) (I : List Placed) (ds : List Duty) (result : Option IntType) (call : Calls (havoc p I)) where

@@ -3,12 +3,10 @@ use Rattle.std.proofs.Common.{◌≡◌, ℕ, ◌≤◌, Bool, true, false, cond
 use Rattle.c_core.specs.Tree.{Program}
 use Rattle.c_core.specs.declared.number.IntType.{IntType}
 use Rattle.c_meaning.specs.declared.run.Duty.{Duty}
-use Rattle.c_meaning.specs.Acts.{Res, Go, Stop, Flow, Next, Broken, Again, Gave}
-use Rattle.c_meaning.specs.Havoc.{Left}
+use Rattle.c_meaning.specs.Acts.{Go, Broken, Again, Gave}
 use Rattle.sym_state.specs.declared.state.Sym.{Sym}
-use Rattle.sym_state.specs.Standing.{Stand, stand, Kept, IsHere}
-use Rattle.sym_state.specs.Following.{left_of}
-use Rattle.sym_flow.specs.Leaving.{IsAway, IsGiven, Went, Runs}
+use Rattle.sym_state.specs.Standing.{Stand, stand, Kept}
+use Rattle.sym_flow.specs.Leaving.{IsGiven, Runs}
 use Rattle.sym_flow.specs.Ways.{Became, leaving, going_again, going_back, giving}
 use Rattle.sym_flow.proofs.Bools.{or_no, count_cells, became_count}
 use Rattle.sym_flow.proofs.Statements.{became_runs}

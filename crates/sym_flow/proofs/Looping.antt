@@ -1,6 +1,6 @@
 -- A loop: its invariants are tested on arrival, what it changes draws, the invariants are assumed, one turn is done, and where the
 -- turn comes back to the head the invariants are tested once more and the run ends.
-use Rattle.std.proofs.Common.{◌≡◌, ℕ, ◌+◌, ◌≤◌, Bool, true, false, not, ◌&&◌, ℤ, List, [], length, refl, sym, ◌∙◌, ap, arith, Option}
+use Rattle.std.proofs.Common.{◌≡◌, ℕ, ◌+◌, ◌≤◌, Bool, true, List, length, refl, sym, ◌∙◌, ap, arith, Option}
 use Rattle.c_core.specs.Tree.{Program}
 use Rattle.c_core.specs.declared.number.IntType.{IntType}
 use Rattle.c_core.specs.declared.number.Spot.{Spot}
@@ -12,8 +12,8 @@ use Rattle.c_meaning.specs.Duties.{Placed}
 use Rattle.c_meaning.specs.Havoc.{Stopped, Passes, Left, cells_left, with_cells_left, test_from, assume_all, redraw, stop, close, loop}
 use Rattle.c_meaning.specs.Meaning.{Loop}
 use Rattle.sym_state.specs.declared.state.Sym.{Sym}
-use Rattle.sym_state.specs.Standing.{Stand, stand}
-use Rattle.sym_state.specs.Following.{Deed, Follows}
+use Rattle.sym_state.specs.Standing.{stand}
+use Rattle.sym_state.specs.Following.{Follows}
 use Rattle.sym_flow.specs.Leaving.{Runs}
 use Rattle.sym_flow.specs.Ways.{Became, fresh_broken, behind_loop}
 use Rattle.sym_flow.proofs.Statements.{follows_runs, runs_then, runs_as}

@@ -1,13 +1,12 @@
 -- Statements one after the other.
-use Rattle.std.proofs.Common.{◌≡◌, ℕ, ◌+◌, ◌≤◌, Bool, true, false, ℤ, List, [], ◌++◌, length, map, refl, sym, ◌∙◌, ap, subst, arith, append_assoc, append-nil, Option, Some, None}
-use Rattle.std.proofs.lemmas.List.{length-map}
+use Rattle.std.proofs.Common.{◌≡◌, ℕ, ◌+◌, ◌≤◌, Bool, false, ℤ, List, [], ◌++◌, length, refl, sym, ◌∙◌, ap, subst, arith, append_assoc, append-nil, Option, Some, None}
 use Rattle.c_core.specs.Tree.{Program}
 use Rattle.c_core.specs.declared.number.IntType.{IntType}
 use Rattle.c_meaning.specs.declared.run.Duty.{Duty}
 use Rattle.c_meaning.specs.Acts.{Res, Go, Stop, bind, Flow, Next, Broken, Again, Gave, go_on}
 use Rattle.c_meaning.specs.Havoc.{Stopped, Left}
 use Rattle.sym_state.specs.declared.state.Sym.{Sym}
-use Rattle.sym_state.specs.Standing.{Stand, stand, cell_at, IsState, Kept, Moves, IsHere}
+use Rattle.sym_state.specs.Standing.{Stand, stand, IsState, Kept, Moves, IsHere}
 use Rattle.sym_state.specs.Following.{left_of, Taken, Deed, Came, Follows}
 use Rattle.sym_state.proofs.Nets.{added_then, unchanged}
 use Rattle.sym_state.proofs.Composed.{same_kept, moves_then, over_then, none_taken, taken_split}

@@ -1,20 +1,19 @@
 -- Tests of invariants: each in turn fails its obligation, or dismisses the run.
-use Rattle.std.proofs.Common.{◌≡◌, ℕ, zero, suc, ◌+◌, ◌≤◌, Bool, true, false, cond, not, ◌&&◌, ◌||◌, ℤ, List, [], ◌∷◌, ◌++◌, length, refl, sym, ◌∙◌, ap, ap₂, subst, arith, Option, Some, None}
+use Rattle.std.proofs.Common.{◌≡◌, ℕ, zero, suc, ◌+◌, ◌≤◌, Bool, true, false, cond, not, ◌&&◌, ℤ, List, [], ◌∷◌, ◌++◌, length, refl, sym, ◌∙◌, ap, ap₂, subst, arith, Some}
 use Rattle.c_core.specs.Tree.{Program}
 use Rattle.c_core.specs.declared.number.Spot.{Spot}
 use Rattle.c_meaning.specs.declared.run.Duty.{Duty}
 use Rattle.c_meaning.specs.declared.run.DutyKind.{DutyKind}
 use Rattle.c_meaning.specs.Acts.{Res, Go, Stop, bind}
-use Rattle.c_meaning.specs.Cells.{Cell}
 use Rattle.c_meaning.specs.Duties.{Placed, duty, number_among}
-use Rattle.c_meaning.specs.Havoc.{Stopped, Passes, Dismisses, Fails, Left, stands, test_from, assume_all}
+use Rattle.c_meaning.specs.Havoc.{Stopped, Dismisses, Fails, Left, stands, test_from, assume_all}
 use Rattle.c_meaning.specs.Value as value
 use Rattle.circuits.specs.declared.net.Bit.{Bit}
 use Rattle.circuits.specs.Net.{holds, opposite, Means}
 use Rattle.circuits.proofs.Nets.{holds-opposite}
 use Rattle.sym_state.specs.declared.state.Sym.{Sym}
-use Rattle.sym_state.specs.Standing.{Stand, stand, IsState, IsHere, IsOver, Turned, marks, marked, stopped, failed, number_of_end}
-use Rattle.sym_state.specs.Following.{left_of, Deed, Came, Follows}
+use Rattle.sym_state.specs.Standing.{Stand, stand, IsHere, Turned, marks, marked, stopped, failed}
+use Rattle.sym_state.specs.Following.{left_of, Came, Follows}
 use Rattle.sym_state.proofs.Composed.{turned_follows, follows_then, follows_as}
 use Rattle.sym_flow.specs.Testing.{going_if, tested, invariant_tested}
 use Rattle.sym_flow.proofs.Bools.{and_no, and_yes, or_no}

@@ -90,7 +90,14 @@ pub fn come_back(
     requires room { length sym.old.net < 2 ^ 28 }
     ensures { IfOk result (λ r. CameBack (program_view program.now) needed caller cells sym.old sym.new r.bits) }
 {
-    let live = going_on(&mut sym.net, sym.live, sym.broken, sym.again, sym.gave, needed)?;
+    let live = going_on(
+        &mut sym.net,
+        sym.live,
+        sym.broken,
+        sym.again,
+        sym.gave,
+        needed,
+    )?;
     let value = mem::replace(&mut sym.given, caller.given);
     sym.live = live;
     sym.broken = caller.broken;

@@ -26,12 +26,7 @@ pub fn assume(sym: &mut Sym, program: &Program, test: Bit) -> Result<(), OutOfMe
 }
 
 /// A run goes on only where the bit is true; else it fails the obligation of a number, from 0 on.
-pub fn assure(
-    sym: &mut Sym,
-    program: &Program,
-    duty: u32,
-    test: Bit,
-) -> Result<(), OutOfMemory>
+pub fn assure(sym: &mut Sym, program: &Program, duty: u32, test: Bit) -> Result<(), OutOfMemory>
     requires fits { IsState (program_view program.now) sym.old }
     requires test_in { IsIn sym.old.net test }
     requires room { length sym.old.net < 2 ^ 27 }

@@ -1,4 +1,4 @@
-use Rattle.std.proofs.Common.{◌≡◌, ◌≤◌, ◌*◌, List, [], rules, arith, subst, ◌∙◌}
+use Rattle.std.proofs.Common.{◌≡◌, ◌≤◌, ◌*◌, [], rules, arith, subst, ◌∙◌}
 use Rattle.c_core.specs.View.{program_view}
 use Rattle.c_meaning.specs.Objects.{size_of_object}
 use Rattle.sym_state.specs.Following.{Follows}

@@ -1,4 +1,4 @@
-use Rattle.std.proofs.Common.{◌≡◌, ◌≤◌, ◌*◌, List, [], take, get_or, length, rules, arith, refl, subst, ◌∙◌}
+use Rattle.std.proofs.Common.{◌*◌, [], get_or, arith, refl, subst}
 use Rattle.std.proofs.lemmas.List.{take_all}
 use Rattle.c_core.specs.View.{program_view}
 use Rattle.c_meaning.specs.Havoc.{redraw}
