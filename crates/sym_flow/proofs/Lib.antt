@@ -1,0 +1,13 @@
+pub mod Bools
+pub mod Statements
+pub mod Leaves
+pub mod Around
+pub mod Bodies
+pub mod Becoming
+pub mod Branching
+pub mod Tests
+pub mod Draws
+pub mod Declares
+pub mod Looping
+pub mod Calls
+pub mod Forms

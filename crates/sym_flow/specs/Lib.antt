@@ -1,0 +1,5 @@
+pub mod Leaving
+pub mod Ways
+pub mod Testing
+pub mod Drawing
+pub mod Calling
