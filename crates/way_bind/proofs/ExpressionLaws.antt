@@ -1,12 +1,11 @@
 -- What is known of an expression once its text is read, and it is typed.
-use Rattle.std.proofs.Common.{◌≡◌, refl, sym, subst, IsErrAnd, List, ℕ, [], Option, Some, Result, Ok, Err, inl, inr}
+use Rattle.std.proofs.Common.{◌≡◌, refl, sym, subst, IsErrAnd, List, ℕ, Option, Some, Result, Ok, Err, inl, inr}
 use Rattle.c_core.specs.Tree.{Program, Exp}
 use Rattle.c_core.specs.View as typed
 use Rattle.c_core.specs.declared.tree.Expr.{Expr}
 use Rattle.c_core.specs.declared.number.Spot.{Spot}
 use Rattle.c_core.specs.declared.place.PlaceKind.{PlaceKind}
 use Rattle.c_parser.specs.View.{expr_view}
-use Rattle.c_parser.specs.Tree as raw
 use Rattle.c_parser.specs.Witness.{AnswersExpression}
 use Rattle.c_parser.specs.declared.tree.RawExpr.{RawExpr}
 use Rattle.c_parser.specs.declared.fault.ExprFault.{ExprFault}

@@ -7,7 +7,6 @@ use Rattle.c_core.specs.Parts.{same_spot}
 use Rattle.c_core.specs.Places.{spots_of_kind}
 use Rattle.c_core.specs.Tree.{Program}
 use Rattle.c_core.specs.declared.number.Spot.{Spot}
-use Rattle.c_meaning.specs.Duties.{Placed}
 use Rattle.c_meaning.specs.declared.run.PlacedInvariant.{PlacedInvariant}
 use Rattle.c_duties.specs.Obliged.{placed, placed_view}
 use Rattle.wv_schema.specs.declared.witness.InvariantKind.{InvariantKind}
@@ -17,7 +16,7 @@ use Rattle.wv_schema.specs.declared.witness.Entry.{Entry}
 use Rattle.way_names.specs.Visible.{is_scoped}
 use Rattle.way_bind.specs.declared.fault.Unbound.{Unbound}
 use Rattle.way_bind.specs.declared.fault.BindFault.{BindFault}
-use Rattle.way_bind.specs.InOrder.{AllBound, TellsLeast, told}
+use Rattle.way_bind.specs.InOrder.{TellsLeast, told}
 use Rattle.way_bind.proofs.InOrderLaws.{next_taken, whole_split, each_both, each_length, told_here, told_among}
 use Rattle.way_invariants.specs.Invariants.{BindsInvariant, invariants_among, place_of, set_of}
 use Rattle.way_invariants.specs.Steps.{BindsNext}
