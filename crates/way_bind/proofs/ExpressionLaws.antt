@@ -1,25 +1,20 @@
 -- What is known of an expression once its text is read, and it is typed.
-use Rattle.std.proofs.Common.{◌≡◌, refl, sym, subst, IsErrAnd, List, ℕ, [], Option, Some, Result, Ok, Err, inl, inr}
+use Rattle.std.proofs.Common.{◌≡◌, refl, sym, subst, IsErrAnd, List, ℕ, Option, Some, Result, Ok, Err, inl, inr}
 use Rattle.c_core.specs.Tree.{Program, Exp}
 use Rattle.c_core.specs.View as typed
 use Rattle.c_core.specs.declared.tree.Expr.{Expr}
 use Rattle.c_core.specs.declared.number.Spot.{Spot}
-use Rattle.c_core.specs.declared.place.PlaceKind.TheVariants.{Statement}
+use Rattle.c_core.specs.declared.place.PlaceKind.{PlaceKind}
 use Rattle.c_parser.specs.View.{expr_view}
-use Rattle.c_parser.specs.Tree as raw
 use Rattle.c_parser.specs.Witness.{AnswersExpression}
 use Rattle.c_parser.specs.declared.tree.RawExpr.{RawExpr}
 use Rattle.c_parser.specs.declared.fault.ExprFault.{ExprFault}
 use Rattle.c_parser.specs.declared.fault.ExprFault.TheVariants as expr
 use Rattle.way_constraint.specs.Constraints.{AnswersConstraint}
 use Rattle.way_names.specs.Visible.{names_at}
-use Rattle.way_match.specs.Points as point
-use Rattle.way_match.specs.Points.{Assume}
-use Rattle.way_match.specs.View.{point_view}
-use Rattle.way_match.specs.declared.point.Point.{Point}
 use Rattle.way_bind.specs.declared.fault.Unbound.{Unbound}
 use Rattle.way_bind.specs.Lacks.{lack_of}
-use Rattle.way_bind.specs.Binding.{BindsExpression, BindsAssumption, IsExpressionOf, WherePlaced, seen}
+use Rattle.way_bind.specs.Binding.{BindsExpression, BindsThere, IsExpressionOf, WherePlaced, seen}
 
 the_expression : (text : List ℕ) (e : RawExpr) → AnswersExpression text (Ok e) → IsExpressionOf text (expr_view e)
 the_expression text e h = record { spelled = h.0; only = h.1 }
@@ -48,15 +43,15 @@ untyped p names bytes text e f (Err lack) same from h k =
 pub typed_expression : (p : Program) (names bytes text : List ℕ) (e : RawExpr) (tree : Expr) → bytes ≡ text → AnswersExpression bytes (Ok e) → AnswersConstraint p names (expr_view e) (Ok tree) → BindsExpression p names text (Ok (typed.expr_view tree))
 typed_expression p names bytes text e tree same h k = (expr_view e, the_expression text e (subst (λ b. AnswersExpression b (Ok e)) same h), k)
 
--- an assumption, whose names are those of its statement
-pub assumed : (p : Program) (names text : List ℕ) (spot : Spot) (tree : Expr) → names ≡ names_at p Statement spot → BindsExpression p names text (Ok (typed.expr_view tree)) → BindsAssumption p text spot (Ok (Assume spot (typed.expr_view tree)))
-assumed p names text spot tree same h = (typed.expr_view tree, subst (λ ns. BindsExpression p ns text (Ok (typed.expr_view tree))) same h, refl)
+-- at a place, whose names it reads
+pub there : {A : Type 0} (p : Program) (kind : PlaceKind) (names text : List ℕ) (make : Spot → Exp → A) (spot : Spot) (tree : Expr) → names ≡ names_at p kind spot → BindsExpression p names text (Ok (typed.expr_view tree)) → BindsThere p kind text make spot (Ok (make spot (typed.expr_view tree)))
+there p kind names text make spot tree same h = (typed.expr_view tree, subst (λ ns. BindsExpression p ns text (Ok (typed.expr_view tree))) same h, refl)
 
-pub unassumed : (p : Program) (names text : List ℕ) (spot : Spot) (lack : Unbound) (r : Result Point Unbound) → names ≡ names_at p Statement spot → IsErrAnd r (λ l. l ≡ lack) → BindsExpression p names text (Err lack) → BindsAssumption p text spot (seen point_view r)
-unassumed p names text spot lack (Ok x) same from h = elim from [ ]
-unassumed p names text spot lack (Err l) same from h =
-    subst (λ l. BindsExpression p (names_at p Statement spot) text (Err l)) (sym from) (subst (λ ns. BindsExpression p ns text (Err lack)) same h)
+pub lacking_there : {A C : Type 0} (p : Program) (kind : PlaceKind) (names text : List ℕ) (make : Spot → Exp → A) (view : C → A) (spot : Spot) (lack : Unbound) (r : Result C Unbound) → names ≡ names_at p kind spot → IsErrAnd r (λ l. l ≡ lack) → BindsExpression p names text (Err lack) → BindsThere p kind text make spot (seen view r)
+lacking_there p kind names text make view spot lack (Ok x) same from h = elim from [ ]
+lacking_there p kind names text make view spot lack (Err l) same from h =
+    subst (λ l. BindsExpression p (names_at p kind spot) text (Err l)) (sym from) (subst (λ ns. BindsExpression p ns text (Err lack)) same h)
 
-pub placed_assumption : (p : Program) (text text' : List ℕ) (place : Option Spot) (spot : Spot) (answer : Result point.Point Unbound) → place ≡ Some spot → text ≡ text' → BindsAssumption p text spot answer → WherePlaced place (BindsAssumption p text') answer
-placed_assumption p text text' place spot answer placed same h =
-    subst (λ o. WherePlaced o (BindsAssumption p text') answer) (sym placed) (subst (λ t. BindsAssumption p t spot answer) same h)
+pub placed_there : {A : Type 0} (p : Program) (kind : PlaceKind) (text text' : List ℕ) (make : Spot → Exp → A) (place : Option Spot) (spot : Spot) (answer : Result A Unbound) → place ≡ Some spot → text ≡ text' → BindsThere p kind text make spot answer → WherePlaced place (BindsThere p kind text' make) answer
+placed_there p kind text text' make place spot answer placed same h =
+    subst (λ o. WherePlaced o (BindsThere p kind text' make) answer) (sym placed) (subst (λ t. BindsThere p kind t make spot answer) same h)

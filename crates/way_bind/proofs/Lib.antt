@@ -1,9 +1,12 @@
+pub mod OneLaws
+pub mod InOrderLaws
+pub mod LeastLaws
 mod BindingLaws
 mod LoopLaws
 mod TestLaws
 mod PlaceLaws
-mod NamedLaws
+pub mod NamedLaws
 mod ReturnLaws
-mod PointAnswers
+pub mod PointAnswers
 mod AnswerLaws
 pub mod ExpressionLaws

@@ -1,7 +1,6 @@
 -- One turn of a loop over waypoints, and over segments.
-use Rattle.std.proofs.Common.{◌≡◌, sym, ap, ◌∙◌, subst, ℕ, suc, ◌+◌, ◌<◌, ◌≤◌, add-one, IsErrAnd, List, [], ◌∷◌, ◌++◌, length, take, drop, get_or, Result, Ok, Err, arith}
-use Rattle.std.proofs.Math.Seq.{drop-cons}
-use Rattle.std.proofs.lemmas.List.{take_more, take-append-drop, length-append, length-take-le}
+use Rattle.std.proofs.Common.{◌≡◌, sym, ap, ◌∙◌, subst, ℕ, ◌+◌, ◌<◌, ◌≤◌, IsErrAnd, List, [], ◌∷◌, ◌++◌, length, take, drop, get_or, Result, Ok, Err, arith}
+use Rattle.std.proofs.lemmas.List.{length-append}
 use Rattle.std.proofs.lemmas.Grind.{flat_map-append}
 use Rattle.c_core.specs.Tree.{Program}
 use Rattle.wv_schema.specs.declared.witness.Waypoint.{Waypoint}
@@ -10,25 +9,11 @@ use Rattle.way_match.specs.Points.{Point, BoundSegment}
 use Rattle.way_match.specs.View.{point_view, points_view, segment_view, each_segment_view}
 use Rattle.way_match.specs.declared.point.Point as rust
 use Rattle.way_match.specs.declared.point.BoundSegment as rust_segment
-use Rattle.way_bind.specs.declared.fault.Unbound.{Unbound}
 use Rattle.way_bind.specs.declared.fault.BindFault.{BindFault}
 use Rattle.way_bind.specs.Binding.{BindsPoint, AreBound, AreBoundTo, IsBoundTo, Tells, waypoints_of, waypoints_in}
-use Rattle.way_bind.specs.Steps.{BindsSegment, BindsSegments, told}
-use Rattle.way_bind.proofs.BindingLaws.{points_more, segments_more, bound_more, segments_bound_more, points_of_segments, told_here, told_among, told_front}
-
--- ---- the item of a turn
-
-next_taken : {X : Type 0} (xs : List X) (i : ℕ) (x : X) → i < length xs → x ≡ get_or xs i x → take (i + 1) xs ≡ take i xs ++ x ∷ []
-next_taken xs i x lt is = take_more xs i x lt ∙ ap (λ y. take i xs ++ y ∷ []) (sym is)
-
-rest_split : {X : Type 0} (xs : List X) (i : ℕ) (x : X) → i < length xs → x ≡ get_or xs i x → drop i xs ≡ x ∷ drop (i + 1) xs
-rest_split xs i x lt is = drop-cons xs i x lt ∙ ap (λ y. y ∷ drop (suc i) xs) (sym is) ∙ ap (λ k. x ∷ drop k xs) (sym (add-one i))
-
-whole_split : {X : Type 0} (xs : List X) (i : ℕ) (x : X) → i < length xs → x ≡ get_or xs i x → xs ≡ take i xs ++ x ∷ drop (i + 1) xs
-whole_split xs i x lt is = sym (take-append-drop i xs) ∙ ap (λ l. take i xs ++ l) (rest_split xs i x lt is)
-
-below : (i n : ℕ) → i < n → i ≤ n
-below i n lt = omega arith
+use Rattle.way_bind.specs.Steps.{BindsSegment, BindsSegments}
+use Rattle.way_bind.proofs.InOrderLaws.{next_taken, whole_split, each_more, told_among, told_front}
+use Rattle.way_bind.proofs.BindingLaws.{points_more, segments_more, points_of_segments}
 
 -- ---- waypoints to avoid
 
@@ -36,20 +21,13 @@ pub avoid_kept : (p : Program) (vs : List Waypoint) (i : ℕ) (v : Waypoint) (xs
 avoid_kept p vs i v xs new x lt is same k h =
     subst (λ l. AreBound p l (points_view new)) (sym (next_taken vs i v lt is))
     (subst (λ l. AreBound p (take i vs ++ v ∷ []) l) (sym (ap points_view same ∙ points_more xs x))
-    (bound_more p (take i vs) v (points_view xs) (point_view x) h k))
-
-pub avoid_told : (p : Program) (first : ℕ) (vs : List Waypoint) (i : ℕ) (v : Waypoint) (xs : List Point) (lack : Unbound) (f : BindFault) → i < length vs → v ≡ get_or vs i v → f ≡ told (first + i) lack → BindsPoint p v (Err lack) → AreBound p (take i vs) xs → Tells p first vs f
-avoid_told p first vs i v xs lack f lt is e k h =
-    subst (λ g. Tells p first vs g) (sym e)
-    (subst (λ l. Tells p first l (told (first + i) lack)) (sym (whole_split vs i v lt is))
-    (subst (λ n. Tells p first (take i vs ++ v ∷ drop (i + 1) vs) (told (first + n) lack)) (length-take-le i vs (below i (length vs) lt))
-    (told_here p first (take i vs) xs v (drop (i + 1) vs) lack h k)))
+    (each_more (λ v x. BindsPoint p v (Ok x)) (take i vs) v (points_view xs) (point_view x) h k))
 
 pub avoids_told : (p : Program) (first : ℕ) (s : Segment) (vs : List Waypoint) (f : BindFault) (r : Result rust_segment.BoundSegment BindFault) → vs ≡ s.avoids → IsErrAnd r (λ g. g ≡ f) → Tells p first vs f → BindsSegment p first s r
 avoids_told p first s vs f (Ok b) same from h = elim from [ ]
 avoids_told p first s vs f (Err g) same from h =
     subst (λ g. Tells p first (waypoints_of s) g) (sym from)
-    (told_front p first s.avoids (s.follow ∷ []) f (subst (λ l. Tells p first l f) same h))
+    (told_front (BindsPoint p) first s.avoids (s.follow ∷ []) f (subst (λ l. Tells p first l f) same h))
 
 -- ---- segments
 
@@ -69,7 +47,7 @@ pub segment_kept : (p : Program) (ss : List Segment) (i : ℕ) (s : Segment) (bs
 segment_kept p ss i s bs new b lt is same k h =
     subst (λ l. AreBoundTo p l (each_segment_view new)) (sym (next_taken ss i s lt is))
     (subst (λ l. AreBoundTo p (take i ss ++ s ∷ []) l) (sym (ap each_segment_view same ∙ segments_more bs b))
-    (segments_bound_more p (take i ss) s (each_segment_view bs) (segment_view b) h k))
+    (each_more (IsBoundTo p) (take i ss) s (each_segment_view bs) (segment_view b) h k))
 
 pub segment_counted : (ss : List Segment) (i : ℕ) (s : Segment) (first n : ℕ) → i < length ss → s ≡ get_or ss i s → n ≡ length s.avoids → first ≡ 1 + length (waypoints_in (take i ss)) → first + (n + 1) ≡ 1 + length (waypoints_in (take (i + 1) ss))
 segment_counted ss i s first n lt is count so_far =
@@ -94,7 +72,7 @@ told_in_turn : (p : Program) (ss : List Segment) (i : ℕ) (s : Segment) (bs : L
 told_in_turn p ss i s bs first f lt is so_far h k =
     let before = points_of_segments p (take i ss) bs h in
     subst (λ l. Tells p 1 l f) (sym (waypoints_split ss i s lt is))
-    (told_among p 1 (waypoints_in (take i ss)) before.0 (waypoints_of s) (waypoints_in (drop (i + 1) ss)) f before.1
+    (told_among (BindsPoint p) 1 (waypoints_in (take i ss)) before.0 (waypoints_of s) (waypoints_in (drop (i + 1) ss)) f before.1
     (subst (λ n. Tells p n (waypoints_of s) f) so_far k))
 
 pub segment_told : (p : Program) (ss : List Segment) (i : ℕ) (s : Segment) (bs : List BoundSegment) (first : ℕ) (f : BindFault) (r : Result (List rust_segment.BoundSegment) BindFault) → i < length ss → s ≡ get_or ss i s → first ≡ 1 + length (waypoints_in (take i ss)) → AreBoundTo p (take i ss) bs → IsErrAnd r (λ g. g ≡ f) → Tells p first (waypoints_of s) f → BindsSegments p 1 ss r

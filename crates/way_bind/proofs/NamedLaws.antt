@@ -1,5 +1,5 @@
 -- The place that a location names is one of its kind.
-use Rattle.std.proofs.Common.{◌≡◌, true, Option, Some}
+use Rattle.std.proofs.Common.{◌≡◌, true, Some}
 use Rattle.std.specs.List.{list_any}
 use Rattle.c_core.specs.Parts.{same_spot}
 use Rattle.c_core.specs.Places.{spots_of_kind, is_named}

@@ -16,10 +16,8 @@ use Rattle.way_match.specs.Points as point
 use Rattle.way_match.specs.Points.{Point, ReturnTest}
 use Rattle.way_bind.specs.declared.fault.Unbound.{Unbound}
 use Rattle.way_bind.specs.declared.fault.Unbound.TheVariants.{NoPlace, Expression, Scope, OutOfMemory}
-use Rattle.way_bind.specs.Binding.{BindsExpression, BindsTest, BindsReturn, BindsAssumption, BindsKind, BindsPoint, Makes, WherePlaced, is_valued, place_named, text_of, way_of, BindsEntry, BindsBranching}
-
-abbrev pub One : {A : Type 0} → Result A Unbound → Result A Unbound → Type 0
-One r q = (r ≡ q) ⊎ ((r ≡ Err OutOfMemory) ⊎ (q ≡ Err OutOfMemory))
+use Rattle.way_bind.proofs.OneLaws.{One, one_made, one_placed}
+use Rattle.way_bind.specs.Binding.{BindsExpression, BindsTest, BindsReturn, BindsAssumption, BindsKind, BindsPoint, is_valued, place_named, text_of, way_of, BindsEntry, BindsBranching}
 
 -- ---- typed, mistyped and out of scope exclude one another
 
@@ -38,7 +36,7 @@ module _ (p : Program) (names : List ℕ) where
 
 -- ---- expressions
 
-one_expression : (p : Program) (names text : List ℕ) (r q : Result Exp Unbound) → BindsExpression p names text r → BindsExpression p names text q → One r q
+pub one_expression : (p : Program) (names text : List ℕ) (r q : Result Exp Unbound) → BindsExpression p names text r → BindsExpression p names text q → One r q
 one_expression p names text (Err NoPlace) q h k = elim h [ ]
 one_expression p names text (Err OutOfMemory) q h k = inr (inl refl)
 one_expression p names text (Ok t) (Err NoPlace) h k = elim k [ ]
@@ -107,36 +105,6 @@ one_test p valued text (Err Scope) (Err Expression) h (inr k) = absurd (refused 
 
 -- ---- waypoints
 
-made_oks : {A B : Type 0} (make : A → B) (a b : A) → One (Ok a) (Ok b) → make a ≡ make b
-made_oks make a b (inl e) = ap make cc
-made_oks make a b (inr (inl e)) = cc
-made_oks make a b (inr (inr e)) = cc
-
-ok_and_lack : {A : Type 0} (a : A) (l : Unbound) → One (Ok a) (Err l) → l ≡ OutOfMemory
-ok_and_lack a l (inl e) = cc
-ok_and_lack a l (inr (inl e)) = cc
-ok_and_lack a l (inr (inr e)) = cc
-
-lack_and_ok : {A : Type 0} (a : A) (l : Unbound) → One (Err l) (Ok a) → l ≡ OutOfMemory
-lack_and_ok a l (inl e) = cc
-lack_and_ok a l (inr (inl e)) = cc
-lack_and_ok a l (inr (inr e)) = cc
-
-lacks : {A B : Type 0} (l m : Unbound) → One {A = A} (Err l) (Err m) → One {A = B} (Err l) (Err m)
-lacks l m (inl e) = inl (ap Err cc)
-lacks l m (inr (inl e)) = inr (inl (ap Err cc))
-lacks l m (inr (inr e)) = inr (inr (ap Err cc))
-
-one_made : {A B : Type 0} (test : Result A Unbound → Type 0) (make : A → B) → ((r q : Result A Unbound) → test r → test q → One r q) → (x y : Result B Unbound) → Makes test make x → Makes test make y → One x y
-one_made test make one (Ok x) (Ok y) h k = inl (ap Ok (h.2 ∙ made_oks make h.0 k.0 (one (Ok h.0) (Ok k.0) h.1 k.1) ∙ sym k.2))
-one_made test make one (Ok x) (Err l) h k = inr (inr (ap Err (ok_and_lack h.0 l (one (Ok h.0) (Err l) h.1 k))))
-one_made test make one (Err l) (Ok y) h k = inr (inl (ap Err (lack_and_ok k.0 l (one (Err l) (Ok k.0) h k.1))))
-one_made test make one (Err l) (Err m) h k = lacks l m (one (Err l) (Err m) h k)
-
-one_placed : (place : Option Spot) (binds : Spot → Result Point Unbound → Type 0) → ((spot : Spot) (r q : Result Point Unbound) → binds spot r → binds spot q → One r q) → (r q : Result Point Unbound) → WherePlaced place binds r → WherePlaced place binds q → One r q
-one_placed None binds one r q h k = inl (h ∙ sym k)
-one_placed (Some spot) binds one r q h k = one spot r q h k
-
 one_return : (p : Program) (v : Option Constraint) (close : Spot) (r q : Result Point Unbound) → BindsReturn p v close r → BindsReturn p v close q → One r q
 one_return p None close r q h k = inl (h ∙ sym k)
 one_return p (Some v) close r q h k = one_made (BindsTest p (is_valued p close) v.value) (λ t. point.Return close (Some t)) (one_test p (is_valued p close) v.value) r q h k
@@ -150,25 +118,6 @@ one_kind p FunctionEnter at v r q h k = one_placed (place_named p place.CallEnd 
 one_kind p FunctionReturn at v r q h k = one_placed (place_named p place.CallEnd at) (BindsReturn p v) (λ close. one_return p v close) r q h k
 one_kind p Branching at v r q h k = one_placed (place_named p place.Branch at) (BindsBranching (way_of v)) (λ spot r q h k. inl (h ∙ sym k)) r q h k
 
-one_point : (p : Program) (v : Waypoint) (r q : Result Point Unbound) → BindsPoint p v r → BindsPoint p v q → One r q
+-- one point, or one first failing test
+pub one_point : (p : Program) (v : Waypoint) (r q : Result Point Unbound) → BindsPoint p v r → BindsPoint p v q → One r q
 one_point p v r q h k = one_kind p v.kind v.location v.constraint r q h k
-
-ok_same : {A : Type 0} (a b : A) → One (Ok a) (Ok b) → a ≡ b
-ok_same a b (inl e) = cc
-ok_same a b (inr (inl e)) = cc
-ok_same a b (inr (inr e)) = cc
-
--- one point, one first failing test, and not both
-pub same_point : (p : Program) (v : Waypoint) (x y : Point) → BindsPoint p v (Ok x) → BindsPoint p v (Ok y) → x ≡ y
-same_point p v x y h k = ok_same x y (one_point p v (Ok x) (Ok y) h k)
-
-pub bound_lacks_memory : (p : Program) (v : Waypoint) (x : Point) (l : Unbound) → BindsPoint p v (Ok x) → BindsPoint p v (Err l) → l ≡ OutOfMemory
-bound_lacks_memory p v x l h k = ok_and_lack x l (one_point p v (Ok x) (Err l) h k)
-
-lack_same : (l m : Unbound) → One {A = Point} (Err l) (Err m) → (l ≡ OutOfMemory → ⊥) → (m ≡ OutOfMemory → ⊥) → l ≡ m
-lack_same l m (inl e) a b = cc
-lack_same l m (inr (inl e)) a b = absurd (a cc)
-lack_same l m (inr (inr e)) a b = absurd (b cc)
-
-pub same_lack : (p : Program) (v : Waypoint) (l m : Unbound) → BindsPoint p v (Err l) → BindsPoint p v (Err m) → (l ≡ OutOfMemory → ⊥) → (m ≡ OutOfMemory → ⊥) → l ≡ m
-same_lack p v l m h k a b = lack_same l m (one_point p v (Err l) (Err m) h k) a b

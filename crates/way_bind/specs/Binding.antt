@@ -1,7 +1,7 @@
 -- Violation witnesses bound to the places and the typed expressions of a program. A waypoint passes four tests, in this order: its
 -- place exists; its expression is in the grammar; its names are in scope, and a `\result` constraint isn't at a call of a void
 -- function; its expression types. The least waypoint that fails one is told, by the first test that it fails.
-use Rattle.std.specs.Prelude.{◌≡◌, ◌⊎◌, ℕ, ◌+◌, Bool, true, false, cond, is_some, length, List, [], ◌∷◌, ◌++◌, Option, Some, None, Result, Ok, Err, codes}
+use Rattle.std.specs.Prelude.{◌≡◌, ◌⊎◌, ℕ, Bool, true, false, cond, is_some, List, [], ◌∷◌, ◌++◌, Option, Some, None, Result, Ok, Err, codes}
 use Rattle.std.specs.List.{flat_map}
 use Rattle.std.specs.Str.{bytes_eq}
 use Rattle.c_core.specs.Tree.{Exp, Expr, Program}
@@ -31,7 +31,7 @@ use Rattle.way_match.specs.declared.point.Bound.{Bound}
 use Rattle.way_bind.specs.declared.fault.Unbound.{Unbound}
 use Rattle.way_bind.specs.declared.fault.Unbound.TheVariants.{NoPlace, Expression, Scope, OutOfMemory}
 use Rattle.way_bind.specs.declared.fault.BindFault.{BindFault}
-use Rattle.way_bind.specs.declared.fault.BindFault.TheVariants as fault
+use Rattle.way_bind.specs.InOrder.{Each, AllBound, TellsLeast}
 
 -- ---- the parts of a waypoint
 
@@ -113,13 +113,17 @@ Makes {A} {B} test make (Ok x) = (a : A) × test (Ok a) × (x ≡ make a)
 Makes {A} {B} test make (Err lack) = test (Err lack)
 
 -- where its place isn't there, no other test is made
-abbrev pub WherePlaced : Option Spot → (Spot → Result Point Unbound → Type 0) → Result Point Unbound → Type 0
-WherePlaced None binds answer = answer ≡ Err NoPlace
-WherePlaced (Some spot) binds answer = binds spot answer
+abbrev pub WherePlaced : {A : Type 0} → Option Spot → (Spot → Result A Unbound → Type 0) → Result A Unbound → Type 0
+WherePlaced {A} None binds answer = answer ≡ Err NoPlace
+WherePlaced {A} (Some spot) binds answer = binds spot answer
+
+-- an expression at a place of a kind reads the names that are visible there
+abbrev pub BindsThere : {A : Type 0} → Program → PlaceKind → List ℕ → (Spot → Exp → A) → Spot → Result A Unbound → Type 0
+BindsThere {A} p kind text make spot answer = Makes (BindsExpression p (names_at p kind spot) text) (make spot) answer
 
 -- an assumption reads the names that are visible at its statement
 abbrev pub BindsAssumption : Program → List ℕ → Spot → Result Point Unbound → Type 0
-BindsAssumption p text spot answer = Makes (BindsExpression p (names_at p place.Statement spot) text) (point.Assume spot) answer
+BindsAssumption p text = BindsThere p place.Statement text point.Assume
 
 -- a return with a constraint on `\result`
 abbrev pub BindsTested : Program → List ℕ → Spot → Result Point Unbound → Type 0
@@ -180,10 +184,7 @@ waypoints_in ss = flat_map waypoints_of ss
 
 -- each is bound to its point
 abbrev pub AreBound : Program → List Waypoint → List Point → Type 0
-AreBound p [] [] = Unit {0}
-AreBound p [] (x ∷ xs) = ⊥
-AreBound p (v ∷ vs) [] = ⊥
-AreBound p (v ∷ vs) (x ∷ xs) = BindsPoint p v (Ok x) × AreBound p vs xs
+AreBound p vs xs = AllBound (BindsPoint p) vs xs
 
 -- a segment is bound: its avoids, and its follow
 abbrev pub IsBoundTo : Program → Segment → BoundSegment → Type 0
@@ -191,28 +192,11 @@ IsBoundTo p s b = AreBound p s.avoids b.avoids × BindsPoint p s.follow (Ok b.fo
 
 -- segment by segment
 abbrev pub AreBoundTo : Program → List Segment → List BoundSegment → Type 0
-AreBoundTo p [] [] = Unit {0}
-AreBoundTo p [] (b ∷ bs) = ⊥
-AreBoundTo p (s ∷ ss) [] = ⊥
-AreBoundTo p (s ∷ ss) (b ∷ bs) = IsBoundTo p s b × AreBoundTo p ss bs
-
--- of waypoints numbered from `first` on, the least that isn't bound has this number, and fails this test first
-pub record IsLeastUnbound (p : Program) (first : ℕ) (vs : List Waypoint) (number : ℕ) (lack : Unbound) : Type 0 where
-  pub before : List Waypoint
-  pub points : List Point
-  pub at : Waypoint
-  pub behind : List Waypoint
-  pub in_order : vs ≡ before ++ at ∷ behind
-  pub counted : number ≡ first + length before
-  pub bound : AreBound p before points
-  pub fails : BindsPoint p at (Err lack)
+AreBoundTo p ss bs = Each (IsBoundTo p) ss bs
 
 -- a fault tells the least waypoint that isn't bound
 abbrev pub Tells : Program → ℕ → List Waypoint → BindFault → Type 0
-Tells p first vs (fault.NoPlace n) = IsLeastUnbound p first vs n NoPlace
-Tells p first vs (fault.Expression n) = IsLeastUnbound p first vs n Expression
-Tells p first vs (fault.Scope n) = IsLeastUnbound p first vs n Scope
-Tells p first vs fault.OutOfMemory = Unit {0}
+Tells p first vs f = TellsLeast (BindsPoint p) first vs f
 
 -- the witness is bound, or its least waypoint that isn't is told, by its number from 1
 abbrev pub Binds : Program → Witness → Result Bound BindFault → Type 0

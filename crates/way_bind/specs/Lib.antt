@@ -1,4 +1,5 @@
 pub mod Lacks
+pub mod InOrder
 pub mod Binding
 pub mod Steps
 pub mod Agreement

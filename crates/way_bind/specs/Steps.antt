@@ -6,18 +6,8 @@ use Rattle.wv_schema.specs.declared.witness.Segment.{Segment}
 use Rattle.way_match.specs.View.{points_view, segment_view, each_segment_view}
 use Rattle.way_match.specs.declared.point.Point.{Point}
 use Rattle.way_match.specs.declared.point.BoundSegment.{BoundSegment}
-use Rattle.way_bind.specs.declared.fault.Unbound.{Unbound}
-use Rattle.way_bind.specs.declared.fault.Unbound.TheVariants.{NoPlace, Expression, Scope, OutOfMemory}
 use Rattle.way_bind.specs.declared.fault.BindFault.{BindFault}
-use Rattle.way_bind.specs.declared.fault.BindFault.TheVariants as fault
 use Rattle.way_bind.specs.Binding.{AreBound, AreBoundTo, IsBoundTo, Tells, waypoints_of, waypoints_in}
-
--- how the waypoint of a number that fails a test first is told
-abbrev pub told : ℕ → Unbound → BindFault
-told n NoPlace = fault.NoPlace n
-told n Expression = fault.Expression n
-told n Scope = fault.Scope n
-told n OutOfMemory = fault.OutOfMemory
 
 -- these waypoints, the first of this number, are bound, or the least that isn't is told
 abbrev pub BindsAll : Program → ℕ → List Waypoint → Result (List Point) BindFault → Type 0

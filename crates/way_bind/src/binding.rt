@@ -2,7 +2,8 @@
 ghost use Rattle.std.specs.Prelude.{◌≡◌, ◌+◌, ◌<◌, ◌^◌, length};
 ghost use Rattle.c_core.specs.View.{program_view};
 ghost use Rattle.way_bind.specs.Binding.{Binds, segments_of, waypoints_in, waypoints_of};
-ghost use Rattle.way_bind.specs.Steps.{BindsAll, BindsSegment, BindsSegments, told};
+ghost use Rattle.way_bind.specs.InOrder.{told};
+ghost use Rattle.way_bind.specs.Steps.{BindsAll, BindsSegment, BindsSegments};
 
 use crate::fault::{BindFault, Unbound};
 use crate::waypoint::bind_point;
@@ -13,8 +14,8 @@ use way_places::Index;
 use wv_base::Seq;
 use wv_schema::{Content, Segment, Waypoint, Witness};
 
-/// A test that the waypoint of this number fails first, as it is told.
-fn told(number: u32, lack: Unbound) -> BindFault
+/// A test that the waypoint or invariant of this number fails first, as it is told.
+pub fn told(number: u32, lack: Unbound) -> BindFault
     ensures { result ≡ told number lack }
 {
     match lack {

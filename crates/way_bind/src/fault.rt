@@ -1,8 +1,8 @@
 use c_parser::ExprFault;
 use wv_base::OutOfMemory;
 
-/// Why a witness isn't bound to a program: the number of its least waypoint that isn't, from 1 in document order, by the first
-/// test that this waypoint fails.
+/// Why a witness isn't bound to a program: the number of its least waypoint or invariant that isn't, from 1 in document order, by
+/// the first test that this one fails.
 #[derive(Clone, Copy, Debug, PartialEq, Eq)]
 pub enum BindFault {
     /// Its place isn't there.
@@ -25,7 +25,7 @@ impl From<OutOfMemory> for BindFault {
     }
 }
 
-/// The first test that a waypoint fails.
+/// The first test that a waypoint or an invariant fails.
 #[derive(Clone, Copy, Debug, PartialEq, Eq)]
 pub enum Unbound {
     NoPlace,

@@ -7,6 +7,7 @@ mod fault;
 mod laws;
 mod waypoint;
 
-pub use binding::bind_violation;
-pub use fault::BindFault;
+pub use binding::{bind_violation, told};
+pub use fault::{BindFault, Unbound};
 pub use laws::one_answer;
+pub use waypoint::{expression_of, place_named};

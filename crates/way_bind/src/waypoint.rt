@@ -58,7 +58,7 @@ fn is_valued(index: &Index, close: Spot) -> bool
 }
 
 /// The expression of a text over these names, typed.
-fn expression_of(
+pub fn expression_of(
     alloc: Global,
     program: &Program,
     names: &Seq<u32>,
@@ -134,7 +134,7 @@ fn return_at(
 }
 
 /// The place of a kind that a location names.
-fn place_named(index: &Index, kind: PlaceKind, location: &Location) -> Option<Spot>
+pub fn place_named(index: &Index, kind: PlaceKind, location: &Location) -> Option<Spot>
     ensures { result ≡ place_named (program_view index.now) kind location.now }
 {
     index.place_at(kind, location.line, location.column)

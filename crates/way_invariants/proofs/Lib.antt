@@ -1,0 +1,4 @@
+mod NextLaws
+mod WholeLaws
+mod PlacedLaws
+mod AnswerLaws
