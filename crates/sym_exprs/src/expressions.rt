@@ -6,16 +6,15 @@ ghost use Rattle.c_meaning.specs.Meaning.{Used};
 ghost use Rattle.sym_weight.specs.Tally.{placed_views};
 ghost use Rattle.sym_exprs.specs.Evaluating.{use_of, Ready, Values, ReadyWhere, ValuesWhere};
 
-use crate::targets::{is_prefix, kept_if, op_of_step, scalar_of, type_or_int};
-use c_core::{BinOp, Callee, Expr, IntType, Node, Program, Spot, StepOp, UnOp};
-use c_meaning::PlacedInvariant;
+use crate::targets::{is_prefix, kept_if, scalar_of, type_or_int};
+use c_core::{
+    BinOp, Callee, Expr, IntType, Node, Program, Spot, StepOp, UnOp, op_of_step, type_for,
+};
+use c_meaning::{PlacedInvariant, type_of};
 use circuits::{Bit, Bits, const_bits, not};
-use run_state::type_of;
 use std::alloc::Global;
 use sym_state::{Around, Sym, join, look, narrow};
-use sym_values::{
-    choose, convert, end, input, operate, operate_one, reach, store, test, truth, type_for,
-};
+use sym_values::{choose, convert, end, input, operate, operate_one, reach, store, test, truth};
 use wv_base::{OutOfMemory, Seq};
 
 /// An expression, at a statement and a full expression, with calls at most `depth` deep. A void one gives any bits.

@@ -7,7 +7,7 @@ ghost use Rattle.c_meaning.specs.Objects as objects;
 ghost use Rattle.circuits.specs.Net.{opposite};
 ghost use Rattle.sym_exprs.specs.Evaluating.{is_scalar_node};
 
-use c_core::{BinOp, Expr, IntType, Node, StepOp};
+use c_core::{Expr, IntType, Node, StepOp};
 use circuits::{Bit, not};
 
 /// The scalar object that an expression names, if it is one.
@@ -27,15 +27,6 @@ pub fn type_or_int(ty: Option<IntType>) -> IntType
     match ty {
         Some(ty) => ty,
         None => IntType::Int,
-    }
-}
-
-pub fn op_of_step(op: StepOp) -> BinOp
-    ensures { result ≡ operators.op_of_step op }
-{
-    match op {
-        StepOp::PreInc | StepOp::PostInc => BinOp::Add,
-        StepOp::PreDec | StepOp::PostDec => BinOp::Sub,
     }
 }
 

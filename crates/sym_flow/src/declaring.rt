@@ -5,8 +5,8 @@ ghost use Rattle.sym_state.specs.Standing.{IsState};
 ghost use Rattle.sym_flow.specs.Ways.{Became, declaring, with_cell};
 
 use c_core::Program;
+use c_meaning::type_of_object;
 use circuits::const_bits;
-use run_state::type_of_object;
 use std::alloc::Global;
 use sym_state::{Sym, SymCell};
 use wv_base::OutOfMemory;

@@ -11,8 +11,7 @@ ghost use Rattle.sym_state.specs.Following.{Follows};
 ghost use Rattle.sym_flow.specs.Drawing.{cell_drawn, cells_drawn, bits_of_cells, bits_of_objects};
 
 use c_core::{Program, Spot};
-use c_meaning::DrawKind;
-use run_state::{size_of_object, type_of_object};
+use c_meaning::{DrawKind, size_of_object, type_of_object};
 use std::alloc::Global;
 use sym_state::{Sym, draw, write};
 use wv_base::OutOfMemory;

@@ -8,6 +8,6 @@ mod stores;
 mod truths;
 
 pub use calls::{end, input, reach};
-pub use operators::{operate, operate_one, type_for};
+pub use operators::{operate, operate_one};
 pub use stores::store;
 pub use truths::{choose, convert, test, truth};

@@ -10,32 +10,13 @@ ghost use Rattle.circuits.specs.Outcome.{binary_type, one_type};
 ghost use Rattle.sym_state.specs.Standing.{IsState, Turned};
 ghost use Rattle.sym_values.specs.Valuing.{judged, operated_cost, operated_one_cost, IsDutyAt, Gives, operated, operated_one};
 
-use c_core::{BinOp, DataModel, IntType, Program, Property, Spot, UnOp, common, promote};
+use c_core::{
+    BinOp, DataModel, IntType, Program, Property, Spot, UnOp, is_shift, promote, type_for,
+};
 use circuits::{Bit, Bits, apply_bits, convert_bits, one_bits};
 use std::alloc::Global;
 use sym_state::{Around, Sym, fail, stop};
 use wv_base::OutOfMemory;
-
-fn is_shift(op: BinOp) -> bool
-    ensures { result ≡ operators.is_shift op }
-{
-    match op {
-        BinOp::Shl | BinOp::Shr => true,
-        _ => false,
-    }
-}
-
-/// The type in which an operator computes.
-pub fn type_for(model: DataModel, op: BinOp, a: IntType, b: IntType) -> IntType
-    ensures value { result ≡ operators.type_for model op a b }
-    ensures promoted { IsPromoted result }
-{
-    if is_shift(op) {
-        promote(model, a)
-    } else {
-        common(model, a, b)
-    }
-}
 
 // The type of its right side.
 fn right_type_for(model: DataModel, op: BinOp, ty: IntType, b: IntType) -> IntType

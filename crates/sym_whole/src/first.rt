@@ -12,8 +12,8 @@ ghost use Rattle.sym_state.specs.Standing.{IsState};
 ghost use Rattle.sym_whole.specs.Starting.{with_more, IsFirst};
 
 use c_core::{IntType, Object, Program};
+use c_meaning::type_of_object;
 use circuits::{Net, const_bits, not};
-use run_state::type_of_object;
 use std::alloc::Global;
 use sym_state::{Sym, SymCell};
 use wv_base::OutOfMemory;
