@@ -3,7 +3,7 @@ ghost use Rattle.std.specs.Prelude.{IfOk, None, Some};
 ghost use Rattle.c_core.specs.Tree as t;
 ghost use Rattle.c_core.specs.View.{program_view, expr_view, exprs_view};
 ghost use Rattle.c_meaning.specs.Meaning.{Used};
-ghost use Rattle.sym_weight.specs.Tally.{placed_views};
+ghost use Rattle.sym_weight.specs.Views.{placed_views};
 ghost use Rattle.sym_exprs.specs.Evaluating.{use_of, Ready, Values, ReadyWhere, ValuesWhere};
 
 use crate::targets::{is_prefix, kept_if, scalar_of, type_or_int};

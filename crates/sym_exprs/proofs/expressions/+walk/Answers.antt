@@ -6,7 +6,7 @@ use Rattle.c_core.specs.Tree.{Expr, Unary, Cast, Step, Binary, Logic, Choose, Co
 use Rattle.c_core.specs.View.{program_view, expr_view, exprs_view, node_view}
 use Rattle.c_core.proofs.View.{view_of_call}
 use Rattle.c_meaning.specs.Meaning.{Used, Unused}
-use Rattle.sym_weight.specs.Tally.{placed_views}
+use Rattle.sym_weight.specs.Views.{placed_views}
 use Rattle.sym_exprs.specs.Evaluating.{use_of, weight_of, is_good, Ready, Values}
 use Rattle.sym_state.proofs.Nets.{added_of, in_added, longer_by, state_grown}
 use Rattle.sym_exprs.proofs.Choosing.{kept_in, where_ready, where_values, logic_first, logic_where, logic_second, logic_bits, logic_step, good_choose, pick_first, pick_yes, pick_yes_value, pick_no, pick_no_value, pick_last, pick_step, choose_none}

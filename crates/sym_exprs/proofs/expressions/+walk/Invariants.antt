@@ -1,7 +1,7 @@
 use Rattle.std.proofs.Common.{◌+◌, ◌*◌, None, Some}
 use Rattle.c_core.specs.Tree.{Expr, Var, Unary, Cast, Binary, Logic, Choose, Comma, Assign}
 use Rattle.c_core.specs.View.{program_view, expr_view}
-use Rattle.sym_weight.specs.Tally.{placed_views}
+use Rattle.sym_weight.specs.Views.{placed_views}
 use Rattle.sym_exprs.specs.Evaluating.{weight_of}
 use Rattle.sym_exprs.proofs.expressions.+walk.Given as goal
 

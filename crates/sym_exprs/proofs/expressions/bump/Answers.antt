@@ -1,7 +1,7 @@
 use Rattle.std.proofs.Common.{◌∙◌, sym, true, false}
 use Rattle.c_core.specs.View.{program_view}
 use Rattle.c_meaning.specs.Meaning.{Used}
-use Rattle.sym_weight.specs.Tally.{placed_views}
+use Rattle.sym_weight.specs.Views.{placed_views}
 use Rattle.sym_exprs.proofs.Assigning.{type_or_object, bump_sides, bump_last, bump_step}
 use Rattle.sym_exprs.proofs.expressions.bump.Goals as goal
 

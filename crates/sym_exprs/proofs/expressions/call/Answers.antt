@@ -1,7 +1,7 @@
 use Rattle.std.proofs.Common.{◌≡◌, sym, ap, subst}
 use Rattle.c_core.specs.Tree.{Expr, Call}
 use Rattle.c_core.specs.View.{program_view, exprs_view}
-use Rattle.sym_weight.specs.Tally.{placed_views}
+use Rattle.sym_weight.specs.Views.{placed_views}
 use Rattle.sym_exprs.specs.Evaluating.{use_of, is_plain_call, Ready, Values}
 use Rattle.c_core.specs.declared.tree.Callee.TheVariants.{Input, ReachError, Abort}
 use Rattle.sym_exprs.proofs.Assigning.{input_values, reach_values, abort_values}

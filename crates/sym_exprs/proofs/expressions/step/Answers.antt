@@ -2,7 +2,7 @@ use Rattle.std.proofs.Common.{◌≡◌, sym, ap, subst}
 use Rattle.c_core.specs.Tree.{Expr, Var, Step}
 use Rattle.c_core.specs.View.{program_view, expr_view}
 use Rattle.c_meaning.specs.Meaning.{Used}
-use Rattle.sym_weight.specs.Tally.{placed_views}
+use Rattle.sym_weight.specs.Views.{placed_views}
 use Rattle.sym_exprs.specs.Evaluating.{Ready, Values}
 use Rattle.sym_exprs.proofs.Assigning.{step_scalar}
 use Rattle.sym_exprs.proofs.expressions.step.Goals as goal
