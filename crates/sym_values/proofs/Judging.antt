@@ -30,7 +30,7 @@ use Rattle.sym_state.proofs.Turning.{turned_as, turned_then}
 use Rattle.sym_state.proofs.Composed.{turned_follows}
 use Rattle.sym_values.specs.Valuing.{where_of, judged, IsDutyAt, Gives, operated, operated_one, operated_cost, operated_one_cost}
 
-and_no : (b : Bool) → (b && false) ≡ false
+pub and_no : (b : Bool) → (b && false) ≡ false
 and_no true = refl
 and_no false = refl
 
@@ -42,13 +42,13 @@ or_no : (b : Bool) → (b || false) ≡ b
 or_no true = refl
 or_no false = refl
 
-marked_none : (k : ℕ) (fs : List Bool) → marked k false fs ≡ fs
+pub marked_none : (k : ℕ) (fs : List Bool) → marked k false fs ≡ fs
 marked_none k [] = refl
 marked_none zero (f ∷ fs) = ap (λ z. z ∷ fs) (or_no f)
 marked_none (suc k) (f ∷ fs) = ap (λ z. f ∷ z) (marked_none k fs)
 
 -- the obligation of number k from 0 on is the one of number k + 1 from 1 on
-marked_one : (k n : ℕ) → marked k true (marks 0 n) ≡ marks (suc k) n
+pub marked_one : (k n : ℕ) → marked k true (marks 0 n) ≡ marks (suc k) n
 marked_one k zero = refl
 marked_one zero (suc n) = refl
 marked_one (suc k) (suc n) = ap (λ z. false ∷ z) (marked_one k n)

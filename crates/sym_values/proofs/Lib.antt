@@ -1,2 +1,4 @@
 pub mod Judging
 pub mod Reckoning
+pub mod Storing
+pub mod Ending

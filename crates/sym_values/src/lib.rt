@@ -2,8 +2,12 @@
 //! every run that is here what the definition of runs does, and lets all others be.
 #![tactic(auto)]
 
+mod calls;
 mod operators;
+mod stores;
 mod truths;
 
-pub use operators::{operate, operate_one};
+pub use calls::{end, input, reach};
+pub use operators::{operate, operate_one, type_for};
+pub use stores::store;
 pub use truths::{choose, convert, test, truth};

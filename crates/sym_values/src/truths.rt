@@ -47,24 +47,12 @@ pub fn test(
     requires room { length sym.old.net < 2 ^ 28 }
     ensures { IfOk result (λ r. Decided (program_view program.now) (conversion_cost program.now.model ty BoolType) sym.old sym.new r (λ v. not (is_zero (typed program.now.model ty v sym.old.net x.now.bits)))) }
 {
-    let truth = convert_bits(
-        alloc,
-        &mut sym.net,
-        program.model,
-        ty,
-        IntType::Bool,
-        x,
-    )?;
+    let truth = convert_bits(alloc, &mut sym.net, program.model, ty, IntType::Bool, x)?;
     Ok(truth.bits.as_slice()[0])
 }
 
 /// 1 where the bit is true, else 0.
-pub fn truth(
-    alloc: Global,
-    program: &Program,
-    sym: &mut Sym,
-    bit: Bit,
-) -> Result<Bits, OutOfMemory>
+pub fn truth(alloc: Global, program: &Program, sym: &mut Sym, bit: Bit) -> Result<Bits, OutOfMemory>
     requires fits { IsState (program_view program.now) sym.old }
     requires bit_in { IsIn sym.old.net bit }
     requires room { length sym.old.net < 2 ^ 28 }

@@ -6,5 +6,5 @@ use Rattle.sym_state.proofs.cells.place_of.Given as goal
 abbrev pub invariant-loop-behind : goal.invariant-loop-behind
 invariant-loop-behind l = record {
   all : l.count ≡ length l.cells;
-  none : live_in l.object l.index (drop (l.count - l.behind) l.cells) ≡ false
+  none : live_in l.object l.index (drop (l.count - l.behind) l.cells) ≡ false;
 }

@@ -1,0 +1,4 @@
+pub mod Table
+pub mod Sum
+pub mod Weight
+pub mod Tally
