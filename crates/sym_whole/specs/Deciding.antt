@@ -1,0 +1,36 @@
+-- What a state behind a whole program says of its havoc runs: its failing bits tell at which obligation a run ends, and its sites what
+-- it draws.
+use Rattle.std.specs.Prelude.{◌≡◌, ◌↔◌, ℕ, ◌+◌, Bool, true, ℤ, List, [], length, Some, slice_get}
+use Rattle.c_core.specs.Tree.{Program}
+use Rattle.c_meaning.specs.declared.run.Duty.{Duty}
+use Rattle.c_meaning.specs.declared.run.HavocEnd.TheVariants.{Failed}
+use Rattle.c_meaning.specs.declared.run.HavocRun.{HavocRun}
+use Rattle.c_meaning.specs.Acts.{Res, Flow}
+use Rattle.c_meaning.specs.Cells.{Cell}
+use Rattle.c_meaning.specs.Havoc.{Stopped, Left, havoc_run}
+use Rattle.c_meaning.specs.Replay.{values_of}
+use Rattle.circuits.specs.declared.net.Bit.{Bit}
+use Rattle.circuits.specs.Net.{holds}
+use Rattle.sym_state.specs.declared.state.Sym.{Sym}
+use Rattle.sym_state.specs.Standing.{stand, draws_at, IsHere}
+
+-- a run that draws from a list, from these cells
+abbrev pub started : List Cell → List ℤ → Left
+started cells w = record { cells = cells; values = w; draws = [] }
+
+-- a state from which each run sets out with these cells
+pub record IsStart (ds : List Duty) (p : Program) (start : List Cell) (s : Sym) : Type 0 where
+  pub here : (v : ℕ → Bool) → IsHere (length ds) (stand p v s)
+  pub cells : (v : ℕ → Bool) → (stand p v s).cells ≡ start
+  pub draws : (v : ℕ → Bool) → (stand p v s).draws ≡ []
+
+-- under inputs a state tells of this run: what it draws, and that it ends at an obligation, which are numbered from 1, exactly where
+-- the obligation's failing bit is true
+pub record Tells (p : Program) (s : Sym) (v : ℕ → Bool) (h : HavocRun) : Type 0 where
+  pub draws : h.draws ≡ draws_at p v s.net s.sites.items
+  pub ends : (i : ℕ) (b : Bit) → slice_get s.failing.items i ≡ Some b → (holds v s.net b ≡ true) ↔ (h.end ≡ Failed (i + 1))
+
+-- under all inputs it tells of the run on the values of the sites that are live there; and of each list's run it tells under some inputs
+pub record Decides (ds : List Duty) (p : Program) (start : List Cell) (s : Sym) (run : Left → Res Stopped Left Flow) : Type 0 where
+  pub each : (v : ℕ → Bool) → Tells p s v (havoc_run ds (run (started start (values_of (draws_at p v s.net s.sites.items)))))
+  pub all : (w : List ℤ) → (v : ℕ → Bool) × Tells p s v (havoc_run ds (run (started start w)))

@@ -1,0 +1,30 @@
+// Laws on states: they are said, and nothing is done.
+ghost use Rattle.std.specs.Prelude.{ℕ, List, ℤ, Option};
+ghost use Rattle.c_core.specs.View.{program_view};
+ghost use Rattle.c_core.specs.declared.number.IntType.{IntType as NumberType};
+ghost use Rattle.c_meaning.specs.declared.run.Duty.{Duty};
+ghost use Rattle.c_meaning.specs.Acts.{Res, Flow};
+ghost use Rattle.c_meaning.specs.Cells.{Cell};
+ghost use Rattle.c_meaning.specs.Havoc.{Stopped, Left};
+ghost use Rattle.sym_flow.specs.Leaving.{Runs};
+ghost use Rattle.sym_state.specs.Standing.{IsState};
+ghost use Rattle.sym_whole.specs.Deciding.{IsStart, Decides};
+ghost use Rattle.sym_whole.specs.Finding.{IsFound};
+
+use c_core::Program;
+use sym_state::Sym;
+
+/// For every list of values some inputs make the sites of a state draw from it.
+pub fn found(program: &Program, sym: &Sym)
+    requires fits { IsState (program_view program.now) sym.now }
+    ensures { (w : List ℤ) → IsFound (program_view program.now) sym.now w }
+{
+    let _nodes = sym.net.nodes();
+}
+
+/// A state behind a program decides its havoc runs: where they end, and what they draw.
+pub fn decides(program: &Program, first: &Sym, last: &Sym)
+    ensures { (ds : List Duty) (result_type : Option NumberType) (ands inputs : ℕ) (start : List Cell) (run : Left → Res Stopped Left Flow) → IsStart ds (program_view program.now) start first.now → Runs ds (program_view program.now) result_type ands inputs first.now last.now (λ v. run) → Decides ds (program_view program.now) start last.now run }
+{
+    let _nodes = last.net.nodes();
+}
