@@ -44,12 +44,12 @@ map_snoc f [] x = refl
 map_snoc f (y ∷ ys) x = ap (λ z. f y ∷ z) (map_snoc f ys x)
 
 module _ (p : Program) where
-  pub cell_became : (s : Sym) (o i : ℕ) (ty : IntType) (c : SymCell) (cells : Vec SymCell Global) → IsState p s → ty ≡ type_of_object p o → c.object ≡ o → c.index ≡ i → Reads p.model ty s.net c.bits.bits (λ v. pos 0) → cells.items ≡ s.cells.items ++ c ∷ []
-      → Became p 0 s (record s { cells = cells }) (λ v. with_cell o i)
-  cell_became s o i ty c cells h t eo ei r e =
+  pub cell_became : (s : Sym) (o i : ℕ) (z : ℤ) (ty : IntType) (c : SymCell) (cells : Vec SymCell Global) → IsState p s → ty ≡ type_of_object p o → c.object ≡ o → c.index ≡ i → Reads p.model ty s.net c.bits.bits (λ v. z) → cells.items ≡ s.cells.items ++ c ∷ []
+      → Became p 0 s (record s { cells = cells }) (λ v x. record x { cells = x.cells ++ record { key = key o i; value = z } ∷ [] })
+  cell_became s o i z ty c cells h t eo ei r e =
       let own_ty : ty ≡ type_of_object p c.object = t ∙ ap (type_of_object p) (sym eo) in
       let one : IsCell p s.net c = subst (λ t. IsCell p s.net c) own_ty (rw (sym own_ty) r.bits_in) in
-      became p s s.net s.live s.broken s.again s.gave s.given cells (λ v. with_cell o i) h (grown_not 0 s.net)
+      became p s s.net s.live s.broken s.again s.gave s.given cells (λ v x. record x { cells = x.cells ++ record { key = key o i; value = z } ∷ [] }) h (grown_not 0 s.net)
       (record {
         live_is = own s.net s.live h.live;
         broken_is = own s.net s.broken h.broken;
@@ -59,7 +59,7 @@ module _ (p : Program) where
         given_is = λ v. refl;
         cells_in = rw e (all_snoc (IsCell p s.net) s.cells.items c h.cells one);
         cells_are = λ v.
-            let new : cell_at p v s.net c ≡ record { key = record { object = o; index = i }; value = pos 0 } =
+            let new : cell_at p v s.net c ≡ record { key = record { object = o; index = i }; value = z } =
             λ j. record { key = record { object = eo j; index = ei j }; value = (ap (λ t. typed p.model t v s.net c.bits.bits) (sym own_ty) ∙ r.is v) j } in
             ap (map (cell_at p v s.net)) e ∙ map_snoc (cell_at p v s.net) s.cells.items c ∙ ap (λ z. map (cell_at p v s.net) s.cells.items ++ z ∷ []) new;
         failing = λ v. refl;

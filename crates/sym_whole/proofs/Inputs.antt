@@ -1,5 +1,5 @@
 -- What a bit of a net is depends on the inputs that stand before it.
-use Rattle.std.proofs.Common.{◌≡◌, ℕ, zero, suc, ◌+◌, ◌<◌, ◌≤◌, Bool, true, false, List, [], ◌∷◌, ◌++◌, length, get_or, drop, refl, sym, ◌∙◌, ap, subst, arith}
+use Rattle.std.proofs.Common.{◌≡◌, ℕ, ◌+◌, ◌<◌, ◌≤◌, Bool, true, List, [], ◌∷◌, ◌++◌, length, get_or, drop, refl, sym, ◌∙◌, ap, subst, arith}
 use Rattle.circuits.specs.declared.net.Bit.{Bit}
 use Rattle.circuits.specs.declared.net.NetNode.{NetNode}
 use Rattle.circuits.specs.declared.net.NetNode.TheVariants.{Constant, Input, And}

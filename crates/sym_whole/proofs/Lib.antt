@@ -2,3 +2,4 @@ pub mod Numbers
 pub mod Inputs
 pub mod Sites
 pub mod Wholes
+pub mod Starts

@@ -1,11 +1,11 @@
 -- Site by site inputs are found that draw the next value of a list wherever a run is there.
-use Rattle.std.proofs.Common.{◌≡◌, ℕ, ◌+◌, ◌<◌, ◌≤◌, Bool, true, false, cond, ℤ, List, [], ◌∷◌, length, refl, sym, ◌∙◌, ap, subst, arith}
+use Rattle.std.proofs.Common.{◌≡◌, ℕ, ◌+◌, Bool, true, false, cond, ℤ, List, [], ◌∷◌, refl, sym, ◌∙◌, ap, subst, arith}
 use Rattle.c_core.specs.Tree.{Program}
 use Rattle.c_core.specs.Types.{width_of, is_signed, fit}
 use Rattle.c_meaning.specs.Run.{first_value, other_values, or_zero}
 use Rattle.circuits.specs.declared.net.NetNode.{NetNode}
 use Rattle.circuits.specs.Net.{holds, IsNet, count_inputs}
-use Rattle.circuits.specs.Numbers.{read, typed, drawn}
+use Rattle.circuits.specs.Numbers.{read, typed}
 use Rattle.sym_state.specs.declared.state.Sym.{Sym}
 use Rattle.sym_state.specs.declared.state.DrawSite.{DrawSite}
 use Rattle.sym_state.specs.Standing.{draw_at, draws_at, IsState, IsSite, AreSites}

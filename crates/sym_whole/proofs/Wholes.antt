@@ -1,9 +1,8 @@
 -- A whole program: its failing bits and its sites, under every input and for every list.
-use Rattle.std.proofs.Common.{◌≡◌, ◌↔◌, ℕ, zero, suc, ◌+◌, ◌-◌, ◌*◌, ◌^◌, ◌<◌, ◌≤◌, Bool, true, false, cond, nat_lt, ℤ, pos, negsuc, List, [], ◌∷◌, ◌++◌, length, map, slice_get, unwrap_or, refl, sym, ◌∙◌, ap, ap₂, subst, arith, true≢false, Option, Some}
-use Rattle.std.proofs.lemmas.Bool.{lt-ltb, ltb-true, ltb-false}
+use Rattle.std.proofs.Common.{◌≡◌, ◌↔◌, ℕ, zero, suc, ◌+◌, ◌-◌, ◌^◌, ◌<◌, Bool, true, false, cond, nat_lt, ℤ, pos, negsuc, List, [], ◌∷◌, ◌++◌, length, map, slice_get, unwrap_or, refl, sym, ◌∙◌, ap, subst, arith, true≢false, Option, Some}
+use Rattle.std.proofs.lemmas.Bool.{lt-ltb, ltb-false}
 use Rattle.c_core.specs.Tree.{Program}
-use Rattle.c_core.specs.Types.{width_of, is_signed, in_range, fits_signed, fits_unsigned, fit, signed_of}
-use Rattle.c_core.specs.declared.number.DataModel.{DataModel}
+use Rattle.c_core.specs.Types.{width_of, is_signed, fits_signed, fits_unsigned, fit, signed_of}
 use Rattle.c_core.specs.declared.number.IntType.{IntType}
 use Rattle.c_core.proofs.Fits.{fit_kept}
 use Rattle.c_meaning.specs.declared.run.Draw.{Draw}
@@ -23,10 +22,9 @@ use Rattle.circuits.proofs.Reading.{half}
 use Rattle.circuits.proofs.Summed.{width_pos}
 use Rattle.sym_state.specs.declared.state.Sym.{Sym}
 use Rattle.sym_state.specs.declared.state.DrawSite.{DrawSite}
-use Rattle.sym_state.specs.Standing.{Stand, stand, draw_at, draws_at, IsState, IsSite, AreSites, IsHere, marks, number_of_end}
+use Rattle.sym_state.specs.Standing.{Stand, stand, draw_at, draws_at, IsSite, AreSites, marks, number_of_end}
 use Rattle.sym_state.specs.Following.{left_of, Taken}
 use Rattle.sym_flow.specs.Leaving.{Went, Runs}
-use Rattle.sym_whole.specs.Finding.{IsFound}
 use Rattle.sym_whole.specs.Deciding.{started, IsStart, Tells, Decides}
 use Rattle.sym_whole.proofs.Sites.{state_found}
 

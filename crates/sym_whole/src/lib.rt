@@ -3,5 +3,7 @@
 #![tactic(auto)]
 
 mod laws;
+mod first;
 
 pub use laws::{decides, found};
+pub use first::start;
