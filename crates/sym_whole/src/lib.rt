@@ -6,4 +6,4 @@ mod first;
 mod laws;
 
 pub use first::start;
-pub use laws::{decides, found};
+pub use laws::{decides, found, larger};
