@@ -1,11 +1,11 @@
 -- Assignments and steps of scalar objects, and calls that have no body.
-use Rattle.std.proofs.Common.{◌≡◌, ℕ, ◌+◌, ◌*◌, ◌≤◌, ◌<◌, ◌^◌, Bool, true, false, cond, not, ◌&&◌, ℤ, pos, List, [], length, refl, sym, ◌∙◌, ap, ap₂, subst, arith, Option, Some, None, IsTrue, is_none, slice_get, nat_eq, eqb-true}
+use Rattle.std.proofs.Common.{◌≡◌, ℕ, ◌+◌, ◌*◌, ◌≤◌, ◌<◌, ◌^◌, Bool, true, false, cond, ◌&&◌, ℤ, pos, List, length, refl, sym, ◌∙◌, ap, ap₂, subst, arith, Option, Some, None, IsTrue, is_none, slice_get, nat_eq, eqb-true}
 use Rattle.std.specs.List.{list_all}
-use Rattle.c_core.specs.Tree.{Program, Exp, Expr, Node, Var, Step, Assign, Call, Exps, NoExp, MoreExp}
-use Rattle.c_core.specs.Types.{width_of, fit, common_of}
-use Rattle.c_core.specs.Operators.{type_for, right_type_for, op_of_step, is_prefix, is_comparison}
-use Rattle.c_core.specs.Parts.{type_of as type_if, every_part, exps_in}
-use Rattle.c_core.specs.Typing.{is_target, has_value, is_assignment, same_types, node_fits, is_type, has_input, are_values, is_call}
+use Rattle.c_core.specs.Tree.{Program, Exp, Expr, Var, Step, Assign, Call, Exps, NoExp, MoreExp}
+use Rattle.c_core.specs.Types.{width_of, common_of}
+use Rattle.c_core.specs.Operators.{type_for, right_type_for, op_of_step, is_prefix}
+use Rattle.c_core.specs.Parts.{every_part, exps_in}
+use Rattle.c_core.specs.Typing.{is_target, has_value, is_assignment, same_types, node_fits, is_type, has_input, are_values}
 use Rattle.c_core.specs.declared.number.IntType.{IntType}
 use Rattle.c_core.specs.declared.number.IntType.TheVariants.{Bool as BoolType, Char, SChar, UChar, Short, UShort, Int, UInt, Long, ULong, LongLong, ULongLong}
 use Rattle.c_core.specs.declared.number.DataModel.{DataModel}
@@ -15,23 +15,23 @@ use Rattle.c_core.specs.declared.number.StepOp.{StepOp}
 use Rattle.c_core.specs.declared.number.StepOp.TheVariants.{PreInc, PreDec, PostInc, PostDec}
 use Rattle.c_core.specs.declared.number.Spot.{Spot}
 use Rattle.c_core.specs.declared.tree.Callee.TheVariants.{Input, ReachError, Abort}
-use Rattle.c_meaning.specs.Acts.{Res, Go, Stop, bind}
+use Rattle.c_meaning.specs.Acts.{Go, bind}
 use Rattle.c_meaning.specs.Cells.{read}
 use Rattle.c_meaning.specs.Duties.{Placed, Duties}
 use Rattle.c_meaning.specs.Eval.{operate, store}
-use Rattle.c_meaning.specs.Havoc.{Left, Stopped, havoc}
+use Rattle.c_meaning.specs.Havoc.{havoc}
 use Rattle.c_meaning.specs.Meaning.{Use, Used}
 use Rattle.c_meaning.specs.Objects.{type_of, type_or_int, type_of_object}
-use Rattle.c_meaning.proofs.TypeFacts.{both, neither, some_type, the_type, no_type, one_result, scalar_type, assigned_type, stepped_type}
+use Rattle.c_meaning.proofs.TypeFacts.{both, the_type, no_type, one_result, scalar_type, assigned_type, stepped_type}
 use Rattle.circuits.specs.declared.net.Bit.{Bit}
 use Rattle.circuits.specs.declared.net.NetNode.{NetNode}
 use Rattle.circuits.specs.Numbers.{typed, AreTyped, Reads}
-use Rattle.circuits.specs.Outcome.{conversion_cost, binary_type, binary_cost}
+use Rattle.circuits.specs.Outcome.{conversion_cost, binary_type}
 use Rattle.sym_state.specs.declared.state.Sym.{Sym}
 use Rattle.sym_state.specs.declared.state.Around.{Around}
 use Rattle.sym_state.specs.Places.{key}
 use Rattle.sym_state.specs.Standing.{stand, IsState}
-use Rattle.sym_state.specs.Following.{Deed, Follows, AreOf, IsNumber}
+use Rattle.sym_state.specs.Following.{Deed, Follows}
 use Rattle.sym_state.proofs.Nets.{unchanged, longer_by, typed_added, are_typed_added}
 use Rattle.sym_state.proofs.Composed.{follows_then, follows_as, turned_follows}
 use Rattle.sym_values.specs.Valuing.{where_of, operated_cost, Gives, operated}

@@ -1,5 +1,5 @@
 -- `&&`, `||` and `?:`: parts that are evaluated in some of the runs.
-use Rattle.std.proofs.Common.{◌≡◌, ℕ, ◌+◌, ◌*◌, ◌≤◌, ◌<◌, ◌^◌, Bool, true, false, cond, not, ◌&&◌, ◌||◌, ℤ, pos, List, [], length, refl, sym, ◌∙◌, ap, ap₂, subst, arith, Option, Some, None, IsTrue, is_some}
+use Rattle.std.proofs.Common.{◌≡◌, ℕ, ◌+◌, ◌*◌, ◌<◌, ◌^◌, Bool, true, false, cond, not, ◌&&◌, ◌||◌, ℤ, pos, List, length, refl, sym, ◌∙◌, ap, ap₂, subst, arith, Option, Some, None, IsTrue, is_some}
 use Rattle.c_core.specs.Tree.{Program, Exp, Expr, Logic, Choose}
 use Rattle.c_core.specs.Types.{width_of, fit, is_zero, number_of}
 use Rattle.c_core.specs.Parts.{type_of as type_if}
@@ -22,9 +22,9 @@ use Rattle.circuits.specs.Outcome.{conversion_cost}
 use Rattle.circuits.proofs.Nets.{holds-opposite}
 use Rattle.sym_state.specs.declared.state.Sym.{Sym}
 use Rattle.sym_state.specs.declared.state.Around.{Around}
-use Rattle.sym_state.specs.Standing.{stand, IsState, Added, Turned, with_live}
+use Rattle.sym_state.specs.Standing.{Turned, with_live}
 use Rattle.sym_state.specs.Following.{Deed, Follows, AreOf, IsNumber}
-use Rattle.sym_state.proofs.Nets.{added_of, holds_added, in_added, longer_by, typed_added, are_typed_added, state_grown, stand_grown}
+use Rattle.sym_state.proofs.Nets.{added_of, holds_added, in_added, longer_by, typed_added, are_typed_added}
 use Rattle.sym_state.proofs.Turning.{turned_then}
 use Rattle.sym_state.proofs.Composed.{follows_then, follows_as, net_follows}
 use Rattle.sym_values.specs.Valuing.{Reckoned, Decided, Gives}
@@ -88,6 +88,11 @@ arms_have : (m : DataModel) (to : IntType) (x y : Option IntType) → IsTrue (is
 arms_have m to None y h = neither h
 arms_have m to (Some x) None h = neither h
 arms_have m to (Some x) (Some y) h = (refl, refl)
+
+no_arms : (m : DataModel) (x y : Option IntType) → IsTrue (is_some x && is_some y) → IsTrue (is_choice m None x y) → ⊥
+no_arms m None y h c = neither h
+no_arms m (Some x) None h c = neither h
+no_arms m (Some x) (Some y) h c = neither c
 
 -- the parts of `?:`
 pub record Chosen (p : Program) (I : List Placed) (n : ℕ) (ty : Option IntType) (e a b : Exp) : Type 0 where
@@ -317,3 +322,77 @@ module _ (p : Program) (I : List Placed) (n : ℕ) (at : Around) where
       logic_values want spot ty k a b first second go hit all res h ga
       (subst (λ t. Decided p (conversion_cost p.model t BoolType) x x2 first (λ v. not (is_zero (typed p.model t v x.net xs)))) ea d1) eg gb
       (subst (λ t. Decided p (conversion_cost p.model t BoolType) y y2 second (λ v. not (is_zero (typed p.model t v y.net ys)))) eb d2) eh g ma er r
+
+  pub pick_first : {s x : Sym} {es : List Bit} (spot mark : Spot) (ty : Option IntType) (e a b : Exp) (te : IntType) → te ≡ type_of e → Ready p I n at s (Expr spot ty (Choose mark e a b)) → Values p I n at Used e s x es
+      → AreTyped p.model te x.net es × (length x.net < 2 ^ 28)
+  pick_first spot mark ty e a b te ee h ge =
+      (rw ee (value_in p I n at Used e (type_of e) (has_one e (good_choose p I n spot mark ty e a b h.good).test) ge), omega (arith, (longer_by ge.follows.added).1, h.room))
+
+  pub pick_yes : {s x x2 : Sym} {es : List Bit} {f : (ℕ → Bool) → Bool} (spot mark : Spot) (to : IntType) (e a b : Exp) (te : IntType) (go : Bit) → te ≡ type_of e → Ready p I n at s (Expr spot (Some to) (Choose mark e a b))
+      → Values p I n at Used e s x es → Decided p (conversion_cost p.model te BoolType) x x2 go f → ReadyWhere p I n at go x2 a
+  pick_yes spot mark to e a b te go ee h ge d = record {
+    fits = d.turned.fits;
+    go_in = d.means.inside;
+    good = (good_choose p I n spot mark (Some to) e a b h.good).good_yes;
+    duty = h.duty;
+    room = omega (arith, test_costs p.model (type_of e), ap (λ t. conversion_cost p.model t BoolType) ee, (longer_by ge.follows.added).1, (longer_by d.turned.added).1, h.room);
+  }
+
+  pub pick_yes_value : {s x x2 y : Sym} {es xs : List Bit} {f : (ℕ → Bool) → Bool} (spot mark : Spot) (to : IntType) (e a b : Exp) (te ta : IntType) (go : Bit) → te ≡ type_of e → ta ≡ type_of a → Ready p I n at s (Expr spot (Some to) (Choose mark e a b))
+      → Values p I n at Used e s x es → Decided p (conversion_cost p.model te BoolType) x x2 go f → ValuesWhere p I n at go a x2 y xs → AreTyped p.model ta y.net xs × (length y.net < 2 ^ 28)
+  pick_yes_value spot mark to e a b te ta go ee ea h ge d ga =
+      let q = good_choose p I n spot mark (Some to) e a b h.good in
+      let arm = arms_have p.model to (type_if a) (type_if b) q.arms in (
+        rw ea (where_as a (type_of a) (has_one a arm.0) ga).0,
+        omega (arith, test_costs p.model (type_of e), ap (λ t. conversion_cost p.model t BoolType) ee, (longer_by ge.follows.added).1, (longer_by d.turned.added).1, (longer_by ga.follows.added).1, h.room),
+      )
+
+  pub pick_no : {s x x2 y y2 : Sym} {es xs cs : List Bit} {f : (ℕ → Bool) → Bool} {g : (ℕ → Bool) → ℤ} (spot mark : Spot) (to : IntType) (e a b : Exp) (te ta : IntType) (go other : Bit) → te ≡ type_of e → ta ≡ type_of a → other ≡ opposite go
+      → Ready p I n at s (Expr spot (Some to) (Choose mark e a b)) → Values p I n at Used e s x es → Decided p (conversion_cost p.model te BoolType) x x2 go f → ValuesWhere p I n at go a x2 y xs
+      → Reckoned p (conversion_cost p.model ta to) y y2 to cs g → ReadyWhere p I n at other y2 b
+  pick_no {y2 = y2} spot mark to e a b te ta go other ee ea eo h ge d ga r = record {
+    fits = r.turned.fits;
+    go_in = kept_in y2.net false go other eo (in_added r.turned.added go (in_added ga.follows.added go d.means.inside));
+    good = (good_choose p I n spot mark (Some to) e a b h.good).good_no;
+    duty = h.duty;
+    room =
+        omega (arith, test_costs p.model (type_of e), ap (λ t. conversion_cost p.model t BoolType) ee, conversion_costs p.model (type_of a) to, ap (λ t. conversion_cost p.model t to) ea, (longer_by ge.follows.added).1, (longer_by d.turned.added).1, (longer_by ga.follows.added).1, (longer_by r.turned.added).1, h.room);
+  }
+
+  pub pick_no_value : {s x x2 y y2 z : Sym} {es xs cs ys : List Bit} {f : (ℕ → Bool) → Bool} {g : (ℕ → Bool) → ℤ} (spot mark : Spot) (to : IntType) (e a b : Exp) (te ta tb : IntType) (go other : Bit) → te ≡ type_of e → ta ≡ type_of a → tb ≡ type_of b
+      → Ready p I n at s (Expr spot (Some to) (Choose mark e a b)) → Values p I n at Used e s x es → Decided p (conversion_cost p.model te BoolType) x x2 go f → ValuesWhere p I n at go a x2 y xs
+      → Reckoned p (conversion_cost p.model ta to) y y2 to cs g → ValuesWhere p I n at other b y2 z ys → AreTyped p.model tb z.net ys × (length z.net + conversion_cost p.model (type_of b) to < 2 ^ 28)
+  pick_no_value spot mark to e a b te ta tb go other ee ea eb h ge d ga r gb =
+      let q = good_choose p I n spot mark (Some to) e a b h.good in
+      let arm = arms_have p.model to (type_if a) (type_if b) q.arms in (
+        rw eb (where_as b (type_of b) (has_one b arm.1) gb).0,
+        omega (arith, conversion_costs p.model (type_of b) to, test_costs p.model (type_of e), ap (λ t. conversion_cost p.model t BoolType) ee, conversion_costs p.model (type_of a) to, ap (λ t. conversion_cost p.model t to) ea, (longer_by ge.follows.added).1, (longer_by d.turned.added).1, (longer_by ga.follows.added).1, (longer_by r.turned.added).1, (longer_by gb.follows.added).1, h.room),
+      )
+
+  pub pick_last : {x2 y y2 z z2 : Sym} {xs cs ys ds : List Bit} {g k : (ℕ → Bool) → ℤ} (to : IntType) (a b : Exp) (tb : IntType) (go other : Bit) {i : ℕ} → tb ≡ type_of b → IsIn x2.net go → ValuesWhere p I n at go a x2 y xs
+      → Reckoned p i y y2 to cs g → ValuesWhere p I n at other b y2 z ys → Reckoned p (conversion_cost p.model tb to) z z2 to ds k → length z.net + conversion_cost p.model (type_of b) to < 2 ^ 28
+      → IsIn z2.net go × AreTyped p.model to z2.net cs × (length z2.net < 2 ^ 28)
+  pick_last to a b tb go other eb i ga r gb w h = (
+    in_added w.turned.added go (in_added gb.follows.added go (in_added r.turned.added go (in_added ga.follows.added go i))),
+    are_typed_added w.turned.added (are_typed_added gb.follows.added r.bits_in),
+    omega (arith, ap (λ t. conversion_cost p.model t to) eb, (longer_by w.turned.added).1, h),
+  )
+
+  pub pick_step : {s x x2 y y2 z z2 m : Sym} {es xs cs ys ds rs : List Bit} (want : Use) (spot mark : Spot) (to : IntType) (e a b : Exp) (te ta tb : IntType) (go other : Bit) → te ≡ type_of e → ta ≡ type_of a → tb ≡ type_of b
+      → Ready p I n at s (Expr spot (Some to) (Choose mark e a b)) → Values p I n at Used e s x es
+      → Decided p (conversion_cost p.model te BoolType) x x2 go (λ v. not (is_zero (typed p.model te v x.net es))) → other ≡ opposite go
+      → ValuesWhere p I n at go a x2 y xs → Reckoned p (conversion_cost p.model ta to) y y2 to cs (λ v. fit p.model to (typed p.model ta v y.net xs))
+      → ValuesWhere p I n at other b y2 z ys → Reckoned p (conversion_cost p.model tb to) z z2 to ds (λ v. fit p.model to (typed p.model tb v z.net ys))
+      → Reckoned p (4 * width_of p.model to) z2 m to rs (λ v. cond (holds v z2.net go) (typed p.model to v z2.net cs) (typed p.model to v z2.net ds))
+      → Values p I n at want (Expr spot (Some to) (Choose mark e a b)) s m rs
+  pick_step {s} {x} {x2} {y} {y2} {z} {z2} {m} {es} {xs} {cs} {ys} {ds} {rs} want spot mark to e a b te ta tb go other ee ea eb h ge d eo wa r1 wb r2 r3 =
+      choose_values want spot mark to e a b go other h ge (subst (λ t. Decided p (conversion_cost p.model t BoolType) x x2 go (λ v. not (is_zero (typed p.model t v x.net es)))) ee d) eo wa
+      (subst (λ t. Reckoned p (conversion_cost p.model t to) y y2 to cs (λ v. fit p.model to (typed p.model t v y.net xs))) ea r1) wb
+      (subst (λ t. Reckoned p (conversion_cost p.model t to) z z2 to ds (λ v. fit p.model to (typed p.model t v z.net ys))) eb r2) r3
+
+  pub choose_none : (spot mark : Spot) (e a b : Exp) → IsTrue (is_good p I n (Expr spot None (Choose mark e a b))) → ⊥
+  choose_none spot mark e a b h =
+      let q = good_choose p I n spot mark None e a b h in
+      let node = Choose mark e a b in
+      let whole = both (is_good_here p I n (Expr spot None node)) (is_good p I n e && (is_good p I n a && is_good p I n b)) h in
+      no_arms p.model (type_if a) (type_if b) (both (node_fits p None node) (is_built node) whole.0).1 q.arms

@@ -13,7 +13,9 @@ use circuits::{Bit, Bits, const_bits, not};
 use run_state::type_of;
 use std::alloc::Global;
 use sym_state::{Around, Sym, join, look, narrow};
-use sym_values::{convert, end, input, operate, operate_one, reach, store, test, truth, type_for};
+use sym_values::{
+    choose, convert, end, input, operate, operate_one, reach, store, test, truth, type_for,
+};
 use wv_base::{OutOfMemory, Seq};
 
 /// An expression, at a statement and a full expression, with calls at most `depth` deep. A void one gives any bits.
@@ -63,15 +65,21 @@ pub fn eval(
             Ok(r)
         }
         Node::Logic { both, left, right } => {
-            let r = logic(alloc, program, invariants, sym, depth, at, used, e.spot, e.ty, *both, left, right)?;
+            let r = logic(
+                alloc, program, invariants, sym, depth, at, used, e.spot, e.ty, *both, left, right,
+            )?;
             Ok(r)
         }
         Node::Assign { op, target, from } => {
-            let r = assign(alloc, program, invariants, sym, depth, at, e.spot, e.ty, *op, target, from)?;
+            let r = assign(
+                alloc, program, invariants, sym, depth, at, e.spot, e.ty, *op, target, from,
+            )?;
             Ok(r)
         }
         Node::Step { op, target } => {
-            let r = step(alloc, program, invariants, sym, depth, at, e.spot, e.ty, *op, target)?;
+            let r = step(
+                alloc, program, invariants, sym, depth, at, e.spot, e.ty, *op, target,
+            )?;
             Ok(r)
         }
         Node::Call {
@@ -79,16 +87,34 @@ pub fn eval(
             args,
             close,
         } => {
-            let r = call(alloc, program, invariants, sym, depth, at, used, e.spot, e.ty, *callee, args.as_slice(), *close)?;
+            let r = call(
+                alloc,
+                program,
+                invariants,
+                sym,
+                depth,
+                at,
+                used,
+                e.spot,
+                e.ty,
+                *callee,
+                args.as_slice(),
+                *close,
+            )?;
             Ok(r)
         }
         Node::Index { object, at: place } => unreachable!(),
         Node::Choose {
             mark,
-            test,
+            test: condition,
             yes,
             no,
-        } => unreachable!(),
+        } => {
+            let r = conditional(
+                alloc, program, invariants, sym, depth, at, e.spot, e.ty, *mark, condition, yes, no,
+            )?;
+            Ok(r)
+        }
     }
 }
 
@@ -250,6 +276,64 @@ fn logic(
 }
 
 #[cycle(walk)]
+fn conditional(
+    alloc: Global,
+    program: &Program,
+    invariants: &Seq<PlacedInvariant>,
+    sym: &mut Sym,
+    depth: u32,
+    at: Around,
+    spot: Spot,
+    ty: Option<IntType>,
+    mark: Spot,
+    condition: &Expr,
+    yes: &Expr,
+    no: &Expr,
+) -> Result<Bits, OutOfMemory>
+    requires { Ready (program_view program.now) (placed_views invariants.now) depth at sym.old (t.Expr spot ty (t.Choose mark (expr_view condition.now) (expr_view yes.now) (expr_view no.now))) }
+    ensures { IfOk result (λ r. Values (program_view program.now) (placed_views invariants.now) depth at Used (t.Expr spot ty (t.Choose mark (expr_view condition.now) (expr_view yes.now) (expr_view no.now))) sym.old sym.new r.bits) }
+{
+    match ty {
+        Some(to) => {
+            let r = pick(
+                alloc, program, invariants, sym, depth, at, spot, to, mark, condition, yes, no,
+            )?;
+            Ok(r)
+        }
+        None => unreachable!(),
+    }
+}
+
+#[cycle(walk)]
+fn pick(
+    alloc: Global,
+    program: &Program,
+    invariants: &Seq<PlacedInvariant>,
+    sym: &mut Sym,
+    depth: u32,
+    at: Around,
+    spot: Spot,
+    to: IntType,
+    mark: Spot,
+    condition: &Expr,
+    yes: &Expr,
+    no: &Expr,
+) -> Result<Bits, OutOfMemory>
+    requires { Ready (program_view program.now) (placed_views invariants.now) depth at sym.old (t.Expr spot (Some to) (t.Choose mark (expr_view condition.now) (expr_view yes.now) (expr_view no.now))) }
+    ensures { IfOk result (λ r. Values (program_view program.now) (placed_views invariants.now) depth at Used (t.Expr spot (Some to) (t.Choose mark (expr_view condition.now) (expr_view yes.now) (expr_view no.now))) sym.old sym.new r.bits) }
+{
+    let e = eval(alloc, program, invariants, sym, depth, at, true, condition)?;
+    let go = test(alloc, program, sym, type_of(condition), &e)?;
+    let x = eval_where(alloc, program, invariants, sym, depth, at, go, yes)?;
+    let u = convert(alloc, program, sym, type_of(yes), to, &x)?;
+    let other = not(go);
+    let y = eval_where(alloc, program, invariants, sym, depth, at, other, no)?;
+    let w = convert(alloc, program, sym, type_of(no), to, &y)?;
+    let r = choose(alloc, program, sym, to, go, &u, &w)?;
+    Ok(r)
+}
+
+#[cycle(walk)]
 fn assign(
     alloc: Global,
     program: &Program,
@@ -269,11 +353,17 @@ fn assign(
     match scalar_of(to) {
         Some(object) => match op {
             None => {
-                let r = replace(alloc, program, invariants, sym, depth, at, spot, ty, to.spot, to.ty, object, from)?;
+                let r = replace(
+                    alloc, program, invariants, sym, depth, at, spot, ty, to.spot, to.ty, object,
+                    from,
+                )?;
                 Ok(r)
             }
             Some(op) => {
-                let r = update(alloc, program, invariants, sym, depth, at, spot, ty, op, to.spot, to.ty, object, from)?;
+                let r = update(
+                    alloc, program, invariants, sym, depth, at, spot, ty, op, to.spot, to.ty,
+                    object, from,
+                )?;
                 Ok(r)
             }
         },
@@ -300,7 +390,15 @@ fn replace(
     ensures { IfOk result (λ r. Values (program_view program.now) (placed_views invariants.now) depth at Used (t.Expr spot ty (t.Assign None (t.Expr place of (t.Var object)) (expr_view from.now))) sym.old sym.new r.bits) }
 {
     let y = eval(alloc, program, invariants, sym, depth, at, true, from)?;
-    let r = store(alloc, program, sym, object, type_of(from), type_or_int(of), &y)?;
+    let r = store(
+        alloc,
+        program,
+        sym,
+        object,
+        type_of(from),
+        type_or_int(of),
+        &y,
+    )?;
     Ok(r)
 }
 
@@ -328,7 +426,15 @@ fn update(
     let y = eval(alloc, program, invariants, sym, depth, at, true, from)?;
     let b = type_of(from);
     let z = operate(alloc, program, sym, at, spot, op, a, &x, b, &y)?;
-    let r = store(alloc, program, sym, object, type_for(program.model, op, a, b), a, &z)?;
+    let r = store(
+        alloc,
+        program,
+        sym,
+        object,
+        type_for(program.model, op, a, b),
+        a,
+        &z,
+    )?;
     Ok(r)
 }
 
@@ -349,7 +455,20 @@ fn step(
 {
     match scalar_of(target) {
         Some(object) => {
-            let r = bump(alloc, program, invariants, sym, depth, at, spot, ty, op, target.spot, target.ty, object)?;
+            let r = bump(
+                alloc,
+                program,
+                invariants,
+                sym,
+                depth,
+                at,
+                spot,
+                ty,
+                op,
+                target.spot,
+                target.ty,
+                object,
+            )?;
             Ok(r)
         }
         None => unreachable!(),

@@ -1,5 +1,5 @@
 -- A draw: new inputs, and one more site.
-use Rattle.std.proofs.Common.{◌≡◌, ℕ, ◌+◌, ◌≤◌, Bool, true, false, cond, List, [], ◌∷◌, ◌++◌, length, map, refl, sym, ◌∙◌, ap, ap₂, subst, arith}
+use Rattle.std.proofs.Common.{◌≡◌, ℕ, ◌+◌, Bool, true, false, cond, List, [], ◌∷◌, ◌++◌, refl, sym, ◌∙◌, ap, ap₂, subst, arith}
 use Rattle.std.specs.declared.vec.Vec.{Vec}
 use Rattle.std.specs.declared.alloc.Global.{Global}
 use Rattle.c_core.specs.Tree.{Program}
@@ -13,7 +13,7 @@ use Rattle.circuits.specs.Net.{holds, Fed, count_inputs}
 use Rattle.circuits.specs.Numbers.{Counts, drawn, typed}
 use Rattle.sym_state.specs.declared.state.Sym.{Sym}
 use Rattle.sym_state.specs.declared.state.DrawSite.{DrawSite}
-use Rattle.sym_state.specs.Standing.{stand, draw_at, draws_at, IsState, IsSite, AreSites, Added, Turned, drawing}
+use Rattle.sym_state.specs.Standing.{draw_at, draws_at, IsState, IsSite, AreSites, Added}
 use Rattle.sym_state.specs.Drawn.{draw_of, IsDrawn}
 use Rattle.sym_state.proofs.Nets.{counts_few, holds_added, sites_added, sites_snoc, state_sited, stand_added}
 

@@ -1,18 +1,17 @@
 use mir.Val.{SFits}
 use mir.Syntax.{w128}
 use Rattle.std.proofs.lemmas.Int.{to_z-of_z}
-use Rattle.std.proofs.Common.{rules, ◌≡◌, ◌+◌, ◌*◌, ◌<◌, ◌∙◌, refl, sym, ap, ap₂, subst, arith, None, Some, true, IsTrue}
-use Rattle.c_core.specs.Tree.{Expr, Index, Unary, Cast, Step, Binary, Logic, Choose, Comma, Assign, Call, Const, Var}
+use Rattle.std.proofs.Common.{rules, ◌≡◌, ◌∙◌, refl, sym, ap, subst, arith, None, Some, IsTrue}
+use Rattle.c_core.specs.Tree.{Expr, Unary, Cast, Step, Binary, Logic, Choose, Comma, Assign, Call, Const, Var}
 use Rattle.c_core.specs.View.{program_view, expr_view, exprs_view, node_view}
 use Rattle.c_core.proofs.View.{view_of_call}
 use Rattle.c_meaning.specs.Meaning.{Used, Unused}
-use Rattle.c_meaning.specs.Objects.{type_of}
 use Rattle.sym_weight.specs.Tally.{placed_views}
 use Rattle.sym_exprs.specs.Evaluating.{use_of, weight_of, is_good, Ready, Values}
 use Rattle.sym_state.proofs.Nets.{added_of, in_added, longer_by, state_grown}
-use Rattle.sym_exprs.proofs.Choosing.{kept_in, where_ready, where_values, logic_first, logic_where, logic_second, logic_bits, logic_step}
+use Rattle.sym_exprs.proofs.Choosing.{kept_in, where_ready, where_values, logic_first, logic_where, logic_second, logic_bits, logic_step, good_choose, pick_first, pick_yes, pick_yes_value, pick_no, pick_no_value, pick_last, pick_step, choose_none}
 use Rattle.sym_exprs.proofs.Assigning.{good_assign, assign_scalar, replace_sides, replace_step, update_object, update_sides, update_last, update_step}
-use Rattle.sym_exprs.proofs.Forms.{good_logic, good_unary, good_cast, good_binary, good_comma, good_scalar, unbuilt, first_ready, next_ready, const_step, var_step, unary_side, unary_step, binary_sides, binary_step, void_values, cast_side, cast_step, comma_values}
+use Rattle.sym_exprs.proofs.Forms.{good_logic, good_unary, good_cast, good_binary, good_comma, first_ready, next_ready, const_step, var_step, unary_side, unary_step, binary_sides, binary_step, void_values, cast_side, cast_step, comma_values}
 use Rattle.sym_exprs.proofs.expressions.+walk.Goals as goal
 
 pub binary-eval-requires : goal.binary-eval-requires
@@ -248,14 +247,6 @@ eval-returns-in_ok-r-in-Var t c =
     let e : node_view c.args.e.now.node ≡ Var c.in-Var.object = rw c.in-Var.is refl in
     subst (λ k. Values p I n c.args.at (use_of c.args.used) (Expr c.args.e.now.spot c.args.e.now.ty k) c.args.sym.now c.args.sym.now c.in_ok-r-in-Var.r.bits) (sym e)
     (var_step p I n c.args.at c.args.sym.now c.in_ok-r-in-Var.r.bits (use_of c.args.used) c.args.e.now.spot c.args.e.now.ty c.in-Var.object c.type_of-in-Var.result c.type_of-in-Var.ensures (subst (λ k. Ready p I n c.args.at c.args.sym.now (Expr c.args.e.now.spot c.args.e.now.ty k)) e c.requires) c.in_ok-r-in-Var.ensures)
-
-pub eval-unreachable-requires-in-Choose : goal.eval-unreachable-requires-in-Choose
-eval-unreachable-requires-in-Choose t c =
-    let p = program_view c.args.program.now in
-    let I = placed_views c.args.invariants.now in
-    let node = Choose c.in-Choose.mark (expr_view c.in-Choose.test.value) (expr_view c.in-Choose.yes.value) (expr_view c.in-Choose.no.value) in
-    let e : node_view c.args.e.now.node ≡ node = rw c.in-Choose.is refl in
-    unbuilt p I c.args.depth c.args.e.now.spot c.args.e.now.ty node refl (subst (λ k. IsTrue (is_good p I c.args.depth (Expr c.args.e.now.spot c.args.e.now.ty k))) e c.requires.good)
 
 pub eval-logic-requires : goal.eval-logic-requires
 eval-logic-requires t c =
@@ -616,3 +607,181 @@ assign-returns-in_ok-r-in-Some-op t c =
     let e : expr_view c.args.to.now ≡ Expr c.args.to.now.spot c.args.to.now.ty (Var c.in-Some.object) = ap (Expr c.args.to.now.spot c.args.to.now.ty) c.in-Some.ensures in
     subst (λ o. Values p I n c.args.at Used (Expr c.args.spot c.args.ty (Assign o (expr_view c.args.to.now) (expr_view c.args.from.now))) c.args.sym.now c.update.new.sym c.in_ok-r-in-Some-op.r.bits) (sym c.in-Some-op.is)
     (subst (λ k. Values p I n c.args.at Used (Expr c.args.spot c.args.ty (Assign (Some c.in-Some-op.op) k (expr_view c.args.from.now))) c.args.sym.now c.update.new.sym c.in_ok-r-in-Some-op.r.bits) (sym e) c.in_ok-r-in-Some-op.ensures)
+
+pub eval-conditional-requires : goal.eval-conditional-requires
+eval-conditional-requires t c =
+    let p = program_view c.args.program.now in
+    let I = placed_views c.args.invariants.now in
+    let n = c.args.depth in
+    let e : node_view c.args.e.now.node ≡ Choose c.in-Choose.mark (expr_view c.deref-in-Choose.result.now) (expr_view c.deref-in-Choose-2.result.now) (expr_view c.deref-in-Choose-3.result.now) = rw (c.in-Choose.is, c.deref-in-Choose.ensures, c.deref-in-Choose-2.ensures, c.deref-in-Choose-3.ensures) refl in
+    (omega (arith, c.decreases, ap (λ k. weight_of p I n (Expr c.args.e.now.spot c.args.e.now.ty k)) e), subst (λ k. Ready p I n c.args.at c.args.sym.now (Expr c.args.e.now.spot c.args.e.now.ty k)) e c.requires)
+
+pub eval-returns-in_ok-r-in-Choose : goal.eval-returns-in_ok-r-in-Choose
+eval-returns-in_ok-r-in-Choose t c =
+    let p = program_view c.args.program.now in
+    let I = placed_views c.args.invariants.now in
+    let n = c.args.depth in
+    let e : node_view c.args.e.now.node ≡ Choose c.in-Choose.mark (expr_view c.deref-in-Choose.result.now) (expr_view c.deref-in-Choose-2.result.now) (expr_view c.deref-in-Choose-3.result.now) = rw (c.in-Choose.is, c.deref-in-Choose.ensures, c.deref-in-Choose-2.ensures, c.deref-in-Choose-3.ensures) refl in
+    subst (λ k. Values p I n c.args.at (use_of c.args.used) (Expr c.args.e.now.spot c.args.e.now.ty k) c.args.sym.now c.conditional.new.sym c.in_ok-r-in-Choose.r.bits) (sym e) c.in_ok-r-in-Choose.ensures
+
+pub conditional-pick-requires : goal.conditional-pick-requires
+conditional-pick-requires t c =
+    let p = program_view c.args.program.now in
+    let I = placed_views c.args.invariants.now in
+    let n = c.args.depth in
+    let e = expr_view c.args.condition.now in
+    let a = expr_view c.args.yes.now in
+    let b = expr_view c.args.no.now in
+    (omega (arith, c.decreases, ap (λ k. weight_of p I n (Expr c.args.spot k (Choose c.args.mark e a b))) c.in-Some.is), subst (λ k. Ready p I n c.args.at c.args.sym.now (Expr c.args.spot k (Choose c.args.mark e a b))) c.in-Some.is c.requires)
+
+pub conditional-returns : goal.conditional-returns
+conditional-returns t c =
+    let p = program_view c.args.program.now in
+    let I = placed_views c.args.invariants.now in
+    let n = c.args.depth in
+    let e = expr_view c.args.condition.now in
+    let a = expr_view c.args.yes.now in
+    let b = expr_view c.args.no.now in
+    subst (λ k. Values p I n c.args.at Used (Expr c.args.spot k (Choose c.args.mark e a b)) c.args.sym.now c.pick.new.sym c.in_ok-r-in-Some.r.bits) (sym c.in-Some.is) c.in_ok-r-in-Some.ensures
+
+pub conditional-unreachable-requires : goal.conditional-unreachable-requires
+conditional-unreachable-requires t c =
+    let p = program_view c.args.program.now in
+    let I = placed_views c.args.invariants.now in
+    let n = c.args.depth in
+    let e = expr_view c.args.condition.now in
+    let a = expr_view c.args.yes.now in
+    let b = expr_view c.args.no.now in
+    choose_none p I n c.args.at c.args.spot c.args.mark e a b (subst (λ k. IsTrue (is_good p I n (Expr c.args.spot k (Choose c.args.mark e a b)))) c.in-None.is c.requires.good)
+
+pub pick-eval-requires : goal.pick-eval-requires
+pick-eval-requires t c =
+    let p = program_view c.args.program.now in
+    let I = placed_views c.args.invariants.now in
+    let n = c.args.depth in
+    let e = expr_view c.args.condition.now in
+    let a = expr_view c.args.yes.now in
+    let b = expr_view c.args.no.now in
+    (omega (arith, c.decreases), first_ready p I n c.args.at (Expr c.args.spot (Some c.args.to) (Choose c.args.mark e a b)) e c.requires (good_choose p I n c.args.spot c.args.mark (Some c.args.to) e a b c.requires.good).good_test (omega arith))
+
+pub pick-test-requires-clause-x_in : goal.pick-test-requires-clause-x_in
+pick-test-requires-clause-x_in t c =
+    let p = program_view c.args.program.now in
+    let I = placed_views c.args.invariants.now in
+    let n = c.args.depth in
+    let e = expr_view c.args.condition.now in
+    let a = expr_view c.args.yes.now in
+    let b = expr_view c.args.no.now in
+    (pick_first p I n c.args.at c.args.spot c.args.mark (Some c.args.to) e a b c.type_of.result c.type_of.ensures c.requires c.in_ok-e.ensures).0
+
+pub pick-test-requires-clause-room : goal.pick-test-requires-clause-room
+pick-test-requires-clause-room t c =
+    let p = program_view c.args.program.now in
+    let I = placed_views c.args.invariants.now in
+    let n = c.args.depth in
+    let e = expr_view c.args.condition.now in
+    let a = expr_view c.args.yes.now in
+    let b = expr_view c.args.no.now in
+    (pick_first p I n c.args.at c.args.spot c.args.mark (Some c.args.to) e a b c.type_of.result c.type_of.ensures c.requires c.in_ok-e.ensures).1
+
+pub pick-eval_where-requires : goal.pick-eval_where-requires
+pick-eval_where-requires t c =
+    let p = program_view c.args.program.now in
+    let I = placed_views c.args.invariants.now in
+    let n = c.args.depth in
+    let e = expr_view c.args.condition.now in
+    let a = expr_view c.args.yes.now in
+    let b = expr_view c.args.no.now in
+    (omega (arith, c.decreases), pick_yes p I n c.args.at c.args.spot c.args.mark c.args.to e a b c.type_of.result c.in_ok-go.go c.type_of.ensures c.requires c.in_ok-e.ensures c.in_ok-go.ensures)
+
+pub pick-convert-requires-clause-x_in : goal.pick-convert-requires-clause-x_in
+pick-convert-requires-clause-x_in t c =
+    let p = program_view c.args.program.now in
+    let I = placed_views c.args.invariants.now in
+    let n = c.args.depth in
+    let e = expr_view c.args.condition.now in
+    let a = expr_view c.args.yes.now in
+    let b = expr_view c.args.no.now in
+    (pick_yes_value p I n c.args.at c.args.spot c.args.mark c.args.to e a b c.type_of.result c.type_of-2.result c.in_ok-go.go c.type_of.ensures c.type_of-2.ensures c.requires c.in_ok-e.ensures c.in_ok-go.ensures c.in_ok-x.ensures).0
+
+pub pick-convert-requires-clause-room : goal.pick-convert-requires-clause-room
+pick-convert-requires-clause-room t c =
+    let p = program_view c.args.program.now in
+    let I = placed_views c.args.invariants.now in
+    let n = c.args.depth in
+    let e = expr_view c.args.condition.now in
+    let a = expr_view c.args.yes.now in
+    let b = expr_view c.args.no.now in
+    (pick_yes_value p I n c.args.at c.args.spot c.args.mark c.args.to e a b c.type_of.result c.type_of-2.result c.in_ok-go.go c.type_of.ensures c.type_of-2.ensures c.requires c.in_ok-e.ensures c.in_ok-go.ensures c.in_ok-x.ensures).1
+
+pub pick-eval_where-requires-2 : goal.pick-eval_where-requires-2
+pick-eval_where-requires-2 t c =
+    let p = program_view c.args.program.now in
+    let I = placed_views c.args.invariants.now in
+    let n = c.args.depth in
+    let e = expr_view c.args.condition.now in
+    let a = expr_view c.args.yes.now in
+    let b = expr_view c.args.no.now in
+    (omega (arith, c.decreases), pick_no p I n c.args.at c.args.spot c.args.mark c.args.to e a b c.type_of.result c.type_of-2.result c.in_ok-go.go c.not-other.result c.type_of.ensures c.type_of-2.ensures c.not-other.ensures c.requires c.in_ok-e.ensures c.in_ok-go.ensures c.in_ok-x.ensures c.in_ok-u.ensures)
+
+pub pick-convert-requires-2-clause-x_in : goal.pick-convert-requires-2-clause-x_in
+pick-convert-requires-2-clause-x_in t c =
+    let p = program_view c.args.program.now in
+    let I = placed_views c.args.invariants.now in
+    let n = c.args.depth in
+    let e = expr_view c.args.condition.now in
+    let a = expr_view c.args.yes.now in
+    let b = expr_view c.args.no.now in
+    (pick_no_value p I n c.args.at c.args.spot c.args.mark c.args.to e a b c.type_of.result c.type_of-2.result c.type_of-3.result c.in_ok-go.go c.not-other.result c.type_of.ensures c.type_of-2.ensures c.type_of-3.ensures c.requires c.in_ok-e.ensures c.in_ok-go.ensures c.in_ok-x.ensures c.in_ok-u.ensures c.in_ok-y.ensures).0
+
+pub pick-convert-requires-2-clause-room : goal.pick-convert-requires-2-clause-room
+pick-convert-requires-2-clause-room t c =
+    let p = program_view c.args.program.now in
+    let I = placed_views c.args.invariants.now in
+    let n = c.args.depth in
+    let e = expr_view c.args.condition.now in
+    let a = expr_view c.args.yes.now in
+    let b = expr_view c.args.no.now in
+    let r = (pick_no_value p I n c.args.at c.args.spot c.args.mark c.args.to e a b c.type_of.result c.type_of-2.result c.type_of-3.result c.in_ok-go.go c.not-other.result c.type_of.ensures c.type_of-2.ensures c.type_of-3.ensures c.requires c.in_ok-e.ensures c.in_ok-go.ensures c.in_ok-x.ensures c.in_ok-u.ensures c.in_ok-y.ensures).1 in
+    omega (arith, r)
+
+pub pick-choose-requires-clause-test_in : goal.pick-choose-requires-clause-test_in
+pick-choose-requires-clause-test_in t c =
+    let p = program_view c.args.program.now in
+    let I = placed_views c.args.invariants.now in
+    let n = c.args.depth in
+    let e = expr_view c.args.condition.now in
+    let a = expr_view c.args.yes.now in
+    let b = expr_view c.args.no.now in
+    (pick_last p I n c.args.at c.args.to a b c.type_of-3.result c.in_ok-go.go c.not-other.result c.type_of-3.ensures c.in_ok-go.ensures.means.inside c.in_ok-x.ensures c.in_ok-u.ensures c.in_ok-y.ensures c.in_ok-w.ensures (pick_no_value p I n c.args.at c.args.spot c.args.mark c.args.to e a b c.type_of.result c.type_of-2.result c.type_of-3.result c.in_ok-go.go c.not-other.result c.type_of.ensures c.type_of-2.ensures c.type_of-3.ensures c.requires c.in_ok-e.ensures c.in_ok-go.ensures c.in_ok-x.ensures c.in_ok-u.ensures c.in_ok-y.ensures).1).0
+
+pub pick-choose-requires-clause-yes_in : goal.pick-choose-requires-clause-yes_in
+pick-choose-requires-clause-yes_in t c =
+    let p = program_view c.args.program.now in
+    let I = placed_views c.args.invariants.now in
+    let n = c.args.depth in
+    let e = expr_view c.args.condition.now in
+    let a = expr_view c.args.yes.now in
+    let b = expr_view c.args.no.now in
+    (pick_last p I n c.args.at c.args.to a b c.type_of-3.result c.in_ok-go.go c.not-other.result c.type_of-3.ensures c.in_ok-go.ensures.means.inside c.in_ok-x.ensures c.in_ok-u.ensures c.in_ok-y.ensures c.in_ok-w.ensures (pick_no_value p I n c.args.at c.args.spot c.args.mark c.args.to e a b c.type_of.result c.type_of-2.result c.type_of-3.result c.in_ok-go.go c.not-other.result c.type_of.ensures c.type_of-2.ensures c.type_of-3.ensures c.requires c.in_ok-e.ensures c.in_ok-go.ensures c.in_ok-x.ensures c.in_ok-u.ensures c.in_ok-y.ensures).1).1
+
+pub pick-choose-requires-clause-room : goal.pick-choose-requires-clause-room
+pick-choose-requires-clause-room t c =
+    let p = program_view c.args.program.now in
+    let I = placed_views c.args.invariants.now in
+    let n = c.args.depth in
+    let e = expr_view c.args.condition.now in
+    let a = expr_view c.args.yes.now in
+    let b = expr_view c.args.no.now in
+    (pick_last p I n c.args.at c.args.to a b c.type_of-3.result c.in_ok-go.go c.not-other.result c.type_of-3.ensures c.in_ok-go.ensures.means.inside c.in_ok-x.ensures c.in_ok-u.ensures c.in_ok-y.ensures c.in_ok-w.ensures (pick_no_value p I n c.args.at c.args.spot c.args.mark c.args.to e a b c.type_of.result c.type_of-2.result c.type_of-3.result c.in_ok-go.go c.not-other.result c.type_of.ensures c.type_of-2.ensures c.type_of-3.ensures c.requires c.in_ok-e.ensures c.in_ok-go.ensures c.in_ok-x.ensures c.in_ok-u.ensures c.in_ok-y.ensures).1).2
+
+pub pick-returns : goal.pick-returns
+pick-returns t c =
+    let p = program_view c.args.program.now in
+    let I = placed_views c.args.invariants.now in
+    let n = c.args.depth in
+    let e = expr_view c.args.condition.now in
+    let a = expr_view c.args.yes.now in
+    let b = expr_view c.args.no.now in
+    pick_step p I n c.args.at Used c.args.spot c.args.mark c.args.to e a b c.type_of.result c.type_of-2.result c.type_of-3.result c.in_ok-go.go c.not-other.result c.type_of.ensures c.type_of-2.ensures c.type_of-3.ensures c.requires c.in_ok-e.ensures c.in_ok-go.ensures c.not-other.ensures
+    c.in_ok-x.ensures c.in_ok-u.ensures c.in_ok-y.ensures c.in_ok-w.ensures c.in_ok-r.ensures

@@ -1,5 +1,5 @@
 use Rattle.std.proofs.Common.{◌+◌, ◌*◌, None, Some}
-use Rattle.c_core.specs.Tree.{Expr, Var, Unary, Cast, Binary, Logic, Comma, Assign}
+use Rattle.c_core.specs.Tree.{Expr, Var, Unary, Cast, Binary, Logic, Choose, Comma, Assign}
 use Rattle.c_core.specs.View.{program_view, expr_view}
 use Rattle.sym_weight.specs.Tally.{placed_views}
 use Rattle.sym_exprs.specs.Evaluating.{weight_of}
@@ -35,3 +35,9 @@ decreases-replace l = 4 * weight_of (program_view l.program.now) (placed_views l
 
 abbrev pub decreases-update : goal.decreases-update
 decreases-update l = 4 * weight_of (program_view l.program.now) (placed_views l.invariants.now) l.depth (Expr l.spot l.ty (Assign (Some l.op) (Expr l.place l.of (Var l.object)) (expr_view l.from.now))) + 0
+
+abbrev pub decreases-conditional : goal.decreases-conditional
+decreases-conditional l = 4 * weight_of (program_view l.program.now) (placed_views l.invariants.now) l.depth (Expr l.spot l.ty (Choose l.mark (expr_view l.condition.now) (expr_view l.yes.now) (expr_view l.no.now))) + 1
+
+abbrev pub decreases-pick : goal.decreases-pick
+decreases-pick l = 4 * weight_of (program_view l.program.now) (placed_views l.invariants.now) l.depth (Expr l.spot (Some l.to) (Choose l.mark (expr_view l.condition.now) (expr_view l.yes.now) (expr_view l.no.now))) + 0

@@ -1,9 +1,7 @@
-use Rattle.std.proofs.Common.{◌≡◌, ◌∙◌, sym, ap, subst, None, Some, true, false, IsTrue, cond}
-use Rattle.c_core.specs.Tree.{Expr, Var, Step, Call}
-use Rattle.c_core.specs.View.{program_view, expr_view, exprs_view}
+use Rattle.std.proofs.Common.{◌∙◌, sym, true, false}
+use Rattle.c_core.specs.View.{program_view}
 use Rattle.c_meaning.specs.Meaning.{Used}
 use Rattle.sym_weight.specs.Tally.{placed_views}
-use Rattle.sym_exprs.specs.Evaluating.{use_of, Ready, Values}
 use Rattle.sym_exprs.proofs.Assigning.{type_or_object, bump_sides, bump_last, bump_step}
 use Rattle.sym_exprs.proofs.expressions.bump.Goals as goal
 
@@ -57,4 +55,3 @@ returns-else-is_prefix c =
     let n = c.args.depth in
     bump_step p I n c.args.at Used c.args.spot c.args.place c.args.ty c.args.of c.args.op c.args.object c.type_or_int-a.result c.type_for-ty.result c.op_of_step-by.result c.type_or_int-a.ensures c.op_of_step-by.ensures c.type_for-ty.ensures.value c.requires
     c.in_ok-x.ensures c.in_ok-one.ensures (c.in_ok-z.ensures I c.requires.duty) (c.in_ok-w.ensures I) false (sym c.is_prefix.ensures ∙ c.if-is_prefix.false)
-

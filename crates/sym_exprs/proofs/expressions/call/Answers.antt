@@ -1,10 +1,9 @@
-use Rattle.std.proofs.Common.{◌≡◌, ◌∙◌, sym, ap, subst, None, Some, true, false, IsTrue, cond}
-use Rattle.c_core.specs.Tree.{Expr, Var, Step, Call}
-use Rattle.c_core.specs.View.{program_view, expr_view, exprs_view}
-use Rattle.c_meaning.specs.Meaning.{Used}
+use Rattle.std.proofs.Common.{◌≡◌, sym, ap, subst}
+use Rattle.c_core.specs.Tree.{Expr, Call}
+use Rattle.c_core.specs.View.{program_view, exprs_view}
 use Rattle.sym_weight.specs.Tally.{placed_views}
 use Rattle.sym_exprs.specs.Evaluating.{use_of, is_plain_call, Ready, Values}
-use Rattle.c_core.specs.declared.tree.Callee.TheVariants.{Defined, Input, ReachError, Abort, Exit}
+use Rattle.c_core.specs.declared.tree.Callee.TheVariants.{Input, ReachError, Abort}
 use Rattle.sym_exprs.proofs.Assigning.{input_values, reach_values, abort_values}
 use Rattle.sym_exprs.proofs.Forms.{unbuilt}
 use Rattle.sym_exprs.proofs.expressions.call.Goals as goal

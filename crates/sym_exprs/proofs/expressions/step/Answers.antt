@@ -1,9 +1,9 @@
-use Rattle.std.proofs.Common.{◌≡◌, ◌∙◌, sym, ap, subst, None, Some, true, false, IsTrue, cond}
-use Rattle.c_core.specs.Tree.{Expr, Var, Step, Call}
-use Rattle.c_core.specs.View.{program_view, expr_view, exprs_view}
+use Rattle.std.proofs.Common.{◌≡◌, sym, ap, subst}
+use Rattle.c_core.specs.Tree.{Expr, Var, Step}
+use Rattle.c_core.specs.View.{program_view, expr_view}
 use Rattle.c_meaning.specs.Meaning.{Used}
 use Rattle.sym_weight.specs.Tally.{placed_views}
-use Rattle.sym_exprs.specs.Evaluating.{use_of, Ready, Values}
+use Rattle.sym_exprs.specs.Evaluating.{Ready, Values}
 use Rattle.sym_exprs.proofs.Assigning.{step_scalar}
 use Rattle.sym_exprs.proofs.expressions.step.Goals as goal
 
@@ -29,4 +29,3 @@ unreachable-requires c =
     let I = placed_views c.args.invariants.now in
     let n = c.args.depth in
     step_scalar p I n c.args.spot c.args.ty c.args.op (expr_view c.args.target.now) c.in-None.ensures c.requires.good
-
