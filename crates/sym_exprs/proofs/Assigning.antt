@@ -97,7 +97,7 @@ module _ (p : Program) (I : List Placed) (n : ℕ) where
     -- the object is read
     looked : (s : Sym) (o : ℕ) (t : IntType) (xs : List Bit) → IsState p s → Reads p.model t s.net xs (λ v. read (key o 0) (stand p v s).cells)
         → Follows (Duties p I) p 0 0 s s (λ v z. z ≡ typed p.model t v s.net xs) (λ v l. Go (read (key o 0) l.cells) l)
-    looked s o t xs h r = turned_follows p (Duties p I) (λ v z. z) (record { fits = h; added = unchanged 0 s.net; level = refl; is = λ v. refl }) (λ v. refl) (λ v d. refl) (λ v here rest. (here, refl, sym (r.is v)))
+    looked s o t xs h r = turned_follows p (Duties p I) (λ v z. z) (record { fits = h; added = unchanged 0 s.net; level = refl; result = refl; is = λ v. refl }) (λ v. refl) (λ v d. refl) (λ v here rest. (here, refl, sym (r.is v)))
 
     told_type : {w b : ℕ} {s m : Sym} {t u : Option IntType} {bits : List Bit} {deed : Deed ℤ} → t ≡ u → Gives p I w b s m t bits deed → Gives p I w b s m u bits deed
     told_type {w} {b} {s} {m} {bits = bits} {deed = deed} e x = subst (λ z. Gives p I w b s m z bits deed) e x
@@ -192,7 +192,7 @@ module _ (p : Program) (I : List Placed) (n : ℕ) where
         let xo = told_type (ap Some plain) go in
         let last : Follows (Duties p I) p (stored_cost p.model c a) 0 z m (λ v u. u ≡ cond (is_prefix op) (typed p.model a v m.net ws) (typed p.model a v m.net xs)) (λ v l. bind (store p (havoc p I) (key o 0) c a (typed p.model c v z.net zs) l) (λ w k. Go (cond (is_prefix op) w (typed p.model a v s.net xs)) k)) =
         follows_then p (Duties p I) (stored_cost p.model c a) 0 (λ v w k. Go (cond (is_prefix op) w (typed p.model a v s.net xs)) k) gs.follows
-        (turned_follows p (Duties p I) (λ v t. t) (record { fits = gs.follows.fits; added = unchanged 0 m.net; level = refl; is = λ v. refl }) (λ v. refl) (λ v d. refl)
+        (turned_follows p (Duties p I) (λ v t. t) (record { fits = gs.follows.fits; added = unchanged 0 m.net; level = refl; result = refl; is = λ v. refl }) (λ v. refl) (λ v d. refl)
         (λ v here rest. (here, refl, ap (cond (is_prefix op) (typed p.model a v m.net ws)) (sym (typed_added gs.follows.added p.model a v xs (are_typed_added xo.follows.added r.bits_in) ∙ typed_added xo.follows.added p.model a v xs r.bits_in)))))
         (λ v w f k. ap (λ i. Go (cond (is_prefix op) i (typed p.model a v s.net xs)) k) f) (omega arith) (omega arith) in
         told_type (ap (λ k. Some k) to ∙ q.0 ∙ q.1)

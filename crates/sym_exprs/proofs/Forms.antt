@@ -134,7 +134,7 @@ module _ (p : Program) (I : List Placed) (n : ℕ) where
     const_values s bits want spot None z h r = neither h.good
     const_values s bits want spot (Some ty) z h r = record {
       bits_in = r.bits_in;
-      follows = net_follows p (Duties p I) (λ v. z) (record { fits = h.fits; added = unchanged _ s.net; level = refl; is = λ v. refl }) (λ v. sym (r.is v));
+      follows = net_follows p (Duties p I) (λ v. z) (record { fits = h.fits; added = unchanged _ s.net; level = refl; result = refl; is = λ v. refl }) (λ v. sym (r.is v));
     }
 
     pub unary_values : {s x m : Sym} {xs rs : List Bit} (want : Use) (spot : Spot) (ty : Option IntType) (op : UnOp) (a : Exp) → Ready p I n at s (Expr spot ty (Unary op a)) → Values p I n at Used a s x xs
@@ -157,7 +157,7 @@ module _ (p : Program) (I : List Placed) (n : ℕ) where
     var_values s bits want spot None o h r = absurd (scalar_none (slice_get p.objects o) (scalar_typed spot None o h.good))
     var_values s bits want spot (Some ty) o h r = record {
       bits_in = r.bits_in;
-      follows = turned_follows p (Duties p I) (λ v z. z) (record { fits = h.fits; added = unchanged _ s.net; level = refl; is = λ v. refl }) (λ v. refl) (λ v d. refl) (λ v here rest. (here, refl, sym (r.is v)));
+      follows = turned_follows p (Duties p I) (λ v z. z) (record { fits = h.fits; added = unchanged _ s.net; level = refl; result = refl; is = λ v. refl }) (λ v. refl) (λ v d. refl) (λ v here rest. (here, refl, sym (r.is v)));
     }
 
     pub binary_values : {s x y m : Sym} {xs ys rs : List Bit} (want : Use) (spot : Spot) (ty : Option IntType) (op : BinOp) (a b : Exp) → Ready p I n at s (Expr spot ty (Binary op a b))

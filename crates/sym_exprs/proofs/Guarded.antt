@@ -90,6 +90,7 @@ module _ (p : Program) (ds : List Duty) {A : Type 0} (d : A) where
         fits = z.fits;
         added = added_then (3 + i) j (added_then (2 + i) j one later (omega arith) (omega arith)) z.added (omega arith) (omega arith);
         level = z.level ∙ y.level ∙ x.level;
+        result = z.result ∙ y.result ∙ x.result;
         moves = λ v. record { more = (y.moves v).more; draws = (guarded_moves (guarded v)).draws; still = (guarded_moves (guarded v)).still };
         does = λ v here vs rest t. guarded_does p.model ds (S v) d (holds v a.net go) (guarded v) (deed v) (y.does v) here vs rest t;
       }

@@ -98,11 +98,11 @@ at_once false f g s = refl
 module _ (p : Program) (ds : List Duty) (result : Option IntType) where
   -- from a, where the bit `test` decides; both arms leave as many cells as there were
   pub arms_run : {i j k l : ℕ} {a b c d e f : Sym} {A B : Deed Flow} (n m : ℕ) (test : Bit) → IsState p a → IsIn a.net test
-      → Turned p 1 0 a b (λ v. with_live (holds v a.net a.live && holds v a.net test)) → b.result ≡ a.result → Runs ds p result i k b c A → length c.cells.items ≡ length b.cells.items
-      → Turned p 1 0 c d (λ v. with_live (holds v c.net a.live && holds v c.net (opposite test))) → d.result ≡ c.result → Runs ds p result j l d e B → length e.cells.items ≡ length d.cells.items
-      → Turned p 1 0 e f (λ v. with_live (holds v e.net c.live || holds v e.net e.live)) → f.result ≡ e.result → 3 + (i + j) ≤ n → k + l ≤ m
+      → Turned p 1 0 a b (λ v. with_live (holds v a.net a.live && holds v a.net test)) → Runs ds p result i k b c A → length c.cells.items ≡ length b.cells.items
+      → Turned p 1 0 c d (λ v. with_live (holds v c.net a.live && holds v c.net (opposite test))) → Runs ds p result j l d e B → length e.cells.items ≡ length d.cells.items
+      → Turned p 1 0 e f (λ v. with_live (holds v e.net c.live || holds v e.net e.live)) → 3 + (i + j) ≤ n → k + l ≤ m
       → Runs ds p result n m a f (λ v s. cond (holds v a.net test) (A v s) (B v s))
-  arms_run {i} {j} {k} {l} {a} {b} {c} {d} {e} {f} {A} {B} n m test h it n1 r1 ra la n2 r2 rb lb n3 r3 g1 g2 =
+  arms_run {i} {j} {k} {l} {a} {b} {c} {d} {e} {f} {A} {B} n m test h it n1 ra la n2 rb lb n3 g1 g2 =
       let ac = added_then (1 + i) k n1.added ra.added (omega arith) (omega arith) in
       let ce = added_then (1 + j) l n2.added rb.added (omega arith) (omega arith) in
       let cells : (v : ℕ → Bool) (x y : Sym) → length y.cells.items ≡ length x.cells.items → length (stand p v y).cells ≡ length (stand p v x).cells = λ v x y q. count_cells p v y ∙ q ∙ sym (count_cells p v x) in
@@ -122,7 +122,7 @@ module _ (p : Program) (ds : List Duty) (result : Option IntType) where
         fits = n3.fits;
         added = added_then n m (added_then (2 + (i + j)) (k + l) ac ce (omega arith) (omega arith)) n3.added (omega (arith, g1)) (omega (arith, g2));
         grows = omega (arith, n3.level, lb, es);
-        result = r3 ∙ rb.result ∙ r2 ∙ ra.result ∙ r1;
+        result = n3.result ∙ rb.result ∙ n2.result ∙ ra.result ∙ n1.result;
         moves = λ v. record { more = (ra.moves v).more ++ (rb.moves v).more; draws = (arms_move (arms v)).draws; still = (arms_move (arms v)).still };
         does = λ v here vs rest t.
             arms_do p.model ds result (length a.cells.items) (holds v a.net test) (arms v) (A v) (B v)
@@ -131,13 +131,13 @@ module _ (p : Program) (ds : List Duty) (result : Option IntType) where
       }
 
   -- where nothing changed but the net, and then a statement
-  pub quiet_runs : {i k l : ℕ} {a b c : Sym} {m : Deed Flow} (n : ℕ) → Turned p i 0 a b (λ v s. s) → b.result ≡ a.result → Runs ds p result k l b c m → i + k ≤ n → Runs ds p result n l a c m
-  quiet_runs {l = l} {a = a} {b = b} {c = c} {m = m} n x same y h =
+  pub quiet_runs : {i k l : ℕ} {a b c : Sym} {m : Deed Flow} (n : ℕ) → Turned p i 0 a b (λ v s. s) → Runs ds p result k l b c m → i + k ≤ n → Runs ds p result n l a c m
+  quiet_runs {l = l} {a = a} {b = b} {c = c} {m = m} n x y h =
       record {
         fits = y.fits;
         added = added_then n l x.added y.added h (omega arith);
         grows = omega (arith, x.level, y.grows);
-        result = y.result ∙ same;
+        result = y.result ∙ x.result;
         moves = λ v. record {
           more = (y.moves v).more;
           draws = (y.moves v).draws ∙ ap (λ s. s.draws ++ (y.moves v).more) (x.is v);
@@ -151,9 +151,9 @@ module _ (p : Program) (ds : List Duty) (result : Option IntType) where
   module _ (I : List Placed) (call : Calls (havoc p I)) where
     -- C11 6.8.4p2, 6.8.5p4: the test, its truth as a bit, and what comes by it
     pub control_runs : {i j k l x : ℕ} {o s a f : Sym} {S : (ℕ → Bool) → ℤ → Type 0} (n m : ℕ) (at : Spot) (e : Exp) (test : Bit) (A B : Left → Res Stopped Left Flow)
-        → Follows ds p i j o s S (λ v. full p (havoc p I) call at Used e) → s.result ≡ o.result → Turned p k 0 s a (λ v z. z) → a.result ≡ s.result
+        → Follows ds p i j o s S (λ v. full p (havoc p I) call at Used e) → Turned p k 0 s a (λ v z. z)
         → ((v : ℕ → Bool) (z : ℤ) → S v z → not (is_zero z) ≡ holds v a.net test) → Runs ds p result l x a f (λ v c. cond (holds v a.net test) (A c) (B c)) → i + (k + l) ≤ n → j + x ≤ m
         → Runs ds p result n m o f (λ v. control p (havoc p I) call at e A B)
-    control_runs {k = k} {l = l} {a = a} n m at e test A B fe r1 t r2 tests ra g1 g2 =
-        follows_runs p ds result n m (λ v z c. (cond (not (is_zero z)) A B) c) fe r1 (quiet_runs (k + l) t r2 ra (omega arith))
+    control_runs {k = k} {l = l} {a = a} n m at e test A B fe t tests ra g1 g2 =
+        follows_runs p ds result n m (λ v z c. (cond (not (is_zero z)) A B) c) fe (quiet_runs (k + l) t ra (omega arith))
         (λ v z q c. at_once (not (is_zero z)) A B c ∙ ap (λ u. cond u (A c) (B c)) (tests v z q)) g1 g2

@@ -130,6 +130,7 @@ module _ (p : Program) (I : List Placed) (ds : List Duty) (gives : Option IntTyp
         fits = z.fits;
         added = added_then m j (added_then i j x.added y.added (omega arith) (omega arith)) z.added le (omega arith);
         level = level;
+        result = z.result;
         moves = λ v.
             let A = stand p v a in
             record {

@@ -96,10 +96,10 @@ module _ (p : Program) (I : List Placed) where
   module _ (ds : List Duty) (result : Option IntType) (call : Calls (havoc p I)) where
     -- C11 6.7p1: an object's cells, what its initializer or its draws make of them, and the other names
     pub names_run : {i j k l : ℕ} {a b c d : Sym} (n m : ℕ) (at spot : Spot) (o : ℕ) (x : Init) (ns : Names) → Became p 0 a b (λ v. declaring o (size_of_object p o))
-        → Follows ds p i j b c (λ v u. Unit {0}) (λ v. initial p (havoc p I) call at spot o x) → c.result ≡ b.result → Runs ds p result k l c d (λ v. declare p (havoc p I) call at ns) → i + k ≤ n → j + l ≤ m
+        → Follows ds p i j b c (λ v u. Unit {0}) (λ v. initial p (havoc p I) call at spot o x) → Runs ds p result k l c d (λ v. declare p (havoc p I) call at ns) → i + k ≤ n → j + l ≤ m
         → Runs ds p result n m a d (λ v. declare p (havoc p I) call at (MoreName spot o x ns))
-    names_run {i} {j} {k} {l} n m at spot o x ns y f same r h q =
-        let rest = follows_runs p ds result (i + k) (j + l) (λ v u. declare p (havoc p I) call at ns) f same r (λ v u w s. refl) (omega arith) (omega arith) in
+    names_run {i} {j} {k} {l} n m at spot o x ns y f r h q =
+        let rest = follows_runs p ds result (i + k) (j + l) (λ v u. declare p (havoc p I) call at ns) f r (λ v u w s. refl) (omega arith) (omega arith) in
         runs_as p ds result (runs_then p ds result n m (declare_runs p ds result o (size_of_object p o) y) rest (omega (arith, h)) (omega (arith, q)))
         (λ v s. ap (λ z. bind z (λ u s. bind (acts.declare Stopped Left cells_left with_cells_left o (size_of_object p o) s) (go_on (λ s. bind (initial p (havoc p I) call at spot o x s) (λ u. declare p (havoc p I) call at ns))))) (sym (no_ticks ACell (size_of_object p o) s)))
         (omega arith) (omega arith)
@@ -118,10 +118,10 @@ module _ (p : Program) (I : List Placed) where
   module _ (ds : List Duty) (result : Option IntType) where
     -- with an argument
     pub params_next : {i j k l : ℕ} {a b c d : Sym} (n m : ℕ) (o : ℕ) (os : List ℕ) (x : (ℕ → Bool) → ℤ × IntType) (xs : (ℕ → Bool) → List (ℤ × IntType)) (body : Left → Res Stopped Left Flow)
-        → Became p 0 a b (λ v. declaring o 1) → Follows ds p i j b c (λ v u. Unit {0}) (λ v. write Stopped Left cells_left with_cells_left (key o 0) (fit p.model (type_of_object p o) (x v).0)) → c.result ≡ b.result
+        → Became p 0 a b (λ v. declaring o 1) → Follows ds p i j b c (λ v u. Unit {0}) (λ v. write Stopped Left cells_left with_cells_left (key o 0) (fit p.model (type_of_object p o) (x v).0))
         → Runs ds p result k l c d (λ v. with_params p (havoc p I) os (xs v) body) → i + k ≤ n → j + l ≤ m → Runs ds p result n m a d (λ v. with_params p (havoc p I) (o ∷ os) (x v ∷ xs v) body)
-    params_next {i} {j} {k} {l} n m o os x xs body y f same r h q =
-        let rest = follows_runs p ds result (i + k) (j + l) (λ v u. with_params p (havoc p I) os (xs v) body) f same r (λ v u w s. refl) (omega arith) (omega arith) in
+    params_next {i} {j} {k} {l} n m o os x xs body y f r h q =
+        let rest = follows_runs p ds result (i + k) (j + l) (λ v u. with_params p (havoc p I) os (xs v) body) f r (λ v u w s. refl) (omega arith) (omega arith) in
         runs_as p ds result (runs_then p ds result n m (declare_runs p ds result o 1 y) rest (omega (arith, h)) (omega (arith, q))) (λ v s. refl) (omega arith) (omega arith)
 
     -- without one it is 0

@@ -46,6 +46,7 @@ module _ (p : Program) (ds : List Duty) where
     fits = h;
     added = unchanged 0 a.net;
     level = refl;
+    result = refl;
     moves = λ v. record { more = []; draws = sym (append-nil (stand p v a).draws); still = λ d. same_kept refl };
     does = λ v here vs rest t. (here, ap (λ w. left_of (stand p v a) w) t, tt);
   }
@@ -59,6 +60,7 @@ module _ (p : Program) (ds : List Duty) where
         fits = x.turned.fits;
         added = x.turned.added;
         level = x.turned.level;
+        result = x.turned.result;
         moves = λ v. record { more = cond (stand p v s).live (d v ∷ []) []; draws = ap (λ z. z.draws) (x.turned.is v); still = λ h. same_kept (x.turned.is v ∙ undrawn (d v) (stand p v s) h) };
         does = λ v here vs rest t.
             let a = stand p v s in

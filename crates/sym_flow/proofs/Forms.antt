@@ -26,21 +26,21 @@ module _ (p : Program) (I : List Placed) (ds : List Duty) (result : Option IntTy
   Done n m a b done = Runs ds p result n m a b (λ v. done)
 
   -- a statement: its location invariants, and its form
-  pub statement_runs : {i j k l : ℕ} {a b c : Sym} (n m : ℕ) (at : Spot) (f : Form) → Follows ds p i j a b (λ v u. Unit {0}) (λ v. test_from p I 0 I false at Location) → b.result ≡ a.result
+  pub statement_runs : {i j k l : ℕ} {a b c : Sym} (n m : ℕ) (at : Spot) (f : Form) → Follows ds p i j a b (λ v u. Unit {0}) (λ v. test_from p I 0 I false at Location)
       → Done k l b c (form p (havoc p I) call result at f) → i + k ≤ n → j + l ≤ m → Done n m a c (exec p (havoc p I) call result (Stmt at f))
-  statement_runs n m at f x same y h q = follows_runs p ds result n m (λ v u. form p (havoc p I) call result at f) x same y (λ v u w s. refl) h q
+  statement_runs n m at f x y h q = follows_runs p ds result n m (λ v u. form p (havoc p I) call result at f) x y (λ v u w s. refl) h q
 
   -- C11 6.8.3
   pub empty_runs : (a : Sym) (at : Spot) → IsState p a → Done 0 0 a a (form p (havoc p I) call result at Empty)
   empty_runs a at h = skip_runs p ds result a h
 
   -- an expression for its effects
-  pub then_runs : {S : (ℕ → Bool) → ℤ → Type 0} {i j k l : ℕ} {a b c : Sym} (n m : ℕ) (at : Spot) (e : Exp) (done : Left → Res Stopped Left Flow) → Follows ds p i j a b S (λ v. full p (havoc p I) call at Unused e) → b.result ≡ a.result → Done k l b c done
+  pub then_runs : {S : (ℕ → Bool) → ℤ → Type 0} {i j k l : ℕ} {a b c : Sym} (n m : ℕ) (at : Spot) (e : Exp) (done : Left → Res Stopped Left Flow) → Follows ds p i j a b S (λ v. full p (havoc p I) call at Unused e) → Done k l b c done
       → i + k ≤ n → j + l ≤ m → Done n m a c (full_if p (havoc p I) call at (Some e) done)
-  then_runs n m at e done x same y h q = follows_runs p ds result n m (λ v u. done) x same y (λ v u w s. refl) h q
+  then_runs n m at e done x y h q = follows_runs p ds result n m (λ v u. done) x y (λ v u w s. refl) h q
 
-  pub do_runs : {S : (ℕ → Bool) → ℤ → Type 0} {i j : ℕ} {a b : Sym} (at : Spot) (e : Exp) → Follows ds p i j a b S (λ v. full p (havoc p I) call at Unused e) → b.result ≡ a.result → Done i j a b (form p (havoc p I) call result at (Do e))
-  do_runs {i = i} {j = j} {b = b} at e x same = then_runs i j at e (λ s. Go Next s) x same (skip_runs p ds result b x.fits) (omega arith) (omega arith)
+  pub do_runs : {S : (ℕ → Bool) → ℤ → Type 0} {i j : ℕ} {a b : Sym} (at : Spot) (e : Exp) → Follows ds p i j a b S (λ v. full p (havoc p I) call at Unused e) → Done i j a b (form p (havoc p I) call result at (Do e))
+  do_runs {i = i} {j = j} {b = b} at e x = then_runs i j at e (λ s. Go Next s) x (skip_runs p ds result b x.fits) (omega arith) (omega arith)
 
   -- C11 6.8.2
   pub none_run : (a : Sym) → IsState p a → Done 0 0 a a (execs p (havoc p I) call result NoStm)
@@ -66,20 +66,20 @@ module _ (p : Program) (I : List Placed) (ds : List Duty) (result : Option IntTy
   step_runs n m at step done x y h q = runs_then p ds result n m x y h q
 
   -- before the loop of a `for`
-  pub first_expression_runs : {S : (ℕ → Bool) → ℤ → Type 0} {i j k l : ℕ} {a b c : Sym} (n m : ℕ) (at : Spot) (e : Exp) (done : Left → Res Stopped Left Flow) → Follows ds p i j a b S (λ v. full p (havoc p I) call at Unused e) → b.result ≡ a.result
+  pub first_expression_runs : {S : (ℕ → Bool) → ℤ → Type 0} {i j k l : ℕ} {a b c : Sym} (n m : ℕ) (at : Spot) (e : Exp) (done : Left → Res Stopped Left Flow) → Follows ds p i j a b S (λ v. full p (havoc p I) call at Unused e)
       → Done k l b c done → i + k ≤ n → j + l ≤ m → Done n m a c (first p (havoc p I) call at (FirstExp e) done)
-  first_expression_runs n m at e done x same y h q = then_runs n m at e done x same y h q
+  first_expression_runs n m at e done x y h q = then_runs n m at e done x y h q
 
   pub first_names_run : {i j k l : ℕ} {a b c : Sym} (n m : ℕ) (at : Spot) (ns : Names) (done : Left → Res Stopped Left Flow) → Done i j a b (declare p (havoc p I) call at ns) → Done k l b c done → i + k ≤ n → j + l ≤ m
       → Done n m a c (first p (havoc p I) call at (FirstNames ns) done)
   first_names_run n m at ns done x y h q = runs_then p ds result n m x y h q
 
   -- C11 6.8.6.4p3: the value, converted to the function's result
-  pub return_runs : {S : (ℕ → Bool) → ℤ → Type 0} {i j k l : ℕ} {a b c : Sym} (n m : ℕ) (at : Spot) (e : Exp) (to : IntType) (w : (ℕ → Bool) → ℤ) → result ≡ Some to → Follows ds p i j a b S (λ v. full p (havoc p I) call at Used e) → b.result ≡ a.result
+  pub return_runs : {S : (ℕ → Bool) → ℤ → Type 0} {i j k l : ℕ} {a b c : Sym} (n m : ℕ) (at : Spot) (e : Exp) (to : IntType) (w : (ℕ → Bool) → ℤ) → result ≡ Some to → Follows ds p i j a b S (λ v. full p (havoc p I) call at Used e)
       → ((v : ℕ → Bool) (z : ℤ) → S v z → fit p.model to z ≡ w v) → Runs ds p result k l b c (λ v s. Go (Gave (Some (w v))) s) → i + k ≤ n → j + l ≤ m
       → Done n m a c (form p (havoc p I) call result at (Return (Some e)))
-  return_runs n m at e to w r x same fits y h q =
-      follows_runs p ds result n m (λ v z s. bind (convert_to p (havoc p I) result (type_of e) z s) (λ x s. Go (Gave (Some x)) s)) x same y
+  return_runs n m at e to w r x fits y h q =
+      follows_runs p ds result n m (λ v z s. bind (convert_to p (havoc p I) result (type_of e) z s) (λ x s. Go (Gave (Some x)) s)) x y
       (λ v z t s. ap (λ r. bind (convert_to p (havoc p I) r (type_of e) z s) (λ x s. Go (Gave (Some x)) s)) r ∙ ap (λ x. Go (Gave (Some x)) s) (fits v z t)) h q
 
   -- a function's body is no place of an invariant (C11 6.9.1p12)

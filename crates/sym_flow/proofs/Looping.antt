@@ -55,27 +55,27 @@ module _ (p : Program) (I : List Placed) where
 
 module _ (p : Program) (ds : List Duty) (result : Option IntType) where
   -- a part that ends each run
-  pub stops_runs : {A : Type 0} {i j : ℕ} {a b : Sym} {S : (ℕ → Bool) → A → Type 0} (e : Stopped) → Follows ds p i j a b S (λ v s. Stop e s) → b.result ≡ a.result → Runs ds p result i j a b (λ v s. Stop e s)
-  stops_runs e x same = record { fits = x.fits; added = x.added; grows = omega (arith, x.level); result = same; moves = x.moves; does = x.does }
+  pub stops_runs : {A : Type 0} {i j : ℕ} {a b : Sym} {S : (ℕ → Bool) → A → Type 0} (e : Stopped) → Follows ds p i j a b S (λ v s. Stop e s) → Runs ds p result i j a b (λ v s. Stop e s)
+  stops_runs e x = record { fits = x.fits; added = x.added; grows = omega (arith, x.level); result = x.result; moves = x.moves; does = x.does }
 
   module _ (I : List Placed) where
     -- from the arrival a: fresh bits, entry, draws, what is assumed, the turn, kept, the end, and who left the loop
     pub loop_runs : {A : Type 0} {S : (ℕ → Bool) → A → Type 0} {i1 i2 i3 i4 i5 j1 j2 j3 j4 j5 : ℕ} {a b c d e f g h z : Sym} (n m : ℕ) (spot : Spot) (l : Loop) (turn : Left → Res Stopped Left Flow)
         → Became p 0 a b (λ v. fresh_broken)
-        → Follows ds p i1 j1 b c (λ v u. Unit {0}) (λ v. test_from p I 0 I true spot Entry) → c.result ≡ b.result
-        → Follows ds p i2 j2 c d (λ v u. Unit {0}) (λ v. redraw p I spot (changed_by p l)) → d.result ≡ c.result
-        → Follows ds p i3 j3 d e (λ v u. Unit {0}) (λ v. assume_all p I I spot) → e.result ≡ d.result
+        → Follows ds p i1 j1 b c (λ v u. Unit {0}) (λ v. test_from p I 0 I true spot Entry)
+        → Follows ds p i2 j2 c d (λ v u. Unit {0}) (λ v. redraw p I spot (changed_by p l))
+        → Follows ds p i3 j3 d e (λ v u. Unit {0}) (λ v. assume_all p I I spot)
         → Runs ds p result i4 j4 e f (λ v. turn)
-        → Follows ds p i5 j5 f g (λ v u. Unit {0}) (λ v. test_from p I 0 I true spot KeptKind) → g.result ≡ f.result
-        → Follows ds p 1 0 g h S (λ v s. Stop Passes s) → h.result ≡ g.result
+        → Follows ds p i5 j5 f g (λ v u. Unit {0}) (λ v. test_from p I 0 I true spot KeptKind)
+        → Follows ds p 1 0 g h S (λ v s. Stop Passes s)
         → Became p 1 h z (λ v. behind_loop (stand p v a).broken (length a.cells.items))
         → i1 + (i2 + (i3 + (i4 + (i5 + 1)))) + 1 ≤ n → j1 + (j2 + (j3 + (j4 + j5))) ≤ m → Runs ds p result n m a z (λ v. scoped Stopped Left cells_left with_cells_left (loop p I spot l turn))
-    loop_runs {i1 = i1} {i2 = i2} {i3 = i3} {i4 = i4} {i5 = i5} {j1 = j1} {j2 = j2} {j3 = j3} {j4 = j4} {j5 = j5} {a = a} n m spot l turn x t1 r1 t2 r2 t3 r3 t4 t5 r5 t6 r6 y gn gm =
-        let last : Runs ds p result (i5 + 1) j5 _ _ (λ v. back_at_head p I spot) = follows_runs p ds result (i5 + 1) j5 (λ v u. stop p I Passes) t5 r5 (stops_runs Passes t6 r6) (λ v u q s. refl) (omega arith) (omega arith) in
+    loop_runs {i1 = i1} {i2 = i2} {i3 = i3} {i4 = i4} {i5 = i5} {j1 = j1} {j2 = j2} {j3 = j3} {j4 = j4} {j5 = j5} {a = a} n m spot l turn x t1 t2 t3 t4 t5 t6 y gn gm =
+        let last : Runs ds p result (i5 + 1) j5 _ _ (λ v. back_at_head p I spot) = follows_runs p ds result (i5 + 1) j5 (λ v u. stop p I Passes) t5 (stops_runs Passes t6) (λ v u q s. refl) (omega arith) (omega arith) in
         let rest : Runs ds p result (i4 + (i5 + 1)) (j4 + j5) _ _ (λ v s. bind (turn s) (go_on (back_at_head p I spot))) = runs_then p ds result (i4 + (i5 + 1)) (j4 + j5) t4 last (omega arith) (omega arith) in
-        let held = follows_runs p ds result (i3 + (i4 + (i5 + 1))) (j3 + (j4 + j5)) (λ v u s. bind (turn s) (go_on (back_at_head p I spot))) t3 r3 rest (λ v u q s. refl) (omega arith) (omega arith) in
-        let drawn = follows_runs p ds result (i2 + (i3 + (i4 + (i5 + 1)))) (j2 + (j3 + (j4 + j5))) (λ v u s. bind (assume_all p I I spot s) (λ u s. bind (turn s) (go_on (back_at_head p I spot)))) t2 r2 held (λ v u q s. refl) (omega arith) (omega arith) in
+        let held = follows_runs p ds result (i3 + (i4 + (i5 + 1))) (j3 + (j4 + j5)) (λ v u s. bind (turn s) (go_on (back_at_head p I spot))) t3 rest (λ v u q s. refl) (omega arith) (omega arith) in
+        let drawn = follows_runs p ds result (i2 + (i3 + (i4 + (i5 + 1)))) (j2 + (j3 + (j4 + j5))) (λ v u s. bind (assume_all p I I spot s) (λ u s. bind (turn s) (go_on (back_at_head p I spot)))) t2 held (λ v u q s. refl) (omega arith) (omega arith) in
         let whole : Runs ds p result (i1 + (i2 + (i3 + (i4 + (i5 + 1))))) (j1 + (j2 + (j3 + (j4 + j5)))) _ _ (λ v. headed p I spot l turn) =
-        follows_runs p ds result (i1 + (i2 + (i3 + (i4 + (i5 + 1))))) (j1 + (j2 + (j3 + (j4 + j5)))) (λ v u s. bind (redraw p I spot (changed_by p l) s) (λ u s. bind (assume_all p I I spot s) (λ u s. bind (turn s) (go_on (back_at_head p I spot))))) t1 r1 drawn (λ v u q s. refl) (omega arith) (omega arith) in
+        follows_runs p ds result (i1 + (i2 + (i3 + (i4 + (i5 + 1))))) (j1 + (j2 + (j3 + (j4 + j5)))) (λ v u s. bind (redraw p I spot (changed_by p l) s) (λ u s. bind (assume_all p I I spot s) (λ u s. bind (turn s) (go_on (back_at_head p I spot))))) t1 drawn (λ v u q s. refl) (omega arith) (omega arith) in
         runs_as p ds result (broken_runs p ds result x whole y)
         (λ v s. ap (cut Stopped Left cells_left with_cells_left (length s.cells)) (headed_loop p I spot l turn s)) gn gm

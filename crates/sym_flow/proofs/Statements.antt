@@ -69,13 +69,13 @@ module _ (p : Program) (ds : List Duty) (result : Option IntType) where
       (over_then h.0 q, h.1 ∙ none_taken p.model y h.0.live t, h.2 ∙ sym q.draws)
 
   pub follows_runs : {A : Type 0} {i j k l : ℕ} {a b c : Sym} {S : (ℕ → Bool) → A → Type 0} {m : Deed A} {next : Deed Flow}
-      (g n : ℕ) (f : (ℕ → Bool) → A → Left → Res Stopped Left Flow) → Follows ds p i j a b S m → b.result ≡ a.result → Runs ds p result k l b c next
+      (g n : ℕ) (f : (ℕ → Bool) → A → Left → Res Stopped Left Flow) → Follows ds p i j a b S m → Runs ds p result k l b c next
       → ((v : ℕ → Bool) (x : A) → S v x → (s : Left) → f v x s ≡ next v s) → i + k ≤ g → j + l ≤ n → Runs ds p result g n a c (λ v s. bind (m v s) (f v))
-  follows_runs {a = a} {b = b} {c = c} {S = S} {m = m} {next = next} g n f x same y e h q = record {
+  follows_runs {a = a} {b = b} {c = c} {S = S} {m = m} {next = next} g n f x y e h q = record {
     fits = y.fits;
     added = added_then g n x.added y.added h q;
     grows = omega (arith, x.level, y.grows);
-    result = y.result ∙ same;
+    result = y.result ∙ x.result;
     moves = λ v. moves_then (x.moves v) (y.moves v);
     does = λ v here vs rest t.
         let q = taken_split p.model (x.moves v).more (y.moves v).more vs rest t in

@@ -85,6 +85,7 @@ module _ (p : Program) (ds : List Duty) where
     fits = y.fits;
     added = y.added;
     level = y.level;
+    result = y.result;
     moves = y.moves;
     does = λ v here vs rest t. subst (λ h. Came ds (λ u. Unit {0}) (stand p v b) rest (going_if h e (left_of (stand p v a) vs))) (m.is v) (y.does v here vs rest t);
   }

@@ -62,7 +62,7 @@ is_drawn p from spot ty s net bits d sites h f all c eb es et ef el e =
       turned = record {
         fits = state_sited g p sites h sited;
         added = g;
-        level = refl;
+        level = refl; result = refl;
         is = λ v.
             let q = stand_added g p v h in
             let live : holds v net d.live ≡ holds v s.net s.live = ap (holds v net) el ∙ holds_added g v s.live h.live in

@@ -14,10 +14,10 @@ use Rattle.sym_state.proofs.Nets.{added_of, added_then, unchanged, holds_added, 
 
 module _ (p : Program) where
   pub turned_as : {i j : ℕ} {a b : Sym} {f : (ℕ → Bool) → Stand → Stand} (g : (ℕ → Bool) → Stand → Stand) → Turned p i j a b f → ((v : ℕ → Bool) → f v (stand p v a) ≡ g v (stand p v a)) → Turned p i j a b g
-  turned_as g x e = record { fits = x.fits; added = x.added; level = x.level; is = λ v. x.is v ∙ e v }
+  turned_as g x e = record { fits = x.fits; added = x.added; level = x.level; result = x.result; is = λ v. x.is v ∙ e v }
 
   pub turned_then : {i j k l : ℕ} {a b c : Sym} {f g : (ℕ → Bool) → Stand → Stand} (m n : ℕ) → Turned p i j a b f → Turned p k l b c g → i + k ≤ m → j + l ≤ n → Turned p m n a c (λ v s. g v (f v s))
-  turned_then {g = g} m n x y h q = record { fits = y.fits; added = added_then m n x.added y.added h q; level = y.level ∙ x.level; is = λ v. y.is v ∙ ap (g v) (x.is v) }
+  turned_then {g = g} m n x y h q = record { fits = y.fits; added = added_then m n x.added y.added h q; level = y.level ∙ x.level; result = y.result ∙ x.result; is = λ v. y.is v ∙ ap (g v) (x.is v) }
 
   -- another `live`
   pub turned_live : {k : ℕ} (s : Sym) (net : List NetNode) (r : Bit) (f : (ℕ → Bool) → Bool) → IsState p s → Grown k s.net net → Means net r f
@@ -27,7 +27,7 @@ module _ (p : Program) where
       record {
         fits = record { live = m.inside; broken = w.broken; again = w.again; gave = w.gave; given = w.given; failing = w.failing; cells = w.cells; sites = w.sites };
         added = added_of g;
-        level = refl;
+        level = refl; result = refl;
         is = λ v. let q = stand_grown p v g h in λ i. record (q i) { live = m.is v i };
       }
 
@@ -76,7 +76,7 @@ module _ (p : Program) where
       record {
         fits = record { live = w.live; broken = w.broken; again = w.again; gave = w.gave; given = w.given; failing = All-set (λ b. IsIn net b) s.failing.items at r m.inside w.failing; cells = w.cells; sites = w.sites };
         added = added_of g;
-        level = refl;
+        level = refl; result = refl;
         is = λ v.
             let q = stand_grown p v g h in
             let fs = map (holds v s.net) s.failing.items in
@@ -90,7 +90,7 @@ module _ (p : Program) where
   unmarked_turned s at here h l = record {
     fits = h;
     added = unchanged 1 s.net;
-    level = refl;
+    level = refl; result = refl;
     is = λ v. let fs = map (holds v s.net) s.failing.items in λ i. record (stand p v s) { failing = sym (past_marked fs at (holds v s.net here) (omega (arith, l, length-map (holds v s.net) s.failing.items))) i };
   }
 
@@ -102,7 +102,7 @@ module _ (p : Program) where
       record {
         fits = y.fits;
         added = added_then 3 0 one y.added (omega arith) (omega arith);
-        level = y.level ∙ x.level;
+        level = y.level ∙ x.level; result = y.result ∙ x.result;
         is = λ v.
             y.is v ∙ ap (λ z. stopped z (stand p v t)) (holds_added one v bad b) ∙ ap (stopped (holds v s.net bad)) (x.is v)
             ∙ ap₂ (λ l z. stopped (holds v s.net bad) (marking at l z)) (m.is v) (stand_grown p v g h);

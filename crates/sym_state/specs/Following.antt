@@ -43,6 +43,7 @@ module _ (ds : List Duty) where
     pub fits : IsState p new
     pub added : Added ands inputs old.net new.net
     pub level : length new.cells.items ≡ length old.cells.items
+    pub result : new.result ≡ old.result
     pub moves : (v : ℕ → Bool) → Moves (stand p v old) (stand p v new)
     pub does : (v : ℕ → Bool) → IsHere (length ds) (stand p v old) → (vs rest : List ℤ) → Taken p.model (moves v).more vs rest
         → Came (S v) (stand p v new) rest (deed v (left_of (stand p v old) vs))

@@ -179,4 +179,5 @@ pub record Turned (p : Program) (ands inputs : ℕ) (old new : Sym) (f : (ℕ �
   pub fits : IsState p new
   pub added : Added ands inputs old.net new.net
   pub level : length new.cells.items ≡ length old.cells.items
+  pub result : new.result ≡ old.result
   pub is : (v : ℕ → Bool) → stand p v new ≡ f v (stand p v old)

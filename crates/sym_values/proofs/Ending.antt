@@ -33,7 +33,7 @@ input_gives p I spot ty s n bits x =
       follows = record {
         fits = x.turned.fits;
         added = x.turned.added;
-        level = x.turned.level;
+        level = x.turned.level; result = x.turned.result;
         moves = λ v. record { more = cond (stand p v s).live (d v ∷ []) []; draws = ap (λ z. z.draws) (x.turned.is v); still = λ h. same_kept (x.turned.is v ∙ undrawn (d v) (stand p v s) h) };
         does = λ v here vs rest t.
             let a = stand p v s in
@@ -62,7 +62,7 @@ module _ (p : Program) (I : List Placed) (s n : Sym) (b : Bit) (m : Means s.net 
   -- where a call of `reach_error` isn't the violation, it ends the run
   pub reach_ends : (at : Around) → p.property ≡ NoOverflow → Turned p 1 0 s n (λ v. stopped (holds v s.net b)) → Ends p I 3 s n (reach_of p I at)
   reach_ends at e x =
-      turned_follows p (Duties p I) (λ v. stopped (holds v s.net b)) (record { fits = x.fits; added = record { more = x.added.more; is = x.added.is; gates = omega (arith, x.added.gates); feeds = x.added.feeds; few = omega (arith, x.added.few) }; level = x.level; is = x.is }) (λ v. refl) (λ v d. dead_stop v (stand p v s) d)
+      turned_follows p (Duties p I) (λ v. stopped (holds v s.net b)) (record { fits = x.fits; added = record { more = x.added.more; is = x.added.is; gates = omega (arith, x.added.gates); feeds = x.added.feeds; few = omega (arith, x.added.few) }; level = x.level; result = x.result; is = x.is }) (λ v. refl) (λ v d. dead_stop v (stand p v s) d)
       (λ v here rest.
       subst (λ y. Came (Duties p I) (λ z. Unit {0}) (stopped (holds v s.net b) (stand p v s)) rest (reached p I y (where_of at) (left_of (stand p v s) rest))) (sym e)
       (record { live = stops v (stand p v s).live; broken = here.broken; again = here.again; gave = here.gave; failing = here.failing }, refl, refl))

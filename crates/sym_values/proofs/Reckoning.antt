@@ -18,7 +18,7 @@ use Rattle.sym_values.specs.Valuing.{Reckoned, Decided}
 
 -- a larger net
 pub net_turned : {k : ℕ} (p : Program) (s : Sym) (net : List NetNode) → IsState p s → Grown k s.net net → Turned p k 0 s (record s { net = net }) (λ v z. z)
-net_turned p s net h g = record { fits = state_grown p g h; added = added_of g; level = refl; is = λ v. stand_grown p v g h }
+net_turned p s net h g = record { fits = state_grown p g h; added = added_of g; level = refl; result = refl; is = λ v. stand_grown p v g h }
 
 pub reckoned : {k : ℕ} (p : Program) (s : Sym) (net : List NetNode) (ty : IntType) (bits : List Bit) (f : (ℕ → Bool) → ℤ) → IsState p s → Grown k s.net net → Reads p.model ty net bits f
     → Reckoned p k s (record s { net = net }) ty bits f
