@@ -94,7 +94,8 @@ module _ (p : Program) (ds : List Duty) where
   follows_then {a = a} {b = b} {c = c} {S = S} {T = T} {m = m} {next = next} g n f x y e h q = record {
     fits = y.fits;
     added = added_then g n x.added y.added h q;
-    level = y.level ∙ x.level; result = y.result ∙ x.result;
+    level = y.level ∙ x.level;
+    result = y.result ∙ x.result;
     moves = λ v. moves_then (x.moves v) (y.moves v);
     does = λ v here vs rest t.
         let q = taken_split p.model (x.moves v).more (y.moves v).more vs rest t in
@@ -107,7 +108,8 @@ module _ (p : Program) (ds : List Duty) where
   follows_as {k = k} {l = l} {a = a} {b = b} {S = S} {T = T} {m = m} {next = next} x f e h q = record {
     fits = x.fits;
     added = record { more = x.added.more; is = x.added.is; gates = omega (arith, x.added.gates, h); feeds = omega (arith, x.added.feeds, q); few = omega (arith, x.added.few, h, q) };
-    level = x.level; result = x.result;
+    level = x.level;
+    result = x.result;
     moves = x.moves;
     does = λ v here vs rest t.
         subst (λ z. Came ds (T v) (stand p v b) rest z) (e v (left_of (stand p v a) vs)) (came_as p.model ds (S v) (T v) (stand p v b) rest (m v (left_of (stand p v a) vs)) (f v) (x.does v here vs rest t));
@@ -120,7 +122,8 @@ module _ (p : Program) (ds : List Duty) where
   turned_follows {a = a} {b = b} {S = S} {deed = deed} f x drawn dead lives = record {
     fits = x.fits;
     added = x.added;
-    level = x.level; result = x.result;
+    level = x.level;
+    result = x.result;
     moves = λ v. record { more = []; draws = ap (λ z. z.draws) (x.is v) ∙ drawn v ∙ sym (append-nil (stand p v a).draws); still = λ d. same_kept (x.is v ∙ dead v d) };
     does = λ v here vs rest t.
         subst (λ z. Came ds (S v) z rest (deed v (left_of (stand p v a) vs))) (sym (x.is v))

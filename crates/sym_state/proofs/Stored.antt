@@ -74,7 +74,8 @@ module _ (p : Program) (s : Sym) (o i n : ℕ) (c : SymCell) (h : IsState p s) (
       record {
         fits = record { live = w.live; broken = w.broken; again = w.again; gave = w.gave; given = w.given; failing = w.failing; cells = All-set (IsCell p net) s.cells.items n now now_in w.cells; sites = w.sites };
         added = added_of (subst (λ k. Grown (4 * k) s.net net) iv.wide g);
-        level = length-set s.cells.items n now; result = refl;
+        level = length-set s.cells.items n now;
+        result = refl;
         is = λ v.
             let q = stand_grown p v g h in
             let val : SymCell → ℤ = λ x. typed p.model (type_of_object p x.object) v s.net x.bits.bits in
@@ -110,7 +111,8 @@ pub write_none : (p : Program) (s : Sym) (o i k : ℕ) (here : Bit) (value : Lis
 write_none p s o i k here value h none = record {
   fits = h;
   added = unchanged k s.net;
-  level = refl; result = refl;
+  level = refl;
+  result = refl;
   is = λ v.
       let val : SymCell → ℤ = λ x. typed p.model (type_of_object p x.object) v s.net x.bits.bits in
       let cs = map (cell_at p v s.net) s.cells.items in

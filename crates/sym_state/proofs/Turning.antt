@@ -27,7 +27,8 @@ module _ (p : Program) where
       record {
         fits = record { live = m.inside; broken = w.broken; again = w.again; gave = w.gave; given = w.given; failing = w.failing; cells = w.cells; sites = w.sites };
         added = added_of g;
-        level = refl; result = refl;
+        level = refl;
+        result = refl;
         is = λ v. let q = stand_grown p v g h in λ i. record (q i) { live = m.is v i };
       }
 
@@ -76,7 +77,8 @@ module _ (p : Program) where
       record {
         fits = record { live = w.live; broken = w.broken; again = w.again; gave = w.gave; given = w.given; failing = All-set (λ b. IsIn net b) s.failing.items at r m.inside w.failing; cells = w.cells; sites = w.sites };
         added = added_of g;
-        level = refl; result = refl;
+        level = refl;
+        result = refl;
         is = λ v.
             let q = stand_grown p v g h in
             let fs = map (holds v s.net) s.failing.items in
@@ -90,7 +92,8 @@ module _ (p : Program) where
   unmarked_turned s at here h l = record {
     fits = h;
     added = unchanged 1 s.net;
-    level = refl; result = refl;
+    level = refl;
+    result = refl;
     is = λ v. let fs = map (holds v s.net) s.failing.items in λ i. record (stand p v s) { failing = sym (past_marked fs at (holds v s.net here) (omega (arith, l, length-map (holds v s.net) s.failing.items))) i };
   }
 
@@ -102,7 +105,8 @@ module _ (p : Program) where
       record {
         fits = y.fits;
         added = added_then 3 0 one y.added (omega arith) (omega arith);
-        level = y.level ∙ x.level; result = y.result ∙ x.result;
+        level = y.level ∙ x.level;
+        result = y.result ∙ x.result;
         is = λ v.
             y.is v ∙ ap (λ z. stopped z (stand p v t)) (holds_added one v bad b) ∙ ap (stopped (holds v s.net bad)) (x.is v)
             ∙ ap₂ (λ l z. stopped (holds v s.net bad) (marking at l z)) (m.is v) (stand_grown p v g h);

@@ -33,7 +33,8 @@ input_gives p I spot ty s n bits x =
       follows = record {
         fits = x.turned.fits;
         added = x.turned.added;
-        level = x.turned.level; result = x.turned.result;
+        level = x.turned.level;
+        result = x.turned.result;
         moves = λ v. record { more = cond (stand p v s).live (d v ∷ []) []; draws = ap (λ z. z.draws) (x.turned.is v); still = λ h. same_kept (x.turned.is v ∙ undrawn (d v) (stand p v s) h) };
         does = λ v here vs rest t.
             let a = stand p v s in

@@ -119,7 +119,8 @@ module _ (p : Program) (I : List Placed) (at : Around) (duty_at : IsDutyAt p I a
       let whole : Turned p (4 + k) 0 s n f = record {
         fits = x.fits;
         added = added_then (4 + k) 0 (added_of g) x.added (omega arith) (omega arith);
-        level = x.level; result = x.result;
+        level = x.level;
+        result = x.result;
         is = λ v. x.is v ∙ ap₂ (λ a b. judged p.property at.duty a b (stand p v (record s { net = net }))) (c.overflow_is v) (c.undefined_is v) ∙ ap (f v) (stand_grown p v g h);
       } in
       record {
@@ -191,7 +192,8 @@ pub ended_turned : (p : Program) (s t n : Sym) (k : ℕ) (o u : Bit) → p.prope
 ended_turned p s t n k o u e i x y = record {
   fits = y.fits;
   added = added_then 4 0 x.added y.added (omega arith) (omega arith);
-  level = y.level ∙ x.level; result = y.result ∙ x.result;
+  level = y.level ∙ x.level;
+  result = y.result ∙ x.result;
   is = λ v.
       y.is v ∙ ap₂ stopped (holds_added x.added v u i) (x.is v)
       ∙ ap (λ q. judged q k (holds v s.net o) (holds v s.net u) (stand p v s)) (sym e);

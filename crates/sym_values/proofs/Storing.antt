@@ -29,7 +29,8 @@ store_gives {i} p I s one n k from to own value bits e r c x =
     let whole : Turned p (stored_cost p.model from to) 0 s n f = record {
       fits = x.fits;
       added = added_then (stored_cost p.model from to) 0 r.turned.added x.added (omega (arith, c, ap (λ t. 4 * width_of p.model t) e)) (omega arith);
-      level = x.level ∙ r.turned.level; result = x.result ∙ r.turned.result;
+      level = x.level ∙ r.turned.level;
+      result = x.result ∙ r.turned.result;
       is = λ v. x.is v ∙ ap₂ (λ a w. stored a.live k w a) (r.turned.is v) (ap (λ t. typed p.model t v one.net bits) (sym e) ∙ r.is v);
     } in
     record {
