@@ -1,5 +1,5 @@
 -- What circuits cost, by the weights of parts.
-use Rattle.std.proofs.Common.{◌≡◌, ℕ, ◌+◌, ◌≤◌, refl, arith}
+use Rattle.std.proofs.Common.{◌≡◌, ℕ, ◌≤◌, refl, arith}
 use Rattle.c_core.specs.Types.{width_of}
 use Rattle.c_core.specs.declared.number.DataModel.{DataModel}
 use Rattle.c_core.specs.declared.number.IntType.{IntType}

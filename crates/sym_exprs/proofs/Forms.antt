@@ -1,39 +1,37 @@
 -- Expressions, form by form: what the calls of the code promise of the parts, put together, is what is promised of the whole.
-use Rattle.std.proofs.Common.{◌≡◌, ℕ, ◌+◌, ◌≤◌, ◌<◌, ◌^◌, Bool, true, false, cond, not, ◌&&◌, ℤ, pos, List, [], length, refl, sym, ◌∙◌, ap, ap₂, subst, arith, Option, Some, None, IsTrue, is_some, slice_get}
-use Rattle.c_core.specs.Tree.{Program, Exp, Expr, Node, Const, Var, Unary, Cast, Binary, Logic, Choose, Comma}
-use Rattle.c_core.specs.Types.{width_of, fit, promote_of, is_zero, number_of, in_range}
-use Rattle.c_core.specs.Operators.{type_for, right_type_for, apply_of, apply_one_of}
+use Rattle.std.proofs.Common.{◌≡◌, ℕ, ◌+◌, ◌≤◌, ◌<◌, ◌^◌, Bool, true, false, not, ◌&&◌, ℤ, List, length, refl, sym, ◌∙◌, ap, ap₂, subst, arith, Option, Some, None, IsTrue, is_some, slice_get}
+use Rattle.c_core.specs.Tree.{Program, Exp, Expr, Node, Const, Var, Unary, Cast, Binary, Logic, Comma}
+use Rattle.c_core.specs.Types.{fit, promote_of}
+use Rattle.c_core.specs.Operators.{type_for, right_type_for, apply_one_of}
 use Rattle.c_core.specs.Parts.{type_of as type_if, every_part}
-use Rattle.c_core.specs.Typing.{same_type, is_constant, is_binary, is_unary, has_value, is_cast, is_scalar, is_type, same_types, node_fits}
+use Rattle.c_core.specs.Typing.{is_binary, is_unary, has_value, is_cast, is_scalar, is_type, same_types, node_fits}
 use Rattle.c_core.specs.declared.number.IntType.{IntType}
-use Rattle.c_core.specs.declared.number.IntType.TheVariants.{Bool as BoolType, Int}
-use Rattle.c_core.specs.declared.number.DataModel.{DataModel}
+use Rattle.c_core.specs.declared.number.IntType.TheVariants.{Int}
 use Rattle.c_core.specs.declared.number.BinOp.{BinOp}
 use Rattle.c_core.specs.declared.number.UnOp.{UnOp}
 use Rattle.c_core.specs.declared.number.UnOp.TheVariants.{Plus, Neg, BitNot, Not}
 use Rattle.c_core.specs.declared.number.Spot.{Spot}
 use Rattle.c_core.specs.declared.tree.Object.{Object}
-use Rattle.c_meaning.specs.Acts.{Res, Go, Stop, bind}
+use Rattle.c_meaning.specs.Acts.{Go, bind}
 use Rattle.c_meaning.specs.Cells.{read}
 use Rattle.c_meaning.specs.Duties.{Placed, Duties}
 use Rattle.c_meaning.specs.Eval.{operate}
-use Rattle.c_meaning.specs.Havoc.{Left, Stopped, havoc, answered}
+use Rattle.c_meaning.specs.Havoc.{havoc, answered}
 use Rattle.c_meaning.specs.Meaning.{Use, Used, Unused}
-use Rattle.c_meaning.specs.Objects.{type_of, type_or_int, type_of_object, type_in}
+use Rattle.c_meaning.specs.Objects.{type_of, type_or_int, type_of_object}
 use Rattle.c_meaning.specs.Related.{given_by_one}
 use Rattle.c_meaning.proofs.TypeFacts.{both, neither, some_type, the_type, one_result, unary_types, binary_types, scalar_type}
 use Rattle.circuits.specs.declared.net.Bit.{Bit}
-use Rattle.circuits.specs.declared.net.NetNode.{NetNode}
 use Rattle.circuits.specs.Numbers.{typed, AreTyped, Reads}
-use Rattle.circuits.specs.Outcome.{conversion_cost, binary_cost, binary_type, one_cost, one_type}
+use Rattle.circuits.specs.Outcome.{conversion_cost, binary_type, one_type}
 use Rattle.sym_state.specs.declared.state.Sym.{Sym}
 use Rattle.sym_state.specs.declared.state.Around.{Around}
 use Rattle.sym_state.specs.Places.{key}
-use Rattle.sym_state.specs.Standing.{stand, IsState, Added, Turned}
-use Rattle.sym_state.specs.Following.{Deed, Follows, Evaluates, AreOf, IsNumber, left_of}
+use Rattle.sym_state.specs.Standing.{stand}
+use Rattle.sym_state.specs.Following.{AreOf}
 use Rattle.sym_state.proofs.Nets.{unchanged, longer_by, typed_added, are_typed_added}
 use Rattle.sym_state.proofs.Composed.{follows_then, follows_as, net_follows, turned_follows}
-use Rattle.sym_values.specs.Valuing.{where_of, operated_cost, operated_one_cost, Reckoned, IsDutyAt, Gives, operated, operated_one}
+use Rattle.sym_values.specs.Valuing.{where_of, operated_cost, operated_one_cost, Reckoned, Gives, operated, operated_one}
 use Rattle.sym_exprs.specs.Evaluating.{weight_of, bits_of, is_good, is_good_here, is_built, evaluated, Ready, Values}
 use Rattle.sym_exprs.proofs.Costs.{conversion_costs, operator_costs, unary_costs}
 

@@ -1,5 +1,5 @@
 -- A part that is done in the runs in which a bit is true: they part from the others, and come together with them again.
-use Rattle.std.proofs.Common.{◌≡◌, ℕ, ◌+◌, Bool, true, false, cond, not, ◌&&◌, ◌||◌, ℤ, List, [], ◌++◌, length, refl, sym, ◌∙◌, ap, ap₂, subst, arith, append-nil, true≢false}
+use Rattle.std.proofs.Common.{◌≡◌, ℕ, ◌+◌, Bool, true, false, cond, not, ◌&&◌, ◌||◌, ℤ, List, ◌++◌, length, refl, sym, ◌∙◌, ap, ap₂, subst, arith, true≢false}
 use Rattle.std.proofs.lemmas.List.{length-map}
 use Rattle.c_core.specs.Tree.{Program}
 use Rattle.c_core.specs.declared.number.DataModel.{DataModel}
@@ -14,7 +14,7 @@ use Rattle.sym_state.specs.declared.state.Sym.{Sym}
 use Rattle.sym_state.specs.Standing.{Stand, stand, cell_at, IsState, IsHere, Moves, Turned, with_live}
 use Rattle.sym_state.specs.Following.{left_of, Taken, Deed, Came, Follows}
 use Rattle.sym_state.proofs.Nets.{added_of, added_then, holds_added, stand_grown}
-use Rattle.sym_state.proofs.Composed.{kept_same, same_kept, none_taken, none_drawn, came_as}
+use Rattle.sym_state.proofs.Composed.{kept_same, same_kept, none_taken, came_as}
 
 and_no : (b : Bool) → (b && false) ≡ false
 and_no true = refl

@@ -1,3 +1,5 @@
 pub mod Guarded
 pub mod Costs
 pub mod Forms
+pub mod Choosing
+pub mod Assigning

@@ -2,12 +2,12 @@
 --
 -- For each form one function; its contract is that of the whole: what `eval p (havoc p I)` does to each run that is here, its value as bits
 -- in the expression's type, no more and-nodes than the expression weighs, no more inputs than it draws.
-use Rattle.std.specs.Prelude.{◌≡◌, ℕ, ◌+◌, ◌<◌, ◌^◌, Bool, true, false, ◌&&◌, not, length, ℤ, List, Option, Some, None, IsTrue, cond, pos}
-use Rattle.c_core.specs.Tree.{Program, Exp, Expr, Node, Const, Var, Index, Unary, Cast, Step, Binary, Logic, Choose, Comma, Assign, Call}
+use Rattle.std.specs.Prelude.{◌≡◌, ℕ, ◌+◌, ◌<◌, ◌^◌, Bool, true, false, ◌&&◌, length, ℤ, List, IsTrue, cond, pos}
+use Rattle.c_core.specs.Tree.{Program, Exp, Expr, Node, Var, Index, Step, Choose, Assign, Call}
 use Rattle.c_core.specs.Parts.{type_of, every_exp}
-use Rattle.c_core.specs.Typing.{exp_fits}
+use Rattle.c_core.specs.Typing.{exp_fits, has_value}
 use Rattle.c_core.specs.declared.tree.Callee.{Callee}
-use Rattle.c_core.specs.declared.tree.Callee.TheVariants.{Defined, Input, ReachError, Abort, Exit}
+use Rattle.c_core.specs.declared.tree.Callee.TheVariants.{Defined, Exit}
 use Rattle.c_meaning.specs.Meaning.{Use, Used, Unused}
 use Rattle.c_meaning.specs.Duties.{Placed, Duties}
 use Rattle.c_meaning.specs.Acts.{Go}
@@ -28,15 +28,28 @@ abbrev pub use_of : Bool → Use
 use_of true = Used
 use_of false = Unused
 
--- the forms that are evaluated so far
+-- a scalar object
+abbrev pub is_scalar_node : Node → Bool
+is_scalar_node (Var o) = true
+is_scalar_node _ = false
+
+abbrev pub is_scalar : Exp → Bool
+is_scalar (Expr spot ty n) = is_scalar_node n
+
+-- calls that have no body, and take no argument
+abbrev pub is_plain_call : Callee → Bool
+is_plain_call (Defined f) = false
+is_plain_call Exit = false
+is_plain_call _ = true
+
+-- the forms that are evaluated so far: no elements of arrays, no void `?:`, no calls of defined functions and of `exit`
 abbrev pub is_built : Node → Bool
-is_built (Const v) = true
-is_built (Var o) = true
-is_built (Unary op a) = true
-is_built (Cast a) = true
-is_built (Binary op a b) = true
-is_built (Comma a b) = true
-is_built _ = false
+is_built (Index o i) = false
+is_built (Step op a) = is_scalar a
+is_built (Choose mark e a b) = has_value a && has_value b
+is_built (Assign op a b) = is_scalar a
+is_built (Call callee es close) = is_plain_call callee
+is_built _ = true
 
 -- calls at most n deep
 module _ (p : Program) (I : List Placed) (n : ℕ) where

@@ -3,5 +3,6 @@
 #![tactic(auto)]
 
 mod expressions;
+mod targets;
 
 pub use expressions::eval;

@@ -15,7 +15,7 @@ use Rattle.circuits.specs.Numbers.{number, read, typed, AreTyped, Counts}
 use Rattle.circuits.proofs.Nets.{grown_not, own, opp, and_of, means_by}
 use Rattle.sym_state.specs.declared.state.Sym.{Sym}
 use Rattle.sym_state.specs.declared.state.SymCell.{SymCell}
-use Rattle.sym_state.specs.Standing.{Stand, stand, cell_at, IsCell, IsState}
+use Rattle.sym_state.specs.Standing.{Stand, stand, cell_at, IsCell, IsState, Added}
 use Rattle.sym_state.proofs.Nets.{added_of, added_then, holds_added, typed_added, in_added, state_grown, stand_grown}
 use Rattle.sym_flow.specs.Ways.{Became, cut_to, fresh_again, fresh_broken, behind_body, behind_loop, leaving, going_again, going_back, giving}
 
@@ -175,3 +175,10 @@ module _ (p : Program) where
   loop_became s net here kept n cells h ik g m e =
       became s net here kept s.again s.gave s.given cells (λ v. behind_loop (holds v s.net kept) n) h g
       (record { live_is = m; broken_is = still s net h g kept ik; again_is = still s net h g s.again h.again; gave_is = still s net h g s.gave h.gave; given_in = (state_grown p g h).given; given_is = still_given s net h g; cells_in = front_in s net h g n cells e; cells_are = front_are s net h g n cells e; failing = λ v. refl; draws = λ v. refl })
+
+  -- the bit that was kept keeps its value while the part inside is done
+  pub kept_body : {i j k : ℕ} {a c d : Sym} (kept : Bit) (n : ℕ) → IsState p a → kept ≡ a.again → Added i j a.net c.net → Became p k c d (λ v. behind_body (holds v c.net kept) n) → Became p k c d (λ v. behind_body (stand p v a).again n)
+  kept_body {a = a} {c = c} kept n h e g x = became_as (λ v. behind_body (stand p v a).again n) x (λ v. ap (λ b. behind_body b n (stand p v c)) (ap (holds v c.net) e ∙ holds_added g v a.again h.again))
+
+  pub kept_loop : {i j k : ℕ} {a c d : Sym} (kept : Bit) (n : ℕ) → IsState p a → kept ≡ a.broken → Added i j a.net c.net → Became p k c d (λ v. behind_loop (holds v c.net kept) n) → Became p k c d (λ v. behind_loop (stand p v a).broken n)
+  kept_loop {a = a} {c = c} kept n h e g x = became_as (λ v. behind_loop (stand p v a).broken n) x (λ v. ap (λ b. behind_loop b n (stand p v c)) (ap (holds v c.net) e ∙ holds_added g v a.broken h.broken))

@@ -12,7 +12,7 @@ use Rattle.sym_state.specs.Standing.{Stand, stand, IsState, Kept, IsHere}
 use Rattle.sym_state.specs.Following.{left_of, Deed}
 use Rattle.sym_flow.specs.Leaving.{IsAway, Went, Runs}
 use Rattle.sym_flow.specs.Ways.{Became, cut_to, fresh_again, fresh_broken, behind_body, behind_loop}
-use Rattle.sym_flow.proofs.Bools.{or_no, count_cells, became_count, here_as, over_as}
+use Rattle.sym_flow.proofs.Bools.{or_no, count_cells, here_as, over_as, same_level, front_level}
 use Rattle.sym_flow.proofs.Statements.{given_then}
 use Rattle.sym_flow.proofs.Around.{Frames, same_became, around_runs}
 
@@ -73,11 +73,14 @@ module _ (p : Program) (ds : List Duty) (result : Option IntType) where
   scope_frames : (n : ℕ) → Frames (λ v s. s) (λ v. cut_to n)
   scope_frames n = record { live = λ v s. refl; cells = λ v s. refl; draws = λ v s. refl; draws_after = λ v s. refl }
 
-  -- the cells of around stand in front
-  pub cut_count : {i : ℕ} (a b c : Sym) → Became p i b c (λ v. cut_to (length a.cells.items)) → length a.cells.items ≤ length b.cells.items → length c.cells.items ≡ length a.cells.items
-  cut_count a b c x h =
-      let v : ℕ → Bool = λ k. false in
-      became_count {a = b} {b = c} p (λ v. cut_to (length a.cells.items)) x v ∙ length-take-le (length a.cells.items) (stand p v b).cells (omega (arith, h, count_cells p v b))
+  -- behind a part with fresh bits as many cells stand as before it
+  pub behind_level : {i j k l : ℕ} {a b c d : Sym} {m : Deed Flow} (before after : (ℕ → Bool) → Stand → Stand) → Became p k a b before → ((v : ℕ → Bool) (s : Stand) → (before v s).cells ≡ s.cells) → Runs ds p result i j b c m → Became p l c d after
+      → ((v : ℕ → Bool) (s : Stand) → (after v s).cells ≡ take (length a.cells.items) s.cells) → length d.cells.items ≡ length a.cells.items
+  behind_level {a = a} {b = b} {c = c} {d = d} before after x e y z f = front_level {b = c} {c = d} p (length a.cells.items) after z f (omega (arith, y.grows, same_level {a = a} {b = b} p before x e))
+
+  -- the same of a scope
+  pub scope_level : {i j k : ℕ} {a b c : Sym} {m : Deed Flow} → Runs ds p result i j a b m → Became p k b c (λ v. cut_to (length a.cells.items)) → length c.cells.items ≡ length a.cells.items
+  scope_level {a = a} {b = b} {c = c} x y = front_level {b = b} {c = c} p (length a.cells.items) (λ v. cut_to (length a.cells.items)) y (λ v s. refl) x.grows
 
   pub scoped_runs : {i j : ℕ} {a b c : Sym} {m : Deed Flow} → IsState p a → Runs ds p result i j a b m → Became p 0 b c (λ v. cut_to (length a.cells.items))
       → Runs ds p result i j a c (λ v. scoped Stopped Left cells_left with_cells_left (m v))
@@ -85,7 +88,7 @@ module _ (p : Program) (ds : List Duty) (result : Option IntType) where
       let n = length a.cells.items in
       around_runs p ds result i (λ v s. s) (λ v. cut_to n) (λ v s r. cut Stopped Left cells_left with_cells_left (length s.cells) r) (scope_frames n) (same_became p a h) x y
       (λ v d k. record { live = k.live; broken = k.broken; again = k.again; gave = k.gave; given = k.given; failing = k.failing; draws = k.draws; junk = []; cells = kept_cells n k (count_cells p v a) })
-      (λ v q. refl) (omega (arith, cut_count a b c y x.grows))
+      (λ v q. refl) (omega (arith, scope_level {a = a} {b = b} {c = c} x y))
       (λ v q vs rest r w.
       subst (λ z. Went ds result n (cut_to n (stand p v b)) rest (cut Stopped Left cells_left with_cells_left z r)) (sym (count_cells p v a)) (scope_went n (stand p v b) rest r w))
       (omega arith)
@@ -100,10 +103,10 @@ module _ (p : Program) (ds : List Duty) (result : Option IntType) where
   body_went n a b rest (Go (Gave v) s) q w = (cut_away w.0 (ap₂ (λ x y. x || y) w.0.live w.0.again) w.0.broken q.again w.0.gave refl refl refl, given_then result b (behind_body a.again n b) v w.1 refl)
   body_went n a b rest (Stop e s) q w = (over_as w.0 (ap₂ (λ x y. x || y) w.0.live w.0.again) w.0.broken q.again w.0.gave refl, w.1, w.2)
 
-  pub continued_runs : {i j : ℕ} {a b c d : Sym} {m : Deed Flow} → Became p 0 a b (λ v. fresh_again) → Runs ds p result i j b c m → Became p 1 c d (λ v. behind_body (stand p v a).again (length a.cells.items))
-      → length d.cells.items ≡ length a.cells.items → Runs ds p result (i + 1) j a d (λ v. continued Stopped Left cells_left with_cells_left (m v))
-  continued_runs {i = i} {a = a} {c = c} x y z l =
+  pub continued_runs : {i j : ℕ} {a b c d : Sym} {m : Deed Flow} → Became p 0 a b (λ v. fresh_again) → Runs ds p result i j b c m → Became p 1 c d (λ v. behind_body (stand p v a).again (length a.cells.items)) → Runs ds p result (i + 1) j a d (λ v. continued Stopped Left cells_left with_cells_left (m v))
+  continued_runs {i = i} {a = a} {b = b} {c = c} {d = d} x y z =
       let n = length a.cells.items in
+      let l = behind_level {a = a} {b = b} {c = c} {d = d} (λ v. fresh_again) (λ v. behind_body (stand p v a).again n) x (λ v s. refl) y z (λ v s. refl) in
       around_runs p ds result (i + 1) (λ v. fresh_again) (λ v. behind_body (stand p v a).again n) (λ v s r. bind (cut Stopped Left cells_left with_cells_left (length s.cells) r) (λ f t. Go (continuing f) t))
       (record { live = λ v s. refl; cells = λ v s. refl; draws = λ v s. refl; draws_after = λ v s. refl }) x y z
       (λ v d k. record { live = ap₂ (λ x y. x || y) k.live k.again ∙ or_no (stand p v a).live; broken = k.broken; again = refl; gave = k.gave; given = k.given; failing = k.failing; draws = k.draws; junk = []; cells = kept_cells n k (count_cells p v a) })
@@ -124,10 +127,10 @@ module _ (p : Program) (ds : List Duty) (result : Option IntType) where
   loop_went n a b rest (Stop e s) q w = (over_as w.0 (ap₂ (λ x y. x || y) w.0.live w.0.broken) q.broken w.0.again w.0.gave refl, w.1, w.2)
 
   -- behind a part out of which runs break
-  pub broken_runs : {i j : ℕ} {a b c d : Sym} {m : Deed Flow} → Became p 0 a b (λ v. fresh_broken) → Runs ds p result i j b c m → Became p 1 c d (λ v. behind_loop (stand p v a).broken (length a.cells.items))
-      → length d.cells.items ≡ length a.cells.items → Runs ds p result (i + 1) j a d (λ v. scoped Stopped Left cells_left with_cells_left (λ s. bind (m v s) (λ f t. Go (out_of_loop f) t)))
-  broken_runs {i = i} {a = a} {c = c} x y z l =
+  pub broken_runs : {i j : ℕ} {a b c d : Sym} {m : Deed Flow} → Became p 0 a b (λ v. fresh_broken) → Runs ds p result i j b c m → Became p 1 c d (λ v. behind_loop (stand p v a).broken (length a.cells.items)) → Runs ds p result (i + 1) j a d (λ v. scoped Stopped Left cells_left with_cells_left (λ s. bind (m v s) (λ f t. Go (out_of_loop f) t)))
+  broken_runs {i = i} {a = a} {b = b} {c = c} {d = d} x y z =
       let n = length a.cells.items in
+      let l = behind_level {a = a} {b = b} {c = c} {d = d} (λ v. fresh_broken) (λ v. behind_loop (stand p v a).broken n) x (λ v s. refl) y z (λ v s. refl) in
       around_runs p ds result (i + 1) (λ v. fresh_broken) (λ v. behind_loop (stand p v a).broken n) (λ v s r. cut Stopped Left cells_left with_cells_left (length s.cells) (bind r (λ f t. Go (out_of_loop f) t)))
       (record { live = λ v s. refl; cells = λ v s. refl; draws = λ v s. refl; draws_after = λ v s. refl }) x y z
       (λ v d k. record { live = ap₂ (λ x y. x || y) k.live k.broken ∙ or_no (stand p v a).live; broken = refl; again = k.again; gave = k.gave; given = k.given; failing = k.failing; draws = k.draws; junk = []; cells = kept_cells n k (count_cells p v a) })

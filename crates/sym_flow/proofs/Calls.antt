@@ -1,5 +1,6 @@
 -- A call of a function: its body in a scope of its own, and the value that it gave.
 use Rattle.std.proofs.Common.{◌≡◌, ℕ, ◌+◌, ◌≤◌, Bool, true, false, cond, ◌||◌, ℤ, pos, List, [], ◌++◌, length, take, refl, sym, ◌∙◌, ap, ap₂, subst, arith, true≢false, Option, Some, None}
+use Rattle.std.proofs.lemmas.List.{length-take-le}
 use Rattle.c_core.specs.Tree.{Program}
 use Rattle.c_core.specs.declared.number.IntType.{IntType}
 use Rattle.c_meaning.specs.declared.run.Duty.{Duty}
@@ -112,11 +113,19 @@ module _ (p : Program) (I : List Placed) (ds : List Duty) (gives : Option IntTyp
     cells = kept_cells n k e;
   }
 
+  -- as many cells stand behind the call as before it
+  pub returned_level : {i j k : ℕ} {a b c d : Sym} {body : Deed Flow} (ty : IntType) → Enters p ty a b → Runs ds p gives i j b c body → Returns p k needed a c d → length d.cells.items ≡ length a.cells.items
+  returned_level {a = a} {b = b} {c = c} {d = d} ty x y z =
+      let v : ℕ → Bool = λ k. false in
+      let count : length b.cells.items ≡ length a.cells.items = sym (count_cells p v b) ∙ ap (λ s. length s.cells) (x.is v) ∙ count_cells p v a in
+      sym (count_cells p v d) ∙ ap (λ s. length s.cells) (z.is v) ∙ length-take-le (length a.cells.items) (stand p v c).cells (omega (arith, count, y.grows, count_cells p v c))
+
   pub called_follows : {i j k : ℕ} {a b c d : Sym} {body : Deed Flow} (m : ℕ) (ty : IntType) (site : Site) (value : (ℕ → Bool) → ℤ) → site.needed ≡ needed → Enters p ty a b → Runs ds p gives i j b c body
-      → Returns p k needed a c d → ((v : ℕ → Bool) → value v ≡ (stand p v c).given) → length d.cells.items ≡ length a.cells.items → i + k ≤ m
+      → Returns p k needed a c d → ((v : ℕ → Bool) → value v ≡ (stand p v c).given) → i + k ≤ m
       → Follows ds p m j a d (λ v. is_value needed (value v)) (λ v s. bind (scoped Stopped Left cells_left with_cells_left (body v) s) (λ flow. returned p I site (given flow)))
-  called_follows {i} {j} {k} {a} {b} {c} {d} {body} m ty site value e x y z value_is level le =
+  called_follows {i} {j} {k} {a} {b} {c} {d} {body} m ty site value e x y z value_is le =
       let n = length a.cells.items in
+      let level = returned_level ty x y z in
       record {
         fits = z.fits;
         added = added_then m j (added_then i j x.added y.added (omega arith) (omega arith)) z.added le (omega arith);

@@ -8,7 +8,7 @@ use Rattle.sym_state.specs.declared.state.Sym.{Sym}
 use Rattle.sym_state.specs.Standing.{Stand, stand, Kept}
 use Rattle.sym_flow.specs.Leaving.{IsGiven, Runs}
 use Rattle.sym_flow.specs.Ways.{Became, leaving, going_again, going_back, giving}
-use Rattle.sym_flow.proofs.Bools.{or_no, count_cells, became_count}
+use Rattle.sym_flow.proofs.Bools.{or_no, count_cells, same_level}
 use Rattle.sym_flow.proofs.Statements.{became_runs}
 
 no_cells : (s : Stand) → s.cells ≡ s.cells ++ []
@@ -38,7 +38,7 @@ few : (p : Program) (a : Sym) (v : ℕ → Bool) → length a.cells.items ≤ le
 few p a v = omega (arith, count_cells p v a)
 
 level : {i : ℕ} {a b : Sym} (p : Program) (f : (ℕ → Bool) → Stand → Stand) → Became p i a b f → ((v : ℕ → Bool) (s : Stand) → (f v s).cells ≡ s.cells) → length a.cells.items ≤ length b.cells.items
-level {a = a} {b = b} p f x e = omega (arith, became_count {a = a} {b = b} p f x (λ k. false), ap length (e (λ k. false) (stand p (λ k. false) a)), count_cells p (λ k. false) a)
+level {a = a} {b = b} p f x e = omega (arith, same_level {a = a} {b = b} p f x e)
 
 module _ (p : Program) (ds : List Duty) (result : Option IntType) where
   pub leave_runs : {i : ℕ} {a b : Sym} → Became p i a b (λ v. leaving) → Runs ds p result i 0 a b (λ v s. Go Broken s)

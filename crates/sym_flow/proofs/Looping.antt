@@ -68,14 +68,14 @@ module _ (p : Program) (ds : List Duty) (result : Option IntType) where
         → Runs ds p result i4 j4 e f (λ v. turn)
         → Follows ds p i5 j5 f g (λ v u. Unit {0}) (λ v. test_from p I 0 I true spot KeptKind)
         → Follows ds p 1 0 g h S (λ v s. Stop Passes s)
-        → Became p 1 h z (λ v. behind_loop (stand p v a).broken (length a.cells.items)) → length z.cells.items ≡ length a.cells.items
+        → Became p 1 h z (λ v. behind_loop (stand p v a).broken (length a.cells.items))
         → i1 + (i2 + (i3 + (i4 + (i5 + 1)))) + 1 ≤ n → j1 + (j2 + (j3 + (j4 + j5))) ≤ m → Runs ds p result n m a z (λ v. scoped Stopped Left cells_left with_cells_left (loop p I spot l turn))
-    loop_runs {i1 = i1} {i2 = i2} {i3 = i3} {i4 = i4} {i5 = i5} {j1 = j1} {j2 = j2} {j3 = j3} {j4 = j4} {j5 = j5} {a = a} n m spot l turn x t1 t2 t3 t4 t5 t6 y level gn gm =
+    loop_runs {i1 = i1} {i2 = i2} {i3 = i3} {i4 = i4} {i5 = i5} {j1 = j1} {j2 = j2} {j3 = j3} {j4 = j4} {j5 = j5} {a = a} n m spot l turn x t1 t2 t3 t4 t5 t6 y gn gm =
         let last : Runs ds p result (i5 + 1) j5 _ _ (λ v. back_at_head p I spot) = follows_runs p ds result (i5 + 1) j5 (λ v u. stop p I Passes) t5 (stops_runs Passes t6) (λ v u q s. refl) (omega arith) (omega arith) in
         let rest : Runs ds p result (i4 + (i5 + 1)) (j4 + j5) _ _ (λ v s. bind (turn s) (go_on (back_at_head p I spot))) = runs_then p ds result (i4 + (i5 + 1)) (j4 + j5) t4 last (omega arith) (omega arith) in
         let held = follows_runs p ds result (i3 + (i4 + (i5 + 1))) (j3 + (j4 + j5)) (λ v u s. bind (turn s) (go_on (back_at_head p I spot))) t3 rest (λ v u q s. refl) (omega arith) (omega arith) in
         let drawn = follows_runs p ds result (i2 + (i3 + (i4 + (i5 + 1)))) (j2 + (j3 + (j4 + j5))) (λ v u s. bind (assume_all p I I spot s) (λ u s. bind (turn s) (go_on (back_at_head p I spot)))) t2 held (λ v u q s. refl) (omega arith) (omega arith) in
         let whole : Runs ds p result (i1 + (i2 + (i3 + (i4 + (i5 + 1))))) (j1 + (j2 + (j3 + (j4 + j5)))) _ _ (λ v. headed p I spot l turn) =
         follows_runs p ds result (i1 + (i2 + (i3 + (i4 + (i5 + 1))))) (j1 + (j2 + (j3 + (j4 + j5)))) (λ v u s. bind (redraw p I spot (changed_by p l) s) (λ u s. bind (assume_all p I I spot s) (λ u s. bind (turn s) (go_on (back_at_head p I spot))))) t1 drawn (λ v u q s. refl) (omega arith) (omega arith) in
-        runs_as p ds result (broken_runs p ds result x whole y level)
+        runs_as p ds result (broken_runs p ds result x whole y)
         (λ v s. ap (cut Stopped Left cells_left with_cells_left (length s.cells)) (headed_loop p I spot l turn s)) gn gm

@@ -1,5 +1,5 @@
 -- A net with more nodes: bits keep their values, and so does a state over them.
-use Rattle.std.proofs.Common.{◌≡◌, ℕ, ◌+◌, ◌*◌, ◌≤◌, ◌<◌, Bool, List, [], ◌∷◌, ◌++◌, length, map, cond, refl, sym, ◌∙◌, ap, ap₂, subst, arith, length-append, append_assoc, append-nil}
+use Rattle.std.proofs.Common.{◌≡◌, ℕ, ◌+◌, ◌*◌, ◌≤◌, Bool, List, [], ◌∷◌, ◌++◌, length, map, refl, sym, ◌∙◌, ap, ap₂, subst, arith, length-append, append_assoc, append-nil}
 use Rattle.std.specs.List.{All}
 use Rattle.std.specs.declared.vec.Vec.{Vec}
 use Rattle.std.specs.declared.alloc.Global.{Global}
@@ -13,7 +13,7 @@ use Rattle.circuits.specs.declared.net.Bit.{Bit}
 use Rattle.circuits.specs.declared.net.NetNode.{NetNode}
 use Rattle.circuits.specs.declared.net.NetNode.TheVariants.{Constant, Input, And}
 use Rattle.circuits.specs.Net.{holds, IsIn, Grown, count_ands, count_inputs}
-use Rattle.circuits.specs.Numbers.{number, digit, read, typed, drawn, AreIn, AreTyped, Counts}
+use Rattle.circuits.specs.Numbers.{number, digit, read, typed, AreIn, AreTyped, Counts}
 use Rattle.circuits.proofs.Nets.{holds-append, count_ands-append, inputs-append}
 use Rattle.sym_state.specs.declared.state.Sym.{Sym}
 use Rattle.sym_state.specs.declared.state.SymCell.{SymCell}

@@ -1,6 +1,5 @@
 -- A cell is read, and is written where a run is here.
-use Rattle.std.proofs.Common.{◌≡◌, ℕ, zero, suc, ◌+◌, ◌*◌, ◌<◌, Bool, true, false, cond, ◌&&◌, nat_eq, eqb-true, ℤ, pos, List, [], ◌∷◌, length, map, get_or, set, refl, sym, ◌∙◌, ap, subst, arith, true≢false, length-set}
-use Rattle.std.specs.List.{All}
+use Rattle.std.proofs.Common.{◌≡◌, ℕ, zero, suc, ◌*◌, ◌<◌, Bool, true, false, cond, ◌&&◌, nat_eq, eqb-true, ℤ, pos, List, [], ◌∷◌, length, map, get_or, set, refl, sym, ◌∙◌, ap, subst, arith, true≢false, length-set}
 use Rattle.std.specs.Vec.{with_item}
 use Rattle.std.proofs.lemmas.List.{map-set}
 use Rattle.std.proofs.lemmas.List.Elements.{All-set, All-get_or}
@@ -13,8 +12,8 @@ use Rattle.c_meaning.specs.Objects.{type_of_object}
 use Rattle.circuits.specs.declared.net.Bit.{Bit}
 use Rattle.circuits.specs.declared.net.NetNode.{NetNode}
 use Rattle.circuits.specs.declared.bits.Bits.{Bits}
-use Rattle.circuits.specs.Net.{holds, Grown, IsIn}
-use Rattle.circuits.specs.Numbers.{number, read as read_number, typed, AreIn, AreTyped, Counts, Reads}
+use Rattle.circuits.specs.Net.{holds, Grown}
+use Rattle.circuits.specs.Numbers.{number, read as read_number, typed, AreTyped, Counts, Reads}
 use Rattle.sym_state.specs.declared.state.Sym.{Sym}
 use Rattle.sym_state.specs.declared.state.SymCell.{SymCell}
 use Rattle.sym_state.specs.Standing.{stand, cell_at, key_of, IsCell, IsState, Turned, stored}

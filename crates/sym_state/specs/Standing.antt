@@ -15,7 +15,6 @@ use Rattle.c_meaning.specs.Cells.{Key, Cell, put}
 use Rattle.c_meaning.specs.Objects.{type_of_object}
 use Rattle.c_meaning.specs.Havoc.{Stopped, Passes, Dismisses, Fails}
 use Rattle.c_meaning.specs.Duties.{number_among}
-use Rattle.circuits.specs.declared.net.Bit.{Bit}
 use Rattle.circuits.specs.declared.net.NetNode.{NetNode}
 use Rattle.circuits.specs.Net.{holds, IsIn, count_ands, count_inputs}
 use Rattle.circuits.specs.Numbers.{typed, drawn, AreIn, AreTyped, Counts}

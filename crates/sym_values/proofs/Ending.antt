@@ -1,5 +1,5 @@
 -- Draws, and the ends of runs.
-use Rattle.std.proofs.Common.{◌≡◌, ℕ, zero, suc, ◌+◌, Bool, true, false, cond, not, ◌&&◌, ◌||◌, ℤ, List, [], ◌∷◌, ◌++◌, length, refl, sym, ◌∙◌, ap, ap₂, subst, arith, append-nil, Some}
+use Rattle.std.proofs.Common.{◌≡◌, ℕ, Bool, true, false, cond, not, ◌&&◌, List, [], ◌∷◌, ◌++◌, length, refl, sym, ◌∙◌, ap, ap₂, subst, arith, append-nil, Some}
 use Rattle.c_core.specs.Tree.{Program}
 use Rattle.c_core.specs.Types.{width_of}
 use Rattle.c_core.specs.declared.number.IntType.{IntType}
@@ -7,14 +7,13 @@ use Rattle.c_core.specs.declared.number.Spot.{Spot}
 use Rattle.c_core.specs.declared.number.Property.TheVariants.{UnreachCall, NoOverflow}
 use Rattle.c_meaning.specs.declared.run.Draw.{Draw}
 use Rattle.c_meaning.specs.declared.run.DrawKind.TheVariants.{Input}
-use Rattle.c_meaning.specs.Acts.{Stop}
-use Rattle.c_meaning.specs.Havoc.{Passes, draw, reached}
+use Rattle.c_meaning.specs.Havoc.{draw, reached}
 use Rattle.c_meaning.specs.Duties.{Placed, Duties}
 use Rattle.circuits.specs.declared.net.Bit.{Bit}
 use Rattle.circuits.specs.Net.{holds, Means}
 use Rattle.sym_state.specs.declared.state.Sym.{Sym}
 use Rattle.sym_state.specs.declared.state.Around.{Around}
-use Rattle.sym_state.specs.Standing.{Stand, stand, Moves, IsHere, Turned, marks, marked, stopped, failed, drawing}
+use Rattle.sym_state.specs.Standing.{Stand, stand, Turned, marks, marked, stopped, failed, drawing}
 use Rattle.sym_state.specs.Following.{left_of, Taken, Came}
 use Rattle.sym_state.specs.Drawn.{draw_of, IsDrawn}
 use Rattle.sym_state.proofs.Composed.{turned_follows, same_kept}

@@ -1,5 +1,5 @@
 -- Where a run ends at an operator.
-use Rattle.std.proofs.Common.{◌≡◌, ℕ, zero, suc, ◌+◌, ◌≤◌, Bool, true, false, not, ◌&&◌, ◌||◌, ℤ, List, [], ◌∷◌, length, refl, sym, ◌∙◌, ap, ap₂, subst, arith, Option, Some, None}
+use Rattle.std.proofs.Common.{◌≡◌, ℕ, zero, suc, ◌+◌, Bool, true, false, not, ◌&&◌, ◌||◌, ℤ, List, [], ◌∷◌, length, refl, sym, ◌∙◌, ap, ap₂, subst, arith, Some}
 use Rattle.c_core.specs.Tree.{Program}
 use Rattle.c_core.specs.Types.{fit, promote_of}
 use Rattle.c_core.specs.Operators.{apply_of, apply_one_of, type_for, right_type_for}
@@ -12,7 +12,7 @@ use Rattle.c_core.specs.declared.number.Property.TheVariants.{UnreachCall, NoOve
 use Rattle.c_core.specs.declared.number.DataModel.{DataModel}
 use Rattle.c_core.specs.declared.number.Done.{Done}
 use Rattle.c_core.specs.declared.number.Done.TheVariants.{Value, Overflow, Undefined}
-use Rattle.c_meaning.specs.Havoc.{Stopped, Left, answered, overflowed}
+use Rattle.c_meaning.specs.Havoc.{answered, overflowed}
 use Rattle.c_meaning.specs.Duties.{Placed, Duties}
 use Rattle.circuits.specs.declared.net.Bit.{Bit}
 use Rattle.circuits.specs.declared.net.NetNode.{NetNode}
@@ -23,10 +23,9 @@ use Rattle.circuits.specs.Outcome as C
 use Rattle.circuits.proofs.Nets.{grown_then}
 use Rattle.sym_state.specs.declared.state.Sym.{Sym}
 use Rattle.sym_state.specs.declared.state.Around.{Around}
-use Rattle.sym_state.specs.Standing.{Stand, stand, IsState, IsHere, IsOver, Turned, marks, marked, stopped, failed}
-use Rattle.sym_state.specs.Following.{left_of, Deed, Came, Evaluates}
+use Rattle.sym_state.specs.Standing.{Stand, stand, IsState, IsHere, Turned, marks, marked, stopped, failed}
+use Rattle.sym_state.specs.Following.{left_of, Came}
 use Rattle.sym_state.proofs.Nets.{added_of, added_then, holds_added, typed_added, are_typed_added, state_grown, stand_grown}
-use Rattle.sym_state.proofs.Turning.{turned_as, turned_then}
 use Rattle.sym_state.proofs.Composed.{turned_follows}
 use Rattle.sym_values.specs.Valuing.{where_of, judged, IsDutyAt, Gives, operated, operated_one, operated_cost, operated_one_cost}
 

@@ -1,16 +1,16 @@
 -- Values of bits: nothing changes but the net.
-use Rattle.std.proofs.Common.{◌≡◌, ℕ, ◌+◌, ◌*◌, Bool, true, false, cond, not, ℤ, pos, List, [], ◌∷◌, length, get_or, refl, sym, ◌∙◌, ap, ap₂, subst, arith}
+use Rattle.std.proofs.Common.{◌≡◌, ℕ, ◌+◌, ◌*◌, Bool, true, false, cond, ℤ, pos, List, [], ◌∷◌, length, get_or, refl, ◌∙◌, ap, subst, arith}
 use Rattle.std.proofs.lemmas.List.Elements.{All-get_or}
 use Rattle.c_core.specs.Tree.{Program}
-use Rattle.c_core.specs.Types.{width_of, is_signed, fit, is_zero, number_of}
+use Rattle.c_core.specs.Types.{width_of, is_signed, fit, number_of}
 use Rattle.c_core.specs.declared.number.IntType.{IntType}
 use Rattle.c_core.specs.declared.number.IntType.TheVariants.{Bool as BoolType, Int}
 use Rattle.c_core.specs.declared.number.DataModel.{DataModel}
 use Rattle.c_core.proofs.Fits.{fit_kept}
 use Rattle.circuits.specs.declared.net.Bit.{Bit}
 use Rattle.circuits.specs.declared.net.NetNode.{NetNode}
-use Rattle.circuits.specs.Net.{holds, Grown, Means, IsIn}
-use Rattle.circuits.specs.Numbers.{number, digit, read, typed, AreIn, AreTyped, Counts, Reads}
+use Rattle.circuits.specs.Net.{holds, Grown, IsIn}
+use Rattle.circuits.specs.Numbers.{number, digit, read, typed, AreTyped, Counts, Reads}
 use Rattle.sym_state.specs.declared.state.Sym.{Sym}
 use Rattle.sym_state.specs.Standing.{IsState, Turned}
 use Rattle.sym_state.proofs.Nets.{added_of, state_grown, stand_grown}

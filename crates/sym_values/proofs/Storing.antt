@@ -1,18 +1,16 @@
 -- A value is stored where a run is here.
-use Rattle.std.proofs.Common.{◌≡◌, ℕ, ◌+◌, ◌*◌, Bool, true, false, cond, ℤ, List, [], length, refl, sym, ◌∙◌, ap, ap₂, subst, arith, Some}
+use Rattle.std.proofs.Common.{◌≡◌, ℕ, ◌*◌, Bool, false, cond, ℤ, List, refl, sym, ◌∙◌, ap, ap₂, arith, Some}
 use Rattle.c_core.specs.Tree.{Program}
 use Rattle.c_core.specs.Types.{width_of, fit}
 use Rattle.c_core.specs.declared.number.IntType.{IntType}
 use Rattle.c_meaning.specs.Cells.{Key, put}
-use Rattle.c_meaning.specs.Objects.{type_of_object}
 use Rattle.c_meaning.specs.Duties.{Placed, Duties}
 use Rattle.circuits.specs.declared.net.Bit.{Bit}
 use Rattle.circuits.specs.Net.{holds}
 use Rattle.circuits.specs.Numbers.{typed}
 use Rattle.circuits.specs.Outcome.{conversion_cost}
 use Rattle.sym_state.specs.declared.state.Sym.{Sym}
-use Rattle.sym_state.specs.Standing.{Stand, stand, IsHere, Turned, stored}
-use Rattle.sym_state.specs.Following.{left_of, Came}
+use Rattle.sym_state.specs.Standing.{Stand, stand, Turned, stored}
 use Rattle.sym_state.proofs.Nets.{added_then, typed_added, are_typed_added}
 use Rattle.sym_state.proofs.Composed.{turned_follows}
 use Rattle.sym_values.specs.Valuing.{Reckoned, Gives}

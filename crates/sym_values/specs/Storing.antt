@@ -1,5 +1,5 @@
 -- Stores, draws and ends, as the definition of havoc runs has them.
-use Rattle.std.specs.Prelude.{ℕ, ◌+◌, ◌*◌, ℤ, List, Option, None, Bool}
+use Rattle.std.specs.Prelude.{ℕ, ◌+◌, ◌*◌, ℤ, List}
 use Rattle.c_core.specs.Tree.{Program}
 use Rattle.c_core.specs.Types.{width_of}
 use Rattle.c_core.specs.declared.number.DataModel.{DataModel}

@@ -4,10 +4,9 @@
 -- Where an overflow is the violation, a run fails the obligation of its full expression there; else the value wraps.
 use Rattle.std.specs.Prelude.{◌≡◌, ℕ, suc, ◌+◌, Bool, ℤ, List, Option, None}
 use Rattle.c_core.specs.Tree.{Program}
-use Rattle.c_core.specs.Types.{fit, is_zero, promote_of}
+use Rattle.c_core.specs.Types.{fit, promote_of}
 use Rattle.c_core.specs.Operators.{apply_one_of}
 use Rattle.c_core.specs.declared.number.IntType.{IntType}
-use Rattle.c_core.specs.declared.number.IntType.TheVariants.{Int}
 use Rattle.c_core.specs.declared.number.BinOp.{BinOp}
 use Rattle.c_core.specs.declared.number.UnOp.{UnOp}
 use Rattle.c_core.specs.declared.number.Spot.{Spot}
@@ -16,13 +15,11 @@ use Rattle.c_core.specs.declared.number.Property.TheVariants.{UnreachCall, NoOve
 use Rattle.c_core.specs.declared.number.DataModel.{DataModel}
 use Rattle.c_meaning.specs.declared.run.DutyKind.TheVariants.{Property as PropertyKind}
 use Rattle.c_meaning.specs.Meaning.{Where}
-use Rattle.c_meaning.specs.Acts.{Res}
-use Rattle.c_meaning.specs.Havoc.{Stopped, Left, havoc, answered}
+use Rattle.c_meaning.specs.Havoc.{havoc, answered}
 use Rattle.c_meaning.specs.Duties.{Placed, Duties, duty, number_among}
 use Rattle.c_meaning.specs.Eval.{operate}
 use Rattle.circuits.specs.declared.net.Bit.{Bit}
-use Rattle.circuits.specs.declared.net.NetNode.{NetNode}
-use Rattle.circuits.specs.Net.{holds, Means}
+use Rattle.circuits.specs.Net.{Means}
 use Rattle.circuits.specs.Numbers.{typed, AreTyped}
 use Rattle.circuits.specs.Outcome.{conversion_cost, binary_cost, one_cost}
 use Rattle.c_core.specs.Operators.{type_for, right_type_for}

@@ -1,18 +1,14 @@
 -- The state from which each run sets out.
-use Rattle.std.proofs.Common.{◌≡◌, ℕ, zero, suc, ◌+◌, ◌<◌, ◌≤◌, Bool, true, false, cond, ℤ, pos, List, [], ◌∷◌, ◌++◌, length, map, drop, replicate, slice_get, unwrap_or, IsTrue, refl, sym, ◌∙◌, ap, subst, arith, append-nil, append_assoc}
+use Rattle.std.proofs.Common.{◌≡◌, ℕ, zero, suc, ◌+◌, ◌<◌, Bool, true, false, cond, ℤ, pos, List, [], ◌∷◌, ◌++◌, map, drop, replicate, slice_get, unwrap_or, IsTrue, refl, sym, ◌∙◌, ap, subst, arith, append-nil, append_assoc}
 use Rattle.std.specs.List.{All}
 use Rattle.std.specs.declared.vec.Vec.{Vec}
 use Rattle.std.specs.declared.alloc.Global.{Global}
-use Rattle.std.proofs.Math.Seq.{drop-nil}
 use Rattle.std.proofs.lemmas.List.Elements.{All-head, All-tail, All-cons, All-nil}
 use Rattle.c_core.specs.Tree.{Program}
 use Rattle.c_core.specs.Types.{in_range}
 use Rattle.c_core.specs.Program.{IsProgram}
-use Rattle.c_core.specs.declared.number.IntType.{IntType}
 use Rattle.c_core.specs.declared.number.IntType.TheVariants.{Int}
 use Rattle.c_core.specs.declared.tree.Object.{Object}
-use Rattle.c_core.specs.declared.tree.Start.{Start}
-use Rattle.c_meaning.specs.declared.run.Duty.{Duty}
 use Rattle.c_meaning.specs.Cells.{Cell, cells_from}
 use Rattle.c_meaning.specs.Fitting.{IsFittingCell, FitCells}
 use Rattle.c_meaning.specs.Objects.{type_of_object}
@@ -30,11 +26,10 @@ use Rattle.sym_state.specs.declared.state.Sym.{Sym}
 use Rattle.sym_state.specs.declared.state.SymCell.{SymCell}
 use Rattle.sym_state.specs.declared.state.DrawSite.{DrawSite}
 use Rattle.sym_state.specs.Places.{key}
-use Rattle.sym_state.specs.Standing.{Stand, stand, cell_at, draws_at, IsCell, IsState, Added, IsHere, marks}
+use Rattle.sym_state.specs.Standing.{stand, cell_at, draws_at, IsCell, IsState, marks}
 use Rattle.sym_flow.specs.Ways.{Became}
 use Rattle.sym_flow.proofs.Around.{same_became}
 use Rattle.sym_flow.proofs.Becoming.{became_then, became_as}
-use Rattle.sym_whole.specs.Deciding.{IsStart}
 use Rattle.sym_whole.specs.Starting.{with_more, IsFirst}
 
 -- ---- lists of cells

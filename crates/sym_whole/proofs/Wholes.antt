@@ -15,17 +15,19 @@ use Rattle.c_meaning.specs.Havoc.{Stopped, Passes, Dismisses, Fails, Left, end_a
 use Rattle.c_meaning.specs.Replay.{values_of}
 use Rattle.circuits.specs.declared.net.Bit.{Bit}
 use Rattle.circuits.specs.declared.net.NetNode.{NetNode}
-use Rattle.circuits.specs.Net.{holds, IsNet}
+use Rattle.circuits.specs.Net.{holds, IsNet, count_ands, count_inputs}
 use Rattle.circuits.specs.Numbers.{number, read, typed}
 use Rattle.circuits.proofs.Counting.{number_lt}
+use Rattle.circuits.proofs.Nets.{count_ands-append, inputs-append}
+use Rattle.std.proofs.lemmas.List.{length-map}
 use Rattle.circuits.proofs.Reading.{half}
 use Rattle.circuits.proofs.Summed.{width_pos}
 use Rattle.sym_state.specs.declared.state.Sym.{Sym}
 use Rattle.sym_state.specs.declared.state.DrawSite.{DrawSite}
 use Rattle.sym_state.specs.Standing.{Stand, stand, draw_at, draws_at, IsSite, AreSites, marks, number_of_end}
-use Rattle.sym_state.specs.Following.{left_of, Taken}
+use Rattle.sym_state.specs.Following.{left_of, Taken, Deed}
 use Rattle.sym_flow.specs.Leaving.{Went, Runs}
-use Rattle.sym_whole.specs.Deciding.{started, IsStart, Tells, Decides}
+use Rattle.sym_whole.specs.Deciding.{started, IsStart, Tells, Decides, IsLarger}
 use Rattle.sym_whole.proofs.Sites.{state_found}
 
 -- ---- a site's value is one of its type
@@ -64,6 +66,12 @@ mark_at (suc zero) (suc n) zero b h = ((λ t. refl), (λ e. sym (some_same true 
 mark_at (suc zero) (suc n) (suc i) b h = let r = mark_at zero n i b h in ((λ t. absurd (omega (arith, r.0 t))), (λ e. absurd (omega (arith, e))))
 mark_at (suc (suc k)) (suc n) zero b h = ((λ t. absurd (true≢false (sym t ∙ sym (some_same false b h)))), (λ e. absurd (omega (arith, e))))
 mark_at (suc (suc k)) (suc n) (suc i) b h = let r = mark_at (suc k) n i b h in ((λ t. ap suc (r.0 t)), (λ e. r.1 (omega (arith, e))))
+
+marks_many : (k n : ℕ) → length (marks k n) ≡ n
+marks_many k zero = refl
+marks_many zero (suc n) = ap suc (marks_many zero n)
+marks_many (suc zero) (suc n) = ap suc (marks_many zero n)
+marks_many (suc (suc k)) (suc n) = ap suc (marks_many (suc k) n)
 
 slice_get-map : {A B : Type 0} (f : A → B) (xs : List A) (i : ℕ) (x : A) → slice_get xs i ≡ Some x → slice_get (map f xs) i ≡ Some (f x)
 slice_get-map f [] i x e = cc
@@ -110,20 +118,35 @@ module _ (p : Program) where
     went_failing n c rest Again t w = w.failing
     went_failing n c rest (Gave z) t w = w.0.failing
 
+    went_many : (n : ℕ) (c : Stand) (rest : List ℤ) (r : Res Stopped Left Flow) → Went ds result n c rest r → length c.failing ≡ length ds
+    went_many n c rest (Go f t) w = ap length (went_failing n c rest f t w) ∙ marks_many 0 (length ds)
+    went_many n c rest (Stop e t) w = ap length w.0.failing ∙ marks_many (number_of_end ds e) (length ds)
+
     tells : (n : ℕ) (s : Sym) (v : ℕ → Bool) (rest : List ℤ) (r : Res Stopped Left Flow) → Went ds result n (stand p v s) rest r → Tells p s v (havoc_run ds r)
     tells n s v rest (Go f t) w = record { draws = went_draws n (stand p v s) rest f t w; ends = λ i b e. not_failed (mark_at 0 (length ds) i (holds v s.net b) (bit_at v s.net s.failing.items (marks 0 (length ds)) i b (went_failing n (stand p v s) rest f t w) e)) }
     tells n s v rest (Stop e t) w = record { draws = w.2; ends = λ i b q. stop_ends ds e i (mark_at (number_of_end ds e) (length ds) i (holds v s.net b) (bit_at v s.net s.failing.items (marks (number_of_end ds e) (length ds)) i b w.0.failing q)) }
 
     module _ {i j : ℕ} (a b : Sym) (start : List Cell) (run : Left → Res Stopped Left Flow) (x : Runs ds p result i j a b (λ v. run)) (first : IsStart ds p start a) where
       -- under inputs, on any list that gives these draws
+      went : (v : ℕ → Bool) (w rest : List ℤ) → Taken p.model (stand p v b).draws w rest → Went ds result (length a.cells.items) (stand p v b) rest (run (left_of (stand p v a) w))
+      went v w rest t =
+          let all : (stand p v b).draws ≡ (x.moves v).more = (x.moves v).draws ∙ ap (λ z. z ++ (x.moves v).more) (first.draws v) in
+          x.does v (first.here v) w rest (subst (λ z. Taken p.model z w rest) all t)
+
       told : (v : ℕ → Bool) (w rest : List ℤ) → Taken p.model (stand p v b).draws w rest → Tells p b v (havoc_run ds (run (started start w)))
       told v w rest t =
-          let all : (stand p v b).draws ≡ (x.moves v).more = (x.moves v).draws ∙ ap (λ z. z ++ (x.moves v).more) (first.draws v) in
           subst (λ l. Tells p b v (havoc_run ds (run l))) (λ k. record { cells = first.cells v k; values = w; draws = first.draws v k })
-          (tells (length a.cells.items) b v rest (run (left_of (stand p v a) w)) (x.does v (first.here v) w rest (subst (λ z. Taken p.model z w rest) all t)))
+          (tells (length a.cells.items) b v rest (run (left_of (stand p v a) w)) (went v w rest t))
 
       pub decides : IsNet b.net → Decides ds p start b run
       decides fine = record {
+        many =
+            let v : ℕ → Bool = λ k. false in
+            sym (length-map b.failing.items (holds v b.net))
+            ∙ went_many (length a.cells.items) (stand p v b) [] (run (left_of (stand p v a) (values_of (stand p v b).draws))) (went v (values_of (stand p v b).draws) [] (own_taken v b.net 0 _ b.sites.items x.fits.sites));
         each = λ v. told v (values_of (stand p v b).draws) [] (own_taken v b.net 0 _ b.sites.items x.fits.sites);
         all = λ w. let r = state_found p b fine x.fits w in (r.0, told r.0 w r.1 r.2);
       }
+
+pub larger : {i j : ℕ} {a b : Sym} {deed : Deed Flow} (p : Program) (ds : List Duty) (result : Option IntType) → Runs ds p result i j a b deed → IsLarger i j a b
+larger {a = a} {b = b} p ds result x = record { gates = omega (arith, ap count_ands x.added.is, count_ands-append a.net x.added.more, x.added.gates); feeds = omega (arith, ap count_inputs x.added.is, inputs-append a.net x.added.more, x.added.feeds) }

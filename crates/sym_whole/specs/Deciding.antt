@@ -1,6 +1,6 @@
 -- What a state behind a whole program says of its havoc runs: its failing bits tell at which obligation a run ends, and its sites what
 -- it draws.
-use Rattle.std.specs.Prelude.{◌≡◌, ◌↔◌, ℕ, ◌+◌, Bool, true, ℤ, List, [], length, Some, slice_get}
+use Rattle.std.specs.Prelude.{◌≡◌, ◌↔◌, ℕ, ◌+◌, ◌≤◌, Bool, true, ℤ, List, [], length, Some, slice_get}
 use Rattle.c_core.specs.Tree.{Program}
 use Rattle.c_meaning.specs.declared.run.Duty.{Duty}
 use Rattle.c_meaning.specs.declared.run.HavocEnd.TheVariants.{Failed}
@@ -10,7 +10,7 @@ use Rattle.c_meaning.specs.Cells.{Cell}
 use Rattle.c_meaning.specs.Havoc.{Stopped, Left, havoc_run}
 use Rattle.c_meaning.specs.Replay.{values_of}
 use Rattle.circuits.specs.declared.net.Bit.{Bit}
-use Rattle.circuits.specs.Net.{holds}
+use Rattle.circuits.specs.Net.{holds, count_ands, count_inputs}
 use Rattle.sym_state.specs.declared.state.Sym.{Sym}
 use Rattle.sym_state.specs.Standing.{stand, draws_at, IsHere}
 
@@ -30,7 +30,13 @@ pub record Tells (p : Program) (s : Sym) (v : ℕ → Bool) (h : HavocRun) : Typ
   pub draws : h.draws ≡ draws_at p v s.net s.sites.items
   pub ends : (i : ℕ) (b : Bit) → slice_get s.failing.items i ≡ Some b → (holds v s.net b ≡ true) ↔ (h.end ≡ Failed (i + 1))
 
--- under all inputs it tells of the run on the values of the sites that are live there; and of each list's run it tells under some inputs
+-- there is a failing bit for each obligation; under all inputs it tells of the run on the values of the sites that are live there; and of each list's run it tells under some inputs
 pub record Decides (ds : List Duty) (p : Program) (start : List Cell) (s : Sym) (run : Left → Res Stopped Left Flow) : Type 0 where
+  pub many : length s.failing.items ≡ length ds
   pub each : (v : ℕ → Bool) → Tells p s v (havoc_run ds (run (started start (values_of (draws_at p v s.net s.sites.items)))))
   pub all : (w : List ℤ) → (v : ℕ → Bool) × Tells p s v (havoc_run ds (run (started start w)))
+
+-- a state's net has at most so many and-nodes and inputs more than another's
+pub record IsLarger (ands inputs : ℕ) (old new : Sym) : Type 0 where
+  pub gates : count_ands new.net ≤ count_ands old.net + ands
+  pub feeds : count_inputs new.net ≤ count_inputs old.net + inputs

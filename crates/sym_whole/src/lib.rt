@@ -2,8 +2,8 @@
 //! the live sites tell where a havoc run ends and what it draws, and every list of values has inputs that stand for its run.
 #![tactic(auto)]
 
-mod laws;
 mod first;
+mod laws;
 
-pub use laws::{decides, found};
 pub use first::start;
+pub use laws::{decides, found, larger};

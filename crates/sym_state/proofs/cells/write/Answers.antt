@@ -2,7 +2,6 @@ use Rattle.std.proofs.Common.{◌≡◌, cond, length, subst}
 use Rattle.c_core.specs.View.{program_view}
 use Rattle.circuits.specs.Net.{holds}
 use Rattle.circuits.specs.Numbers.{number, Counts}
-use Rattle.sym_state.specs.Places.{IsInnermost}
 use Rattle.sym_state.proofs.Stored.{write_turned, write_none, same_item}
 use Rattle.sym_state.proofs.cells.write.Goals as goal
 

@@ -1,9 +1,6 @@
-use Rattle.std.proofs.Common.{refl, sym, subst}
+use Rattle.std.proofs.Common.{refl}
 use Rattle.c_core.specs.View.{program_view}
 use Rattle.c_core.specs.Types.{width_of}
-use Rattle.circuits.specs.Net.{count_inputs}
-use Rattle.circuits.specs.Numbers.{Counts, drawn}
-use Rattle.sym_state.specs.Drawn.{IsDrawn}
 use Rattle.sym_state.proofs.Sites.{is_drawn}
 use Rattle.sym_state.proofs.drawing.draw.Goals as goal
 

@@ -1,4 +1,4 @@
-use Rattle.std.proofs.Common.{◌∙◌, get_or, ap, rules, arith}
+use Rattle.std.proofs.Common.{◌∙◌, get_or, ap, rules}
 use Rattle.std.proofs.lemmas.List.Elements.{All-get_or}
 use Rattle.c_core.specs.View.{program_view}
 use Rattle.circuits.specs.Net.{opposite, IsIn}

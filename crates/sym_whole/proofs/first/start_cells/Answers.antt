@@ -1,11 +1,9 @@
-use Rattle.std.proofs.Common.{◌≡◌, ◌+◌, ◌∷◌, [], rules, subst, sym}
+use Rattle.std.proofs.Common.{◌≡◌, ◌+◌, ◌∷◌, [], rules, subst}
 use mir.Val.{SFits}
 use mir.Syntax.{w128}
 use Rattle.std.proofs.lemmas.Int.{to_z-of_z}
 use Rattle.c_core.specs.View.{program_view}
-use Rattle.c_core.specs.Types.{in_range}
 use Rattle.c_meaning.specs.Cells.{cells_from}
-use Rattle.c_meaning.specs.Objects.{type_of_object}
 use Rattle.sym_state.specs.Places.{key}
 use Rattle.sym_flow.specs.Ways.{Became}
 use Rattle.sym_whole.specs.Starting.{with_more}
