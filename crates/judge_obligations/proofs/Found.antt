@@ -32,10 +32,10 @@ pub model_holds : {net : List NetNode} {b : Bit} {variables : ℕ} {clauses : Li
     → holds (inputs_of values) net b ≡ true
 model_holds {net} {b} {variables} {clauses} {values} d m = ap (λ v. holds v net b) (sym (same_inputs values)) ∙ ((d.is (value_at values)).0 m.holds).1
 
-pub refuted_never : {net : List NetNode} {b : Bit} {variables : ℕ} {clauses : List (List ℤ)} {chains : List Chain} → Fulfils net b clauses → AreOf variables clauses → Refutes clauses chains → IsNeverTrue net b
-refuted_never {net} {b} {variables} {clauses} {chains} f w r v = false_from_ne_true (holds v net b) (λ h.
+pub refuted_never : (net : List NetNode) (b : Bit) {variables : ℕ} {clauses : List (List ℤ)} {chains : List Chain} → Fulfils net b clauses → AreOf variables clauses → Refutes clauses chains → IsNeverTrue net b
+refuted_never net b {variables} {clauses} {chains} f w r v = false_from_ne_true (holds v net b) (λ h.
     let made = f v h in
-    clash made.2.1 (refuted variables clauses chains w r.accepted r.ends made.0))
+    clash made.2 (refuted variables clauses chains w r.accepted r.ends made.0))
 
 pub spent_on : {net : List NetNode} {b : Bit} {N : ℕ} (s : SpentAt) → ClausesOf net b s.clauses.variables s.clauses.clauses → Propagates net s.clauses.variables s.clauses.clauses
     → IsSpent s.clauses.variables s.clauses.clauses s.log.chains N → IsSpentOn N net b s

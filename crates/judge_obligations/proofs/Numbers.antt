@@ -1,6 +1,7 @@
 -- The number that the values of bits count, from the highest digit down.
 use Rattle.std.proofs.Common.{◌≡◌, ℕ, zero, suc, ◌+◌, ◌-◌, ◌*◌, ◌%◌, ◌^◌, ◌<◌, ◌≤◌, Bool, true, false, ℤ, pos, List, [], ◌∷◌, length, drop, get_or, refl, sym, ◌∙◌, ap, arith}
 use Rattle.std.specs.List.{All}
+use Rattle.std.specs.Prelude.{slice_index_or}
 use Rattle.std.proofs.lemmas.List.{drop_more, drop_all}
 use Rattle.std.proofs.Math.Nat.{mod-eq_of_lt, pow-succ'}
 use Rattle.std.proofs.Math.Pow.{pow_mono}
@@ -34,7 +35,7 @@ twice i = ap (λ k. 2 ^ k) (omega arith) ∙ pow-succ' 2 i
 
 -- i digits more than none, and one more are 64 at most
 pub room : (i n d : ℕ) (b : Bool) → i + 1 ≤ 64 → n < 2 ^ i → d ≡ digit b → 2 * n + d < 2 ^ 64
-room i n d b h lt e = omega (arith, twice i, digit_small b, e, pow_mono {i + 1} {64} h)
+room i n d b h lt e = omega (arith, twice i, digit_small b, e, pow_mono {i = i + 1} {j = 64} h)
 
 next_number : (v : ℕ → Bool) (net : List NetNode) (bits : List Bit) (i j : ℕ) (d : Bit) → i < length bits → j ≡ length bits - 1 - i
     → number v net (drop (length bits - (i + 1)) bits) ≡ digit (holds v net (get_or bits j d)) + 2 * number v net (drop (length bits - i) bits)
@@ -88,6 +89,10 @@ pub drawn_value : (m : DataModel) (d : DrawSite) (v : ℕ → Bool) (net : List 
 drawn_value m d v net n wide lt e = fit_read m d.ty n (omega (arith, lt, ap (λ k. 2 ^ k) wide)) ∙ ap (read (width_of m d.ty) (is_signed d.ty)) e
 
 -- each site is as wide as its type
+wide_at : (m : DataModel) (net : List NetNode) (base top : ℕ) (ds : List DrawSite) → AreSites m net base ds top → (k : ℕ) (d : DrawSite) → k < length ds → IsWide m (slice_index_or ds k d)
+wide_at m net base top [] h k d lt = absurd (omega (arith, lt))
+wide_at m net base top (x ∷ xs) h zero d lt = h.0.bits.wide
+wide_at m net base top (x ∷ xs) h (suc k) d lt = wide_at m net (base + width_of m x.ty) top xs h.1 k d (omega (arith, lt))
+
 pub sites_wide : (m : DataModel) (net : List NetNode) (base top : ℕ) (ds : List DrawSite) → AreSites m net base ds top → All (IsWide m) ds
-sites_wide m net base top [] h = tt
-sites_wide m net base top (d ∷ ds) h = (h.0.bits.wide, sites_wide m net (base + width_of m d.ty) top ds h.1)
+sites_wide m net base top ds h = wide_at m net base top ds h
