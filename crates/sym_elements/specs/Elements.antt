@@ -1,0 +1,71 @@
+-- Elements of arrays over a symbolic state (C11 6.5.2.1).
+--
+-- Where a run is in an array depends on the inputs. So each cell of the array has a bit, its place, that is true in the runs whose index is
+-- the cell's. The places are found once for a target; a run whose index lies outside ends there (C11 6.5.6p8). Then the target
+-- is read and written by them.
+use Rattle.std.specs.Prelude.{◌≡◌, ℕ, ◌+◌, ◌*◌, Bool, true, ℤ, List, length, map}
+use Rattle.c_core.specs.Tree.{Program}
+use Rattle.c_core.specs.Types.{width_of}
+use Rattle.c_core.specs.declared.number.IntType.{IntType}
+use Rattle.c_meaning.specs.Cells.{Key}
+use Rattle.c_meaning.specs.Duties.{Placed, Duties}
+use Rattle.c_meaning.specs.Eval.{store}
+use Rattle.c_meaning.specs.Havoc as definition
+use Rattle.c_meaning.specs.Havoc.{havoc}
+use Rattle.c_meaning.specs.Objects.{type_of_object, size_of_object}
+use Rattle.c_meaning.specs.Run.{index_below}
+use Rattle.circuits.specs.declared.net.Bit.{Bit}
+use Rattle.circuits.specs.declared.net.NetNode.{NetNode}
+use Rattle.circuits.specs.Net.{holds}
+use Rattle.circuits.specs.Numbers.{typed, AreIn}
+use Rattle.circuits.specs.Outcome.{conversion_cost}
+use Rattle.sym_state.specs.declared.state.Sym.{Sym}
+use Rattle.sym_state.specs.Places.{key}
+use Rattle.sym_state.specs.Following.{Deed, Follows}
+use Rattle.sym_elements.specs.Marks.{HasOne, first_true}
+
+-- the cell of the first place that is true
+abbrev pub key_at : ℕ → (ℕ → Bool) → List NetNode → List Bit → Key
+key_at o v net places = key o (first_true (map (holds v net) places))
+
+-- a place for each cell of an object; of a run that is here exactly one is true
+pub record ArePlaces (p : Program) (s : Sym) (o : ℕ) (places : List Bit) : Type 0 where
+  pub inside : AreIn s.net places
+  pub wide : length places ≡ size_of_object p o
+  pub one : (v : ℕ → Bool) → holds v s.net s.live ≡ true → HasOne (map (holds v s.net) places)
+
+module _ (p : Program) where
+  abbrev pub width_of_element : ℕ → ℕ
+  width_of_element o = width_of p.model (type_of_object p o)
+
+  -- and-nodes of the places, by an index of a type
+  abbrev pub found_cost : IntType → ℕ → ℕ
+  found_cost ty o = 3 * size_of_object p o + (2 * width_of p.model ty + 1)
+
+  -- of an element that is read
+  abbrev pub read_cost : ℕ → ℕ
+  read_cost o = size_of_object p o * (4 * width_of_element o)
+
+  -- of an element that is written
+  abbrev pub written_cost : ℕ → ℕ
+  written_cost o = size_of_object p o * (4 * width_of_element o + 1)
+
+  -- of a value of a type that is stored in an element
+  abbrev pub stored_cost : IntType → ℕ → ℕ
+  stored_cost from o = conversion_cost p.model from (type_of_object p o) + written_cost o
+
+  -- I: the invariants in witness order
+  module _ (I : List Placed) where
+    abbrev pub found_in : ℕ → IntType → List Bit → Sym → Deed Key
+    found_in o ty index old v s = definition.key_of p I o (index_below (size_of_object p o) (typed p.model ty v old.net index)) s
+
+    abbrev pub read_in : ℕ → List Bit → Sym → Deed ℤ
+    read_in o places old v s = (havoc p I).look (key_at o v old.net places) s
+
+    abbrev pub stored_in : ℕ → List Bit → IntType → List Bit → Sym → Deed ℤ
+    stored_in o places from value old v s = store p (havoc p I) (key_at o v old.net places) from (type_of_object p o) (typed p.model from v old.net value) s
+
+    -- a run that is here goes on at the cell that its place tells of, or ends
+    pub record Finds (o : ℕ) (ty : IntType) (index : List Bit) (old new : Sym) (places : List Bit) : Type 0 where
+      pub places_of : ArePlaces p new o places
+      pub follows : Follows (Duties p I) p (found_cost ty o) 0 old new (λ v k. k ≡ key_at o v new.net places) (found_in o ty index old)
