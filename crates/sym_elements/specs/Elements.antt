@@ -32,7 +32,7 @@ key_at o v net places = key o (first_true (map (holds v net) places))
 pub record ArePlaces (p : Program) (s : Sym) (o : ℕ) (places : List Bit) : Type 0 where
   pub inside : AreIn s.net places
   pub wide : length places ≡ size_of_object p o
-  pub one : (v : ℕ → Bool) → holds v s.net s.live ≡ true → HasOne (map (holds v s.net) places)
+  pub one : (v : ℕ → Bool) → holds v s.net s.live ≡ true → HasOne (size_of_object p o) (map (holds v s.net) places)
 
 module _ (p : Program) where
   abbrev pub width_of_element : ℕ → ℕ

@@ -1,9 +1,9 @@
--- Bits that tell a number: one for each number, of which one is true.
-use Rattle.std.specs.Prelude.{◌≡◌, ℕ, suc, ◌<◌, Bool, true, false, ◌||◌, List, [], ◌∷◌, length, map}
+-- Marks of a number: a bit for each number, of which that one is true.
+use Rattle.std.specs.Prelude.{◌≡◌, ℕ, suc, ◌+◌, ◌*◌, ◌<◌, Bool, true, false, cond, not, ◌&&◌, List, [], ◌∷◌, length, map}
 use Rattle.circuits.specs.declared.net.Bit.{Bit}
 use Rattle.circuits.specs.declared.net.NetNode.{NetNode}
-use Rattle.circuits.specs.Net.{holds}
-use Rattle.circuits.specs.Numbers.{AreIn}
+use Rattle.circuits.specs.Net.{holds, Grown, Means}
+use Rattle.circuits.specs.Numbers.{number, AreIn}
 use Rattle.sym_state.specs.Standing.{marks}
 
 -- so many bits of the net, of which under inputs that of number k from 1 on is true, or none where k is 0 or beyond the last
@@ -12,14 +12,36 @@ pub record AreMarks (net : List NetNode) (bits : List Bit) (n : ℕ) (k : (ℕ �
   pub wide : length bits ≡ n
   pub is : (v : ℕ → Bool) → map (holds v net) bits ≡ marks (k v) n
 
--- one of these is true
-abbrev pub has_true : List Bool → Bool
-has_true [] = false
-has_true (b ∷ bs) = b || has_true bs
+-- each of these once where a digit is 0, and once where it is 1
+abbrev pub pairs : Bool → List Bool → List Bool
+pairs d [] = []
+pairs d (b ∷ bs) = (b && not d) ∷ (b && d) ∷ pairs d bs
 
--- exactly one of these is true
-abbrev pub HasOne : List Bool → Type 0
-HasOne bs = (i : ℕ) × (i < length bs) × (bs ≡ marks (suc i) (length bs))
+-- two bits of the net for each mark
+pub record AreDoubled (old new : List NetNode) (marks : List Bit) (digit : Bit) (bits : List Bit) : Type 0 where
+  pub grown : Grown (2 * length marks) old new
+  pub inside : AreIn new bits
+  pub wide : length bits ≡ 2 * length marks
+  pub is : (v : ℕ → Bool) → map (holds v new) bits ≡ pairs (holds v old digit) (map (holds v old) marks)
+
+-- marks of the digits' number, where a bit is true
+pub record IsDecoded (old new : List NetNode) (here : Bit) (digits : List Bit) (n : ℕ) (bits : List Bit) : Type 0 where
+  pub grown : Grown (2 * (n + length digits)) old new
+  pub marks_of : AreMarks new bits n (λ v. cond (holds v old here) (suc (number v old digits)) 0)
+
+-- none of these is true
+abbrev pub none_true : List Bool → Bool
+none_true [] = true
+none_true (b ∷ bs) = not b && none_true bs
+
+-- a bit that says so of bits
+pub record IsNone (old new : List NetNode) (bits : List Bit) (none : Bit) : Type 0 where
+  pub grown : Grown (length bits) old new
+  pub means : Means new none (λ v. none_true (map (holds v old) bits))
+
+-- of n truth values exactly one is true
+abbrev pub HasOne : ℕ → List Bool → Type 0
+HasOne n bs = (i : ℕ) × (i < n) × (bs ≡ marks (suc i) n)
 
 -- where the first that is true stands, from 0 on
 abbrev pub first_true : List Bool → ℕ

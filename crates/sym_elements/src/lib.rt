@@ -2,7 +2,11 @@
 //! call does to every run that is here what the definition of runs does, within the nodes that an element may cost.
 #![tactic(auto)]
 
-mod elements;
+mod finding;
 mod marks;
+mod reading;
+mod writing;
 
-pub use elements::{Places, find, read_element, store_element, write_element};
+pub use finding::{Places, find};
+pub use reading::read_element;
+pub use writing::{store_element, write_element};

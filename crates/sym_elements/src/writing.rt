@@ -1,59 +1,43 @@
-// Elements of arrays: they are found, read and written.
-ghost use Rattle.std.specs.Prelude.{◌≡◌, ◌+◌, ◌<◌, ◌^◌, IfOk, List, Some, length};
+// Elements are written.
+ghost use Rattle.std.specs.Prelude.{◌≡◌, ◌+◌, ◌*◌, ◌<◌, ◌^◌, ◌&&◌, IfOk, List, Some, length};
 ghost use Rattle.c_core.specs.View.{program_view};
 ghost use Rattle.c_meaning.specs.Duties.{Placed};
 ghost use Rattle.c_meaning.specs.Objects.{type_of_object};
-ghost use Rattle.circuits.specs.Net.{holds};
+ghost use Rattle.circuits.specs.Net.{holds, IsIn};
 ghost use Rattle.circuits.specs.Numbers.{typed, AreTyped};
+ghost use Rattle.sym_state.specs.Places.{key};
 ghost use Rattle.sym_state.specs.Standing.{IsState, Turned, stored};
 ghost use Rattle.sym_values.specs.Valuing.{Gives};
-ghost use Rattle.sym_elements.specs.Elements.{key_at, ArePlaces, Finds, found_cost, read_cost, written_cost, stored_cost, read_in, stored_in};
+ghost use Rattle.sym_elements.specs.Elements.{key_at, ArePlaces, width_of_element, written_cost, stored_cost, stored_in};
 
+use crate::finding::Places;
 use c_core::{IntType, Program};
+use c_meaning::size_of_object;
 use circuits::{Bit, Bits};
 use std::alloc::Global;
-use sym_state::Sym;
-use wv_base::{OutOfMemory, Seq};
+use sym_state::{Sym, write};
+use sym_values::convert;
+use wv_base::OutOfMemory;
 
-/// A bit for each cell of an object, in order: is a run's index the cell's?
-#[derive(Debug, Drop)]
-pub struct Places {
-    pub bits: Seq<Bit>,
-}
-
-/// The places of an index in an object. A run whose index lies outside ends, and fails nothing (ISO C11 6.5.6p8).
-pub fn find(
+// A run that is here has the value in the element at an index, where the bit is true.
+fn write_place(
     alloc: Global,
     program: &Program,
     sym: &mut Sym,
     object: u32,
-    ty: IntType,
-    index: &Bits,
-) -> Result<Places, OutOfMemory>
+    index: u32,
+    here: Bit,
+    value: &Bits,
+) -> Result<(), OutOfMemory>
     requires fits { IsState (program_view program.now) sym.old }
-    requires index_in { AreTyped program.now.model ty sym.old.net index.now.bits }
-    requires room { length sym.old.net + found_cost (program_view program.now) ty object < 2 ^ 28 }
-    ensures { IfOk result (λ r. (I : List Placed) → Finds (program_view program.now) I object ty index.now.bits sym.old sym.new r.bits) }
+    requires here_in { IsIn sym.old.net here }
+    requires value_in { AreTyped program.now.model (type_of_object (program_view program.now) object) sym.old.net value.now.bits }
+    requires room { length sym.old.net + 1 < 2 ^ 28 }
+    ensures { IfOk result (λ r. Turned (program_view program.now) (4 * width_of_element (program_view program.now) object + 1) 0 sym.old sym.new (λ v s. stored (s.live && holds v sym.old.net here) (key object index) (typed program.now.model (type_of_object (program_view program.now) object) v sym.old.net value.now.bits) s)) }
 {
-    Err(OutOfMemory)
-}
-
-/// The element at the place where a run is; `ty` is the type of the object.
-pub fn read_element(
-    alloc: Global,
-    program: &Program,
-    sym: &mut Sym,
-    object: u32,
-    ty: IntType,
-    places: &Places,
-) -> Result<Bits, OutOfMemory>
-    requires fits { IsState (program_view program.now) sym.old }
-    requires typed { ty ≡ type_of_object (program_view program.now) object }
-    requires places_of { ArePlaces (program_view program.now) sym.old object places.now.bits }
-    requires room { length sym.old.net + read_cost (program_view program.now) object < 2 ^ 28 }
-    ensures { IfOk result (λ r. (I : List Placed) → Gives (program_view program.now) I (read_cost (program_view program.now) object) 0 sym.old sym.new (Some ty) r.bits (read_in (program_view program.now) I object places.now.bits sym.old)) }
-{
-    Err(OutOfMemory)
+    let now = sym.net.and(sym.live, here)?;
+    write(alloc, program, sym, now, object, index, value)?;
+    Ok(())
 }
 
 /// A run that is here has the value in the element at its place from now on.
@@ -71,7 +55,12 @@ pub fn write_element(
     requires room { length sym.old.net + written_cost (program_view program.now) object < 2 ^ 28 }
     ensures { IfOk result (λ r. Turned (program_view program.now) (written_cost (program_view program.now) object) 0 sym.old sym.new (λ v. stored (holds v sym.old.net sym.old.live) (key_at object v sym.old.net places.now.bits) (typed program.now.model (type_of_object (program_view program.now) object) v sym.old.net value.now.bits))) }
 {
-    Err(OutOfMemory)
+    let bits = places.bits.as_slice();
+    for i in 0..size_of_object(program, object) {
+        let here = bits[i as usize];
+        write_place(alloc, program, sym, object, i, here, value)?;
+    }
+    Ok(())
 }
 
 /// A value is converted to the type of an object, and stored in the element at the place where a run is.
@@ -92,5 +81,7 @@ pub fn store_element(
     requires room { length sym.old.net + stored_cost (program_view program.now) from object < 2 ^ 28 }
     ensures { IfOk result (λ r. (I : List Placed) → Gives (program_view program.now) I (stored_cost (program_view program.now) from object) 0 sym.old sym.new (Some to) r.bits (stored_in (program_view program.now) I object places.now.bits from value.now.bits sym.old)) }
 {
-    Err(OutOfMemory)
+    let bits = convert(alloc, program, sym, from, to, value)?;
+    write_element(alloc, program, sym, object, places, &bits)?;
+    Ok(bits)
 }
