@@ -7,7 +7,7 @@ use Rattle.circuits.specs.declared.net.Bit.{Bit}
 use Rattle.circuits.specs.declared.net.NetNode.{NetNode}
 use Rattle.circuits.specs.Net.{holds, IsIn, Grown, Means, opposite}
 use Rattle.circuits.specs.Numbers.{number, digit, AreIn}
-use Rattle.circuits.proofs.Nets.{grown_not, grown_then, stays, kept, opp, own, and_of}
+use Rattle.circuits.proofs.Nets.{grown_not, grown_then, longer, stays, kept, opp, own, and_of}
 use Rattle.circuits.proofs.Counting.{are_in_later}
 use Rattle.sym_state.specs.Standing.{marks, Added}
 use Rattle.sym_state.proofs.Nets.{added_of, holds_added}
@@ -22,8 +22,14 @@ bools_added {old = old} v (b ∷ bs) g h = ap₂ (λ x y. x ∷ y) (holds_added 
 pub all_stay : {k : ℕ} {old new : List NetNode} (v : ℕ → Bool) (bs : List Bit) → Grown k old new → AreIn old bs → map (holds v new) bs ≡ map (holds v old) bs
 all_stay v bs g h = bools_added v bs (added_of g) h
 
-one_more : {net : List NetNode} {out : List Bit} {b : Bit} → AreIn net out → IsIn net b → AreIn net (out ++ b ∷ [])
-one_more {net} {out} {b} h i = All-append (λ b. IsIn net b) out (b ∷ []) h (All-cons (λ b. IsIn net b) b [] i (All-nil (λ b. IsIn net b)))
+one_more : (net : List NetNode) (out : List Bit) (b : Bit) → AreIn net out → IsIn net b → AreIn net (out ++ b ∷ [])
+one_more net out b h i = All-append (λ b. IsIn net b) out (b ∷ []) h (All-cons (λ b. IsIn net b) b [] i (All-nil (λ b. IsIn net b)))
+
+pub in_later : {k : ℕ} {old new : List NetNode} (b : Bit) → Grown k old new → IsIn old b → IsIn new b
+in_later {k} {old} {new} b g h = omega (arith, h, (longer k old new g).0)
+
+pub at_in : (net : List NetNode) (bs : List Bit) (i : ℕ) (d : Bit) → AreIn net bs → i < length bs → IsIn net (get_or bs i d)
+at_in net bs i d h lt = All-get_or (λ b. IsIn net b) bs i d lt h
 
 -- ---- marks of the number 0
 abbrev zero_or_one : Bool → ℕ
@@ -37,16 +43,16 @@ first_mark true = refl
 first_mark false = refl
 
 pub zero_first : {net : List NetNode} {b : Bit} → IsIn net b → AreMarks net (b ∷ []) 1 (λ v. cond (holds v net b) 1 0)
-zero_first {net} {b} h = record { inside = one_more (All-nil (λ b. IsIn net b)) h; wide = refl; is = λ v. first_mark (holds v net b) }
+zero_first {net} {b} h = record { inside = one_more net [] b (All-nil (λ b. IsIn net b)) h; wide = refl; is = λ v. first_mark (holds v net b) }
 
 none_beyond : (b : Bool) (i : ℕ) → 0 < i → nat_eq (cond b 1 0) (suc i) ≡ false
 none_beyond true i h = ne_eqb 1 (suc i) (λ e. omega (arith, e, h))
 none_beyond false i h = ne_eqb 0 (suc i) (λ e. omega (arith, e))
 
-pub zero_next : {net : List NetNode} {out : List Bit} {here never : Bit} {i : ℕ} → AreMarks net out i (λ v. cond (holds v net here) 1 0) → Means net never (λ v. false) → 0 < i
+pub zero_next : {net : List NetNode} {out : List Bit} {never : Bit} {i : ℕ} (here : Bit) → AreMarks net out i (λ v. cond (holds v net here) 1 0) → Means net never (λ v. false) → 0 < i
     → AreMarks net (out ++ never ∷ []) (i + 1) (λ v. cond (holds v net here) 1 0)
-zero_next {net} {out} {here} {never} {i} a m h = record {
-  inside = one_more a.inside m.inside;
+zero_next {net} {out} {never} {i} here a m h = record {
+  inside = one_more net out never a.inside m.inside;
   wide = omega (arith, a.wide, length-append out (never ∷ []));
   is = λ v.
       map-append (holds v net) out (never ∷ []) ∙ ap₂ (λ x y. x ++ y ∷ []) (a.is v) (m.is v ∙ sym (none_beyond (holds v net here) i h)) ∙ sym (marks_more (cond (holds v net here) 1 0) i)
@@ -57,11 +63,11 @@ zero_next {net} {out} {here} {never} {i} a m h = record {
 pub doubled_none : {net : List NetNode} {out : List Bit} (digit : Bit) → out ≡ [] → AreDoubled net net [] digit out
 doubled_none {net} {out} digit e = rw e (record { grown = grown_not 0 net; inside = All-nil (λ b. IsIn net b); wide = refl; is = λ v. refl })
 
-pub doubled_next : {old mid half new : List NetNode} {out now : List Bit} {x y z even odd digit : Bit} {i : ℕ} (xs : List Bit) (d : Bit) → AreDoubled old mid (take i xs) digit out
-    → AreIn old xs → IsIn old digit → i < length xs → x ≡ get_or xs i d → y ≡ get_or xs i d → z ≡ opposite digit
-    → Grown 1 mid half → Means half even (λ v. holds v mid x && holds v mid z) → Grown 1 half new → Means new odd (λ v. holds v half y && holds v half digit)
+pub doubled_next : {old mid half new : List NetNode} {out now : List Bit} {x z even odd digit : Bit} {i : ℕ} (xs : List Bit) (d : Bit) → AreDoubled old mid (take i xs) digit out
+    → AreIn old xs → IsIn old digit → i < length xs → x ≡ get_or xs i d → z ≡ opposite digit
+    → Grown 1 mid half → Means half even (λ v. holds v mid x && holds v mid z) → Grown 1 half new → Means new odd (λ v. holds v half x && holds v half digit)
     → now ≡ (out ++ even ∷ []) ++ odd ∷ [] → AreDoubled old new (take (i + 1) xs) digit now
-doubled_next {old} {mid} {half} {new} {out} {now} {x} {y} {z} {even} {odd} {digit} {i} xs d a hx hd lt ex ey ez g m k n e =
+doubled_next {old} {mid} {half} {new} {out} {now} {x} {z} {even} {odd} {digit} {i} xs d a hx hd lt ex ez g m k n e =
     let b = get_or xs i d in
     let count : length (take i xs) ≡ i = length-take-le i xs (omega (arith, lt)) in
     let counted : length (take (i + 1) xs) ≡ i + 1 = length-take-le (i + 1) xs (omega (arith, lt)) in
@@ -71,10 +77,10 @@ doubled_next {old} {mid} {half} {new} {out} {now} {x} {y} {z} {even} {odd} {digi
     let low : Means new even (λ v. holds v old b && not (holds v old digit)) =
     kept k (and_of m (rw ex (kept a.grown (own old b b_in))) (opp ez (kept a.grown (own old digit hd)))) in
     let high : Means new odd (λ v. holds v old b && holds v old digit) =
-    and_of n (rw ey (kept to_half (own old b b_in))) (kept to_half (own old digit hd)) in
+    and_of n (rw ex (kept to_half (own old b b_in))) (kept to_half (own old digit hd)) in
     rw e (record {
       grown = grown_then _ _ (2 * length (take (i + 1) xs)) _ _ _ a.grown two (omega (arith, count, counted));
-      inside = one_more (one_more (are_in_later 2 mid new out two a.inside) low.inside) high.inside;
+      inside = one_more new (out ++ even ∷ []) odd (one_more new out even (are_in_later 2 mid new out two a.inside) low.inside) high.inside;
       wide = omega (arith, a.wide, count, counted, length-append (out ++ even ∷ []) (odd ∷ []), length-append out (even ∷ []));
       is = λ v.
           map-append (holds v new) (out ++ even ∷ []) (odd ∷ []) ∙ ap (λ l. l ++ holds v new odd ∷ []) (map-append (holds v new) out (even ∷ []))
@@ -89,6 +95,14 @@ pub doubled_end : {old new : List NetNode} {out : List Bit} {digit : Bit} {i : �
 doubled_end {old} {new} {out} {digit} {i} xs a e = subst (λ l. AreDoubled old new l digit out) (take_all i xs (omega (arith, e))) a
 
 -- ---- marks of the digits' number
+-- the digits behind the first
+pub split_first : (ds : List Bit) (d : Bit) → 0 < length ds → ds ≡ get_or ds 0 d ∷ take (length ds - 1) (drop 1 ds)
+split_first [] d h = absurd (omega (arith, h))
+split_first (x ∷ xs) d h = ap (λ z. x ∷ z) (sym (take_all (length (x ∷ xs) - 1) xs (omega arith)))
+
+pub rest_in : (net : List NetNode) (ds : List Bit) (d : Bit) → 0 < length ds → AreIn net ds → AreIn net (take (length ds - 1) (drop 1 ds))
+rest_in net ds d h i = All-tail (λ b. IsIn net b) (get_or ds 0 d) (take (length ds - 1) (drop 1 ds)) (subst (AreIn net) (split_first ds d h) i)
+
 pub decoded_none : {net : List NetNode} {here : Bit} {digits out : List Bit} (n : ℕ) → digits ≡ [] → AreMarks net out n (λ v. cond (holds v net here) 1 0) → IsDecoded net net here digits n out
 unfolding number
 decoded_none {net} {here} {digits} {out} n e m = rw e (record { grown = grown_not (2 * (n + 0)) net; marks_of = m })
@@ -127,7 +141,7 @@ pub none_next : {old mid new : List NetNode} {none y z : Bit} {b : Bit} {i : ℕ
 none_next {old} {mid} {new} {none} {y} {z} {b} {i} xs d a hx lt ey ez g m =
     let x = get_or xs i d in
     let x_in : IsIn old x = All-get_or (λ b. IsIn old b) xs i d lt hx in
-    let both = and_of m a.means (opp ez (rw ey (kept a.grown (own old x x_in)))) in
+    let both : Means new b (λ v. none_true (map (holds v old) (take i xs)) && not (holds v old x)) = and_of m a.means (opp ez (rw ey (kept a.grown (own old x x_in)))) in
     record {
       grown = grown_then _ _ (length (take (i + 1) xs)) _ _ _ a.grown g (omega (arith, length-take-le i xs (omega (arith, lt)), length-take-le (i + 1) xs (omega (arith, lt))));
       means = record {

@@ -1,7 +1,7 @@
 pub mod Marking
 pub mod Decoding
-pub mod Finding
-pub mod Places
-pub mod Reading
-pub mod Writing
+pub mod Kept
+pub mod Found
+pub mod Picked
+pub mod Stored
 pub mod Costs

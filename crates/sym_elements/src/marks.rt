@@ -26,12 +26,7 @@ fn zero_marks(alloc: Global, net: &Net, here: Bit, n: usize) -> Result<Vec<Bit>,
 }
 
 // Of marks of a number those of twice the number and a digit.
-fn doubled(
-    alloc: Global,
-    net: &mut Net,
-    marks: &[Bit],
-    digit: Bit,
-) -> Result<Vec<Bit>, OutOfMemory>
+fn doubled(alloc: Global, net: &mut Net, marks: &[Bit], digit: Bit) -> Result<Vec<Bit>, OutOfMemory>
     requires marks_in { AreIn net.old marks.now }
     requires digit_in { IsIn net.old digit }
     requires room { length net.old + 2 * length marks.now < 2 ^ 31 }
@@ -39,8 +34,9 @@ fn doubled(
 {
     let mut out = Vec::new(alloc);
     for i in 0..marks.len() {
-        let even = net.and(marks[i], not(digit))?;
-        let odd = net.and(marks[i], digit)?;
+        let mark = marks[i];
+        let even = net.and(mark, not(digit))?;
+        let odd = net.and(mark, digit)?;
         out.push(even)?;
         out.push(odd)?;
     }

@@ -21,7 +21,7 @@ use Rattle.sym_values.specs.Valuing.{Reckoned, Gives}
 use Rattle.sym_elements.specs.Marks.{HasOne}
 use Rattle.sym_elements.specs.Elements.{ArePlaces, read_cost, read_in}
 use Rattle.sym_elements.proofs.Marking.{mark_at, picked, picked_one}
-use Rattle.sym_elements.proofs.Places.{place_is}
+use Rattle.sym_elements.proofs.Kept.{place_is}
 
 -- is the place of this number true
 abbrev pub place_at : (ℕ → Bool) → List NetNode → List Bit → ℕ → Bool
@@ -40,10 +40,10 @@ bit_at v net bits i d b e h = ap (holds v net) e ∙ sym (get_or-map (holds v ne
 
 module _ (p : Program) (o : ℕ) (ty : IntType) where
   -- one element, of what was read and what was chosen
-  pub place_reckons : {s n : Sym} {here : Bit} {held other bits : List Bit} (i : ℕ) → Reads p.model ty s.net held (λ v. element_at p v s o i)
+  pub place_reckons : {s n : Sym} {held bits : List Bit} (i : ℕ) (here : Bit) (other : List Bit) → Reads p.model ty s.net held (λ v. element_at p v s o i)
       → Reckoned p (4 * width_of p.model ty) s n ty bits (λ v. cond (holds v s.net here) (typed p.model ty v s.net held) (typed p.model ty v s.net other))
       → Reckoned p (4 * width_of p.model ty) s n ty bits (λ v. cond (holds v s.net here) (element_at p v s o i) (typed p.model ty v s.net other))
-  place_reckons {s} {n} {here} {held} {other} {bits} i h r = record {
+  place_reckons {s} {n} {held} {bits} i here other h r = record {
     turned = r.turned;
     bits_in = r.bits_in;
     is = λ v. r.is v ∙ ap (λ z. cond (holds v s.net here) z (typed p.model ty v s.net other)) (h.is v);
@@ -79,19 +79,19 @@ module _ (p : Program) (o : ℕ) (ty : IntType) where
     bits_in = r.bits_in;
     follows = turned_follows p (Duties p I) (λ v z. z)
         (record {
-        fits = r.turned.fits;
-        added = added_then (read_cost p o) 0 (unchanged 0 s.net) r.turned.added (omega (arith, ap (λ k. k * (4 * width_of p.model ty)) e, ap (λ t. size_of_object p o * (4 * width_of p.model t)) same)) (omega arith);
-        level = r.turned.level;
-        result = r.turned.result;
-        is = r.turned.is;
-      })
+          fits = r.turned.fits;
+          added = added_then (read_cost p o) 0 (unchanged 0 s.net) r.turned.added (omega (arith, ap (λ k. k * (4 * width_of p.model ty)) e, ap (λ t. size_of_object p o * (4 * width_of p.model t)) same)) (omega arith);
+          level = r.turned.level;
+          result = r.turned.result;
+          is = r.turned.is;
+        })
         (λ v. refl) (λ v d. refl)
         (λ v here rest.
         let one : HasOne (size_of_object p o) (map (holds v s.net) places) = x.one v here.live in (
           here,
           refl,
-          ap (λ k. read k (stand p v s).cells) (place_is p o places {s} v one)
-          ∙ sym (r.is v
-          ∙ picked_one (place_at v s.net places) (element_at p v s o) one.0 (λ k. ap (λ bs. get_or bs k false) one.2 ∙ mark_at one.0 (size_of_object p o) k one.1) i (omega (arith, e, one.1))),
+          ap (λ k. read k (stand p v s).cells) (place_is p o places s v one)
+              ∙ sym (r.is v
+              ∙ picked_one (place_at v s.net places) (element_at p v s o) one.0 (λ k. ap (λ bs. get_or bs k false) one.2 ∙ mark_at one.0 (size_of_object p o) k one.1) i (omega (arith, e, one.1))),
         ));
   }

@@ -22,8 +22,8 @@ use Rattle.sym_values.specs.Valuing.{Reckoned, Gives}
 use Rattle.sym_elements.specs.Marks.{HasOne}
 use Rattle.sym_elements.specs.Elements.{key_at, ArePlaces, width_of_element, written_cost, stored_cost, stored_in}
 use Rattle.sym_elements.proofs.Marking.{mark_at}
-use Rattle.sym_elements.proofs.Places.{place_is, places_moved, key_kept}
-use Rattle.sym_elements.proofs.Reading.{place_at, bit_at}
+use Rattle.sym_elements.proofs.Kept.{place_is, places_moved, key_kept}
+use Rattle.sym_elements.proofs.Picked.{place_at, bit_at}
 
 -- the first i cells are written, each where its place is true
 abbrev pub writes : ℕ → (ℕ → Bool) → ℕ → ℤ → Stand → Stand
@@ -72,11 +72,11 @@ module _ (p : Program) (o : ℕ) where
   own = type_of_object p o
 
   -- one cell, where a place is true
-  pub place_writes : {s n : Sym} {net : List NetNode} {here now : Bit} {value : List Bit} (i : ℕ) → IsState p s → AreTyped p.model (type_of_object p o) s.net value → Grown 1 s.net net
+  pub place_writes : {s n : Sym} {net : List NetNode} {now : Bit} (i : ℕ) (here : Bit) (value : List Bit) → IsState p s → AreTyped p.model (type_of_object p o) s.net value → Grown 1 s.net net
       → Means net now (λ v. holds v s.net s.live && holds v s.net here)
       → Turned p (4 * width_of p.model (type_of_object p o)) 0 (record s { net = net }) n (λ v. stored (holds v net now) (key o i) (typed p.model (type_of_object p o) v net value))
       → Turned p (4 * width_of_element p o + 1) 0 s n (λ v a. stored (a.live && holds v s.net here) (key o i) (typed p.model (type_of_object p o) v s.net value) a)
-  place_writes {s} {n} {net} {here} {now} {value} i h iv g m x = record {
+  place_writes {s} {n} {net} {now} i here value h iv g m x = record {
     fits = x.fits;
     added = added_then (4 * width_of_element p o + 1) 0 (added_of g) x.added (omega arith) (omega arith);
     level = x.level;
@@ -111,9 +111,9 @@ module _ (p : Program) (o : ℕ) where
             ∙ ap (λ k. writes k (place_at v s.net places) o z (stand p v s)) j;
       }
 
-  pub writes_all : {s n : Sym} {places value : List Bit} {i : ℕ} → ArePlaces p s o places → Writes places value s n i → i ≡ size_of_object p o
+  pub writes_all : {s n : Sym} {i : ℕ} (places value : List Bit) → ArePlaces p s o places → Writes places value s n i → i ≡ size_of_object p o
       → Turned p (written_cost p o) 0 s n (λ v. stored (holds v s.net s.live) (key_at o v s.net places) (typed p.model (type_of_object p o) v s.net value))
-  writes_all {s} {n} {places} {value} {i} x w e = record {
+  writes_all {s} {n} {i} places value x w e = record {
     fits = w.fits;
     added = added_then (written_cost p o) 0 (unchanged 0 s.net) w.added (omega (arith, ap (λ k. k * (4 * width_of_element p o + 1)) e)) (omega arith);
     level = w.level;
@@ -132,7 +132,7 @@ module _ (p : Program) (o : ℕ) where
       all_of v true h =
           let one : HasOne (size_of_object p o) (map (holds v s.net) places) = x.one v h in
           writes_one (place_at v s.net places) o (z v) (stand p v s) one.0 (λ k. ap (λ bs. get_or bs k false) one.2 ∙ mark_at one.0 (size_of_object p o) k one.1) h i (omega (arith, e, one.1))
-          ∙ ap₂ (λ t k. stored t k (z v) (stand p v s)) (sym h) (sym (place_is p o places {s} v one))
+          ∙ ap₂ (λ t k. stored t k (z v) (stand p v s)) (sym h) (sym (place_is p o places s v one))
 
   dead_store : (k : Key) (z : ℤ) (a : Stand) → a.live ≡ false → stored a.live k z a ≡ a
   dead_store k z a h = λ i. record a { cells = cond (h i) (put k z a.cells) a.cells }
@@ -142,11 +142,11 @@ module _ (p : Program) (o : ℕ) where
   places_reckoned {places = places} x r = places_moved p o places x r.turned.added (λ v live. ap (λ a. a.live) (sym (r.turned.is v)) ∙ live)
 
   -- a value is converted, and stored
-  pub element_stores : {s one n : Sym} {places value bits : List Bit} (I : List Placed) (from to : IntType) → to ≡ type_of_object p o → AreIn s.net places
+  pub element_stores : {s one n : Sym} {bits : List Bit} (places value : List Bit) (I : List Placed) (from to : IntType) → to ≡ type_of_object p o → AreIn s.net places
       → Reckoned p (conversion_cost p.model from to) s one to bits (λ v. fit p.model to (typed p.model from v s.net value))
       → Turned p (written_cost p o) 0 one n (λ v. stored (holds v one.net one.live) (key_at o v one.net places) (typed p.model (type_of_object p o) v one.net bits))
       → Gives p I (stored_cost p from o) 0 s n (Some to) bits (stored_in p I o places from value s)
-  element_stores {s} {one} {n} {places} {value} {bits} I from to e inside r x =
+  element_stores {s} {one} {n} {bits} places value I from to e inside r x =
       let z : (ℕ → Bool) → ℤ = λ v. fit p.model (type_of_object p o) (typed p.model from v s.net value) in
       let k : (ℕ → Bool) → Key = λ v. key_at o v s.net places in
       let whole : Turned p (stored_cost p from o) 0 s n (λ v a. stored a.live (k v) (z v) a) = record {
@@ -156,7 +156,7 @@ module _ (p : Program) (o : ℕ) where
         result = x.result ∙ r.turned.result;
         is = λ v.
             x.is v
-            ∙ ap₂ (λ j w. stored (holds v one.net one.live) j w (stand p v one)) (key_kept o v r.turned.added inside)
+            ∙ ap₂ (λ j w. stored (holds v one.net one.live) j w (stand p v one)) (key_kept places o v r.turned.added inside)
             (ap (λ t. typed p.model t v one.net bits) (sym e) ∙ r.is v ∙ ap (λ t. fit p.model t (typed p.model from v s.net value)) e)
             ∙ ap (λ a. stored a.live (k v) (z v) a) (r.turned.is v);
       } in

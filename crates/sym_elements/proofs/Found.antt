@@ -11,9 +11,9 @@ use Rattle.c_meaning.specs.Run.{index_below}
 use Rattle.circuits.specs.declared.net.Bit.{Bit}
 use Rattle.circuits.specs.declared.net.NetNode.{NetNode}
 use Rattle.circuits.specs.Gates.{negative}
-use Rattle.circuits.specs.Net.{holds, Means, IsIn, opposite}
+use Rattle.circuits.specs.Net.{holds, Grown, Means, IsIn, opposite}
 use Rattle.circuits.specs.Numbers.{number, read, typed, AreIn, AreTyped}
-use Rattle.circuits.proofs.Nets.{grown_then, opp, means_by}
+use Rattle.circuits.proofs.Nets.{grown_then, means_by}
 use Rattle.sym_state.specs.declared.state.Sym.{Sym}
 use Rattle.sym_state.specs.Places.{key}
 use Rattle.sym_state.specs.Standing.{Stand, stand, IsState, Turned, IsHere, marks, stopped}
@@ -24,7 +24,7 @@ use Rattle.sym_elements.specs.Marks.{IsDecoded, IsNone, none_true, HasOne}
 use Rattle.sym_elements.specs.Elements.{key_at, ArePlaces, found_cost, found_in, Finds}
 use Rattle.sym_elements.proofs.Marking.{none_of_none, none_inside, none_outside}
 use Rattle.sym_elements.proofs.Decoding.{bools_added}
-use Rattle.sym_elements.proofs.Places.{place_is}
+use Rattle.sym_elements.proofs.Kept.{place_is}
 
 -- an index of a type, read from its digits, is below a number
 below_by_sign : (n m : ℕ) (k : ℕ) (t : Bool) → index_below n (cond t (pos m) (negsuc k)) ≡ cond (not (not t) && nat_lt m n) (Some m) None
@@ -54,12 +54,12 @@ ends_not true true h = refl
 ends_not true false h = absurd (true≢false (sym h))
 ends_not false t h = absurd (true≢false (sym h))
 
--- the sign's bit
-pub signed_not : {net : List NetNode} {a b : Bit} {f : (ℕ → Bool) → Bool} → b ≡ opposite a → Means net a f → Means net b (λ v. not (f v))
-signed_not e m = opp e m
-
+-- the sign's bit of a type that has none
 pub unsigned_yes : {net : List NetNode} {b : Bit} (w : ℕ) (n : (ℕ → Bool) → ℕ) (s : Bool) → s ≡ false → Means net b (λ v. true) → Means net b (λ v. not (negative w s (n v)))
 unsigned_yes {net} {b} w n s e m = means_by net b (λ v. true) (λ v. not (negative w s (n v))) m (λ v. ap (λ t. not (t && not (nat_lt (n v) (2 ^ (w - 1))))) (sym e))
+
+pub two_grown : {j k : ℕ} {a b c : List NetNode} → Grown j a b → Grown k b c → Grown (j + k) a c
+two_grown {j} {k} {a} {b} {c} x y = grown_then j k (j + k) a b c x y (omega arith)
 
 module _ (p : Program) (I : List Placed) (o : ℕ) (ty : IntType) (index : List Bit) (s n : Sym) (mid net : List NetNode) (here outside : Bit) (places : List Bit) where
   abbrev value : (ℕ → Bool) → ℕ
@@ -70,7 +70,7 @@ module _ (p : Program) (I : List Placed) (o : ℕ) (ty : IntType) (index : List 
 
   module _ (fits : IsState p s) (index_in : AreTyped p.model ty s.net index) (sign : Means s.net here (λ v. not (negative (length index) (is_signed ty) (value v))))
       (made : IsDecoded s.net mid here index (size_of_object p o) places) (none : IsNone mid net places outside) (x : Turned p 1 0 (record s { net = net }) n (λ v. stopped (holds v net outside))) where
-
+    grown : Grown (3 * size_of_object p o + 2 * width_of p.model ty) s.net net
     grown = grown_then _ _ (3 * size_of_object p o + 2 * width_of p.model ty) _ _ _ made.grown none.grown (omega (arith, made.marks_of.wide, index_in.wide))
 
     outside_is : (v : ℕ → Bool) → holds v net outside ≡ not (inside v)
@@ -85,11 +85,17 @@ module _ (p : Program) (I : List Placed) (o : ℕ) (ty : IntType) (index : List 
       is = λ v. x.is v ∙ ap₂ stopped (outside_is v) (stand_grown p v grown fits);
     }
 
-    one_place : (v : ℕ → Bool) → inside v ≡ true → HasOne (size_of_object p o) (map (holds v n.net) places)
-    one_place v h =
+    below : (v : ℕ → Bool) → inside v ≡ true → value v < size_of_object p o
+    below v h = ltb-true (value v) (size_of_object p o) (both_true (holds v s.net here) (nat_lt (value v) (size_of_object p o)) h).1
+
+    only_place : (v : ℕ → Bool) → inside v ≡ true → map (holds v n.net) places ≡ marks (suc (value v)) (size_of_object p o)
+    only_place v h =
         let q = both_true (holds v s.net here) (nat_lt (value v) (size_of_object p o)) h in
         let stays : map (holds v n.net) places ≡ map (holds v mid) places = bools_added v places (added_then (length places + 1) 0 (added_of none.grown) x.added (omega arith) (omega arith)) made.marks_of.inside in
-        (value v, ltb-true (value v) (size_of_object p o) q.1, stays ∙ made.marks_of.is v ∙ ap (λ b. marks (cond b (suc (value v)) 0) (size_of_object p o)) q.0)
+        stays ∙ made.marks_of.is v ∙ ap (λ b. marks (cond b (suc (value v)) 0) (size_of_object p o)) q.0
+
+    abbrev one_place : (v : ℕ → Bool) → inside v ≡ true → HasOne (size_of_object p o) (map (holds v n.net) places)
+    one_place v h = (value v, below v h, only_place v h)
 
     found_places : ArePlaces p n o places
     found_places = record {
@@ -111,7 +117,7 @@ module _ (p : Program) (I : List Placed) (o : ℕ) (ty : IntType) (index : List 
     goes v a rest h true e = (
       record { live = ap (λ l. l && true) h.live; broken = h.broken; again = h.again; gave = h.gave; failing = h.failing },
       refl,
-      sym (place_is p o places {n} v (one_place v e)),
+      sym (place_is p o places n v (one_place v e)),
     )
     goes v a rest h false e = (record { live = and_never a.live; broken = h.broken; again = h.again; gave = h.gave; failing = h.failing }, refl, refl)
       where

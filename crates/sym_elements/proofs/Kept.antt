@@ -18,8 +18,8 @@ use Rattle.sym_elements.proofs.Marking.{first_of_marks}
 use Rattle.sym_elements.proofs.Decoding.{bools_added}
 
 -- the cell that bits tell of is the same in a larger net
-pub key_kept : {i j : ℕ} {old new : List NetNode} {places : List Bit} (o : ℕ) (v : ℕ → Bool) → Added i j old new → AreIn old places → key_at o v new places ≡ key_at o v old places
-key_kept {places = places} o v g h = ap (λ bs. key o (first_true bs)) (bools_added v places g h)
+pub key_kept : {i j : ℕ} {old new : List NetNode} (places : List Bit) (o : ℕ) (v : ℕ → Bool) → Added i j old new → AreIn old places → key_at o v new places ≡ key_at o v old places
+key_kept places o v g h = ap (λ bs. key o (first_true bs)) (bools_added v places g h)
 
 -- a run that is here was here before
 pub live_before : {a b : Stand} → Moves a b → b.live ≡ true → a.live ≡ true
@@ -43,8 +43,8 @@ module _ (p : Program) (o : ℕ) (places : List Bit) where
 
   pub key_follows : {A : Type 0} {ds : List Duty} {i j : ℕ} {s t : Sym} {S : (ℕ → Bool) → A → Type 0} {deed : Deed A} → ArePlaces p s o places → Follows ds p i j s t S deed → (v : ℕ → Bool)
       → key_at o v t.net places ≡ key_at o v s.net places
-  key_follows x f v = key_kept o v f.added x.inside
+  key_follows x f v = key_kept places o v f.added x.inside
 
   -- the place of a run that is here
-  pub place_is : {s : Sym} (v : ℕ → Bool) (one : HasOne (size_of_object p o) (map (holds v s.net) places)) → key_at o v s.net places ≡ key o one.0
-  place_is {s} v one = ap (key o) (ap first_true one.2 ∙ first_of_marks one.0 (size_of_object p o) one.1)
+  pub place_is : (s : Sym) (v : ℕ → Bool) (one : HasOne (size_of_object p o) (map (holds v s.net) places)) → key_at o v s.net places ≡ key o one.0
+  place_is s v one = ap (key o) (ap first_true one.2 ∙ first_of_marks one.0 (size_of_object p o) one.1)
