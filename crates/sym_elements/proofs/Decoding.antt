@@ -1,7 +1,7 @@
 -- The circuits of marks.
-use Rattle.std.proofs.Common.{◌≡◌, ℕ, zero, suc, ◌+◌, ◌-◌, ◌*◌, ◌/◌, ◌<◌, ◌≤◌, Bool, true, false, cond, not, ◌&&◌, nat_eq, List, [], ◌∷◌, ◌++◌, length, get_or, take, drop, map, refl, sym, ◌∙◌, ap, ap₂, subst, arith, length-append, append_assoc}
+use Rattle.std.proofs.Common.{◌≡◌, ℕ, suc, ◌+◌, ◌-◌, ◌*◌, ◌/◌, ◌<◌, ◌≤◌, Bool, true, false, cond, not, ◌&&◌, nat_eq, List, [], ◌∷◌, ◌++◌, length, get_or, take, drop, map, refl, sym, ◌∙◌, ap, ap₂, subst, arith, length-append, append_assoc}
 use Rattle.std.proofs.lemmas.Bool.{ne_eqb}
-use Rattle.std.proofs.lemmas.List.{map-append, take-map, take_more, take_all, length-take-le, length-drop}
+use Rattle.std.proofs.lemmas.List.{map-append, take-map, take_more, take_all, length-take-le}
 use Rattle.std.proofs.lemmas.List.Elements.{All-append, All-cons, All-nil, All-head, All-tail, All-take, All-get_or}
 use Rattle.circuits.specs.declared.net.Bit.{Bit}
 use Rattle.circuits.specs.declared.net.NetNode.{NetNode}
@@ -12,7 +12,7 @@ use Rattle.circuits.proofs.Counting.{are_in_later}
 use Rattle.sym_state.specs.Standing.{marks, Added}
 use Rattle.sym_state.proofs.Nets.{added_of, holds_added}
 use Rattle.sym_elements.specs.Marks.{AreMarks, pairs, AreDoubled, IsDecoded, none_true, IsNone}
-use Rattle.sym_elements.proofs.Marking.{marks_more, next, pairs_marks, pairs_snoc, none_snoc, length_marks}
+use Rattle.sym_elements.proofs.Marking.{marks_more, next, pairs_marks, pairs_snoc, none_snoc}
 
 -- bits keep their values
 pub bools_added : {i j : ℕ} {old new : List NetNode} (v : ℕ → Bool) (bs : List Bit) → Added i j old new → AreIn old bs → map (holds v new) bs ≡ map (holds v old) bs

@@ -1,5 +1,5 @@
 -- The places of an index: a run whose index lies outside ends.
-use Rattle.std.proofs.Common.{◌≡◌, ℕ, zero, suc, ◌+◌, ◌-◌, ◌*◌, ◌^◌, ◌<◌, ◌≤◌, Bool, true, false, cond, not, ◌&&◌, nat_lt, ℤ, pos, negsuc, List, length, get_or, map, refl, sym, ◌∙◌, ap, ap₂, subst, arith, Option, Some, None, true≢false}
+use Rattle.std.proofs.Common.{◌≡◌, ℕ, suc, ◌+◌, ◌-◌, ◌*◌, ◌^◌, ◌<◌, Bool, true, false, cond, not, ◌&&◌, nat_lt, ℤ, pos, negsuc, List, length, map, refl, sym, ◌∙◌, ap, ap₂, subst, arith, Some, None, true≢false}
 use Rattle.std.proofs.lemmas.Bool.{ltb-true, ltb-false}
 use Rattle.c_core.specs.Tree.{Program}
 use Rattle.c_core.specs.Types.{width_of, is_signed, signed_of}
@@ -11,17 +11,16 @@ use Rattle.c_meaning.specs.Run.{index_below}
 use Rattle.circuits.specs.declared.net.Bit.{Bit}
 use Rattle.circuits.specs.declared.net.NetNode.{NetNode}
 use Rattle.circuits.specs.Gates.{negative}
-use Rattle.circuits.specs.Net.{holds, Grown, Means, IsIn, opposite}
-use Rattle.circuits.specs.Numbers.{number, read, typed, AreIn, AreTyped}
+use Rattle.circuits.specs.Net.{holds, Grown, Means}
+use Rattle.circuits.specs.Numbers.{number, read, typed, AreTyped}
 use Rattle.circuits.proofs.Nets.{grown_then, means_by}
 use Rattle.sym_state.specs.declared.state.Sym.{Sym}
-use Rattle.sym_state.specs.Places.{key}
 use Rattle.sym_state.specs.Standing.{Stand, stand, IsState, Turned, IsHere, marks, stopped}
 use Rattle.sym_state.specs.Following.{left_of, Came}
 use Rattle.sym_state.proofs.Nets.{added_of, added_then, all_added, stand_grown}
 use Rattle.sym_state.proofs.Composed.{turned_follows}
 use Rattle.sym_elements.specs.Marks.{IsDecoded, IsNone, none_true, HasOne}
-use Rattle.sym_elements.specs.Elements.{key_at, ArePlaces, found_cost, found_in, Finds}
+use Rattle.sym_elements.specs.Elements.{key_at, ArePlaces, found_cost, Finds}
 use Rattle.sym_elements.proofs.Marking.{none_of_none, none_inside, none_outside}
 use Rattle.sym_elements.proofs.Decoding.{bools_added}
 use Rattle.sym_elements.proofs.Kept.{place_is}

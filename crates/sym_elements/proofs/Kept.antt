@@ -1,5 +1,5 @@
 -- Places stay good while the net grows and runs end.
-use Rattle.std.proofs.Common.{◌≡◌, ℕ, suc, ◌<◌, Bool, true, false, List, length, map, refl, sym, ◌∙◌, ap, subst, true≢false}
+use Rattle.std.proofs.Common.{◌≡◌, ℕ, Bool, true, false, List, map, refl, sym, ◌∙◌, ap, subst, true≢false}
 use Rattle.c_core.specs.Tree.{Program}
 use Rattle.c_meaning.specs.declared.run.Duty.{Duty}
 use Rattle.c_meaning.specs.Objects.{size_of_object}

@@ -1,5 +1,5 @@
 -- Elements are read: of all cells that of the place that is true.
-use Rattle.std.proofs.Common.{◌≡◌, ℕ, zero, suc, ◌+◌, ◌*◌, ◌<◌, ◌≤◌, Bool, true, false, cond, nat_eq, ℤ, pos, List, length, get_or, map, refl, sym, ◌∙◌, ap, ap₂, subst, arith, Some}
+use Rattle.std.proofs.Common.{◌≡◌, ℕ, suc, ◌+◌, ◌*◌, ◌<◌, Bool, false, cond, ℤ, pos, List, length, get_or, map, refl, sym, ◌∙◌, ap, ap₂, arith, Some}
 use Rattle.std.proofs.lemmas.List.{get_or-map}
 use Rattle.std.proofs.lemmas.List.Elements.{All-get_or}
 use Rattle.c_core.specs.Tree.{Program}
@@ -11,11 +11,11 @@ use Rattle.c_meaning.specs.Objects.{type_of_object, size_of_object}
 use Rattle.circuits.specs.declared.net.Bit.{Bit}
 use Rattle.circuits.specs.declared.net.NetNode.{NetNode}
 use Rattle.circuits.specs.Net.{holds, IsIn}
-use Rattle.circuits.specs.Numbers.{typed, AreIn, AreTyped, Reads}
+use Rattle.circuits.specs.Numbers.{typed, AreIn, Reads}
 use Rattle.sym_state.specs.declared.state.Sym.{Sym}
 use Rattle.sym_state.specs.Places.{key}
-use Rattle.sym_state.specs.Standing.{stand, IsState, Turned}
-use Rattle.sym_state.proofs.Nets.{unchanged, added_then, holds_added, in_added}
+use Rattle.sym_state.specs.Standing.{stand, IsState}
+use Rattle.sym_state.proofs.Nets.{unchanged, added_then, holds_added}
 use Rattle.sym_state.proofs.Composed.{turned_follows}
 use Rattle.sym_values.specs.Valuing.{Reckoned, Gives}
 use Rattle.sym_elements.specs.Marks.{HasOne}

@@ -35,6 +35,7 @@ pub record ArePlaces (p : Program) (s : Sym) (o : ℕ) (places : List Bit) : Typ
   pub one : (v : ℕ → Bool) → holds v s.net s.live ≡ true → HasOne (size_of_object p o) (map (holds v s.net) places)
 
 module _ (p : Program) where
+  -- bits of each cell of an object
   abbrev pub width_of_element : ℕ → ℕ
   width_of_element o = width_of p.model (type_of_object p o)
 
@@ -56,12 +57,15 @@ module _ (p : Program) where
 
   -- I: the invariants in witness order
   module _ (I : List Placed) where
+    -- from an index of a type to the cell that it means, or to the end (C11 6.5.6p8)
     abbrev pub found_in : ℕ → IntType → List Bit → Sym → Deed Key
     found_in o ty index old v s = definition.key_of p I o (index_below (size_of_object p o) (typed p.model ty v old.net index)) s
 
+    -- the cell that the places tell of is read
     abbrev pub read_in : ℕ → List Bit → Sym → Deed ℤ
     read_in o places old v s = (havoc p I).look (key_at o v old.net places) s
 
+    -- a value of a type is converted to the object's, and stored in that cell
     abbrev pub stored_in : ℕ → List Bit → IntType → List Bit → Sym → Deed ℤ
     stored_in o places from value old v s = store p (havoc p I) (key_at o v old.net places) from (type_of_object p o) (typed p.model from v old.net value) s
 
