@@ -68,9 +68,6 @@ module _ (b : ℕ → Bool) (o : ℕ) (z : ℤ) (a : Stand) where
         by_case false q g = no_write i ((writes i b o z a).live && b i) (and_no (writes i b o z a).live (b i) (e i ∙ q)) ∙ g (let d = eqb-false k i q in omega (arith, h, d))
 
 module _ (p : Program) (o : ℕ) where
-  abbrev own : IntType
-  own = type_of_object p o
-
   -- one cell, where a place is true
   pub place_writes : {s n : Sym} {net : List NetNode} {now : Bit} (i : ℕ) (here : Bit) (value : List Bit) → IsState p s → AreTyped p.model (type_of_object p o) s.net value → Grown 1 s.net net
       → Means net now (λ v. holds v s.net s.live && holds v s.net here)
