@@ -1,12 +1,11 @@
 -- What the solver's answer says of a failing bit.
-use Rattle.std.proofs.Common.{◌≡◌, ℕ, ◌+◌, ◌-◌, ◌≤◌, ◌<◌, ◌^◌, Bool, true, false, not, List, [], get_or, ℤ, length, refl, sym, ◌∙◌, ap, subst, arith, inr}
+use Rattle.std.proofs.Common.{◌≡◌, ℕ, ◌+◌, ◌-◌, Bool, true, false, not, List, [], get_or, ℤ, refl, sym, ◌∙◌, ap, arith, inr}
 use Rattle.std.specs.Prelude.{slice_index_or}
 use Rattle.std.proofs.lemmas.Bool.{false_from_ne_true}
 use Rattle.circuits.specs.declared.net.Bit.{Bit}
 use Rattle.circuits.specs.declared.net.NetNode.{NetNode}
 use Rattle.circuits.specs.Net.{holds, values_from, xor, IsNet, count_inputs}
 use Rattle.circuits.proofs.Nets.{first_true}
-use Rattle.clauses.specs.Assignment.{all_hold}
 use Rattle.clauses.specs.Tseitin.{ClausesOf, Describes, Fulfils, Propagates, inputs_in}
 use Rattle.clauses.specs.Log.{Refutes}
 use Rattle.clauses.specs.Spent.{IsSpent}

@@ -1,5 +1,5 @@
 -- From the failing bits to the verdict.
-use Rattle.std.proofs.Common.{◌≡◌, ℕ, zero, suc, ◌+◌, ◌-◌, ◌≤◌, ◌<◌, ◌^◌, Bool, true, false, List, ℤ, length, refl, sym, ◌∙◌, ap, subst, arith, Some, get_or, inl, inr}
+use Rattle.std.proofs.Common.{◌≡◌, ℕ, zero, suc, ◌+◌, ◌-◌, ◌≤◌, ◌<◌, ◌^◌, Bool, true, List, length, refl, sym, ◌∙◌, ap, subst, arith, Some, get_or, inl, inr}
 use Rattle.std.specs.Prelude.{slice_get}
 use Rattle.std.proofs.lemmas.Option.{slice_get-get_or, slice_get_within, get_or_from_slice_get, same_Some}
 use Rattle.std.proofs.lemmas.Bool.{cases_lt}
@@ -19,7 +19,7 @@ use Rattle.clauses.specs.declared.log.SpentAt.{SpentAt}
 use Rattle.sym_state.specs.declared.state.DrawSite.{DrawSite}
 use Rattle.sym_state.specs.Standing.{draws_at}
 use Rattle.sym_duties.specs.declared.obligations.Obligations.{Obligations}
-use Rattle.sym_duties.specs.Promise.{ArePromised, Tells}
+use Rattle.sym_duties.specs.Promise.{ArePromised}
 use Rattle.judge_obligations.specs.Deciding.{AreNeverTrue, IsNeverTrue, IsSpentOn, IsWide}
 use Rattle.judge_obligations.specs.Verdicts.{HoldUpTo, AllHold, FailsFirst, IsSpentOver, IsUndecidedAt}
 use Rattle.judge_obligations.proofs.Found.{clash}

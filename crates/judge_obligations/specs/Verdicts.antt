@@ -1,12 +1,11 @@
 -- The right verdict on the invariants of a program.
-use Rattle.std.specs.Prelude.{◌≡◌, ℕ, ◌+◌, ◌-◌, ◌≤◌, ◌<◌, ◌^◌, ℤ, List, length, slice_get, Option, Some, None}
+use Rattle.std.specs.Prelude.{◌≡◌, ℕ, ◌-◌, ◌≤◌, ◌<◌, ℤ, List, length, slice_get, Option, Some, None}
 use Rattle.c_core.specs.Tree.{Program}
 use Rattle.c_meaning.specs.declared.run.Draw.{Draw}
 use Rattle.c_meaning.specs.declared.run.Duty.{Duty}
 use Rattle.c_meaning.specs.declared.run.HavocEnd.TheVariants.{Failed}
 use Rattle.c_meaning.specs.declared.verdict.Verdict.{Verdict}
 use Rattle.c_meaning.specs.declared.verdict.Verdict.TheVariants.{ViolationConfirmed, ViolationNot, CorrectnessConfirmed, CorrectnessNot, Undecided}
-use Rattle.c_meaning.specs.declared.verdict.Cause.{Cause}
 use Rattle.c_meaning.specs.declared.verdict.Cause.TheVariants.{Steps, Cells, Conflicts}
 use Rattle.c_meaning.specs.Duties.{Placed, Duties}
 use Rattle.c_meaning.specs.Havoc.{Havoc}

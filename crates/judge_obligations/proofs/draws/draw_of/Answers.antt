@@ -1,4 +1,4 @@
-use Rattle.std.proofs.Common.{◌≡◌, ◌∙◌, ℤ, pos, FitsSigned, to_z, of_z, ap, rules}
+use Rattle.std.proofs.Common.{◌≡◌, ◌∙◌, pos, FitsSigned, to_z, of_z, ap, rules}
 use Rattle.std.proofs.lemmas.Int.{to_z-of_z}
 use mir.Syntax.{w128}
 use Rattle.c_core.specs.Types.{fit}

@@ -1,6 +1,5 @@
-use Rattle.std.proofs.Common.{◌≡◌, ◌∙◌, sym, ap}
+use Rattle.std.proofs.Common.{◌∙◌, sym}
 use Rattle.c_core.specs.View.{program_view}
-use Rattle.circuits.specs.Net.{holds}
 use Rattle.circuits.proofs.Nets.{value_holds}
 use Rattle.judge_obligations.specs.Deciding.{inputs_of}
 use Rattle.judge_obligations.proofs.Drawn.{drawn, passed}

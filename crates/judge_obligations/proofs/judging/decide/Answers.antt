@@ -1,4 +1,4 @@
-use Rattle.std.proofs.Common.{◌≡◌, ◌+◌, ◌∙◌, true, length, Some, subst, sym, ap, ap₂, arith}
+use Rattle.std.proofs.Common.{◌≡◌, ◌+◌, ◌∙◌, true, subst, sym, ap₂, arith}
 use Rattle.c_core.specs.View.{program_view}
 use Rattle.c_duties.specs.Obliged.{placed_view}
 use Rattle.c_meaning.specs.declared.verdict.Verdict.TheVariants.{Undecided}
