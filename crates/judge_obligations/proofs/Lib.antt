@@ -1,0 +1,5 @@
+mod Found
+mod Numbers
+mod Drawn
+mod Chosen
+mod Verdicted

@@ -1,0 +1,3 @@
+pub mod Verdicts
+pub mod Deciding
+pub mod Answering

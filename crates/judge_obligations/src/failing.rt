@@ -1,0 +1,47 @@
+// One obligation: can its failing bit be true?
+ghost use Rattle.std.specs.Prelude.{◌≤◌, ◌<◌, ◌^◌, IfOk, length};
+ghost use Rattle.circuits.specs.Net.{IsIn};
+ghost use Rattle.judge_obligations.specs.Deciding.{IsDecidedAs};
+
+use circuits::{Bit, Net};
+use clauses::{SpentAt, cnf_of};
+use sat_core::{Answer, solve};
+use std::alloc::Global;
+use wv_base::{OutOfMemory, Seq};
+
+/// What is known of an obligation: it holds; it fails where the inputs of the net have the first of these values; or the
+/// budget was spent.
+#[derive(Drop)]
+pub enum Finding {
+    Holds,
+    Fails(Seq<bool>),
+    Spent(SpentAt),
+}
+
+/// Decides a failing bit by its clauses, with a budget of conflicts; the constant and its opposite without any.
+pub fn decide_bit(
+    alloc: Global,
+    net: &Net,
+    bit: Bit,
+    conflicts: u64,
+) -> Result<Finding, OutOfMemory>
+    requires bit_in { IsIn net.now bit }
+    requires room { length net.now < 2 ^ 28 }
+    requires some { 1 ≤ conflicts }
+    requires bounded { conflicts ≤ 1000000 }
+    ensures { IfOk result (IsDecidedAs conflicts net.now bit) }
+{
+    let _ = net.nodes();
+    if bit.node == 0 {
+        if bit.negated {
+            return Ok(Finding::Holds);
+        }
+        return Ok(Finding::Fails(Seq::new(alloc)));
+    }
+    let clauses = cnf_of(alloc, net, bit)?;
+    match solve(alloc, &clauses, conflicts)? {
+        Answer::Model(values) => Ok(Finding::Fails(values)),
+        Answer::Refuted(_) => Ok(Finding::Holds),
+        Answer::Spent(log) => Ok(Finding::Spent(SpentAt { clauses, log })),
+    }
+}

@@ -1,0 +1,108 @@
+// The verdict on all obligations in their order.
+ghost use Rattle.std.specs.Prelude.{◌≡◌, ◌+◌, ◌-◌, ◌≤◌, ◌<◌, ◌^◌, IfOk, Some, length, slice_get};
+ghost use Rattle.c_core.specs.View.{program_view};
+ghost use Rattle.c_duties.specs.Obliged.{placed_view};
+ghost use Rattle.circuits.specs.Net.{count_inputs};
+ghost use Rattle.sym_duties.specs.Promise.{ArePromised};
+ghost use Rattle.judge_obligations.specs.Answering.{IsShown, IsLeftOpen};
+ghost use Rattle.judge_obligations.specs.Verdicts.{IsRightOnInvariants, IsKept, IsDecided};
+
+use crate::draws::draws_under;
+use crate::failing::{Finding, decide_bit};
+use c_core::Program;
+use c_meaning::{Cause, Draw, PlacedInvariant, Verdict};
+use circuits::Bit;
+use clauses::SpentAt;
+use std::alloc::Global;
+use sym_duties::Obligations;
+use wv_base::{OutOfMemory, Seq};
+
+/// A verdict; and where its budget was spent, the clauses and the log that show it.
+#[derive(Drop)]
+pub struct Judged {
+    pub verdict: Verdict,
+    pub spent: Option<SpentAt>,
+}
+
+// obligations are numbered from 1
+fn number_at(at: usize) -> u32
+    requires { at + 1 < 2 ^ 32 }
+    ensures { result ≡ at + 1 }
+{
+    at as u32 + 1
+}
+
+// the failing bit of the obligation at an index
+fn failing_at(obligations: &Obligations, at: usize) -> Bit
+    requires { at < length obligations.now.failing }
+    ensures { Some result ≡ slice_get obligations.now.failing at }
+{
+    obligations.failing.as_slice()[at]
+}
+
+// the obligation at an index fails, with these draws
+fn failed(obligations: &Obligations, at: usize, draws: Seq<Draw>) -> Judged
+    requires within { at < length obligations.now.list }
+    requires numbered { at + 1 < 2 ^ 32 }
+    ensures { IsShown obligations.now.list at draws result }
+{
+    let duty = obligations.list.as_slice()[at];
+    Judged {
+        verdict: Verdict::CorrectnessNot {
+            index: number_at(at),
+            duty,
+            draws,
+        },
+        spent: None,
+    }
+}
+
+// the budget was spent on the obligation at an index
+fn undecided(at: usize, conflicts: u64, spent: SpentAt) -> Judged
+    requires numbered { at + 1 < 2 ^ 32 }
+    ensures { IsLeftOpen at conflicts spent result }
+{
+    Judged {
+        verdict: Verdict::Undecided(Cause::Conflicts {
+            index: number_at(at),
+            count: conflicts,
+        }),
+        spent: Some(spent),
+    }
+}
+
+/// Decides the obligations one after the other, each with a budget of conflicts, up to the first that doesn't hold.
+pub fn decide(
+    alloc: Global,
+    program: &Program,
+    invariants: &Seq<PlacedInvariant>,
+    obligations: &Obligations,
+    conflicts: u64,
+) -> Result<Judged, OutOfMemory>
+    requires promised { ArePromised (program_view program.now) (placed_view invariants.now) obligations.now }
+    requires some { 1 ≤ conflicts }
+    requires bounded { conflicts ≤ 1000000 }
+    ensures right { IfOk result (λ r. IsRightOnInvariants conflicts (program_view program.now) (placed_view invariants.now) r.verdict) }
+    ensures kept { IfOk result (λ r. IsKept conflicts obligations.now r.verdict r.spent) }
+    ensures decided { IfOk result (λ r. 2 ^ (count_inputs obligations.now.net + 1) - 2 < conflicts → IsDecided r.verdict) }
+{
+    let net = &obligations.net;
+    let _ = net.nodes();
+    let many = obligations.failing.len();
+    for at in 0..many {
+        let bit = failing_at(obligations, at);
+        match decide_bit(alloc, net, bit, conflicts)? {
+            Finding::Holds => {}
+            Finding::Fails(values) => {
+                let sites = obligations.sites.as_slice();
+                let draws = draws_under(alloc, program, net, sites, values.as_slice())?;
+                return Ok(failed(obligations, at, draws));
+            }
+            Finding::Spent(spent) => return Ok(undecided(at, conflicts, spent)),
+        }
+    }
+    Ok(Judged {
+        verdict: Verdict::CorrectnessConfirmed { count: many as u32 },
+        spent: None,
+    })
+}
