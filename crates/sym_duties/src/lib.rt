@@ -2,8 +2,10 @@
 //! evaluator says of the havoc runs.
 #![tactic(auto)]
 
+mod fault;
 mod laws;
 mod obligations;
 
+pub use fault::SymFault;
 pub use laws::one_obligation_fails;
 pub use obligations::Obligations;

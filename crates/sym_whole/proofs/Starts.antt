@@ -1,5 +1,5 @@
 -- The state from which each run sets out.
-use Rattle.std.proofs.Common.{◌≡◌, ℕ, zero, suc, ◌+◌, ◌<◌, Bool, true, false, cond, ℤ, pos, List, [], ◌∷◌, ◌++◌, map, drop, replicate, slice_get, unwrap_or, IsTrue, refl, sym, ◌∙◌, ap, subst, arith, append-nil, append_assoc}
+use Rattle.std.proofs.Common.{◌≡◌, ℕ, zero, suc, ◌+◌, ◌<◌, Bool, true, false, cond, ℤ, pos, List, [], ◌∷◌, ◌++◌, length, map, drop, replicate, slice_get, unwrap_or, IsTrue, refl, sym, ◌∙◌, ap, subst, arith, append-nil, append_assoc, length-append}
 use Rattle.std.specs.List.{All}
 use Rattle.std.specs.declared.vec.Vec.{Vec}
 use Rattle.std.specs.declared.alloc.Global.{Global}
@@ -146,4 +146,5 @@ module _ (p : Program) where
         };
         no_gates = omega (arith, ap count_ands x.added.is, count_ands-append s0.net x.added.more, none.0, x.added.gates);
         no_inputs = omega (arith, ap count_inputs x.added.is, inputs-append s0.net x.added.more, none.1, x.added.feeds);
+        one_node = omega (arith, ap length x.added.is, length-append s0.net x.added.more, ap length e, x.added.few);
       }

@@ -19,3 +19,4 @@ pub record IsFirst (p : Program) (count : ℕ) (s : Sym) : Type 0 where
   pub start : (ds : List Duty) → length ds ≡ count → IsStart ds p (first_cells p) s
   pub no_gates : count_ands s.net ≡ 0
   pub no_inputs : count_inputs s.net ≡ 0
+  pub one_node : length s.net ≡ 1
