@@ -33,7 +33,7 @@ pub fn full(
     requires ready { FullReady (program_of walk.now) (invariants_of walk.now) depth sym.old (expr_view e.now) }
     ensures { IfOk result (λ r. FullGives (program_of walk.now) (invariants_of walk.now) depth at (use_of used) (expr_view e.now) sym.old sym.new r.bits) }
 {
-    let place = around(walk, at, e)?;
+    let place = around(walk, at, e);
     let bits = eval(walk, sym, depth, place, used, e)?;
     Ok(bits)
 }

@@ -1304,14 +1304,14 @@ control::full-eval-requires t c =
     let p = program_of c.args.walk.now in
     let I = invariants_of c.args.walk.now in
     let n = c.args.depth in
-    (omega (arith, c.decreases), (c.requires.walk, full_ready p I n c.in_ok-place.place c.in_ok-place.ensures.duty c.requires.ready))
+    (omega (arith, c.decreases), (c.requires.walk, full_ready p I n c.around-place.result c.around-place.ensures.duty c.requires.ready))
 
 pub control::full-returns : goal.control::full-returns
 control::full-returns t c =
     let p = program_of c.args.walk.now in
     let I = invariants_of c.args.walk.now in
     let n = c.args.depth in
-    full_gives p I n c.args.at c.in_ok-place.place (use_of c.args.used) (expr_view c.args.e.now) c.in_ok-place.ensures.place c.in_ok-bits.ensures
+    full_gives p I n c.args.at c.around-place.result (use_of c.args.used) (expr_view c.args.e.now) c.around-place.ensures.place c.in_ok-bits.ensures
 
 pub control::decided-full-requires : goal.control::decided-full-requires
 control::decided-full-requires t c =
