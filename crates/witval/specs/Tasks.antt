@@ -11,7 +11,7 @@ use Rattle.c_meaning.specs.Duties.{Placed}
 use Rattle.c_meaning.specs.declared.verdict.Verdict.{Verdict}
 use Rattle.c_parser.specs.Parsing.{Answers as ParserAnswers, source_view}
 use Rattle.c_tokens.specs.Reading.{Answers as TokensAnswers}
-use Rattle.judge_correctness.specs.Correctness.{IsConfirmed}
+use Rattle.judge_correctness.specs.Correctness.{IsConfirmed, IsDecidedBeyond}
 use Rattle.judge_obligations.specs.Verdicts.{IsRightOnInvariants}
 use Rattle.sym_duties.specs.Answers.{CanBeJudged, IsFault, names_of}
 use Rattle.sym_duties.specs.declared.fault.SymFault.{SymFault}
@@ -49,11 +49,12 @@ RightOnSequence steps witness program = do
 -- ---- invariant sets
 
 -- the right verdict on a program with invariants that can be judged; where it confirms, no run violates the property, and each
--- invariant holds whenever its place is reached
+-- invariant holds whenever its place is reached; beyond the budget that the drawn bits allow, it is decided
 pub record IsRightOnSets (conflicts : ℕ) (p : t.Program) (I : List Placed) (verdict : Verdict) : Type 0 where
   pub right : IsRightOnInvariants conflicts p I verdict
   pub confirmed : IsConfirmed p I verdict
   pub judged : CanBeJudged p I
+  pub decided : IsDecidedBeyond conflicts p verdict
 
 -- such a verdict, or why there is none: main reaches a cycle of calls, or else the program is too big
 abbrev pub JudgesSets : ℕ → Program → List Placed → Result Verdict SymFault → Type 0
