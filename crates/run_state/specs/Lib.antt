@@ -1,2 +1,3 @@
 pub mod Interpreting
 pub mod Drawing
+pub mod Fronts
