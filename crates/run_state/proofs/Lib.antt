@@ -5,4 +5,4 @@ pub mod Declaring
 pub mod Starting
 pub mod Drawing
 pub mod Calling
-pub mod Growing
+pub mod Fronting

@@ -1,3 +1,4 @@
 pub mod Interpreting
 pub mod Drawing
+pub mod Ways
 pub mod Fronts
