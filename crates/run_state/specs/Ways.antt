@@ -1,5 +1,5 @@
 -- Runs with an account of what was seen on their way, wherever memory may be wanting.
-use Rattle.std.specs.Prelude.{ℕ, zero, suc, ℤ, Bool, cond, List, [], ◌∷◌, ◌++◌, Option, Some, None}
+use Rattle.std.specs.Prelude.{◌≡◌, ℕ, zero, suc, ℤ, Bool, cond, List, [], ◌∷◌, ◌++◌, Option, Some, None}
 use Rattle.c_core.specs.Tree.{Program}
 use Rattle.c_core.specs.declared.number.Spot.{Spot}
 use Rattle.c_core.specs.declared.number.IntType.{IntType}
@@ -31,6 +31,11 @@ bound r k = record { result = bind r.result (λ a t. (k a t).result); way = r.wa
 pub data IsOn {S : Type 0} (x : S) : List S → Type 0 where
   here : (xs : List S) → IsOn x (x ∷ xs)
   further : (y : S) (xs : List S) → IsOn x xs → IsOn x (y ∷ xs)
+
+-- what is left to do ends as the whole, and its way is on the way of the whole
+pub record Behind {S A : Type 0} (rest whole : Ran S A) : Type 0 where
+  pub result : rest.result ≡ whole.result
+  pub way : (x : S) → IsOn x rest.way → IsOn x whole.way
 
 module _ (p : Program) (S : Type 0) (see : Moment → S → S) where
   -- what a part does from a state
