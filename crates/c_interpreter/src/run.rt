@@ -1,8 +1,10 @@
 // Runs of programs.
-ghost use Rattle.std.specs.Prelude.{◌≡◌, ◌≤◌, suc, IfOk};
+ghost use Rattle.std.specs.Prelude.{◌≡◌, ◌≤◌, suc, IfOk, OnErr, Err};
 ghost use Rattle.c_core.specs.View.{program_view};
 ghost use Rattle.c_meaning.specs.Run as runs;
 ghost use Rattle.c_meaning.specs.Watching.{seen_after};
+ghost use Rattle.run_state.specs.Fronts.{SawFront};
+ghost use Rattle.run_state.specs.declared.machine.Halt.TheVariants.{NoMemory};
 ghost use Rattle.run_state.specs.Interpreting.{Gives, EndsAs, state_of, flow_of, in_main};
 
 use crate::calls::body;
@@ -22,6 +24,7 @@ pub fn run_plain<W: Watcher>(
 ) -> Result<Run, OutOfMemory>
     ensures run { IfOk result (λ r. r ≡ runs.Run (program_view program.now) choices.now steps) }
     ensures seen { IfOk result (λ r. W.seen watcher.new ≡ seen_after W.after (W.seen watcher.old) (runs.Moments (program_view program.now) choices.now steps)) }
+    ensures front { OnErr result (SawFront W.after (runs.Moments (program_view program.now) choices.now steps) (W.seen watcher.old) (W.seen watcher.new)) }
 {
     let mut machine = start(alloc, program, choices, steps)?;
     let end = end_of(run_main(program, &mut machine, watcher, steps))?;
@@ -35,7 +38,8 @@ pub fn run_plain<W: Watcher>(
 
 // The end of a run that went on to its end, or halted.
 fn end_of(outcome: Result<Flow, Halt>) -> Result<End, OutOfMemory>
-    ensures { IfOk result (EndsAs outcome) }
+    ensures end { IfOk result (EndsAs outcome) }
+    ensures refused { OnErr result (outcome ≡ Err NoMemory) }
 {
     match outcome {
         Ok(_) => Ok(End::Ended),

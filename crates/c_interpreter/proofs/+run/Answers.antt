@@ -11,12 +11,13 @@ use Rattle.run_state.specs.Interpreting.{same, key_of, use_of, where_of, state_o
 use Rattle.run_state.proofs.Starting.{function_at, no_function_at}
 use Rattle.run_state.proofs.Calling.{call_few_steps, call_no_room, call_all, number_found, number_missing, parameters_halted, parameters_passed}
 use Rattle.run_state.specs.declared.machine.Typed.{Typed}
-use Rattle.run_state.proofs.Giving.{halted, passed}
-use Rattle.run_state.proofs.Evaluating.{ticked, ticked_target, as_form, as_place, cast_gives, logic_gives, picked_first, picked_second, list_on, list_halted, entered, evals_give}
+use Rattle.run_state.proofs.Giving.{halted, passed, went}
+use Rattle.run_state.proofs.Evaluating.{ticked_node, ticked_target, as_form, as_place, cast_gives, logic_gives, picked_first, picked_second, list_on, list_halted, entered, evals_give}
 use Rattle.c_interpreter.proofs.Executing.{view_of_if, stepped, sequence_halted, sequence_on, sequence_left, chosen, choice_halts, declare_halted, declare_on, initial_stored, introduce_few_steps, introduce_no_room, introduce_all, bodied}
-use Rattle.c_interpreter.proofs.Looping.{while_given, do_given, for_given, while_chosen, while_halts, for_chosen, rounds_halted, rounds_left, rounds_on, test_done, test_halts}
+use Rattle.c_interpreter.proofs.Looping.{while_given, do_given, for_given, while_chosen, while_halts, for_chosen, rounds_halted, rounds_left, rounds_broken, rounds_on, test_done, test_halts}
 use Rattle.c_core.specs.declared.number.IntType.TheVariants.{Int}
 use Rattle.run_state.proofs.Declaring.{values_halted, values_on}
+use Rattle.run_state.specs.declared.machine.Flow.TheVariants.{Broken}
 use Rattle.c_interpreter.proofs.+run.Goals as goal
 
 pub expressions::eval-returns-in_err-tick-clause-gives : goal.expressions::eval-returns-in_err-tick-clause-gives
@@ -27,7 +28,7 @@ expressions::eval-returns-in_err-tick-clause-gives g t c =
 pub expressions::eval-returns-clause-gives : goal.expressions::eval-returns-clause-gives
 expressions::eval-returns-clause-gives g t c =
     let k = c.in_ok-tick.ensures.gives (program_view c.args.program.now) (g.W.Watcher.seen c.args.watcher.now) in
-    ticked (program_view c.args.program.now) g.W.Watcher.Seen g.W.Watcher.after c.args.depth _ _ _ _ _ _ _ _ c.node.result k c.node.ensures.gives
+    ticked_node (program_view c.args.program.now) g.W.Watcher.Seen g.W.Watcher.after c.args.depth _ _ _ _ _ _ _ _ c.node.result k c.node.ensures.gives
 
 pub expressions::target-returns-in_err-tick-clause-gives : goal.expressions::target-returns-in_err-tick-clause-gives
 expressions::target-returns-in_err-tick-clause-gives g t c =
@@ -104,8 +105,8 @@ expressions::replace-returns-clause-gives g t c =
     let z : SFits w128 c.in_ok-value.value = search rules in
     let y : SFits w128 c.store.result = search rules in
     let k = rw (to_z-of_z w128 c.in_ok-value.value z, c.type_of.ensures) at (c.store.ensures.gives (type_of (expr_view c.args.from.now)) (g.W.Watcher.seen c.eval.new.watcher)) in
-    let q = passed same same c.in_ok-value.value _ _ _ _ (Ok c.store.result) c.in_ok-value.ensures.gives k in
-    rw (to_z-of_z w128 c.store.result y) (passed key_of same c.in_ok-key.key _ _ _ _ (Ok c.store.result) c.in_ok-key.ensures.gives q)
+    let q = went c.in_ok-value.value _ _ _ _ c.in_ok-value.ensures.gives k in
+    rw (to_z-of_z w128 c.store.result y) (went (key_of c.in_ok-key.key) _ _ _ _ c.in_ok-key.ensures.gives q)
 
 pub expressions::update-returns-clause-gives : goal.expressions::update-returns-clause-gives
 expressions::update-returns-clause-gives g t c =
@@ -120,7 +121,7 @@ expressions::converted-returns-clause-gives g t c =
     let z : SFits w128 c.in_ok-value.value = search rules in
     let y : SFits w128 c.convert_to.result = search rules in
     let k = rw (to_z-of_z w128 c.in_ok-value.value z) at (c.convert_to.ensures.gives (type_of (expr_view c.args.e.now)) (state_of c.eval.new.machine (g.W.Watcher.seen c.eval.new.watcher))) in
-    rw (to_z-of_z w128 c.convert_to.result y) (passed same same c.in_ok-value.value _ _ _ _ (Ok c.convert_to.result) c.in_ok-value.ensures.gives k)
+    rw (to_z-of_z w128 c.convert_to.result y) (went c.in_ok-value.value _ _ _ _ c.in_ok-value.ensures.gives k)
 
 pub expressions::choose-returns-then-taken-clause-gives : goal.expressions::choose-returns-then-taken-clause-gives
 expressions::choose-returns-then-taken-clause-gives g t c =
@@ -239,14 +240,12 @@ statements::choose-returns-in_err-decide-clause-gives g t c =
 pub statements::choose-returns-then-branch-clause-gives : goal.statements::choose-returns-then-branch-clause-gives
 statements::choose-returns-then-branch-clause-gives g t c =
     let h = rw c.if-branch.true at c.in_ok-decide.ensures.gives in
-    let k = chosen (program_view c.args.program.now) g.W.Watcher.Seen g.W.Watcher.after c.args.depth c.args.wanted c.args.at (expr_view c.args.test.now) (stmt_view c.args.yes.now) (else_part c.args.no.now) true _ _ h in
-    rw k c.arm.ensures.gives
+    chosen (program_view c.args.program.now) g.W.Watcher.Seen g.W.Watcher.after c.args.depth c.args.wanted c.args.at (expr_view c.args.test.now) (stmt_view c.args.yes.now) (else_part c.args.no.now) true _ _ c.arm.result _ h c.arm.ensures.gives
 
 pub statements::choose-returns-else-branch-clause-gives : goal.statements::choose-returns-else-branch-clause-gives
 statements::choose-returns-else-branch-clause-gives g t c =
     let h = rw c.if-branch.false at c.in_ok-decide.ensures.gives in
-    let k = chosen (program_view c.args.program.now) g.W.Watcher.Seen g.W.Watcher.after c.args.depth c.args.wanted c.args.at (expr_view c.args.test.now) (stmt_view c.args.yes.now) (else_part c.args.no.now) false _ _ h in
-    rw k c.otherwise.ensures.gives
+    chosen (program_view c.args.program.now) g.W.Watcher.Seen g.W.Watcher.after c.args.depth c.args.wanted c.args.at (expr_view c.args.test.now) (stmt_view c.args.yes.now) (else_part c.args.no.now) false _ _ c.otherwise.result _ h c.otherwise.ensures.gives
 
 pub statements::exec-returns-in_err-tick-clause-gives : goal.statements::exec-returns-in_err-tick-clause-gives
 statements::exec-returns-in_err-tick-clause-gives g t c =
@@ -285,19 +284,17 @@ statements::while_turn-returns-in_err-decide-clause-gives g t c =
 pub statements::while_turn-returns-then-branch-clause-gives : goal.statements::while_turn-returns-then-branch-clause-gives
 statements::while_turn-returns-then-branch-clause-gives g t c =
     let h = rw c.if-branch.true at c.in_ok-decide.ensures.gives in
-    let k = while_chosen (program_view c.args.program.now) g.W.Watcher.Seen g.W.Watcher.after c.args.depth c.args.wanted c.args.at (expr_view c.args.test.now) (stmt_view c.args.body.now) true _ _ h in
-    rw k c.loop_body.ensures.gives
+    while_chosen (program_view c.args.program.now) g.W.Watcher.Seen g.W.Watcher.after c.args.depth c.args.wanted c.args.at (expr_view c.args.test.now) (stmt_view c.args.body.now) true _ _ c.loop_body.result _ h c.loop_body.ensures.gives
 
 pub statements::while_turn-returns-else-branch-clause-gives : goal.statements::while_turn-returns-else-branch-clause-gives
 statements::while_turn-returns-else-branch-clause-gives g t c =
     let h = rw c.if-branch.false at c.in_ok-decide.ensures.gives in
-    while_chosen (program_view c.args.program.now) g.W.Watcher.Seen g.W.Watcher.after c.args.depth c.args.wanted c.args.at (expr_view c.args.test.now) (stmt_view c.args.body.now) false _ _ h
+    while_chosen (program_view c.args.program.now) g.W.Watcher.Seen g.W.Watcher.after c.args.depth c.args.wanted c.args.at (expr_view c.args.test.now) (stmt_view c.args.body.now) false (state_of c.args.machine.now (g.W.Watcher.seen c.args.watcher.now)) _ (Ok Broken) _ h refl
 
 pub statements::for_turn-returns-then-branch-clause-gives : goal.statements::for_turn-returns-then-branch-clause-gives
 statements::for_turn-returns-then-branch-clause-gives g t c =
     let h = rw c.if-branch.true at c.in_ok-for_goes_on.ensures.gives in
-    let k = for_chosen (program_view c.args.program.now) g.W.Watcher.Seen g.W.Watcher.after c.args.depth c.args.wanted c.args.at (expr_view_if c.args.test.now) (expr_view_if c.args.step.now) (stmt_view c.args.body.now) true _ _ h in
-    rw k c.for_body.ensures.gives
+    for_chosen (program_view c.args.program.now) g.W.Watcher.Seen g.W.Watcher.after c.args.depth c.args.wanted c.args.at (expr_view_if c.args.test.now) (expr_view_if c.args.step.now) (stmt_view c.args.body.now) true _ _ c.for_body.result _ h c.for_body.ensures.gives
 
 pub statements::turns-returns-in_err-flow-clause-gives : goal.statements::turns-returns-in_err-flow-clause-gives
 statements::turns-returns-in_err-flow-clause-gives g t c =
@@ -316,6 +313,13 @@ statements::turns-turns-preserved g t c =
           (all_rounds (program_view c.args.program.now) g.W.Watcher.Seen g.W.Watcher.after c.args.depth c.args.wanted c.args.at (loop_in (form_view c.args.f.now)) (state_of c.args.machine.now (g.W.Watcher.seen c.args.watcher.now)))
           i.0 i.1 i.2 (rw c.in-Next.is at c.in_ok-flow.ensures.gives) (rw c.in-Next.is at c.in_ok-flow.ensures.ends);
     }
+
+pub statements::turns-returns-in-Broken-clause-gives : goal.statements::turns-returns-in-Broken-clause-gives
+statements::turns-returns-in-Broken-clause-gives g t c =
+    let i = c.turns.invariant.value in
+    rounds_broken (program_view c.args.program.now) g.W.Watcher.Seen g.W.Watcher.after c.args.depth c.args.wanted c.args.at (loop_in (form_view c.args.f.now)) (state_of c.turns.machine (g.W.Watcher.seen c.turns.watcher)) (state_of c.turn.new.machine (g.W.Watcher.seen c.turn.new.watcher))
+    (all_rounds (program_view c.args.program.now) g.W.Watcher.Seen g.W.Watcher.after c.args.depth c.args.wanted c.args.at (loop_in (form_view c.args.f.now)) (state_of c.args.machine.now (g.W.Watcher.seen c.args.watcher.now)))
+    i.0 i.1 i.2 (rw c.in-Broken.is at c.in_ok-flow.ensures.gives)
 
 pub statements::turns-returns-in_default-clause-gives : goal.statements::turns-returns-in_default-clause-gives
 statements::turns-returns-in_default-clause-gives g t c =
@@ -396,12 +400,12 @@ full_expressions::test_turn-returns-in_err-decide-clause-gives g t c =
 pub full_expressions::test_turn-returns-then-branch-clause-gives : goal.full_expressions::test_turn-returns-then-branch-clause-gives
 full_expressions::test_turn-returns-then-branch-clause-gives g t c =
     let h = rw c.if-branch.true at c.in_ok-decide.ensures.gives in
-    test_done (program_view c.args.program.now) g.W.Watcher.Seen g.W.Watcher.after c.args.depth c.args.at (expr_view c.args.test.now) true _ _ h
+    test_done (program_view c.args.program.now) g.W.Watcher.Seen g.W.Watcher.after c.args.depth c.args.at (expr_view c.args.test.now) true (state_of c.args.machine.now (g.W.Watcher.seen c.args.watcher.now)) _ h
 
 pub full_expressions::test_turn-returns-else-branch-clause-gives : goal.full_expressions::test_turn-returns-else-branch-clause-gives
 full_expressions::test_turn-returns-else-branch-clause-gives g t c =
     let h = rw c.if-branch.false at c.in_ok-decide.ensures.gives in
-    test_done (program_view c.args.program.now) g.W.Watcher.Seen g.W.Watcher.after c.args.depth c.args.at (expr_view c.args.test.now) false _ _ h
+    test_done (program_view c.args.program.now) g.W.Watcher.Seen g.W.Watcher.after c.args.depth c.args.at (expr_view c.args.test.now) false (state_of c.args.machine.now (g.W.Watcher.seen c.args.watcher.now)) _ h
 
 pub calls::body-returns-in_err-tick-clause-gives : goal.calls::body-returns-in_err-tick-clause-gives
 calls::body-returns-in_err-tick-clause-gives g t c =
