@@ -1,0 +1,130 @@
+// Loops of all kinds.
+use crate::beside::assert_alike;
+use crate::cases::Case;
+use std::test::Fail;
+use wv_schema::InvariantKind::{Location, Loop};
+
+const NESTED: Case = Case {
+    name: "nested loops",
+    source: "\
+void reach_error() { }
+int __VERIFIER_nondet_int();
+int total;
+int search(int limit) {
+  for (int i = 0; i < limit; i++) {
+    int j = 0;
+    while (j < i) {
+      j++;
+      if (j == 3)
+        continue;
+      if (total + j == 7)
+        return j;
+      if (j > 4)
+        break;
+    }
+    do {
+      total = total + 1;
+      if (total > 5)
+        break;
+    } while (total < i);
+  }
+  return -1;
+}
+int main() {
+  int n = __VERIFIER_nondet_int();
+  if (search(n) == 2) {
+    reach_error();
+  }
+  return 0;
+}
+",
+    claims: &[
+        (Loop, 5, "i >= 0"),
+        (Loop, 7, "0 <= j && j <= i"),
+        (Loop, 16, "total < 6"),
+        (Location, 17, "total != 4"),
+    ],
+};
+
+const EXITS: Case = Case {
+    name: "ways out of loops",
+    source: "\
+void reach_error() { }
+void abort(void);
+void exit(int);
+int __VERIFIER_nondet_int();
+int main() {
+  int n = __VERIFIER_nondet_int();
+  int k = 0;
+  for (;;) {
+    k++;
+    if (k > n)
+      break;
+    k == 7 && (exit(n), 1);
+    inner: if (n == 20) { abort(); }
+  }
+  for (int a = 0, b = 9; a < b; a++, b--)
+    ;
+  while (n > 0) n = n / 2;
+  do { int k = n; if (k < -5) return 1; n = n + 2; } while (n < 0 && k != 3);
+  if (k != n + 1) { reach_error(); }
+  return 0;
+}
+",
+    claims: &[
+        (Loop, 8, "k >= 0"),
+        (Loop, 8, "k < 1000"),
+        (Loop, 15, "a <= 9 && b >= 0"),
+        (Loop, 17, "n < 100"),
+        (Location, 19, "n >= 0"),
+    ],
+};
+
+const COUNTED: Case = Case {
+    name: "calls in loops",
+    source: "\
+void reach_error() { }
+unsigned int __VERIFIER_nondet_uint();
+_Bool __VERIFIER_nondet_bool();
+unsigned char g;
+int steps = 2;
+void h(unsigned int by) { g = g + by; }
+int f(unsigned int by) { if (by) { h(by); return 1; } steps++; return 0; }
+int main() {
+  unsigned int i = 0;
+  while (f(i) || __VERIFIER_nondet_bool()) {
+    i = __VERIFIER_nondet_uint();
+    while (__VERIFIER_nondet_bool()) { unsigned int drawn; i = drawn; }
+  }
+  if (g != 0) {
+    reach_error();
+  }
+  for (i = 0; f(0) == 0 && i < 3; h(i))
+    i = i + steps;
+  if (g == 5) {
+    reach_error();
+  }
+  return g;
+}
+",
+    claims: &[
+        (Loop, 10, "g < 200"),
+        (Loop, 10, "steps >= 2 ? i < 9 : g == 0"),
+        (Loop, 17, "g + i < 12"),
+    ],
+};
+
+#[test]
+fn nested_loops_are_told_alike(rt: HostRuntime) -> Result<(), Fail> {
+    assert_alike(&rt, rt.alloc(), &NESTED)
+}
+
+#[test]
+fn ways_out_of_loops_are_told_alike(rt: HostRuntime) -> Result<(), Fail> {
+    assert_alike(&rt, rt.alloc(), &EXITS)
+}
+
+#[test]
+fn calls_in_loops_are_told_alike(rt: HostRuntime) -> Result<(), Fail> {
+    assert_alike(&rt, rt.alloc(), &COUNTED)
+}
