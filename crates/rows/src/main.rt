@@ -42,6 +42,8 @@ fn came(rt: &HostRuntime, row: &Row) -> Result<String, NotTried> {
     match row.kind.as_str() {
         // The whole program: its status and its report.
         "run" => run::told(rt, row),
+        // The same without the values that are drawn.
+        "shape" => run::told_without_values(rt, row),
         // Tokens of a source; of a text in which no directive may stand.
         "tokens" => lexing::told(rt, row),
         "plain" => lexing::told_plain(rt, row),

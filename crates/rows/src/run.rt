@@ -42,3 +42,25 @@ pub fn told(rt: &HostRuntime, row: &Row) -> Result<String, NotTried> {
         Err(_) => Ok(format!(in alloc; "{status} and a report that isn't UTF-8")?),
     }
 }
+
+/// A report with `_` for each drawn value.
+fn without_values(alloc: Global, report: &str) -> Result<String, OutOfMemory> {
+    let mut out = String::new(alloc);
+    for line in report.lines() {
+        match line.rsplit_once(' ') {
+            Some((front, _)) if line.starts_with("value ") => {
+                out.push_str(front)?;
+                out.push_str(" _")?;
+            }
+            _ => out.push_str(line)?,
+        }
+        out.push_str("\n")?;
+    }
+    Ok(out)
+}
+
+/// The same without the values: which of those that fit is shown is the solver's choice.
+pub fn told_without_values(rt: &HostRuntime, row: &Row) -> Result<String, NotTried> {
+    let report = told(rt, row)?;
+    Ok(without_values(rt.alloc(), report.as_str())?)
+}

@@ -30,7 +30,7 @@ below_by_sign : (n m : ℕ) (k : ℕ) (t : Bool) → index_below n (cond t (pos 
 below_by_sign n m k true = refl
 below_by_sign n m k false = refl
 
-below_read : (n w m : ℕ) (s : Bool) → index_below n (read w s m) ≡ cond (not (negative w s m) && nat_lt m n) (Some m) None
+pub below_read : (n w m : ℕ) (s : Bool) → index_below n (read w s m) ≡ cond (not (negative w s m) && nat_lt m n) (Some m) None
 unfolding signed_of
 below_read n w m false = refl
 below_read n w m true = below_by_sign n m (2 ^ w - suc m) (nat_lt m (2 ^ (w - 1)))

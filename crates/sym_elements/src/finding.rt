@@ -23,8 +23,8 @@ pub struct Places {
     pub bits: Seq<Bit>,
 }
 
-// Is the number of the digits at least 0 in its type?
-fn not_negative(net: &Net, ty: IntType, digits: &[Bit]) -> Bit
+/// Is the number of the digits at least 0 in its type?
+pub fn not_negative(net: &Net, ty: IntType, digits: &[Bit]) -> Bit
     requires some { 0 < length digits.now }
     requires digits_in { AreIn net.now digits.now }
     ensures { Means net.now result (λ v. not (negative (length digits.now) (is_signed ty) (number v net.now digits.now))) }

@@ -7,6 +7,7 @@ mod marks;
 mod reading;
 mod writing;
 
-pub use finding::{Places, find};
+pub use finding::{Places, find, not_negative};
+pub use marks::decoded;
 pub use reading::read_element;
 pub use writing::{store_element, write_element};

@@ -1,19 +1,16 @@
 -- `&&`, `||` and `?:`: parts that are evaluated in some of the runs.
-use Rattle.std.proofs.Common.{◌≡◌, ℕ, ◌+◌, ◌*◌, ◌<◌, ◌^◌, Bool, true, false, cond, not, ◌&&◌, ◌||◌, ℤ, pos, List, length, refl, sym, ◌∙◌, ap, ap₂, subst, arith, Option, Some, None, IsTrue, is_some}
+use Rattle.std.proofs.Common.{◌≡◌, ℕ, ◌+◌, ◌*◌, ◌<◌, ◌^◌, Bool, true, false, cond, not, ◌&&◌, ◌||◌, ℤ, pos, List, length, refl, sym, ◌∙◌, ap, ap₂, subst, arith, Option, Some, None}
 use Rattle.c_core.specs.Tree.{Program, Exp, Expr, Logic, Choose}
 use Rattle.c_core.specs.Types.{width_of, fit, is_zero, number_of}
 use Rattle.c_core.specs.Parts.{type_of as type_if}
-use Rattle.c_core.specs.Typing.{is_choice, has_value, node_fits}
-use Rattle.c_core.specs.declared.number.DataModel.{DataModel}
 use Rattle.c_core.specs.declared.number.IntType.{IntType}
 use Rattle.c_core.specs.declared.number.IntType.TheVariants.{Bool as BoolType, Int}
 use Rattle.c_core.specs.declared.number.Spot.{Spot}
 use Rattle.c_meaning.specs.Acts.{Res, Go, Stop, bind}
 use Rattle.c_meaning.specs.Duties.{Placed, Duties}
 use Rattle.c_meaning.specs.Havoc.{Left, Stopped}
-use Rattle.c_meaning.specs.Meaning.{Use, Used}
+use Rattle.c_meaning.specs.Meaning.{Used}
 use Rattle.c_meaning.specs.Objects.{type_of}
-use Rattle.c_meaning.proofs.TypeFacts.{both, neither}
 use Rattle.circuits.specs.declared.net.Bit.{Bit}
 use Rattle.circuits.specs.declared.net.NetNode.{NetNode}
 use Rattle.circuits.specs.Net.{holds, Grown, Means, IsIn, opposite}
@@ -22,17 +19,18 @@ use Rattle.circuits.specs.Outcome.{conversion_cost}
 use Rattle.circuits.proofs.Nets.{holds-opposite}
 use Rattle.sym_state.specs.declared.state.Sym.{Sym}
 use Rattle.sym_state.specs.declared.state.Around.{Around}
-use Rattle.sym_state.specs.Standing.{Turned, with_live}
-use Rattle.sym_state.specs.Following.{Deed, Follows, AreOf, IsNumber}
+use Rattle.sym_state.specs.Standing.{Stand, stand, Turned, with_live}
+use Rattle.sym_state.specs.Following.{left_of, Deed, Came, Follows, AreOf, IsNumber}
 use Rattle.sym_state.proofs.Nets.{added_of, holds_added, in_added, longer_by, typed_added, are_typed_added}
 use Rattle.sym_state.proofs.Turning.{turned_then}
 use Rattle.sym_state.proofs.Composed.{follows_then, follows_as, net_follows}
-use Rattle.sym_values.specs.Valuing.{Reckoned, Decided, Gives}
+use Rattle.sym_values.specs.Valuing.{Reckoned, Decided}
 use Rattle.sym_values.proofs.Reckoning.{net_turned}
-use Rattle.sym_exprs.specs.Evaluating.{weight_of, bits_of, is_good, is_good_here, is_built, evaluated, evaluated_where, Ready, ReadyWhere, Values, ValuesWhere}
+use Rattle.sym_exprs.specs.Evaluating.{weight_of, bits_of, evaluated, evaluated_where, Ready, ReadyWhere, Values, ValuesWhere}
 use Rattle.sym_exprs.proofs.Costs.{conversion_costs, test_costs}
 use Rattle.sym_exprs.proofs.Guarded.{guard_follows}
-use Rattle.sym_exprs.proofs.Forms.{has_one, good_logic, value_as, value_in}
+use Rattle.sym_exprs.proofs.Typed.{has_one, arms_have, logic_parts, choose_parts}
+use Rattle.sym_exprs.proofs.Forms.{value_as, value_in, as_values}
 
 not_not : (b : Bool) → not (not b) ≡ b
 not_not true = refl
@@ -84,37 +82,10 @@ pub kept_in : (net : List NetNode) (keep : Bool) (b r : Bit) → r ≡ cond keep
 kept_in net true b r e h = rw e h
 kept_in net false b r e h = rw e h
 
-arms_have : (m : DataModel) (to : IntType) (x y : Option IntType) → IsTrue (is_choice m (Some to) x y) → IsTrue (is_some x) × IsTrue (is_some y)
-arms_have m to None y h = neither h
-arms_have m to (Some x) None h = neither h
-arms_have m to (Some x) (Some y) h = (refl, refl)
-
-no_arms : (m : DataModel) (x y : Option IntType) → IsTrue (is_some x && is_some y) → IsTrue (is_choice m None x y) → ⊥
-no_arms m None y h c = neither h
-no_arms m (Some x) None h c = neither h
-no_arms m (Some x) (Some y) h c = neither c
-
--- the parts of `?:`
-pub record Chosen (p : Program) (I : List Placed) (n : ℕ) (ty : Option IntType) (e a b : Exp) : Type 0 where
-  pub test : IsTrue (has_value e)
-  pub arms : IsTrue (is_choice p.model ty (type_if a) (type_if b))
-  pub good_test : IsTrue (is_good p I n e)
-  pub good_yes : IsTrue (is_good p I n a)
-  pub good_no : IsTrue (is_good p I n b)
-
-pub good_choose : (p : Program) (I : List Placed) (n : ℕ) (spot mark : Spot) (ty : Option IntType) (e a b : Exp) → IsTrue (is_good p I n (Expr spot ty (Choose mark e a b))) → Chosen p I n ty e a b
-good_choose p I n spot mark ty e a b h =
-    let node = Choose mark e a b in
-    let whole = both (is_good_here p I n (Expr spot ty node)) (is_good p I n e && (is_good p I n a && is_good p I n b)) h in
-    let here = both (has_value e) (is_choice p.model ty (type_if a) (type_if b)) (both (node_fits p ty node) (is_built node) whole.0).0 in
-    let first = both (is_good p I n e) (is_good p I n a && is_good p I n b) whole.1 in
-    let rest = both (is_good p I n a) (is_good p I n b) first.1 in
-    record { test = here.0; arms = here.1; good_test = first.0; good_yes = rest.0; good_no = rest.1 }
-
 module _ (p : Program) (I : List Placed) (n : ℕ) (at : Around) where
   -- the part that is evaluated where a bit is true
   pub where_ready : {a b : Sym} {net : List NetNode} {go : Bit} (e : Exp) → ReadyWhere p I n at go a e → Grown 1 a.net net → Turned p 1 0 (record a { net = net }) b (λ v. with_live (holds v net a.live && holds v net go)) → Ready p I n at b e
-  where_ready {a} {b} {net} e h g x = record { fits = x.fits; good = h.good; duty = h.duty; room = omega (arith, (longer_by (added_of g)).1, (longer_by x.added).1, h.room) }
+  where_ready {a} {b} {net} e h g x = record { fits = x.fits; types = h.types; duty = h.duty; room = omega (arith, (longer_by (added_of g)).1, (longer_by x.added).1, h.room) }
 
   pub where_values : (a b c f : Sym) (net : List NetNode) (go other skipped : Bit) (e : Exp) (bits : List Bit) → ReadyWhere p I n at go a e → other ≡ opposite go
       → Grown 1 a.net net → Means net skipped (λ v. holds v a.net a.live && holds v a.net other)
@@ -157,27 +128,27 @@ module _ (p : Program) (I : List Placed) (n : ℕ) (at : Around) where
   abbrev right_side : Bool → Exp → Exp → Bool → (ℕ → Bool) → Left → Res Stopped Left ℤ
   right_side both a b t v l = bind (cond (goes both t) (evaluated p I n at Used b v l) (Go (pos 0) l)) (λ w k. Go (number_of (outcome both t (not (is_zero w)))) k)
 
-  right_same : (both : Bool) (a b : Exp) (t : Bool) (want : Use) (spot : Spot) (ty : Option IntType) (v : ℕ → Bool) (l : Left) → right_side both a b t v l ≡ second_of both b t v l
-  right_same true a b true want spot ty v l = refl
-  right_same true a b false want spot ty v l = refl
-  right_same false a b true want spot ty v l = refl
-  right_same false a b false want spot ty v l = refl
+  right_same : (both : Bool) (a b : Exp) (t : Bool) (v : ℕ → Bool) (l : Left) → right_side both a b t v l ≡ second_of both b t v l
+  right_same true a b true v l = refl
+  right_same true a b false v l = refl
+  right_same false a b true v l = refl
+  right_same false a b false v l = refl
 
-  logic_deed : (want : Use) (spot : Spot) (ty : Option IntType) (both : Bool) (a b : Exp) (v : ℕ → Bool) (l : Left)
-      → bind (evaluated p I n at Used a v l) (λ z. right_side both a b (not (is_zero z)) v) ≡ evaluated p I n at want (Expr spot ty (Logic both a b)) v l
-  logic_deed want spot ty true a b v l = bind_same (evaluated p I n at Used a v l) _ _ (λ z k. right_same true a b (not (is_zero z)) want spot ty v k)
-  logic_deed want spot ty false a b v l = bind_same (evaluated p I n at Used a v l) _ _ (λ z k. right_same false a b (not (is_zero z)) want spot ty v k)
+  logic_deed : (spot : Spot) (ty : Option IntType) (both : Bool) (a b : Exp) (v : ℕ → Bool) (l : Left)
+      → bind (evaluated p I n at Used a v l) (λ z. right_side both a b (not (is_zero z)) v) ≡ evaluated p I n at Used (Expr spot ty (Logic both a b)) v l
+  logic_deed spot ty true a b v l = bind_same (evaluated p I n at Used a v l) _ _ (λ z k. right_same true a b (not (is_zero z)) v k)
+  logic_deed spot ty false a b v l = bind_same (evaluated p I n at Used a v l) _ _ (λ z k. right_same false a b (not (is_zero z)) v k)
 
-  pub logic_values : {s x x2 y y2 m : Sym} {net : List NetNode} {xs ys rs : List Bit} (want : Use) (spot : Spot) (ty : Option IntType) (both : Bool) (a b : Exp) (first second go hit all res : Bit)
+  pub logic_values : {s x x2 y y2 m : Sym} {net : List NetNode} {xs ys rs : List Bit} (spot : Spot) (ty : Option IntType) (both : Bool) (a b : Exp) (first second go hit all res : Bit)
       → Ready p I n at s (Expr spot ty (Logic both a b)) → Values p I n at Used a s x xs
       → Decided p (conversion_cost p.model (type_of a) BoolType) x x2 first (λ v. not (is_zero (typed p.model (type_of a) v x.net xs))) → go ≡ cond both first (opposite first)
       → ValuesWhere p I n at go b x2 y ys
       → Decided p (conversion_cost p.model (type_of b) BoolType) y y2 second (λ v. not (is_zero (typed p.model (type_of b) v y.net ys))) → hit ≡ cond both second (opposite second)
       → Grown 1 y2.net net → Means net all (λ v. holds v y2.net go && holds v y2.net hit) → res ≡ cond both all (opposite all)
-      → Reckoned p 0 (record y2 { net = net }) m Int rs (λ v. number_of (holds v net res)) → Values p I n at want (Expr spot ty (Logic both a b)) s m rs
-  logic_values {s} {x} {x2} {y} {y2} {m} {net} {xs} {ys} {rs} want spot ty both a b first second go hit all res h ga d1 eg gb d2 eh g ma er r =
-      let q = good_logic p I n spot ty both a b h.good in
-      let xa = value_as p I n at Used a (type_of a) (has_one a q.0) ga in
+      → Reckoned p 0 (record y2 { net = net }) m Int rs (λ v. number_of (holds v net res)) → Values p I n at Used (Expr spot ty (Logic both a b)) s m rs
+  logic_values {s} {x} {x2} {y} {y2} {m} {net} {xs} {ys} {rs} spot ty both a b first second go hit all res h ga d1 eg gb d2 eh g ma er r =
+      let q = logic_parts p spot ty both a b h.types in
+      let xa = value_as p I n at a (type_of a) (has_one a q.0) ga in
       let xb = where_as b (type_of b) (has_one b q.1) gb in
       let T : (ℕ → Bool) → Bool = λ v. not (is_zero (typed p.model (type_of a) v x.net xs)) in
       let U : (ℕ → Bool) → Bool = λ v. not (is_zero (typed p.model (type_of b) v y.net ys)) in
@@ -196,13 +167,13 @@ module _ (p : Program) (I : List Placed) (n : ℕ) (at : Around) where
       let told = follows_as p (Duties p I) {k = 3 + weight_of p I n b + width_of p.model (type_of b) + 1} {l = bits_of p I n b} {next = λ v. right_side both a b (T v) v} rest (λ v z e. e) (λ v l. ap (λ k. bind (cond k (evaluated p I n at Used b v l) (Go (pos 0) l)) (λ w t. Go (number_of (outcome both (T v) (not (is_zero w)))) t)) (go_is v)) (omega arith) (omega arith) in
       let after = follows_then p (Duties p I) {next = λ v. right_side both a b (T v) v} (width_of p.model (type_of a) + (3 + weight_of p I n b + width_of p.model (type_of b) + 1)) (bits_of p I n b) (λ v u. right_side both a b (T v) v)
       (net_follows p (Duties p I) {S = λ v u. Unit {0}} (λ v. tt {0}) d1.turned (λ v. tt {0})) told (λ v u e l. refl) (omega (arith, test_costs p.model (type_of a))) (omega arith) in
-      subst (λ z. Gives p I (weight_of p I n (Expr spot ty (Logic both a b))) (bits_of p I n (Expr spot ty (Logic both a b))) s m z rs (evaluated p I n at want (Expr spot ty (Logic both a b)))) q.2
+      as_values p I n at (Expr spot ty (Logic both a b)) q.2
       record {
         bits_in = r.bits_in;
         follows = follows_as p (Duties p I)
             (follows_then p (Duties p I) (weight_of p I n (Expr spot ty (Logic both a b))) (bits_of p I n (Expr spot ty (Logic both a b))) (λ v z. right_side both a b (not (is_zero z)) v) xa.follows after
             (λ v z e l. ap (λ k. right_side both a b (not (is_zero k)) v l) e) (omega arith) (omega arith))
-            (λ v z e. e) (λ v l. logic_deed want spot ty both a b v l) (omega arith) (omega arith);
+            (λ v z e. e) (λ v l. logic_deed spot ty both a b v l) (omega arith) (omega arith);
       }
 
   -- ---- `?:`
@@ -231,17 +202,17 @@ module _ (p : Program) (I : List Placed) (n : ℕ) (at : Around) where
   after_net : {A : Type 0} {i k l : ℕ} {a b c : Sym} {S : (ℕ → Bool) → A → Type 0} {deed : Deed A} → Turned p i 0 a b (λ v s. s) → Follows (Duties p I) p k l b c S deed → Follows (Duties p I) p (i + k) l a c S deed
   after_net {i = i} {k = k} {l = l} {deed = deed} x y = follows_then p (Duties p I) (i + k) l (λ v u. deed v) (net_follows p (Duties p I) {S = λ v u. Unit {0}} (λ v. tt {0}) x (λ v. tt {0})) y (λ v u e s. refl) (omega arith) (omega arith)
 
-  pub choose_values : {s x x2 y y2 z z2 m : Sym} {es xs cs ys ds rs : List Bit} (want : Use) (spot mark : Spot) (to : IntType) (e a b : Exp) (go other : Bit)
+  pub choose_values : {s x x2 y y2 z z2 m : Sym} {es xs cs ys ds rs : List Bit} (spot mark : Spot) (to : IntType) (e a b : Exp) (go other : Bit)
       → Ready p I n at s (Expr spot (Some to) (Choose mark e a b)) → Values p I n at Used e s x es
       → Decided p (conversion_cost p.model (type_of e) BoolType) x x2 go (λ v. not (is_zero (typed p.model (type_of e) v x.net es))) → other ≡ opposite go
       → ValuesWhere p I n at go a x2 y xs → Reckoned p (conversion_cost p.model (type_of a) to) y y2 to cs (λ v. fit p.model to (typed p.model (type_of a) v y.net xs))
       → ValuesWhere p I n at other b y2 z ys → Reckoned p (conversion_cost p.model (type_of b) to) z z2 to ds (λ v. fit p.model to (typed p.model (type_of b) v z.net ys))
       → Reckoned p (4 * width_of p.model to) z2 m to rs (λ v. cond (holds v z2.net go) (typed p.model to v z2.net cs) (typed p.model to v z2.net ds))
-      → Values p I n at want (Expr spot (Some to) (Choose mark e a b)) s m rs
-  choose_values {s} {x} {x2} {y} {y2} {z} {z2} {m} {es} {xs} {cs} {ys} {ds} {rs} want spot mark to e a b go other h ge d eo wa r1 wb r2 r3 =
-      let q = good_choose p I n spot mark (Some to) e a b h.good in
+      → Values p I n at Used (Expr spot (Some to) (Choose mark e a b)) s m rs
+  choose_values {s} {x} {x2} {y} {y2} {z} {z2} {m} {es} {xs} {cs} {ys} {ds} {rs} spot mark to e a b go other h ge d eo wa r1 wb r2 r3 =
+      let q = choose_parts p spot mark (Some to) e a b h.types in
       let arm = arms_have p.model to (type_if a) (type_if b) q.arms in
-      let xe = value_as p I n at Used e (type_of e) (has_one e q.test) ge in
+      let xe = value_as p I n at e (type_of e) (has_one e q.test) ge in
       let xa = where_as a (type_of a) (has_one a arm.0) wa in
       let xb = where_as b (type_of b) (has_one b arm.1) wb in
       let T : (ℕ → Bool) → Bool = λ v. not (is_zero (typed p.model (type_of e) v x.net es)) in
@@ -278,18 +249,95 @@ module _ (p : Program) (I : List Placed) (n : ℕ) (at : Around) where
             (λ v u f. f ∙ sym (value v)) (λ v l. refl) (omega arith) (omega arith);
       }
 
+  -- ---- a `?:` without a value
+  abbrev forgot : Res Stopped Left ℤ → Res Stopped Left (Unit {0})
+  forgot r = bind r (λ z k. Go tt k)
+
+  forgot_came : (S : ℤ → Type 0) (b : Stand) (rest : List ℤ) (r : Res Stopped Left ℤ) → Came (Duties p I) S b rest r → Came (Duties p I) (λ u. Unit {0}) b rest (forgot r)
+  forgot_came S b rest (Go z s) h = (h.0, h.1, tt)
+  forgot_came S b rest (Stop e s) h = h
+
+  any_came : (b : Stand) (rest : List ℤ) (r : Res Stopped Left ℤ) → Came (Duties p I) (λ u. Unit {0}) b rest (forgot r) → Came (Duties p I) (λ z. Unit {0}) b rest r
+  any_came b rest (Go z s) h = (h.0, h.1, tt)
+  any_came b rest (Stop e s) h = h
+
+  -- a part, whatever its value
+  forgot_follows : {i j : ℕ} {a b : Sym} {S : (ℕ → Bool) → ℤ → Type 0} {m : Deed ℤ} → Follows (Duties p I) p i j a b S m → Follows (Duties p I) p i j a b (λ v u. Unit {0}) (λ v l. forgot (m v l))
+  forgot_follows {a = a} {b = b} {S = S} {m = m} x = record {
+    fits = x.fits;
+    added = x.added;
+    level = x.level;
+    result = x.result;
+    moves = x.moves;
+    does = λ v here vs rest t. forgot_came (S v) (stand p v b) rest (m v (left_of (stand p v a) vs)) (x.does v here vs rest t);
+  }
+
+  any_follows : {i j : ℕ} {a b : Sym} {m : Deed ℤ} → Follows (Duties p I) p i j a b (λ v u. Unit {0}) (λ v l. forgot (m v l)) → Follows (Duties p I) p i j a b (λ v z. Unit {0}) m
+  any_follows {a = a} {b = b} {m = m} x = record {
+    fits = x.fits;
+    added = x.added;
+    level = x.level;
+    result = x.result;
+    moves = x.moves;
+    does = λ v here vs rest t. any_came (stand p v b) rest (m v (left_of (stand p v a) vs)) (x.does v here vs rest t);
+  }
+
+  forgot_ret : (r : Res Stopped Left ℤ) → bind r (λ z k. Go tt k) ≡ forgot (bind r (λ z k. Go z k))
+  forgot_ret (Go z s) = refl
+  forgot_ret (Stop e s) = refl
+
+  forgot_bind : (r : Res Stopped Left ℤ) (f : ℤ → Left → Res Stopped Left ℤ) → bind r (λ z k. forgot (f z k)) ≡ forgot (bind r f)
+  forgot_bind (Go z s) f = refl
+  forgot_bind (Stop e s) f = refl
+
+  abbrev void_arms : Bool → Exp → Exp → (ℕ → Bool) → Left → Res Stopped Left (Unit {0})
+  void_arms t a b v l = bind (cond t (evaluated p I n at Used a v l) (Go (pos 0) l)) (λ x k. bind (cond (not t) (evaluated p I n at Used b v k) (Go (pos 0) k)) (λ y i. Go tt i))
+
+  void_same : (t : Bool) (a b : Exp) (v : ℕ → Bool) (l : Left) → void_arms t a b v l ≡ forgot ((cond t (one_arm (λ z. z) a v) (one_arm (λ z. z) b v)) l)
+  void_same true a b v l = forgot_ret (evaluated p I n at Used a v l)
+  void_same false a b v l = forgot_ret (evaluated p I n at Used b v l)
+
+  void_values : {s x x2 y z : Sym} {es xs ys : List Bit} (spot mark : Spot) (e a b : Exp) (go other : Bit)
+      → Ready p I n at s (Expr spot None (Choose mark e a b)) → Values p I n at Used e s x es
+      → Decided p (conversion_cost p.model (type_of e) BoolType) x x2 go (λ v. not (is_zero (typed p.model (type_of e) v x.net es))) → other ≡ opposite go
+      → ValuesWhere p I n at go a x2 y xs → ValuesWhere p I n at other b y z ys → Values p I n at Used (Expr spot None (Choose mark e a b)) s z ys
+  void_values {s} {x} {x2} {y} {z} {es} {xs} {ys} spot mark e a b go other h ge d eo wa wb =
+      let whole = Expr spot None (Choose mark e a b) in
+      let q = choose_parts p spot mark None e a b h.types in
+      let xe = value_as p I n at e (type_of e) (has_one e q.test) ge in
+      let T : (ℕ → Bool) → Bool = λ v. not (is_zero (typed p.model (type_of e) v x.net es)) in
+      let other_y : (v : ℕ → Bool) → holds v y.net other ≡ not (T v) = λ v. ap (holds v y.net) eo ∙ holds-opposite v y.net go ∙ ap not (holds_added wa.follows.added v go d.means.inside ∙ d.means.is v) in
+      let last : Follows (Duties p I) p (3 + weight_of p I n b) (bits_of p I n b) y z (λ v u. Unit {0}) (λ v k. forgot (cond (not (T v)) (evaluated p I n at Used b v k) (Go (pos 0) k))) =
+      forgot_follows
+      (follows_as p (Duties p I) {k = 3 + weight_of p I n b} {l = bits_of p I n b} {T = λ v u. Unit {0}} {next = λ v k. cond (not (T v)) (evaluated p I n at Used b v k) (Go (pos 0) k)} wb.follows (λ v u f. tt) (λ v k. ap (λ t. cond t (evaluated p I n at Used b v k) (Go (pos 0) k)) (other_y v)) (omega arith) (omega arith)) in
+      let cost = 6 + weight_of p I n a + weight_of p I n b in
+      let bits = bits_of p I n a + bits_of p I n b in
+      let arms : Follows (Duties p I) p cost bits x2 z (λ v u. Unit {0}) (λ v. void_arms (T v) a b v) =
+      follows_then p (Duties p I) cost bits (λ v u k. forgot (cond (not (T v)) (evaluated p I n at Used b v k) (Go (pos 0) k)))
+      (follows_as p (Duties p I) {k = 3 + weight_of p I n a} {l = bits_of p I n a} {T = λ v u. Unit {0}} {next = λ v k. cond (T v) (evaluated p I n at Used a v k) (Go (pos 0) k)} wa.follows (λ v u f. tt) (λ v k. ap (λ t. cond t (evaluated p I n at Used a v k) (Go (pos 0) k)) (d.means.is v)) (omega arith) (omega arith))
+      last (λ v u f k. refl) (omega arith) (omega arith) in
+      let told : Follows (Duties p I) p cost bits x2 z (λ v u. Unit {0}) (λ v k. forgot ((cond (T v) (one_arm (λ z. z) a v) (one_arm (λ z. z) b v)) k)) = follows_as p (Duties p I) arms (λ v u f. tt) (λ v k. void_same (T v) a b v k) (omega arith) (omega arith) in
+      let all = follows_then p (Duties p I) (weight_of p I n whole) (bits_of p I n whole) (λ v u k. forgot ((cond (not (is_zero u)) (one_arm (λ z. z) a v) (one_arm (λ z. z) b v)) k)) xe.follows (after_net d.turned told)
+      (λ v u f k. ap (λ t. forgot ((cond (not (is_zero t)) (one_arm (λ z. z) a v) (one_arm (λ z. z) b v)) k)) f) (omega (arith, test_costs p.model (type_of e))) (omega arith) in
+      record {
+        bits_in = tt;
+        follows = any_follows
+            (follows_as p (Duties p I) {k = weight_of p I n whole} {l = bits_of p I n whole} {T = λ v u. Unit {0}} {next = λ v l. forgot (evaluated p I n at Used whole v l)} all (λ v u f. tt)
+            (λ v l. forgot_bind (evaluated p I n at Used e v l) (λ u k. (cond (not (is_zero u)) (one_arm (λ z. z) a v) (one_arm (λ z. z) b v)) k)) (omega arith) (omega arith));
+      }
+
   -- ---- what the calls of the code promise, whose types are those of the parts
   pub logic_first : {s x : Sym} {xs : List Bit} (spot : Spot) (ty : Option IntType) (k : Bool) (a b : Exp) (ta : IntType) → ta ≡ type_of a → Ready p I n at s (Expr spot ty (Logic k a b)) → Values p I n at Used a s x xs
       → AreTyped p.model ta x.net xs × (length x.net < 2 ^ 28)
   logic_first {s} {x} {xs} spot ty k a b ta ea h ga =
-      (rw ea (value_in p I n at Used a (type_of a) (has_one a (good_logic p I n spot ty k a b h.good).0) ga), omega (arith, (longer_by ga.follows.added).1, h.room))
+      (rw ea (value_in p I n at a (type_of a) (has_one a (logic_parts p spot ty k a b h.types).0) ga), omega (arith, (longer_by ga.follows.added).1, h.room))
 
   pub logic_where : {s x x2 : Sym} {xs : List Bit} {f : (ℕ → Bool) → Bool} (spot : Spot) (ty : Option IntType) (k : Bool) (a b : Exp) (ta : IntType) (first go : Bit) → ta ≡ type_of a → Ready p I n at s (Expr spot ty (Logic k a b)) → Values p I n at Used a s x xs
       → Decided p (conversion_cost p.model ta BoolType) x x2 first f → go ≡ cond k first (opposite first) → ReadyWhere p I n at go x2 b
   logic_where {s} {x} {x2} spot ty k a b ta first go ea h ga d e = record {
     fits = d.turned.fits;
     go_in = kept_in x2.net k first go e d.means.inside;
-    good = (good_logic p I n spot ty k a b h.good).4;
+    types = (logic_parts p spot ty k a b h.types).4;
     duty = h.duty;
     room = omega (arith, test_costs p.model (type_of a), ap (λ t. conversion_cost p.model t BoolType) ea, (longer_by ga.follows.added).1, (longer_by d.turned.added).1, h.room);
   }
@@ -298,7 +346,7 @@ module _ (p : Program) (I : List Placed) (n : ℕ) (at : Around) where
       → Decided p (conversion_cost p.model ta BoolType) x x2 first f → ValuesWhere p I n at go b x2 y ys
       → AreTyped p.model tb y.net ys × (length y.net + width_of p.model (type_of b) + 10 < 2 ^ 28)
   logic_second {s} {x} {x2} {y} spot ty k a b ta tb first go ea eb h ga d gb = (
-    rw eb (where_as b (type_of b) (has_one b (good_logic p I n spot ty k a b h.good).1) gb).0,
+    rw eb (where_as b (type_of b) (has_one b (logic_parts p spot ty k a b h.types).1) gb).0,
     omega (arith, test_costs p.model (type_of a), ap (λ t. conversion_cost p.model t BoolType) ea, (longer_by ga.follows.added).1, (longer_by d.turned.added).1, (longer_by gb.follows.added).1, h.room),
   )
 
@@ -311,29 +359,29 @@ module _ (p : Program) (I : List Placed) (n : ℕ) (at : Around) where
     omega (arith, test_costs p.model (type_of b), ap (λ t. conversion_cost p.model t BoolType) eb, (longer_by d.turned.added).1, h),
   )
 
-  pub logic_step : {s x x2 y y2 m : Sym} {net : List NetNode} {xs ys rs : List Bit} (want : Use) (spot : Spot) (ty : Option IntType) (k : Bool) (a b : Exp) (ta tb : IntType) (first second go hit all res : Bit) → ta ≡ type_of a → tb ≡ type_of b
+  pub logic_step : {s x x2 y y2 m : Sym} {net : List NetNode} {xs ys rs : List Bit} (spot : Spot) (ty : Option IntType) (k : Bool) (a b : Exp) (ta tb : IntType) (first second go hit all res : Bit) → ta ≡ type_of a → tb ≡ type_of b
       → Ready p I n at s (Expr spot ty (Logic k a b)) → Values p I n at Used a s x xs
       → Decided p (conversion_cost p.model ta BoolType) x x2 first (λ v. not (is_zero (typed p.model ta v x.net xs))) → go ≡ cond k first (opposite first)
       → ValuesWhere p I n at go b x2 y ys
       → Decided p (conversion_cost p.model tb BoolType) y y2 second (λ v. not (is_zero (typed p.model tb v y.net ys))) → hit ≡ cond k second (opposite second)
       → Grown 1 y2.net net → Means net all (λ v. holds v y2.net go && holds v y2.net hit) → res ≡ cond k all (opposite all)
-      → Reckoned p 0 (record y2 { net = net }) m Int rs (λ v. number_of (holds v net res)) → Values p I n at want (Expr spot ty (Logic k a b)) s m rs
-  logic_step {s} {x} {x2} {y} {y2} {m} {net} {xs} {ys} {rs} want spot ty k a b ta tb first second go hit all res ea eb h ga d1 eg gb d2 eh g ma er r =
-      logic_values want spot ty k a b first second go hit all res h ga
+      → Reckoned p 0 (record y2 { net = net }) m Int rs (λ v. number_of (holds v net res)) → Values p I n at Used (Expr spot ty (Logic k a b)) s m rs
+  logic_step {s} {x} {x2} {y} {y2} {m} {net} {xs} {ys} {rs} spot ty k a b ta tb first second go hit all res ea eb h ga d1 eg gb d2 eh g ma er r =
+      logic_values spot ty k a b first second go hit all res h ga
       (subst (λ t. Decided p (conversion_cost p.model t BoolType) x x2 first (λ v. not (is_zero (typed p.model t v x.net xs)))) ea d1) eg gb
       (subst (λ t. Decided p (conversion_cost p.model t BoolType) y y2 second (λ v. not (is_zero (typed p.model t v y.net ys)))) eb d2) eh g ma er r
 
   pub pick_first : {s x : Sym} {es : List Bit} (spot mark : Spot) (ty : Option IntType) (e a b : Exp) (te : IntType) → te ≡ type_of e → Ready p I n at s (Expr spot ty (Choose mark e a b)) → Values p I n at Used e s x es
       → AreTyped p.model te x.net es × (length x.net < 2 ^ 28)
   pick_first spot mark ty e a b te ee h ge =
-      (rw ee (value_in p I n at Used e (type_of e) (has_one e (good_choose p I n spot mark ty e a b h.good).test) ge), omega (arith, (longer_by ge.follows.added).1, h.room))
+      (rw ee (value_in p I n at e (type_of e) (has_one e (choose_parts p spot mark ty e a b h.types).test) ge), omega (arith, (longer_by ge.follows.added).1, h.room))
 
-  pub pick_yes : {s x x2 : Sym} {es : List Bit} {f : (ℕ → Bool) → Bool} (spot mark : Spot) (to : IntType) (e a b : Exp) (te : IntType) (go : Bit) → te ≡ type_of e → Ready p I n at s (Expr spot (Some to) (Choose mark e a b))
+  pub pick_yes : {s x x2 : Sym} {es : List Bit} {f : (ℕ → Bool) → Bool} (spot mark : Spot) (ty : Option IntType) (e a b : Exp) (te : IntType) (go : Bit) → te ≡ type_of e → Ready p I n at s (Expr spot ty (Choose mark e a b))
       → Values p I n at Used e s x es → Decided p (conversion_cost p.model te BoolType) x x2 go f → ReadyWhere p I n at go x2 a
-  pick_yes spot mark to e a b te go ee h ge d = record {
+  pick_yes spot mark ty e a b te go ee h ge d = record {
     fits = d.turned.fits;
     go_in = d.means.inside;
-    good = (good_choose p I n spot mark (Some to) e a b h.good).good_yes;
+    types = (choose_parts p spot mark ty e a b h.types).typed_yes;
     duty = h.duty;
     room = omega (arith, test_costs p.model (type_of e), ap (λ t. conversion_cost p.model t BoolType) ee, (longer_by ge.follows.added).1, (longer_by d.turned.added).1, h.room);
   }
@@ -341,7 +389,7 @@ module _ (p : Program) (I : List Placed) (n : ℕ) (at : Around) where
   pub pick_yes_value : {s x x2 y : Sym} {es xs : List Bit} {f : (ℕ → Bool) → Bool} (spot mark : Spot) (to : IntType) (e a b : Exp) (te ta : IntType) (go : Bit) → te ≡ type_of e → ta ≡ type_of a → Ready p I n at s (Expr spot (Some to) (Choose mark e a b))
       → Values p I n at Used e s x es → Decided p (conversion_cost p.model te BoolType) x x2 go f → ValuesWhere p I n at go a x2 y xs → AreTyped p.model ta y.net xs × (length y.net < 2 ^ 28)
   pick_yes_value spot mark to e a b te ta go ee ea h ge d ga =
-      let q = good_choose p I n spot mark (Some to) e a b h.good in
+      let q = choose_parts p spot mark (Some to) e a b h.types in
       let arm = arms_have p.model to (type_if a) (type_if b) q.arms in (
         rw ea (where_as a (type_of a) (has_one a arm.0) ga).0,
         omega (arith, test_costs p.model (type_of e), ap (λ t. conversion_cost p.model t BoolType) ee, (longer_by ge.follows.added).1, (longer_by d.turned.added).1, (longer_by ga.follows.added).1, h.room),
@@ -353,7 +401,7 @@ module _ (p : Program) (I : List Placed) (n : ℕ) (at : Around) where
   pick_no {y2 = y2} spot mark to e a b te ta go other ee ea eo h ge d ga r = record {
     fits = r.turned.fits;
     go_in = kept_in y2.net false go other eo (in_added r.turned.added go (in_added ga.follows.added go d.means.inside));
-    good = (good_choose p I n spot mark (Some to) e a b h.good).good_no;
+    types = (choose_parts p spot mark (Some to) e a b h.types).typed_no;
     duty = h.duty;
     room =
         omega (arith, test_costs p.model (type_of e), ap (λ t. conversion_cost p.model t BoolType) ee, conversion_costs p.model (type_of a) to, ap (λ t. conversion_cost p.model t to) ea, (longer_by ge.follows.added).1, (longer_by d.turned.added).1, (longer_by ga.follows.added).1, (longer_by r.turned.added).1, h.room);
@@ -363,7 +411,7 @@ module _ (p : Program) (I : List Placed) (n : ℕ) (at : Around) where
       → Ready p I n at s (Expr spot (Some to) (Choose mark e a b)) → Values p I n at Used e s x es → Decided p (conversion_cost p.model te BoolType) x x2 go f → ValuesWhere p I n at go a x2 y xs
       → Reckoned p (conversion_cost p.model ta to) y y2 to cs g → ValuesWhere p I n at other b y2 z ys → AreTyped p.model tb z.net ys × (length z.net + conversion_cost p.model (type_of b) to < 2 ^ 28)
   pick_no_value spot mark to e a b te ta tb go other ee ea eb h ge d ga r gb =
-      let q = good_choose p I n spot mark (Some to) e a b h.good in
+      let q = choose_parts p spot mark (Some to) e a b h.types in
       let arm = arms_have p.model to (type_if a) (type_if b) q.arms in (
         rw eb (where_as b (type_of b) (has_one b arm.1) gb).0,
         omega (arith, conversion_costs p.model (type_of b) to, test_costs p.model (type_of e), ap (λ t. conversion_cost p.model t BoolType) ee, conversion_costs p.model (type_of a) to, ap (λ t. conversion_cost p.model t to) ea, (longer_by ge.follows.added).1, (longer_by d.turned.added).1, (longer_by ga.follows.added).1, (longer_by r.turned.added).1, (longer_by gb.follows.added).1, h.room),
@@ -378,21 +426,30 @@ module _ (p : Program) (I : List Placed) (n : ℕ) (at : Around) where
     omega (arith, ap (λ t. conversion_cost p.model t to) eb, (longer_by w.turned.added).1, h),
   )
 
-  pub pick_step : {s x x2 y y2 z z2 m : Sym} {es xs cs ys ds rs : List Bit} (want : Use) (spot mark : Spot) (to : IntType) (e a b : Exp) (te ta tb : IntType) (go other : Bit) → te ≡ type_of e → ta ≡ type_of a → tb ≡ type_of b
+  pub pick_step : {s x x2 y y2 z z2 m : Sym} {es xs cs ys ds rs : List Bit} (spot mark : Spot) (to : IntType) (e a b : Exp) (te ta tb : IntType) (go other : Bit) → te ≡ type_of e → ta ≡ type_of a → tb ≡ type_of b
       → Ready p I n at s (Expr spot (Some to) (Choose mark e a b)) → Values p I n at Used e s x es
       → Decided p (conversion_cost p.model te BoolType) x x2 go (λ v. not (is_zero (typed p.model te v x.net es))) → other ≡ opposite go
       → ValuesWhere p I n at go a x2 y xs → Reckoned p (conversion_cost p.model ta to) y y2 to cs (λ v. fit p.model to (typed p.model ta v y.net xs))
       → ValuesWhere p I n at other b y2 z ys → Reckoned p (conversion_cost p.model tb to) z z2 to ds (λ v. fit p.model to (typed p.model tb v z.net ys))
       → Reckoned p (4 * width_of p.model to) z2 m to rs (λ v. cond (holds v z2.net go) (typed p.model to v z2.net cs) (typed p.model to v z2.net ds))
-      → Values p I n at want (Expr spot (Some to) (Choose mark e a b)) s m rs
-  pick_step {s} {x} {x2} {y} {y2} {z} {z2} {m} {es} {xs} {cs} {ys} {ds} {rs} want spot mark to e a b te ta tb go other ee ea eb h ge d eo wa r1 wb r2 r3 =
-      choose_values want spot mark to e a b go other h ge (subst (λ t. Decided p (conversion_cost p.model t BoolType) x x2 go (λ v. not (is_zero (typed p.model t v x.net es)))) ee d) eo wa
+      → Values p I n at Used (Expr spot (Some to) (Choose mark e a b)) s m rs
+  pick_step {s} {x} {x2} {y} {y2} {z} {z2} {m} {es} {xs} {cs} {ys} {ds} {rs} spot mark to e a b te ta tb go other ee ea eb h ge d eo wa r1 wb r2 r3 =
+      choose_values spot mark to e a b go other h ge (subst (λ t. Decided p (conversion_cost p.model t BoolType) x x2 go (λ v. not (is_zero (typed p.model t v x.net es)))) ee d) eo wa
       (subst (λ t. Reckoned p (conversion_cost p.model t to) y y2 to cs (λ v. fit p.model to (typed p.model t v y.net xs))) ea r1) wb
       (subst (λ t. Reckoned p (conversion_cost p.model t to) z z2 to ds (λ v. fit p.model to (typed p.model t v z.net ys))) eb r2) r3
 
-  pub choose_none : (spot mark : Spot) (e a b : Exp) → IsTrue (is_good p I n (Expr spot None (Choose mark e a b))) → ⊥
-  choose_none spot mark e a b h =
-      let q = good_choose p I n spot mark None e a b h in
-      let node = Choose mark e a b in
-      let whole = both (is_good_here p I n (Expr spot None node)) (is_good p I n e && (is_good p I n a && is_good p I n b)) h in
-      no_arms p.model (type_if a) (type_if b) (both (node_fits p None node) (is_built node) whole.0).1 q.arms
+  pub void_no : {s x x2 y : Sym} {es xs : List Bit} {f : (ℕ → Bool) → Bool} (spot mark : Spot) (e a b : Exp) (te : IntType) (go other : Bit) → te ≡ type_of e → other ≡ opposite go
+      → Ready p I n at s (Expr spot None (Choose mark e a b)) → Values p I n at Used e s x es → Decided p (conversion_cost p.model te BoolType) x x2 go f → ValuesWhere p I n at go a x2 y xs → ReadyWhere p I n at other y b
+  void_no {y = y} spot mark e a b te go other ee eo h ge d ga = record {
+    fits = ga.follows.fits;
+    go_in = kept_in y.net false go other eo (in_added ga.follows.added go d.means.inside);
+    types = (choose_parts p spot mark None e a b h.types).typed_no;
+    duty = h.duty;
+    room = omega (arith, test_costs p.model (type_of e), ap (λ t. conversion_cost p.model t BoolType) ee, (longer_by ge.follows.added).1, (longer_by d.turned.added).1, (longer_by ga.follows.added).1, h.room);
+  }
+
+  pub void_step : {s x x2 y z : Sym} {es xs ys : List Bit} (spot mark : Spot) (e a b : Exp) (te : IntType) (go other : Bit) → te ≡ type_of e → Ready p I n at s (Expr spot None (Choose mark e a b)) → Values p I n at Used e s x es
+      → Decided p (conversion_cost p.model te BoolType) x x2 go (λ v. not (is_zero (typed p.model te v x.net es))) → other ≡ opposite go
+      → ValuesWhere p I n at go a x2 y xs → ValuesWhere p I n at other b y z ys → Values p I n at Used (Expr spot None (Choose mark e a b)) s z ys
+  void_step {s} {x} {x2} {y} {z} {es} spot mark e a b te go other ee h ge d eo wa wb =
+      void_values spot mark e a b go other h ge (subst (λ t. Decided p (conversion_cost p.model t BoolType) x x2 go (λ v. not (is_zero (typed p.model t v x.net es)))) ee d) eo wa wb

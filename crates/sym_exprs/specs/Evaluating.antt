@@ -2,12 +2,12 @@
 --
 -- For each form one function; its contract is that of the whole: what `eval p (havoc p I)` does to each run that is here, its value as bits
 -- in the expression's type, no more and-nodes than the expression weighs, no more inputs than it draws.
-use Rattle.std.specs.Prelude.{◌≡◌, ℕ, ◌+◌, ◌<◌, ◌^◌, Bool, true, false, ◌&&◌, length, ℤ, List, IsTrue, cond, pos}
-use Rattle.c_core.specs.Tree.{Program, Exp, Expr, Node, Var, Index, Step, Choose, Assign, Call}
+use Rattle.std.specs.Prelude.{◌≡◌, ℕ, ◌+◌, ◌<◌, ◌^◌, Bool, true, false, length, ℤ, List, Option, IsTrue, cond, pos}
+use Rattle.c_core.specs.Tree.{Program, Exp}
 use Rattle.c_core.specs.Parts.{type_of, every_exp}
-use Rattle.c_core.specs.Typing.{exp_fits, has_value}
-use Rattle.c_core.specs.declared.tree.Callee.{Callee}
-use Rattle.c_core.specs.declared.tree.Callee.TheVariants.{Defined, Exit}
+use Rattle.c_core.specs.Typing.{exp_fits}
+use Rattle.c_core.specs.declared.number.DataModel.{DataModel}
+use Rattle.c_core.specs.declared.number.IntType.{IntType}
 use Rattle.c_meaning.specs.Meaning.{Use, Used, Unused}
 use Rattle.c_meaning.specs.Duties.{Placed, Duties}
 use Rattle.c_meaning.specs.Acts.{Go}
@@ -15,12 +15,13 @@ use Rattle.c_meaning.specs.Eval.{eval}
 use Rattle.c_meaning.specs.Fitting.{calls_in}
 use Rattle.c_meaning.specs.Havoc.{havoc}
 use Rattle.circuits.specs.declared.net.Bit.{Bit}
+use Rattle.circuits.specs.declared.net.NetNode.{NetNode}
 use Rattle.circuits.specs.Net.{holds, IsIn}
 use Rattle.sym_state.specs.declared.state.Sym.{Sym}
 use Rattle.sym_state.specs.declared.state.Around.{Around}
 use Rattle.sym_state.specs.Standing.{IsState}
 use Rattle.sym_state.specs.Following.{Deed, Follows, AreOf, IsNumber}
-use Rattle.sym_values.specs.Valuing.{where_of, IsDutyAt, Gives}
+use Rattle.sym_values.specs.Valuing.{where_of, IsDutyAt}
 use Rattle.sym_weight.specs.Sum.{expression}
 use Rattle.sym_weight.specs.Weight.{weighing, drawing, weight_in, bits_in}
 
@@ -28,28 +29,10 @@ abbrev pub use_of : Bool → Use
 use_of true = Used
 use_of false = Unused
 
--- a scalar object
-abbrev pub is_scalar_node : Node → Bool
-is_scalar_node (Var o) = true
-is_scalar_node _ = false
-
-abbrev pub is_scalar : Exp → Bool
-is_scalar (Expr spot ty n) = is_scalar_node n
-
--- calls that have no body, and take no argument
-abbrev pub is_plain_call : Callee → Bool
-is_plain_call (Defined f) = false
-is_plain_call Exit = false
-is_plain_call _ = true
-
--- the forms that are evaluated so far: no elements of arrays, no void `?:`, no calls of defined functions and of `exit`
-abbrev pub is_built : Node → Bool
-is_built (Index o i) = false
-is_built (Step op a) = is_scalar a
-is_built (Choose mark e a b) = has_value a && has_value b
-is_built (Assign op a b) = is_scalar a
-is_built (Call callee es close) = is_plain_call callee
-is_built _ = true
+-- where the value is used, the bits' number under inputs is the value; elsewhere nothing is asked of it
+abbrev pub IsWanted : Use → DataModel → Option IntType → List NetNode → List Bit → (ℕ → Bool) → ℤ → Type 0
+IsWanted Used m ty net bits v z = IsNumber m ty net bits v z
+IsWanted Unused m ty net bits v z = Unit {0}
 
 -- calls at most n deep
 module _ (p : Program) (I : List Placed) (n : ℕ) where
@@ -59,13 +42,6 @@ module _ (p : Program) (I : List Placed) (n : ℕ) where
   abbrev pub bits_of : Exp → ℕ
   bits_of e = expression p (drawing (bits_in p n)) e
 
-  abbrev pub is_good_here : Exp → Bool
-  is_good_here (Expr spot ty node) = exp_fits p (Expr spot ty node) && is_built node
-
-  -- typed, and of the forms that are evaluated so far, with all its parts
-  abbrev pub is_good : Exp → Bool
-  is_good e = every_exp is_good_here e
-
   abbrev pub evaluated : Around → Use → Exp → Deed ℤ
   evaluated at want e v s = eval p (havoc p I) (calls_in p (havoc p I) n) (where_of at) want e s
 
@@ -73,12 +49,14 @@ module _ (p : Program) (I : List Placed) (n : ℕ) where
     -- an expression can be evaluated from a state
     pub record Ready (s : Sym) (e : Exp) : Type 0 where
       pub fits : IsState p s
-      pub good : IsTrue (is_good e)
+      pub types : IsTrue (every_exp (exp_fits p) e)
       pub duty : IsDutyAt p I at
       pub room : length s.net + (weight_of e + bits_of e) < 2 ^ 27
 
-    abbrev pub Values : Use → Exp → Sym → Sym → List Bit → Type 0
-    Values want e old new bits = Gives p I (weight_of e) (bits_of e) old new (type_of e) bits (evaluated at want e)
+    -- it was evaluated; the bits are its value, where that is used
+    pub record Values (want : Use) (e : Exp) (old new : Sym) (bits : List Bit) : Type 0 where
+      pub bits_in : AreOf p.model (type_of e) new.net bits
+      pub follows : Follows (Duties p I) p (weight_of e) (bits_of e) old new (IsWanted want p.model (type_of e) new.net bits) (evaluated at want e)
 
     -- the same, where a bit of the state says so; elsewhere the run goes on at once
     abbrev pub evaluated_where : Bit → Exp → Sym → Deed ℤ
@@ -92,6 +70,6 @@ module _ (p : Program) (I : List Placed) (n : ℕ) where
     pub record ReadyWhere (go : Bit) (s : Sym) (e : Exp) : Type 0 where
       pub fits : IsState p s
       pub go_in : IsIn s.net go
-      pub good : IsTrue (is_good e)
+      pub types : IsTrue (every_exp (exp_fits p) e)
       pub duty : IsDutyAt p I at
       pub room : length s.net + (3 + weight_of e + bits_of e) < 2 ^ 27

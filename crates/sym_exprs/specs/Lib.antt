@@ -1,1 +1,2 @@
 pub mod Evaluating
+pub mod Targeting

@@ -2,3 +2,7 @@ mod NextLaws
 mod WholeLaws
 mod PlacedLaws
 mod AnswerLaws
+mod TokenConstants
+mod SpelledConstants
+mod TypedTests
+mod TestLaws

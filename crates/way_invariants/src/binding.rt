@@ -1,7 +1,8 @@
 // The invariants of a witness, bound in witness order.
 ghost use Rattle.std.specs.Prelude.{◌≡◌, ◌+◌, [], ◌∷◌, IfOk};
 ghost use Rattle.c_core.specs.View.{program_view};
-ghost use Rattle.way_invariants.specs.Invariants.{BindsInvariants, invariants_among, set_of};
+ghost use Rattle.c_duties.specs.Obliged.{placed_view};
+ghost use Rattle.way_invariants.specs.Invariants.{AreTests, BindsInvariants, invariants_among, set_of};
 ghost use Rattle.way_invariants.specs.Steps.{BindsNext};
 
 use crate::invariant::bind_invariant;
@@ -92,7 +93,8 @@ pub fn bind_correctness(
     witness: &Witness,
     program: &Program,
 ) -> Result<Seq<PlacedInvariant>, BindFault>
-    ensures { BindsInvariants (program_view program.now) witness.now result }
+    ensures bound { BindsInvariants (program_view program.now) witness.now result }
+    ensures typed { IfOk result (λ placed. AreTests (program_view program.now) (placed_view placed)) }
 {
     let index = Index::new(alloc, program)?;
     let mut placed = Seq::new(alloc);

@@ -4,8 +4,12 @@ use Rattle.std.proofs.lemmas.List.Elements.{All-nil}
 use Rattle.std.specs.Str.{bytes_eq}
 use Rattle.c_core.specs.declared.number.DataModel.{DataModel}
 use Rattle.c_core.specs.declared.number.Property.{Property}
-use Rattle.c_core.specs.Tree.{Program}
+use Rattle.c_core.specs.Tree as t
 use Rattle.c_core.specs.View.{program_view}
+use Rattle.c_core.specs.declared.program.Program.{Program}
+use Rattle.c_duties.specs.Obliged.{placed_view}
+use Rattle.c_meaning.specs.Duties.{Placed}
+use Rattle.c_meaning.specs.declared.verdict.Verdict.{Verdict}
 use Rattle.c_parser.specs.Parsing.{source_view}
 use Rattle.c_parser.specs.Tree.{Item}
 use Rattle.c_parser.specs.declared.fault.ParseFault.{ParseFault}
@@ -18,6 +22,8 @@ use Rattle.c_tokens.specs.declared.token.Token.{Token}
 use Rattle.c_tokens.specs.declared.token.TokenFault.{TokenFault}
 use Rattle.c_tokens.specs.declared.token.TokenFault.TheVariants as tokens
 use Rattle.sha2.specs.Sha256.{sha256}
+use Rattle.sym_duties.specs.declared.fault.SymFault.{SymFault}
+use Rattle.sym_duties.specs.declared.fault.SymFault.TheVariants as duties
 use Rattle.way_bind.specs.declared.fault.BindFault.{BindFault}
 use Rattle.way_bind.specs.declared.fault.BindFault.TheVariants as bind
 use Rattle.way_match.specs.Points.{BoundSegment}
@@ -34,20 +40,20 @@ use Rattle.wv_task.specs.PropertyText.{property_of}
 use Rattle.wv_task.specs.Task.{judged as task_judged}
 use Rattle.wv_task.specs.declared.fault.TaskFault.{TaskFault}
 use Rattle.wv_task.specs.declared.fault.TaskFault.TheVariants as task
-use Rattle.wv_arguments.specs.Words.{Command}
+use Rattle.wv_arguments.specs.Words.{Budgets, Command}
 use Rattle.wv_yaml.specs.declared.tree.Tree.{Tree}
 use Rattle.yaml_scalars.specs.declared.fault.YamlFault.{YamlFault}
 use Rattle.yaml_scalars.specs.declared.fault.YamlFault.TheVariants.{Bytes, Grammar, Duplicate, OutOfMemory}
 use Rattle.witval.specs.Inputs.{OfFiles, AreInputs, IsWitness, ToldOne}
-use Rattle.witval.specs.Refusals.{IsBindRefusal, IsCheckRefusal, IsRefusal, IsSchemaRefusal, IsSyntaxRefusal, IsTaskRefusal, IsTokenRefusal, check_code, place_text, plain, unbuilt}
-use Rattle.witval.specs.Stages.{given, known, unless, itself}
-use Rattle.witval.specs.Tasks.{RightOnInputs, RightOnSegments, holds_sets}
-use Rattle.witval.specs.inside.Rests.{RightOnProgram, RightOnSequence, RightOnSource, RightOnText, RightOnTokens, RightOnTree, RightOnWitness, RightUnder}
+use Rattle.witval.specs.Refusals.{IsBindRefusal, IsCheckRefusal, IsObligationRefusal, IsRefusal, IsSchemaRefusal, IsSyntaxRefusal, IsTaskRefusal, IsTokenRefusal, check_code, place_text, plain}
+use Rattle.witval.specs.Stages.{given, known, choosing, itself}
+use Rattle.witval.specs.Tasks.{JudgesSets, RightOnInputs, RightOnPlaced, RightOnProgram, RightOnSegments, RightOnSequence, RightOnSets, Tells, holds_sets}
+use Rattle.witval.specs.inside.Rests.{RightOnSource, RightOnText, RightOnTokens, RightOnTree, RightOnWitness, RightUnder}
 use Rattle.witval.specs.Replies.{CanonicalIn, NoReply, NoTreeReply, NoWitnessReply, OnWitness, SummaryIn, RightAlone, RightOnBytes, RightFor, too_long}
 use Rattle.witval.specs.declared.input.Inputs.{Inputs}
 use Rattle.witval.specs.declared.output.Output.{Output}
 use Rattle.witval.specs.declared.output.Output.TheVariants.{Report, Canonical, Summary}
-use Rattle.witval.proofs.ShownValues.{shows_integers}
+use Rattle.witval.proofs.ShownValues.{sets_show_integers, shows_integers}
 
 -- a reply that is neither a read fault nor the refusal of a long file; a verdict shows no number beyond 64 bits
 NotOfLength : Reply → Type 0
@@ -115,7 +121,13 @@ bind_refusals (bind.Expression waypoint) reply e = subst NotOfLength (sym e) ref
 bind_refusals (bind.Scope waypoint) reply e = subst NotOfLength (sym e) refl
 bind_refusals bind.OutOfMemory reply e = absurd e
 
-on_segments : (steps : ℕ) (p : Program) (ss : List BoundSegment) (reply : Reply) → RightOnSegments steps p ss reply → NotOfLength reply
+obligation_refusals : (fault : SymFault) (reply : Reply) → IsObligationRefusal fault reply → NotOfLength reply
+unfolding NotOfLength
+obligation_refusals (duties.Recursion name) reply e = subst NotOfLength (sym e) refl
+obligation_refusals duties.TooBig reply e = subst NotOfLength (sym e) refl
+obligation_refusals duties.OutOfMemory reply e = absurd e
+
+on_segments : (steps : ℕ) (p : t.Program) (ss : List BoundSegment) (reply : Reply) → RightOnSegments steps p ss reply → NotOfLength reply
 unfolding NotOfLength
 on_segments steps p ss (Judged verdict) e = shows_integers p ss steps verdict e.right
 on_segments steps p ss (Refused code detail) e = absurd e
@@ -133,77 +145,94 @@ known_kept : {A B F : Type 0} (view : A → B) (IsRefused : F → Reply → Type
 known_kept view IsRefused (Ok a) within refused kept reply right = kept (view a) reply right
 known_kept view IsRefused (Err fault) within refused kept reply right = refused fault reply right
 
-unless_kept : (holds : Bool) (refusal : Reply) (within : Reply → Type 0) → NotOfLength refusal → ((reply : Reply) → within reply → NotOfLength reply)
-    → (reply : Reply) → unless holds refusal (λ _. within) reply → NotOfLength reply
-unless_kept true refusal within refused kept reply right = subst NotOfLength (sym right) refused
-unless_kept false refusal within refused kept reply right = kept reply right
+choosing_kept : (holds : Bool) (there elsewhere : Reply → Type 0) → ((reply : Reply) → there reply → NotOfLength reply) → ((reply : Reply) → elsewhere reply → NotOfLength reply)
+    → (reply : Reply) → choosing holds there elsewhere reply → NotOfLength reply
+choosing_kept true there elsewhere kept other reply right = kept reply right
+choosing_kept false there elsewhere kept other reply right = other reply right
 
 on_sequence : (steps : ℕ) (witness : Witness) (p : Program) (reply : Reply) → RightOnSequence steps witness p reply → NotOfLength reply
-on_sequence steps witness p reply right = known_kept segments_view IsBindRefusal right.0 (RightOnSegments steps p) bind_refusals (on_segments steps p) reply right.2
+on_sequence steps witness p reply right =
+    known_kept segments_view IsBindRefusal right.0 (RightOnSegments steps (program_view p)) bind_refusals (on_segments steps (program_view p)) reply right.2
 
-on_program : (steps : ℕ) (witness : Witness) (p : Program) (reply : Reply) → RightOnProgram steps witness p reply → NotOfLength reply
+on_verdict : (verdict : Verdict) (reply : Reply) → HasJsonIntegers (Judged verdict) → Tells verdict reply → NotOfLength reply
 unfolding NotOfLength
-on_program steps witness p reply right = unless_kept (holds_sets witness) (unbuilt (codes "witness")) (RightOnSequence steps witness p) refl (on_sequence steps witness p) reply right
+on_verdict verdict reply shown e = subst NotOfLength (sym e) shown
 
-on_source : (steps : ℕ) (property : Property) (witness : Witness) (model : DataModel) (items : List Item) (reply : Reply)
-    → RightOnSource steps property witness model items reply → NotOfLength reply
-on_source steps property witness model items reply right =
-    known_kept program_view IsCheckRefusal right.0 (RightOnProgram steps witness) check_refusals (on_program steps witness) reply right.2
+on_judged : (conflicts : ℕ) (p : Program) (I : List Placed) (answer : Result Verdict SymFault) (reply : Reply) → JudgesSets conflicts p I answer
+    → known itself IsObligationRefusal answer Tells reply → NotOfLength reply
+on_judged conflicts p I (Ok verdict) reply judges right = on_verdict verdict reply (sets_show_integers conflicts (program_view p) I verdict judges.right) right
+on_judged conflicts p I (Err fault) reply judges right = obligation_refusals fault reply right
 
-on_tokens : (steps : ℕ) (property : Property) (witness : Witness) (model : DataModel) (ts : List Token) (reply : Reply)
-    → RightOnTokens steps property witness model ts reply → NotOfLength reply
-on_tokens steps property witness model ts reply right =
-    known_kept source_view IsSyntaxRefusal right.0 (RightOnSource steps property witness model) syntax_refusals (on_source steps property witness model) reply right.2
+on_placed : (conflicts : ℕ) (p : Program) (I : List Placed) (reply : Reply) → RightOnPlaced conflicts p I reply → NotOfLength reply
+on_placed conflicts p I reply right = on_judged conflicts p I right.0 reply right.1 right.2
 
-on_text : (steps : ℕ) (property : Property) (text : List ℕ) (witness : Witness) (model : DataModel) (reply : Reply)
-    → RightOnText steps property text witness model reply → NotOfLength reply
-on_text steps property text witness model reply right =
-    known_kept itself IsTokenRefusal right.0 (RightOnTokens steps property witness model) token_refusals (on_tokens steps property witness model) reply right.2
+on_sets : (conflicts : ℕ) (witness : Witness) (p : Program) (reply : Reply) → RightOnSets conflicts witness p reply → NotOfLength reply
+on_sets conflicts witness p reply right = known_kept placed_view IsBindRefusal right.0 (RightOnPlaced conflicts p) bind_refusals (on_placed conflicts p) reply right.2
 
-on_witness : (steps : ℕ) (property : Property) (text : List ℕ) (witness : Witness) (reply : Reply) → RightOnWitness steps property text witness reply → NotOfLength reply
-on_witness steps property text witness reply right =
-    known_kept itself IsTaskRefusal (task_judged (sha256 text) property witness.entries) (RightOnText steps property text witness) task_refusals
-    (on_text steps property text witness) reply right
+on_program : (budgets : Budgets) (witness : Witness) (p : Program) (reply : Reply) → RightOnProgram budgets witness p reply → NotOfLength reply
+on_program budgets witness p reply right =
+    choosing_kept (holds_sets witness) (RightOnSets budgets.conflicts witness p) (RightOnSequence budgets.steps witness p) (on_sets budgets.conflicts witness p)
+    (on_sequence budgets.steps witness p) reply right
 
-on_tree : (steps : ℕ) (property : Property) (text : List ℕ) (tree : Tree) (reply : Reply) → RightOnTree steps property text tree reply → NotOfLength reply
-on_tree steps property text tree reply right =
-    known_kept itself IsSchemaRefusal (witness_of tree) (RightOnWitness steps property text) schema_refusals (on_witness steps property text) reply right
+on_source : (budgets : Budgets) (property : Property) (witness : Witness) (model : DataModel) (items : List Item) (reply : Reply)
+    → RightOnSource budgets property witness model items reply → NotOfLength reply
+on_source budgets property witness model items reply right =
+    known_kept itself IsCheckRefusal right.0 (RightOnProgram budgets witness) check_refusals (on_program budgets witness) reply right.2
 
-under : (steps : ℕ) (text witness : List ℕ) (property : Property) (reply : Reply) → RightUnder steps text witness property reply → NotOfLength reply
-under steps text witness property reply right =
-    known_kept itself IsRefusal right.0 (RightOnTree steps property text) refusals (on_tree steps property text) reply right.2
+on_tokens : (budgets : Budgets) (property : Property) (witness : Witness) (model : DataModel) (ts : List Token) (reply : Reply)
+    → RightOnTokens budgets property witness model ts reply → NotOfLength reply
+on_tokens budgets property witness model ts reply right =
+    known_kept source_view IsSyntaxRefusal right.0 (RightOnSource budgets property witness model) syntax_refusals (on_source budgets property witness model) reply right.2
 
-inputs_not_of_length : (steps : ℕ) (program property witness : List ℕ) (reply : Reply) → RightOnInputs steps program property witness reply → NotOfLength reply
+on_text : (budgets : Budgets) (property : Property) (text : List ℕ) (witness : Witness) (model : DataModel) (reply : Reply)
+    → RightOnText budgets property text witness model reply → NotOfLength reply
+on_text budgets property text witness model reply right =
+    known_kept itself IsTokenRefusal right.0 (RightOnTokens budgets property witness model) token_refusals (on_tokens budgets property witness model) reply right.2
+
+on_witness : (budgets : Budgets) (property : Property) (text : List ℕ) (witness : Witness) (reply : Reply) → RightOnWitness budgets property text witness reply → NotOfLength reply
+on_witness budgets property text witness reply right =
+    known_kept itself IsTaskRefusal (task_judged (sha256 text) property witness.entries) (RightOnText budgets property text witness) task_refusals
+    (on_text budgets property text witness) reply right
+
+on_tree : (budgets : Budgets) (property : Property) (text : List ℕ) (tree : Tree) (reply : Reply) → RightOnTree budgets property text tree reply → NotOfLength reply
+on_tree budgets property text tree reply right =
+    known_kept itself IsSchemaRefusal (witness_of tree) (RightOnWitness budgets property text) schema_refusals (on_witness budgets property text) reply right
+
+under : (budgets : Budgets) (text witness : List ℕ) (property : Property) (reply : Reply) → RightUnder budgets text witness property reply → NotOfLength reply
+under budgets text witness property reply right =
+    known_kept itself IsRefusal right.0 (RightOnTree budgets property text) refusals (on_tree budgets property text) reply right.2
+
+inputs_not_of_length : (budgets : Budgets) (program property witness : List ℕ) (reply : Reply) → RightOnInputs budgets program property witness reply → NotOfLength reply
 unfolding NotOfLength
-inputs_not_of_length steps program property witness reply right =
-    given_kept (plain (codes "property")) (property_of property) (RightUnder steps program witness) refl (under steps program witness) reply right
+inputs_not_of_length budgets program property witness reply right =
+    given_kept (plain (codes "property")) (property_of property) (RightUnder budgets program witness) refl (under budgets program witness) reply right
 
 -- the files hold the bytes that were read
-on_files : (steps : ℕ) (program property witness : List ℕ) (inputs : Inputs) (reply : Reply) → AreInputs inputs program property witness
-    → RightOnInputs steps inputs.program.items inputs.property.items inputs.witness.items reply → RightOnBytes steps reply program property witness
-on_files steps program property witness inputs reply a right =
+on_files : (budgets : Budgets) (program property witness : List ℕ) (inputs : Inputs) (reply : Reply) → AreInputs inputs program property witness
+    → RightOnInputs budgets inputs.program.items inputs.property.items inputs.witness.items reply → RightOnBytes budgets reply program property witness
+on_files budgets program property witness inputs reply a right =
     rw a.lengths
-    (subst (λ x. RightOnInputs steps x property witness reply) a.program_read
-    (subst (λ x. RightOnInputs steps inputs.program.items x witness reply) a.property_read
-    (subst (λ x. RightOnInputs steps inputs.program.items inputs.property.items x reply) a.witness_read right)))
+    (subst (λ x. RightOnInputs budgets x property witness reply) a.program_read
+    (subst (λ x. RightOnInputs budgets inputs.program.items x witness reply) a.property_read
+    (subst (λ x. RightOnInputs budgets inputs.program.items inputs.property.items x reply) a.witness_read right)))
 
-told : (command : Command) (steps : ℕ) (files : Option Files) (inputs : Inputs) (reply : Reply) → IfSome files (λ files. OfFiles command files (AreInputs inputs))
-    → RightOnInputs steps inputs.program.items inputs.property.items inputs.witness.items reply → IfSome files (λ files. OfFiles command files (RightOnBytes steps reply))
-told command steps None inputs reply a right = tt
-told command steps (Some files) inputs reply a right = on_files steps _ _ _ inputs reply a right
+told : (command : Command) (budgets : Budgets) (files : Option Files) (inputs : Inputs) (reply : Reply) → IfSome files (λ files. OfFiles command files (AreInputs inputs))
+    → RightOnInputs budgets inputs.program.items inputs.property.items inputs.witness.items reply → IfSome files (λ files. OfFiles command files (RightOnBytes budgets reply))
+told command budgets None inputs reply a right = tt
+told command budgets (Some files) inputs reply a right = on_files budgets _ _ _ inputs reply a right
 
-judged : (command : Command) (steps : ℕ) (old new : ShelfState) (inputs : Inputs) (reply : Reply) → IfSome old.files (λ files. OfFiles command files (AreInputs inputs))
-    → RightOnInputs steps inputs.program.items inputs.property.items inputs.witness.items reply → NotOfLength reply → RightFor command steps old new reply
+judged : (command : Command) (budgets : Budgets) (old new : ShelfState) (inputs : Inputs) (reply : Reply) → IfSome old.files (λ files. OfFiles command files (AreInputs inputs))
+    → RightOnInputs budgets inputs.program.items inputs.property.items inputs.witness.items reply → NotOfLength reply → RightFor command budgets old new reply
 unfolding NotOfLength
-judged command steps old new inputs (Refused code detail) a right other = (told command steps old.files inputs (Refused code detail) a right, inl other)
-judged command steps old new inputs (Judged verdict) a right other = told command steps old.files inputs (Judged verdict) a right
-judged command steps old new inputs (ReadFault file) a right other = absurd other
+judged command budgets old new inputs (Refused code detail) a right other = (told command budgets old.files inputs (Refused code detail) a right, inl other)
+judged command budgets old new inputs (Judged verdict) a right other = told command budgets old.files inputs (Judged verdict) a right
+judged command budgets old new inputs (ReadFault file) a right other = absurd other
 
 -- the answer of the judge, for the files that the command names
-pub judged_if : {E : Type 0} (command : Command) (steps : ℕ) (old new : ShelfState) (inputs : Inputs) (result : Result Reply E) → IfSome old.files (λ files. OfFiles command files (AreInputs inputs))
-    → IfOk result (RightOnInputs steps inputs.program.items inputs.property.items inputs.witness.items) → IfOk result (RightFor command steps old new)
-judged_if command steps old new inputs (Ok reply) a right = judged command steps old new inputs reply a right (inputs_not_of_length steps inputs.program.items inputs.property.items inputs.witness.items reply right)
-judged_if command steps old new inputs (Err e) a right = tt
+pub judged_if : {E : Type 0} (command : Command) (budgets : Budgets) (old new : ShelfState) (inputs : Inputs) (result : Result Reply E) → IfSome old.files (λ files. OfFiles command files (AreInputs inputs))
+    → IfOk result (RightOnInputs budgets inputs.program.items inputs.property.items inputs.witness.items) → IfOk result (RightFor command budgets old new)
+judged_if command budgets old new inputs (Ok reply) a right = judged command budgets old new inputs reply a right (inputs_not_of_length budgets inputs.program.items inputs.property.items inputs.witness.items reply right)
+judged_if command budgets old new inputs (Err e) a right = tt
 
 -- it shows no number beyond 64 bits
 integers : (reply : Reply) → NotOfLength reply → HasJsonIntegers reply
@@ -212,9 +241,9 @@ integers (Refused code detail) other = All-nil (λ draw. IsJsonInteger draw.valu
 integers (Judged verdict) other = other
 integers (ReadFault file) other = absurd other
 
-pub integers_if : {E : Type 0} (steps : ℕ) (program property witness : List ℕ) (result : Result Reply E) → IfOk result (RightOnInputs steps program property witness) → IfOk result HasJsonIntegers
-integers_if steps program property witness (Ok reply) right = integers reply (inputs_not_of_length steps program property witness reply right)
-integers_if steps program property witness (Err e) right = tt
+pub integers_if : {E : Type 0} (budgets : Budgets) (program property witness : List ℕ) (result : Result Reply E) → IfOk result (RightOnInputs budgets program property witness) → IfOk result HasJsonIntegers
+integers_if budgets program property witness (Ok reply) right = integers reply (inputs_not_of_length budgets program property witness reply right)
+integers_if budgets program property witness (Err e) right = tt
 
 -- a refusal is no verdict
 IsRefused : Reply → Type 0

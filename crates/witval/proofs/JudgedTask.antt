@@ -3,6 +3,7 @@ use Rattle.std.proofs.Common.{◌≡◌, ℕ, List, Some, Result, Ok, Err, IfOk,
 use Rattle.sha2.specs.Sha256.{sha256}
 use Rattle.c_core.specs.declared.number.DataModel.{DataModel}
 use Rattle.c_core.specs.declared.number.Property.{Property}
+use Rattle.wv_arguments.specs.Words.{Budgets}
 use Rattle.wv_report.specs.declared.reply.Reply.{Reply}
 use Rattle.wv_schema.specs.Schema.{IsAnswer, judged as schema_judged, schema_fault, witness_of}
 use Rattle.wv_schema.specs.declared.fault.SchemaFault.{SchemaFault}
@@ -33,46 +34,46 @@ witness_answer : (t : Tree) (w : Witness) → IsAnswer t (Ok w) → witness_of t
 unfolding witness_of
 witness_answer t w answer = ap₂ schema_judged answer.0 (sym answer.1)
 
-pub after_witness : {E : Type 0} (steps : ℕ) (property : Property) (program : List ℕ) (t : Tree) (w : Witness) (result : Result Reply E) → IsAnswer t (Ok w)
-    → IfOk result (RightOnWitness steps property program w) → IfOk result (RightOnTree steps property program t)
-after_witness steps property program t w result answer right =
-    subst (λ a. IfOk result (known itself IsSchemaRefusal a (RightOnWitness steps property program))) (sym (witness_answer t w answer)) right
+pub after_witness : {E : Type 0} (budgets : Budgets) (property : Property) (program : List ℕ) (t : Tree) (w : Witness) (result : Result Reply E) → IsAnswer t (Ok w)
+    → IfOk result (RightOnWitness budgets property program w) → IfOk result (RightOnTree budgets property program t)
+after_witness budgets property program t w result answer right =
+    subst (λ a. IfOk result (known itself IsSchemaRefusal a (RightOnWitness budgets property program))) (sym (witness_answer t w answer)) right
 
-refused_by_schema : {E : Type 0} (steps : ℕ) (property : Property) (program : List ℕ) (t : Tree) (fault : SchemaFault) (result : Result Reply E) → schema_fault t ≡ Some fault
-    → IfOk result (IsSchemaRefusal fault) → IfOk result (RightOnTree steps property program t)
-refused_by_schema steps property program t fault result e right =
-    subst (λ a. IfOk result (known itself IsSchemaRefusal a (RightOnWitness steps property program))) (sym (schema_answer t fault e)) right
+refused_by_schema : {E : Type 0} (budgets : Budgets) (property : Property) (program : List ℕ) (t : Tree) (fault : SchemaFault) (result : Result Reply E) → schema_fault t ≡ Some fault
+    → IfOk result (IsSchemaRefusal fault) → IfOk result (RightOnTree budgets property program t)
+refused_by_schema budgets property program t fault result e right =
+    subst (λ a. IfOk result (known itself IsSchemaRefusal a (RightOnWitness budgets property program))) (sym (schema_answer t fault e)) right
 
-pub after_fault : {E : Type 0} (steps : ℕ) (property : Property) (program : List ℕ) (t : Tree) (fault : SchemaFault) (result : Result Reply E) → IsAnswer t (Err fault)
-    → IfOk result (IsSchemaRefusal fault) → IfOk result (RightOnTree steps property program t)
-after_fault steps property program t (schema.Missing path) result e right = refused_by_schema steps property program t _ result e right
-after_fault steps property program t (schema.WrongKind path) result e right = refused_by_schema steps property program t _ result e right
-after_fault steps property program t (schema.BadValue path) result e right = refused_by_schema steps property program t _ result e right
-after_fault steps property program t schema.Version result e right = refused_by_schema steps property program t _ result e right
-after_fault steps property program t (schema.Shape segment) result e right = refused_by_schema steps property program t _ result e right
-after_fault steps property program t schema.Entries result e right = refused_by_schema steps property program t _ result e right
-after_fault steps property program t schema.OutOfMemory result e right = never _ result right
+pub after_fault : {E : Type 0} (budgets : Budgets) (property : Property) (program : List ℕ) (t : Tree) (fault : SchemaFault) (result : Result Reply E) → IsAnswer t (Err fault)
+    → IfOk result (IsSchemaRefusal fault) → IfOk result (RightOnTree budgets property program t)
+after_fault budgets property program t (schema.Missing path) result e right = refused_by_schema budgets property program t _ result e right
+after_fault budgets property program t (schema.WrongKind path) result e right = refused_by_schema budgets property program t _ result e right
+after_fault budgets property program t (schema.BadValue path) result e right = refused_by_schema budgets property program t _ result e right
+after_fault budgets property program t schema.Version result e right = refused_by_schema budgets property program t _ result e right
+after_fault budgets property program t (schema.Shape segment) result e right = refused_by_schema budgets property program t _ result e right
+after_fault budgets property program t schema.Entries result e right = refused_by_schema budgets property program t _ result e right
+after_fault budgets property program t schema.OutOfMemory result e right = never _ result right
 
 -- the same with the rules of the task
-pub after_model : {E : Type 0} (steps : ℕ) (property : Property) (program : List ℕ) (w : Witness) (model : DataModel) (result : Result Reply E)
-    → Gives (task_judged (sha256 program) property w.entries) (Ok model) → IfOk result (RightOnText steps property program w model) → IfOk result (RightOnWitness steps property program w)
-after_model steps property program w model result answer right =
-    subst (λ a. IfOk result (known itself IsTaskRefusal a (RightOnText steps property program w))) (sym answer) right
+pub after_model : {E : Type 0} (budgets : Budgets) (property : Property) (program : List ℕ) (w : Witness) (model : DataModel) (result : Result Reply E)
+    → Gives (task_judged (sha256 program) property w.entries) (Ok model) → IfOk result (RightOnText budgets property program w model) → IfOk result (RightOnWitness budgets property program w)
+after_model budgets property program w model result answer right =
+    subst (λ a. IfOk result (known itself IsTaskRefusal a (RightOnText budgets property program w))) (sym answer) right
 
-refused_by_task : {E : Type 0} (steps : ℕ) (property : Property) (program : List ℕ) (w : Witness) (fault : TaskFault) (result : Result Reply E)
-    → task_judged (sha256 program) property w.entries ≡ Err fault → IfOk result (IsTaskRefusal fault) → IfOk result (RightOnWitness steps property program w)
-refused_by_task steps property program w fault result e right =
-    subst (λ a. IfOk result (known itself IsTaskRefusal a (RightOnText steps property program w))) (sym e) right
+refused_by_task : {E : Type 0} (budgets : Budgets) (property : Property) (program : List ℕ) (w : Witness) (fault : TaskFault) (result : Result Reply E)
+    → task_judged (sha256 program) property w.entries ≡ Err fault → IfOk result (IsTaskRefusal fault) → IfOk result (RightOnWitness budgets property program w)
+refused_by_task budgets property program w fault result e right =
+    subst (λ a. IfOk result (known itself IsTaskRefusal a (RightOnText budgets property program w))) (sym e) right
 
-pub after_task_fault : {E : Type 0} (steps : ℕ) (property : Property) (program : List ℕ) (w : Witness) (fault : TaskFault) (result : Result Reply E)
-    → Gives (task_judged (sha256 program) property w.entries) (Err fault) → IfOk result (IsTaskRefusal fault) → IfOk result (RightOnWitness steps property program w)
-after_task_fault steps property program w task.Files result e right = refused_by_task steps property program w _ result e right
-after_task_fault steps property program w (task.Hash stated found) result e right = refused_by_task steps property program w _ result e right
-after_task_fault steps property program w task.Specification result e right = refused_by_task steps property program w _ result e right
-after_task_fault steps property program w task.Language result e right = refused_by_task steps property program w _ result e right
-after_task_fault steps property program w task.Model result e right = refused_by_task steps property program w _ result e right
-after_task_fault steps property program w task.Uuid result e right = refused_by_task steps property program w _ result e right
-after_task_fault steps property program w task.OutOfMemory result e right = never _ result right
+pub after_task_fault : {E : Type 0} (budgets : Budgets) (property : Property) (program : List ℕ) (w : Witness) (fault : TaskFault) (result : Result Reply E)
+    → Gives (task_judged (sha256 program) property w.entries) (Err fault) → IfOk result (IsTaskRefusal fault) → IfOk result (RightOnWitness budgets property program w)
+after_task_fault budgets property program w task.Files result e right = refused_by_task budgets property program w _ result e right
+after_task_fault budgets property program w (task.Hash stated found) result e right = refused_by_task budgets property program w _ result e right
+after_task_fault budgets property program w task.Specification result e right = refused_by_task budgets property program w _ result e right
+after_task_fault budgets property program w task.Language result e right = refused_by_task budgets property program w _ result e right
+after_task_fault budgets property program w task.Model result e right = refused_by_task budgets property program w _ result e right
+after_task_fault budgets property program w task.Uuid result e right = refused_by_task budgets property program w _ result e right
+after_task_fault budgets property program w task.OutOfMemory result e right = never _ result right
 
 -- the same where a summary is asked for
 pub shown_by : (t : Tree) (w : Witness) (text : List ℕ) → IsAnswer t (Ok w) → text ≡ summary_of w → SummaryOf (Summary text) t

@@ -2,3 +2,5 @@ pub mod ShownValues
 pub mod Judged
 pub mod JudgedTask
 pub mod FewWaypoints
+pub mod AllowedBudgets
+pub mod JudgedSets

@@ -1,13 +1,18 @@
 -- The values that a right verdict shows are numbers of 64 bits.
 use Rattle.std.proofs.Common.{ℕ, List, Option, Some, None, sym, subst}
+use Rattle.std.specs.List.{All}
 use Rattle.std.proofs.lemmas.List.Elements.{All-nil}
 use Rattle.c_core.specs.Tree.{Program}
 use Rattle.c_meaning.specs.declared.run.Choices.{Choices}
 use Rattle.c_meaning.specs.declared.run.End.{End}
 use Rattle.c_meaning.specs.declared.run.End.TheVariants as end
 use Rattle.c_meaning.specs.declared.verdict.Verdict.{Verdict}
+use Rattle.c_meaning.specs.declared.verdict.Verdict.TheVariants.{ViolationConfirmed, ViolationNot, CorrectnessConfirmed, CorrectnessNot, Undecided}
+use Rattle.c_meaning.specs.Duties.{Placed}
+use Rattle.c_meaning.specs.Replay.{values_of}
 use Rattle.c_meaning.specs.Run.{Run}
-use Rattle.c_meaning.proofs.DrawsFit.{draws_fit}
+use Rattle.c_meaning.proofs.DrawsFit.{draws_fit, havoc_draws_fit}
+use Rattle.judge_obligations.specs.Verdicts.{IsRightOnInvariants}
 use Rattle.wv_report.specs.Json.{HasJsonIntegers, IsJsonInteger}
 use Rattle.wv_report.specs.declared.reply.Reply.TheVariants.{Verdict as Judged}
 use Rattle.way_match.specs.Points.{BoundSegment}
@@ -31,3 +36,11 @@ at_end p ss N c end.Deep v r = subst Shows (sym r) (All-nil (λ draw. IsJsonInte
 
 pub shows_integers : (p : Program) (ss : List BoundSegment) (N : ℕ) (v : Verdict) → IsRightOnViolation p ss N v → Shows v
 shows_integers p ss N v r = at_end p ss N (given_by p ss) (RunGiven p ss N).end v r
+
+-- the same of invariant sets: the draws of a failing obligation are those of a havoc run
+pub sets_show_integers : (conflicts : ℕ) (p : Program) (I : List Placed) (v : Verdict) → IsRightOnInvariants conflicts p I v → Shows v
+sets_show_integers conflicts p I (CorrectnessConfirmed count) r = All-nil (λ draw. IsJsonInteger draw.value)
+sets_show_integers conflicts p I (CorrectnessNot i duty draws) r = subst (All (λ draw. IsJsonInteger draw.value)) r.makes (havoc_draws_fit p I (values_of draws)).in_64_bits
+sets_show_integers conflicts p I (Undecided cause) r = All-nil (λ draw. IsJsonInteger draw.value)
+sets_show_integers conflicts p I (ViolationConfirmed draws positions) r = absurd r
+sets_show_integers conflicts p I (ViolationNot reason unfixed) r = absurd r

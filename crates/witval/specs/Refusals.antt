@@ -1,5 +1,5 @@
--- The refusals of the readers: of YAML, of the schema, of the task, of tokens, of the grammar, of the rules of a source and of the
--- waypoints.
+-- The refusals of the readers: of YAML, of the schema, of the task, of tokens, of the grammar, of the rules of a source, of the
+-- waypoints and invariants, and of the obligations.
 use Rattle.std.specs.Prelude.{◌≡◌, ℕ, List, [], ◌∷◌, ◌++◌, codes, decimal}
 use Rattle.c_parser.specs.declared.fault.ParseFault.{ParseFault}
 use Rattle.c_parser.specs.declared.fault.ParseFault.TheVariants as parse
@@ -9,6 +9,8 @@ use Rattle.check_rules.specs.declared.fault.CheckFault.{CheckFault}
 use Rattle.check_rules.specs.declared.fault.CheckFault.TheVariants as check
 use Rattle.c_tokens.specs.declared.token.TokenFault.{TokenFault}
 use Rattle.c_tokens.specs.declared.token.TokenFault.TheVariants as tokens
+use Rattle.sym_duties.specs.declared.fault.SymFault.{SymFault}
+use Rattle.sym_duties.specs.declared.fault.SymFault.TheVariants as duties
 use Rattle.way_bind.specs.declared.fault.BindFault.{BindFault}
 use Rattle.way_bind.specs.declared.fault.BindFault.TheVariants as bind
 use Rattle.wv_report.specs.declared.reply.Reply.{Reply}
@@ -91,9 +93,16 @@ abbrev pub IsCheckRefusal : CheckFault → Reply → Type 0
 IsCheckRefusal (check.Refused code spot) reply = reply ≡ Refused (check_code code) (place_text spot.line spot.column)
 IsCheckRefusal check.OutOfMemory reply = ⊥
 
--- the refusal of a waypoint that isn't bound, by its number
+-- the refusal of a waypoint or an invariant that isn't bound, by its number
 abbrev pub IsBindRefusal : BindFault → Reply → Type 0
-IsBindRefusal (bind.NoPlace waypoint) reply = reply ≡ Refused (codes "place") (decimal waypoint)
-IsBindRefusal (bind.Expression waypoint) reply = reply ≡ Refused (codes "expression") (decimal waypoint)
-IsBindRefusal (bind.Scope waypoint) reply = reply ≡ Refused (codes "scope") (decimal waypoint)
+IsBindRefusal (bind.NoPlace number) reply = reply ≡ Refused (codes "place") (decimal number)
+IsBindRefusal (bind.Expression number) reply = reply ≡ Refused (codes "expression") (decimal number)
+IsBindRefusal (bind.Scope number) reply = reply ≡ Refused (codes "scope") (decimal number)
 IsBindRefusal bind.OutOfMemory reply = ⊥
+
+-- the refusal of invariant sets about a program whose obligations aren't judged: it has a recursion, told by a function's name, or it
+-- is too big
+abbrev pub IsObligationRefusal : SymFault → Reply → Type 0
+IsObligationRefusal (duties.Recursion name) reply = reply ≡ Refused (codes "recursion") name
+IsObligationRefusal duties.TooBig reply = reply ≡ plain (codes "weight")
+IsObligationRefusal duties.OutOfMemory reply = ⊥

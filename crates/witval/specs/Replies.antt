@@ -7,7 +7,7 @@ use Rattle.wv_report.specs.declared.reply.Reply.TheVariants.{Verdict as Judged, 
 use Rattle.wv_schema.specs.Schema.{witness_of}
 use Rattle.wv_schema.specs.declared.witness.Witness.{Witness}
 use Rattle.wv_show.specs.Show.{summary_of}
-use Rattle.wv_arguments.specs.Words.{Command, Wanted, Validate, Show, Normalise, Demo}
+use Rattle.wv_arguments.specs.Words.{Command, Budgets, Wanted, Validate, Show, Normalise, Demo}
 use Rattle.wv_yaml.specs.declared.tree.Tree.{Tree}
 use Rattle.wv_yaml.specs.Canon.{canon}
 use Rattle.wv_yaml.specs.Reading.{IsAnswer}
@@ -30,24 +30,24 @@ RightAfter (Some file) within reply = reply ≡ Refused too_long (word_of file)
 RightAfter None within reply = within reply
 
 -- the reply that three files call for
-abbrev pub RightOnBytes : ℕ → Reply → List ℕ → List ℕ → List ℕ → Type 0
-RightOnBytes steps reply program property witness = RightAfter (first_too_long program property witness) (RightOnInputs steps program property witness) reply
+abbrev pub RightOnBytes : Budgets → Reply → List ℕ → List ℕ → List ℕ → Type 0
+RightOnBytes budgets reply program property witness = RightAfter (first_too_long program property witness) (RightOnInputs budgets program property witness) reply
 
 -- `too-long` comes only where one byte more than the limit of the file was taken
 abbrev pub TooLongBy : Command → ShelfState → ShelfState → List ℕ → List ℕ → Type 0
 TooLongBy command old new code detail = (bytes_eq code too_long ≡ false) ⊎ ((file : File) × (detail ≡ word_of file) × TookTooMuchOf command file old new)
 
 -- the reply to a command: a read fault by the shelf's counts, or else what the files call for, where they are told
-abbrev pub RightFor : Command → ℕ → ShelfState → ShelfState → Reply → Type 0
-RightFor command steps old new (ReadFault text) = (file : File) × (text ≡ word_of file) × FaultedAt command file old new
-RightFor command steps old new (Refused code detail) = Told command old (RightOnBytes steps (Refused code detail)) × TooLongBy command old new code detail
-RightFor command steps old new (Judged verdict) = Told command old (RightOnBytes steps (Judged verdict))
+abbrev pub RightFor : Command → Budgets → ShelfState → ShelfState → Reply → Type 0
+RightFor command budgets old new (ReadFault text) = (file : File) × (text ≡ word_of file) × FaultedAt command file old new
+RightFor command budgets old new (Refused code detail) = Told command old (RightOnBytes budgets (Refused code detail)) × TooLongBy command old new code detail
+RightFor command budgets old new (Judged verdict) = Told command old (RightOnBytes budgets (Judged verdict))
 
 -- where a verdict is asked for, a report is written and nothing else
-abbrev pub RightVerdict : Command → ℕ → ShelfState → ShelfState → Output → Type 0
-RightVerdict command steps old new (Report reply) = RightFor command steps old new reply
-RightVerdict command steps old new (Canonical text) = ⊥
-RightVerdict command steps old new (Summary text) = ⊥
+abbrev pub RightVerdict : Command → Budgets → ShelfState → ShelfState → Output → Type 0
+RightVerdict command budgets old new (Report reply) = RightFor command budgets old new reply
+RightVerdict command budgets old new (Canonical text) = ⊥
+RightVerdict command budgets old new (Summary text) = ⊥
 
 -- no tree has a reply where its canonical form is asked for
 abbrev pub NoReply : Tree → Reply → Type 0
@@ -111,7 +111,7 @@ unbuilt_words = Report (unbuilt (codes "words"))
 -- the output that is owed to what the words ask for
 abbrev pub Right : Option Wanted → ShelfState → ShelfState → Output → Type 0
 Right None old new output = output ≡ usage
-Right (Some (Validate command budgets)) old new output = RightVerdict command budgets.steps old new output
+Right (Some (Validate command budgets)) old new output = RightVerdict command budgets old new output
 Right (Some (Show name)) old new output = RightAlone SummaryIn name old new output
 Right (Some (Normalise name)) old new output = RightAlone CanonicalIn name old new output
 Right (Some (Demo number budgets)) old new output = output ≡ unbuilt_words

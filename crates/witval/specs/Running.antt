@@ -66,7 +66,7 @@ pub record Undisturbed (old new : ShelfState) (before after : SinkState) : Type 
 
 -- what is wanted of files
 abbrev pub CallsFor : Wanted → Files → Output → Type 0
-CallsFor (Validate command budgets) files (Report reply) = OfFiles command files (RightOnBytes budgets.steps reply)
+CallsFor (Validate command budgets) files (Report reply) = OfFiles command files (RightOnBytes budgets reply)
 CallsFor (Validate command budgets) files (Canonical text) = ⊥
 CallsFor (Validate command budgets) files (Summary text) = ⊥
 CallsFor (Show name) files output = OnWitness SummaryIn output (file_of files name)

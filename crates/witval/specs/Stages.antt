@@ -7,14 +7,9 @@ abbrev pub Stage : Type 0 → Type 1
 Stage A = (A → Reply → Type 0) → Reply → Type 0
 
 infixr 20 ◌>>=◌
-infixr 20 ◌>>◌
 -- a stage, and what is right with what it finds
 abbrev pub ◌>>=◌ : {A : Type 0} → Stage A → (A → Reply → Type 0) → Reply → Type 0
 ◌>>=◌ stage within = stage within
-
--- a stage that finds nothing, and what is right behind it
-abbrev pub ◌>>◌ : Stage (Unit {0}) → (Reply → Type 0) → Reply → Type 0
-◌>>◌ stage within = stage (λ _. within)
 
 -- a piece, or this refusal
 abbrev pub given : {A : Type 0} → Reply → Option A → Stage A
@@ -30,10 +25,10 @@ known view IsRefusal (Err fault) within reply = IsRefusal fault reply
 abbrev pub answered : {A B F : Type 0} → (Result A F → Type 0) → (A → B) → (F → Reply → Type 0) → Stage B
 answered {A} {B} {F} IsAnswer view IsRefusal within reply = (answer : Result A F) × IsAnswer answer × known view IsRefusal answer within reply
 
--- this refusal, where something holds
-abbrev pub unless : Bool → Reply → Stage (Unit {0})
-unless true refusal within reply = reply ≡ refusal
-unless false refusal within reply = within tt reply
+-- the replies that are right where something holds, and those where it doesn't
+abbrev pub choosing : Bool → (Reply → Type 0) → (Reply → Type 0) → Reply → Type 0
+choosing true there elsewhere reply = there reply
+choosing false there elsewhere reply = elsewhere reply
 
 -- an answer is what it shows
 abbrev pub itself : {A : Type 0} → A → A

@@ -2,7 +2,8 @@ ghost use Rattle.std.specs.Prelude.{◌≡◌, IfOk};
 ghost use Rattle.wv_report.specs.Json.{HasJsonIntegers};
 ghost use Rattle.witval.specs.Replies.{CanonicalIn, Right, RightAlone, RightFor, SummaryIn};
 ghost use Rattle.witval.specs.Running.{HasIntegers};
-ghost use Rattle.wv_arguments.specs.Requests.{named, stated};
+ghost use Rattle.witval.specs.inside.Allowed.{AreAllowed, IsAllowed};
+ghost use Rattle.wv_arguments.specs.Requests.{limits, named, stated};
 
 use crate::canonical::canonical;
 use crate::input::{Stop, read_one, read_three};
@@ -11,7 +12,7 @@ use crate::output::Output;
 use crate::refusal::{read_fault, refuse_plainly, refuse_too_long, refuse_unbuilt};
 use crate::shown::shown;
 use std::alloc::Global;
-use wv_arguments::{Asked, Names, Request};
+use wv_arguments::{Asked, Budgets, Names, Request};
 use wv_base::{OutOfMemory, Shelf};
 use wv_report::Reply;
 
@@ -19,15 +20,16 @@ use wv_report::Reply;
 fn validate<S: Shelf>(
     alloc: Global,
     names: &Names<'_>,
-    steps: u64,
+    budgets: Budgets,
     shelf: &mut S,
 ) -> Result<Reply, OutOfMemory>
-    ensures right { IfOk result (RightFor (named names.now) steps (S.state shelf.old) (S.state shelf.new)) }
+    requires { IsAllowed (limits budgets) }
+    ensures right { IfOk result (RightFor (named names.now) (limits budgets) (S.state shelf.old) (S.state shelf.new)) }
     ensures integers { IfOk result HasJsonIntegers }
     ensures same_files { (S.state shelf.new).files ≡ (S.state shelf.old).files }
 {
     match read_three(alloc, names, shelf) {
-        Ok(inputs) => judge(alloc, &inputs, steps),
+        Ok(inputs) => judge(alloc, &inputs, budgets),
         Err(Stop::Fault(file)) => read_fault(alloc, file),
         Err(Stop::TooLong(file)) => refuse_too_long(alloc, file),
         Err(Stop::OutOfMemory) => Err(OutOfMemory),
@@ -66,16 +68,14 @@ pub fn answer<S: Shelf>(
     asked: &Asked<'_>,
     shelf: &mut S,
 ) -> Result<Output, OutOfMemory>
+    requires { AreAllowed (stated asked.now).wanted }
     ensures right { IfOk result (Right (stated asked.now).wanted (S.state shelf.old) (S.state shelf.new)) }
     ensures integers { IfOk result HasIntegers }
     ensures same_files { (S.state shelf.new).files ≡ (S.state shelf.old).files }
 {
     match asked.request {
         Some(Request::Validate { names, budgets }) => Ok(Output::Report(validate(
-            alloc,
-            &names,
-            budgets.steps,
-            shelf,
+            alloc, &names, budgets, shelf,
         )?)),
         Some(Request::Normalise(name)) => normalise(alloc, name, shelf),
         Some(Request::Show(name)) => show(alloc, name, shelf),

@@ -1,41 +1,42 @@
 // The reply to a program, a property and a witness: the refusals in their order, and then the verdict.
 ghost use Rattle.std.specs.Prelude.{◌≡◌, IfOk, ◌<◌, ◌≤◌, length};
-ghost use Rattle.c_core.specs.View.{program_view};
 ghost use Rattle.c_parser.specs.Formed.{AreOrderly};
 ghost use Rattle.c_parser.specs.Parsing.{source_view};
-ghost use Rattle.way_match.specs.View.{segments_view};
+ghost use Rattle.wv_arguments.specs.Requests.{limits};
 ghost use Rattle.wv_schema.specs.Shapes.{is_set};
 ghost use Rattle.witval.specs.Inputs.{AreWithin};
-ghost use Rattle.witval.specs.Tasks.{RightOnInputs, RightOnSegments, holds_sets};
-ghost use Rattle.witval.specs.inside.Rests.{RightOnProgram, RightOnSequence, RightOnSource, RightOnText, RightOnTokens, RightOnTree, RightOnWitness, RightUnder};
+ghost use Rattle.witval.specs.Tasks.{RightOnInputs, RightOnProgram, holds_sets};
+ghost use Rattle.witval.specs.inside.Allowed.{IsAllowed};
+ghost use Rattle.witval.specs.inside.Rests.{RightOnSource, RightOnText, RightOnTokens, RightOnTree, RightOnWitness, RightUnder};
 
-use crate::binding::bind;
 use crate::input::Inputs;
 use crate::refusal::{
-    refuse_bind, refuse_check, refuse_plainly, refuse_schema, refuse_syntax, refuse_task,
-    refuse_tokens, refuse_unbuilt, refuse_yaml,
+    refuse_check, refuse_plainly, refuse_schema, refuse_syntax, refuse_task, refuse_tokens,
+    refuse_yaml,
 };
+use crate::sequence::judge_sequence;
+use crate::sets::judge_sets;
 use crate::tokens::program_tokens;
 use c_check::check;
 use c_core::{DataModel, Program, Property};
 use c_parser::{Source, parse};
 use c_tokens::Token;
-use judge::judge_violation;
 use std::alloc::Global;
-use way_match::Bound;
+use wv_arguments::Budgets;
 use wv_base::{OutOfMemory, Seq};
 use wv_report::Reply;
 use wv_schema::{Content, Entry, Witness, witness_of};
 use wv_task::{judge_task, property};
 use wv_yaml::{Tree, read};
 
-/// The reply to three files of allowed length, with a budget of steps.
-pub fn judge(alloc: Global, inputs: &Inputs, steps: u64) -> Result<Reply, OutOfMemory>
-    requires { AreWithin inputs.now }
-    ensures { IfOk result (RightOnInputs steps inputs.now.program.items inputs.now.property.items inputs.now.witness.items) }
+/// The reply to three files of allowed length, with budgets.
+pub fn judge(alloc: Global, inputs: &Inputs, budgets: Budgets) -> Result<Reply, OutOfMemory>
+    requires within { AreWithin inputs.now }
+    requires allowed { IsAllowed (limits budgets) }
+    ensures { IfOk result (RightOnInputs (limits budgets) inputs.now.program.items inputs.now.property.items inputs.now.witness.items) }
 {
     match property(&inputs.property) {
-        Ok(property) => judge_bytes(alloc, property, &inputs.program, &inputs.witness, steps),
+        Ok(property) => judge_bytes(alloc, property, &inputs.program, &inputs.witness, budgets),
         Err(_) => refuse_plainly(alloc, "property"),
     }
 }
@@ -46,13 +47,14 @@ fn judge_bytes(
     property: Property,
     program: &[u8],
     witness: &[u8],
-    steps: u64,
+    budgets: Budgets,
 ) -> Result<Reply, OutOfMemory>
-    requires { length program.now ≤ 1048576 }
-    ensures { IfOk result (RightUnder steps program.now witness.now property) }
+    requires program { length program.now ≤ 1048576 }
+    requires allowed { IsAllowed (limits budgets) }
+    ensures { IfOk result (RightUnder (limits budgets) program.now witness.now property) }
 {
     match read(alloc, witness) {
-        Ok(tree) => judge_tree(alloc, property, program, &tree, steps),
+        Ok(tree) => judge_tree(alloc, property, program, &tree, budgets),
         Err(fault) => refuse_yaml(alloc, fault),
     }
 }
@@ -63,13 +65,14 @@ fn judge_tree(
     property: Property,
     program: &[u8],
     tree: &Tree,
-    steps: u64,
+    budgets: Budgets,
 ) -> Result<Reply, OutOfMemory>
-    requires { length program.now ≤ 1048576 }
-    ensures { IfOk result (RightOnTree steps property program.now tree.now) }
+    requires program { length program.now ≤ 1048576 }
+    requires allowed { IsAllowed (limits budgets) }
+    ensures { IfOk result (RightOnTree (limits budgets) property program.now tree.now) }
 {
     match witness_of(alloc, tree) {
-        Ok(witness) => judge_witness(alloc, property, program, &witness, steps),
+        Ok(witness) => judge_witness(alloc, property, program, &witness, budgets),
         Err(fault) => refuse_schema(alloc, fault),
     }
 }
@@ -80,14 +83,15 @@ fn judge_witness(
     property: Property,
     program: &[u8],
     witness: &Witness,
-    steps: u64,
+    budgets: Budgets,
 ) -> Result<Reply, OutOfMemory>
     requires program { length program.now ≤ 1048576 }
     requires entries { 0 < length witness.now.entries }
-    ensures { IfOk result (RightOnWitness steps property program.now witness.now) }
+    requires allowed { IsAllowed (limits budgets) }
+    ensures { IfOk result (RightOnWitness (limits budgets) property program.now witness.now) }
 {
     match judge_task(alloc, witness, program, property) {
-        Ok(model) => judge_text(alloc, property, program, model, witness, steps),
+        Ok(model) => judge_text(alloc, property, program, model, witness, budgets),
         Err(fault) => refuse_task(alloc, fault),
     }
 }
@@ -99,13 +103,14 @@ fn judge_text(
     program: &[u8],
     model: DataModel,
     witness: &Witness,
-    steps: u64,
+    budgets: Budgets,
 ) -> Result<Reply, OutOfMemory>
-    requires { length program.now ≤ 1048576 }
-    ensures { IfOk result (RightOnText steps property program.now witness.now model) }
+    requires program { length program.now ≤ 1048576 }
+    requires allowed { IsAllowed (limits budgets) }
+    ensures { IfOk result (RightOnText (limits budgets) property program.now witness.now model) }
 {
     match program_tokens(alloc, program) {
-        Ok(tokens) => judge_tokens(alloc, property, &tokens, model, witness, steps),
+        Ok(tokens) => judge_tokens(alloc, property, &tokens, model, witness, budgets),
         Err(fault) => refuse_tokens(alloc, fault),
     }
 }
@@ -117,13 +122,14 @@ fn judge_tokens(
     tokens: &Seq<Token>,
     model: DataModel,
     witness: &Witness,
-    steps: u64,
+    budgets: Budgets,
 ) -> Result<Reply, OutOfMemory>
-    requires { AreOrderly tokens.now }
-    ensures { IfOk result (RightOnTokens steps property witness.now model tokens.now) }
+    requires orderly { AreOrderly tokens.now }
+    requires allowed { IsAllowed (limits budgets) }
+    ensures { IfOk result (RightOnTokens (limits budgets) property witness.now model tokens.now) }
 {
     match parse(alloc, tokens) {
-        Ok(source) => judge_source(alloc, property, &source, model, witness, steps),
+        Ok(source) => judge_source(alloc, property, &source, model, witness, budgets),
         Err(fault) => refuse_syntax(alloc, fault),
     }
 }
@@ -135,12 +141,13 @@ fn judge_source(
     source: &Source,
     model: DataModel,
     witness: &Witness,
-    steps: u64,
+    budgets: Budgets,
 ) -> Result<Reply, OutOfMemory>
-    ensures { IfOk result (RightOnSource steps property witness.now model (source_view source.now)) }
+    requires { IsAllowed (limits budgets) }
+    ensures { IfOk result (RightOnSource (limits budgets) property witness.now model (source_view source.now)) }
 {
     match check(alloc, source, model, property) {
-        Ok(program) => judge_program(alloc, &program, witness, steps),
+        Ok(program) => judge_program(alloc, &program, witness, budgets),
         Err(fault) => refuse_check(alloc, fault),
     }
 }
@@ -167,41 +174,14 @@ fn judge_program(
     alloc: Global,
     program: &Program,
     witness: &Witness,
-    steps: u64,
+    budgets: Budgets,
 ) -> Result<Reply, OutOfMemory>
-    ensures { IfOk result (RightOnProgram steps witness.now (program_view program.now)) }
+    requires { IsAllowed (limits budgets) }
+    ensures { IfOk result (RightOnProgram (limits budgets) witness.now program.now) }
 {
     if holds_sets(witness) {
-        refuse_unbuilt(alloc, "witness")
+        judge_sets(alloc, program, witness, budgets.conflicts)
     } else {
-        judge_sequence(alloc, program, witness, steps)
+        judge_sequence(alloc, program, witness, budgets.steps)
     }
-}
-
-/// The reply to a program, and a violation sequence about it.
-fn judge_sequence(
-    alloc: Global,
-    program: &Program,
-    witness: &Witness,
-    steps: u64,
-) -> Result<Reply, OutOfMemory>
-    ensures { IfOk result (RightOnSequence steps witness.now (program_view program.now)) }
-{
-    match bind(alloc, witness, program) {
-        Ok(bound) => judge_bound(alloc, program, &bound, steps),
-        Err(fault) => refuse_bind(alloc, fault),
-    }
-}
-
-/// The reply to a program, and a violation sequence bound to it.
-fn judge_bound(
-    alloc: Global,
-    program: &Program,
-    bound: &Bound,
-    steps: u64,
-) -> Result<Reply, OutOfMemory>
-    ensures { IfOk result (RightOnSegments steps (program_view program.now) (segments_view bound.now)) }
-{
-    let verdict = judge_violation(alloc, program, bound, steps)?;
-    Ok(Reply::Verdict(verdict))
 }

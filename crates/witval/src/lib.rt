@@ -9,6 +9,8 @@ mod input;
 mod judging;
 mod output;
 mod refusal;
+mod sequence;
+mod sets;
 mod shown;
 mod tokens;
 mod top;

@@ -2,7 +2,7 @@
 ghost use Rattle.std.specs.Prelude.{◌≡◌, ◌++◌, ◌∷◌, [], IfOk, codes, decimal};
 ghost use Rattle.wv_report.specs.declared.reply.Reply.TheVariants as replies;
 ghost use Rattle.witval.specs.Inputs.{word_of};
-ghost use Rattle.witval.specs.Refusals.{IsBindRefusal, IsCheckRefusal, IsRefusal, IsSchemaRefusal, IsSyntaxRefusal, IsTaskRefusal, IsTokenRefusal, both_hashes, check_code, place_text, plain, unbuilt};
+ghost use Rattle.witval.specs.Refusals.{IsBindRefusal, IsCheckRefusal, IsObligationRefusal, IsRefusal, IsSchemaRefusal, IsSyntaxRefusal, IsTaskRefusal, IsTokenRefusal, both_hashes, check_code, place_text, plain, unbuilt};
 ghost use Rattle.witval.specs.Replies.{too_long};
 
 use crate::input::File;
@@ -10,6 +10,7 @@ use c_parser::ParseFault;
 use c_tokens::TokenFault;
 use check_rules::{CheckCode, CheckFault};
 use std::alloc::Global;
+use sym_duties::SymFault;
 use way_bind::BindFault;
 use wv_base::{OutOfMemory, Text};
 use wv_report::Reply;
@@ -121,7 +122,7 @@ fn place_text(alloc: Global, line: u32, column: u32) -> Result<Text, OutOfMemory
     Ok(text)
 }
 
-/// A line of the program, or the number of a segment or a waypoint.
+/// A line of the program, or the number of a segment, a waypoint or an invariant.
 fn number_text(alloc: Global, number: u32) -> Result<Text, OutOfMemory>
     ensures { IfOk result (λ text. text ≡ decimal number) }
 {
@@ -189,24 +190,35 @@ pub fn refuse_check(alloc: Global, fault: CheckFault) -> Result<Reply, OutOfMemo
     }
 }
 
-/// A witness of which a waypoint isn't bound to the program.
+/// A witness of which a waypoint or an invariant isn't bound to the program.
 pub fn refuse_bind(alloc: Global, fault: BindFault) -> Result<Reply, OutOfMemory>
     ensures { IfOk result (IsBindRefusal fault) }
 {
     match fault {
-        BindFault::NoPlace(waypoint) => {
-            let detail = number_text(alloc, waypoint)?;
+        BindFault::NoPlace(number) => {
+            let detail = number_text(alloc, number)?;
             refuse(alloc, "place", detail)
         }
-        BindFault::Expression(waypoint) => {
-            let detail = number_text(alloc, waypoint)?;
+        BindFault::Expression(number) => {
+            let detail = number_text(alloc, number)?;
             refuse(alloc, "expression", detail)
         }
-        BindFault::Scope(waypoint) => {
-            let detail = number_text(alloc, waypoint)?;
+        BindFault::Scope(number) => {
+            let detail = number_text(alloc, number)?;
             refuse(alloc, "scope", detail)
         }
         BindFault::OutOfMemory => Err(OutOfMemory),
+    }
+}
+
+/// A program whose obligations can't be judged.
+pub fn refuse_obligations(alloc: Global, fault: SymFault) -> Result<Reply, OutOfMemory>
+    ensures { IfOk result (IsObligationRefusal fault) }
+{
+    match fault {
+        SymFault::Recursion(name) => refuse(alloc, "recursion", name),
+        SymFault::TooBig => refuse_plainly(alloc, "weight"),
+        SymFault::OutOfMemory => Err(OutOfMemory),
     }
 }
 

@@ -1,5 +1,6 @@
 ghost use Rattle.std.specs.Prelude.{map, string_bytes};
 ghost use Rattle.witval.specs.Running.{Complete, CompleteFor, Runs, RunsFor};
+ghost use Rattle.witval.specs.inside.Allowed.{AreAllowed};
 ghost use Rattle.wv_arguments.specs.Requests.{stated};
 
 use crate::answer::answer;
@@ -10,6 +11,7 @@ use wv_base::{Shelf, Sink, write_all};
 
 /// What is asked for is read, judged, shown or brought into canonical form, and written.
 fn run_asked<S: Shelf, O: Sink>(alloc: Global, asked: &Asked<'_>, shelf: &mut S, out: &mut O) -> u8
+    requires { AreAllowed (stated asked.now).wanted }
     ensures runs { RunsFor (stated asked.now) (S.state shelf.old) (S.state shelf.new) (O.state out.old) (O.state out.new) result }
     ensures complete { CompleteFor (stated asked.now) (S.state shelf.old) (S.state shelf.new) (O.state out.old) (O.state out.new) result }
 {

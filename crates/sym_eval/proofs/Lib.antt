@@ -1,0 +1,16 @@
+mod Arguments
+mod Blocks
+mod Choices
+mod Deciding
+mod Declaring
+mod Found
+mod Fulls
+mod Loopless
+mod Nodes
+mod Reached
+mod Running
+mod Sequences
+mod Setting
+mod Stages
+mod Turns
+mod Wholly

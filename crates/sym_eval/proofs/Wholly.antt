@@ -1,0 +1,143 @@
+-- Main's body, from the first state.
+use Rattle.std.proofs.Common.{◌≡◌, ℕ, zero, suc, ◌+◌, ◌≤◌, ◌<◌, ◌^◌, IsTrue, List, [], ◌∷◌, length, length-append, refl, sym, ◌∙◌, ap, subst, arith, Option, Some, None, slice_get, get_or, unwrap_or, inl, inr, true≢false}
+use Rattle.std.specs.Option.{option_map}
+use Rattle.std.proofs.lemmas.Bool.{cases_lt}
+use Rattle.std.proofs.lemmas.Option.{slice_get_read, slice_get_within, slice_get-map}
+use Rattle.c_calls.specs.Calling.{IsCalledFrom, directly, further, IsFirstRecursion}
+use Rattle.c_core.specs.Parts.{every_statement}
+use Rattle.c_core.specs.Program.{IsProgram, is_main}
+use Rattle.c_core.specs.Tree.{Exp, Program, Function, Stmt, Form}
+use Rattle.c_core.specs.TreeView.{function_view, functions_view}
+use Rattle.c_core.specs.declared.tree.Function as rust
+use Rattle.c_core.specs.Typing.{statement_fits, function_fits}
+use Rattle.c_core.specs.declared.number.IntType.{IntType}
+use Rattle.c_core.specs.declared.number.Spot.{Spot}
+use Rattle.c_meaning.specs.declared.run.Duty.{Duty}
+use Rattle.c_meaning.specs.Duties.{Placed, Duties}
+use Rattle.c_meaning.specs.Exec.{run_if, run_main}
+use Rattle.c_meaning.specs.Havoc.{havoc}
+use Rattle.c_meaning.specs.Objects.{type_or_int}
+use Rattle.c_meaning.specs.Run.{first_cells}
+use Rattle.c_meaning.proofs.TypeFacts.{at_every}
+use Rattle.circuits.specs.declared.net.Bit.{Bit}
+use Rattle.circuits.specs.Net.{IsNet, count_ands, count_inputs}
+use Rattle.circuits.proofs.Nets.{count_ands-append, inputs-append}
+use Rattle.sym_eval.specs.Doing.{form_glue, weight_of_form, bits_of_form, FormReady, FormDoes}
+use Rattle.sym_eval.specs.Whole.{IsLight, IsWhole, AreMade}
+use Rattle.sym_duties.specs.Answers.{names_of}
+use Rattle.sym_flow.specs.Calling.{Enters}
+use Rattle.sym_state.specs.declared.state.DrawSite.{DrawSite}
+use Rattle.sym_state.specs.declared.state.Sym.{Sym}
+use Rattle.sym_weight.specs.Sum.{function_of}
+use Rattle.sym_weight.specs.Weight.{Weight, Bits, weighing, drawing, weight_in, bits_in, placed_weight, nowhere, most_active, most_weight, IsTooBig}
+use Rattle.sym_weight.specs.Weighed.{IsWeighed}
+use Rattle.sym_weight.specs.declared.totals.Total.{Total}
+use Rattle.sym_weight.proofs.Light.{bits_are_light}
+use Rattle.sym_whole.specs.Deciding.{IsStart, Decides, IsLarger}
+use Rattle.sym_whole.specs.Starting.{IsFirst}
+use Rattle.sym_whole.proofs.Wholes.{decides, larger}
+
+-- with fresh bits for main's ways out, each run still sets out
+entered_start : {p : Program} {ds : List _} {start : List _} {ty : IntType} {a b : Sym} → IsStart ds p start a → Enters p ty a b → IsStart ds p start b
+entered_start x e = record {
+  here = λ v. record {
+    live = ap (λ s. s.live) (e.is v) ∙ (x.here v).live;
+    broken = ap (λ s. s.broken) (e.is v);
+    again = ap (λ s. s.again) (e.is v);
+    gave = ap (λ s. s.gave) (e.is v);
+    failing = ap (λ s. s.failing) (e.is v) ∙ (x.here v).failing;
+  };
+  cells = λ v. ap (λ s. s.cells) (e.is v) ∙ x.cells v;
+  draws = λ v. ap (λ s. s.draws) (e.is v) ∙ x.draws v;
+}
+
+module _ (p : Program) (I : List Placed) (r : _) (ps : List ℕ) (at : Spot) (f : Form) (main : slice_get p.functions p.main ≡ Some (record { result = r; params = ps; body = Stmt at f })) where
+  abbrev n : ℕ
+  n = length p.functions
+
+  weight_is : Weight p I ≡ 64 + weight_of_form p I n r at f
+  weight_is = ap (function_of p (weighing (weight_in p I n)) (placed_weight p I)) main
+
+  bits_are : Bits p ≡ 0 + bits_of_form p I n r at f
+  bits_are = ap (function_of p (drawing (bits_in p n)) nowhere) main
+
+  module _ {count : ℕ} {a b : Sym} (first : IsFirst p count a) (e : Enters p (type_or_int r) a b) where
+    pub main_ready : IsProgram p → IsLight p I → FormReady p I n r at b f
+    main_ready h light = record {
+      fits = e.fits;
+      result = e.result;
+      types = at_every (function_fits p) p.functions p.main (record { result = r; params = ps; body = Stmt at f }) h.types main;
+      room = omega (arith, light, bits_are_light p I (most_active p) p.main, weight_is, bits_are, first.one_node, ap length e.added.is, length-append a.net e.added.more, e.added.few);
+    }
+
+    pub main_whole : {c : Sym} → count ≡ length (Duties p I) → count < 2 ^ 32 → IsNet c.net → FormDoes p I n r at f b c → IsWhole p I c
+    main_whole {c} many small fine x =
+        let ds = Duties p I in
+        let sets_out = entered_start (first.start ds (sym many)) e in
+        let size = larger p ds r x in
+        record {
+          fits = x.fits;
+          fine = fine;
+          numbered = omega (arith, many, small);
+          decides = subst (λ run. Decides ds p (first_cells p) c run) (sym (ap (run_if p (havoc p I) (suc n)) main)) (decides p ds r b c (first_cells p) _ x sets_out fine);
+          gates = omega (arith, size.gates, weight_is, first.no_gates, ap count_ands e.added.is, count_ands-append a.net e.added.more, e.added.gates);
+          feeds = omega (arith, size.feeds, bits_are, first.no_inputs, ap count_inputs e.added.is, inputs-append a.net e.added.more, e.added.feeds);
+        }
+
+-- ---- what is told of the whole
+pub are_made : (p : Program) (I : List Placed) (s : Sym) (list : List Duty) (failing : List Bit) (sites : List DrawSite) → IsWhole p I s → IsLight p I → list ≡ Duties p I → failing ≡ s.failing.items → sites ≡ s.sites.items
+    → AreMade p I (record { list = list; net = s.net; failing = failing; sites = sites })
+are_made p I s list failing sites h light a b c = rw (a, b, c) (record {
+  list = refl;
+  numbered = h.numbered;
+  many = h.decides.many;
+  failing_in = h.fits.failing;
+  sites_in = h.fits.sites;
+  each = λ v. let t = h.decides.each v in record { draws = t.draws; ends = t.ends };
+  all = λ w. let t = h.decides.all w in (t.0, record { draws = t.1.draws; ends = t.1.ends });
+  gates = h.gates;
+  feeds = h.feeds;
+  drawn = bits_are_light p I (most_active p) p.main;
+  light = light;
+})
+
+not_too_big : (p : Program) (I : List Placed) → (IsTooBig p I → ⊥) → IsLight p I
+not_too_big p I h = elim (cases_lt most_weight (Weight p I)) as (λ _. IsLight p I) [
+  | inl lt ↦ absurd (h (inr lt))
+  | inr le ↦ le
+]
+
+-- within the limits
+pub weighed : {p : Program} {I : List Placed} {t : Total} → IsWeighed p I t → IsLight p I
+weighed {p} {I} x = not_too_big p I x.fits
+
+-- ---- functions
+called_within : {p : Program} {es : List Exp} (f : ℕ) → IsCalledFrom p es f → f < length p.functions
+called_within f (directly g h) = h.0
+called_within f (further g k x h) = h.0
+
+pub as_many : (fs : List rust.Function) → length (functions_view fs) ≡ length fs
+as_many [] = refl
+as_many (f ∷ fs) = ap suc (as_many fs)
+
+-- a function on a cycle is one of the program's
+pub recursive_within : (p : Program) (fs : List rust.Function) (f : ℕ) → p.functions ≡ functions_view fs → IsFirstRecursion p (Some f) → f < length fs
+recursive_within p fs f e h = omega (arith, called_within f h.0.cycle, ap length e, as_many fs)
+
+seen_at : (fs : List rust.Function) (i : ℕ) (f : rust.Function) → slice_get fs i ≡ Some f → slice_get (functions_view fs) i ≡ Some (function_view f)
+seen_at [] i f e = cc
+seen_at (g ∷ fs) zero f e = ap (λ x. Some (function_view (unwrap_or x g))) e
+seen_at (g ∷ fs) (suc i) f e = seen_at fs i f e
+
+pub function_at : (fs : List rust.Function) (i : ℕ) (f : rust.Function) → i < length fs → f ≡ get_or fs i f → slice_get (functions_view fs) i ≡ Some (function_view f)
+function_at fs i f lt e = seen_at fs i f (slice_get_read fs (length fs) i f refl lt e)
+
+pub named_at : (fs : List rust.Function) (i : ℕ) (f : rust.Function) → i < length fs → f ≡ get_or fs i f → slice_get (names_of fs) i ≡ Some f.name
+named_at fs i f lt e = slice_get-map (λ f. f.name) fs i ∙ ap (option_map (λ f. f.name)) (slice_get_read fs (length fs) i f refl lt e)
+
+main_found : (o : Option Function) (fs : List rust.Function) (i : ℕ) → IsTrue (is_main o) → slice_get (functions_view fs) i ≡ o → i < length fs
+main_found None fs i h e = absurd (true≢false (sym h))
+main_found (Some f) fs i h e = omega (arith, slice_get_within (functions_view fs) i f e, as_many fs)
+
+pub main_within : (p : Program) (fs : List rust.Function) → p.functions ≡ functions_view fs → IsProgram p → p.main < length fs
+main_within p fs e h = main_found (slice_get p.functions p.main) fs p.main h.main (ap (λ l. slice_get l p.main) (sym e))

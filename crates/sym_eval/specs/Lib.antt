@@ -1,0 +1,6 @@
+pub mod Calling
+pub mod Control
+pub mod Doing
+pub mod Looping
+pub mod Targets
+pub mod Whole

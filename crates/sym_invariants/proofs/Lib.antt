@@ -1,0 +1,11 @@
+pub mod Seeing
+pub mod Cells
+pub mod Answering
+pub mod Deciding
+pub mod Costs
+pub mod Found
+pub mod Sides
+pub mod Forms
+pub mod Numbering
+pub mod Placing
+pub mod Elsewhere

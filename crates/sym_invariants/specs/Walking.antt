@@ -1,0 +1,53 @@
+-- What a walk reads, as contracts see it, and what tests of invariants do.
+use Rattle.std.specs.Prelude.{◌≡◌, ◌+◌, ◌<◌, ◌^◌, ℕ, Bool, true, false, List, length, IsTrue}
+use Rattle.std.specs.List.{All}
+use Rattle.c_core.specs.Tree.{Program}
+use Rattle.c_core.specs.Typing.{is_typed, has_value}
+use Rattle.c_core.specs.View.{program_view}
+use Rattle.c_core.specs.declared.number.Spot.{Spot}
+use Rattle.c_meaning.specs.Duties.{Placed, Duties}
+use Rattle.c_meaning.specs.Havoc.{stands, test_from, assume_all}
+use Rattle.c_meaning.specs.declared.run.DutyKind.{DutyKind}
+use Rattle.sym_state.specs.Following.{Follows}
+use Rattle.sym_state.specs.declared.state.Sym.{Sym}
+use Rattle.sym_weight.specs.Views.{placed_views}
+use Rattle.sym_weight.specs.Weight.{placed_weight}
+use Rattle.sym_invariants.specs.declared.walk.Walk.{Walk}
+
+abbrev pub program_of : Walk → Program
+program_of w = program_view w.program.now
+
+-- the invariants in witness order
+abbrev pub invariants_of : Walk → List Placed
+invariants_of w = placed_views w.invariants.now
+
+-- an invariant's expression is typed, and not void
+pub record IsInvariant (p : Program) (x : Placed) : Type 0 where
+  pub types : IsTrue (is_typed p x.test)
+  pub value : IsTrue (has_value x.test)
+
+-- the obligations are the program's, and their numbers have 32 bits
+pub record IsWalk (w : Walk) : Type 0 where
+  pub duties : w.duties.now ≡ Duties (program_of w) (invariants_of w)
+  pub numbered : length w.duties.now < 2 ^ 32
+  pub invariants : All (IsInvariant (program_of w)) (invariants_of w)
+
+-- no invariant of a loop (true) or a statement (false) is at a place
+abbrev pub NoneStands : Walk → Bool → Spot → Type 0
+NoneStands w at_loop spot = All (λ x. stands (program_of w) (invariants_of w) at_loop spot x ≡ false) (invariants_of w)
+
+-- ---- of the invariants xs, those of a loop (true) or a statement (false) at a place
+module _ (w : Walk) where
+  -- the net has room for their tests
+  abbrev pub HasRoom : List Placed → Bool → Spot → Sym → Type 0
+  HasRoom xs at_loop spot s = length s.net + placed_weight (program_of w) xs at_loop spot < 2 ^ 27
+
+  -- they are tested in turn, numbered from i on
+  abbrev pub Tests : ℕ → List Placed → Bool → Spot → DutyKind → Sym → Sym → Type 0
+  Tests i xs at_loop spot kind old new =
+      Follows (Duties (program_of w) (invariants_of w)) (program_of w) (placed_weight (program_of w) xs at_loop spot) 0 old new (λ v u. Unit {0}) (λ v. test_from (program_of w) (invariants_of w) i xs at_loop spot kind)
+
+  -- those of a loop are assumed
+  abbrev pub Assumes : List Placed → Spot → Sym → Sym → Type 0
+  Assumes xs spot old new =
+      Follows (Duties (program_of w) (invariants_of w)) (program_of w) (placed_weight (program_of w) xs true spot) 0 old new (λ v u. Unit {0}) (λ v. assume_all (program_of w) (invariants_of w) xs spot)

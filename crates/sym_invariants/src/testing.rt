@@ -1,0 +1,120 @@
+// The invariants of a place are tested in turn.
+ghost use Rattle.std.specs.Prelude.{[], ◌∷◌, ◌≡◌, IfOk, List, true};
+ghost use Rattle.c_core.specs.Tree.{Program};
+ghost use Rattle.c_meaning.specs.Duties.{Placed};
+ghost use Rattle.c_meaning.specs.Havoc.{stands};
+ghost use Rattle.sym_state.specs.Standing.{IsState};
+ghost use Rattle.sym_weight.specs.Views.{placed_view};
+ghost use Rattle.sym_invariants.specs.Walking.{program_of, invariants_of, Assumes, HasRoom, IsInvariant, IsWalk, Tests};
+
+use crate::numbers::{has_invariants, number_of};
+use crate::values::holds_bit;
+use crate::walk::Walk;
+use c_core::Spot;
+use c_duties::duties_are_in_order;
+use c_meaning::{Duty, DutyKind, PlacedInvariant};
+use sym_flow::{assume, assure};
+use sym_state::Sym;
+use wv_base::OutOfMemory;
+
+fn is_at(x: &PlacedInvariant, at_loop: bool, spot: Spot) -> bool
+    ensures { (p : Program) (I : List Placed) → result ≡ stands p I at_loop spot (placed_view x.now) }
+{
+    let place = x.spot.line == spot.line && x.spot.column == spot.column;
+    place && x.at_loop == at_loop
+}
+
+// One invariant is tested, if it stands there.
+fn test_one(
+    walk: &Walk,
+    sym: &mut Sym,
+    at_loop: bool,
+    spot: Spot,
+    kind: DutyKind,
+    number: u32,
+    x: &PlacedInvariant,
+) -> Result<(), OutOfMemory>
+    requires walk { IsWalk walk.now }
+    requires fits { IsState (program_of walk.now) sym.old }
+    requires good { IsInvariant (program_of walk.now) (placed_view x.now) }
+    requires room { HasRoom walk.now (placed_view x.now ∷ []) at_loop spot sym.old }
+    ensures { IfOk result (λ r. Tests walk.now number (placed_view x.now ∷ []) at_loop spot kind sym.old sym.new) }
+{
+    if !is_at(x, at_loop, spot) {
+        return Ok(());
+    }
+    let holds = holds_bit(walk.alloc, walk.program, sym, &x.test)?;
+    let duty = Duty {
+        spot,
+        kind,
+        invariant: Some(number),
+    };
+    duties_are_in_order();
+    let failed = number_of(walk.duties, &duty);
+    assure(sym, walk.program, failed, holds)?;
+    Ok(())
+}
+
+// One invariant is assumed, if it stands there.
+fn assume_one(
+    walk: &Walk,
+    sym: &mut Sym,
+    spot: Spot,
+    x: &PlacedInvariant,
+) -> Result<(), OutOfMemory>
+    requires walk { IsWalk walk.now }
+    requires fits { IsState (program_of walk.now) sym.old }
+    requires good { IsInvariant (program_of walk.now) (placed_view x.now) }
+    requires room { HasRoom walk.now (placed_view x.now ∷ []) true spot sym.old }
+    ensures { IfOk result (λ r. Assumes walk.now (placed_view x.now ∷ []) spot sym.old sym.new) }
+{
+    if !is_at(x, true, spot) {
+        return Ok(());
+    }
+    let holds = holds_bit(walk.alloc, walk.program, sym, &x.test)?;
+    assume(sym, walk.program, holds)?;
+    Ok(())
+}
+
+/// The invariants of a loop (true) or a statement (false) at a place are tested in turn: a run fails the obligation of the first that
+/// doesn't hold.
+pub fn test_all(
+    walk: &Walk,
+    sym: &mut Sym,
+    at_loop: bool,
+    spot: Spot,
+    kind: DutyKind,
+) -> Result<(), OutOfMemory>
+    requires walk { IsWalk walk.now }
+    requires fits { IsState (program_of walk.now) sym.old }
+    requires room { HasRoom walk.now (invariants_of walk.now) at_loop spot sym.old }
+    ensures { IfOk result (λ r. Tests walk.now 0 (invariants_of walk.now) at_loop spot kind sym.old sym.new) }
+{
+    if !has_invariants(walk, at_loop, spot) {
+        return Ok(());
+    }
+    let invariants = walk.invariants;
+    let mut number = 0;
+    for x in invariants {
+        test_one(walk, sym, at_loop, spot, kind, number, x)?;
+        number += 1;
+    }
+    Ok(())
+}
+
+/// A run goes on only where all invariants of a loop at a place hold; else it is dismissed.
+pub fn assume_all(walk: &Walk, sym: &mut Sym, spot: Spot) -> Result<(), OutOfMemory>
+    requires walk { IsWalk walk.now }
+    requires fits { IsState (program_of walk.now) sym.old }
+    requires room { HasRoom walk.now (invariants_of walk.now) true spot sym.old }
+    ensures { IfOk result (λ r. Assumes walk.now (invariants_of walk.now) spot sym.old sym.new) }
+{
+    if !has_invariants(walk, true, spot) {
+        return Ok(());
+    }
+    let invariants = walk.invariants;
+    for x in invariants {
+        assume_one(walk, sym, spot, x)?;
+    }
+    Ok(())
+}
