@@ -56,6 +56,10 @@ WANTED = {
     "refused": "ERROR (unsupported: syntax)",
     "undecided": "unknown",
     "unmatched": "unknown",
+    "loop": "true",
+    "not_kept": "unknown",
+    "too_weak": "unknown",
+    "too_heavy": "ERROR (unsupported: weight)",
 }
 CONFIRMED = "first overflow assert_loop array bits assume preprocessed cpachecker automizer".split()
 WANTED.update(dict.fromkeys(CONFIRMED, "false"))
@@ -64,13 +68,17 @@ WANTED.update(dict.fromkeys(CONFIRMED, "false"))
 REPLIES = [
     ("violation confirmed", 0, "false"),
     ("violation not confirmed", 1, "unknown"),
+    ("correctness confirmed", 0, "true"),
+    ("correctness not confirmed", 1, "unknown"),
+    ("undecided conflicts 2 100000", 2, "unknown"),
+    ("refused recursion f", 3, "ERROR (unsupported: recursion)"),
+    ("refused weight", 3, "ERROR (unsupported: weight)"),
     ("undecided steps 1000", 2, "unknown"),
     ("undecided cells", 2, "unknown"),
     ("refused too-long witness", 3, "ERROR (invalid witness: too-long)"),
     ("refused too-long program", 3, "ERROR (unsupported: too-long)"),
     ("refused too-long property", 3, "ERROR (unsupported: too-long)"),
     ("refused property", 3, "ERROR (unsupported: property)"),
-    ("refused unbuilt witness", 3, "ERROR (unsupported: unbuilt)"),
     ("refused unbuilt words", 3, "ERROR (misuse: unbuilt)"),
     ("refused usage", 7, "ERROR (misuse: usage)"),
     ("refused schema-kind [0].content", 3, "ERROR (invalid witness: schema-kind)"),

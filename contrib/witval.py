@@ -8,25 +8,28 @@ import benchexec.result as result
 import benchexec.tools.template
 from benchexec.tools.template import UnsupportedFeatureException
 
-# The codes of `refused CODE` by what has to be changed (docs/FORMATS.md has the table); `too-long` and `unbuilt` go by their detail.
+# The codes of `refused CODE` by what has to be changed (docs/FORMATS.md has the table); `too-long` goes by its detail.
 OF_WITNESS = (
     "yaml-bytes yaml-grammar yaml-duplicate schema-missing schema-kind schema-value schema-version schema-shape schema-entries"
     " files hash specification language model uuid place expression scope"
 ).split()
 OF_PROGRAM = (
     "token directive syntax check-name check-again check-typing check-size check-order check-body check-main check-cells property"
+    " recursion weight"
 ).split()
 OF_FILE = {"witness": OF_WITNESS, "program": OF_PROGRAM, "property": OF_PROGRAM}
 
 FIRST_LINES = {
     "violation confirmed": result.RESULT_FALSE_PROP,
-    # this witness doesn't show the violation, which doesn't say that there is none
+    "correctness confirmed": result.RESULT_TRUE_PROP,
+    # this witness doesn't show it, which doesn't say that it isn't so
     "violation not confirmed": result.RESULT_UNKNOWN,
+    "correctness not confirmed": result.RESULT_UNKNOWN,
 }
 
 
 class Tool(benchexec.tools.template.BaseTool2):
-    """Tool info for witval, which judges violation witnesses of format 2.0 about integer C programs."""
+    """Tool info for witval, which judges witnesses of format 2.0 about integer C programs."""
 
     REQUIRED_PATHS = ["witval", "release"]
 
@@ -84,6 +87,6 @@ class Tool(benchexec.tools.template.BaseTool2):
         group = OF_FILE.get(detail, []) if code == "too-long" else [code]
         if code in OF_WITNESS or code == "too-long" and group is OF_WITNESS:
             return f"{result.RESULT_ERROR} (invalid witness: {code})"
-        if code in OF_PROGRAM or code == "too-long" and group is OF_PROGRAM or (code, detail) == ("unbuilt", "witness"):
+        if code in OF_PROGRAM or code == "too-long" and group is OF_PROGRAM:
             return f"{result.RESULT_ERROR} (unsupported: {code})"
         return f"{result.RESULT_ERROR} (misuse: {code})"
