@@ -1,3 +1,2 @@
-pub mod Obliged
 pub mod Ordered
 pub mod Failing

@@ -2,7 +2,7 @@
 ghost use Rattle.std.specs.Prelude.{◌≡◌, ◌+◌, ◌++◌, [], ◌∷◌, Some, IfOk, OnOk};
 ghost use Rattle.c_core.specs.View.{program_view};
 ghost use Rattle.c_meaning.specs.Duties.{Duties, duty, invariant_duties};
-ghost use Rattle.c_duties.specs.Obliged.{placed, placed_view};
+ghost use Rattle.c_meaning.specs.Placing.{placed, placed_view};
 
 use crate::sorting::sort;
 use crate::walk::push_functions;

@@ -2,7 +2,7 @@
 ghost use Rattle.std.specs.Prelude.{suc};
 ghost use Rattle.c_core.specs.View.{program_view, function_view};
 ghost use Rattle.run_state.specs.Interpreting.{same, site_of, flow_of, pairs_of};
-ghost use Rattle.c_duties.specs.Obliged.{placed_view};
+ghost use Rattle.c_meaning.specs.Placing.{placed_view};
 ghost use Rattle.havoc_state.specs.Havocking.{Gives, left_of, in_function, with_arguments, scoped_with, called_with, number_called};
 
 use crate::statements::form;

@@ -1,7 +1,7 @@
 // Declared names and their initializers.
 ghost use Rattle.c_core.specs.View.{program_view, expr_view, exprs_view, names_view, first_view, init_view};
 ghost use Rattle.run_state.specs.Interpreting.{same, flow_of};
-ghost use Rattle.c_duties.specs.Obliged.{placed_view};
+ghost use Rattle.c_meaning.specs.Placing.{placed_view};
 ghost use Rattle.havoc_state.specs.Havocking.{Gives, left_of, declaring, introduced, initialised, initialised_one, initialised_by, begun};
 
 use crate::full_expressions::{full, only};

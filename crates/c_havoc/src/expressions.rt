@@ -4,7 +4,7 @@ ghost use Rattle.c_core.specs.Tree as t;
 ghost use Rattle.c_core.specs.View.{program_view, expr_view, exprs_view};
 ghost use Rattle.c_meaning.specs.Meaning.{Used};
 ghost use Rattle.run_state.specs.Interpreting.{same, where_of, use_of, key_of, pairs_of, site_of};
-ghost use Rattle.c_duties.specs.Obliged.{placed_view};
+ghost use Rattle.c_meaning.specs.Placing.{placed_view};
 ghost use Rattle.havoc_state.specs.Havocking.{Gives, left_of, evaluated, noded, targeted, placed_at, truthed, convertible, listed, callee_gives};
 
 use crate::calls::call_number;

@@ -2,7 +2,7 @@
 ghost use Rattle.c_core.specs.Tree as t;
 ghost use Rattle.c_core.specs.View.{program_view, expr_view, expr_view_if};
 ghost use Rattle.run_state.specs.Interpreting.{same, use_of, flow_of};
-ghost use Rattle.c_duties.specs.Obliged.{placed_view};
+ghost use Rattle.c_meaning.specs.Placing.{placed_view};
 ghost use Rattle.havoc_state.specs.Havocking.{Gives, left_of, fulled, decided, formed, test_turned, goes_on, stepped_on};
 
 use crate::expressions::eval;

@@ -2,7 +2,7 @@
 ghost use Rattle.c_core.specs.View.{program_view, form_view};
 ghost use Rattle.run_state.specs.Interpreting.{same};
 ghost use Rattle.c_calls.specs.Loops.{loop_of};
-ghost use Rattle.c_duties.specs.Obliged.{placed_view};
+ghost use Rattle.c_meaning.specs.Placing.{placed_view};
 ghost use Rattle.havoc_state.specs.Havocking.{Gives, left_of, opened};
 
 use c_calls::changed_in;

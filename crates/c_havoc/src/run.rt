@@ -4,7 +4,7 @@ ghost use Rattle.c_core.specs.View.{program_view};
 ghost use Rattle.c_meaning.specs.Duties.{Duties, number_among as number_among_of, same_duty as same_duty_of};
 ghost use Rattle.c_meaning.specs.Havoc.{Havoc, Fails, end_among};
 ghost use Rattle.run_state.specs.Interpreting.{flow_of};
-ghost use Rattle.c_duties.specs.Obliged.{placed_view};
+ghost use Rattle.c_meaning.specs.Placing.{placed_view};
 ghost use Rattle.havoc_state.specs.Havocking.{Gives, EndsAs, left_of, in_main};
 
 use crate::calls::body;

@@ -5,7 +5,7 @@ ghost use Rattle.c_core.specs.View.{program_view, expr_view, expr_view_if, stmt_
 ghost use Rattle.c_meaning.specs.Acts as acts;
 ghost use Rattle.run_state.specs.Interpreting.{flow_of, else_part};
 ghost use Rattle.c_calls.specs.Loops.{loop_of};
-ghost use Rattle.c_duties.specs.Obliged.{placed_view};
+ghost use Rattle.c_meaning.specs.Placing.{placed_view};
 ghost use Rattle.havoc_state.specs.Havocking.{Gives, left_of, executed, formed, sequenced, blocked, armed, otherwised, bodied, for_rest, while_turned, do_turned, for_turned, turning, turned_once, looped, for_parts as for_parts_of, for_looped};
 
 use crate::declarations::{begin, declare};

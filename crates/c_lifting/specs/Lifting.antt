@@ -1,26 +1,21 @@
 -- What holds of every run of a program all of whose obligations hold.
-use Rattle.std.specs.Prelude.{◌≡◌, ◌≤◌, ℕ, ℤ, Bool, true, false, List, length, IsTrue}
+use Rattle.std.specs.Prelude.{◌≡◌, ◌≤◌, ℕ, Bool, true, false, List, length, IsTrue}
 use Rattle.std.specs.List.{All}
 use Rattle.c_core.specs.Tree.{Program}
 use Rattle.c_core.specs.declared.number.Spot.{Spot}
 use Rattle.c_meaning.specs.declared.run.Choices.{Choices}
 use Rattle.c_meaning.specs.declared.run.End.TheVariants.{Violated}
-use Rattle.c_meaning.specs.declared.run.HavocEnd.TheVariants.{Failed}
 use Rattle.c_meaning.specs.Cells.{Cell}
 use Rattle.c_meaning.specs.Value.{holds}
 use Rattle.c_meaning.specs.Duties.{Placed, Duties}
-use Rattle.c_meaning.specs.Havoc.{stands, Havoc}
+use Rattle.c_meaning.specs.Havoc.{stands, ObligationHolds}
 use Rattle.c_meaning.specs.Run.{Moment, Told, Here, Head, Run, Moments}
 
 -- I: the invariants in witness order
 module _ (p : Program) (I : List Placed) where
-  -- an obligation holds where no list of values gives a havoc run that ends at it
-  abbrev pub ObligationHolds : ℕ → Type 0
-  ObligationHolds number = (values : List ℤ) → (Havoc p I values).end ≡ Failed number → ⊥
-
-  -- all of them, numbered from 1 on
+  -- all obligations hold, numbered from 1 on
   abbrev pub EveryObligationHolds : Type 0
-  EveryObligationHolds = (number : ℕ) → 1 ≤ number → number ≤ length (Duties p I) → ObligationHolds number
+  EveryObligationHolds = (number : ℕ) → 1 ≤ number → number ≤ length (Duties p I) → ObligationHolds p I number
 
   -- an invariant holds in these cells, if it is one of this place, at its loop or at its statement
   abbrev pub HoldsAt : Bool → Spot → Placed → List Cell → Type 0

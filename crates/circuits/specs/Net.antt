@@ -4,6 +4,7 @@ use Rattle.circuits.specs.declared.net.Bit.{Bit}
 use Rattle.circuits.specs.declared.net.NetNode.{NetNode}
 use Rattle.circuits.specs.declared.net.NetNode.TheVariants.{Constant, Input, And}
 
+-- exclusive or: the second is negated where the first is true
 abbrev pub xor : Bool → Bool → Bool
 xor true b = not b
 xor false b = b

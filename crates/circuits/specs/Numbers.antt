@@ -8,6 +8,7 @@ use Rattle.circuits.specs.declared.net.Bit.{Bit}
 use Rattle.circuits.specs.declared.net.NetNode.{NetNode}
 use Rattle.circuits.specs.Net.{holds, IsIn}
 
+-- a bit as a binary digit
 abbrev pub digit : Bool → ℕ
 digit true = 1
 digit false = 0

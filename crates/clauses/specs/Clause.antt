@@ -7,6 +7,7 @@ abbrev pub RisesFrom : ℤ → List ℤ → Type 0
 RisesFrom x [] = Unit {0}
 RisesFrom x (y ∷ ys) = (x <ℤ y) × RisesFrom y ys
 
+-- in rising order, none twice
 abbrev pub Rises : List ℤ → Type 0
 Rises [] = Unit {0}
 Rises (x ∷ xs) = RisesFrom x xs

@@ -17,6 +17,7 @@ pub record Resolvent (a b : List ℤ) (on : ℕ) (r : List ℤ) : Type 0 where
   pub clash : Clash a b number
   pub members : (y : ℤ) → Contains r y ↔ ((Contains a y × (y ≢ number)) ⊎ (Contains b y × (y ≢ neg_ℤ number)))
 
+-- the same numbers, in whatever order
 abbrev pub AreSame : List ℤ → List ℤ → Type 0
 AreSame a b = (y : ℤ) → Contains a y ↔ Contains b y
 

@@ -9,14 +9,17 @@ use Rattle.circuits.specs.Reach.{Reaches}
 use Rattle.clauses.specs.Assignment.{all_hold}
 use Rattle.clauses.specs.Units.{Units}
 
+-- it is an and-node
 abbrev pub is_and : NetNode → Bool
 is_and (Constant c) = false
 is_and (Input k) = false
 is_and (And a b) = true
 
+-- a node by its number
 abbrev pub node_at : List NetNode → ℕ → NetNode
 node_at net at = slice_index_or net at (Constant true)
 
+-- the flag of a node by its number
 abbrev pub flag_at : List Bool → ℕ → Bool
 flag_at flags at = slice_index_or flags at false
 
@@ -35,6 +38,7 @@ variable_of inputs ands (And a b) = inputs + 1 + ands
 abbrev pub variable : List Bool → List NetNode → ℕ → ℕ
 variable flags net at = variable_of (count_inputs net) (ands_below flags net (at + 1)) (node_at net at)
 
+-- a variable as a number, negated or not
 abbrev pub number_of : Bool → ℕ → ℤ
 number_of true n = neg_ℤ (pos n)
 number_of false n = pos n
@@ -43,6 +47,7 @@ number_of false n = pos n
 abbrev pub literal : List Bool → List NetNode → Bit → ℤ
 literal flags net b = number_of b.negated (variable flags net b.node)
 
+-- a clause of two numbers, the lesser first
 abbrev pub rising_two : ℤ → ℤ → List ℤ
 rising_two x y = cond (int_lt x y) (x ∷ y ∷ []) (y ∷ x ∷ [])
 
@@ -50,6 +55,7 @@ rising_two x y = cond (int_lt x y) (x ∷ y ∷ []) (y ∷ x ∷ [])
 abbrev pub gate_clauses : ℕ → ℤ → ℤ → List (List ℤ)
 gate_clauses v a b = (neg_ℤ (pos v) ∷ a ∷ []) ∷ (neg_ℤ (pos v) ∷ b ∷ []) ∷ (rising_two (neg_ℤ a) (neg_ℤ b) ++ pos v ∷ []) ∷ []
 
+-- the clauses of one node: a constant's value; of an input none; of an and-node with a flag those of the gate
 abbrev pub node_clauses : List Bool → List NetNode → ℕ → NetNode → List (List ℤ)
 node_clauses flags net at (Constant c) = (number_of (not c) (variable flags net at) ∷ []) ∷ []
 node_clauses flags net at (Input k) = []

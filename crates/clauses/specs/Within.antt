@@ -6,5 +6,6 @@ use Rattle.std.specs.List.{All}
 abbrev pub IsOf : ℕ → ℤ → Type 0
 IsOf n x = (0 < unsigned_abs x) × (unsigned_abs x ≤ n)
 
+-- all numbers of all clauses are of these variables
 abbrev pub AreOf : ℕ → List (List ℤ) → Type 0
 AreOf n clauses = All (λ c. All (λ x. IsOf n x) c) clauses

@@ -8,7 +8,7 @@ use Rattle.c_meaning.specs.Acts.{Res, Stop}
 use Rattle.c_meaning.specs.Duties.{Placed, duty}
 use Rattle.c_meaning.specs.Havoc as h
 use Rattle.c_meaning.specs.Havoc.{Stopped, Left, Fails, Dismisses}
-use Rattle.c_duties.specs.Obliged.{placed, placed_view}
+use Rattle.c_meaning.specs.Placing.{placed, placed_view}
 use Rattle.havoc_state.specs.Havocking.{broken}
 
 module _ (p : Program) (I : List Placed) (spot : Spot) (xs : List PlacedInvariant) (i : ℕ) (x : PlacedInvariant) (behind : drop i xs ≡ x ∷ drop (suc i) xs) (s : Left) (whole : Res Stopped Left (Unit {0})) where

@@ -6,7 +6,7 @@ ghost use Rattle.c_meaning.specs.Havoc as havoc;
 ghost use Rattle.c_meaning.specs.Objects.{same_spot};
 ghost use Rattle.c_meaning.specs.Value as value;
 ghost use Rattle.run_state.specs.Interpreting.{same};
-ghost use Rattle.c_duties.specs.Obliged.{placed, placed_view};
+ghost use Rattle.c_meaning.specs.Placing.{placed, placed_view};
 ghost use Rattle.havoc_state.specs.Havocking.{Gives, left_of, arrived, broken};
 
 use crate::machine::{Ending, Halt, Machine};

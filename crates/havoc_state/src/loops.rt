@@ -3,7 +3,7 @@ ghost use Rattle.std.specs.Prelude.{[]};
 ghost use Rattle.c_core.specs.View.{program_view};
 ghost use Rattle.c_meaning.specs.Havoc as havoc;
 ghost use Rattle.run_state.specs.Interpreting.{same, flow_of};
-ghost use Rattle.c_duties.specs.Obliged.{placed_view};
+ghost use Rattle.c_meaning.specs.Placing.{placed_view};
 ghost use Rattle.havoc_state.specs.Havocking.{Gives, left_of, cell_redrawn, object_redrawn};
 
 use crate::draws::draw;

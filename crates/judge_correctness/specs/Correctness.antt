@@ -6,9 +6,8 @@ use Rattle.c_meaning.specs.Duties.{Placed}
 use Rattle.c_meaning.specs.declared.verdict.Verdict.{Verdict}
 use Rattle.c_meaning.specs.declared.verdict.Verdict.TheVariants.{CorrectnessConfirmed}
 use Rattle.sym_duties.specs.declared.obligations.Obligations.{Obligations}
-use Rattle.sym_duties.specs.Promise.{ArePromised}
 use Rattle.sym_weight.specs.Weight.{Bits}
-use Rattle.judge_obligations.specs.Verdicts.{IsKept, IsDecided}
+use Rattle.judge_obligations.specs.Verdicts.{AreObligationsOf, IsKept, IsDecided}
 use Rattle.judge_obligations.specs.declared.judging.Judged.{Judged}
 
 -- where correctness is confirmed, no run violates the property, whatever its inputs and however many its steps, and each invariant
@@ -20,7 +19,7 @@ IsConfirmed p I verdict = Unit {0}
 -- the net that was judged: clauses and a spent log over it are kept exactly where the verdict is undecided
 pub record IsKeptOf (N : ℕ) (p : Program) (I : List Placed) (judged : Judged) : Type 0 where
   pub obligations : Obligations
-  pub promised : ArePromised p I obligations
+  pub promised : AreObligationsOf p I obligations
   pub kept : IsKept N obligations judged.verdict judged.spent
 
 -- with a budget beyond what the bits allow that the program draws, each verdict is decided

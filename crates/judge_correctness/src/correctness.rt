@@ -2,9 +2,8 @@
 ghost use Rattle.std.specs.Prelude.{◌≤◌, IfOk, IfErr};
 ghost use Rattle.std.specs.List.{All};
 ghost use Rattle.c_core.specs.View.{program_view};
-ghost use Rattle.c_duties.specs.Obliged.{placed_view};
+ghost use Rattle.c_meaning.specs.Placing.{IsInvariant, placed_view};
 ghost use Rattle.sym_duties.specs.Answers.{CanBeJudged, IsFault, names_of};
-ghost use Rattle.sym_invariants.specs.Walking.{IsInvariant};
 ghost use Rattle.judge_obligations.specs.Verdicts.{IsRightOnInvariants};
 ghost use Rattle.judge_correctness.specs.Correctness.{IsConfirmed, IsDecidedBeyond, IsKeptOf};
 

@@ -19,9 +19,8 @@ use Rattle.clauses.specs.declared.log.SpentAt.{SpentAt}
 use Rattle.sym_state.specs.declared.state.DrawSite.{DrawSite}
 use Rattle.sym_state.specs.Standing.{draws_at}
 use Rattle.sym_duties.specs.declared.obligations.Obligations.{Obligations}
-use Rattle.sym_duties.specs.Promise.{ArePromised}
 use Rattle.judge_obligations.specs.Deciding.{AreNeverTrue, IsNeverTrue, IsSpentOn, IsWide}
-use Rattle.judge_obligations.specs.Verdicts.{HoldUpTo, AllHold, FailsFirst, IsSpentOver, IsUndecidedAt}
+use Rattle.judge_obligations.specs.Verdicts.{AreObligationsOf, HoldUpTo, AllHold, FailsFirst, IsSpentOver, IsUndecidedAt}
 use Rattle.judge_obligations.proofs.Found.{clash}
 use Rattle.judge_obligations.proofs.Numbers.{sites_wide}
 
@@ -36,27 +35,27 @@ never_more net failing n b none at never i x lt here = elim (cases_lt i n) as (�
   | inr ge ↦ let e : n ≡ i = omega (arith, ge, lt) in subst (IsNeverTrue net) (same_Some b x (sym at ∙ ap (slice_get failing) e ∙ here)) never
 ]
 
-module _ (p : Program) (I : List Placed) (o : Obligations) (h : ArePromised p I o) where
+module _ (p : Program) (I : List Placed) (o : Obligations) (h : AreObligationsOf p I o) where
   pub small : IsNet o.net → length o.net < 2 ^ 28
-  small n = omega (arith, counted o.net n, h.2.gates, h.2.feeds, h.2.drawn, h.2.light)
+  small n = omega (arith, counted o.net n, h.gates, h.feeds, h.drawn, h.light)
 
   pub inside : (n : ℕ) (b : Bit) → slice_get o.failing n ≡ Some b → IsIn o.net b
-  inside n b at = subst (IsIn o.net) (get_or_from_slice_get o.failing n b b at) (h.2.failing_in n b (slice_get_within o.failing n b at))
+  inside n b at = subst (IsIn o.net) (get_or_from_slice_get o.failing n b b at) (h.failing_in n b (slice_get_within o.failing n b at))
 
   pub wide : (xs : List DrawSite) → xs ≡ o.sites → All (IsWide p.model) xs
-  wide xs e = subst (All (IsWide p.model)) (sym e) (sites_wide p.model o.net 0 (count_inputs o.net) o.sites h.2.sites_in)
+  wide xs e = subst (All (IsWide p.model)) (sym e) (sites_wide p.model o.net 0 (count_inputs o.net) o.sites h.sites_in)
 
   pub hold_up : (n : ℕ) → n ≤ length o.failing → AreNeverTrue o.net o.failing n → HoldUpTo p I n
   hold_up n le none i real few w ended =
       let j = i - 1 in
       let b = get_or o.failing j no_bit in
       let at : slice_get o.failing j ≡ Some b = slice_get-get_or o.failing j no_bit (omega arith) in
-      let told = h.2.all w in
+      let told = h.all w in
       let same : i ≡ j + 1 = omega arith in
       clash ((told.1.ends j b at).1 (ended ∙ ap Failed same)) (none j b (omega arith) at told.0)
 
   pub all_hold : (n : ℕ) → n ≡ length o.failing → AreNeverTrue o.net o.failing n → AllHold p I n
-  all_hold n e none = record { counted = e ∙ h.2.many ∙ ap length h.2.list; hold = hold_up n (omega (arith, e)) none }
+  all_hold n e none = record { counted = e ∙ h.many ∙ ap length h.list; hold = hold_up n (omega (arith, e)) none }
 
   back : (n : ℕ) → n + 1 - 1 ≡ n
   back n = omega arith
@@ -68,10 +67,10 @@ module _ (p : Program) (I : List Placed) (o : Obligations) (h : ArePromised p I 
       → slice_get o.list n ≡ Some duty → draws ≡ draws_at p v o.net o.sites → FailsFirst p I (n + 1) duty draws
   first_fails n b v duty draws none lt at on named drawn =
       let run = ap (λ (ds : List Draw). Havoc p I (values_of ds)) drawn in
-      let told = h.2.each v in
+      let told = h.each v in
       record {
         real = omega arith;
-        named = ap (slice_get (Duties p I)) (back n) ∙ ap (λ l. slice_get l n) (sym h.2.list) ∙ named;
+        named = ap (slice_get (Duties p I)) (back n) ∙ ap (λ l. slice_get l n) (sym h.list) ∙ named;
         before = before n lt none;
         ends = ap (λ r. r.end) run ∙ (told.ends n b at).0 on;
         makes = ap (λ r. r.draws) run ∙ told.draws ∙ sym drawn;

@@ -1,5 +1,5 @@
 -- The right verdict on the invariants of a program.
-use Rattle.std.specs.Prelude.{◌≡◌, ℕ, ◌-◌, ◌≤◌, ◌<◌, ℤ, List, length, slice_get, Option, Some, None}
+use Rattle.std.specs.Prelude.{◌≡◌, ℕ, ◌-◌, ◌≤◌, ◌<◌, List, length, slice_get, Option, Some, None}
 use Rattle.c_core.specs.Tree.{Program}
 use Rattle.c_meaning.specs.declared.run.Draw.{Draw}
 use Rattle.c_meaning.specs.declared.run.Duty.{Duty}
@@ -8,7 +8,7 @@ use Rattle.c_meaning.specs.declared.verdict.Verdict.{Verdict}
 use Rattle.c_meaning.specs.declared.verdict.Verdict.TheVariants.{ViolationConfirmed, ViolationNot, CorrectnessConfirmed, CorrectnessNot, Undecided}
 use Rattle.c_meaning.specs.declared.verdict.Cause.TheVariants.{Steps, Cells, Conflicts}
 use Rattle.c_meaning.specs.Duties.{Placed, Duties}
-use Rattle.c_meaning.specs.Havoc.{Havoc}
+use Rattle.c_meaning.specs.Havoc.{Havoc, ObligationHolds}
 use Rattle.c_meaning.specs.Replay.{values_of}
 use Rattle.circuits.specs.declared.net.Bit.{Bit}
 use Rattle.circuits.specs.Net.{count_inputs}
@@ -16,11 +16,8 @@ use Rattle.clauses.specs.declared.log.SpentAt.{SpentAt}
 use Rattle.clauses.specs.Tseitin.{ClausesOf}
 use Rattle.clauses.specs.Spent.{IsSpent}
 use Rattle.sym_duties.specs.declared.obligations.Obligations.{Obligations}
-use Rattle.sym_duties.specs.Promise.{ArePromised}
-
--- obligation i holds: no list of values makes the havoc run end at i
-abbrev pub ObligationHolds : Program → List Placed → ℕ → Type 0
-ObligationHolds p I i = (w : List ℤ) → (Havoc p I w).end ≡ Failed i → ⊥
+use Rattle.sym_duties.specs.Promise.{AreObligations}
+use Rattle.sym_weight.specs.Weight.{Weight, Bits}
 
 -- the obligations 1 to n hold
 abbrev pub HoldUpTo : Program → List Placed → ℕ → Type 0
@@ -39,6 +36,10 @@ pub record FailsFirst (p : Program) (I : List Placed) (i : ℕ) (duty : Duty) (d
   pub ends : (Havoc p I (values_of draws)).end ≡ Failed i
   pub makes : (Havoc p I (values_of draws)).draws ≡ draws
 
+-- the program's obligations as a net that is within the program's weight, and draws no more bits than the program
+abbrev pub AreObligationsOf : Program → List Placed → Obligations → Type 0
+AreObligationsOf p I o = AreObligations p I (Weight p I) (Bits p) o
+
 -- a log spent at N over the clauses of failing bit i, of a net that draws
 pub record IsSpentOver (N : ℕ) (o : Obligations) (i : ℕ) (s : SpentAt) : Type 0 where
   pub bit : Bit
@@ -53,7 +54,7 @@ pub record IsUndecidedAt (N : ℕ) (p : Program) (I : List Placed) (i count : �
   pub real : 0 < i
   pub before : HoldUpTo p I (i - 1)
   pub obligations : Obligations
-  pub promised : ArePromised p I obligations
+  pub promised : AreObligationsOf p I obligations
   pub spent : SpentAt
   pub over : IsSpentOver N obligations i spent
 

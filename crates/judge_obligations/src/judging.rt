@@ -1,11 +1,10 @@
 // The verdict on all obligations in their order.
 ghost use Rattle.std.specs.Prelude.{◌≡◌, ◌+◌, ◌-◌, ◌≤◌, ◌<◌, ◌^◌, IfOk, Some, length, slice_get};
 ghost use Rattle.c_core.specs.View.{program_view};
-ghost use Rattle.c_duties.specs.Obliged.{placed_view};
+ghost use Rattle.c_meaning.specs.Placing.{placed_view};
 ghost use Rattle.circuits.specs.Net.{count_inputs};
-ghost use Rattle.sym_duties.specs.Promise.{ArePromised};
 ghost use Rattle.judge_obligations.specs.Answering.{IsShown, IsLeftOpen};
-ghost use Rattle.judge_obligations.specs.Verdicts.{IsRightOnInvariants, IsKept, IsDecided};
+ghost use Rattle.judge_obligations.specs.Verdicts.{AreObligationsOf, IsRightOnInvariants, IsKept, IsDecided};
 
 use crate::draws::draws_under;
 use crate::failing::{Finding, decide_bit};
@@ -79,7 +78,7 @@ pub fn decide(
     obligations: &Obligations,
     conflicts: u64,
 ) -> Result<Judged, OutOfMemory>
-    requires promised { ArePromised (program_view program.now) (placed_view invariants.now) obligations.now }
+    requires promised { AreObligationsOf (program_view program.now) (placed_view invariants.now) obligations.now }
     requires some { 1 ≤ conflicts }
     requires bounded { conflicts ≤ 1000000 }
     ensures right { IfOk result (λ r. IsRightOnInvariants conflicts (program_view program.now) (placed_view invariants.now) r.verdict) }

@@ -100,9 +100,9 @@ fn for_turn(
     Ok(())
 }
 
-/// The turn of the loop that a form is; any other form has none.
+// The turn of the loop that a form is; any other form has none.
 #[cycle(walk)]
-pub fn turn(
+fn turn(
     walk: &Walk,
     sym: &mut Sym,
     depth: u32,

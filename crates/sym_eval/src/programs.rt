@@ -4,9 +4,9 @@ ghost use Rattle.std.specs.List.{All};
 ghost use Rattle.c_calls.specs.Calling.{IsFirstRecursion};
 ghost use Rattle.c_core.specs.View.{program_view};
 ghost use Rattle.sym_duties.specs.Answers.{AnswersFor, IsNamedRecursion, names_of};
-ghost use Rattle.sym_invariants.specs.Walking.{program_of, invariants_of, IsInvariant, IsWalk};
+ghost use Rattle.sym_invariants.specs.Walking.{program_of, invariants_of, IsWalk};
 ghost use Rattle.sym_eval.specs.Whole.{IsWhole, IsLight, AreMade};
-ghost use Rattle.sym_weight.specs.Views.{placed_views};
+ghost use Rattle.c_meaning.specs.Placing.{IsInvariant, placed_view};
 
 use crate::calls::type_or_int;
 use crate::statements::form;
@@ -68,9 +68,9 @@ fn made(
     program: &Program,
     invariants: &Seq<PlacedInvariant>,
 ) -> Result<Obligations, OutOfMemory>
-    requires invariants { All (IsInvariant (program_view program.now)) (placed_views invariants.now) }
-    requires light { IsLight (program_view program.now) (placed_views invariants.now) }
-    ensures { IfOk result (AreMade (program_view program.now) (placed_views invariants.now)) }
+    requires invariants { All (IsInvariant (program_view program.now)) (placed_view invariants.now) }
+    requires light { IsLight (program_view program.now) (placed_view invariants.now) }
+    ensures { IfOk result (AreMade (program_view program.now) (placed_view invariants.now)) }
 {
     let list = duties(alloc, program, invariants)?;
     small(list.len())?;
@@ -95,8 +95,8 @@ pub fn obligations(
     program: &Program,
     invariants: &Seq<PlacedInvariant>,
 ) -> Result<Obligations, SymFault>
-    requires { All (IsInvariant (program_view program.now)) (placed_views invariants.now) }
-    ensures { AnswersFor (program_view program.now) (names_of program.now.functions) (placed_views invariants.now) result }
+    requires { All (IsInvariant (program_view program.now)) (placed_view invariants.now) }
+    ensures { AnswersFor (program_view program.now) (names_of program.now.functions) (placed_view invariants.now) result }
 {
     if let Some(function) = calls_itself(alloc, program)? {
         let name = recursive(alloc, program, function)?;

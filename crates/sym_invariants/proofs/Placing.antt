@@ -28,10 +28,9 @@ use Rattle.sym_state.specs.Standing.{stand, IsState}
 use Rattle.sym_state.specs.declared.state.Sym.{Sym}
 use Rattle.sym_values.specs.Valuing.{Decided}
 use Rattle.sym_weight.specs.Table as table
-use Rattle.sym_weight.specs.Views.{placed_view, placed_views}
+use Rattle.c_meaning.specs.Placing.{IsInvariant, placed, placed_view}
 use Rattle.sym_weight.specs.Weight.{evaluation, placed_weight}
 use Rattle.sym_invariants.specs.Valued.{Holds, weight_of}
-use Rattle.sym_invariants.specs.Walking.{IsInvariant}
 
 -- ---- how many, and how much they weigh
 kinds_few : (b : Bool) (x y z : Duty) (ds : List Duty) → suc (length ds) ≤ length (cond b (x ∷ y ∷ []) (z ∷ []) ++ ds)
@@ -53,17 +52,17 @@ weight_over true e n m k h = omega (arith, h)
 weight_over false e n m k h = h
 
 -- the invariants up to an index, and the one there
-pub taken_more : (xs : List PlacedInvariant) (k : ℕ) (x : PlacedInvariant) → k < length xs → x ≡ get_or xs k x → placed_views (take (k + 1) xs) ≡ placed_views (take k xs) ++ placed_view x ∷ []
+pub taken_more : (xs : List PlacedInvariant) (k : ℕ) (x : PlacedInvariant) → k < length xs → x ≡ get_or xs k x → placed_view (take (k + 1) xs) ≡ placed_view (take k xs) ++ placed x ∷ []
 taken_more xs k x h e =
     let m : suc k ≡ k + 1 = omega arith in
-    ap (λ j. placed_views (take j xs)) (sym m) ∙ ap placed_views (take-suc xs k x h) ∙ ap (λ y. placed_views (take k xs ++ y ∷ [])) (sym e) ∙ map-append placed_view (take k xs) (x ∷ [])
+    ap (λ j. placed_view (take j xs)) (sym m) ∙ ap placed_view (take-suc xs k x h) ∙ ap (λ y. placed_view (take k xs ++ y ∷ [])) (sym e) ∙ map-append placed (take k xs) (x ∷ [])
 
-pub taken_length : (xs : List PlacedInvariant) (k : ℕ) → k ≤ length xs → length (placed_views (take k xs)) ≡ k
-taken_length xs k h = length-map (take k xs) placed_view ∙ length-take-le k xs h
+pub taken_length : (xs : List PlacedInvariant) (k : ℕ) → k ≤ length xs → length (placed_view (take k xs)) ≡ k
+taken_length xs k h = length-map (take k xs) placed ∙ length-take-le k xs h
 
-pub invariant_at : (p : Program) (xs : List PlacedInvariant) (k : ℕ) (x : PlacedInvariant) → k < length xs → x ≡ get_or xs k x → All (IsInvariant p) (placed_views xs) → IsInvariant p (placed_view x)
+pub invariant_at : (p : Program) (xs : List PlacedInvariant) (k : ℕ) (x : PlacedInvariant) → k < length xs → x ≡ get_or xs k x → All (IsInvariant p) (placed_view xs) → IsInvariant p (placed x)
 invariant_at p xs k x h e all =
-    subst (IsInvariant p) (get_or-map placed_view xs k x (placed_view x) h ∙ ap placed_view (sym e)) (All-get_or (IsInvariant p) (placed_views xs) k (placed_view x) (omega (arith, h, length-map xs placed_view)) all)
+    subst (IsInvariant p) (get_or-map placed xs k x (placed x) h ∙ ap placed (sym e)) (All-get_or (IsInvariant p) (placed_view xs) k (placed x) (omega (arith, h, length-map xs placed)) all)
 
 module _ (p : Program) (at_loop : Bool) (spot : Spot) where
   pub weight_append : (xs ys : List Placed) → placed_weight p (xs ++ ys) at_loop spot ≡ placed_weight p xs at_loop spot + placed_weight p ys at_loop spot
@@ -71,14 +70,14 @@ module _ (p : Program) (at_loop : Bool) (spot : Spot) where
   weight_append (x ∷ xs) ys = weight_over (stands p [] at_loop spot x) (evaluation p x.test) _ _ _ (weight_append xs ys)
 
   pub weight_more : (xs : List PlacedInvariant) (k : ℕ) (x : PlacedInvariant) → k < length xs → x ≡ get_or xs k x
-      → placed_weight p (placed_views (take (k + 1) xs)) at_loop spot ≡ placed_weight p (placed_views (take k xs)) at_loop spot + placed_weight p (placed_view x ∷ []) at_loop spot
-  weight_more xs k x h e = ap (λ z. placed_weight p z at_loop spot) (taken_more xs k x h e) ∙ weight_append (placed_views (take k xs)) (placed_view x ∷ [])
+      → placed_weight p (placed_view (take (k + 1) xs)) at_loop spot ≡ placed_weight p (placed_view (take k xs)) at_loop spot + placed_weight p (placed x ∷ []) at_loop spot
+  weight_more xs k x h e = ap (λ z. placed_weight p z at_loop spot) (taken_more xs k x h e) ∙ weight_append (placed_view (take k xs)) (placed x ∷ [])
 
   -- those up to an index, and the one there, weigh no more than all
   pub weight_within : (xs : List PlacedInvariant) (k : ℕ) (x : PlacedInvariant) → k < length xs → x ≡ get_or xs k x
-      → placed_weight p (placed_views (take k xs)) at_loop spot + placed_weight p (placed_view x ∷ []) at_loop spot ≤ placed_weight p (placed_views xs) at_loop spot
+      → placed_weight p (placed_view (take k xs)) at_loop spot + placed_weight p (placed x ∷ []) at_loop spot ≤ placed_weight p (placed_view xs) at_loop spot
   weight_within xs k x h e =
-      let all = ap (λ z. placed_weight p (placed_views z) at_loop spot) (sym (take-append-drop (k + 1) xs)) ∙ ap (λ z. placed_weight p z at_loop spot) (map-append placed_view (take (k + 1) xs) (drop (k + 1) xs)) ∙ weight_append (placed_views (take (k + 1) xs)) (placed_views (drop (k + 1) xs)) in
+      let all = ap (λ z. placed_weight p (placed_view z) at_loop spot) (sym (take-append-drop (k + 1) xs)) ∙ ap (λ z. placed_weight p z at_loop spot) (map-append placed (take (k + 1) xs) (drop (k + 1) xs)) ∙ weight_append (placed_view (take (k + 1) xs)) (placed_view (drop (k + 1) xs)) in
       omega (arith, all, weight_more xs k x h e)
 
   pub weight_here : (I : List Placed) (x : Placed) → stands p I at_loop spot x ≡ true → placed_weight p (x ∷ []) at_loop spot ≡ evaluation p x.test
@@ -124,16 +123,16 @@ module _ (p : Program) (I : List Placed) (ds : List Duty) where
 
     -- the next one is tested
     pub more_tested : (xs : List PlacedInvariant) (k : ℕ) (x : PlacedInvariant) (a b c : Sym) → k < length xs → x ≡ get_or xs k x
-        → Follows ds p (placed_weight p (placed_views (take k xs)) at_loop spot) 0 a b (λ v u. Unit {0}) (λ v. test_from p I 0 (placed_views (take k xs)) at_loop spot kind)
-        → Follows ds p (placed_weight p (placed_view x ∷ []) at_loop spot) 0 b c (λ v u. Unit {0}) (λ v. test_from p I k (placed_view x ∷ []) at_loop spot kind)
-        → Follows ds p (placed_weight p (placed_views (take (k + 1) xs)) at_loop spot) 0 a c (λ v u. Unit {0}) (λ v. test_from p I 0 (placed_views (take (k + 1) xs)) at_loop spot kind)
+        → Follows ds p (placed_weight p (placed_view (take k xs)) at_loop spot) 0 a b (λ v u. Unit {0}) (λ v. test_from p I 0 (placed_view (take k xs)) at_loop spot kind)
+        → Follows ds p (placed_weight p (placed x ∷ []) at_loop spot) 0 b c (λ v u. Unit {0}) (λ v. test_from p I k (placed x ∷ []) at_loop spot kind)
+        → Follows ds p (placed_weight p (placed_view (take (k + 1) xs)) at_loop spot) 0 a c (λ v u. Unit {0}) (λ v. test_from p I 0 (placed_view (take (k + 1) xs)) at_loop spot kind)
     more_tested xs k x a b c h e y z =
-        let before = placed_views (take k xs) in
+        let before = placed_view (take k xs) in
         let number : 0 + length before ≡ k = omega (arith, taken_length xs k (omega (arith, h))) in
-        follows_as p ds (follows_then p ds (placed_weight p (placed_views (take (k + 1) xs)) at_loop spot) 0 (λ v u. test_from p I k (placed_view x ∷ []) at_loop spot kind) y z (λ v u t s. refl) (omega (arith, weight_more p at_loop spot xs k x h e)) (omega arith))
+        follows_as p ds (follows_then p ds (placed_weight p (placed_view (take (k + 1) xs)) at_loop spot) 0 (λ v u. test_from p I k (placed x ∷ []) at_loop spot kind) y z (λ v u t s. refl) (omega (arith, weight_more p at_loop spot xs k x h e)) (omega arith))
         (λ v u t. t)
         (λ v s.
-        ap (λ j. bind (test_from p I 0 before at_loop spot kind s) (λ u. test_from p I j (placed_view x ∷ []) at_loop spot kind)) (sym number) ∙ sym (tests_snoc p I before 0 (placed_view x) at_loop spot kind s)
+        ap (λ j. bind (test_from p I 0 before at_loop spot kind s) (λ u. test_from p I j (placed x ∷ []) at_loop spot kind)) (sym number) ∙ sym (tests_snoc p I before 0 (placed x) at_loop spot kind s)
         ∙ ap (λ q. test_from p I 0 q at_loop spot kind s) (sym (taken_more xs k x h e)))
         (omega arith) (omega arith)
 
@@ -151,10 +150,10 @@ module _ (p : Program) (I : List Placed) (ds : List Duty) where
         (omega (arith, weight_here p true spot I x h)) (omega arith)
 
     pub more_assumed : (xs : List PlacedInvariant) (k : ℕ) (x : PlacedInvariant) (a b c : Sym) → k < length xs → x ≡ get_or xs k x
-        → Follows ds p (placed_weight p (placed_views (take k xs)) true spot) 0 a b (λ v u. Unit {0}) (λ v. assume_all p I (placed_views (take k xs)) spot)
-        → Follows ds p (placed_weight p (placed_view x ∷ []) true spot) 0 b c (λ v u. Unit {0}) (λ v. assume_all p I (placed_view x ∷ []) spot)
-        → Follows ds p (placed_weight p (placed_views (take (k + 1) xs)) true spot) 0 a c (λ v u. Unit {0}) (λ v. assume_all p I (placed_views (take (k + 1) xs)) spot)
+        → Follows ds p (placed_weight p (placed_view (take k xs)) true spot) 0 a b (λ v u. Unit {0}) (λ v. assume_all p I (placed_view (take k xs)) spot)
+        → Follows ds p (placed_weight p (placed x ∷ []) true spot) 0 b c (λ v u. Unit {0}) (λ v. assume_all p I (placed x ∷ []) spot)
+        → Follows ds p (placed_weight p (placed_view (take (k + 1) xs)) true spot) 0 a c (λ v u. Unit {0}) (λ v. assume_all p I (placed_view (take (k + 1) xs)) spot)
     more_assumed xs k x a b c h e y z =
-        let before = placed_views (take k xs) in
-        follows_as p ds (follows_then p ds (placed_weight p (placed_views (take (k + 1) xs)) true spot) 0 (λ v u. assume_all p I (placed_view x ∷ []) spot) y z (λ v u t s. refl) (omega (arith, weight_more p true spot xs k x h e)) (omega arith))
-        (λ v u t. t) (λ v s. sym (assumes_snoc p I before (placed_view x) spot s) ∙ ap (λ q. assume_all p I q spot s) (sym (taken_more xs k x h e))) (omega arith) (omega arith)
+        let before = placed_view (take k xs) in
+        follows_as p ds (follows_then p ds (placed_weight p (placed_view (take (k + 1) xs)) true spot) 0 (λ v u. assume_all p I (placed x ∷ []) spot) y z (λ v u t s. refl) (omega (arith, weight_more p true spot xs k x h e)) (omega arith))
+        (λ v u t. t) (λ v s. sym (assumes_snoc p I before (placed x) spot s) ∙ ap (λ q. assume_all p I q spot s) (sym (taken_more xs k x h e))) (omega arith) (omega arith)

@@ -1,8 +1,7 @@
 -- What a walk reads, as contracts see it, and what tests of invariants do.
-use Rattle.std.specs.Prelude.{◌≡◌, ◌+◌, ◌<◌, ◌^◌, ℕ, Bool, true, false, List, length, IsTrue}
+use Rattle.std.specs.Prelude.{◌≡◌, ◌+◌, ◌<◌, ◌^◌, ℕ, Bool, true, false, List, length}
 use Rattle.std.specs.List.{All}
 use Rattle.c_core.specs.Tree.{Program}
-use Rattle.c_core.specs.Typing.{is_typed, has_value}
 use Rattle.c_core.specs.View.{program_view}
 use Rattle.c_core.specs.declared.number.Spot.{Spot}
 use Rattle.c_meaning.specs.Duties.{Placed, Duties}
@@ -10,7 +9,7 @@ use Rattle.c_meaning.specs.Havoc.{stands, test_from, assume_all}
 use Rattle.c_meaning.specs.declared.run.DutyKind.{DutyKind}
 use Rattle.sym_state.specs.Following.{Follows}
 use Rattle.sym_state.specs.declared.state.Sym.{Sym}
-use Rattle.sym_weight.specs.Views.{placed_views}
+use Rattle.c_meaning.specs.Placing.{IsInvariant, placed_view}
 use Rattle.sym_weight.specs.Weight.{placed_weight}
 use Rattle.sym_invariants.specs.declared.walk.Walk.{Walk}
 
@@ -19,12 +18,7 @@ program_of w = program_view w.program.now
 
 -- the invariants in witness order
 abbrev pub invariants_of : Walk → List Placed
-invariants_of w = placed_views w.invariants.now
-
--- an invariant's expression is typed, and not void
-pub record IsInvariant (p : Program) (x : Placed) : Type 0 where
-  pub types : IsTrue (is_typed p x.test)
-  pub value : IsTrue (has_value x.test)
+invariants_of w = placed_view w.invariants.now
 
 -- the obligations are the program's, and their numbers have 32 bits
 pub record IsWalk (w : Walk) : Type 0 where

@@ -4,8 +4,8 @@ ghost use Rattle.c_core.specs.Tree.{Program};
 ghost use Rattle.c_meaning.specs.Duties.{Placed};
 ghost use Rattle.c_meaning.specs.Havoc.{stands};
 ghost use Rattle.sym_state.specs.Standing.{IsState};
-ghost use Rattle.sym_weight.specs.Views.{placed_view};
-ghost use Rattle.sym_invariants.specs.Walking.{program_of, invariants_of, Assumes, HasRoom, IsInvariant, IsWalk, Tests};
+ghost use Rattle.c_meaning.specs.Placing.{IsInvariant, placed};
+ghost use Rattle.sym_invariants.specs.Walking.{program_of, invariants_of, Assumes, HasRoom, IsWalk, Tests};
 
 use crate::numbers::{has_invariants, number_of};
 use crate::values::holds_bit;
@@ -18,7 +18,7 @@ use sym_state::Sym;
 use wv_base::OutOfMemory;
 
 fn is_at(x: &PlacedInvariant, at_loop: bool, spot: Spot) -> bool
-    ensures { (p : Program) (I : List Placed) → result ≡ stands p I at_loop spot (placed_view x.now) }
+    ensures { (p : Program) (I : List Placed) → result ≡ stands p I at_loop spot (placed x.now) }
 {
     let place = x.spot.line == spot.line && x.spot.column == spot.column;
     place && x.at_loop == at_loop
@@ -36,9 +36,9 @@ fn test_one(
 ) -> Result<(), OutOfMemory>
     requires walk { IsWalk walk.now }
     requires fits { IsState (program_of walk.now) sym.old }
-    requires good { IsInvariant (program_of walk.now) (placed_view x.now) }
-    requires room { HasRoom walk.now (placed_view x.now ∷ []) at_loop spot sym.old }
-    ensures { IfOk result (λ r. Tests walk.now number (placed_view x.now ∷ []) at_loop spot kind sym.old sym.new) }
+    requires good { IsInvariant (program_of walk.now) (placed x.now) }
+    requires room { HasRoom walk.now (placed x.now ∷ []) at_loop spot sym.old }
+    ensures { IfOk result (λ r. Tests walk.now number (placed x.now ∷ []) at_loop spot kind sym.old sym.new) }
 {
     if !is_at(x, at_loop, spot) {
         return Ok(());
@@ -64,9 +64,9 @@ fn assume_one(
 ) -> Result<(), OutOfMemory>
     requires walk { IsWalk walk.now }
     requires fits { IsState (program_of walk.now) sym.old }
-    requires good { IsInvariant (program_of walk.now) (placed_view x.now) }
-    requires room { HasRoom walk.now (placed_view x.now ∷ []) true spot sym.old }
-    ensures { IfOk result (λ r. Assumes walk.now (placed_view x.now ∷ []) spot sym.old sym.new) }
+    requires good { IsInvariant (program_of walk.now) (placed x.now) }
+    requires room { HasRoom walk.now (placed x.now ∷ []) true spot sym.old }
+    ensures { IfOk result (λ r. Assumes walk.now (placed x.now ∷ []) spot sym.old sym.new) }
 {
     if !is_at(x, true, spot) {
         return Ok(());

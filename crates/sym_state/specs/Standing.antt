@@ -40,6 +40,7 @@ module _ (p : Program) (v : ℕ → Bool) (net : List NetNode) where
   abbrev pub cell_at : SymCell → Cell
   cell_at c = record { key = key_of c; value = typed p.model (type_of_object p c.object) v net c.bits.bits }
 
+  -- a site as a draw: its place, its type and its value under the inputs
   abbrev pub draw_at : DrawSite → Draw
   draw_at d = record { spot = d.spot; ty = d.ty; value = typed p.model d.ty v net d.bits.bits; from = d.from }
 

@@ -21,15 +21,18 @@ pub record Sum : Type 1 where
   pub body : ℕ → Amount
 
 module _ (p : Program) (S : Sum) where
+  -- what a call does behind its arguments: they are put into the parameters, and the body is gone through
   abbrev pub called : Callee → Exps → S.Amount
   called (Defined f) es = S.both (S.part (passed p (params_of (slice_get p.functions f)) es) 0) (S.body f)
   called Exit es = S.part (passed_to_exit p.model es) 0
   called _ es = S.none
 
   abbrev mutual
+    -- an expression: what its node does, and its operands
     pub expression : Exp → S.Amount
     expression (Expr spot ty n) = S.both (S.part (expression_weight + node_work p ty n) (node_bits p n)) (operands n)
 
+    -- the parts of a node
     pub operands : Node → S.Amount
     operands (Const v) = S.none
     operands (Var o) = S.none
@@ -48,14 +51,17 @@ module _ (p : Program) (S : Sum) where
     pub target : Exp → S.Amount
     target (Expr spot ty n) = S.both (S.part expression_weight 0) (index_of n)
 
+    -- the index of an element
     pub index_of : Node → S.Amount
     index_of (Index o i) = expression i
     index_of _ = S.none
 
+    -- the arguments of a call
     pub arguments : Exps → S.Amount
     arguments NoExp = S.none
     arguments (MoreExp e es) = S.both (expression e) (arguments es)
 
+  -- an expression that may be left out
   abbrev pub expression_if : Option Exp → S.Amount
   expression_if None = S.none
   expression_if (Some e) = expression e
@@ -64,6 +70,7 @@ module _ (p : Program) (S : Sum) where
   abbrev pub control : Exp → S.Amount
   control e = S.both (expression e) (S.part (tested p.model e) 0)
 
+  -- a controlling expression that may be left out: that of `for`
   abbrev pub control_if : Option Exp → S.Amount
   control_if None = S.none
   control_if (Some e) = control e
@@ -72,6 +79,7 @@ module _ (p : Program) (S : Sum) where
   abbrev pub initial : ℕ → Exp → S.Amount
   initial o e = S.both (expression e) (S.part (stored p.model (type_of e) (type_of_object p o)) 0)
 
+  -- the values of a list
   abbrev pub initials : ℕ → Exps → S.Amount
   initials o NoExp = S.none
   initials o (MoreExp e es) = S.both (initial o e) (initials o es)
@@ -82,6 +90,7 @@ module _ (p : Program) (S : Sum) where
   initialised o (One e) = S.both (S.part (4 * bits_of_object p o) 0) (initial o e)
   initialised o (Many es) = S.both (S.part (4 * bits_of_object p o) 0) (initials o es)
 
+  -- the objects of a declaration
   abbrev pub declared : Names → S.Amount
   declared NoName = S.none
   declared (MoreName spot o i ns) = S.both (initialised o i) (declared ns)
@@ -106,9 +115,11 @@ module _ (p : Program) (S : Sum) where
     -- in a function of this result
     module _ (result : Option IntType) where
       abbrev mutual
+        -- a statement, with the invariants that stand at it
         pub statement : Stm → S.Amount
         statement (Stmt at f) = S.both (S.part (statement_weight + at_place false at) 0) (form at f)
 
+        -- a statement without what each statement weighs
         pub form : Spot → Form → S.Amount
         form at Empty = S.none
         form at (Do e) = expression e
@@ -123,10 +134,12 @@ module _ (p : Program) (S : Sum) where
         form at (Return e) = given result e
         form at (Label b) = statement b
 
+        -- the arm behind `else`
         pub otherwise : Else → S.Amount
         otherwise NoElse = S.none
         otherwise (OrElse b) = statement b
 
+        -- the statements of a block
         pub statements : Stms → S.Amount
         statements NoStm = S.none
         statements (MoreStm s b) = S.both (statement s) (statements b)
@@ -135,6 +148,7 @@ module _ (p : Program) (S : Sum) where
       abbrev pub function_body : Stm → S.Amount
       function_body (Stmt at f) = S.both (S.part statement_weight 0) (form at f)
 
+    -- the body of a function, where there is one
     abbrev pub function_of : Option Function → S.Amount
     function_of None = S.none
     function_of (Some f) = function_body f.result f.body

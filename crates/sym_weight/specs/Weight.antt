@@ -37,6 +37,7 @@ abbrev pub weight_in : Program → List Placed → ℕ → ℕ → ℕ
 weight_in p I zero f = 0
 weight_in p I (suc n) f = function p (weighing (weight_in p I n)) (placed_weight p I) f
 
+-- the bits that a function's body draws, with calls unfolded at most n deep
 abbrev pub bits_in : Program → ℕ → ℕ → ℕ
 bits_in p zero f = 0
 bits_in p (suc n) f = function p (drawing (bits_in p n)) nowhere f
@@ -62,9 +63,11 @@ Bits p = bits_in p (most_active p) p.main
 abbrev pub Chain : Program → ℕ
 Chain p = chain_in p (most_active p) p.main
 
+-- programs with longer chains of calls are refused
 abbrev pub most_calls : ℕ
 most_calls = 32
 
+-- programs above this weight are refused
 abbrev pub most_weight : ℕ
 most_weight = 2000000
 

@@ -2,7 +2,7 @@
 ghost use Rattle.std.specs.Prelude.{◌≡◌, suc, min, length, IfOk};
 ghost use Rattle.c_core.specs.View.{program_view};
 ghost use Rattle.sym_weight.specs.Tally.{all_tallies, placed_of};
-ghost use Rattle.sym_weight.specs.Views.{placed_views};
+ghost use Rattle.c_meaning.specs.Placing.{placed_view};
 ghost use Rattle.sym_weight.specs.Totals as totals;
 ghost use Rattle.sym_weight.specs.Weighed.{Weighs, judged};
 
@@ -50,7 +50,7 @@ pub fn weigh(
     program: &Program,
     invariants: &Seq<PlacedInvariant>,
 ) -> Result<Option<Total>, OutOfMemory>
-    ensures { IfOk result (Weighs (program_view program.now) (placed_views invariants.now)) }
+    ensures { IfOk result (Weighs (program_view program.now) (placed_view invariants.now)) }
 {
     let listed = invariants.as_slice();
     let at_loops = placed_weights(alloc, program, listed, true)?;

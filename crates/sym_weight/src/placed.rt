@@ -6,7 +6,7 @@ ghost use Rattle.c_meaning.specs.Havoc.{stands};
 ghost use Rattle.c_meaning.specs.Objects.{same_spot};
 ghost use Rattle.sym_weight.specs.Tally as tally;
 ghost use Rattle.sym_weight.specs.Tally.{capped};
-ghost use Rattle.sym_weight.specs.Views.{placed_view, placed_views};
+ghost use Rattle.c_meaning.specs.Placing.{placed, placed_view};
 ghost use Rattle.sym_weight.specs.Weight as weight;
 
 use crate::expressions::expression;
@@ -50,7 +50,7 @@ fn add_placed(
     at_loop: bool,
     x: &PlacedInvariant,
 ) -> Result<(), OutOfMemory>
-    ensures { OnOk result ((q : Spot) → tally.weight_at weights.new q ≡ cond (stands (program_view program.now) [] at_loop q (placed_view x.now)) (capped (tally.weight_at weights.old q + weight.evaluation (program_view program.now) (expr_view x.now.test))) (tally.weight_at weights.old q)) }
+    ensures { OnOk result ((q : Spot) → tally.weight_at weights.new q ≡ cond (stands (program_view program.now) [] at_loop q (placed x.now)) (capped (tally.weight_at weights.old q + weight.evaluation (program_view program.now) (expr_view x.now.test))) (tally.weight_at weights.old q)) }
 {
     if x.at_loop == at_loop {
         let weight = evaluation(alloc, program, &x.test)?;
@@ -66,7 +66,7 @@ pub fn placed_weights(
     invariants: &[PlacedInvariant],
     at_loop: bool,
 ) -> Result<Weights, OutOfMemory>
-    ensures { IfOk result (λ weights. (q : Spot) → tally.weight_at weights q ≡ capped (weight.placed_weight (program_view program.now) (placed_views invariants.now) at_loop q)) }
+    ensures { IfOk result (λ weights. (q : Spot) → tally.weight_at weights q ≡ capped (weight.placed_weight (program_view program.now) (placed_view invariants.now) at_loop q)) }
 {
     let mut weights = BTreeMap::new(alloc);
     for x in invariants {

@@ -7,7 +7,7 @@ use Rattle.c_core.specs.declared.number.Property.{Property}
 use Rattle.c_core.specs.Tree as t
 use Rattle.c_core.specs.View.{program_view}
 use Rattle.c_core.specs.declared.program.Program.{Program}
-use Rattle.c_duties.specs.Obliged.{placed_view}
+use Rattle.c_meaning.specs.Placing.{placed_view}
 use Rattle.c_meaning.specs.Duties.{Placed}
 use Rattle.c_meaning.specs.declared.verdict.Verdict.{Verdict}
 use Rattle.c_parser.specs.Parsing.{source_view}

@@ -6,7 +6,7 @@ use Rattle.c_check.specs.Checking.{Answers as CheckAnswers}
 use Rattle.c_core.specs.Tree as t
 use Rattle.c_core.specs.View.{program_view}
 use Rattle.c_core.specs.declared.program.Program.{Program}
-use Rattle.c_duties.specs.Obliged.{placed_view}
+use Rattle.c_meaning.specs.Placing.{placed_view}
 use Rattle.c_meaning.specs.Duties.{Placed}
 use Rattle.c_meaning.specs.declared.verdict.Verdict.{Verdict}
 use Rattle.c_parser.specs.Parsing.{Answers as ParserAnswers, source_view}

@@ -2,8 +2,7 @@
 ghost use Rattle.std.specs.Prelude.{◌≡◌, ◌≤◌, IfOk};
 ghost use Rattle.std.specs.List.{All};
 ghost use Rattle.c_core.specs.View.{program_view};
-ghost use Rattle.c_duties.specs.Obliged.{placed_view};
-ghost use Rattle.sym_invariants.specs.Walking.{IsInvariant};
+ghost use Rattle.c_meaning.specs.Placing.{IsInvariant, placed_view};
 ghost use Rattle.witval.specs.Tasks.{RightOnPlaced, RightOnSets};
 
 use crate::refusal::{refuse_bind, refuse_obligations};

@@ -12,7 +12,7 @@ use Rattle.run_state.specs.Interpreting.{same, key_of, use_of, where_of, pairs_o
 use Rattle.c_calls.specs.Loops.{loop_of}
 use Rattle.run_state.specs.declared.machine.Typed.{Typed}
 use Rattle.run_state.proofs.Starting.{function_at, no_function_at}
-use Rattle.c_duties.specs.Obliged.{placed_view}
+use Rattle.c_meaning.specs.Placing.{placed_view}
 use Rattle.havoc_state.specs.Havocking.{left_of}
 use Rattle.havoc_state.proofs.Giving.{halted, passed}
 use Rattle.c_havoc.proofs.Sizes.{size_of_node, size_of_exps, size_if, size_of_init, size_of_names, size_of_first, size_of_stm, size_of_form, size_of_else, size_of_stms, size_of_loop, level_above, body_within_all, loop_within, for_within, exp_within, stm_within, name_within}

@@ -2,7 +2,7 @@ use Rattle.std.proofs.Common.{◌≡◌, ◌+◌, ◌*◌, [], drop, suc}
 use Rattle.c_core.specs.View.{program_view, expr_view, exprs_view, expr_view_if, stmt_view, stmts_view, form_view, first_view, init_view, names_view}
 use Rattle.run_state.specs.Interpreting.{where_of, pairs_of, else_part}
 use Rattle.c_calls.specs.Loops.{loop_of}
-use Rattle.c_duties.specs.Obliged.{placed_view}
+use Rattle.c_meaning.specs.Placing.{placed_view}
 use Rattle.havoc_state.specs.Havocking.{left_of, listed, sequenced, declaring, initialised_by}
 use Rattle.c_havoc.proofs.Sizes.{level, size, size_of_exps, size_if, size_of_init, size_of_names, size_of_first, size_of_stm, size_of_form, size_of_else, size_of_stms, size_of_loop}
 use Rattle.c_havoc.proofs.+run.Given as goal

@@ -1,6 +1,6 @@
 use Rattle.std.proofs.Common.{◌≡◌, ◌++◌, drop}
 use Rattle.c_meaning.specs.Duties.{invariant_duties}
-use Rattle.c_duties.specs.Obliged.{placed_view}
+use Rattle.c_meaning.specs.Placing.{placed_view}
 use Rattle.c_duties.proofs.obligations.push_invariants.Given as goal
 
 -- with what is left it becomes what the whole gives

@@ -1,7 +1,7 @@
 use Rattle.std.proofs.Common.{rules, ◌≡◌, Err}
 use Rattle.c_core.specs.View.{program_view, form_view}
 use Rattle.c_calls.specs.Loops.{loop_of}
-use Rattle.c_duties.specs.Obliged.{placed_view}
+use Rattle.c_meaning.specs.Placing.{placed_view}
 use Rattle.havoc_state.specs.Havocking.{left_of}
 use Rattle.c_havoc.proofs.Looping.{redraw_halts, opens}
 use Rattle.c_havoc.proofs.loops.open_loop.Goals as goal

@@ -1,6 +1,6 @@
 use Rattle.c_core.specs.View.{program_view}
 use Rattle.c_meaning.specs.Duties.{Duties}
-use Rattle.c_duties.specs.Obliged.{placed_view}
+use Rattle.c_meaning.specs.Placing.{placed_view}
 use Rattle.havoc_state.specs.Havocking.{left_of}
 use Rattle.c_havoc.proofs.Ending.{run_ends, as_many}
 use Rattle.c_havoc.proofs.run.run_havoc.Goals as goal

@@ -1,7 +1,7 @@
 use Rattle.std.proofs.Common.{suc, sym}
 use Rattle.c_core.specs.View.{program_view, function_view}
 use Rattle.run_state.proofs.Starting.{function_at, no_function_at}
-use Rattle.c_duties.specs.Obliged.{placed_view}
+use Rattle.c_meaning.specs.Placing.{placed_view}
 use Rattle.havoc_state.specs.Havocking.{left_of}
 use Rattle.c_havoc.proofs.Calling.{main_is, no_main}
 use Rattle.c_havoc.proofs.run.run_main.Goals as goal

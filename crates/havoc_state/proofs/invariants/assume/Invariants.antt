@@ -1,7 +1,7 @@
 use Rattle.std.proofs.Common.{◌≡◌, drop}
 use Rattle.c_core.specs.View.{program_view}
 use Rattle.c_meaning.specs.Havoc.{assume_all}
-use Rattle.c_duties.specs.Obliged.{placed_view}
+use Rattle.c_meaning.specs.Placing.{placed_view}
 use Rattle.havoc_state.specs.Havocking.{left_of}
 use Rattle.havoc_state.proofs.invariants.assume.Given as goal
 

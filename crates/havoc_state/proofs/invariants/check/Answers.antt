@@ -1,6 +1,6 @@
 use Rattle.std.proofs.Common.{◌≡◌, ◌+◌, ◌∷◌, ◌∙◌, suc, drop, drop-cons, ap, sym, arith}
 use Rattle.c_core.specs.View.{program_view}
-use Rattle.c_duties.specs.Obliged.{placed_view}
+use Rattle.c_meaning.specs.Placing.{placed_view}
 use Rattle.havoc_state.specs.Havocking.{left_of}
 use Rattle.havoc_state.proofs.Testing.{test_on}
 use Rattle.havoc_state.proofs.invariants.check.Goals as goal

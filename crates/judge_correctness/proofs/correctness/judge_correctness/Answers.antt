@@ -1,14 +1,10 @@
 use Rattle.c_core.specs.View.{program_view}
-use Rattle.c_duties.specs.Obliged.{placed_view}
-use Rattle.sym_weight.specs.Weight.{Weight, Bits}
+use Rattle.c_meaning.specs.Placing.{placed_view}
 use Rattle.judge_correctness.proofs.Lifting.{confirmed, decided_beyond}
 use Rattle.judge_correctness.proofs.correctness.judge_correctness.Goals as goal
 
 pub decide-requires-clause-promised : goal.decide-requires-clause-promised
-decide-requires-clause-promised c =
-    let p = program_view c.args.program.now in
-    let I = placed_view c.args.invariants.now in
-    (Weight p I, Bits p, c.in_ok-found.ensures.1)
+decide-requires-clause-promised c = c.in_ok-found.ensures.1
 
 pub returns-in-Ok-clause-confirmed : goal.returns-in-Ok-clause-confirmed
 returns-in-Ok-clause-confirmed c =
@@ -18,9 +14,7 @@ returns-in-Ok-clause-confirmed c =
 
 pub returns-in-Ok-clause-kept : goal.returns-in-Ok-clause-kept
 returns-in-Ok-clause-kept c =
-    let p = program_view c.args.program.now in
-    let I = placed_view c.args.invariants.now in
-    record { obligations = c.in_ok-found.found; promised = (Weight p I, Bits p, c.in_ok-found.ensures.1); kept = c.in-Ok.ensures.kept }
+    record { obligations = c.in_ok-found.found; promised = c.in_ok-found.ensures.1; kept = c.in-Ok.ensures.kept }
 
 pub returns-in-Ok-clause-decided : goal.returns-in-Ok-clause-decided
 returns-in-Ok-clause-decided c = λ h. c.in-Ok.ensures.decided (decided_beyond (program_view c.args.program.now) c.in_ok-found.ensures.1.feeds h)

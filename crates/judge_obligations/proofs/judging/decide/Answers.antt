@@ -1,6 +1,6 @@
 use Rattle.std.proofs.Common.{◌≡◌, ◌+◌, ◌∙◌, true, subst, sym, ap₂, arith}
 use Rattle.c_core.specs.View.{program_view}
-use Rattle.c_duties.specs.Obliged.{placed_view}
+use Rattle.c_meaning.specs.Placing.{placed_view}
 use Rattle.c_meaning.specs.declared.verdict.Verdict.TheVariants.{Undecided}
 use Rattle.c_meaning.specs.declared.verdict.Cause.TheVariants.{Conflicts}
 use Rattle.circuits.specs.Net.{holds}

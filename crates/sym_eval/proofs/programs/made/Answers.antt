@@ -1,15 +1,15 @@
 use Rattle.std.proofs.Common.{rules, ◌≡◌, ◌∙◌, refl, sym, ap, subst, arith}
 use Rattle.c_core.specs.View.{program_view}
-use Rattle.sym_weight.specs.Views.{placed_views}
+use Rattle.c_meaning.specs.Placing.{placed_view}
 use Rattle.sym_eval.specs.Whole.{IsLight, IsWhole}
 use Rattle.sym_eval.proofs.Wholly.{are_made}
 use Rattle.sym_eval.proofs.programs.made.Goals as goal
 
 pub whole-requires-clause-light : goal.whole-requires-clause-light
-whole-requires-clause-light c = subst (λ xs. IsLight (program_view c.args.program.now) (placed_views xs)) (sym c.as_slice.ensures) c.requires.light
+whole-requires-clause-light c = subst (λ xs. IsLight (program_view c.args.program.now) (placed_view xs)) (sym c.as_slice.ensures) c.requires.light
 
 pub returns : goal.returns
 returns c =
     let p = program_view c.args.program.now in
-    let whole = subst (λ xs. IsWhole p (placed_views xs) c.in_ok-sym.sym) c.as_slice.ensures c.in_ok-sym.ensures in
-    are_made p (placed_views c.args.invariants.now) c.in_ok-sym.sym _ _ _ whole c.requires.light (search rules) (search rules) (search rules)
+    let whole = subst (λ xs. IsWhole p (placed_view xs) c.in_ok-sym.sym) c.as_slice.ensures c.in_ok-sym.ensures in
+    are_made p (placed_view c.args.invariants.now) c.in_ok-sym.sym _ _ _ whole c.requires.light (search rules) (search rules) (search rules)

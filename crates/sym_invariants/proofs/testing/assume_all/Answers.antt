@@ -3,7 +3,7 @@ use Rattle.std.proofs.lemmas.List.{take_all}
 use Rattle.c_meaning.specs.Duties.{Duties}
 use Rattle.sym_flow.proofs.Draws.{nothing_follows}
 use Rattle.sym_state.proofs.Nets.{longer_by}
-use Rattle.sym_weight.specs.Views.{placed_views}
+use Rattle.c_meaning.specs.Placing.{placed_view}
 use Rattle.sym_invariants.specs.Walking.{program_of, invariants_of, Assumes}
 use Rattle.sym_invariants.proofs.Elsewhere.{nothing_assumed}
 use Rattle.sym_invariants.proofs.Placing.{invariant_at, more_assumed, weight_within}
@@ -38,4 +38,4 @@ loop-x-preserved c =
 pub returns : goal.returns
 returns c =
     let w = c.args.walk.now in
-    subst (λ z. Assumes w (placed_views z) c.args.spot c.args.sym.now c.loop-x.sym) (take_all c.loop-x.x-index w.invariants.now (omega (arith, c.loop-x-test.false))) c.loop-x.invariant
+    subst (λ z. Assumes w (placed_view z) c.args.spot c.args.sym.now c.loop-x.sym) (take_all c.loop-x.x-index w.invariants.now (omega (arith, c.loop-x-test.false))) c.loop-x.invariant

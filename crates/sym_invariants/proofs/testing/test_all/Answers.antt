@@ -2,7 +2,7 @@ use Rattle.std.proofs.Common.{rules, false, ◌≡◌, ◌≤◌, [], ◌∷◌,
 use Rattle.std.proofs.lemmas.List.{length-map, take_all}
 use Rattle.c_meaning.specs.Duties.{Duties}
 use Rattle.sym_state.proofs.Nets.{longer_by}
-use Rattle.sym_weight.specs.Views.{placed_view, placed_views}
+use Rattle.c_meaning.specs.Placing.{placed, placed_view}
 use Rattle.sym_invariants.specs.Walking.{program_of, invariants_of, Tests}
 use Rattle.sym_invariants.proofs.Elsewhere.{nothing_tested}
 use Rattle.sym_invariants.proofs.Placing.{few_invariants, invariant_at, more_tested, none_tested, weight_within}
@@ -31,7 +31,7 @@ test_one-requires-clause-room c =
 pub overflow_add-number : goal.overflow_add-number
 overflow_add-number c =
     let w = c.args.walk.now in
-    let few : length w.invariants.now ≤ length w.duties.now = omega (arith, few_invariants (program_of w) (invariants_of w), ap length c.requires.walk.duties, length-map w.invariants.now placed_view) in
+    let few : length w.invariants.now ≤ length w.duties.now = omega (arith, few_invariants (program_of w) (invariants_of w), ap length c.requires.walk.duties, length-map w.invariants.now placed) in
     omega (arith, few, c.requires.walk.numbered, c.loop-x.invariant.0, c.loop-x-test.true)
 
 pub loop-x-preserved : goal.loop-x-preserved
@@ -39,7 +39,7 @@ loop-x-preserved c =
     let w = c.args.walk.now in
     let p = program_of w in
     let I = invariants_of w in
-    let one = subst (λ n. Tests w n (placed_views (c.x-item.result ∷ [])) c.args.at_loop c.args.spot c.args.kind c.loop-x.sym c.test_one.new.sym) c.loop-x.invariant.0 c.in_ok-test_one.ensures in (
+    let one = subst (λ n. Tests w n (placed_view (c.x-item.result ∷ [])) c.args.at_loop c.args.spot c.args.kind c.loop-x.sym c.test_one.new.sym) c.loop-x.invariant.0 c.in_ok-test_one.ensures in (
       omega (arith, c.loop-x.invariant.0),
       more_tested p I (Duties p I) c.args.at_loop c.args.spot c.args.kind w.invariants.now c.loop-x.x-index c.x-item.result c.args.sym.now c.loop-x.sym c.test_one.new.sym c.loop-x-test.true c.x-item.is c.loop-x.invariant.1 one,
     )
@@ -47,4 +47,4 @@ loop-x-preserved c =
 pub returns : goal.returns
 returns c =
     let w = c.args.walk.now in
-    subst (λ z. Tests w 0 (placed_views z) c.args.at_loop c.args.spot c.args.kind c.args.sym.now c.loop-x.sym) (take_all c.loop-x.x-index w.invariants.now (omega (arith, c.loop-x-test.false))) c.loop-x.invariant.1
+    subst (λ z. Tests w 0 (placed_view z) c.args.at_loop c.args.spot c.args.kind c.args.sym.now c.loop-x.sym) (take_all c.loop-x.x-index w.invariants.now (omega (arith, c.loop-x-test.false))) c.loop-x.invariant.1

@@ -1,6 +1,6 @@
 use Rattle.std.proofs.Common.{◌≡◌, false, true, ap, sym, ◌∙◌, arith, rules, suc, Some}
 use Rattle.c_meaning.specs.Duties.{Duties, duty, number_among}
-use Rattle.sym_weight.specs.Views.{placed_view}
+use Rattle.c_meaning.specs.Placing.{placed}
 use Rattle.sym_invariants.specs.Walking.{program_of, invariants_of}
 use Rattle.sym_invariants.proofs.Numbering.{rises}
 use Rattle.sym_invariants.proofs.Placing.{one_elsewhere, one_tested, room_here, room_behind}
@@ -11,7 +11,7 @@ returns-then-not-is_at c =
     let p = program_of c.args.walk.now in
     let I = invariants_of c.args.walk.now in
     let elsewhere : c.is_at.result ≡ false = search rules in
-    one_elsewhere p I (Duties p I) c.args.at_loop c.args.spot c.args.kind c.args.number (placed_view c.args.x.now) c.args.sym.now c.requires.fits (sym (c.is_at.ensures p I) ∙ elsewhere)
+    one_elsewhere p I (Duties p I) c.args.at_loop c.args.spot c.args.kind c.args.number (placed c.args.x.now) c.args.sym.now c.requires.fits (sym (c.is_at.ensures p I) ∙ elsewhere)
 
 pub holds_bit-requires : goal.holds_bit-requires
 holds_bit-requires c =
@@ -22,7 +22,7 @@ holds_bit-requires c =
       fits = c.requires.fits;
       types = c.requires.good.types;
       value = c.requires.good.value;
-      room = room_here p I c.args.at_loop c.args.spot (placed_view c.args.x.now) (sym (c.is_at.ensures p I) ∙ here) _ c.requires.room;
+      room = room_here p I c.args.at_loop c.args.spot (placed c.args.x.now) (sym (c.is_at.ensures p I) ∙ here) _ c.requires.room;
     }
 
 pub assure-requires-clause-room : goal.assure-requires-clause-room
@@ -30,7 +30,7 @@ assure-requires-clause-room c =
     let p = program_of c.args.walk.now in
     let I = invariants_of c.args.walk.now in
     let here : c.is_at.result ≡ true = search rules in
-    room_behind p I c.args.at_loop c.args.spot (placed_view c.args.x.now) (sym (c.is_at.ensures p I) ∙ here) c.in_ok-holds.ensures c.requires.room
+    room_behind p I c.args.at_loop c.args.spot (placed c.args.x.now) (sym (c.is_at.ensures p I) ∙ here) c.in_ok-holds.ensures c.requires.room
 
 pub number_of-failed-requires-clause-rise : goal.number_of-failed-requires-clause-rise
 number_of-failed-requires-clause-rise c = rises c.args.walk.now c.requires.walk (c.duties_are_in_order.ensures (program_of c.args.walk.now) (invariants_of c.args.walk.now))
@@ -43,5 +43,5 @@ returns c =
     let here : c.is_at.result ≡ true = search rules in
     let d = duty c.args.spot c.args.kind (Some c.args.number) in
     let number : number_among d (Duties p I) ≡ suc c.number_of-failed.result = ap (number_among d) (sym c.requires.walk.duties) ∙ c.number_of-failed.ensures in
-    one_tested p I (Duties p I) c.args.at_loop c.args.spot c.args.kind c.args.number (placed_view c.args.x.now) c.in_ok-holds.holds (sym (c.is_at.ensures p I) ∙ here) c.in_ok-holds.ensures
+    one_tested p I (Duties p I) c.args.at_loop c.args.spot c.args.kind c.args.number (placed c.args.x.now) c.in_ok-holds.holds (sym (c.is_at.ensures p I) ∙ here) c.in_ok-holds.ensures
     (c.in_ok-assure.ensures (Duties p I) d number) (omega arith)

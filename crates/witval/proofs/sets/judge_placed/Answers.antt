@@ -1,4 +1,4 @@
-use Rattle.c_duties.specs.Obliged.{placed_view}
+use Rattle.c_meaning.specs.Placing.{placed_view}
 use Rattle.witval.proofs.JudgedSets.{told, not_told}
 use Rattle.witval.proofs.sets.judge_placed.Goals as goal
 
