@@ -1,3 +1,4 @@
 pub mod Executing
+pub mod Expressing
 pub mod Looping
 pub mod Running

@@ -1,6 +1,5 @@
 -- The run that a watcher sees is the run of the program, and what it saw are its moments.
-use Rattle.std.proofs.Common.{◌≡◌, ℕ, ◌-◌, List, [], ◌∷◌, ◌++◌, reverse, Result, Ok, Err, refl, sym, ap, ◌∙◌}
-use Rattle.std.proofs.lemmas.List.{reverse-append}
+use Rattle.std.proofs.Common.{◌≡◌, ℕ, ◌-◌, List, [], suc, Result, Ok, Err, OnErr, sym, ap, subst, ◌∙◌}
 use Rattle.c_core.specs.Tree.{Program}
 use Rattle.c_meaning.specs.declared.run.End.{End}
 use Rattle.c_meaning.specs.declared.run.Event.{Event}
@@ -11,27 +10,28 @@ use Rattle.c_meaning.specs.Acts.{Res, Go, Stop, Flow}
 use Rattle.c_meaning.specs.Run as run
 use Rattle.c_meaning.specs.Run.{State, Moment}
 use Rattle.c_meaning.specs.Watching.{seen_by, seen_after}
-use Rattle.c_meaning.proofs.Watched.{watched_run, Same}
+use Rattle.c_meaning.specs.Exec.{run_main}
+use Rattle.run_state.specs.Ways.{Ran, ways}
+use Rattle.run_state.specs.Fronts.{SawFront}
+use Rattle.run_state.proofs.Fronting.{Alike, paced_main, seen_of, follows, way_fronts}
 use Rattle.run_state.specs.Interpreting.{Gives, EndsAs, flow_of, state_of}
 use Rattle.run_state.specs.declared.machine.Machine.{Machine}
 use Rattle.run_state.specs.declared.machine.Halt.{Halt}
 use Rattle.run_state.specs.declared.machine.Halt.TheVariants.{Ends, NoMemory}
 use Rattle.run_state.specs.declared.machine.Flow.{Flow as Left}
 
+-- what holds anyhow, holds of an error
+pub on_err : {A E P : Type 0} (r : Result A E) → P → OnErr r P
+on_err (Ok a) h = tt
+on_err (Err e) h = h
+
 module _ (p : Program) (S : Type 0) (after : Event → List Cell → S → S) (x : S) (c : Choices) (n : ℕ) where
+  abbrev watched_ran : Ran S Flow
+  watched_ran = run_main p (ways p S (seen_by after)) (suc n) (run.first_state p S x c n)
+
   -- what is seen of moments, the last first
-  abbrev seen_of : List Moment → S
-  seen_of ms = seen_after after x (reverse ms)
-
-  seen_on : (x : S) (ms : List Moment) (m : Moment) → seen_after after x (ms ++ m ∷ []) ≡ seen_by after m (seen_after after x ms)
-  seen_on x [] m = refl
-  seen_on x (l ∷ ms) m = seen_on (seen_by after l x) ms m
-
-  follows : (m : Moment) (ms : List Moment) → seen_of (m ∷ ms) ≡ seen_by after m (seen_of ms)
-  follows m ms = ap (seen_after after x) (reverse-append (m ∷ []) ms) ∙ seen_on x (reverse ms) m
-
-  abbrev watched_result : Res End (State S) Flow
-  watched_result = run.Seen p S (seen_by after) x c n
+  abbrev all_seen : List Moment → S
+  all_seen = seen_of p S after x c n
 
   -- a run and what a watcher saw of it
   pub record Watched (r : GivenRun) (seen : S) : Type 0 where
@@ -41,26 +41,30 @@ module _ (p : Program) (S : Type 0) (after : Event → List Cell → S → S) (x
   abbrev equal : Flow → Flow → Type 0
   equal f g = f ≡ g
 
-  matched : (w : Res End (State (List Moment)) Flow) (r : Res End (State S) Flow) → Same p (List Moment) S (λ m ms. m ∷ ms) (seen_by after) seen_of follows equal w r
-      → (run.run_of n r ≡ run.run_of n w) × ((run.state_of r).seen ≡ seen_of (run.state_of w).seen)
+  matched : (w : Res End (State (List Moment)) Flow) (r : Res End (State S) Flow) → Alike p S (seen_by after) all_seen (follows p S after x c n) equal w r
+      → (run.run_of n r ≡ run.run_of n w) × ((run.state_of r).seen ≡ all_seen (run.state_of w).seen)
   matched (Go f s) (Go g t) h = (ap (λ u. run.run_of n (Go g u)) (sym h.1), ap (λ u. u.seen) (sym h.1))
   matched (Go f s) (Stop e t) h = absurd h
   matched (Stop e s) (Go g t) h = absurd h
   matched (Stop e s) (Stop d t) h = (ap (λ u. run.run_of n (Stop d u)) (sym h.1) ∙ ap (λ e. run.run_of n (Stop e s)) (sym h.0), ap (λ u. u.seen) (sym h.1))
 
-  pub is_run : (run.run_of n watched_result ≡ run.Run p c n) × ((run.state_of watched_result).seen ≡ seen_after after x (run.Moments p c n))
-  is_run = matched (run.Whole p c n) watched_result (watched_run p (List Moment) S (λ m ms. m ∷ ms) (seen_by after) seen_of follows [] c n)
+  pub is_run : (run.run_of n watched_ran.result ≡ run.Run p c n) × ((run.state_of watched_ran.result).seen ≡ seen_after after x (run.Moments p c n))
+  is_run = matched (run.Whole p c n) watched_ran.result (paced_main p S (seen_by after) all_seen (follows p S after x c n) (suc n) (run.first_state p (List Moment) [] c n)).alike
 
-  ends : (o : Result Left Halt) (e : End) (s : State S) → EndsAs o e → Gives flow_of o s watched_result → (run.run_of n watched_result ≡ record { end = e; steps = n - s.steps; draws = s.draws; unfixed = s.unfixed }) × ((run.state_of watched_result).seen ≡ s.seen)
+  ends : (o : Result Left Halt) (e : End) (s : State S) → EndsAs o e → Gives flow_of o s watched_ran → (run.run_of n watched_ran.result ≡ record { end = e; steps = n - s.steps; draws = s.draws; unfixed = s.unfixed }) × ((run.state_of watched_ran.result).seen ≡ s.seen)
   ends (Ok f) e s h g = (ap (run.run_of n) g ∙ ap (λ d. record { end = d; steps = n - s.steps; draws = s.draws; unfixed = s.unfixed }) (sym h), ap (λ (r : Res End (State S) Flow). (run.state_of r).seen) g)
   ends (Err (Ends d)) e s h g = (ap (run.run_of n) g ∙ ap (λ d. record { end = d; steps = n - s.steps; draws = s.draws; unfixed = s.unfixed }) (sym h), ap (λ (r : Res End (State S) Flow). (run.state_of r).seen) g)
   ends (Err NoMemory) e s h g = absurd h
 
-  pub watched_outcome : (o : Result Left Halt) (e : End) (s : State S) → EndsAs o e → Gives flow_of o s watched_result
+  pub watched_outcome : (o : Result Left Halt) (e : End) (s : State S) → EndsAs o e → Gives flow_of o s watched_ran
       → Watched (record { end = e; steps = n - s.steps; draws = s.draws; unfixed = s.unfixed }) s.seen
   watched_outcome o e s h g =
       let d = ends o e s h g in
       record { ran = sym d.0 ∙ is_run.0; saw = sym d.1 ∙ is_run.1 }
+
+  -- where memory was wanting, it saw a front of the run
+  pub watched_front : (o : Result Left Halt) (s : State S) → o ≡ Err NoMemory → Gives flow_of o s watched_ran → SawFront after (run.Moments p c n) x s.seen
+  watched_front o s e g = way_fronts p S after x c n s.seen (subst (λ r. Gives flow_of r s watched_ran) e g)
 
   -- whoever watches, the state is the same
   pub watched_from : (m : Machine) → state_of m tt ≡ run.first_state p (Unit {0}) tt c n → state_of m x ≡ run.first_state p S x c n

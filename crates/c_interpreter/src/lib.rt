@@ -1,5 +1,5 @@
 //! Runs programs: with choices and a budget of steps, as the definition of runs says.
-#![tactic(auto)]
+#![tactic(auto, using(run_state::proofs::Giving::is_here, run_state::proofs::Giving::is_on_front, run_state::proofs::Giving::is_on_back))]
 
 mod calls;
 mod declarations;

@@ -5,3 +5,4 @@ pub mod Declaring
 pub mod Starting
 pub mod Drawing
 pub mod Calling
+pub mod Fronting

@@ -16,7 +16,7 @@ module _ (p : Program) (S : Type 0) (after : Event → List Cell → S → S) (t
   abbrev left_with : State S → ℕ → State S
   left_with s k = record s { steps = k }
 
-  pub enough : (n : ℕ) (s : State S) (k : ℕ) → s.steps ≡ k → n ≤ k → ticks p (watched p S after) t n s ≡ Go tt (left_with s (k - n))
+  pub enough : (n : ℕ) (s : State S) (k : ℕ) → s.steps ≡ k → n ≤ k → (ticks p (watched p S after) t n s).result ≡ Go tt (left_with s (k - n))
   enough zero s k e h = let z : k - 0 ≡ k = omega arith in rw (z, ← e) refl
   enough (suc n) s zero e h = absurd (omega arith)
   enough (suc n) s (suc k) e h =
@@ -24,7 +24,7 @@ module _ (p : Program) (S : Type 0) (after : Event → List Cell → S → S) (t
       let d : suc k - suc n ≡ k - n = omega arith in
       rw (e, d) (enough n (left_with s k) k refl j)
 
-  pub too_few : (n : ℕ) (s : State S) (k : ℕ) → s.steps ≡ k → k < n → ticks p (watched p S after) t n s ≡ Stop Spent (left_with s 0)
+  pub too_few : (n : ℕ) (s : State S) (k : ℕ) → s.steps ≡ k → k < n → (ticks p (watched p S after) t n s).result ≡ Stop Spent (left_with s 0)
   too_few zero s k e h = absurd (omega arith)
   too_few (suc n) s zero e h = rw e refl
   too_few (suc n) s (suc k) e h =

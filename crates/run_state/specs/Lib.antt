@@ -1,2 +1,4 @@
 pub mod Interpreting
 pub mod Drawing
+pub mod Ways
+pub mod Fronts

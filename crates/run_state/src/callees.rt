@@ -3,9 +3,7 @@ ghost use Rattle.std.specs.Prelude.{◌≡◌, ◌≤◌, ◌&&◌, is_some, Non
 ghost use Rattle.c_core.specs.View.{program_view};
 ghost use Rattle.c_meaning.specs.Acts.{given};
 ghost use Rattle.c_meaning.specs.Eval.{is_used};
-ghost use Rattle.c_meaning.specs.Run as run;
-ghost use Rattle.c_meaning.specs.Watching.{seen_by};
-ghost use Rattle.run_state.specs.Interpreting.{Gives, same, state_of, where_of, site_of, use_of, flow_of, input_of, handed_back};
+ghost use Rattle.run_state.specs.Interpreting.{Gives, same, state_of, where_of, site_of, use_of, flow_of, input_of, handed_back, reaching, returning};
 
 use crate::draws::draw;
 use crate::machine::{Around, CallSite, Flow, Halt, Machine};
@@ -57,7 +55,7 @@ pub fn reach<W: Watcher>(
     at: Around,
     site: CallSite,
 ) -> Result<i128, Halt>
-    ensures gives { Gives same result (state_of machine.now (W.seen watcher.new)) (run.reached (program_view program.now) W.Seen (seen_by W.after) program.now.property (where_of at) (site_of site) (state_of machine.now (W.seen watcher.old))) }
+    ensures gives { Gives same result (state_of machine.now (W.seen watcher.new)) (reaching (program_view program.now) W.Seen W.after program.now.property (where_of at) (site_of site) (state_of machine.now (W.seen watcher.old))) }
 {
     match program.property {
         Property::UnreachCall => violate(machine, watcher, at, site.spot, Some(site.spot)),
@@ -73,7 +71,7 @@ pub fn returned<W: Watcher>(
     site: CallSite,
     flow: Flow,
 ) -> Result<i128, Halt>
-    ensures gives { Gives same result (state_of machine.now (W.seen watcher.new)) (run.returned (program_view program.now) W.Seen (seen_by W.after) (site_of site) (given (flow_of flow)) (state_of machine.now (W.seen watcher.old))) }
+    ensures gives { Gives same result (state_of machine.now (W.seen watcher.new)) (returning (program_view program.now) W.Seen W.after (site_of site) (given (flow_of flow)) (state_of machine.now (W.seen watcher.old))) }
 {
     match flow {
         Flow::Gave(Some(value)) => hand_back(program, machine, watcher, site.close, value),
@@ -88,7 +86,7 @@ fn hand_none<W: Watcher>(
     watcher: &mut W,
     site: CallSite,
 ) -> Result<i128, Halt>
-    ensures gives { Gives same result (state_of machine.now (W.seen watcher.new)) (run.returned (program_view program.now) W.Seen (seen_by W.after) (site_of site) None (state_of machine.now (W.seen watcher.old))) }
+    ensures gives { Gives same result (state_of machine.now (W.seen watcher.new)) (returning (program_view program.now) W.Seen W.after (site_of site) None (state_of machine.now (W.seen watcher.old))) }
 {
     tell(machine, watcher, Event::Return(site.close, None))?;
     if site.needed {

@@ -3,9 +3,8 @@ ghost use Rattle.std.specs.Prelude.{◌≡◌, ◌+◌, false, IfOk, IsOkUnless,
 ghost use Rattle.c_core.specs.View.{program_view};
 ghost use Rattle.c_meaning.specs.Objects.{same_spot};
 ghost use Rattle.c_meaning.specs.Run as run;
-ghost use Rattle.c_meaning.specs.Watching.{seen_by};
 ghost use Rattle.run_state.specs.Drawing.{any_at, IsFirst};
-ghost use Rattle.run_state.specs.Interpreting.{Gives, same, state_of, choices_left, givens_left};
+ghost use Rattle.run_state.specs.Interpreting.{Gives, same, state_of, drawing, choices_left, givens_left};
 
 use crate::machine::{Halt, Left, LeftAt, Machine};
 use c_core::{IntType, Program, Spot, convert};
@@ -85,7 +84,7 @@ pub fn draw<W: Watcher>(
     spot: Spot,
     ty: IntType,
 ) -> Result<i128, Halt>
-    ensures gives { (x : W.Seen) → Gives same result (state_of machine.new x) (run.draw (program_view program.now) W.Seen (seen_by W.after) kind spot ty (state_of machine.old x)) }
+    ensures gives { (x : W.Seen) → Gives same result (state_of machine.new x) (drawing (program_view program.now) W.Seen W.after kind spot ty (state_of machine.old x)) }
     ensures spends { machine.new.steps ≡ machine.old.steps }
 {
     let taken = take(&mut machine.left, kind, spot);

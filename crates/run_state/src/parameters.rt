@@ -39,7 +39,10 @@ fn set_next<W: Watcher>(
 {
     match values.get(index) {
         Some(value) => set_parameter::<W>(program, machine, parameter, *value),
-        None => add_cells(&mut machine.memory, parameter, 1),
+        None => {
+            add_cells(&mut machine.memory, parameter, 1)?;
+            Ok(())
+        }
     }
 }
 

@@ -1,10 +1,8 @@
 // Steps, room and events.
-ghost use Rattle.std.specs.Prelude.{◌≡◌, ◌≤◌, suc, OnOk, IfOk, IsOkUnless};
+ghost use Rattle.std.specs.Prelude.{◌≡◌, ◌≤◌, suc, OnOk, OnErr, IfOk, IsOkUnless};
 ghost use Rattle.c_core.specs.Tree.{Program as Tree};
 ghost use Rattle.c_core.specs.View.{program_view};
-ghost use Rattle.c_meaning.specs.Run as run;
-ghost use Rattle.c_meaning.specs.Watching.{seen_by};
-ghost use Rattle.run_state.specs.Interpreting.{Gives, same, state_of, where_of, arrived, branching};
+ghost use Rattle.run_state.specs.Interpreting.{Gives, same, state_of, where_of, ticked, roomed, violating, arrived, branching};
 
 use crate::machine::{Around, Halt, Machine};
 use c_core::{Program, Spot};
@@ -12,7 +10,7 @@ use c_meaning::{End, Event, Watcher};
 
 /// Takes a step.
 pub fn tick<W: Watcher>(machine: &mut Machine) -> Result<(), Halt>
-    ensures gives { (p : Tree) (x : W.Seen) → Gives same result (state_of machine.new x) (run.tick_from p W.Seen (seen_by W.after) machine.old.steps (state_of machine.old x)) }
+    ensures gives { (p : Tree) (x : W.Seen) → Gives same result (state_of machine.new x) (ticked p W.Seen W.after (state_of machine.old x)) }
     ensures spends { machine.new.steps ≤ machine.old.steps }
     ensures takes { OnOk result (suc machine.new.steps ≡ machine.old.steps) }
 {
@@ -27,6 +25,7 @@ pub fn tick<W: Watcher>(machine: &mut Machine) -> Result<(), Halt>
 pub fn tell<W: Watcher>(machine: &Machine, watcher: &mut W, event: Event) -> Result<(), Halt>
     ensures seen { OnOk result (W.seen watcher.new ≡ W.after event machine.now.memory.cells (W.seen watcher.old)) }
     ensures refused { IsOkUnless result Halt.NoMemory }
+    ensures unseen { OnErr result (W.seen watcher.new ≡ W.seen watcher.old) }
 {
     watcher.see(event, &machine.memory)?;
     Ok(())
@@ -34,7 +33,7 @@ pub fn tell<W: Watcher>(machine: &Machine, watcher: &mut W, event: Event) -> Res
 
 /// Room for so many cells more.
 pub fn room<W: Watcher>(machine: &Machine, cells: u64) -> Result<(), Halt>
-    ensures gives { (p : Tree) (x : W.Seen) → Gives same result (state_of machine.now x) (run.room p W.Seen (seen_by W.after) cells (state_of machine.now x)) }
+    ensures gives { (p : Tree) (x : W.Seen) → Gives same result (state_of machine.now x) (roomed p W.Seen W.after cells (state_of machine.now x)) }
 {
     let live = machine.memory.count() as u128 + machine.active as u128 + cells as u128;
     if live <= 1_000_000 {
@@ -52,7 +51,7 @@ pub fn violate<W: Watcher>(
     spot: Spot,
     call: Option<Spot>,
 ) -> Result<i128, Halt>
-    ensures gives { (p : Tree) → Gives same result (state_of machine.now (W.seen watcher.new)) (run.violated p W.Seen (seen_by W.after) (where_of at) spot call (state_of machine.now (W.seen watcher.old))) }
+    ensures gives { (p : Tree) → Gives same result (state_of machine.now (W.seen watcher.new)) (violating p W.Seen W.after (where_of at) spot call (state_of machine.now (W.seen watcher.old))) }
 {
     tell(
         machine,

@@ -8,8 +8,7 @@ ghost use Rattle.c_meaning.specs.Eval.{operate as operate_of, store as store_of,
 ghost use Rattle.c_meaning.specs.Objects as objects;
 ghost use Rattle.c_meaning.specs.Run as run;
 ghost use Rattle.c_meaning.specs.Run.{State};
-ghost use Rattle.c_meaning.specs.Watching.{seen_by};
-ghost use Rattle.run_state.specs.Interpreting.{Gives, same, state_of, where_of, key_of, watched, flow_of, gave_as, changed, bumped};
+ghost use Rattle.run_state.specs.Interpreting.{Gives, same, state_of, where_of, key_of, watched, flow_of, gave_as, answering, keyed, changed, bumped};
 
 use crate::machine::{Around, Element, Flow, Halt, Machine, Typed};
 use crate::steps::violate;
@@ -28,7 +27,7 @@ fn finish<W: Watcher>(
     spot: Spot,
     done: Done,
 ) -> Result<i128, Halt>
-    ensures gives { Gives same result (state_of machine.now (W.seen watcher.new)) (run.answered (program_view program.now) W.Seen (seen_by W.after) (where_of at) spot done (state_of machine.now (W.seen watcher.old))) }
+    ensures gives { Gives same result (state_of machine.now (W.seen watcher.new)) (answering (program_view program.now) W.Seen W.after (where_of at) spot done (state_of machine.now (W.seen watcher.old))) }
 {
     match done {
         Done::Value(value) => Ok(value),
@@ -75,7 +74,7 @@ pub fn operate_one<W: Watcher>(
     op: UnOp,
     of: Typed,
 ) -> Result<i128, Halt>
-    ensures gives { Gives same result (state_of machine.now (W.seen watcher.new)) (run.answered (program_view program.now) W.Seen (seen_by W.after) (where_of at) spot (computed_one_of program.now.model op of.ty of.value) (state_of machine.now (W.seen watcher.old))) }
+    ensures gives { Gives same result (state_of machine.now (W.seen watcher.new)) (answering (program_view program.now) W.Seen W.after (where_of at) spot (computed_one_of program.now.model op of.ty of.value) (state_of machine.now (W.seen watcher.old))) }
 {
     let done = computed_one(program.model, op, of.ty, of.value);
     let value = finish(program, machine, watcher, at, spot, done)?;
@@ -89,7 +88,7 @@ pub fn element<W: Watcher>(
     object: u32,
     index: i128,
 ) -> Result<Element, Halt>
-    ensures gives { (s : State W.Seen) → Gives key_of result s (run.key_of (program_view program.now) W.Seen (seen_by W.after) spot object (run.index_below (objects.size_of_object (program_view program.now) object) index) s) }
+    ensures gives { (s : State W.Seen) → Gives key_of result s (keyed (program_view program.now) W.Seen W.after spot object (run.index_below (objects.size_of_object (program_view program.now) object) index) s) }
 {
     let size = size_of_object(program, object);
     if index >= 0 && index < size as i128 {

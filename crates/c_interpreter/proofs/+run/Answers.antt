@@ -7,16 +7,19 @@ use Rattle.c_core.proofs.View.{view_of_call, view_of_block}
 use Rattle.c_core.specs.View.{program_view, expr_view, exprs_view, node_view, expr_view_if, stmt_view, first_view, form_view, init_view, function_view}
 use Rattle.c_meaning.specs.Meaning.{Used, ACell, AParameter}
 use Rattle.c_meaning.specs.Objects.{type_of}
-use Rattle.run_state.specs.Interpreting.{same, key_of, use_of, where_of, state_of, pairs_of, flow_of, else_part, loop_in, all_rounds, site_of}
+use Rattle.run_state.specs.Interpreting.{same, key_of, use_of, where_of, state_of, pairs_of, flow_of, else_part, convertible, loop_in, all_rounds, site_of}
 use Rattle.run_state.proofs.Starting.{function_at, no_function_at}
-use Rattle.run_state.proofs.Calling.{call_few_steps, call_no_room, call_all, number_found, number_missing, parameters_halted, parameters_passed}
+use Rattle.run_state.proofs.Calling.{call_few_steps, call_full, call_no_room, call_all, number_found, number_missing, parameters_halted, parameters_passed}
 use Rattle.run_state.specs.declared.machine.Typed.{Typed}
-use Rattle.run_state.proofs.Giving.{halted, passed}
-use Rattle.run_state.proofs.Evaluating.{ticked, ticked_target, as_form, as_place, cast_gives, logic_gives, picked_first, picked_second, list_on, list_halted, entered, evals_give}
-use Rattle.c_interpreter.proofs.Executing.{view_of_if, stepped, sequence_halted, sequence_on, sequence_left, chosen, choice_halts, declare_halted, declare_on, initial_stored, introduce_few_steps, introduce_no_room, introduce_all, bodied}
-use Rattle.c_interpreter.proofs.Looping.{while_given, do_given, for_given, while_chosen, while_halts, for_chosen, rounds_halted, rounds_left, rounds_on, test_done, test_halts}
+use Rattle.run_state.proofs.Giving.{halted, went}
+use Rattle.run_state.proofs.Evaluating.{ticked_node, ticked_target, as_form, as_place, cast_gives, logic_gives, picked_first, picked_second, list_on, list_full, list_halted, call_halted, enter_halted, entered}
+use Rattle.c_interpreter.proofs.Executing.{view_of_if, stepped, sequence_halted, sequence_on, sequence_left, chosen, choice_halts, declare_halted, declare_on, initial_stored, introduce_few_steps, introduce_no_room, introduce_no_cells, introduce_all, bodied}
+use Rattle.c_interpreter.proofs.Expressing.{binary_goes, binary_halts, element_goes, index_halts, unary_goes, comma_goes, both_go_on, either_goes_on, step_goes, decided_goes, do_goes, for_rest_goes, replace_halts, update_halts, update_goes, choose_goes, choose_halts, call_goes, call_halts}
+use Rattle.c_interpreter.proofs.Looping.{while_given, do_given, for_given, while_chosen, while_halts, for_chosen, for_halts, rounds_halted, rounds_left, rounds_broken, rounds_on, test_done, test_halts}
 use Rattle.c_core.specs.declared.number.IntType.TheVariants.{Int}
-use Rattle.run_state.proofs.Declaring.{values_halted, values_on}
+use Rattle.run_state.proofs.Declaring.{values_halted, values_full, values_on}
+use Rattle.run_state.specs.declared.machine.Flow.TheVariants.{Broken}
+use Rattle.run_state.specs.declared.machine.Halt.TheVariants.{NoMemory}
 use Rattle.c_interpreter.proofs.+run.Goals as goal
 
 pub expressions::eval-returns-in_err-tick-clause-gives : goal.expressions::eval-returns-in_err-tick-clause-gives
@@ -27,7 +30,7 @@ expressions::eval-returns-in_err-tick-clause-gives g t c =
 pub expressions::eval-returns-clause-gives : goal.expressions::eval-returns-clause-gives
 expressions::eval-returns-clause-gives g t c =
     let k = c.in_ok-tick.ensures.gives (program_view c.args.program.now) (g.W.Watcher.seen c.args.watcher.now) in
-    ticked (program_view c.args.program.now) g.W.Watcher.Seen g.W.Watcher.after c.args.depth _ _ _ _ _ _ _ _ c.node.result k c.node.ensures.gives
+    ticked_node (program_view c.args.program.now) g.W.Watcher.Seen g.W.Watcher.after c.args.depth _ _ _ _ _ _ _ _ c.node.result k c.node.ensures.gives
 
 pub expressions::target-returns-in_err-tick-clause-gives : goal.expressions::target-returns-in_err-tick-clause-gives
 expressions::target-returns-in_err-tick-clause-gives g t c =
@@ -93,52 +96,20 @@ expressions::place-returns-in-Index-clause-gives g t c =
     let e : node_view c.args.e.now.node ≡ Index c.in-Index.object (expr_view c.deref.result.now) = rw (c.in-Index.is, c.deref.ensures) refl in
     as_place (program_view c.args.program.now) g.W.Watcher.Seen g.W.Watcher.after c.args.depth _ _ _ _ _ _ c.element_at.result e c.element_at.ensures.gives
 
-pub expressions::element_at-returns-clause-gives : goal.expressions::element_at-returns-clause-gives
-expressions::element_at-returns-clause-gives g t c =
-    let z : SFits w128 c.in_ok-j.j = search rules in
-    let k = rw (to_z-of_z w128 c.in_ok-j.j z) at (c.element.ensures.gives (state_of c.eval.new.machine (g.W.Watcher.seen c.eval.new.watcher))) in
-    passed same key_of c.in_ok-j.j _ _ _ _ c.element.result c.in_ok-j.ensures.gives k
-
 pub expressions::replace-returns-clause-gives : goal.expressions::replace-returns-clause-gives
 expressions::replace-returns-clause-gives g t c =
     let z : SFits w128 c.in_ok-value.value = search rules in
     let y : SFits w128 c.store.result = search rules in
     let k = rw (to_z-of_z w128 c.in_ok-value.value z, c.type_of.ensures) at (c.store.ensures.gives (type_of (expr_view c.args.from.now)) (g.W.Watcher.seen c.eval.new.watcher)) in
-    let q = passed same same c.in_ok-value.value _ _ _ _ (Ok c.store.result) c.in_ok-value.ensures.gives k in
-    rw (to_z-of_z w128 c.store.result y) (passed key_of same c.in_ok-key.key _ _ _ _ (Ok c.store.result) c.in_ok-key.ensures.gives q)
-
-pub expressions::update-returns-clause-gives : goal.expressions::update-returns-clause-gives
-expressions::update-returns-clause-gives g t c =
-    let z : SFits w128 c.in_ok-value.value = search rules in
-    let y : SFits w128 c.look-old.result = search rules in
-    let k = rw (to_z-of_z w128 c.in_ok-value.value z, to_z-of_z w128 c.look-old.result y, c.look-old.ensures, c.type_of.ensures, c.type_of-2.ensures) at c.change.ensures.gives in
-    let q = passed same same c.in_ok-value.value _ _ _ _ c.change.result c.in_ok-value.ensures.gives k in
-    passed key_of same c.in_ok-key.key _ _ _ _ c.change.result c.in_ok-key.ensures.gives q
+    let q = went c.in_ok-value.value _ _ _ _ c.in_ok-value.ensures.gives k in
+    rw (to_z-of_z w128 c.store.result y) (went (key_of c.in_ok-key.key) _ _ _ _ c.in_ok-key.ensures.gives q)
 
 pub expressions::converted-returns-clause-gives : goal.expressions::converted-returns-clause-gives
 expressions::converted-returns-clause-gives g t c =
     let z : SFits w128 c.in_ok-value.value = search rules in
     let y : SFits w128 c.convert_to.result = search rules in
     let k = rw (to_z-of_z w128 c.in_ok-value.value z) at (c.convert_to.ensures.gives (type_of (expr_view c.args.e.now)) (state_of c.eval.new.machine (g.W.Watcher.seen c.eval.new.watcher))) in
-    rw (to_z-of_z w128 c.convert_to.result y) (passed same same c.in_ok-value.value _ _ _ _ (Ok c.convert_to.result) c.in_ok-value.ensures.gives k)
-
-pub expressions::choose-returns-then-taken-clause-gives : goal.expressions::choose-returns-then-taken-clause-gives
-expressions::choose-returns-then-taken-clause-gives g t c =
-    let z : SFits w128 c.in_ok-value.value = search rules in
-    let h = rw (to_z-of_z w128 c.in_ok-value.value z) at c.holds-taken.ensures in
-    let told = rw c.if-taken.true at c.in_ok-tell.ensures.seen in
-    let q = picked_first (program_view c.args.program.now) g.W.Watcher.Seen g.W.Watcher.after c.args.depth c.args.mark _ _ c.in_ok-value.value
-    (state_of c.eval.new.machine (g.W.Watcher.seen c.eval.new.watcher)) _ _ c.converted.result told (sym h ∙ c.if-taken.true) c.converted.ensures.gives in
-    passed same same c.in_ok-value.value _ _ _ _ c.converted.result c.in_ok-value.ensures.gives q
-
-pub expressions::choose-returns-else-taken-clause-gives : goal.expressions::choose-returns-else-taken-clause-gives
-expressions::choose-returns-else-taken-clause-gives g t c =
-    let z : SFits w128 c.in_ok-value.value = search rules in
-    let h = rw (to_z-of_z w128 c.in_ok-value.value z) at c.holds-taken.ensures in
-    let told = rw c.if-taken.false at c.in_ok-tell.ensures.seen in
-    let q = picked_second (program_view c.args.program.now) g.W.Watcher.Seen g.W.Watcher.after c.args.depth c.args.mark _ _ c.in_ok-value.value
-    (state_of c.eval.new.machine (g.W.Watcher.seen c.eval.new.watcher)) _ _ c.converted-else-taken.result told (sym h ∙ c.if-taken.false) c.converted-else-taken.ensures.gives in
-    passed same same c.in_ok-value.value _ _ _ _ c.converted-else-taken.result c.in_ok-value.ensures.gives q
+    rw (to_z-of_z w128 c.convert_to.result y) (went c.in_ok-value.value _ _ _ _ c.in_ok-value.ensures.gives k)
 
 pub expressions::assign-returns-in-None-clause-gives : goal.expressions::assign-returns-in-None-clause-gives
 expressions::assign-returns-in-None-clause-gives g t c =
@@ -165,10 +136,16 @@ expressions::node-returns-in-Call-clause-gives g t c =
 pub expressions::call-returns-in_err-values-clause-gives : goal.expressions::call-returns-in_err-values-clause-gives
 expressions::call-returns-in_err-values-clause-gives g t c =
     let e : c.from_residual.result ≡ Err c.in_err-values.field-0.0 = search rules in
-    let q = evals_give (program_view c.args.program.now) g.W.Watcher.Seen g.W.Watcher.after c.args.depth (where_of c.args.at) (exprs_view c.args.args.now)
+    rw e (call_halted (program_view c.args.program.now) g.W.Watcher.Seen g.W.Watcher.after c.args.depth (where_of c.args.at) (use_of c.args.used) c.args.spot c.args.close c.args.ty c.args.callee (exprs_view c.args.args.now)
     (state_of c.args.machine.now (g.W.Watcher.seen c.args.watcher.now)) (state_of c.arguments.new.machine (g.W.Watcher.seen c.arguments.new.watcher))
-    (Err c.in_err-values.field-0.0) c.in_err-values.ensures.gives in
-    rw e (halted pairs_of same c.in_err-values.field-0.0 _ _ _ q)
+    c.in_err-values.field-0.0 c.in_err-values.ensures.gives)
+
+pub expressions::call-returns-in_err-tell-clause-gives : goal.expressions::call-returns-in_err-tell-clause-gives
+expressions::call-returns-in_err-tell-clause-gives g t c =
+    let e : c.from_residual-in_err-tell.result ≡ Err c.in_err-tell.field-0.0 = search rules in
+    rw (e, c.in_err-tell.ensures.refused) (enter_halted (program_view c.args.program.now) g.W.Watcher.Seen g.W.Watcher.after c.args.depth (where_of c.args.at) (use_of c.args.used) c.args.spot c.args.close c.args.ty c.args.callee (exprs_view c.args.args.now) c.in_ok-values.values
+    (state_of c.args.machine.now (g.W.Watcher.seen c.args.watcher.now)) (state_of c.arguments.new.machine (g.W.Watcher.seen c.arguments.new.watcher)) (state_of c.arguments.new.machine (g.W.Watcher.seen c.tell.new.watcher))
+    c.in_ok-values.ensures.gives c.in_err-tell.ensures.unseen)
 
 pub expressions::call-returns-clause-gives : goal.expressions::call-returns-clause-gives
 expressions::call-returns-clause-gives g t c =
@@ -181,6 +158,12 @@ expressions::arguments-returns-in_err-value-clause-gives g t c =
     let e : c.from_residual.result ≡ Err c.in_err-value.field-0.0 = search rules in
     let d = drop-cons c.args.args.now c.loop-arg.arg-index c.arg-item.result c.loop-arg-test.true ∙ ap (λ x. x ∷ drop (suc c.loop-arg.arg-index) c.args.args.now) (sym c.arg-item.is) in
     rw e (list_halted (program_view c.args.program.now) g.W.Watcher.Seen g.W.Watcher.after c.args.depth (where_of c.args.at) c.args.args.now c.loop-arg.arg-index c.arg-item.result c.loop-arg.values _ _ _ c.in_err-value.field-0.0 d c.loop-arg.invariant.value c.in_err-value.ensures.gives)
+
+pub expressions::arguments-returns-in_err-push-clause-gives : goal.expressions::arguments-returns-in_err-push-clause-gives
+expressions::arguments-returns-in_err-push-clause-gives g t c =
+    let e : c.from_residual-in_err-push.result ≡ Err NoMemory = search rules in
+    let d = drop-cons c.args.args.now c.loop-arg.arg-index c.arg-item.result c.loop-arg-test.true ∙ ap (λ x. x ∷ drop (suc c.loop-arg.arg-index) c.args.args.now) (sym c.arg-item.is) in
+    rw e (list_full (program_view c.args.program.now) g.W.Watcher.Seen g.W.Watcher.after c.args.depth (where_of c.args.at) c.args.args.now c.loop-arg.arg-index c.arg-item.result c.loop-arg.values _ _ _ c.in_ok-value.value d c.loop-arg.invariant.value c.in_ok-value.ensures.gives)
 
 pub expressions::arguments-loop-arg-preserved : goal.expressions::arguments-loop-arg-preserved
 expressions::arguments-loop-arg-preserved g t c =
@@ -239,14 +222,12 @@ statements::choose-returns-in_err-decide-clause-gives g t c =
 pub statements::choose-returns-then-branch-clause-gives : goal.statements::choose-returns-then-branch-clause-gives
 statements::choose-returns-then-branch-clause-gives g t c =
     let h = rw c.if-branch.true at c.in_ok-decide.ensures.gives in
-    let k = chosen (program_view c.args.program.now) g.W.Watcher.Seen g.W.Watcher.after c.args.depth c.args.wanted c.args.at (expr_view c.args.test.now) (stmt_view c.args.yes.now) (else_part c.args.no.now) true _ _ h in
-    rw k c.arm.ensures.gives
+    chosen (program_view c.args.program.now) g.W.Watcher.Seen g.W.Watcher.after c.args.depth c.args.wanted c.args.at (expr_view c.args.test.now) (stmt_view c.args.yes.now) (else_part c.args.no.now) true _ _ c.arm.result _ h c.arm.ensures.gives
 
 pub statements::choose-returns-else-branch-clause-gives : goal.statements::choose-returns-else-branch-clause-gives
 statements::choose-returns-else-branch-clause-gives g t c =
     let h = rw c.if-branch.false at c.in_ok-decide.ensures.gives in
-    let k = chosen (program_view c.args.program.now) g.W.Watcher.Seen g.W.Watcher.after c.args.depth c.args.wanted c.args.at (expr_view c.args.test.now) (stmt_view c.args.yes.now) (else_part c.args.no.now) false _ _ h in
-    rw k c.otherwise.ensures.gives
+    chosen (program_view c.args.program.now) g.W.Watcher.Seen g.W.Watcher.after c.args.depth c.args.wanted c.args.at (expr_view c.args.test.now) (stmt_view c.args.yes.now) (else_part c.args.no.now) false _ _ c.otherwise.result _ h c.otherwise.ensures.gives
 
 pub statements::exec-returns-in_err-tick-clause-gives : goal.statements::exec-returns-in_err-tick-clause-gives
 statements::exec-returns-in_err-tick-clause-gives g t c =
@@ -285,19 +266,17 @@ statements::while_turn-returns-in_err-decide-clause-gives g t c =
 pub statements::while_turn-returns-then-branch-clause-gives : goal.statements::while_turn-returns-then-branch-clause-gives
 statements::while_turn-returns-then-branch-clause-gives g t c =
     let h = rw c.if-branch.true at c.in_ok-decide.ensures.gives in
-    let k = while_chosen (program_view c.args.program.now) g.W.Watcher.Seen g.W.Watcher.after c.args.depth c.args.wanted c.args.at (expr_view c.args.test.now) (stmt_view c.args.body.now) true _ _ h in
-    rw k c.loop_body.ensures.gives
+    while_chosen (program_view c.args.program.now) g.W.Watcher.Seen g.W.Watcher.after c.args.depth c.args.wanted c.args.at (expr_view c.args.test.now) (stmt_view c.args.body.now) true _ _ c.loop_body.result _ h c.loop_body.ensures.gives
 
 pub statements::while_turn-returns-else-branch-clause-gives : goal.statements::while_turn-returns-else-branch-clause-gives
 statements::while_turn-returns-else-branch-clause-gives g t c =
     let h = rw c.if-branch.false at c.in_ok-decide.ensures.gives in
-    while_chosen (program_view c.args.program.now) g.W.Watcher.Seen g.W.Watcher.after c.args.depth c.args.wanted c.args.at (expr_view c.args.test.now) (stmt_view c.args.body.now) false _ _ h
+    while_chosen (program_view c.args.program.now) g.W.Watcher.Seen g.W.Watcher.after c.args.depth c.args.wanted c.args.at (expr_view c.args.test.now) (stmt_view c.args.body.now) false (state_of c.args.machine.now (g.W.Watcher.seen c.args.watcher.now)) _ (Ok Broken) _ h refl
 
 pub statements::for_turn-returns-then-branch-clause-gives : goal.statements::for_turn-returns-then-branch-clause-gives
 statements::for_turn-returns-then-branch-clause-gives g t c =
     let h = rw c.if-branch.true at c.in_ok-for_goes_on.ensures.gives in
-    let k = for_chosen (program_view c.args.program.now) g.W.Watcher.Seen g.W.Watcher.after c.args.depth c.args.wanted c.args.at (expr_view_if c.args.test.now) (expr_view_if c.args.step.now) (stmt_view c.args.body.now) true _ _ h in
-    rw k c.for_body.ensures.gives
+    for_chosen (program_view c.args.program.now) g.W.Watcher.Seen g.W.Watcher.after c.args.depth c.args.wanted c.args.at (expr_view_if c.args.test.now) (expr_view_if c.args.step.now) (stmt_view c.args.body.now) true _ _ c.for_body.result _ h c.for_body.ensures.gives
 
 pub statements::turns-returns-in_err-flow-clause-gives : goal.statements::turns-returns-in_err-flow-clause-gives
 statements::turns-returns-in_err-flow-clause-gives g t c =
@@ -316,6 +295,13 @@ statements::turns-turns-preserved g t c =
           (all_rounds (program_view c.args.program.now) g.W.Watcher.Seen g.W.Watcher.after c.args.depth c.args.wanted c.args.at (loop_in (form_view c.args.f.now)) (state_of c.args.machine.now (g.W.Watcher.seen c.args.watcher.now)))
           i.0 i.1 i.2 (rw c.in-Next.is at c.in_ok-flow.ensures.gives) (rw c.in-Next.is at c.in_ok-flow.ensures.ends);
     }
+
+pub statements::turns-returns-in-Broken-clause-gives : goal.statements::turns-returns-in-Broken-clause-gives
+statements::turns-returns-in-Broken-clause-gives g t c =
+    let i = c.turns.invariant.value in
+    rounds_broken (program_view c.args.program.now) g.W.Watcher.Seen g.W.Watcher.after c.args.depth c.args.wanted c.args.at (loop_in (form_view c.args.f.now)) (state_of c.turns.machine (g.W.Watcher.seen c.turns.watcher)) (state_of c.turn.new.machine (g.W.Watcher.seen c.turn.new.watcher))
+    (all_rounds (program_view c.args.program.now) g.W.Watcher.Seen g.W.Watcher.after c.args.depth c.args.wanted c.args.at (loop_in (form_view c.args.f.now)) (state_of c.args.machine.now (g.W.Watcher.seen c.args.watcher.now)))
+    i.0 i.1 i.2 (rw c.in-Broken.is at c.in_ok-flow.ensures.gives)
 
 pub statements::turns-returns-in_default-clause-gives : goal.statements::turns-returns-in_default-clause-gives
 statements::turns-returns-in_default-clause-gives g t c =
@@ -396,12 +382,12 @@ full_expressions::test_turn-returns-in_err-decide-clause-gives g t c =
 pub full_expressions::test_turn-returns-then-branch-clause-gives : goal.full_expressions::test_turn-returns-then-branch-clause-gives
 full_expressions::test_turn-returns-then-branch-clause-gives g t c =
     let h = rw c.if-branch.true at c.in_ok-decide.ensures.gives in
-    test_done (program_view c.args.program.now) g.W.Watcher.Seen g.W.Watcher.after c.args.depth c.args.at (expr_view c.args.test.now) true _ _ h
+    test_done (program_view c.args.program.now) g.W.Watcher.Seen g.W.Watcher.after c.args.depth c.args.at (expr_view c.args.test.now) true (state_of c.args.machine.now (g.W.Watcher.seen c.args.watcher.now)) _ h
 
 pub full_expressions::test_turn-returns-else-branch-clause-gives : goal.full_expressions::test_turn-returns-else-branch-clause-gives
 full_expressions::test_turn-returns-else-branch-clause-gives g t c =
     let h = rw c.if-branch.false at c.in_ok-decide.ensures.gives in
-    test_done (program_view c.args.program.now) g.W.Watcher.Seen g.W.Watcher.after c.args.depth c.args.at (expr_view c.args.test.now) false _ _ h
+    test_done (program_view c.args.program.now) g.W.Watcher.Seen g.W.Watcher.after c.args.depth c.args.at (expr_view c.args.test.now) false (state_of c.args.machine.now (g.W.Watcher.seen c.args.watcher.now)) _ h
 
 pub calls::body-returns-in_err-tick-clause-gives : goal.calls::body-returns-in_err-tick-clause-gives
 calls::body-returns-in_err-tick-clause-gives g t c =
@@ -422,6 +408,15 @@ calls::call_found-returns-in_err-ticks-clause-gives g t c =
     let h = rw c.len-parameters.ensures at c.in_err-ticks.ensures.gives p AParameter x in
     rw e (call_few_steps p g.W.Watcher.Seen g.W.Watcher.after c.args.depth (site_of c.args.site) (function_view c.args.function.now) (pairs_of c.args.values.now)
     (state_of c.args.machine.now x) (state_of c.ticks.new.machine x) c.in_err-ticks.field-0.0 h)
+
+pub calls::call_found-returns-in_err-cells-clause-gives : goal.calls::call_found-returns-in_err-cells-clause-gives
+calls::call_found-returns-in_err-cells-clause-gives g t c =
+    let e : c.from_residual-in_err-cells.result ≡ Err c.in_err-cells.field-0.0 = search rules in
+    let p = program_view c.args.program.now in
+    let x = g.W.Watcher.seen c.args.watcher.now in
+    let h = rw c.len-parameters.ensures at c.in_ok-ticks.ensures.gives p AParameter x in
+    rw (e, c.in_err-cells.ensures.refused) (call_full p g.W.Watcher.Seen g.W.Watcher.after c.args.depth (site_of c.args.site) (function_view c.args.function.now) (pairs_of c.args.values.now)
+    (state_of c.args.machine.now x) (state_of c.ticks.new.machine x) h)
 
 pub calls::call_found-returns-in_err-room-clause-gives : goal.calls::call_found-returns-in_err-room-clause-gives
 calls::call_found-returns-in_err-room-clause-gives g t c =
@@ -470,3 +465,251 @@ calls::enter-returns-clause-gives g t c =
     let h = rw c.as_slice.ensures at c.in_ok-set_parameters.ensures.gives x in
     parameters_passed (program_view c.args.program.now) g.W.Watcher.Seen g.W.Watcher.after c.args.depth (function_view c.args.function.now) (pairs_of c.args.values.now)
     (state_of c.args.machine.now x) (state_of c.set_parameters.new.machine x) _ c.body_within.result h c.body_within.ensures.gives
+
+pub expressions::and-returns-in_err-value-clause-gives : goal.expressions::and-returns-in_err-value-clause-gives
+expressions::and-returns-in_err-value-clause-gives g t c =
+    let e : c.from_residual.result ≡ Err c.in_err-value.field-0.0 = search rules in
+    rw e (halted same same c.in_err-value.field-0.0 _ _ _ c.in_err-value.ensures.gives)
+
+pub expressions::or-returns-in_err-value-clause-gives : goal.expressions::or-returns-in_err-value-clause-gives
+expressions::or-returns-in_err-value-clause-gives g t c =
+    let e : c.from_residual.result ≡ Err c.in_err-value.field-0.0 = search rules in
+    rw e (halted same same c.in_err-value.field-0.0 _ _ _ c.in_err-value.ensures.gives)
+
+pub expressions::binary-returns-in_err-a-clause-gives : goal.expressions::binary-returns-in_err-a-clause-gives
+expressions::binary-returns-in_err-a-clause-gives g t c =
+    let e : c.from_residual.result ≡ Err c.in_err-a.field-0.0 = search rules in
+    rw e (halted same same c.in_err-a.field-0.0 _ _ _ c.in_err-a.ensures.gives)
+
+pub expressions::cast_to-returns-in_err-value-clause-gives : goal.expressions::cast_to-returns-in_err-value-clause-gives
+expressions::cast_to-returns-in_err-value-clause-gives g t c =
+    let e : c.from_residual.result ≡ Err c.in_err-value.field-0.0 = search rules in
+    rw e (halted same same c.in_err-value.field-0.0 _ _ _ c.in_err-value.ensures.gives)
+
+pub expressions::choose-returns-in_err-value-clause-gives : goal.expressions::choose-returns-in_err-value-clause-gives
+expressions::choose-returns-in_err-value-clause-gives g t c =
+    let e : c.from_residual.result ≡ Err c.in_err-value.field-0.0 = search rules in
+    rw e (halted same same c.in_err-value.field-0.0 _ _ _ c.in_err-value.ensures.gives)
+
+pub expressions::comma-returns-in_err-eval-clause-gives : goal.expressions::comma-returns-in_err-eval-clause-gives
+expressions::comma-returns-in_err-eval-clause-gives g t c =
+    let e : c.from_residual.result ≡ Err c.in_err-eval.field-0.0 = search rules in
+    rw e (halted same same c.in_err-eval.field-0.0 _ _ _ c.in_err-eval.ensures.gives)
+
+pub expressions::converted-returns-in_err-value-clause-gives : goal.expressions::converted-returns-in_err-value-clause-gives
+expressions::converted-returns-in_err-value-clause-gives g t c =
+    let e : c.from_residual.result ≡ Err c.in_err-value.field-0.0 = search rules in
+    rw e (halted same same c.in_err-value.field-0.0 _ _ _ c.in_err-value.ensures.gives)
+
+pub expressions::element_at-returns-in_err-j-clause-gives : goal.expressions::element_at-returns-in_err-j-clause-gives
+expressions::element_at-returns-in_err-j-clause-gives g t c =
+    let e : c.from_residual.result ≡ Err c.in_err-j.field-0.0 = search rules in
+    rw e (halted same key_of c.in_err-j.field-0.0 _ _ _ c.in_err-j.ensures.gives)
+
+pub expressions::index-returns-in_err-j-clause-gives : goal.expressions::index-returns-in_err-j-clause-gives
+expressions::index-returns-in_err-j-clause-gives g t c =
+    let e : c.from_residual.result ≡ Err c.in_err-j.field-0.0 = search rules in
+    rw e (halted same same c.in_err-j.field-0.0 _ _ _ c.in_err-j.ensures.gives)
+
+pub expressions::replace-returns-in_err-key-clause-gives : goal.expressions::replace-returns-in_err-key-clause-gives
+expressions::replace-returns-in_err-key-clause-gives g t c =
+    let e : c.from_residual.result ≡ Err c.in_err-key.field-0.0 = search rules in
+    rw e (halted key_of same c.in_err-key.field-0.0 _ _ _ c.in_err-key.ensures.gives)
+
+pub expressions::step-returns-in_err-key-clause-gives : goal.expressions::step-returns-in_err-key-clause-gives
+expressions::step-returns-in_err-key-clause-gives g t c =
+    let e : c.from_residual.result ≡ Err c.in_err-key.field-0.0 = search rules in
+    rw e (halted key_of same c.in_err-key.field-0.0 _ _ _ c.in_err-key.ensures.gives)
+
+pub expressions::tested-returns-in_err-value-clause-gives : goal.expressions::tested-returns-in_err-value-clause-gives
+expressions::tested-returns-in_err-value-clause-gives g t c =
+    let e : c.from_residual.result ≡ Err c.in_err-value.field-0.0 = search rules in
+    rw e (halted same same c.in_err-value.field-0.0 _ _ _ c.in_err-value.ensures.gives)
+
+pub expressions::unary-returns-in_err-value-clause-gives : goal.expressions::unary-returns-in_err-value-clause-gives
+expressions::unary-returns-in_err-value-clause-gives g t c =
+    let e : c.from_residual.result ≡ Err c.in_err-value.field-0.0 = search rules in
+    rw e (halted same same c.in_err-value.field-0.0 _ _ _ c.in_err-value.ensures.gives)
+
+pub expressions::update-returns-in_err-key-clause-gives : goal.expressions::update-returns-in_err-key-clause-gives
+expressions::update-returns-in_err-key-clause-gives g t c =
+    let e : c.from_residual.result ≡ Err c.in_err-key.field-0.0 = search rules in
+    rw e (halted key_of same c.in_err-key.field-0.0 _ _ _ c.in_err-key.ensures.gives)
+
+pub full_expressions::decide-returns-in_err-value-clause-gives : goal.full_expressions::decide-returns-in_err-value-clause-gives
+full_expressions::decide-returns-in_err-value-clause-gives g t c =
+    let e : c.from_residual.result ≡ Err c.in_err-value.field-0.0 = search rules in
+    rw e (halted same same c.in_err-value.field-0.0 _ _ _ c.in_err-value.ensures.gives)
+
+pub full_expressions::only-returns-in_err-full-clause-gives : goal.full_expressions::only-returns-in_err-full-clause-gives
+full_expressions::only-returns-in_err-full-clause-gives g t c =
+    let e : c.from_residual.result ≡ Err c.in_err-full.field-0.0 = search rules in
+    rw e (halted same flow_of c.in_err-full.field-0.0 _ _ _ c.in_err-full.ensures.gives)
+
+pub full_expressions::give-returns-in_err-value-in-Some-clause-gives : goal.full_expressions::give-returns-in_err-value-in-Some-clause-gives
+full_expressions::give-returns-in_err-value-in-Some-clause-gives g t c =
+    let e : c.from_residual.result ≡ Err c.in_err-value-in-Some.field-0.0 = search rules in
+    rw (e, c.in-Some.is) (halted same flow_of c.in_err-value-in-Some.field-0.0 _ _ _ c.in_err-value-in-Some.ensures.gives)
+
+pub statements::do_turn-returns-in_err-flow-clause-gives : goal.statements::do_turn-returns-in_err-flow-clause-gives
+statements::do_turn-returns-in_err-flow-clause-gives g t c =
+    let e : c.from_residual.result ≡ Err c.in_err-flow.field-0.0 = search rules in
+    rw e (halted flow_of flow_of c.in_err-flow.field-0.0 _ _ _ c.in_err-flow.ensures.gives)
+
+pub statements::for_body-returns-in_err-flow-clause-gives : goal.statements::for_body-returns-in_err-flow-clause-gives
+statements::for_body-returns-in_err-flow-clause-gives g t c =
+    let e : c.from_residual.result ≡ Err c.in_err-flow.field-0.0 = search rules in
+    rw e (halted flow_of flow_of c.in_err-flow.field-0.0 _ _ _ c.in_err-flow.ensures.gives)
+
+pub declarations::initial_value-returns-in_err-value-clause-gives : goal.declarations::initial_value-returns-in_err-value-clause-gives
+declarations::initial_value-returns-in_err-value-clause-gives g t c =
+    let e : c.from_residual.result ≡ Err c.in_err-value.field-0.0 = search rules in
+    rw e (halted same same c.in_err-value.field-0.0 _ _ _ c.in_err-value.ensures.gives)
+
+pub expressions::element_at-returns-clause-gives : goal.expressions::element_at-returns-clause-gives
+expressions::element_at-returns-clause-gives g t c =
+    let z : SFits w128 c.in_ok-j.j = search rules in
+    let k = rw (to_z-of_z w128 c.in_ok-j.j z) at (c.element.ensures.gives (state_of c.eval.new.machine (g.W.Watcher.seen c.eval.new.watcher))) in
+    element_goes (program_view c.args.program.now) g.W.Watcher.Seen g.W.Watcher.after c.args.depth (where_of c.args.at) c.args.spot c.args.object (expr_view c.args.place.now) c.in_ok-j.j _ _ _ c.element.result c.in_ok-j.ensures.gives k
+
+pub expressions::update-returns-clause-gives : goal.expressions::update-returns-clause-gives
+expressions::update-returns-clause-gives g t c =
+    let z : SFits w128 c.in_ok-value.value = search rules in
+    let y : SFits w128 c.look-old.result = search rules in
+    let k = rw (to_z-of_z w128 c.in_ok-value.value z, to_z-of_z w128 c.look-old.result y, c.look-old.ensures, c.type_of.ensures, c.type_of-2.ensures) at c.change.ensures.gives in
+    update_goes (program_view c.args.program.now) g.W.Watcher.Seen g.W.Watcher.after c.args.depth (where_of c.args.at) c.args.spot (expr_view c.args.to.now) (expr_view c.args.from.now) c.in_ok-key.key _ _ c.in_ok-key.ensures.gives
+    c.args.op c.in_ok-value.value _ _ c.change.result c.in_ok-value.ensures.gives k
+
+pub expressions::update-returns-in_err-value-clause-gives : goal.expressions::update-returns-in_err-value-clause-gives
+expressions::update-returns-in_err-value-clause-gives g t c =
+    let e : c.from_residual-in_err-value.result ≡ Err c.in_err-value.field-0.0 = search rules in
+    rw e (update_halts (program_view c.args.program.now) g.W.Watcher.Seen g.W.Watcher.after c.args.depth (where_of c.args.at) c.args.spot (expr_view c.args.to.now) (expr_view c.args.from.now) c.in_ok-key.key _ _ c.in_ok-key.ensures.gives
+    c.args.op c.in_err-value.field-0.0 _ c.in_err-value.ensures.gives)
+
+pub expressions::replace-returns-in_err-value-clause-gives : goal.expressions::replace-returns-in_err-value-clause-gives
+expressions::replace-returns-in_err-value-clause-gives g t c =
+    let e : c.from_residual-in_err-value.result ≡ Err c.in_err-value.field-0.0 = search rules in
+    rw e (replace_halts (program_view c.args.program.now) g.W.Watcher.Seen g.W.Watcher.after c.args.depth (where_of c.args.at) c.args.spot (expr_view c.args.to.now) (expr_view c.args.from.now) c.in_ok-key.key _ _ c.in_ok-key.ensures.gives
+    c.in_err-value.field-0.0 _ c.in_err-value.ensures.gives)
+
+pub expressions::choose-returns-then-taken-clause-gives : goal.expressions::choose-returns-then-taken-clause-gives
+expressions::choose-returns-then-taken-clause-gives g t c =
+    let z : SFits w128 c.in_ok-value.value = search rules in
+    let h = rw (to_z-of_z w128 c.in_ok-value.value z) at c.holds-taken.ensures in
+    let told = rw c.if-taken.true at c.in_ok-tell.ensures.seen in
+    choose_goes (program_view c.args.program.now) g.W.Watcher.Seen g.W.Watcher.after c.args.depth (where_of c.args.at) c.args.at.full c.args.ty c.args.mark (expr_view c.args.test.now) (expr_view c.args.yes.now) (expr_view c.args.no.now) c.in_ok-value.value _ _ c.in_ok-value.ensures.gives _ c.converted.result
+    (picked_first (program_view c.args.program.now) g.W.Watcher.Seen g.W.Watcher.after c.args.depth c.args.mark (convertible (program_view c.args.program.now) g.W.Watcher.Seen g.W.Watcher.after c.args.depth (where_of c.args.at) c.args.ty (expr_view c.args.yes.now)) (convertible (program_view c.args.program.now) g.W.Watcher.Seen g.W.Watcher.after c.args.depth (where_of c.args.at) c.args.ty (expr_view c.args.no.now)) c.in_ok-value.value
+    (state_of c.eval.new.machine (g.W.Watcher.seen c.eval.new.watcher)) _ _ c.converted.result told (sym h ∙ c.if-taken.true) c.converted.ensures.gives)
+
+pub expressions::choose-returns-else-taken-clause-gives : goal.expressions::choose-returns-else-taken-clause-gives
+expressions::choose-returns-else-taken-clause-gives g t c =
+    let z : SFits w128 c.in_ok-value.value = search rules in
+    let h = rw (to_z-of_z w128 c.in_ok-value.value z) at c.holds-taken.ensures in
+    let told = rw c.if-taken.false at c.in_ok-tell.ensures.seen in
+    choose_goes (program_view c.args.program.now) g.W.Watcher.Seen g.W.Watcher.after c.args.depth (where_of c.args.at) c.args.at.full c.args.ty c.args.mark (expr_view c.args.test.now) (expr_view c.args.yes.now) (expr_view c.args.no.now) c.in_ok-value.value _ _ c.in_ok-value.ensures.gives _ c.converted-else-taken.result
+    (picked_second (program_view c.args.program.now) g.W.Watcher.Seen g.W.Watcher.after c.args.depth c.args.mark (convertible (program_view c.args.program.now) g.W.Watcher.Seen g.W.Watcher.after c.args.depth (where_of c.args.at) c.args.ty (expr_view c.args.yes.now)) (convertible (program_view c.args.program.now) g.W.Watcher.Seen g.W.Watcher.after c.args.depth (where_of c.args.at) c.args.ty (expr_view c.args.no.now)) c.in_ok-value.value
+    (state_of c.eval.new.machine (g.W.Watcher.seen c.eval.new.watcher)) _ _ c.converted-else-taken.result told (sym h ∙ c.if-taken.false) c.converted-else-taken.ensures.gives)
+
+pub expressions::choose-returns-in_err-tell-clause-gives : goal.expressions::choose-returns-in_err-tell-clause-gives
+expressions::choose-returns-in_err-tell-clause-gives g t c =
+    let e : c.from_residual-in_err-tell.result ≡ Err c.in_err-tell.field-0.0 = search rules in
+    rw (e, c.in_err-tell.ensures.refused) (choose_halts (program_view c.args.program.now) g.W.Watcher.Seen g.W.Watcher.after c.args.depth (where_of c.args.at) c.args.at.full c.args.ty c.args.mark (expr_view c.args.test.now) (expr_view c.args.yes.now) (expr_view c.args.no.now) c.in_ok-value.value
+    (state_of c.args.machine.now (g.W.Watcher.seen c.args.watcher.now)) (state_of c.eval.new.machine (g.W.Watcher.seen c.eval.new.watcher)) c.in_ok-value.ensures.gives
+    (state_of c.eval.new.machine (g.W.Watcher.seen c.tell.new.watcher)) c.in_err-tell.ensures.unseen)
+
+pub expressions::binary-returns-clause-gives : goal.expressions::binary-returns-clause-gives
+expressions::binary-returns-clause-gives g t c =
+    let z : SFits w128 c.in_ok-a.a = search rules in
+    let y : SFits w128 c.in_ok-b.b = search rules in
+    let k = rw (to_z-of_z w128 c.in_ok-a.a z, to_z-of_z w128 c.in_ok-b.b y, c.type_of.ensures, c.type_of-2.ensures) at c.operate.ensures.gives in
+    binary_goes (program_view c.args.program.now) g.W.Watcher.Seen g.W.Watcher.after c.args.depth (where_of c.args.at) c.args.spot c.args.op (expr_view c.args.left.now) (expr_view c.args.right.now) c.in_ok-a.a _ _ c.in_ok-a.ensures.gives
+    c.in_ok-b.b _ _ c.operate.result c.in_ok-b.ensures.gives k
+
+pub expressions::binary-returns-in_err-b-clause-gives : goal.expressions::binary-returns-in_err-b-clause-gives
+expressions::binary-returns-in_err-b-clause-gives g t c =
+    let e : c.from_residual-in_err-b.result ≡ Err c.in_err-b.field-0.0 = search rules in
+    rw e (binary_halts (program_view c.args.program.now) g.W.Watcher.Seen g.W.Watcher.after c.args.depth (where_of c.args.at) c.args.spot c.args.op (expr_view c.args.left.now) (expr_view c.args.right.now) c.in_ok-a.a _ _ c.in_ok-a.ensures.gives
+    c.in_err-b.field-0.0 _ c.in_err-b.ensures.gives)
+
+pub expressions::index-returns-in_err-found-clause-gives : goal.expressions::index-returns-in_err-found-clause-gives
+expressions::index-returns-in_err-found-clause-gives g t c =
+    let e : c.from_residual-in_err-found.result ≡ Err c.in_err-found.field-0.0 = search rules in
+    let z : SFits w128 c.in_ok-j.j = search rules in
+    let k = rw (to_z-of_z w128 c.in_ok-j.j z) at (c.in_err-found.ensures.gives (state_of c.eval.new.machine (g.W.Watcher.seen c.eval.new.watcher))) in
+    rw e (index_halts (program_view c.args.program.now) g.W.Watcher.Seen g.W.Watcher.after c.args.depth (where_of c.args.at) c.args.spot c.args.object (expr_view c.args.place.now) c.in_ok-j.j _ _ _ c.in_err-found.field-0.0 c.in_ok-j.ensures.gives k)
+
+pub expressions::unary-returns-clause-gives : goal.expressions::unary-returns-clause-gives
+expressions::unary-returns-clause-gives g t c =
+    let z : SFits w128 c.in_ok-value.value = search rules in
+    let k = rw (to_z-of_z w128 c.in_ok-value.value z, c.type_of.ensures) at c.operate_one.ensures.gives in
+    unary_goes (program_view c.args.program.now) g.W.Watcher.Seen g.W.Watcher.after c.args.depth (where_of c.args.at) c.args.spot c.args.op (expr_view c.args.of.now) c.in_ok-value.value _ _ _ c.operate_one.result c.in_ok-value.ensures.gives k
+
+pub expressions::comma-returns-clause-gives : goal.expressions::comma-returns-clause-gives
+expressions::comma-returns-clause-gives g t c =
+    comma_goes (program_view c.args.program.now) g.W.Watcher.Seen g.W.Watcher.after c.args.depth (where_of c.args.at) c.args.at.full (expr_view c.args.first.now) (expr_view c.args.last.now) _ _ _ _ c.eval-2.result c.in_ok-eval.ensures.gives c.eval-2.ensures.gives
+
+pub expressions::and-returns-then-holds-clause-gives : goal.expressions::and-returns-then-holds-clause-gives
+expressions::and-returns-then-holds-clause-gives g t c =
+    let z : SFits w128 c.in_ok-value.value = search rules in
+    let h = rw (to_z-of_z w128 c.in_ok-value.value z) at c.holds.ensures in
+    both_go_on (program_view c.args.program.now) g.W.Watcher.Seen g.W.Watcher.after c.args.depth (where_of c.args.at) c.args.at.full (expr_view c.args.left.now) (expr_view c.args.right.now) c.in_ok-value.value _ _ _ c.tested.result c.in_ok-value.ensures.gives (sym h ∙ c.if-holds.true) c.tested.ensures.gives
+
+pub expressions::or-returns-else-holds-clause-gives : goal.expressions::or-returns-else-holds-clause-gives
+expressions::or-returns-else-holds-clause-gives g t c =
+    let z : SFits w128 c.in_ok-value.value = search rules in
+    let h = rw (to_z-of_z w128 c.in_ok-value.value z) at c.holds.ensures in
+    either_goes_on (program_view c.args.program.now) g.W.Watcher.Seen g.W.Watcher.after c.args.depth (where_of c.args.at) c.args.at.full (expr_view c.args.left.now) (expr_view c.args.right.now) c.in_ok-value.value _ _ _ c.tested.result c.in_ok-value.ensures.gives (sym h ∙ c.if-holds.false) c.tested.ensures.gives
+
+pub expressions::step-returns-clause-gives : goal.expressions::step-returns-clause-gives
+expressions::step-returns-clause-gives g t c =
+    let k = rw c.type_of.ensures at c.bump.ensures.gives in
+    step_goes (program_view c.args.program.now) g.W.Watcher.Seen g.W.Watcher.after c.args.depth (where_of c.args.at) c.args.spot c.args.op (expr_view c.args.to.now) c.in_ok-key.key _ _ _ c.bump.result c.in_ok-key.ensures.gives k
+
+pub statements::do_turn-returns-in-Next-clause-gives : goal.statements::do_turn-returns-in-Next-clause-gives
+statements::do_turn-returns-in-Next-clause-gives g t c =
+    do_goes (program_view c.args.program.now) g.W.Watcher.Seen g.W.Watcher.after c.args.depth c.args.wanted c.args.at (stmt_view c.args.body.now) (expr_view c.args.test.now) _ _ _ c.test_turn.result (rw c.in-Next.is at c.in_ok-flow.ensures.gives) c.test_turn.ensures.gives
+
+pub statements::for_body-returns-in-Next-clause-gives : goal.statements::for_body-returns-in-Next-clause-gives
+statements::for_body-returns-in-Next-clause-gives g t c =
+    for_rest_goes (program_view c.args.program.now) g.W.Watcher.Seen g.W.Watcher.after c.args.depth c.args.wanted c.args.at (expr_view_if c.args.step.now) (stmt_view c.args.body.now) _ _ _ c.step_on.result (rw c.in-Next.is at c.in_ok-flow.ensures.gives) c.step_on.ensures.gives
+
+pub statements::for_turn-returns-in_err-for_goes_on-clause-gives : goal.statements::for_turn-returns-in_err-for_goes_on-clause-gives
+statements::for_turn-returns-in_err-for_goes_on-clause-gives g t c =
+    let e : c.from_residual.result ≡ Err c.in_err-for_goes_on.field-0.0 = search rules in
+    rw e (for_halts (program_view c.args.program.now) g.W.Watcher.Seen g.W.Watcher.after c.args.depth c.args.wanted c.args.at (expr_view_if c.args.test.now) (expr_view_if c.args.step.now) (stmt_view c.args.body.now)
+    (state_of c.args.machine.now (g.W.Watcher.seen c.args.watcher.now)) (state_of c.for_goes_on.new.machine (g.W.Watcher.seen c.for_goes_on.new.watcher)) c.in_err-for_goes_on.field-0.0 c.in_err-for_goes_on.ensures.gives)
+
+pub declarations::initial_values-returns-then-index-clause-gives : goal.declarations::initial_values-returns-then-index-clause-gives
+declarations::initial_values-returns-then-index-clause-gives g t c =
+    let d = drop-cons c.args.es.now c.loop-index.index c.index-es-index.result c.loop-index-test.true ∙ ap (λ x. x ∷ drop (suc c.loop-index.index) c.args.es.now) (sym c.index-es-index.is) in
+    values_full (program_view c.args.program.now) g.W.Watcher.Seen g.W.Watcher.after c.args.depth c.args.at c.args.object c.args.es.now c.loop-index.index c.index-es-index.result d (state_of c.loop-index.machine (g.W.Watcher.seen c.loop-index.watcher)) (state_of c.loop-index.machine (g.W.Watcher.seen c.loop-index.watcher)) _ c.loop-index.invariant.value
+
+pub declarations::introduce-returns-in_err-add_cells-clause-gives : goal.declarations::introduce-returns-in_err-add_cells-clause-gives
+declarations::introduce-returns-in_err-add_cells-clause-gives g t c =
+    let e : c.from_residual-in_err-add_cells.result ≡ Err c.in_err-add_cells.field-0.0 = search rules in
+    let p = program_view c.args.program.now in
+    let x = g.W.Watcher.seen c.args.watcher.now in
+    let s = state_of c.ticks.new.machine x in
+    rw (e, c.in_err-add_cells.ensures.refused) (introduce_no_cells p g.W.Watcher.Seen g.W.Watcher.after c.args.depth c.args.at c.args.name.now.spot c.args.name.now.object (init_view c.args.name.now.init) c.size_of_object-size.result c.size_of_object-size.ensures
+    (state_of c.args.machine.now x) s s s (c.in_ok-ticks.ensures.gives p ACell x) (c.in_ok-room.ensures.gives p x) refl)
+
+pub calls::run_call-returns-in_err-flow-clause-gives : goal.calls::run_call-returns-in_err-flow-clause-gives
+calls::run_call-returns-in_err-flow-clause-gives g t c =
+    let e : c.from_residual-in_err-flow.result ≡ Err c.in_err-flow.field-0.0 = search rules in
+    let k = rw c.in_ok-machine.ensures.more at c.in_err-flow.ensures.gives in
+    rw e (call_halts (program_view c.args.program.now) g.W.Watcher.Seen g.W.Watcher.after c.args.depth (site_of c.args.site) (function_view c.args.function.now) (pairs_of c.args.values.now)
+    (state_of c.args.machine.now (g.W.Watcher.seen c.args.watcher.now)) (state_of c.enter.new.machine (g.W.Watcher.seen c.enter.new.watcher)) c.in_err-flow.field-0.0 k)
+
+pub calls::run_call-returns-clause-gives : goal.calls::run_call-returns-clause-gives
+calls::run_call-returns-clause-gives g t c =
+    let k = rw c.in_ok-machine.ensures.more at c.in_ok-flow.ensures.gives in
+    let h = rw (c.cut.ensures.cells, c.count-cells.ensures, c.saturating_sub-machine.ensures) at c.returned.ensures.gives in
+    rw (c.cut.ensures.cells, c.count-cells.ensures, c.saturating_sub-machine.ensures)
+    (call_goes (program_view c.args.program.now) g.W.Watcher.Seen g.W.Watcher.after c.args.depth (site_of c.args.site) (function_view c.args.function.now) (pairs_of c.args.values.now)
+    (state_of c.args.machine.now (g.W.Watcher.seen c.args.watcher.now)) (state_of c.enter.new.machine (g.W.Watcher.seen c.enter.new.watcher)) c.in_ok-flow.flow _ c.returned.result k h)
+
+pub full_expressions::decide-returns-clause-gives : goal.full_expressions::decide-returns-clause-gives
+full_expressions::decide-returns-clause-gives g t c =
+    let z : SFits w128 c.in_ok-value.value = search rules in
+    let k = rw (to_z-of_z w128 c.in_ok-value.value z) at c.branch-program.ensures.gives in
+    decided_goes (program_view c.args.program.now) g.W.Watcher.Seen g.W.Watcher.after c.args.depth c.args.at (expr_view c.args.test.now) c.in_ok-value.value _ _ _ c.branch-program.result c.in_ok-value.ensures.gives k

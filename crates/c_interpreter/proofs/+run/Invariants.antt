@@ -1,6 +1,7 @@
-use Rattle.std.proofs.Common.{◌≡◌, ◌≤◌, ◌+◌, ◌*◌, [], drop, ℕ, ◌<◌}
+use Rattle.std.proofs.Common.{◌≤◌, ◌+◌, ◌*◌, [], drop, ℕ, ◌<◌}
 use Rattle.c_core.specs.View.{program_view, exprs_view, stmts_view, form_view, names_view}
 use Rattle.run_state.specs.Interpreting.{state_of, where_of, pairs_of, listed, sequenced, loop_in, rounds, all_rounds, declaring, initialised_by}
+use Rattle.run_state.proofs.Giving.{Behind}
 use Rattle.c_interpreter.proofs.+run.Given as goal
 
 -- each part takes its step before it does its own parts
@@ -77,8 +78,8 @@ decreases-expressions::call g l = 32 * l.machine.now.steps + 7
 abbrev pub invariant-expressions::arguments-loop-arg : goal.invariant-expressions::arguments-loop-arg
 invariant-expressions::arguments-loop-arg g l = record {
   spends : l.machine.steps ≤ l.initial.machine.steps;
-  value : listed (program_view l.program) g.W.Watcher.Seen g.W.Watcher.after l.depth (where_of l.at) (pairs_of l.values) (exprs_view (drop l.arg-index l.args)) (state_of l.machine (g.W.Watcher.seen l.watcher))
-      ≡ listed (program_view l.program) g.W.Watcher.Seen g.W.Watcher.after l.depth (where_of l.at) [] (exprs_view l.args) (state_of l.initial.machine (g.W.Watcher.seen l.initial.watcher));
+  value : Behind (listed (program_view l.program) g.W.Watcher.Seen g.W.Watcher.after l.depth (where_of l.at) (pairs_of l.values) (exprs_view (drop l.arg-index l.args)) (state_of l.machine (g.W.Watcher.seen l.watcher)))
+      (listed (program_view l.program) g.W.Watcher.Seen g.W.Watcher.after l.depth (where_of l.at) [] (exprs_view l.args) (state_of l.initial.machine (g.W.Watcher.seen l.initial.watcher)));
 }
 
 -- a statement takes its step before it does its parts
@@ -137,8 +138,8 @@ decreases-statements::for_scope g l = 32 * l.machine.now.steps + 18
 abbrev pub invariant-statements::sequence-loop-s : goal.invariant-statements::sequence-loop-s
 invariant-statements::sequence-loop-s g l = record {
   spends : l.machine.steps ≤ l.initial.machine.steps;
-  value : sequenced (program_view l.program) g.W.Watcher.Seen g.W.Watcher.after l.depth l.wanted (stmts_view (drop l.s-index l.body)) (state_of l.machine (g.W.Watcher.seen l.watcher))
-      ≡ sequenced (program_view l.program) g.W.Watcher.Seen g.W.Watcher.after l.depth l.wanted (stmts_view l.body) (state_of l.initial.machine (g.W.Watcher.seen l.initial.watcher));
+  value : Behind (sequenced (program_view l.program) g.W.Watcher.Seen g.W.Watcher.after l.depth l.wanted (stmts_view (drop l.s-index l.body)) (state_of l.machine (g.W.Watcher.seen l.watcher)))
+      (sequenced (program_view l.program) g.W.Watcher.Seen g.W.Watcher.after l.depth l.wanted (stmts_view l.body) (state_of l.initial.machine (g.W.Watcher.seen l.initial.watcher)));
 }
 
 abbrev pub decreases-statements::turns-turns : goal.decreases-statements::turns-turns
@@ -149,24 +150,24 @@ abbrev pub invariant-statements::turns-turns : goal.invariant-statements::turns-
 invariant-statements::turns-turns g l = record {
   spends : l.machine.steps ≤ l.initial.machine.steps;
   value : (k : ℕ) × (l.machine.steps < k)
-      × (rounds (program_view l.program) g.W.Watcher.Seen g.W.Watcher.after k l.depth l.wanted l.at (loop_in (form_view l.f)) (state_of l.machine (g.W.Watcher.seen l.watcher))
-      ≡ all_rounds (program_view l.program) g.W.Watcher.Seen g.W.Watcher.after l.depth l.wanted l.at (loop_in (form_view l.f)) (state_of l.initial.machine (g.W.Watcher.seen l.initial.watcher)));
+      × Behind (rounds (program_view l.program) g.W.Watcher.Seen g.W.Watcher.after k l.depth l.wanted l.at (loop_in (form_view l.f)) (state_of l.machine (g.W.Watcher.seen l.watcher)))
+      (all_rounds (program_view l.program) g.W.Watcher.Seen g.W.Watcher.after l.depth l.wanted l.at (loop_in (form_view l.f)) (state_of l.initial.machine (g.W.Watcher.seen l.initial.watcher)));
 }
 
 -- what is left does what the whole does
 abbrev pub invariant-declarations::declare-loop-name : goal.invariant-declarations::declare-loop-name
 invariant-declarations::declare-loop-name g l = record {
   spends : l.machine.steps ≤ l.initial.machine.steps;
-  value : declaring (program_view l.program) g.W.Watcher.Seen g.W.Watcher.after l.depth l.at (names_view (drop l.name-index l.names)) (state_of l.machine (g.W.Watcher.seen l.watcher))
-      ≡ declaring (program_view l.program) g.W.Watcher.Seen g.W.Watcher.after l.depth l.at (names_view l.names) (state_of l.initial.machine (g.W.Watcher.seen l.initial.watcher));
+  value : Behind (declaring (program_view l.program) g.W.Watcher.Seen g.W.Watcher.after l.depth l.at (names_view (drop l.name-index l.names)) (state_of l.machine (g.W.Watcher.seen l.watcher)))
+      (declaring (program_view l.program) g.W.Watcher.Seen g.W.Watcher.after l.depth l.at (names_view l.names) (state_of l.initial.machine (g.W.Watcher.seen l.initial.watcher)));
 }
 
 -- what is left does what the whole does
 abbrev pub invariant-declarations::initial_values-loop-index : goal.invariant-declarations::initial_values-loop-index
 invariant-declarations::initial_values-loop-index g l = record {
   spends : l.machine.steps ≤ l.initial.machine.steps;
-  value : initialised_by (program_view l.program) g.W.Watcher.Seen g.W.Watcher.after l.depth l.at l.object l.index (exprs_view (drop l.index l.es)) (state_of l.machine (g.W.Watcher.seen l.watcher))
-      ≡ initialised_by (program_view l.program) g.W.Watcher.Seen g.W.Watcher.after l.depth l.at l.object 0 (exprs_view l.es) (state_of l.initial.machine (g.W.Watcher.seen l.initial.watcher));
+  value : Behind (initialised_by (program_view l.program) g.W.Watcher.Seen g.W.Watcher.after l.depth l.at l.object l.index (exprs_view (drop l.index l.es)) (state_of l.machine (g.W.Watcher.seen l.watcher)))
+      (initialised_by (program_view l.program) g.W.Watcher.Seen g.W.Watcher.after l.depth l.at l.object 0 (exprs_view l.es) (state_of l.initial.machine (g.W.Watcher.seen l.initial.watcher)));
 }
 
 abbrev pub decreases-full_expressions::full : goal.decreases-full_expressions::full

@@ -1,4 +1,4 @@
-use Rattle.std.proofs.Common.{rules, refl, Ok, cond}
+use Rattle.std.proofs.Common.{rules, refl, cond}
 use mir.Val.{SFits}
 use mir.Syntax.{w128}
 use Rattle.std.proofs.lemmas.Int.{to_z-of_z}
@@ -6,8 +6,8 @@ use Rattle.c_core.specs.Operators.{type_for, op_of_step, is_prefix}
 use Rattle.c_core.specs.declared.number.IntType.TheVariants.{Int}
 use Rattle.c_meaning.specs.Cells.{read}
 use Rattle.c_meaning.specs.Acts.{Go}
-use Rattle.run_state.specs.Interpreting.{same, key_of}
-use Rattle.run_state.proofs.Giving.{passed}
+use Rattle.run_state.specs.Interpreting.{key_of}
+use Rattle.run_state.proofs.Giving.{went}
 use Rattle.run_state.proofs.values.bump.Goals as goal
 
 pub returns-clause-gives : goal.returns-clause-gives
@@ -21,6 +21,5 @@ returns-clause-gives g c =
     let k = rw (to_z-of_z w128 c.in_ok-value.value z) at (c.store-new.ensures.gives from (g.W.Watcher.seen c.operate.new.watcher)) in
     let e = rw (to_z-of_z w128 c.store-new.result y, to_z-of_z w128 c.look-old.result x, c.look-old.ensures) at c.step_gives.ensures in
     let old = read (key_of c.args.key) c.args.machine.now.memory.cells in
-    let last = Ok (cond (is_prefix c.args.op) c.store-new.result old) in
     rw (to_z-of_z w128 c.step_gives.result w, e)
-    (passed same same c.in_ok-value.value _ _ _ _ last answer (passed same same c.store-new.result _ _ _ (λ x s. Go (cond (is_prefix c.args.op) x old) s) last k refl))
+    (went c.in_ok-value.value _ _ _ _ answer (went c.store-new.result _ _ (λ x s. Go (cond (is_prefix c.args.op) x old) s) _ k refl))
