@@ -1,10 +1,11 @@
 -- What is known of an expression once its text is read, and it is typed.
-use Rattle.std.proofs.Common.{◌≡◌, refl, sym, subst, IsErrAnd, List, ℕ, Option, Some, Result, Ok, Err, inl, inr}
+use Rattle.std.proofs.Common.{◌≡◌, refl, sym, ap, ◌∙◌, subst, IsErrAnd, List, ℕ, Option, Some, Result, Ok, Err, inl, inr}
 use Rattle.c_core.specs.Tree.{Program, Exp}
 use Rattle.c_core.specs.View as typed
 use Rattle.c_core.specs.declared.tree.Expr.{Expr}
 use Rattle.c_core.specs.declared.number.Spot.{Spot}
 use Rattle.c_core.specs.declared.place.PlaceKind.{PlaceKind}
+use Rattle.c_core.specs.declared.program.Program as rust
 use Rattle.c_parser.specs.View.{expr_view}
 use Rattle.c_parser.specs.Witness.{AnswersExpression}
 use Rattle.c_parser.specs.declared.tree.RawExpr.{RawExpr}
@@ -43,14 +44,21 @@ untyped p names bytes text e f (Err lack) same from h k =
 pub typed_expression : (p : Program) (names bytes text : List ℕ) (e : RawExpr) (tree : Expr) → bytes ≡ text → AnswersExpression bytes (Ok e) → AnswersConstraint p names (expr_view e) (Ok tree) → BindsExpression p names text (Ok (typed.expr_view tree))
 typed_expression p names bytes text e tree same h k = (expr_view e, the_expression text e (subst (λ b. AnswersExpression b (Ok e)) same h), k)
 
--- at a place, whose names it reads
-pub there : {A : Type 0} (p : Program) (kind : PlaceKind) (names text : List ℕ) (make : Spot → Exp → A) (spot : Spot) (tree : Expr) → names ≡ names_at p kind spot → BindsExpression p names text (Ok (typed.expr_view tree)) → BindsThere p kind text make spot (Ok (make spot (typed.expr_view tree)))
-there p kind names text make spot tree same h = (typed.expr_view tree, subst (λ ns. BindsExpression p ns text (Ok (typed.expr_view tree))) same h, refl)
+-- over the names that are visible at a place of one program
+pub visible_there : (typing naming p : rust.Program) (kind : PlaceKind) (names text : List ℕ) (spot : Spot) (answer : Result Exp Unbound) → typing ≡ p → naming ≡ p
+    → names ≡ names_at (typed.program_view naming) kind spot → BindsExpression (typed.program_view typing) names text answer
+    → BindsExpression (typed.program_view p) (names_at (typed.program_view p) kind spot) text answer
+visible_there typing naming p kind names text spot answer same one is h =
+    subst (λ (q : rust.Program). BindsExpression (typed.program_view q) (names_at (typed.program_view p) kind spot) text answer) same
+    (subst (λ ns. BindsExpression (typed.program_view typing) ns text answer) (is ∙ ap (λ (q : rust.Program). names_at (typed.program_view q) kind spot) one) h)
 
-pub lacking_there : {A C : Type 0} (p : Program) (kind : PlaceKind) (names text : List ℕ) (make : Spot → Exp → A) (view : C → A) (spot : Spot) (lack : Unbound) (r : Result C Unbound) → names ≡ names_at p kind spot → IsErrAnd r (λ l. l ≡ lack) → BindsExpression p names text (Err lack) → BindsThere p kind text make spot (seen view r)
-lacking_there p kind names text make view spot lack (Ok x) same from h = elim from [ ]
-lacking_there p kind names text make view spot lack (Err l) same from h =
-    subst (λ l. BindsExpression p (names_at p kind spot) text (Err l)) (sym from) (subst (λ ns. BindsExpression p ns text (Err lack)) same h)
+-- at a place, whose names it reads
+pub there : {A : Type 0} (p : Program) (kind : PlaceKind) (text : List ℕ) (make : Spot → Exp → A) (spot : Spot) (tree : Expr) → BindsExpression p (names_at p kind spot) text (Ok (typed.expr_view tree)) → BindsThere p kind text make spot (Ok (make spot (typed.expr_view tree)))
+there p kind text make spot tree h = (typed.expr_view tree, h, refl)
+
+pub lacking_there : {A C : Type 0} (p : Program) (kind : PlaceKind) (text : List ℕ) (make : Spot → Exp → A) (view : C → A) (spot : Spot) (lack : Unbound) (r : Result C Unbound) → IsErrAnd r (λ l. l ≡ lack) → BindsExpression p (names_at p kind spot) text (Err lack) → BindsThere p kind text make spot (seen view r)
+lacking_there p kind text make view spot lack (Ok x) from h = elim from [ ]
+lacking_there p kind text make view spot lack (Err l) from h = subst (λ l. BindsExpression p (names_at p kind spot) text (Err l)) (sym from) h
 
 pub placed_there : {A : Type 0} (p : Program) (kind : PlaceKind) (text text' : List ℕ) (make : Spot → Exp → A) (place : Option Spot) (spot : Spot) (answer : Result A Unbound) → place ≡ Some spot → text ≡ text' → BindsThere p kind text make spot answer → WherePlaced place (BindsThere p kind text' make) answer
 placed_there p kind text text' make place spot answer placed same h =

@@ -5,7 +5,7 @@ use Rattle.std.proofs.lemmas.Grind.{flat_map-append}
 use Rattle.c_core.specs.Tree.{Program}
 use Rattle.wv_schema.specs.declared.witness.Waypoint.{Waypoint}
 use Rattle.wv_schema.specs.declared.witness.Segment.{Segment}
-use Rattle.way_match.specs.Points.{Point, BoundSegment}
+use Rattle.way_match.specs.Points.{BoundSegment}
 use Rattle.way_match.specs.View.{point_view, points_view, segment_view, each_segment_view}
 use Rattle.way_match.specs.declared.point.Point as rust
 use Rattle.way_match.specs.declared.point.BoundSegment as rust_segment

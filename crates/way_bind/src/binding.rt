@@ -6,11 +6,11 @@ ghost use Rattle.way_bind.specs.InOrder.{told};
 ghost use Rattle.way_bind.specs.Steps.{BindsAll, BindsSegment, BindsSegments};
 
 use crate::fault::{BindFault, Unbound};
+use crate::lookup::Lookup;
 use crate::waypoint::bind_point;
 use c_core::Program;
 use std::alloc::Global;
 use way_match::{Bound, BoundSegment, Point};
-use way_places::Index;
 use wv_base::Seq;
 use wv_schema::{Content, Segment, Waypoint, Witness};
 
@@ -29,16 +29,16 @@ pub fn told(number: u32, lack: Unbound) -> BindFault
 /// The points of waypoints to avoid, numbered from `first` on.
 fn bind_avoids(
     alloc: Global,
-    index: &Index,
+    lookup: &Lookup,
     first: usize,
     waypoints: &[Waypoint],
 ) -> Result<Seq<Point>, BindFault>
     requires { first + length waypoints.now < 2 ^ 32 }
-    ensures { BindsAll (program_view index.now) first waypoints.now result }
+    ensures { BindsAll (program_view lookup.now.index) first waypoints.now result }
 {
     let mut points = Seq::new(alloc);
     for (nth, waypoint) in waypoints.iter().enumerate() {
-        match bind_point(alloc, index, waypoint) {
+        match bind_point(alloc, lookup, waypoint) {
             Ok(point) => points.push(point)?,
             Err(lack) => return Err(told((first + nth) as u32, lack)),
         }
@@ -49,16 +49,16 @@ fn bind_avoids(
 /// A segment bound, its waypoints numbered from `first` on.
 fn bind_segment(
     alloc: Global,
-    index: &Index,
+    lookup: &Lookup,
     first: usize,
     segment: &Segment,
 ) -> Result<BoundSegment, BindFault>
     requires { first + length (waypoints_of segment.now) < 2 ^ 32 }
-    ensures { BindsSegment (program_view index.now) first segment.now result }
+    ensures { BindsSegment (program_view lookup.now.index) first segment.now result }
 {
     let waypoints = segment.avoids.as_slice();
-    let avoids = bind_avoids(alloc, index, first, waypoints)?;
-    match bind_point(alloc, index, &segment.follow) {
+    let avoids = bind_avoids(alloc, lookup, first, waypoints)?;
+    match bind_point(alloc, lookup, &segment.follow) {
         Ok(follow) => Ok(BoundSegment { avoids, follow }),
         Err(lack) => Err(told((first + waypoints.len()) as u32, lack)),
     }
@@ -67,16 +67,16 @@ fn bind_segment(
 /// All segments bound, their waypoints numbered from 1.
 fn bind_segments(
     alloc: Global,
-    index: &Index,
+    lookup: &Lookup,
     segments: &[Segment],
 ) -> Result<Seq<BoundSegment>, BindFault>
     requires { length (waypoints_in segments.now) < 2 ^ 30 }
-    ensures { BindsSegments (program_view index.now) 1 segments.now result }
+    ensures { BindsSegments (program_view lookup.now.index) 1 segments.now result }
 {
     let mut bound = Seq::new(alloc);
     let mut first: usize = 1;
     for segment in segments {
-        bound.push(bind_segment(alloc, index, first, segment)?)?;
+        bound.push(bind_segment(alloc, lookup, first, segment)?)?;
         first += segment.avoids.len() + 1;
     }
     Ok(bound)
@@ -105,7 +105,7 @@ pub fn bind_violation(
     requires { length (waypoints_in (segments_of witness.now)) < 2 ^ 30 }
     ensures { Binds (program_view program.now) witness.now result }
 {
-    let index = Index::new(alloc, program)?;
-    let segments = bind_segments(alloc, &index, segments_of(witness))?;
+    let lookup = Lookup::new(alloc, program)?;
+    let segments = bind_segments(alloc, &lookup, segments_of(witness))?;
     Ok(Bound { segments })
 }

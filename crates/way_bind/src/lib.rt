@@ -5,9 +5,11 @@
 mod binding;
 mod fault;
 mod laws;
+mod lookup;
 mod waypoint;
 
 pub use binding::{bind_violation, told};
 pub use fault::{BindFault, Unbound};
 pub use laws::one_answer;
-pub use waypoint::{expression_of, place_named};
+pub use lookup::Lookup;
+pub use waypoint::{expression_at, place_named};

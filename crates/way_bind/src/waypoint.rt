@@ -4,17 +4,17 @@ ghost use Rattle.c_core.specs.View.{program_view, expr_view};
 ghost use Rattle.c_core.specs.declared.place.PlaceKind.TheVariants.{Statement, Branch, CallEnd};
 ghost use Rattle.c_parser.specs.View.{expr_view as raw_view};
 ghost use Rattle.way_constraint.specs.Constraints.{AnswersConstraint};
-ghost use Rattle.way_names.specs.Visible.{is_scoped};
+ghost use Rattle.way_names.specs.Visible.{is_scoped, names_at};
 ghost use Rattle.way_match.specs.View.{aim_view, point_view, test_view};
 ghost use Rattle.way_bind.specs.Binding.{BindsAssumption, BindsBranching, BindsEntry, BindsExpression, BindsPoint, BindsReturn, BindsTest, BindsTested, WherePlaced, aim_of, is_suitable, is_valued, place_named, seen, target_at, text_of, way_of};
 
 use crate::fault::Unbound;
+use crate::lookup::Lookup;
 use c_core::{Expr, PlaceKind, Program, Spot};
 use c_parser::{ExprFault, RawExpr, parse_expr, parse_result};
 use std::alloc::Global;
 use way_constraint::check_expr;
 use way_match::{Aim, Point, ReturnTest};
-use way_names::names_at;
 use way_places::Index;
 use wv_base::Seq;
 use wv_schema::{Constraint, Location, WayKind, Waypoint};
@@ -58,7 +58,7 @@ fn is_valued(index: &Index, close: Spot) -> bool
 }
 
 /// The expression of a text over these names, typed.
-pub fn expression_of(
+fn expression_of(
     alloc: Global,
     program: &Program,
     names: &Seq<u32>,
@@ -69,6 +69,21 @@ pub fn expression_of(
     let expr = parse_expr(alloc, text.as_bytes())?;
     let test = check_expr(alloc, program, names, &expr)?;
     Ok(test)
+}
+
+/// The expression of a text over the names that are visible at a statement or a loop, typed.
+pub fn expression_at(
+    alloc: Global,
+    lookup: &Lookup,
+    kind: PlaceKind,
+    spot: Spot,
+    text: &str,
+) -> Result<Expr, Unbound>
+    requires { IsTrue (is_scoped (program_view lookup.now.index) kind spot) }
+    ensures { BindsExpression (program_view lookup.now.index) (names_at (program_view lookup.now.index) kind spot) text.now (seen expr_view result) }
+{
+    let names = lookup.names.visible_at(alloc, kind, spot)?;
+    expression_of(alloc, lookup.index.program(), &names, text)
 }
 
 /// A constant, which sees no names, typed.
@@ -100,12 +115,11 @@ fn test_of(
     })
 }
 
-fn assumption_at(alloc: Global, program: &Program, text: &str, spot: Spot) -> Result<Point, Unbound>
-    requires { IsTrue (is_scoped (program_view program.now) Statement spot) }
-    ensures { BindsAssumption (program_view program.now) text.now spot (seen point_view result) }
+fn assumption_at(alloc: Global, lookup: &Lookup, text: &str, spot: Spot) -> Result<Point, Unbound>
+    requires { IsTrue (is_scoped (program_view lookup.now.index) Statement spot) }
+    ensures { BindsAssumption (program_view lookup.now.index) text.now spot (seen point_view result) }
 {
-    let names = names_at(alloc, program, PlaceKind::Statement, spot)?;
-    let test = expression_of(alloc, program, &names, text)?;
+    let test = expression_at(alloc, lookup, PlaceKind::Statement, spot, text)?;
     Ok(Point::Assume(spot, test))
 }
 
@@ -156,13 +170,13 @@ fn target_at(index: &Index, location: &Location) -> Result<Point, Unbound>
     }
 }
 
-fn assumption(alloc: Global, index: &Index, waypoint: &Waypoint) -> Result<Point, Unbound>
-    ensures { WherePlaced (place_named (program_view index.now) Statement waypoint.now.location)
-        (BindsAssumption (program_view index.now) (text_of waypoint.now.constraint)) (seen point_view result) }
+fn assumption(alloc: Global, lookup: &Lookup, waypoint: &Waypoint) -> Result<Point, Unbound>
+    ensures { WherePlaced (place_named (program_view lookup.now.index) Statement waypoint.now.location)
+        (BindsAssumption (program_view lookup.now.index) (text_of waypoint.now.constraint)) (seen point_view result) }
 {
-    match place_named(index, PlaceKind::Statement, &waypoint.location) {
+    match place_named(&lookup.index, PlaceKind::Statement, &waypoint.location) {
         None => Err(Unbound::NoPlace),
-        Some(spot) => assumption_at(alloc, index.program(), text_of(&waypoint.constraint), spot),
+        Some(spot) => assumption_at(alloc, lookup, text_of(&waypoint.constraint), spot),
     }
 }
 
@@ -197,14 +211,14 @@ fn branching(index: &Index, waypoint: &Waypoint) -> Result<Point, Unbound>
 }
 
 /// A waypoint bound to a point of the program, or the first test that it fails.
-pub fn bind_point(alloc: Global, index: &Index, waypoint: &Waypoint) -> Result<Point, Unbound>
-    ensures { BindsPoint (program_view index.now) waypoint.now (seen point_view result) }
+pub fn bind_point(alloc: Global, lookup: &Lookup, waypoint: &Waypoint) -> Result<Point, Unbound>
+    ensures { BindsPoint (program_view lookup.now.index) waypoint.now (seen point_view result) }
 {
     match waypoint.kind {
-        WayKind::Assumption => assumption(alloc, index, waypoint),
-        WayKind::Target => target_at(index, &waypoint.location),
-        WayKind::FunctionEnter => entry(index, waypoint),
-        WayKind::FunctionReturn => function_return(alloc, index, waypoint),
-        WayKind::Branching => branching(index, waypoint),
+        WayKind::Assumption => assumption(alloc, lookup, waypoint),
+        WayKind::Target => target_at(&lookup.index, &waypoint.location),
+        WayKind::FunctionEnter => entry(&lookup.index, waypoint),
+        WayKind::FunctionReturn => function_return(alloc, &lookup.index, waypoint),
+        WayKind::Branching => branching(&lookup.index, waypoint),
     }
 }

@@ -3,7 +3,7 @@ use Rattle.std.proofs.Common.{List, Result, Ok, Err}
 use Rattle.c_core.specs.Tree.{Program}
 use Rattle.c_meaning.specs.Duties.{Placed}
 use Rattle.c_meaning.specs.declared.run.PlacedInvariant.{PlacedInvariant}
-use Rattle.c_duties.specs.Obliged.{placed_view}
+use Rattle.c_meaning.specs.Placing.{placed_view}
 use Rattle.wv_schema.specs.declared.witness.Invariant.{Invariant}
 use Rattle.wv_schema.specs.declared.witness.Witness.{Witness}
 use Rattle.way_names.specs.Visible.{names_at}

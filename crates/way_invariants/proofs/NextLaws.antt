@@ -8,7 +8,7 @@ use Rattle.c_core.specs.Places.{spots_of_kind}
 use Rattle.c_core.specs.Tree.{Program}
 use Rattle.c_core.specs.declared.number.Spot.{Spot}
 use Rattle.c_meaning.specs.declared.run.PlacedInvariant.{PlacedInvariant}
-use Rattle.c_duties.specs.Obliged.{placed, placed_view}
+use Rattle.c_meaning.specs.Placing.{placed, placed_view}
 use Rattle.wv_schema.specs.declared.witness.InvariantKind.{InvariantKind}
 use Rattle.wv_schema.specs.declared.witness.InvariantKind.TheVariants.{Loop, Location}
 use Rattle.wv_schema.specs.declared.witness.Invariant.{Invariant}

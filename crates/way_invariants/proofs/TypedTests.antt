@@ -17,7 +17,6 @@ use Rattle.check_rules.specs.Names.{Kind, Entry, later, declared_as, or_built_in
 use Rattle.check_rules.specs.Codes.{word_of, names_nothing, calls_bodiless, mistyped}
 use Rattle.check_rules.specs.Order.{SomeOf, This, Other, SomePair, OfFirst, OfOthers, Changes, AreUnsequenced, IsUnordered, is_object, changes}
 use Rattle.check_rules.specs.Parts.{Role, Value, Target, Effect, Part, Expression, parts, parts_in}
-use Rattle.check_rules.specs.Typed.{typed}
 use Rattle.check_wellformed.proofs.Lists.{AllOf, all_then, all_front, all_behind, all_weaker, left, right, first_fails, second_fails}
 use Rattle.check_wellformed.proofs.Known.{IsSound}
 use Rattle.check_wellformed.proofs.Good.{IsGood, value_of_part}

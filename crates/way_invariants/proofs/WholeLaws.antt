@@ -4,7 +4,7 @@ use Rattle.c_core.specs.View.{program_view}
 use Rattle.c_core.specs.Tree.{Program}
 use Rattle.c_core.specs.declared.program.Program as stored
 use Rattle.c_meaning.specs.declared.run.PlacedInvariant.{PlacedInvariant}
-use Rattle.c_duties.specs.Obliged.{placed_view}
+use Rattle.c_meaning.specs.Placing.{placed_view}
 use Rattle.wv_schema.specs.declared.witness.Invariant.{Invariant}
 use Rattle.wv_schema.specs.declared.witness.Entry.{Entry}
 use Rattle.wv_schema.specs.declared.witness.Witness.{Witness}

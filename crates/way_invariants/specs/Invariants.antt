@@ -1,16 +1,15 @@
 -- Invariant sets bound to the places and the typed expressions of a program. An invariant passes four tests, in this order: its place
 -- exists; its expression is in the grammar; its names are in scope; its expression types. The least invariant that fails one is told,
 -- by the first test that it fails.
-use Rattle.std.specs.Prelude.{Bool, true, false, List, [], Result, Ok, Err, IsTrue}
-use Rattle.std.specs.List.{All, flat_map}
+use Rattle.std.specs.Prelude.{Bool, true, false, List, [], Result, Ok, Err}
+use Rattle.std.specs.List.{flat_map}
 use Rattle.c_core.specs.Tree.{Exp, Program}
-use Rattle.c_core.specs.Typing.{has_value, is_typed}
 use Rattle.c_core.specs.declared.number.Spot.{Spot}
 use Rattle.c_core.specs.declared.place.PlaceKind.{PlaceKind}
 use Rattle.c_core.specs.declared.place.PlaceKind.TheVariants as place
 use Rattle.c_meaning.specs.Duties.{Placed}
 use Rattle.c_meaning.specs.declared.run.PlacedInvariant.{PlacedInvariant}
-use Rattle.c_duties.specs.Obliged.{placed_view}
+use Rattle.c_meaning.specs.Placing.{placed_view}
 use Rattle.wv_schema.specs.declared.witness.InvariantKind.{InvariantKind}
 use Rattle.wv_schema.specs.declared.witness.InvariantKind.TheVariants.{Loop, Location}
 use Rattle.wv_schema.specs.declared.witness.Invariant.{Invariant}
@@ -30,6 +29,7 @@ abbrev pub place_of : InvariantKind → PlaceKind
 place_of Loop = place.Loop
 place_of Location = place.Statement
 
+-- whether an invariant of this kind is tested at the head of a loop
 abbrev pub is_at_loop : InvariantKind → Bool
 is_at_loop Loop = true
 is_at_loop Location = false
@@ -44,6 +44,7 @@ BindsInvariant p v answer = WherePlaced (place_named p (place_of v.kind) v.locat
 
 -- ---- witnesses
 
+-- the invariants of an entry's content; a violation sequence has none
 abbrev pub set_in : Content → List Invariant
 set_in (Violation segments) = []
 set_in (Invariants set) = set
@@ -64,14 +65,3 @@ invariants_of w = invariants_among w.entries
 abbrev pub BindsInvariants : Program → Witness → Result (List PlacedInvariant) BindFault → Type 0
 BindsInvariants p w (Ok xs) = AllBound (BindsInvariant p) (invariants_of w) (placed_view xs)
 BindsInvariants p w (Err f) = TellsLeast (BindsInvariant p) 1 (invariants_of w) f
-
--- ---- what holds of each invariant that is bound
-
--- its expression is a typed expression of the program, and not void
-pub record IsTest (p : Program) (x : Placed) : Type 0 where
-  pub types : IsTrue (is_typed p x.test)
-  pub value : IsTrue (has_value x.test)
-
--- it is so of each of these
-abbrev pub AreTests : Program → List Placed → Type 0
-AreTests p xs = All (IsTest p) xs

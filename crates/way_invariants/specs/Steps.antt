@@ -3,7 +3,7 @@ use Rattle.std.specs.Prelude.{◌≡◌, ◌+◌, ◌++◌, length, List, Result
 use Rattle.c_core.specs.Tree.{Program}
 use Rattle.c_meaning.specs.Duties.{Placed}
 use Rattle.c_meaning.specs.declared.run.PlacedInvariant.{PlacedInvariant}
-use Rattle.c_duties.specs.Obliged.{placed_view}
+use Rattle.c_meaning.specs.Placing.{placed_view}
 use Rattle.wv_schema.specs.declared.witness.Invariant.{Invariant}
 use Rattle.way_bind.specs.declared.fault.BindFault.{BindFault}
 use Rattle.way_bind.specs.InOrder.{AllBound, TellsLeast}

@@ -1,16 +1,16 @@
 // The invariants of a witness, bound in witness order.
 ghost use Rattle.std.specs.Prelude.{◌≡◌, ◌+◌, [], ◌∷◌, IfOk};
+ghost use Rattle.std.specs.List.{All};
 ghost use Rattle.c_core.specs.View.{program_view};
-ghost use Rattle.c_duties.specs.Obliged.{placed_view};
-ghost use Rattle.way_invariants.specs.Invariants.{AreTests, BindsInvariants, invariants_among, set_of};
+ghost use Rattle.c_meaning.specs.Placing.{IsInvariant, placed_view};
+ghost use Rattle.way_invariants.specs.Invariants.{BindsInvariants, invariants_among, set_of};
 ghost use Rattle.way_invariants.specs.Steps.{BindsNext};
 
 use crate::invariant::bind_invariant;
 use c_core::Program;
 use c_meaning::PlacedInvariant;
 use std::alloc::Global;
-use way_bind::{BindFault, told};
-use way_places::Index;
+use way_bind::{BindFault, Lookup, told};
 use wv_base::{OutOfMemory, Seq};
 use wv_schema::{Content, Entry, Invariant, Witness};
 
@@ -30,14 +30,14 @@ fn number_behind(count: usize) -> Result<u32, OutOfMemory>
 /// An invariant bound behind those that are.
 fn bind_next(
     alloc: Global,
-    index: &Index,
+    lookup: &Lookup,
     invariant: &Invariant,
     placed: &mut Seq<PlacedInvariant>,
 ) -> Result<(), BindFault>
-    ensures { BindsNext (program_view index.now) (invariant.now ∷ []) placed.old placed.new result }
+    ensures { BindsNext (program_view lookup.now.index) (invariant.now ∷ []) placed.old placed.new result }
 {
     let number = number_behind(placed.len())?;
-    match bind_invariant(alloc, index, invariant) {
+    match bind_invariant(alloc, lookup, invariant) {
         Ok(bound) => {
             placed.push(bound)?;
             Ok(())
@@ -49,14 +49,14 @@ fn bind_next(
 /// The invariants of a set, bound behind those of the sets before.
 fn bind_set(
     alloc: Global,
-    index: &Index,
+    lookup: &Lookup,
     set: &[Invariant],
     placed: &mut Seq<PlacedInvariant>,
 ) -> Result<(), BindFault>
-    ensures { BindsNext (program_view index.now) set.now placed.old placed.new result }
+    ensures { BindsNext (program_view lookup.now.index) set.now placed.old placed.new result }
 {
     for invariant in set {
-        bind_next(alloc, index, invariant, placed)?;
+        bind_next(alloc, lookup, invariant, placed)?;
     }
     Ok(())
 }
@@ -74,14 +74,14 @@ fn set_of(entry: &Entry) -> &[Invariant]
 /// The sets of all entries, joined in order.
 fn bind_sets(
     alloc: Global,
-    index: &Index,
+    lookup: &Lookup,
     entries: &[Entry],
     placed: &mut Seq<PlacedInvariant>,
 ) -> Result<(), BindFault>
-    ensures { BindsNext (program_view index.now) (invariants_among entries.now) placed.old placed.new result }
+    ensures { BindsNext (program_view lookup.now.index) (invariants_among entries.now) placed.old placed.new result }
 {
     for entry in entries {
-        bind_set(alloc, index, set_of(entry), placed)?;
+        bind_set(alloc, lookup, set_of(entry), placed)?;
     }
     Ok(())
 }
@@ -94,10 +94,10 @@ pub fn bind_correctness(
     program: &Program,
 ) -> Result<Seq<PlacedInvariant>, BindFault>
     ensures bound { BindsInvariants (program_view program.now) witness.now result }
-    ensures typed { IfOk result (λ placed. AreTests (program_view program.now) (placed_view placed)) }
+    ensures typed { IfOk result (λ placed. All (IsInvariant (program_view program.now)) (placed_view placed)) }
 {
-    let index = Index::new(alloc, program)?;
+    let lookup = Lookup::new(alloc, program)?;
     let mut placed = Seq::new(alloc);
-    bind_sets(alloc, &index, witness.entries.as_slice(), &mut placed)?;
+    bind_sets(alloc, &lookup, witness.entries.as_slice(), &mut placed)?;
     Ok(placed)
 }

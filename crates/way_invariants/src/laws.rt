@@ -1,7 +1,7 @@
 // What the definition of binding promises.
 ghost use Rattle.std.specs.Prelude.{List, Result};
 ghost use Rattle.c_core.specs.Tree.{Program};
-ghost use Rattle.c_duties.specs.Obliged.{placed_view};
+ghost use Rattle.c_meaning.specs.Placing.{placed_view};
 ghost use Rattle.c_meaning.specs.declared.run.PlacedInvariant.{PlacedInvariant};
 ghost use Rattle.wv_schema.specs.declared.witness.Witness.{Witness};
 ghost use Rattle.way_bind.specs.InOrder.{AgreeBy};

@@ -1,2 +1,6 @@
-pub mod VisibleLaws
+pub mod ScopeLaws
+pub mod WalkLaws
+pub mod FrontLaws
+pub mod StaticLaws
 pub mod ObjectLaws
+pub mod NamesLaws

@@ -1,2 +1,4 @@
 pub mod Visible
+pub mod Scopes
+pub mod Walk
 pub mod WorkedNames

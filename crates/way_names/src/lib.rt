@@ -2,6 +2,10 @@
 #![tactic(auto)]
 
 mod examples;
-mod visible;
+mod names;
+mod places;
+mod scope;
+mod statics;
+mod walk;
 
-pub use visible::names_at;
+pub use names::{Names, names_at};

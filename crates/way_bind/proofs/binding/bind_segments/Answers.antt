@@ -10,7 +10,7 @@ bind_segment-requires c =
 
 pub returns-in_err-bind_segment : goal.returns-in_err-bind_segment
 returns-in_err-bind_segment c =
-    segment_told (program_view c.args.index.now) c.args.segments.now c.loop-segment.segment-index c.segment-item.result (each_segment_view c.loop-segment.bound) c.loop-segment.first c.in_err-bind_segment.field-0.0 c.from_residual.result c.loop-segment-test.true c.segment-item.is c.loop-segment.invariant.counted c.loop-segment.invariant.bound c.from_residual.ensures.1 c.in_err-bind_segment.ensures
+    segment_told (program_view c.args.lookup.now.index) c.args.segments.now c.loop-segment.segment-index c.segment-item.result (each_segment_view c.loop-segment.bound) c.loop-segment.first c.in_err-bind_segment.field-0.0 c.from_residual.result c.loop-segment-test.true c.segment-item.is c.loop-segment.invariant.counted c.loop-segment.invariant.bound c.from_residual.ensures.1 c.in_err-bind_segment.ensures
 
 pub overflow_add-first : goal.overflow_add-first
 overflow_add-first c =
@@ -22,6 +22,6 @@ overflow_add-first-in-loop-segment c =
 
 pub loop-segment-preserved : goal.loop-segment-preserved
 loop-segment-preserved c = record {
-  bound = segment_kept (program_view c.args.index.now) c.args.segments.now c.loop-segment.segment-index c.segment-item.result c.loop-segment.bound c.push.new.self c.in_ok-bind_segment.field-0 c.loop-segment-test.true c.segment-item.is c.in_ok-push.ensures.ok c.in_ok-bind_segment.ensures c.loop-segment.invariant.bound;
+  bound = segment_kept (program_view c.args.lookup.now.index) c.args.segments.now c.loop-segment.segment-index c.segment-item.result c.loop-segment.bound c.push.new.self c.in_ok-bind_segment.field-0 c.loop-segment-test.true c.segment-item.is c.in_ok-push.ensures.ok c.in_ok-bind_segment.ensures c.loop-segment.invariant.bound;
   counted = segment_counted c.args.segments.now c.loop-segment.segment-index c.segment-item.result c.loop-segment.first c.len.result c.loop-segment-test.true c.segment-item.is c.len.ensures c.loop-segment.invariant.counted;
 }

@@ -6,6 +6,6 @@ use Rattle.way_bind.proofs.binding.bind_segments.Given as goal
 
 abbrev pub invariant-loop-segment : goal.invariant-loop-segment
 invariant-loop-segment l = record {
-  bound : AreBoundTo (program_view l.index) (take l.segment-index l.segments) (each_segment_view l.bound);
+  bound : AreBoundTo (program_view l.lookup.index) (take l.segment-index l.segments) (each_segment_view l.bound);
   counted : l.first ≡ 1 + length (waypoints_in (take l.segment-index l.segments));
 }

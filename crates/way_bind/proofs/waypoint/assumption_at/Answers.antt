@@ -7,7 +7,7 @@ use Rattle.way_bind.proofs.waypoint.assumption_at.Goals as goal
 
 pub returns-in_err-test : goal.returns-in_err-test
 returns-in_err-test c =
-    lacking_there (program_view c.args.program.now) Statement _ c.args.text.now Assume point_view c.args.spot c.in_err-test.field-0.0 c.from_residual-in_err-test.result c.in_ok-names.ensures c.from_residual-in_err-test.ensures.1 c.in_err-test.ensures
+    lacking_there (program_view c.args.lookup.now.index) Statement c.args.text.now Assume point_view c.args.spot c.in_err-test.field-0.0 c.from_residual.result c.from_residual.ensures.1 c.in_err-test.ensures
 
 pub returns : goal.returns
-returns c = there (program_view c.args.program.now) Statement _ c.args.text.now Assume c.args.spot c.in_ok-test.test c.in_ok-names.ensures c.in_ok-test.ensures
+returns c = there (program_view c.args.lookup.now.index) Statement c.args.text.now Assume c.args.spot c.in_ok-test.test c.in_ok-test.ensures

@@ -1,8 +1,6 @@
-use Rattle.std.proofs.Common.{IsTrue, sym, ap, subst, ◌∙◌}
+use Rattle.std.proofs.Common.{sym, ap, ◌∙◌}
 use Rattle.c_core.specs.View.{program_view}
-use Rattle.c_core.specs.declared.program.Program.{Program}
-use Rattle.c_duties.specs.Obliged.{placed}
-use Rattle.way_names.specs.Visible.{is_scoped}
+use Rattle.c_meaning.specs.Placing.{placed}
 use Rattle.way_bind.specs.Binding.{BindsThere, place_named, seen}
 use Rattle.way_bind.proofs.ExpressionLaws.{placed_there}
 use Rattle.way_bind.proofs.NamedLaws.{named_is_one}
@@ -13,18 +11,16 @@ use Rattle.way_invariants.proofs.invariant.bind_invariant.Goals as goal
 
 pub returns-in-None : goal.returns-in-None
 returns-in-None c =
-    unplaced (place_named (program_view c.args.index.now) (place_of c.args.invariant.now.kind) c.args.invariant.now.location) (BindsThere (program_view c.args.index.now) (place_of c.args.invariant.now.kind) c.args.invariant.now.value (placed_at c.args.invariant.now.kind))
-    (sym (ap (λ k. place_named (program_view c.args.index.now) k c.args.invariant.now.location) c.place_of.ensures) ∙ sym c.place_named.ensures ∙ c.in-None.is)
+    unplaced (place_named (program_view c.args.lookup.now.index) (place_of c.args.invariant.now.kind) c.args.invariant.now.location) (BindsThere (program_view c.args.lookup.now.index) (place_of c.args.invariant.now.kind) c.args.invariant.now.value (placed_at c.args.invariant.now.kind))
+    (sym (ap (λ k. place_named (program_view c.args.lookup.now.index) k c.args.invariant.now.location) c.place_of.ensures) ∙ sym c.place_named.ensures ∙ c.in-None.is)
 
 pub invariant_at-requires : goal.invariant_at-requires
 invariant_at-requires c =
-    subst (λ (p : Program). IsTrue (is_scoped (program_view p) (place_of c.args.invariant.now.kind) c.in-Some.spot)) (sym c.program.ensures)
-    (scoped (program_view c.args.index.now) c.args.invariant.now.kind c.in-Some.spot
-    (named_is_one (program_view c.args.index.now) (place_of c.args.invariant.now.kind) c.args.invariant.now.location c.in-Some.spot
-    (sym (ap (λ k. place_named (program_view c.args.index.now) k c.args.invariant.now.location) c.place_of.ensures) ∙ sym c.place_named.ensures ∙ c.in-Some.is)))
+    scoped (program_view c.args.lookup.now.index) c.args.invariant.now.kind c.in-Some.spot
+    (named_is_one (program_view c.args.lookup.now.index) (place_of c.args.invariant.now.kind) c.args.invariant.now.location c.in-Some.spot
+    (sym (ap (λ k. place_named (program_view c.args.lookup.now.index) k c.args.invariant.now.location) c.place_of.ensures) ∙ sym c.place_named.ensures ∙ c.in-Some.is))
 
 pub returns-in-Some : goal.returns-in-Some
 returns-in-Some c =
-    placed_there (program_view c.args.index.now) (place_of c.args.invariant.now.kind) c.as_str.result.now c.args.invariant.now.value (placed_at c.args.invariant.now.kind) (place_named (program_view c.args.index.now) (place_of c.args.invariant.now.kind) c.args.invariant.now.location) c.in-Some.spot (seen placed c.invariant_at.result)
-    (sym (ap (λ k. place_named (program_view c.args.index.now) k c.args.invariant.now.location) c.place_of.ensures) ∙ sym c.place_named.ensures ∙ c.in-Some.is) c.as_str.ensures
-    (subst (λ (p : Program). BindsThere (program_view p) (place_of c.args.invariant.now.kind) c.as_str.result.now (placed_at c.args.invariant.now.kind) c.in-Some.spot (seen placed c.invariant_at.result)) c.program.ensures c.invariant_at.ensures)
+    placed_there (program_view c.args.lookup.now.index) (place_of c.args.invariant.now.kind) c.as_str.result.now c.args.invariant.now.value (placed_at c.args.invariant.now.kind) (place_named (program_view c.args.lookup.now.index) (place_of c.args.invariant.now.kind) c.args.invariant.now.location) c.in-Some.spot (seen placed c.invariant_at.result)
+    (sym (ap (λ k. place_named (program_view c.args.lookup.now.index) k c.args.invariant.now.location) c.place_of.ensures) ∙ sym c.place_named.ensures ∙ c.in-Some.is) c.as_str.ensures c.invariant_at.ensures

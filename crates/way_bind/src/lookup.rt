@@ -1,0 +1,25 @@
+ghost use Rattle.std.specs.Prelude.{◌≡◌, IfOk};
+
+use c_core::Program;
+use std::alloc::Global;
+use way_names::Names;
+use way_places::Index;
+use wv_base::OutOfMemory;
+
+/// A program whose places, and the names that are visible there, are found without a walk.
+#[derive(Drop)]
+pub struct Lookup<'a> {
+    pub index: Index<'a>,
+    pub names: Names<'a>,
+    ghost one_program: { names ≡ index },
+}
+
+impl<'a> Lookup<'a> {
+    pub fn new(alloc: Global, program: &'a Program) -> Result<Lookup<'a>, OutOfMemory>
+        ensures { IfOk result (λ lookup. lookup.index ≡ program.now) }
+    {
+        let index = Index::new(alloc, program)?;
+        let names = Names::new(alloc, program)?;
+        Ok(Lookup { index, names })
+    }
+}
