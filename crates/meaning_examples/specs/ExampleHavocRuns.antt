@@ -16,6 +16,7 @@ use Rattle.c_meaning.specs.declared.run.HavocRun.{HavocRun}
 use Rattle.c_meaning.specs.Duties.{Placed, duty, Duties}
 use Rattle.c_meaning.specs.Havoc.{Havoc}
 use Rattle.c_meaning.specs.Examples.{at, drawn, exp, number, object, operation, branch_on_difference, step_char, add_to_long, count_down, count_to_ten, count_calls}
+use Rattle.meaning_examples.specs.Loops.{element, fill_in_loops}
 
 -- a value drawn at the head of a loop
 abbrev pub redrawn : Spot → IntType → ℤ → Draw
@@ -47,6 +48,10 @@ in_bounds = loop_invariant 4 3 (exp Int 1 1 (Logic true (operation 1 1 Le (numbe
 -- of count_calls: `g == 0`
 abbrev pub nothing_counted : List Placed
 nothing_counted = loop_invariant 7 3 (operation 1 1 Eq (object 1 1 0) (number 1 6 0))
+
+-- of fill_in_loops: `a[1] == 0`, at the inner loop
+abbrev pub second_is_zero : List Placed
+second_is_zero = loop_invariant 6 5 (operation 1 1 Eq (element 1 1 0 (number 1 3 1)) (number 1 9 0))
 
 pub record ExampleHavocRuns : Type 0 where
   -- `c++` on a char computes in int, which is signed: an obligation, and it holds
@@ -99,6 +104,14 @@ pub record ExampleHavocRuns : Type 0 where
       left Passed (redrawn (at 7 3) Int (pos 0) ∷ redrawn (at 7 3) Int (pos 3) ∷ [])
   pub already_counted : Havoc count_calls nothing_counted (pos 1 ∷ pos 0 ∷ []) ≡
       left Dismissed (redrawn (at 7 3) Int (pos 1) ∷ redrawn (at 7 3) Int (pos 0) ∷ [])
+  -- all cells of an array that a loop changes are drawn at its head, and at the head of a loop in it once more
+  pub all_cells : Havoc fill_in_loops [] (pos 9 ∷ pos 8 ∷ pos 1 ∷ pos 7 ∷ pos 6 ∷ []) ≡
+      left Passed (redrawn (at 5 3) Int (pos 9) ∷ redrawn (at 5 3) Int (pos 8) ∷ redrawn (at 5 3) Int (pos 1) ∷ redrawn (at 6 5) Int (pos 7) ∷ redrawn (at 6 5) Int (pos 6) ∷ [])
+  pub duties_of_an_inner_loop : Duties fill_in_loops second_is_zero ≡
+      (duty (at 6 5) Entry (Some 0) ∷ duty (at 6 5) Kept (Some 0) ∷ duty (at 13 5) PropertyKind None ∷ [])
+  -- a loop that is left by `break` isn't tested there: `a[1] = 1` comes before it
+  pub left_untested : Havoc fill_in_loops second_is_zero (pos 0 ∷ pos 0 ∷ pos 1 ∷ []) ≡
+      left Passed (redrawn (at 5 3) Int (pos 0) ∷ redrawn (at 5 3) Int (pos 0) ∷ redrawn (at 5 3) Int (pos 1) ∷ redrawn (at 6 5) Int (pos 0) ∷ redrawn (at 6 5) Int (pos 0) ∷ [])
   pub duty_of_a_sum : Duties (add_to_long Ilp32) [] ≡ (duty (at 3 3) PropertyKind None ∷ [])
   -- the width of long is the data model's
   pub overflows_in_32_bits : Havoc (add_to_long Ilp32) [] [] ≡ left (Failed 1) []

@@ -1,2 +1,3 @@
 pub mod ExampleRuns
 pub mod ExampleHavocRuns
+pub mod Loops

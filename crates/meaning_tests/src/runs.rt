@@ -1,5 +1,5 @@
 // The runs of the example programs, each as its text says.
-use c_core::{BinOp, IntType, Program, Property, Spot};
+use c_core::{IntType, Program, Property, Spot};
 use c_interpreter::run_plain;
 use c_meaning::{Choices, Draw, DrawKind, End, Event, Given, Memory, Run, Watcher};
 use run_examples::{
@@ -229,7 +229,7 @@ fn the_greatest_number_overflows_or_wraps(rt: HostRuntime) -> Result<(), Fail> {
 fn the_least_number_by_minus_one_overflows(rt: HostRuntime) -> Result<(), Fail> {
     let alloc = rt.alloc();
     let choices = in_turn(alloc, [-2147483648, -1].as_slice())?;
-    for op in [BinOp::Div, BinOp::Rem] {
+    for op in ["/", "%"] {
         let program = combine_inputs(alloc, Property::NoOverflow, op)?;
         let (run, events) = watched(alloc, &program, &choices, 50)?;
         assert_eq!(rt; run.end, End::Violated(at(5, 3)));
@@ -261,17 +261,17 @@ fn the_least_number_by_minus_one_overflows(rt: HostRuntime) -> Result<(), Fail> 
 fn operators_are_undefined(rt: HostRuntime) -> Result<(), Fail> {
     let alloc = rt.alloc();
     for (op, right) in [
-        (BinOp::Div, 0),
-        (BinOp::Rem, 0),
-        (BinOp::Shl, 32),
-        (BinOp::Shl, -1),
-        (BinOp::Shr, 32),
-        (BinOp::Shr, -1),
+        ("/", 0),
+        ("%", 0),
+        ("<<", 32),
+        ("<<", -1),
+        (">>", 32),
+        (">>", -1),
     ] {
         let program = combine_inputs(alloc, Property::NoOverflow, op)?;
         let choices = in_turn(alloc, [1, right].as_slice())?;
         let (run, events) = watched(alloc, &program, &choices, 50)?;
-        assert_eq!(rt; run.end, End::Undefined(at(5, 3)), "{op:?} {right}");
+        assert_eq!(rt; run.end, End::Undefined(at(5, 3)), "{op} {right}");
         assert_eq!(rt; run.steps, 11);
         assert_eq!(rt; run.unfixed, 0);
         assert_eq!(rt; events.len(), 7);
@@ -397,15 +397,15 @@ fn the_error_follows_a_recursion(rt: HostRuntime) -> Result<(), Fail> {
     Ok(())
 }
 
-/// The twelfth array of 90,000 cells has no room: eleven took 90,005 steps each, and it 90,002.
+/// The third array of the 976th call has no room: 975 calls took 1,032 steps each, a step for each cell among them, and the last 772.
 #[test]
 fn large_arrays_end_deep(rt: HostRuntime) -> Result<(), Fail> {
     let alloc = rt.alloc();
     let choices = in_turn(alloc, [].as_slice())?;
     let (run, events) = watched(alloc, &nest_arrays(alloc)?, &choices, 2_000_000)?;
     assert_eq!(rt; run.end, End::Deep);
-    assert_eq!(rt; run.steps, 3 + 11 * 90_005 + 90_002);
+    assert_eq!(rt; run.steps, 3 + 975 * 1_032 + 772);
     assert_eq!(rt; run.unfixed, 0);
-    assert_eq!(rt; events.len(), 2 + 11 * 3 + 1);
+    assert_eq!(rt; events.len(), 2 + 975 * 3 + 1);
     Ok(())
 }

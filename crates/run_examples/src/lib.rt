@@ -1,10 +1,11 @@
-//! Example programs, built: each is the tree that its definition says. `meaning_tests` tries their runs.
+//! Example programs, each as the front end reads its text. Other crates' tests and the timed program try their runs.
 #![tactic(auto)]
 
 mod programs;
-mod trees;
+mod reading;
 
 pub use programs::{
     add_to_input, branch_on_input, combine_inputs, count_calls, count_deep, count_to_ten,
     count_to_three, fill_in_loops, hold_shorts, nest_arrays, recurse, use_no_value, write_and_read,
 };
+pub use reading::{NoProgram, read};

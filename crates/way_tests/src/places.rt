@@ -1,16 +1,10 @@
 // `int x = __VERIFIER_nondet_int();`, `if (x == 5) {`, `  reach_error();`, `}`, `return 0;`, from line 4 on.
-ghost use Rattle.std.specs.Prelude.{◌≡◌};
-ghost use Rattle.c_core.specs.View.{program_view};
-ghost use Rattle.c_meaning.specs.Examples.{branch_on_input};
-
 use crate::trees::at;
-use c_core::{Place, PlaceKind, Program, Spot};
+use c_core::{Place, PlaceKind};
 use run_examples::branch_on_input;
-use std::alloc::Global;
 use std::test::Fail;
 use way_names::names_at;
 use way_places::{Index, aim_fits, call_at, input_calls, place_at, places, stmt_before};
-use wv_base::{OutOfMemory, Seq};
 
 fn place(kind: PlaceKind, line: u32, column: u32) -> Place {
     Place {
@@ -91,21 +85,13 @@ fn an_index_answers_the_same(rt: HostRuntime) -> Result<(), Fail> {
     Ok(())
 }
 
-fn names_before(alloc: Global, program: &Program) -> Result<Seq<u32>, OutOfMemory>
-    requires { program_view program.now ≡ branch_on_input 5 }
-{
-    names_at(
-        alloc,
-        program,
-        PlaceKind::Statement,
-        Spot { line: 5, column: 3 },
-    )
-}
-
 #[test]
 fn visible_names(rt: HostRuntime) -> Result<(), Fail> {
     let program = branch_on_input(rt.alloc(), 5)?;
-    let names = names_before(rt.alloc(), &program)?;
+    let Some(spot) = place_at(&program, PlaceKind::Statement, 5, Some(3)) else {
+        return Err(Fail::from("no place"));
+    };
+    let names = names_at(rt.alloc(), &program, PlaceKind::Statement, spot)?;
     assert_eq!(rt; names.as_slice(), [0].as_slice());
     Ok(())
 }

@@ -6,15 +6,9 @@ use run_examples::branch_on_input;
 use std::alloc::Global;
 use std::test::Fail;
 use way_match::Matcher;
-use wv_base::OutOfMemory;
 
 // Does the `int` input call come back with the constraint met?
-fn is_met(
-    alloc: Global,
-    op: BinOp,
-    constant: Expr,
-    value: Option<i128>,
-) -> Result<bool, OutOfMemory> {
+fn is_met(alloc: Global, op: BinOp, constant: Expr, value: Option<i128>) -> Result<bool, Fail> {
     let program = branch_on_input(alloc, 5)?;
     let bound = one_segment(alloc, returns(at(4, 33), op, constant))?;
     let mut matcher = Matcher::new(alloc, &bound, &program)?;

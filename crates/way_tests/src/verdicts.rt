@@ -108,7 +108,7 @@ fn an_overflow_is_a_violation_of_one_property(rt: HostRuntime) -> Result<(), Fai
 #[test]
 fn a_quotient_by_zero_is_undefined(rt: HostRuntime) -> Result<(), Fail> {
     let alloc = rt.alloc();
-    let program = combine_inputs(alloc, Property::NoOverflow, BinOp::Div)?;
+    let program = combine_inputs(alloc, Property::NoOverflow, "/")?;
     let bound = given(alloc, at(3, 33), 1, target(5, 3))?;
     let verdict = judge_violation(alloc, &program, &bound, 1000)?;
     assert!(rt; refuses(verdict, Reason::Undefined(at(5, 3)), 1));
