@@ -3,6 +3,7 @@
 #![tactic(auto)]
 
 mod check;
+mod evaluate;
 mod frontend;
 mod obligations;
 mod operators;
@@ -24,7 +25,9 @@ fn words_of(rt: &HostRuntime) -> io::Result<Vec<String>> {
 }
 
 fn usage(rt: &HostRuntime) -> io::Result<ExitCode> {
-    println!(rt; "usage: bench check|circuits|frontend|obligations|replay|task|yaml WORD..")?;
+    println!(rt;
+        "usage: bench check|circuits|evaluate|frontend|obligations|replay|task|yaml WORD.."
+    )?;
     Ok(ExitCode::from(7))
 }
 
@@ -36,6 +39,7 @@ fn run(rt: &HostRuntime) -> io::Result<ExitCode> {
     match mode.as_str() {
         "check" => check::run(rt, words)?,
         "circuits" => operators::run(rt, words)?,
+        "evaluate" => evaluate::run(rt, words)?,
         "frontend" => frontend::run(rt, words)?,
         "obligations" => obligations::run(rt, words)?,
         "replay" => replay::run(rt, words)?,

@@ -1,8 +1,9 @@
-// Runs a loop at the bottom of a recursion, beside an array of live cells, and prints how the run ends, its steps and its
-// events: what bench/replay times. The words are the cells, the depth of the recursion, the turns of the loop, and the budget.
+// Runs a loop at the bottom of a recursion, beside arrays of 256 live cells, and prints how the run ends, its steps and its
+// events: what bench/replay times. The words are the arrays, the depth of the recursion, the turns of the loop, and the budget.
+use c_core::Program;
 use c_interpreter::run_plain;
 use c_meaning::{Choices, End, Event, Memory, Run, Watcher};
-use run_examples::count_deep;
+use run_examples::{NoProgram, count_deep};
 use std::alloc::Global;
 use std::io;
 use wv_base::{OutOfMemory, Seq};
@@ -31,7 +32,7 @@ impl Watcher for Count {
 /// The size of a run.
 #[derive(Clone, Copy)]
 struct Size {
-    cells: u32,
+    arrays: u32,
     depth: u32,
     turns: u32,
     steps: u64,
@@ -42,15 +43,11 @@ fn number(word: Option<&String>) -> Option<u64> {
 }
 
 /// The run of a size, and the number of its events.
-fn replay(alloc: Global, size: &Size) -> Result<Option<(Run, u64)>, OutOfMemory> {
-    if size.cells < 1 || size.cells > 90000 || size.depth >= 1 << 31 || size.turns >= 1 << 31 {
-        return Ok(None);
-    }
-    let program = count_deep(alloc, size.cells, size.depth, size.turns)?;
+fn replay(alloc: Global, program: &Program, size: &Size) -> Result<(Run, u64), OutOfMemory> {
     let mut count = Count { events: 0 };
     let choices = Choices::InTurn(Seq::new(alloc));
-    let run = run_plain(alloc, &program, &choices, size.steps, &mut count)?;
-    Ok(Some((run, count.events)))
+    let run = run_plain(alloc, program, &choices, size.steps, &mut count)?;
+    Ok((run, count.events))
 }
 
 fn name(end: End) -> &'static str {
@@ -63,24 +60,30 @@ fn name(end: End) -> &'static str {
     }
 }
 
-fn report(rt: &HostRuntime, size: &Size) -> io::Result<()> {
-    match replay(rt.alloc(), size) {
-        Ok(Some((run, events))) => {
+fn report(rt: &HostRuntime, program: &Program, size: &Size) -> io::Result<()> {
+    match replay(rt.alloc(), program, size) {
+        Ok((run, events)) => {
             println!(rt;
                 "{} after {} steps, {events} events",
                 name(run.end),
                 run.steps
             )
         }
-        Ok(None) => println!(rt; "no such program"),
         Err(OutOfMemory) => println!(rt; "out of memory"),
     }
 }
 
+fn run_of(rt: &HostRuntime, size: &Size) -> io::Result<()> {
+    match count_deep(rt.alloc(), size.arrays, size.depth, size.turns) {
+        Ok(program) => report(rt, &program, size),
+        Err(NoProgram) => println!(rt; "no such program"),
+    }
+}
+
 /// The size that four words give.
-fn size_of(cells: u64, depth: u64, turns: u64, steps: u64) -> Option<Size> {
+fn size_of(arrays: u64, depth: u64, turns: u64, steps: u64) -> Option<Size> {
     Some(Size {
-        cells: u32::try_from(cells).ok()?,
+        arrays: u32::try_from(arrays).ok()?,
         depth: u32::try_from(depth).ok()?,
         turns: u32::try_from(turns).ok()?,
         steps,
@@ -88,12 +91,12 @@ fn size_of(cells: u64, depth: u64, turns: u64, steps: u64) -> Option<Size> {
 }
 
 pub fn run(rt: &HostRuntime, words: &[String]) -> io::Result<()> {
-    let cells = number(words.get(0)).unwrap_or(1);
+    let arrays = number(words.get(0)).unwrap_or(0);
     let depth = number(words.get(1)).unwrap_or(0);
     let turns = number(words.get(2)).unwrap_or(0);
     let steps = number(words.get(3)).unwrap_or(0);
-    match size_of(cells, depth, turns, steps) {
-        Some(size) => report(rt, &size),
+    match size_of(arrays, depth, turns, steps) {
+        Some(size) => run_of(rt, &size),
         None => println!(rt; "no such program"),
     }
 }
