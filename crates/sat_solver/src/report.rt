@@ -1,5 +1,5 @@
 // What the program prints.
-use crate::Wanted;
+use crate::words::Wanted;
 use clauses::{Cnf, Refutation, accepts, accepts_log};
 use sat_core::{Answer, solve};
 use std::io;
