@@ -1,0 +1,5 @@
+pub mod Sizes
+pub mod Preparing
+pub mod Expressions
+pub mod Statements
+pub mod Programs

@@ -1,0 +1,126 @@
+// The code of loops: the test stands behind the body, and a loop begins with a jump to it.
+use crate::code::{Action, Op, Then};
+use crate::emit::{ahead, emit, more};
+use crate::expressions::expression;
+use crate::sizes::{first_leaks, size, size_if, size_of_arm};
+use crate::statements::{Inside, arm, close, declare, deeper, full_of, open};
+use c_core::{Expr, First, Program, Spot, Stmt};
+use wv_base::{OutOfMemory, Seq};
+
+// In a loop whose body `continue` goes on to an address, and `break` to another.
+fn in_loop(inside: Inside, again: u32, broken: u32) -> Inside {
+    Inside {
+        broken,
+        again,
+        inner: 0,
+        ..inside
+    }
+}
+
+// The test of a loop, which goes on at an address where it holds.
+fn test_at(
+    program: &Program,
+    ops: &mut Seq<Op>,
+    at: Spot,
+    test: &Expr,
+    to: u32,
+) -> Result<(), OutOfMemory> {
+    let then = Then::Branch { at, way: true, to };
+    expression(program, ops, 0, full_of(at, test), true, test, then)
+}
+
+#[cycle(statement)]
+pub fn while_loop(
+    program: &Program,
+    ops: &mut Seq<Op>,
+    inside: Inside,
+    at: Spot,
+    test: &Expr,
+    body: &Stmt,
+) -> Result<(), OutOfMemory> {
+    let start = ahead(ops, 1)?;
+    let again = more(start, size_of_arm(body, 0, inside.scopes)?)?;
+    let broken = more(again, size(test)?)?;
+    emit(ops, 0, Action::Jump(again))?;
+    arm(program, ops, in_loop(inside, again, broken), body)?;
+    test_at(program, ops, at, test, start)
+}
+
+#[cycle(statement)]
+pub fn do_loop(
+    program: &Program,
+    ops: &mut Seq<Op>,
+    inside: Inside,
+    at: Spot,
+    body: &Stmt,
+    test: &Expr,
+) -> Result<(), OutOfMemory> {
+    let start = ahead(ops, 0)?;
+    let again = more(start, size_of_arm(body, 0, inside.scopes)?)?;
+    let broken = more(again, size(test)?)?;
+    arm(program, ops, in_loop(inside, again, broken), body)?;
+    test_at(program, ops, at, test, start)
+}
+
+// The first part of a `for`.
+fn begin(
+    program: &Program,
+    ops: &mut Seq<Op>,
+    at: Spot,
+    first: &First,
+) -> Result<(), OutOfMemory> {
+    match first {
+        First::Absent => Ok(()),
+        First::Expr(e) => expression(program, ops, 0, full_of(at, e), false, e, Then::Drop),
+        First::Declare(names) => declare(program, ops, at, names.as_slice()),
+    }
+}
+
+#[cycle(statement)]
+pub fn for_loop(
+    program: &Program,
+    ops: &mut Seq<Op>,
+    inside: Inside,
+    at: Spot,
+    first: &First,
+    test: &Option<Expr>,
+    step: &Option<Expr>,
+    body: &Stmt,
+) -> Result<(), OutOfMemory> {
+    let there = first_leaks(first);
+    let within = deeper(inside, there)?;
+    open(ops, there)?;
+    begin(program, ops, at, first)?;
+    turn(program, ops, within, at, test, step, body)?;
+    close(ops, there)
+}
+
+// What a `for` does again and again.
+#[cycle(statement)]
+fn turn(
+    program: &Program,
+    ops: &mut Seq<Op>,
+    inside: Inside,
+    at: Spot,
+    test: &Option<Expr>,
+    step: &Option<Expr>,
+    body: &Stmt,
+) -> Result<(), OutOfMemory> {
+    let start = ahead(ops, 1)?;
+    let again = more(start, size_of_arm(body, 0, inside.scopes)?)?;
+    let head = more(again, size_if(step)?)?;
+    let tested = match test {
+        None => 1,
+        Some(e) => size(e)?,
+    };
+    let broken = more(head, tested)?;
+    emit(ops, 0, Action::Jump(head))?;
+    arm(program, ops, in_loop(inside, again, broken), body)?;
+    if let Some(e) = step {
+        expression(program, ops, 0, full_of(at, e), false, e, Then::Drop)?;
+    }
+    match test {
+        None => emit(ops, 0, Action::Jump(start)),
+        Some(e) => test_at(program, ops, at, e, start),
+    }
+}

@@ -1,0 +1,4 @@
+pub mod Machines
+pub mod Acting
+pub mod Stepping
+pub mod Runs
