@@ -1,5 +1,5 @@
 -- Operations, and operands that are ready for one.
-use Rattle.std.specs.Prelude.{ℕ, zero, suc, ◌+◌, Bool, cond, List, [], ◌∷◌, ◌++◌, Option, Some, None}
+use Rattle.std.specs.Prelude.{ℕ, zero, suc, ◌+◌, Bool, cond, List, [], ◌∷◌, ◌++◌, length, Option, Some, None}
 use Rattle.c_core.specs.declared.number.IntType.{IntType}
 use Rattle.flow_code.specs.declared.code.Operand.{Operand}
 use Rattle.flow_code.specs.declared.code.Operand.TheVariants.{Top}
@@ -10,6 +10,10 @@ use Rattle.flow_code.specs.declared.code.Into.{Into}
 use Rattle.flow_code.specs.declared.code.Action.{Action}
 use Rattle.flow_code.specs.declared.code.Action.TheVariants.{Give, Open, Close}
 use Rattle.flow_code.specs.declared.code.Op.{Op}
+
+-- operations that begin at an address, and the ones behind them, which depend on where they begin
+abbrev pub followed : ℕ → List Op → (ℕ → List Op) → List Op
+followed i ops f = ops ++ f (i + length ops)
 
 -- an action and its steps
 abbrev pub op : ℕ → Action → Op
@@ -27,21 +31,25 @@ abbrev pub give : ℕ → Operand → Then → Op
 give steps x then = op steps (Give x (only then))
 
 -- operations that make operands ready, the operands, and the steps that the operation which takes them has to take
-pub record Prepared : Type 0 where
+pub record Ready : Type 0 where
   pub ops : List Op
   pub operand : Operand
   pub steps : ℕ
 
-pub record Pair : Type 0 where
+pub record ReadyPair : Type 0 where
   pub ops : List Op
   pub left : Operand
   pub right : Operand
   pub steps : ℕ
 
 -- an expression that is an operand by itself takes its step with the operation; another is evaluated, its value on the stack
-abbrev pub prepared : Option Operand → ℕ → List Op → Prepared
+abbrev pub prepared : Option Operand → ℕ → List Op → Ready
 prepared (Some x) k ops = record { ops = []; operand = x; steps = suc k }
 prepared None k ops = record { ops = ops; operand = Top; steps = 0 }
+
+-- an operand, and the operation that takes it
+abbrev pub with_operand : Option Operand → ℕ → List Op → (Operand → Action) → List Op
+with_operand y k ops f = (prepared y k ops).ops ++ op (prepared y k ops).steps (f (prepared y k ops).operand) ∷ []
 
 -- operations that put a left operand on the stack, unless it is there
 abbrev pub kept : Operand → ℕ → List Op
@@ -54,12 +62,12 @@ rest Top k = k
 rest x k = 0
 
 -- a right operand, beside a left one that is ready
-abbrev pub paired : Operand → ℕ → Option Operand → List Op → Pair
+abbrev pub paired : Operand → ℕ → Option Operand → List Op → ReadyPair
 paired x k (Some y) ops = record { ops = []; left = x; right = y; steps = suc k }
 paired x k None ops = record { ops = kept x k ++ ops; left = Top; right = Top; steps = 0 }
 
 -- a pair behind other operations
-abbrev pub behind : List Op → Pair → Pair
+abbrev pub behind : List Op → ReadyPair → Pair
 behind ops p = record p { ops = ops ++ p.ops }
 
 -- a scope around operations, where it is there

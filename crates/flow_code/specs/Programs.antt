@@ -14,13 +14,14 @@ use Rattle.flow_code.specs.declared.code.Body.{Body}
 use Rattle.flow_code.specs.declared.code.First.{First}
 use Rattle.flow_code.specs.declared.code.Code.{Code}
 use Rattle.flow_code.specs.declared.statements.Inside.{Inside}
-use Rattle.flow_code.specs.Preparing.{op}
+use Rattle.flow_code.specs.Preparing.{followed, op}
 use Rattle.flow_code.specs.Sizes.{size_of_form}
 use Rattle.flow_code.specs.Statements.{form_code}
+use Rattle.flow_code.specs.Words.{native, native_if}
 
 -- in a function, whose last operation stands at an address
-abbrev pub in_function : ℕ → Function → Inside
-in_function leave f = record { broken = leave; again = leave; inner = 0; scopes = 0; result = f.result }
+abbrev pub in_function : DataModel → ℕ → Function → Inside
+in_function m leave f = record { broken = leave; again = leave; inner = 0; scopes = 0; result = native_if m f.result }
 
 -- of a cell that lives when a run begins
 abbrev pub cell_of : First → Cell
@@ -42,18 +43,18 @@ entry_of (Some b) = b.entry
 module _ (p : Program) where
   -- a function's body: its step, its statements, and the way back
   abbrev pub body_code : ℕ → Function → Stm → List Op
-  body_code i f (Stmt at x) = op 1 Rest ∷ form_code p (i + 1) (in_function (i + 1 + size_of_form 0 0 x) f) at x ++ op 0 Leave ∷ []
+  body_code i f (Stmt at x) = followed i (op 1 Rest ∷ []) (λ j. form_code p j (in_function p.model (j + size_of_form 0 0 x) f) at x) ++ op 0 Leave ∷ []
 
   abbrev pub function_code : ℕ → Function → List Op
   function_code i f = body_code i f f.body
 
   abbrev pub functions_code : ℕ → List Function → List Op
   functions_code i [] = []
-  functions_code i (f ∷ fs) = function_code i f ++ functions_code (i + length (function_code i f)) fs
+  functions_code i (f ∷ fs) = followed i (function_code i f) (λ j. functions_code j fs)
 
   abbrev pub parameters_of : List ℕ → List Parameter
   parameters_of [] = []
-  parameters_of (o ∷ os) = record { object = o; ty = type_of_object p o } ∷ parameters_of os
+  parameters_of (o ∷ os) = record { object = o; ty = native p.model (type_of_object p o) } ∷ parameters_of os
 
   abbrev pub bodies : ℕ → List Function → List Body
   bodies i [] = []

@@ -133,11 +133,6 @@ abbrev pub size_of_test : Option Exp → ℕ
 size_of_test None = 1
 size_of_test (Some e) = size e
 
--- `return` with a value, behind so many open scopes
-abbrev pub size_of_return : Exp → ℕ → ℕ
-size_of_return e zero = with_one (operand_of e) (size e)
-size_of_return e (suc n) = size e + suc n + 1
-
 -- where so many scopes are open in the innermost loop and in the function
 abbrev mutual
   pub size_of_statement : ℕ → ℕ → Stm → ℕ
@@ -157,7 +152,7 @@ abbrev mutual
   size_of_form inner scopes Break = inner + 1
   size_of_form inner scopes Continue = inner + 1
   size_of_form inner scopes (Return None) = scopes + 1
-  size_of_form inner scopes (Return (Some e)) = size_of_return e scopes
+  size_of_form inner scopes (Return (Some e)) = size e + scopes + 1
   size_of_form inner scopes (Label b) = size_of_statement inner scopes b
 
   pub size_of_else : ℕ → ℕ → Else → ℕ

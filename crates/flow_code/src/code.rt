@@ -3,6 +3,15 @@ use c_core::{BinOp, DataModel, IntType, Property, Spot, UnOp};
 use run_state::{Around, CallSite};
 use wv_base::Seq;
 
+/// The types that operators compute in, as the processor has them.
+#[derive(Clone, Copy, Debug, PartialEq, Eq)]
+pub enum Word {
+    Signed32,
+    Unsigned32,
+    Signed64,
+    Unsigned64,
+}
+
 /// Where an operand is: on top of the stack, in the cell of a scalar, in the operation itself.
 #[derive(Clone, Copy, Debug, PartialEq, Eq)]
 pub enum Operand {
@@ -58,11 +67,21 @@ pub enum Action {
     /// A statement is about to be done.
     Arrive(Spot),
     /// An operand.
-    Give { from: Operand, into: Into },
+    Give {
+        from: Operand,
+        into: Into,
+    },
     /// 1 where an operand isn't 0, else 0.
-    Truth { of: Operand, into: Into },
+    Truth {
+        of: Operand,
+        into: Into,
+    },
     /// An operand, converted.
-    Convert { ty: IntType, of: Operand, into: Into },
+    Convert {
+        ty: IntType,
+        of: Operand,
+        into: Into,
+    },
     /// The element of an array.
     Look {
         object: u32,
@@ -79,11 +98,11 @@ pub enum Action {
         spot: Spot,
         reads: bool,
     },
-    /// An operator that computes in a type; its right side is converted to another.
+    /// An operator that computes in a type; the count of a shift has a type of its own.
     Operate {
         op: BinOp,
-        ty: IntType,
-        right_ty: IntType,
+        word: Word,
+        count: Word,
         left: Operand,
         right: Operand,
         from: Source,
@@ -91,7 +110,7 @@ pub enum Action {
     },
     OperateOne {
         op: UnOp,
-        ty: IntType,
+        word: Word,
         of: Operand,
         from: Source,
         into: Into,
@@ -123,12 +142,15 @@ pub enum Action {
         into: Into,
     },
     /// A call of `reach_error`.
-    Reach { around: Around, spot: Spot },
+    Reach {
+        around: Around,
+        spot: Spot,
+    },
     /// The run ends.
     End,
-    /// A function is left, without a value or with one, converted to its type.
+    /// A function is left, without a value or with the one on top of the stack, converted to its type.
     Leave,
-    Return { ty: Option<IntType>, of: Operand },
+    Return(Option<IntType>),
 }
 
 /// An action and the steps that it takes.

@@ -1,7 +1,22 @@
 // The code of expressions. `steps` are those that the expression's first operation takes besides its own.
+ghost use Rattle.std.specs.Prelude.{◌≡◌, ◌+◌, ◌++◌, ◌∷◌, [], length, List, slice_get, OnOk, IfOk};
+ghost use Rattle.c_core.specs.Operators as operators;
+ghost use Rattle.c_core.specs.Tree as t;
+ghost use Rattle.c_core.specs.View.{program_view, expr_view, exprs_view, node_view, functions_view};
+ghost use Rattle.c_meaning.specs.Meaning.{Used};
+ghost use Rattle.run_state.specs.Interpreting.{use_of};
+ghost use Rattle.flow_code.specs.Expressions.{code, node_code, aim_code, args_code, callee_code, call_of, operator, stored_code, both_ready, place_of, stored_at, as_type, left_by};
+ghost use Rattle.flow_code.specs.Making.{IsReady, AreReady};
+ghost use Rattle.flow_code.specs.Preparing.{op, prepared, paired, kept, rest};
+ghost use Rattle.flow_code.specs.Preparing as preparing;
+ghost use Rattle.flow_code.specs.Sizes.{operand_of};
+ghost use Rattle.flow_code.specs.declared.code.Action.TheVariants.{Enter};
+ghost use Rattle.flow_code.specs.declared.code.Then.TheVariants.{Push};
+
 use crate::code::{Action, Into, Op, Operand, Place, Source, Store, Then};
 use crate::emit::{ahead, emit, give, more, only, operand_of};
 use crate::sizes::{size, size_with_one};
+use crate::words::{native, word_of};
 use c_core::{
     BinOp, Callee, Expr, IntType, Node, Program, Spot, StepOp, UnOp, op_of_step, promote,
     right_type_for, type_for,
@@ -33,7 +48,9 @@ pub fn expression(
     used: bool,
     e: &Expr,
     then: Then,
-) -> Result<(), OutOfMemory> {
+) -> Result<(), OutOfMemory>
+    ensures { OnOk result (ops.new ≡ ops.old ++ code (program_view program.now) around (length ops.old) steps (use_of used) (expr_view e.now) then) }
+{
     let steps = more(steps, 1)?;
     match &e.node {
         Node::Const(value) => give(ops, steps, Operand::Number(*value), then),
@@ -43,9 +60,7 @@ pub fn expression(
         }
         Node::Unary { op, of } => unary(program, ops, steps, around, e.spot, *op, of, then),
         Node::Cast(of) => cast(program, ops, steps, around, e.ty, of, then),
-        Node::Step { op, target } => step(
-            program, ops, steps, around, e.spot, *op, target, then,
-        ),
+        Node::Step { op, target } => step(program, ops, steps, around, e.spot, *op, target, then),
         Node::Binary { op, left, right } => binary(
             program,
             ops,
@@ -74,9 +89,7 @@ pub fn expression(
         }
         Node::Assign { op, target, from } => match op {
             None => assign(program, ops, steps, around, target, from, then),
-            Some(op) => update(
-                program, ops, steps, around, e.spot, *op, target, from, then,
-            ),
+            Some(op) => update(program, ops, steps, around, e.spot, *op, target, from, then),
         },
         Node::Call {
             callee,
@@ -110,7 +123,9 @@ pub fn prepare(
     steps: u32,
     around: Around,
     e: &Expr,
-) -> Result<Prepared, OutOfMemory> {
+) -> Result<Prepared, OutOfMemory>
+    ensures { IfOk result (λ q. IsReady q ops.old ops.new (prepared (operand_of (expr_view e.now)) steps (code (program_view program.now) around (length ops.old) steps Used (expr_view e.now) Push))) }
+{
     match operand_of(e) {
         Some(operand) => {
             let steps = more(steps, 1)?;
@@ -127,7 +142,9 @@ pub fn prepare(
 }
 
 // The left operand goes on the stack, unless it is there.
-fn keep_left(ops: &mut Seq<Op>, steps: u32, left: Operand) -> Result<u32, OutOfMemory> {
+fn keep_left(ops: &mut Seq<Op>, steps: u32, left: Operand) -> Result<u32, OutOfMemory>
+    ensures { IfOk result (λ n. (ops.new ≡ ops.old ++ kept left steps) × (n ≡ rest left steps)) }
+{
     match left {
         Operand::Top => Ok(steps),
         _ => {
@@ -146,7 +163,9 @@ fn prepare_second(
     around: Around,
     left: Operand,
     e: &Expr,
-) -> Result<Pair, OutOfMemory> {
+) -> Result<Pair, OutOfMemory>
+    ensures { IfOk result (λ q. AreReady q ops.old ops.new (paired left steps (operand_of (expr_view e.now)) (code (program_view program.now) around (length ops.old + length (kept left steps)) (rest left steps) Used (expr_view e.now) Push))) }
+{
     match operand_of(e) {
         Some(right) => {
             let steps = more(steps, 1)?;
@@ -173,7 +192,9 @@ fn prepare_both(
     around: Around,
     a: &Expr,
     b: &Expr,
-) -> Result<Pair, OutOfMemory> {
+) -> Result<Pair, OutOfMemory>
+    ensures { IfOk result (λ q. AreReady q ops.old ops.new (both_ready (program_view program.now) around (length ops.old) steps (expr_view a.now) (expr_view b.now))) }
+{
     let first = prepare(program, ops, steps, around, a)?;
     prepare_second(program, ops, first.steps, around, first.operand, b)
 }
@@ -188,15 +209,17 @@ fn operate(
     a: IntType,
     b: IntType,
     into: Into,
-) -> Result<(), OutOfMemory> {
+) -> Result<(), OutOfMemory>
+    ensures { OnOk result (ops.new ≡ ops.old ++ preparing.op pair.steps (operator (program_view program.now) from op a b into (record { ops = []; left = pair.left; right = pair.right; steps = pair.steps })) ∷ []) }
+{
     let ty = type_for(program.model, op, a, b);
     emit(
         ops,
         pair.steps,
         Action::Operate {
             op,
-            ty,
-            right_ty: right_type_for(program.model, op, ty, b),
+            word: word_of(program.model, ty),
+            count: word_of(program.model, right_type_for(program.model, op, ty, b)),
             left: pair.left,
             right: pair.right,
             from,
@@ -216,7 +239,9 @@ fn binary(
     left: &Expr,
     right: &Expr,
     into: Into,
-) -> Result<(), OutOfMemory> {
+) -> Result<(), OutOfMemory>
+    ensures { OnOk result (ops.new ≡ ops.old ++ node_code (program_view program.now) around (length ops.old) steps Used spot None (t.Binary op (expr_view left.now) (expr_view right.now)) into) }
+{
     let pair = prepare_both(program, ops, steps, around, left, right)?;
     let from = Source { around, spot };
     operate(
@@ -241,7 +266,9 @@ fn element(
     object: u32,
     at: &Expr,
     then: Then,
-) -> Result<(), OutOfMemory> {
+) -> Result<(), OutOfMemory>
+    ensures { OnOk result (ops.new ≡ ops.old ++ node_code (program_view program.now) around (length ops.old) steps Used spot None (t.Index object (expr_view at.now)) (preparing.only then)) }
+{
     let index = prepare(program, ops, steps, around, at)?;
     emit(
         ops,
@@ -266,14 +293,16 @@ fn unary(
     op: UnOp,
     of: &Expr,
     then: Then,
-) -> Result<(), OutOfMemory> {
+) -> Result<(), OutOfMemory>
+    ensures { OnOk result (ops.new ≡ ops.old ++ node_code (program_view program.now) around (length ops.old) steps Used spot None (t.Unary op (expr_view of.now)) (preparing.only then)) }
+{
     let value = prepare(program, ops, steps, around, of)?;
     emit(
         ops,
         value.steps,
         Action::OperateOne {
             op,
-            ty: promote(program.model, type_of(of)),
+            word: word_of(program.model, promote(program.model, type_of(of))),
             of: value.operand,
             from: Source { around, spot },
             into: only(then),
@@ -290,7 +319,9 @@ fn cast(
     ty: Option<IntType>,
     of: &Expr,
     then: Then,
-) -> Result<(), OutOfMemory> {
+) -> Result<(), OutOfMemory>
+    ensures { OnOk result (ops.new ≡ ops.old ++ node_code (program_view program.now) around (length ops.old) steps Used around.full ty (t.Cast (expr_view of.now)) (preparing.only then)) }
+{
     match ty {
         None => expression(program, ops, steps, around, false, of, then),
         Some(ty) => {
@@ -299,7 +330,7 @@ fn cast(
                 ops,
                 value.steps,
                 Action::Convert {
-                    ty,
+                    ty: native(program.model, ty),
                     of: value.operand,
                     into: only(then),
                 },
@@ -318,7 +349,9 @@ fn logic(
     left: &Expr,
     right: &Expr,
     then: Then,
-) -> Result<(), OutOfMemory> {
+) -> Result<(), OutOfMemory>
+    ensures { OnOk result (ops.new ≡ ops.old ++ node_code (program_view program.now) around (length ops.old) steps Used around.full None (t.Logic both (expr_view left.now) (expr_view right.now)) (preparing.only then)) }
+{
     let first = size(left)?;
     let second = size_with_one(right)?;
     let decided = ahead(ops, more(first, more(second, 1)?)?)?;
@@ -357,7 +390,9 @@ fn arm(
     ty: Option<IntType>,
     e: &Expr,
     then: Then,
-) -> Result<(), OutOfMemory> {
+) -> Result<(), OutOfMemory>
+    ensures { OnOk result (ops.new ≡ ops.old ++ (code (program_view program.now) around (length ops.old) 0 Used (expr_view e.now) Push ++ as_type program.now.model ty (preparing.only then) ∷ [])) }
+{
     expression(program, ops, 0, around, true, e, Then::Push)?;
     let into = only(then);
     match ty {
@@ -373,7 +408,7 @@ fn arm(
             ops,
             0,
             Action::Convert {
-                ty,
+                ty: native(program.model, ty),
                 of: Operand::Top,
                 into,
             },
@@ -393,7 +428,9 @@ fn choose(
     yes: &Expr,
     no: &Expr,
     then: Then,
-) -> Result<(), OutOfMemory> {
+) -> Result<(), OutOfMemory>
+    ensures { OnOk result (ops.new ≡ ops.old ++ node_code (program_view program.now) around (length ops.old) steps Used around.full ty (t.Choose mark (expr_view test.now) (expr_view yes.now) (expr_view no.now)) (preparing.only then)) }
+{
     let first = more(size(test)?, size(yes)?)?;
     let second = ahead(ops, more(first, 2)?)?;
     let end = more(second, more(size(no)?, 1)?)?;
@@ -424,13 +461,13 @@ pub fn stored(
     around: Around,
     e: &Expr,
     into: Into,
-) -> Result<(), OutOfMemory> {
+) -> Result<(), OutOfMemory>
+    ensures { OnOk result (ops.new ≡ ops.old ++ stored_code (program_view program.now) around (length ops.old) steps (expr_view e.now) into) }
+{
     match &e.node {
         Node::Binary { op, left, right } => {
             let steps = more(steps, 1)?;
-            binary(
-                program, ops, steps, around, e.spot, *op, left, right, into,
-            )
+            binary(program, ops, steps, around, e.spot, *op, left, right, into)
         }
         _ => {
             let value = prepare(program, ops, steps, around, e)?;
@@ -455,7 +492,9 @@ fn aim(
     around: Around,
     target: &Expr,
     reads: bool,
-) -> Result<(Place, Prepared), OutOfMemory> {
+) -> Result<(Place, Prepared), OutOfMemory>
+    ensures { IfOk result (λ q. (q.0 ≡ place_of (node_view target.now.node)) × IsReady q.1 ops.old ops.new (aim_code (program_view program.now) around (length ops.old) steps (expr_view target.now) reads)) }
+{
     let steps = more(steps, 1)?;
     match &target.node {
         Node::Index { object, at } => {
@@ -498,11 +537,13 @@ fn aim(
 }
 
 // A value stored in a target, as its type has it.
-fn into_target(place: Place, target: &Expr, old: bool, then: Then) -> Into {
+fn into_target(program: &Program, place: Place, target: &Expr, old: bool, then: Then) -> Into
+    ensures { place ≡ place_of (node_view target.now.node) → result ≡ stored_at program.now.model (expr_view target.now) old then }
+{
     Into {
         store: Some(Store {
             place,
-            ty: type_of(target),
+            ty: native(program.model, type_of(target)),
             old,
         }),
         then,
@@ -518,9 +559,11 @@ fn assign(
     target: &Expr,
     from: &Expr,
     then: Then,
-) -> Result<(), OutOfMemory> {
+) -> Result<(), OutOfMemory>
+    ensures { OnOk result (ops.new ≡ ops.old ++ node_code (program_view program.now) around (length ops.old) steps Used around.full None (t.Assign None (expr_view target.now) (expr_view from.now)) (preparing.only then)) }
+{
     let (place, prepared) = aim(program, ops, steps, around, target, false)?;
-    let into = into_target(place, target, false, then);
+    let into = into_target(program, place, target, false, then);
     stored(program, ops, prepared.steps, around, from, into)
 }
 
@@ -535,7 +578,9 @@ fn update(
     target: &Expr,
     from: &Expr,
     then: Then,
-) -> Result<(), OutOfMemory> {
+) -> Result<(), OutOfMemory>
+    ensures { OnOk result (ops.new ≡ ops.old ++ node_code (program_view program.now) around (length ops.old) steps Used spot None (t.Assign (Some op) (expr_view target.now) (expr_view from.now)) (preparing.only then)) }
+{
     let (place, old) = aim(program, ops, steps, around, target, true)?;
     let pair = prepare_second(program, ops, old.steps, around, old.operand, from)?;
     operate(
@@ -546,11 +591,13 @@ fn update(
         op,
         type_of(target),
         type_of(from),
-        into_target(place, target, false, then),
+        into_target(program, place, target, false, then),
     )
 }
 
-fn is_prefix(op: StepOp) -> bool {
+fn is_prefix(op: StepOp) -> bool
+    ensures { result ≡ operators.is_prefix op }
+{
     match op {
         StepOp::PreInc | StepOp::PreDec => true,
         StepOp::PostInc | StepOp::PostDec => false,
@@ -567,7 +614,9 @@ fn step(
     op: StepOp,
     target: &Expr,
     then: Then,
-) -> Result<(), OutOfMemory> {
+) -> Result<(), OutOfMemory>
+    ensures { OnOk result (ops.new ≡ ops.old ++ node_code (program_view program.now) around (length ops.old) steps Used spot None (t.Step op (expr_view target.now)) (preparing.only then)) }
+{
     let (place, old) = aim(program, ops, steps, around, target, true)?;
     let pair = Pair {
         left: old.operand,
@@ -582,7 +631,7 @@ fn step(
         op_of_step(op),
         type_of(target),
         IntType::Int,
-        into_target(place, target, !is_prefix(op), then),
+        into_target(program, place, target, !is_prefix(op), then),
     )
 }
 
@@ -594,7 +643,9 @@ fn arguments(
     steps: u32,
     around: Around,
     args: &[Expr],
-) -> Result<u32, OutOfMemory> {
+) -> Result<u32, OutOfMemory>
+    ensures { IfOk result (λ n. (ops.new ≡ ops.old ++ args_code (program_view program.now) around (length ops.old) steps (exprs_view args.now)) × (n ≡ left_by (exprs_view args.now) steps)) }
+{
     let mut left = steps;
     for e in args {
         expression(program, ops, left, around, true, e, Then::Push)?;
@@ -613,7 +664,9 @@ fn call(
     callee: Callee,
     args: &[Expr],
     then: Then,
-) -> Result<(), OutOfMemory> {
+) -> Result<(), OutOfMemory>
+    ensures { OnOk result (ops.new ≡ ops.old ++ (args_code (program_view program.now) around (length ops.old) steps (exprs_view args.now) ++ op (left_by (exprs_view args.now) steps) (Enter site.close) ∷ callee_code (program_view program.now) around site (length args.now) then callee)) }
+{
     let left = arguments(program, ops, steps, around, args)?;
     emit(ops, left, Action::Enter(site.close))?;
     match callee {
@@ -653,7 +706,9 @@ fn call_function(
     site: CallSite,
     function: u32,
     arguments: u32,
-) -> Result<(), OutOfMemory> {
+) -> Result<(), OutOfMemory>
+    ensures { OnOk result (ops.new ≡ ops.old ++ call_of function arguments site (slice_get (functions_view program.now.functions) function) ∷ []) }
+{
     match program.functions.get(function as usize) {
         Some(found) => {
             let Ok(steps) = u32::try_from(found.params.len()) else {

@@ -1,4 +1,10 @@
 // The code of loops: the test stands behind the body, and a loop begins with a jump to it.
+ghost use Rattle.std.specs.Prelude.{◌≡◌, ◌++◌, length, OnOk};
+ghost use Rattle.c_core.specs.Tree as t;
+ghost use Rattle.c_core.specs.View.{program_view, expr_view, expr_view_if, first_view, stmt_view};
+ghost use Rattle.flow_code.specs.Statements.{form_code, test_code, first_code, turns_code};
+ghost use Rattle.flow_code.specs.Statements as spec;
+
 use crate::code::{Action, Op, Then};
 use crate::emit::{ahead, emit, more};
 use crate::expressions::expression;
@@ -8,7 +14,9 @@ use c_core::{Expr, First, Program, Spot, Stmt};
 use wv_base::{OutOfMemory, Seq};
 
 // In a loop whose body `continue` goes on to an address, and `break` to another.
-fn in_loop(inside: Inside, again: u32, broken: u32) -> Inside {
+fn in_loop(inside: Inside, again: u32, broken: u32) -> Inside
+    ensures { result ≡ spec.in_loop again broken inside }
+{
     Inside {
         broken,
         again,
@@ -24,7 +32,9 @@ fn test_at(
     at: Spot,
     test: &Expr,
     to: u32,
-) -> Result<(), OutOfMemory> {
+) -> Result<(), OutOfMemory>
+    ensures { OnOk result (ops.new ≡ ops.old ++ test_code (program_view program.now) (length ops.old) at (Some (expr_view test.now)) to) }
+{
     let then = Then::Branch { at, way: true, to };
     expression(program, ops, 0, full_of(at, test), true, test, then)
 }
@@ -37,7 +47,9 @@ pub fn while_loop(
     at: Spot,
     test: &Expr,
     body: &Stmt,
-) -> Result<(), OutOfMemory> {
+) -> Result<(), OutOfMemory>
+    ensures { OnOk result (ops.new ≡ ops.old ++ form_code (program_view program.now) (length ops.old) inside at (t.While (expr_view test.now) (stmt_view body.now))) }
+{
     let start = ahead(ops, 1)?;
     let again = more(start, size_of_arm(body, 0, inside.scopes)?)?;
     let broken = more(again, size(test)?)?;
@@ -54,7 +66,9 @@ pub fn do_loop(
     at: Spot,
     body: &Stmt,
     test: &Expr,
-) -> Result<(), OutOfMemory> {
+) -> Result<(), OutOfMemory>
+    ensures { OnOk result (ops.new ≡ ops.old ++ form_code (program_view program.now) (length ops.old) inside at (t.DoWhile (stmt_view body.now) (expr_view test.now))) }
+{
     let start = ahead(ops, 0)?;
     let again = more(start, size_of_arm(body, 0, inside.scopes)?)?;
     let broken = more(again, size(test)?)?;
@@ -63,12 +77,9 @@ pub fn do_loop(
 }
 
 // The first part of a `for`.
-fn begin(
-    program: &Program,
-    ops: &mut Seq<Op>,
-    at: Spot,
-    first: &First,
-) -> Result<(), OutOfMemory> {
+fn begin(program: &Program, ops: &mut Seq<Op>, at: Spot, first: &First) -> Result<(), OutOfMemory>
+    ensures { OnOk result (ops.new ≡ ops.old ++ first_code (program_view program.now) (length ops.old) at (first_view first.now)) }
+{
     match first {
         First::Absent => Ok(()),
         First::Expr(e) => expression(program, ops, 0, full_of(at, e), false, e, Then::Drop),
@@ -86,7 +97,9 @@ pub fn for_loop(
     test: &Option<Expr>,
     step: &Option<Expr>,
     body: &Stmt,
-) -> Result<(), OutOfMemory> {
+) -> Result<(), OutOfMemory>
+    ensures { OnOk result (ops.new ≡ ops.old ++ form_code (program_view program.now) (length ops.old) inside at (t.For (first_view first.now) (expr_view_if test.now) (expr_view_if step.now) (stmt_view body.now))) }
+{
     let there = first_leaks(first);
     let within = deeper(inside, there)?;
     open(ops, there)?;
@@ -105,7 +118,9 @@ fn turn(
     test: &Option<Expr>,
     step: &Option<Expr>,
     body: &Stmt,
-) -> Result<(), OutOfMemory> {
+) -> Result<(), OutOfMemory>
+    ensures { OnOk result (ops.new ≡ ops.old ++ turns_code (program_view program.now) (length ops.old) inside at (expr_view_if test.now) (expr_view_if step.now) (stmt_view body.now)) }
+{
     let start = ahead(ops, 1)?;
     let again = more(start, size_of_arm(body, 0, inside.scopes)?)?;
     let head = more(again, size_if(step)?)?;

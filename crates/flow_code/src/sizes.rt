@@ -1,17 +1,26 @@
 // How many operations the code of a part has.
+ghost use Rattle.std.specs.Prelude.{◌≡◌, ◌+◌, ℕ, IfOk};
+ghost use Rattle.c_core.specs.Tree as t;
+ghost use Rattle.c_core.specs.View.{expr_view, exprs_view, node_view, expr_view_if, init_view, names_view, first_view, form_view, stmt_view, stmts_view};
+ghost use Rattle.flow_code.specs.Sizes as spec;
+
 use crate::emit::{more, operand_of};
 use c_core::{Callee, Declared, Expr, First, Form, Init, Node, Stmt};
 use wv_base::OutOfMemory;
 
 // The sum of three.
-fn all(a: u32, b: u32, c: u32) -> Result<u32, OutOfMemory> {
+fn all(a: u32, b: u32, c: u32) -> Result<u32, OutOfMemory>
+    ensures { IfOk result (λ n. n ≡ a + b + c) }
+{
     let two = more(a, b)?;
     more(two, c)
 }
 
 /// An expression's code.
 #[cycle(size)]
-pub fn size(e: &Expr) -> Result<u32, OutOfMemory> {
+pub fn size(e: &Expr) -> Result<u32, OutOfMemory>
+    ensures { IfOk result (λ n. n ≡ spec.size (expr_view e.now)) }
+{
     match &e.node {
         Node::Const(_) => Ok(1),
         Node::Var(_) => Ok(1),
@@ -52,17 +61,28 @@ pub fn size(e: &Expr) -> Result<u32, OutOfMemory> {
             more(aim, value)
         }
         Node::Call { callee, args, .. } => {
-            let mut sum = size_of_callee(*callee);
-            for e in args.as_slice() {
-                let one = size(e)?;
-                sum = more(sum, one)?;
-            }
-            Ok(sum)
+            let all = size_of_all(args.as_slice())?;
+            more(size_of_callee(*callee), all)
         }
     }
 }
 
-fn size_of_callee(callee: Callee) -> u32 {
+// The code of arguments.
+#[cycle(size)]
+fn size_of_all(args: &[Expr]) -> Result<u32, OutOfMemory>
+    ensures { IfOk result (λ n. n ≡ spec.size_of_all (exprs_view args.now)) }
+{
+    let mut sum = 0;
+    for e in args {
+        let one = size(e)?;
+        sum = more(sum, one)?;
+    }
+    Ok(sum)
+}
+
+fn size_of_callee(callee: Callee) -> u32
+    ensures { result ≡ spec.size_of_callee callee }
+{
     match callee {
         Callee::Defined(_) => 3,
         _ => 2,
@@ -71,7 +91,9 @@ fn size_of_callee(callee: Callee) -> u32 {
 
 /// The code of an operand, and an operation that takes it.
 #[cycle(size)]
-pub fn size_with_one(e: &Expr) -> Result<u32, OutOfMemory> {
+pub fn size_with_one(e: &Expr) -> Result<u32, OutOfMemory>
+    ensures { IfOk result (λ n. n ≡ spec.with_one (spec.operand_of (expr_view e.now)) (spec.size (expr_view e.now))) }
+{
     match operand_of(e) {
         Some(_) => Ok(1),
         None => {
@@ -83,7 +105,9 @@ pub fn size_with_one(e: &Expr) -> Result<u32, OutOfMemory> {
 
 // The code of two operands, and an operation that takes them.
 #[cycle(size)]
-fn size_with_two(a: &Expr, b: &Expr) -> Result<u32, OutOfMemory> {
+fn size_with_two(a: &Expr, b: &Expr) -> Result<u32, OutOfMemory>
+    ensures { IfOk result (λ n. n ≡ spec.with_two (spec.operand_of (expr_view a.now)) (spec.operand_of (expr_view b.now)) (spec.size (expr_view a.now)) (spec.size (expr_view b.now))) }
+{
     match operand_of(a) {
         Some(_) => match operand_of(b) {
             Some(_) => Ok(1),
@@ -102,7 +126,9 @@ fn size_with_two(a: &Expr, b: &Expr) -> Result<u32, OutOfMemory> {
 
 // The code that finds an element that is written; there is none for a scalar.
 #[cycle(size)]
-fn size_of_aim(target: &Expr) -> Result<u32, OutOfMemory> {
+fn size_of_aim(target: &Expr) -> Result<u32, OutOfMemory>
+    ensures { IfOk result (λ n. n ≡ spec.size_of_aim (expr_view target.now)) }
+{
     match &target.node {
         Node::Index { at, .. } => size_with_one(at),
         _ => Ok(0),
@@ -111,7 +137,9 @@ fn size_of_aim(target: &Expr) -> Result<u32, OutOfMemory> {
 
 // The code of a right side whose left side is a target's value.
 #[cycle(size)]
-fn size_of_second(target: &Expr, from: &Expr) -> Result<u32, OutOfMemory> {
+fn size_of_second(target: &Expr, from: &Expr) -> Result<u32, OutOfMemory>
+    ensures { IfOk result (λ n. n ≡ spec.with_target (node_view target.now.node) (spec.operand_of (expr_view from.now)) (spec.size (expr_view from.now))) }
+{
     match operand_of(from) {
         Some(_) => Ok(1),
         None => {
@@ -126,7 +154,9 @@ fn size_of_second(target: &Expr, from: &Expr) -> Result<u32, OutOfMemory> {
 
 /// The code of a value that is stored.
 #[cycle(size)]
-pub fn size_stored(e: &Expr) -> Result<u32, OutOfMemory> {
+pub fn size_stored(e: &Expr) -> Result<u32, OutOfMemory>
+    ensures { IfOk result (λ n. n ≡ spec.size_stored (expr_view e.now)) }
+{
     match &e.node {
         Node::Binary { left, right, .. } => size_with_two(left, right),
         _ => size_with_one(e),
@@ -134,7 +164,9 @@ pub fn size_stored(e: &Expr) -> Result<u32, OutOfMemory> {
 }
 
 /// Does a statement declare names in the scope that it stands in?
-pub fn leaks(s: &Stmt) -> bool {
+pub fn leaks(s: &Stmt) -> bool
+    ensures { result ≡ spec.leaks (stmt_view s.now) }
+{
     match &s.form {
         Form::Declare(_) => true,
         Form::Label(inner) => leaks(inner),
@@ -143,7 +175,9 @@ pub fn leaks(s: &Stmt) -> bool {
 }
 
 /// Does any of these?
-pub fn any_leaks(body: &[Stmt]) -> bool {
+pub fn any_leaks(body: &[Stmt]) -> bool
+    ensures { result ≡ spec.any_leaks (stmts_view body.now) }
+{
     for s in body {
         if leaks(s) {
             return true;
@@ -153,7 +187,9 @@ pub fn any_leaks(body: &[Stmt]) -> bool {
 }
 
 /// Does the first part of a `for` declare names?
-pub fn first_leaks(first: &First) -> bool {
+pub fn first_leaks(first: &First) -> bool
+    ensures { result ≡ spec.first_leaks (first_view first.now) }
+{
     match first {
         First::Declare(_) => true,
         _ => false,
@@ -161,19 +197,25 @@ pub fn first_leaks(first: &First) -> bool {
 }
 
 /// Two operations more where there is a scope.
-pub fn with_scope(there: bool, inner: u32) -> Result<u32, OutOfMemory> {
+pub fn with_scope(there: bool, inner: u32) -> Result<u32, OutOfMemory>
+    ensures { IfOk result (λ n. n ≡ spec.with_scope there inner) }
+{
     if there { more(inner, 2) } else { Ok(inner) }
 }
 
 /// The code of an expression, if there is one.
-pub fn size_if(e: &Option<Expr>) -> Result<u32, OutOfMemory> {
+pub fn size_if(e: &Option<Expr>) -> Result<u32, OutOfMemory>
+    ensures { IfOk result (λ n. n ≡ spec.size_if (expr_view_if e.now)) }
+{
     match e {
         None => Ok(0),
         Some(e) => size(e),
     }
 }
 
-fn size_of_values(values: &[Expr]) -> Result<u32, OutOfMemory> {
+fn size_of_values(values: &[Expr]) -> Result<u32, OutOfMemory>
+    ensures { IfOk result (λ n. n ≡ spec.size_of_values (exprs_view values.now)) }
+{
     let mut sum = 0;
     for e in values {
         let one = size_stored(e)?;
@@ -182,7 +224,9 @@ fn size_of_values(values: &[Expr]) -> Result<u32, OutOfMemory> {
     Ok(sum)
 }
 
-fn size_of_init(init: &Init) -> Result<u32, OutOfMemory> {
+fn size_of_init(init: &Init) -> Result<u32, OutOfMemory>
+    ensures { IfOk result (λ n. n ≡ spec.size_of_init (init_view init.now)) }
+{
     match init {
         Init::Absent => Ok(0),
         Init::One(e) => size_stored(e),
@@ -190,7 +234,9 @@ fn size_of_init(init: &Init) -> Result<u32, OutOfMemory> {
     }
 }
 
-fn size_of_names(names: &[Declared]) -> Result<u32, OutOfMemory> {
+fn size_of_names(names: &[Declared]) -> Result<u32, OutOfMemory>
+    ensures { IfOk result (λ n. n ≡ spec.size_of_names (names_view names.now)) }
+{
     let mut sum = 0;
     for name in names {
         let init = size_of_init(&name.init)?;
@@ -200,7 +246,9 @@ fn size_of_names(names: &[Declared]) -> Result<u32, OutOfMemory> {
 }
 
 /// The code of the first part of a `for`.
-pub fn size_of_first(first: &First) -> Result<u32, OutOfMemory> {
+pub fn size_of_first(first: &First) -> Result<u32, OutOfMemory>
+    ensures { IfOk result (λ n. n ≡ spec.size_of_first (first_view first.now)) }
+{
     match first {
         First::Absent => Ok(0),
         First::Expr(e) => size(e),
@@ -210,13 +258,17 @@ pub fn size_of_first(first: &First) -> Result<u32, OutOfMemory> {
 
 /// A statement's code, where so many scopes are open in the innermost loop and in the function.
 #[cycle(size_of_statement)]
-pub fn size_of_statement(s: &Stmt, inner: u32, scopes: u32) -> Result<u32, OutOfMemory> {
+pub fn size_of_statement(s: &Stmt, inner: u32, scopes: u32) -> Result<u32, OutOfMemory>
+    ensures { IfOk result (λ n. n ≡ spec.size_of_statement inner scopes (stmt_view s.now)) }
+{
     let form = size_of_form(&s.form, inner, scopes)?;
     more(form, 1)
 }
 
 #[cycle(size_of_statement)]
-pub fn size_of_form(form: &Form, inner: u32, scopes: u32) -> Result<u32, OutOfMemory> {
+pub fn size_of_form(form: &Form, inner: u32, scopes: u32) -> Result<u32, OutOfMemory>
+    ensures { IfOk result (λ n. n ≡ spec.size_of_form inner scopes (form_view form.now)) }
+{
     match form {
         Form::Empty => Ok(0),
         Form::Expr(e) => size(e),
@@ -253,23 +305,19 @@ pub fn size_of_form(form: &Form, inner: u32, scopes: u32) -> Result<u32, OutOfMe
         Form::Break => more(inner, 1),
         Form::Continue => more(inner, 1),
         Form::Return(None) => more(scopes, 1),
-        Form::Return(Some(e)) => size_of_return(e, scopes),
+        Form::Return(Some(e)) => {
+            let value = size(e)?;
+            all(value, scopes, 1)
+        }
         Form::Label(s) => size_of_statement(s, inner, scopes),
-    }
-}
-
-fn size_of_return(e: &Expr, scopes: u32) -> Result<u32, OutOfMemory> {
-    if scopes == 0 {
-        size_with_one(e)
-    } else {
-        let value = size(e)?;
-        all(value, scopes, 1)
     }
 }
 
 /// A statement that is a scope of its own, if it declares names.
 #[cycle(size_of_statement)]
-pub fn size_of_arm(s: &Stmt, inner: u32, scopes: u32) -> Result<u32, OutOfMemory> {
+pub fn size_of_arm(s: &Stmt, inner: u32, scopes: u32) -> Result<u32, OutOfMemory>
+    ensures { IfOk result (λ n. n ≡ spec.size_of_arm inner scopes (stmt_view s.now)) }
+{
     let there = leaks(s);
     let more_scopes = u32::from(there);
     let size = size_of_statement(s, more(inner, more_scopes)?, more(scopes, more_scopes)?)?;
@@ -277,7 +325,9 @@ pub fn size_of_arm(s: &Stmt, inner: u32, scopes: u32) -> Result<u32, OutOfMemory
 }
 
 #[cycle(size_of_statement)]
-fn size_of_block(body: &[Stmt], inner: u32, scopes: u32) -> Result<u32, OutOfMemory> {
+fn size_of_block(body: &[Stmt], inner: u32, scopes: u32) -> Result<u32, OutOfMemory>
+    ensures { IfOk result (λ n. n ≡ spec.size_of_form inner scopes (t.Block (stmts_view body.now))) }
+{
     let there = any_leaks(body);
     let more_scopes = u32::from(there);
     let inner = more(inner, more_scopes)?;
@@ -298,7 +348,9 @@ fn size_of_for(
     step: &Option<Expr>,
     body: &Stmt,
     scopes: u32,
-) -> Result<u32, OutOfMemory> {
+) -> Result<u32, OutOfMemory>
+    ensures { IfOk result (λ n. (inner : ℕ) → n ≡ spec.size_of_form inner scopes (t.For (first_view first.now) (expr_view_if test.now) (expr_view_if step.now) (stmt_view body.now))) }
+{
     let there = first_leaks(first);
     let first = size_of_first(first)?;
     let scopes = more(scopes, u32::from(there))?;

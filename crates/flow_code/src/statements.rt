@@ -1,9 +1,18 @@
 // The code of statements.
+ghost use Rattle.std.specs.Prelude.{◌≡◌, ◌++◌, length, OnOk, IfOk};
+ghost use Rattle.c_core.specs.Tree as t;
+ghost use Rattle.c_core.specs.View.{program_view, expr_view, exprs_view, init_view, names_view, form_view, stmt_view, stmts_view};
+ghost use Rattle.run_state.specs.Interpreting.{else_part};
+ghost use Rattle.flow_code.specs.Preparing.{opened, closed, all_closed};
+ghost use Rattle.flow_code.specs.Statements.{statement_code, form_code, arm_code, return_code, names_code, name_code, initials_code, initial_code};
+ghost use Rattle.flow_code.specs.Statements as spec;
+
 use crate::code::{Action, Into, Op, Place, Store, Then};
 use crate::emit::{ahead, emit, more};
-use crate::expressions::{expression, prepare, stored};
+use crate::expressions::{expression, stored};
 use crate::loops::{do_loop, for_loop, while_loop};
 use crate::sizes::{any_leaks, leaks, size, size_of_arm};
+use crate::words::native;
 use c_core::{Declared, Expr, Form, Init, IntType, Program, Spot, Stmt};
 use c_meaning::{size_of_object, type_of_object};
 use run_state::Around;
@@ -21,7 +30,9 @@ pub struct Inside {
 }
 
 /// Inside one scope more, where it is there.
-pub fn deeper(inside: Inside, there: bool) -> Result<Inside, OutOfMemory> {
+pub fn deeper(inside: Inside, there: bool) -> Result<Inside, OutOfMemory>
+    ensures { IfOk result (λ w. w ≡ spec.deeper there inside) }
+{
     let by = u32::from(there);
     Ok(Inside {
         inner: more(inside.inner, by)?,
@@ -31,7 +42,9 @@ pub fn deeper(inside: Inside, there: bool) -> Result<Inside, OutOfMemory> {
 }
 
 /// A scope begins, where it is there.
-pub fn open(ops: &mut Seq<Op>, there: bool) -> Result<(), OutOfMemory> {
+pub fn open(ops: &mut Seq<Op>, there: bool) -> Result<(), OutOfMemory>
+    ensures { OnOk result (ops.new ≡ ops.old ++ opened there) }
+{
     if there {
         emit(ops, 0, Action::Open)
     } else {
@@ -40,7 +53,9 @@ pub fn open(ops: &mut Seq<Op>, there: bool) -> Result<(), OutOfMemory> {
 }
 
 /// A scope ends, where it is there.
-pub fn close(ops: &mut Seq<Op>, there: bool) -> Result<(), OutOfMemory> {
+pub fn close(ops: &mut Seq<Op>, there: bool) -> Result<(), OutOfMemory>
+    ensures { OnOk result (ops.new ≡ ops.old ++ closed there) }
+{
     if there {
         emit(ops, 0, Action::Close)
     } else {
@@ -49,7 +64,9 @@ pub fn close(ops: &mut Seq<Op>, there: bool) -> Result<(), OutOfMemory> {
 }
 
 // So many scopes end.
-fn close_all(ops: &mut Seq<Op>, count: u32) -> Result<(), OutOfMemory> {
+fn close_all(ops: &mut Seq<Op>, count: u32) -> Result<(), OutOfMemory>
+    ensures { OnOk result (ops.new ≡ ops.old ++ all_closed count) }
+{
     for _ in 0..count {
         emit(ops, 0, Action::Close)?;
     }
@@ -57,7 +74,9 @@ fn close_all(ops: &mut Seq<Op>, count: u32) -> Result<(), OutOfMemory> {
 }
 
 /// The full expression of a statement.
-pub fn full_of(at: Spot, e: &Expr) -> Around {
+pub fn full_of(at: Spot, e: &Expr) -> Around
+    ensures { result ≡ spec.full_of at (expr_view e.now) }
+{
     Around {
         statement: at,
         full: e.spot,
@@ -71,7 +90,9 @@ pub fn statement(
     ops: &mut Seq<Op>,
     inside: Inside,
     s: &Stmt,
-) -> Result<(), OutOfMemory> {
+) -> Result<(), OutOfMemory>
+    ensures { OnOk result (ops.new ≡ ops.old ++ statement_code (program_view program.now) (length ops.old) inside (stmt_view s.now)) }
+{
     emit(ops, 1, Action::Arrive(s.spot))?;
     form(program, ops, inside, s.spot, &s.form)
 }
@@ -83,12 +104,14 @@ pub fn form(
     inside: Inside,
     at: Spot,
     f: &Form,
-) -> Result<(), OutOfMemory> {
+) -> Result<(), OutOfMemory>
+    ensures { OnOk result (ops.new ≡ ops.old ++ form_code (program_view program.now) (length ops.old) inside at (form_view f.now)) }
+{
     match f {
         Form::Empty => Ok(()),
         Form::Expr(e) => expression(program, ops, 0, full_of(at, e), false, e, Then::Drop),
         Form::Declare(names) => declare(program, ops, at, names.as_slice()),
-        Form::Block(body) => block(program, ops, inside, body.as_slice()),
+        Form::Block(body) => block(program, ops, inside, at, body.as_slice()),
         Form::If { test, yes, no } => choose(program, ops, inside, at, test, yes, no),
         Form::While { test, body } => while_loop(program, ops, inside, at, test, body),
         Form::Do { body, test } => do_loop(program, ops, inside, at, body, test),
@@ -110,7 +133,9 @@ pub fn form(
 }
 
 // Out of so many scopes, to an address.
-fn jump_out(ops: &mut Seq<Op>, scopes: u32, to: u32) -> Result<(), OutOfMemory> {
+fn jump_out(ops: &mut Seq<Op>, scopes: u32, to: u32) -> Result<(), OutOfMemory>
+    ensures { OnOk result (ops.new ≡ ops.old ++ spec.jump_out scopes to) }
+{
     close_all(ops, scopes)?;
     emit(ops, 0, Action::Jump(to))
 }
@@ -121,24 +146,12 @@ fn give_back(
     inside: Inside,
     at: Spot,
     e: &Expr,
-) -> Result<(), OutOfMemory> {
-    let around = full_of(at, e);
-    let ty = inside.result;
-    if inside.scopes == 0 {
-        let value = prepare(program, ops, 0, around, e)?;
-        let of = value.operand;
-        return emit(ops, value.steps, Action::Return { ty, of });
-    }
-    expression(program, ops, 0, around, true, e, Then::Push)?;
+) -> Result<(), OutOfMemory>
+    ensures { OnOk result (ops.new ≡ ops.old ++ return_code (program_view program.now) (length ops.old) at inside.result (expr_view e.now) inside.scopes) }
+{
+    expression(program, ops, 0, full_of(at, e), true, e, Then::Push)?;
     close_all(ops, inside.scopes)?;
-    emit(
-        ops,
-        0,
-        Action::Return {
-            ty,
-            of: crate::code::Operand::Top,
-        },
-    )
+    emit(ops, 0, Action::Return(inside.result))
 }
 
 #[cycle(statement)]
@@ -146,8 +159,11 @@ fn block(
     program: &Program,
     ops: &mut Seq<Op>,
     inside: Inside,
+    at: Spot,
     body: &[Stmt],
-) -> Result<(), OutOfMemory> {
+) -> Result<(), OutOfMemory>
+    ensures { OnOk result (ops.new ≡ ops.old ++ form_code (program_view program.now) (length ops.old) inside at (t.Block (stmts_view body.now))) }
+{
     let there = any_leaks(body);
     let within = deeper(inside, there)?;
     open(ops, there)?;
@@ -164,7 +180,9 @@ pub fn arm(
     ops: &mut Seq<Op>,
     inside: Inside,
     s: &Stmt,
-) -> Result<(), OutOfMemory> {
+) -> Result<(), OutOfMemory>
+    ensures { OnOk result (ops.new ≡ ops.old ++ arm_code (program_view program.now) (length ops.old) inside (stmt_view s.now)) }
+{
     let there = leaks(s);
     let within = deeper(inside, there)?;
     open(ops, there)?;
@@ -181,7 +199,9 @@ fn choose(
     test: &Expr,
     yes: &Stmt,
     no: &Option<Box<Stmt>>,
-) -> Result<(), OutOfMemory> {
+) -> Result<(), OutOfMemory>
+    ensures { OnOk result (ops.new ≡ ops.old ++ form_code (program_view program.now) (length ops.old) inside at (t.If (expr_view test.now) (stmt_view yes.now) (else_part no.now))) }
+{
     let jump = u32::from(no.is_some());
     let first = more(size(test)?, size_of_arm(yes, inside.inner, inside.scopes)?)?;
     let to = ahead(ops, more(first, jump)?)?;
@@ -204,7 +224,9 @@ pub fn declare(
     ops: &mut Seq<Op>,
     at: Spot,
     names: &[Declared],
-) -> Result<(), OutOfMemory> {
+) -> Result<(), OutOfMemory>
+    ensures { OnOk result (ops.new ≡ ops.old ++ names_code (program_view program.now) (length ops.old) at (names_view names.now)) }
+{
     for name in names {
         declare_one(program, ops, at, name)?;
     }
@@ -216,7 +238,9 @@ fn declare_one(
     ops: &mut Seq<Op>,
     at: Spot,
     name: &Declared,
-) -> Result<(), OutOfMemory> {
+) -> Result<(), OutOfMemory>
+    ensures { OnOk result (ops.new ≡ ops.old ++ name_code (program_view program.now) (length ops.old) at name.now.spot name.now.object (init_view name.now.init)) }
+{
     let object = name.object;
     let size = size_of_object(program, object);
     emit(
@@ -243,7 +267,9 @@ fn initials(
     at: Spot,
     object: u32,
     values: &[Expr],
-) -> Result<(), OutOfMemory> {
+) -> Result<(), OutOfMemory>
+    ensures { OnOk result (ops.new ≡ ops.old ++ initials_code (program_view program.now) (length ops.old) at object 0 (exprs_view values.now)) }
+{
     let mut index = 0;
     for e in values {
         initial(program, ops, at, object, index, e)?;
@@ -260,10 +286,12 @@ fn initial(
     object: u32,
     index: u32,
     e: &Expr,
-) -> Result<(), OutOfMemory> {
+) -> Result<(), OutOfMemory>
+    ensures { OnOk result (ops.new ≡ ops.old ++ initial_code (program_view program.now) (length ops.old) at object index (expr_view e.now)) }
+{
     let store = Store {
         place: Place::Fixed(object, index),
-        ty: type_of_object(program, object),
+        ty: native(program.model, type_of_object(program, object)),
         old: false,
     };
     let into = Into {

@@ -1,7 +1,11 @@
 -- What each action does: it changes where the machine stands and the state of its run, or ends the run.
 use Rattle.std.specs.Prelude.{ℕ, zero, suc, ◌+◌, ◌-◌, ℤ, pos, negsuc, Bool, true, false, cond, not, ◌==◌, List, [], ◌∷◌, ◌++◌, length, take, drop, reverse, Option, Some, None, slice_get}
 use Rattle.c_core.specs.Types.{fit, is_zero, number_of}
-use Rattle.c_core.specs.Operators.{apply_of, apply_one_of}
+use Rattle.c_core.specs.Operators.{is_shift, apply_of, apply_one_of}
+use Rattle.c_core.specs.declared.number.BinOp.{BinOp}
+use Rattle.c_core.specs.declared.number.DataModel.TheVariants.{Lp64}
+use Rattle.flow_code.specs.declared.code.Word.{Word}
+use Rattle.flow_code.specs.Words.{type_of_word}
 use Rattle.c_core.specs.Tree.{Program}
 use Rattle.c_core.specs.declared.number.IntType.{IntType}
 use Rattle.c_core.specs.declared.number.Spot.{Spot}
@@ -32,7 +36,8 @@ use Rattle.flow_code.specs.declared.code.Action.TheVariants.{Rest, Arrive, Give,
 use Rattle.flow_code.specs.declared.code.Parameter.{Parameter}
 use Rattle.flow_code.specs.declared.code.Body.{Body}
 use Rattle.flow_code.specs.declared.code.Code.{Code}
-use Rattle.flow_machine.specs.Machines.{Frame, Control}
+use Rattle.flow_machine.specs.declared.control.Frame.{Frame}
+use Rattle.flow_machine.specs.Machines.{Control}
 
 -- the model and the property of a code, as the definition of runs asks for them: a program of nothing else
 abbrev pub program_in : Code → Program
@@ -40,6 +45,10 @@ program_in c = record { model = c.model; property = c.property; objects = []; st
 
 abbrev pub cell : ℕ → ℕ → Key
 cell o i = record { object = o; index = i }
+
+-- the right side of an operator: the count of a shift has a type of its own
+abbrev pub right_of : BinOp → Word → Word → ℤ → ℤ
+right_of o word count v = cond (is_shift o) (fit Lp64 (type_of_word count) v) (fit Lp64 (type_of_word word) v)
 
 -- the stack's first value, if any, and the values below it
 abbrev pub top : List ℤ → ℤ
@@ -105,16 +114,20 @@ module _ (c : Code) (S : Type 0) (after : Event → List Cell → S → S) where
   abbrev pub kept_value : Store → ℤ → ℤ → ℤ
   kept_value x old new = cond x.old old new
 
-  -- a value is stored where it is said, beside the left operand's value, and goes on
+  -- a value goes on
+  abbrev pub passed_on : ℤ → Then → Control → Act Control
+  passed_on v then k s = bind (told v then s) (λ _ u. Go (passed v then k) u)
+
+  -- it is stored where that is said
+  abbrev pub stored : Option Store → ℤ → ℤ → Then → Control → Act Control
+  stored None old v then k s = passed_on v then k s
+  stored (Some y) old v then k s =
+      passed_on (kept_value y old (fit Lp64 y.ty v)) then (record k { stack = stack_at y.place k.stack })
+      (with_cells (put (key_at y.place k.stack) (fit Lp64 y.ty v) s.cells) s)
+
+  -- a value, beside that of the left operand
   abbrev pub finished : ℤ → ℤ → Into → Control → Act Control
-  finished old v x k s = by x.store
-    where
-      by : Option Store → Res End (State S) Control
-      by None = bind (told v x.then s) (λ _ u. Go (passed v x.then k) u)
-      by (Some y) =
-          let w = fit c.model y.ty v in
-          bind (told (kept_value y old w) x.then (with_cells (put (key_at y.place k.stack) w s.cells) s))
-          (λ _ u. Go (passed (kept_value y old w) x.then (record k { stack = stack_at y.place k.stack })) u)
+  finished old v x k s = stored x.store old v x.then k s
 
   -- so many cells of an object from an index on draw in turn
   abbrev pub cells_drawn : Spot → ℕ → IntType → ℕ → ℕ → Act (Unit {0})
@@ -129,7 +142,7 @@ module _ (c : Code) (S : Type 0) (after : Event → List Cell → S → S) where
   abbrev pub with_parameters : List Parameter → List ℤ → List Cell → List Cell
   with_parameters [] vs cs = cs
   with_parameters (o ∷ os) [] cs = with_parameters os [] (cs ++ cells_from o.object 0 1 [])
-  with_parameters (o ∷ os) (v ∷ vs) cs = with_parameters os vs (cs ++ cells_from o.object 0 1 (fit c.model o.ty v ∷ []))
+  with_parameters (o ∷ os) (v ∷ vs) cs = with_parameters os vs (cs ++ cells_from o.object 0 1 (fit Lp64 o.ty v ∷ []))
 
   -- a function is called, with so many values on the stack
   abbrev pub called : Option Body → ℕ → CallSite → Control → Act Control
@@ -158,7 +171,7 @@ module _ (c : Code) (S : Type 0) (after : Event → List Cell → S → S) where
 
   abbrev pub converted : Option IntType → ℤ → ℤ
   converted None v = v
-  converted (Some ty) v = fit c.model ty v
+  converted (Some ty) v = fit Lp64 ty v
 
   -- an action of a machine that already stands behind it
   abbrev pub acted : Action → Control → Act Control
@@ -169,7 +182,7 @@ module _ (c : Code) (S : Type 0) (after : Event → List Cell → S → S) where
       let v = number_of (not (is_zero (value_of y k.stack s.cells))) in
       finished v v x (record k { stack = stack_of y k.stack }) s
   acted (Convert ty y x) k s =
-      let v = fit c.model ty (value_of y k.stack s.cells) in
+      let v = fit Lp64 ty (value_of y k.stack s.cells) in
       finished v v x (record k { stack = stack_of y k.stack }) s
   acted (Look o n y spot x) k s =
       bind (run.key_of (program_in c) S (seen_by after) spot o (index_below n (value_of y k.stack s.cells)) s) (λ i u.
@@ -177,15 +190,15 @@ module _ (c : Code) (S : Type 0) (after : Event → List Cell → S → S) where
   acted (Aim o n y spot reads) k s =
       bind (run.key_of (program_in c) S (seen_by after) spot o (index_below n (value_of y k.stack s.cells)) s) (λ i u.
       aimed reads i (stack_of y k.stack) k u)
-  acted (Operate o ty right a b from x) k s =
+  acted (Operate o word count a b from x) k s =
       let w = value_of b k.stack s.cells in
       let vs = stack_of b k.stack in
       let v = value_of a vs s.cells in
-      bind (run.answered (program_in c) S (seen_by after) (where_of from.around) from.spot (apply_of c.model o ty (fit c.model ty v) (fit c.model right w)) s) (λ z u.
+      bind (run.answered (program_in c) S (seen_by after) (where_of from.around) from.spot (apply_of Lp64 o (type_of_word word) (fit Lp64 (type_of_word word) v) (right_of o word count w)) s) (λ z u.
       finished v z x (record k { stack = stack_of a vs }) u)
-  acted (OperateOne o ty a from x) k s =
+  acted (OperateOne o word a from x) k s =
       let v = value_of a k.stack s.cells in
-      bind (run.answered (program_in c) S (seen_by after) (where_of from.around) from.spot (apply_one_of c.model o ty (fit c.model ty v)) s) (λ z u.
+      bind (run.answered (program_in c) S (seen_by after) (where_of from.around) from.spot (apply_one_of Lp64 o (type_of_word word) (fit Lp64 (type_of_word word) v)) s) (λ z u.
       finished v z x (record k { stack = stack_of a k.stack }) u)
   acted (Jump to) k s = Go (record k { at = to }) s
   acted Open k s = Go (record k { scopes = length s.cells ∷ k.scopes }) s
@@ -202,5 +215,4 @@ module _ (c : Code) (S : Type 0) (after : Event → List Cell → S → S) where
       bind (run.reached (program_in c) S (seen_by after) c.property (where_of at) (record { spot = spot; close = spot; needed = false }) s) (λ _ u. Go k u)
   acted EndHere k s = Stop Ended s
   acted Leave k s = left_by k.frames None k s
-  acted (Return ty y) k s =
-      left_by k.frames (Some (converted ty (value_of y k.stack s.cells))) (record k { stack = stack_of y k.stack }) s
+  acted (Return ty) k s = left_by k.frames (Some (converted ty (top k.stack))) (record k { stack = below k.stack }) s

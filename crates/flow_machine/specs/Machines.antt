@@ -2,15 +2,9 @@
 use Rattle.std.specs.Prelude.{ℕ, ℤ, pos, List, [], ◌∷◌}
 use Rattle.c_meaning.specs.declared.run.Choices.{Choices}
 use Rattle.c_meaning.specs.Run.{State}
-use Rattle.run_state.specs.declared.machine.CallSite.{CallSite}
+use Rattle.flow_machine.specs.declared.control.Frame.{Frame}
 use Rattle.flow_code.specs.declared.code.Code.{Code}
 use Rattle.flow_code.specs.Programs.{cells_of}
-
--- a call that isn't over: where the run goes on behind it, how many cells lived as it began, the call
-pub record Frame : Type 0 where
-  pub back : ℕ
-  pub cells : ℕ
-  pub site : CallSite
 
 -- the address of the next operation, the steps taken of it, the values on the stack, the cells that lived as each open scope began, the
 -- calls; each list from the innermost on

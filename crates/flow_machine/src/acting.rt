@@ -111,15 +111,15 @@ pub fn act<W: Watcher>(
         Action::Arrive(spot) => tell(run, watcher, Event::At(*spot)),
         Action::Give { from, into } => {
             let value = take(control, run, *from);
-            finish(code.model, control, run, watcher, value, value, *into)
+            finish(control, run, watcher, value, value, *into)
         }
         Action::Truth { of, into } => {
             let value = i128::from(take(control, run, *of) != 0);
-            finish(code.model, control, run, watcher, value, value, *into)
+            finish(control, run, watcher, value, value, *into)
         }
         Action::Convert { ty, of, into } => {
-            let value = convert(code.model, *ty, take(control, run, *of));
-            finish(code.model, control, run, watcher, value, value, *into)
+            let value = convert(*ty, take(control, run, *of));
+            finish(control, run, watcher, value, value, *into)
         }
         Action::Look {
             object,
@@ -130,7 +130,7 @@ pub fn act<W: Watcher>(
         } => {
             let index = index_below(*size, take(control, run, *index), *spot)?;
             let value = look(run, *object, index);
-            finish(code.model, control, run, watcher, value, value, *into)
+            finish(control, run, watcher, value, value, *into)
         }
         Action::Aim {
             object,
@@ -141,8 +141,8 @@ pub fn act<W: Watcher>(
         } => aim(control, run, *object, *size, *index, *spot, *reads),
         Action::Operate {
             op,
-            ty,
-            right_ty,
+            word,
+            count,
             left,
             right,
             from,
@@ -150,23 +150,23 @@ pub fn act<W: Watcher>(
         } => {
             let b = take(control, run, *right);
             let a = take(control, run, *left);
-            let done = operate(code.model, *op, *ty, a, *right_ty, b);
+            let done = operate(*op, *word, a, *count, b);
             let value = answer(code, run, watcher, *from, done)?;
-            finish(code.model, control, run, watcher, a, value, *into)
+            finish(control, run, watcher, a, value, *into)
         }
         Action::OperateOne {
             op,
-            ty,
+            word,
             of,
             from,
             into,
         } => {
             let a = take(control, run, *of);
-            let value = answer(code, run, watcher, *from, operate_one(code.model, *op, *ty, a))?;
-            finish(code.model, control, run, watcher, a, value, *into)
+            let value = answer(code, run, watcher, *from, operate_one(*op, *word, a))?;
+            finish(control, run, watcher, a, value, *into)
         }
         Action::Jump(to) => {
-            control.at = *to;
+            control.at = *to as usize;
             Ok(())
         }
         Action::Open => open(control, run),
@@ -194,16 +194,16 @@ pub fn act<W: Watcher>(
             into,
         } => {
             let value = input(code.model, run, watcher, *spot, *close, *ty)?;
-            finish(code.model, control, run, watcher, value, value, *into)
+            finish(control, run, watcher, value, value, *into)
         }
         Action::Reach { around, spot } => Err(reach(code, run, watcher, *around, *spot)),
         Action::End => Err(Halt::Ends(End::Ended)),
         Action::Leave => leave(control, run, watcher, None),
-        Action::Return { ty, of } => {
-            let value = take(control, run, *of);
+        Action::Return(ty) => {
+            let value = control.pop();
             let given = match ty {
                 None => value,
-                Some(ty) => convert(code.model, *ty, value),
+                Some(ty) => convert(*ty, value),
             };
             leave(control, run, watcher, Some(given))
         }

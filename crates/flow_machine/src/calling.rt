@@ -1,21 +1,19 @@
 // Calls of the program's functions, and the way back.
 use crate::arithmetic::convert;
 use crate::control::{Control, Frame, Running, room, tell};
-use c_core::DataModel;
 use c_meaning::{End, Event, Watcher};
 use flow_code::{Body, Code, Parameter};
 use run_state::{CallSite, Halt};
 
 // Each parameter has a cell, which gets the value of its argument, or 0 where there is none.
 fn set_parameters(
-    model: DataModel,
     run: &mut Running,
     parameters: &[Parameter],
     values: &[i128],
 ) -> Result<(), Halt> {
     for (index, parameter) in parameters.iter().enumerate() {
         let value = match values.get(index) {
-            Some(value) => convert(model, parameter.ty, *value),
+            Some(value) => convert(parameter.ty, *value),
             None => 0,
         };
         run.memory.add(parameter.object, 0, value)?;
@@ -31,7 +29,6 @@ fn one_more(count: u64) -> Result<u64, Halt> {
 }
 
 fn enter(
-    model: DataModel,
     control: &mut Control,
     run: &mut Running,
     body: &Body,
@@ -50,13 +47,12 @@ fn enter(
     }
     let below = control.stack.len().saturating_sub(arguments as usize);
     set_parameters(
-        model,
         run,
         body.parameters.as_slice(),
         &control.stack.as_slice()[below..],
     )?;
     control.stack.truncate(below);
-    control.at = body.entry;
+    control.at = body.entry as usize;
     Ok(())
 }
 
@@ -70,7 +66,7 @@ pub fn call(
     site: CallSite,
 ) -> Result<(), Halt> {
     match code.functions.get(function as usize) {
-        Some(body) => enter(code.model, control, run, body, arguments, site),
+        Some(body) => enter(control, run, body, arguments, site),
         // no code calls it
         None => Err(Halt::Ends(End::Ended)),
     }

@@ -6,7 +6,7 @@ use wv_base::OutOfMemory;
 /// A call of a function that isn't over: where the run goes on behind it, and how many cells lived as it began.
 #[derive(Clone, Copy, Debug, PartialEq, Eq)]
 pub struct Frame {
-    pub back: u32,
+    pub back: usize,
     pub cells: usize,
     pub site: CallSite,
 }
@@ -15,7 +15,7 @@ pub struct Frame {
 /// cells that lived as they began, and calls.
 #[derive(Drop)]
 pub struct Control {
-    pub at: u32,
+    pub at: usize,
     pub paid: u64,
     pub stack: Vec<i128>,
     pub scopes: Vec<usize>,

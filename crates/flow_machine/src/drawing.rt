@@ -1,5 +1,4 @@
 // Draws: each takes the next choice, or none.
-use crate::arithmetic::convert;
 use crate::control::{Running, room, tell};
 use c_core::{DataModel, IntType, Spot};
 use c_meaning::{Draw, DrawKind, Event, Watcher};
@@ -47,7 +46,7 @@ pub fn draw(
     ty: IntType,
 ) -> Result<i128, Halt> {
     let taken = take(&mut run.left, kind, spot);
-    let value = convert(model, ty, taken.unwrap_or(0));
+    let value = c_core::convert(model, ty, taken.unwrap_or(0));
     run.unfixed = counted(run.unfixed, taken)?;
     let drawn = Draw {
         spot,

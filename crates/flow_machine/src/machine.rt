@@ -70,7 +70,7 @@ impl<'a> Machine<'a> {
         Ok(Machine {
             code,
             control: Control {
-                at: code.main,
+                at: code.main as usize,
                 paid: 0,
                 stack: Vec::new(alloc),
                 scopes: Vec::new(alloc),
@@ -107,13 +107,13 @@ impl<'a> Machine<'a> {
     #[inline]
     fn step<W: Watcher>(&mut self, watcher: &mut W) -> Result<(), Halt> {
         let code = self.code;
-        let Some(op) = code.ops.get(self.control.at as usize) else {
+        let Some(op) = code.ops.get(self.control.at) else {
             return Err(Halt::Ends(End::Ended));
         };
         if op.steps > 0 {
             self.pay(op.steps)?;
         }
-        self.control.at = self.control.at.saturating_add(1);
+        self.control.at += 1;
         act(code, &mut self.control, &mut self.run, watcher, &op.action)
     }
 
@@ -128,11 +128,7 @@ impl<'a> Machine<'a> {
     }
 
     /// Takes at most so many further steps.
-    pub fn advance<W: Watcher>(
-        &mut self,
-        steps: u64,
-        watcher: &mut W,
-    ) -> Result<End, OutOfMemory> {
+    pub fn advance<W: Watcher>(&mut self, steps: u64, watcher: &mut W) -> Result<End, OutOfMemory> {
         if let Some(end) = self.ended {
             return Ok(end);
         }

@@ -1,85 +1,35 @@
-//! Times the machine and the interpreter.
+//! The machine beside the interpreter: the same run under every budget, cut into any parts; and the time of each.
 #![tactic(auto)]
 
-use c_core::Program;
-use c_interpreter::run_plain;
-use c_meaning::{Choices, End, Event, Memory, Run, Watcher};
-use flow_machine::{Machine, compile};
-use run_examples::count_deep;
+mod compared;
+mod timed;
+
+use c_check::check;
+use c_core::{DataModel, Program, Property};
+use c_parser::parse;
+use c_tokens::tokens;
 use std::alloc::Global;
 use std::process::ExitCode;
-use std::{env, io};
-use wv_base::{OutOfMemory, Seq};
+use std::{env, fs, io};
 
-#[derive(Drop)]
-struct Count {
-    events: u64,
-}
+// Longer sources aren't read.
+const MAX_LENGTH: usize = 1 << 20;
 
-impl Watcher for Count {
-    ghost use Rattle.std.specs.Prelude.{ℕ, ◌+◌, ◌-◌, ◌^◌, min};
-
-    ghost Seen = { ℕ };
-
-    ghost seen = { λ c. c.events };
-
-    ghost after = { λ event cells events. min (events + 1) (2 ^ 64 - 1) };
-
-    fn see(&mut self, _event: Event, _memory: &Memory) -> Result<(), OutOfMemory> {
-        self.events = self.events.saturating_add(1);
-        Ok(())
+/// The program of a source text, if there is one.
+fn program_of(alloc: Global, text: &[u8], model: DataModel, property: Property) -> Option<Program> {
+    if text.len() > MAX_LENGTH {
+        return None;
     }
-}
-
-fn name(end: End) -> &'static str {
-    match end {
-        End::Ended => "ended",
-        End::Undefined(_) => "undefined",
-        End::Violated(_) => "violated",
-        End::Spent => "spent",
-        End::Deep => "deep",
-    }
-}
-
-fn number(word: Option<&String>) -> u32 {
-    match word {
-        Some(word) => word.as_str().parse::<u32>().ok().unwrap_or(0),
-        None => 0,
-    }
-}
-
-fn stepped(
-    alloc: Global,
-    program: &Program,
-    choices: &Choices,
-    part: u64,
-    count: &mut Count,
-) -> Result<Run, OutOfMemory> {
-    let code = compile(alloc, program)?;
-    let mut machine = Machine::new(alloc, &code, choices)?;
-    for _ in 0..1000000 {
-        match machine.advance(part, count)? {
-            End::Spent => {}
-            _ => return Ok(machine.finish()),
-        }
-    }
-    Ok(machine.finish())
-}
-
-fn run(alloc: Global, words: &[String]) -> Result<(Run, u64), OutOfMemory> {
-    let cells = number(words.get(2)).max(1).min(90000);
-    let depth = number(words.get(3)).min(1000000);
-    let turns = number(words.get(4)).min(1000000000);
-    let part = u64::from(number(words.get(5)));
-    let program = count_deep(alloc, cells, depth, turns)?;
-    let choices = Choices::InTurn(Seq::new(alloc));
-    let mut count = Count { events: 0 };
-    let run = if words.len() > 1 && words[1].as_str() == "plain" {
-        run_plain(alloc, &program, &choices, 10000000000, &mut count)?
-    } else {
-        stepped(alloc, &program, &choices, part, &mut count)?
+    let Ok(found) = tokens(alloc, text) else {
+        return None;
     };
-    Ok((run, count.events))
+    let Ok(source) = parse(alloc, &found) else {
+        return None;
+    };
+    match check(alloc, &source, model, property) {
+        Ok(program) => Some(program),
+        Err(_) => None,
+    }
 }
 
 fn report(rt: &HostRuntime) -> io::Result<()> {
@@ -87,12 +37,25 @@ fn report(rt: &HostRuntime) -> io::Result<()> {
     for word in env::args(rt)? {
         words.push(word)?;
     }
-    match run(rt.alloc(), words.as_slice()) {
-        Ok((run, events)) => {
-            println!(rt; "{} after {} steps, {events} events", name(run.end), run.steps)
-        }
-        Err(OutOfMemory) => println!(rt; "out of memory"),
+    if words.len() < 5 {
+        return println!(rt; "usage: flow_tests compare|plain|step FILE PART BUDGET");
     }
+    let bytes = fs::read(rt, words[2].as_str())?;
+    let part = words[3].as_str().parse::<u64>().ok().unwrap_or(0);
+    let budget = words[4].as_str().parse::<u64>().ok().unwrap_or(0);
+    for model in [DataModel::Ilp32, DataModel::Lp64] {
+        for property in [Property::UnreachCall, Property::NoOverflow] {
+            let Some(program) = program_of(rt.alloc(), bytes.as_slice(), model, property) else {
+                return println!(rt; "no program");
+            };
+            match words[1].as_str() {
+                "compare" => compared::report(rt, &program, budget)?,
+                "plain" => return timed::plain(rt, &program, budget),
+                _ => return timed::step(rt, &program, part, budget),
+            }
+        }
+    }
+    Ok(())
 }
 
 fn main(rt: HostRuntime) -> ExitCode {
