@@ -82,6 +82,10 @@ abbrev pub stack_at : Place → List ℤ → List ℤ
 stack_at (Fixed o i) vs = vs
 stack_at (Element o) vs = below vs
 
+-- what comes behind a store
+abbrev pub kept_value : Store → ℤ → ℤ → ℤ
+kept_value x old new = cond x.old old new
+
 -- on at an address where a value's truth is `way`
 abbrev pub skipped : Bool → Bool → ℕ → Control → Control
 skipped t way to c = cond (cond way t (not t)) (record c { at = to }) c
@@ -97,6 +101,17 @@ passed v (Branch at way to) c = skipped (not (is_zero v)) way to c
 abbrev pub arguments : ℕ → List ℤ → List ℤ
 arguments n vs = reverse (take n vs)
 
+-- parameters get the values of arguments, or 0 where there are none
+abbrev pub with_parameters : List Parameter → List ℤ → List Cell → List Cell
+with_parameters [] vs cs = cs
+with_parameters (o ∷ os) [] cs = with_parameters os [] (cs ++ cells_from o.object 0 1 [])
+with_parameters (o ∷ os) (v ∷ vs) cs = with_parameters os vs (cs ++ cells_from o.object 0 1 (fit Lp64 o.ty v ∷ []))
+
+-- the innermost scope ends
+abbrev pub scope_closed : {S : Type 0} → List ℕ → Control → State S → Res End (State S) Control
+scope_closed [] k s = Go k s
+scope_closed (n ∷ ns) k s = Go (record k { scopes = ns }) (with_cells (take n s.cells) s)
+
 module _ (c : Code) (S : Type 0) (after : Event → List Cell → S → S) where
   -- a part of an action
   abbrev pub Act : Type 0 → Type 0
@@ -109,10 +124,6 @@ module _ (c : Code) (S : Type 0) (after : Event → List Cell → S → S) where
   abbrev pub told : ℤ → Then → Act (Unit {0})
   told v (Branch at way to) = tell (Branched at (not (is_zero v)))
   told v _ = λ s. Go tt s
-
-  -- what comes behind a store
-  abbrev pub kept_value : Store → ℤ → ℤ → ℤ
-  kept_value x old new = cond x.old old new
 
   -- a value goes on
   abbrev pub passed_on : ℤ → Then → Control → Act Control
@@ -138,11 +149,15 @@ module _ (c : Code) (S : Type 0) (after : Event → List Cell → S → S) where
   abbrev pub drawn_if : Bool → Spot → ℕ → IntType → ℕ → Act (Unit {0})
   drawn_if b spot o ty n s = cond b (cells_drawn spot o ty 0 n s) (Go tt s)
 
-  -- parameters get the values of arguments, or 0 where there are none
-  abbrev pub with_parameters : List Parameter → List ℤ → List Cell → List Cell
-  with_parameters [] vs cs = cs
-  with_parameters (o ∷ os) [] cs = with_parameters os [] (cs ++ cells_from o.object 0 1 [])
-  with_parameters (o ∷ os) (v ∷ vs) cs = with_parameters os vs (cs ++ cells_from o.object 0 1 (fit Lp64 o.ty v ∷ []))
+  -- an object's cells, which draw their values or hold 0
+  abbrev pub declared : Spot → ℕ → ℕ → IntType → Bool → Act (Unit {0})
+  declared spot o n ty draws s =
+      bind (run.room (program_in c) S (seen_by after) n s) (λ _ u. drawn_if draws spot o ty n (with_cells (u.cells ++ cells_from o 0 n []) u))
+
+  -- the call of an input function
+  abbrev pub input_given : Spot → Spot → IntType → Act ℤ
+  input_given spot close ty s =
+      bind (run.draw (program_in c) S (seen_by after) InputDraw spot ty s) (λ v u. bind (tell (Returned close (Some v)) u) (λ _ w. Go v w))
 
   -- a function is called, with so many values on the stack
   abbrev pub called : Option Body → ℕ → CallSite → Control → Act Control
@@ -160,14 +175,17 @@ module _ (c : Code) (S : Type 0) (after : Event → List Cell → S → S) where
       bind (run.returned (program_in c) S (seen_by after) (site_of f.site) v (record s { cells = take f.cells s.cells; active = s.active - 1 })) (λ w u.
       Go (record k { at = f.back; stack = w ∷ k.stack; frames = fs }) u)
 
-  -- the innermost scope ends
-  abbrev pub scope_closed : List ℕ → Control → Act Control
-  scope_closed [] k s = Go k s
-  scope_closed (n ∷ ns) k s = Go (record k { scopes = ns }) (with_cells (take n s.cells) s)
-
   -- the index of an element, and its value where it is read
   abbrev pub aimed : Bool → Key → List ℤ → Control → Act Control
   aimed reads i vs k s = Go (record k { stack = cond reads (read i s.cells ∷ pos i.index ∷ vs) (pos i.index ∷ vs) }) s
+
+  abbrev pub aimed_at : ℕ → ℕ → Operand → Spot → Bool → Control → Act Control
+  aimed_at o n y spot reads k s =
+      bind (run.key_of (program_in c) S (seen_by after) spot o (index_below n (value_of y k.stack s.cells)) s) (λ i u. aimed reads i (stack_of y k.stack) k u)
+
+  -- a call of `reach_error`
+  abbrev pub reached_at : Around → Spot → Act ℤ
+  reached_at at spot s = run.reached (program_in c) S (seen_by after) c.property (where_of at) (record { spot = spot; close = spot; needed = false }) s
 
   abbrev pub converted : Option IntType → ℤ → ℤ
   converted None v = v
@@ -187,9 +205,7 @@ module _ (c : Code) (S : Type 0) (after : Event → List Cell → S → S) where
   acted (Look o n y spot x) k s =
       bind (run.key_of (program_in c) S (seen_by after) spot o (index_below n (value_of y k.stack s.cells)) s) (λ i u.
       finished (read i u.cells) (read i u.cells) x (record k { stack = stack_of y k.stack }) u)
-  acted (Aim o n y spot reads) k s =
-      bind (run.key_of (program_in c) S (seen_by after) spot o (index_below n (value_of y k.stack s.cells)) s) (λ i u.
-      aimed reads i (stack_of y k.stack) k u)
+  acted (Aim o n y spot reads) k s = aimed_at o n y spot reads k s
   acted (Operate o word count a b from x) k s =
       let w = value_of b k.stack s.cells in
       let vs = stack_of b k.stack in
@@ -203,16 +219,11 @@ module _ (c : Code) (S : Type 0) (after : Event → List Cell → S → S) where
   acted (Jump to) k s = Go (record k { at = to }) s
   acted Open k s = Go (record k { scopes = length s.cells ∷ k.scopes }) s
   acted Close k s = scope_closed k.scopes k s
-  acted (Declare spot o n ty draws) k s =
-      bind (run.room (program_in c) S (seen_by after) n s) (λ _ u.
-      bind (drawn_if draws spot o ty n (with_cells (u.cells ++ cells_from o 0 n []) u)) (λ _ v. Go k v))
+  acted (Declare spot o n ty draws) k s = bind (declared spot o n ty draws s) (λ _ u. Go k u)
   acted (Enter close) k s = bind (tell (Entered close) s) (λ _ u. Go k u)
   acted (Call f n site) k s = called (slice_get c.functions f) n site k s
-  acted (Input spot close ty x) k s =
-      bind (run.draw (program_in c) S (seen_by after) InputDraw spot ty s) (λ v u.
-      bind (tell (Returned close (Some v)) u) (λ _ w. finished v v x k w))
-  acted (Reach at spot) k s =
-      bind (run.reached (program_in c) S (seen_by after) c.property (where_of at) (record { spot = spot; close = spot; needed = false }) s) (λ _ u. Go k u)
+  acted (Input spot close ty x) k s = bind (input_given spot close ty s) (λ v u. finished v v x k u)
+  acted (Reach at spot) k s = bind (reached_at at spot s) (λ _ u. Go k u)
   acted EndHere k s = Stop Ended s
   acted Leave k s = left_by k.frames None k s
   acted (Return ty) k s = left_by k.frames (Some (converted ty (top k.stack))) (record k { stack = below k.stack }) s

@@ -2,3 +2,4 @@ pub mod Machines
 pub mod Acting
 pub mod Stepping
 pub mod Runs
+pub mod Views

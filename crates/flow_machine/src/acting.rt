@@ -1,4 +1,14 @@
 // One operation.
+ghost use Rattle.std.specs.Prelude.{◌≡◌, ◌∷◌, ℕ, reverse, length};
+ghost use Rattle.c_core.specs.Tree.{Program as Tree};
+ghost use Rattle.c_meaning.specs.Acts.{Go};
+ghost use Rattle.c_meaning.specs.Run as runs;
+ghost use Rattle.c_meaning.specs.Watching.{seen_by};
+ghost use Rattle.run_state.specs.Interpreting.{Gives, same, where_of};
+ghost use Rattle.flow_code.specs.declared.code.Code.{Code};
+ghost use Rattle.flow_machine.specs.Acting.{program_in, acted, scope_closed, aimed_at, reached_at};
+ghost use Rattle.flow_machine.specs.Views.{Acts, control_of, state_of};
+
 use crate::arithmetic::{convert, operate, operate_one};
 use crate::calling::{call, leave};
 use crate::control::{Control, Running, tell};
@@ -17,8 +27,10 @@ fn violate<W: Watcher>(
     around: Around,
     spot: Spot,
     call: Option<Spot>,
-) -> Halt {
-    let told = tell(
+) -> Result<i128, Halt>
+    ensures { (p : Tree) → Gives same result (state_of run.now (W.seen watcher.new)) (runs.violated p W.Seen (seen_by W.after) (where_of around) spot call (state_of run.now (W.seen watcher.old))) }
+{
+    tell(
         run,
         watcher,
         Event::Fail {
@@ -26,11 +38,8 @@ fn violate<W: Watcher>(
             full: around.full,
             call,
         },
-    );
-    match told {
-        Ok(()) => Halt::Ends(End::Violated(spot)),
-        Err(halt) => halt,
-    }
+    )?;
+    Err(Halt::Ends(End::Violated(spot)))
 }
 
 // An operator's answer: its value, an overflow by the property, or an undefined end.
@@ -41,13 +50,15 @@ fn answer<W: Watcher>(
     watcher: &mut W,
     from: Source,
     done: Done,
-) -> Result<i128, Halt> {
+) -> Result<i128, Halt>
+    ensures { Gives same result (state_of run.now (W.seen watcher.new)) (runs.answered (program_in code.now) W.Seen (seen_by W.after) (where_of from.around) from.spot done (state_of run.now (W.seen watcher.old))) }
+{
     match done {
         Done::Value(value) => Ok(value),
         Done::Undefined => Err(Halt::Ends(End::Undefined(from.spot))),
         Done::Overflow(value) => match code.property {
             Property::UnreachCall => Ok(value),
-            Property::NoOverflow => Err(violate(run, watcher, from.around, from.spot, None)),
+            Property::NoOverflow => violate(run, watcher, from.around, from.spot, None),
         },
     }
 }
@@ -58,15 +69,17 @@ fn reach<W: Watcher>(
     watcher: &mut W,
     around: Around,
     spot: Spot,
-) -> Halt {
+) -> Result<i128, Halt>
+    ensures { Gives same result (state_of run.now (W.seen watcher.new)) (reached_at code.now W.Seen W.after around spot (state_of run.now (W.seen watcher.old))) }
+{
     match code.property {
         Property::UnreachCall => violate(run, watcher, around, spot, Some(spot)),
-        Property::NoOverflow => Halt::Ends(End::Ended),
+        Property::NoOverflow => Err(Halt::Ends(End::Ended)),
     }
 }
 
 // The index of an element, and its value where it is read.
-fn aim(
+fn aim<W: Watcher>(
     control: &mut Control,
     run: &Running,
     object: u32,
@@ -74,7 +87,9 @@ fn aim(
     index: Operand,
     spot: Spot,
     reads: bool,
-) -> Result<(), Halt> {
+) -> Result<(), Halt>
+    ensures { (c : Code) (x : W.Seen) → Acts result (control_of control.new) (state_of run.now x) (aimed_at c W.Seen W.after object size index spot reads (control_of control.old) (state_of run.now x)) }
+{
     let index = take(control, run, index);
     let found = index_below(size, index, spot)?;
     control.push(i128::from(found))?;
@@ -84,14 +99,18 @@ fn aim(
     Ok(())
 }
 
-fn open(control: &mut Control, run: &Running) -> Result<(), Halt> {
+fn open(control: &mut Control, run: &Running) -> Result<(), Halt>
+    ensures { Acts result (control_of control.new) (state_of run.now 0) (Go (record (control_of control.old) { scopes = length run.now.memory.cells ∷ reverse control.old.scopes.items }) (state_of run.now 0)) }
+{
     match control.scopes.push(run.memory.count()) {
         Ok(()) => Ok(()),
         Err(_) => Err(Halt::NoMemory),
     }
 }
 
-fn close(control: &mut Control, run: &mut Running) {
+fn close(control: &mut Control, run: &mut Running)
+    ensures { (x : ℕ) → scope_closed (reverse control.old.scopes.items) (control_of control.old) (state_of run.old x) ≡ Go (control_of control.new) (state_of run.new x) }
+{
     if let Some(cells) = control.scopes.pop() {
         run.memory.cut(cells);
     }
@@ -105,7 +124,9 @@ pub fn act<W: Watcher>(
     run: &mut Running,
     watcher: &mut W,
     action: &Action,
-) -> Result<(), Halt> {
+) -> Result<(), Halt>
+    ensures { Acts result (control_of control.new) (state_of run.new (W.seen watcher.new)) (acted code.now W.Seen W.after action.now (control_of control.old) (state_of run.old (W.seen watcher.old))) }
+{
     match action {
         Action::Rest => Ok(()),
         Action::Arrive(spot) => tell(run, watcher, Event::At(*spot)),
@@ -138,7 +159,7 @@ pub fn act<W: Watcher>(
             index,
             spot,
             reads,
-        } => aim(control, run, *object, *size, *index, *spot, *reads),
+        } => aim::<W>(control, run, *object, *size, *index, *spot, *reads),
         Action::Operate {
             op,
             word,
@@ -180,23 +201,26 @@ pub fn act<W: Watcher>(
             size,
             ty,
             draws,
-        } => declare(code.model, run, *spot, *object, *size, *ty, *draws),
+        } => declare::<W>(code, run, *spot, *object, *size, *ty, *draws),
         Action::Enter(close) => tell(run, watcher, Event::Enter(*close)),
         Action::Call {
             function,
             arguments,
             site,
-        } => call(code, control, run, *function, *arguments, *site),
+        } => call::<W>(code, control, run, *function, *arguments, *site),
         Action::Input {
             spot,
             close,
             ty,
             into,
         } => {
-            let value = input(code.model, run, watcher, *spot, *close, *ty)?;
+            let value = input(code, run, watcher, *spot, *close, *ty)?;
             finish(control, run, watcher, value, value, *into)
         }
-        Action::Reach { around, spot } => Err(reach(code, run, watcher, *around, *spot)),
+        Action::Reach { around, spot } => {
+            reach(code, run, watcher, *around, *spot)?;
+            Ok(())
+        }
         Action::End => Err(Halt::Ends(End::Ended)),
         Action::Leave => leave(control, run, watcher, None),
         Action::Return(ty) => {

@@ -1,4 +1,13 @@
 // What is done with a value.
+ghost use Rattle.std.specs.Prelude.{◌≡◌, ℕ, not, reverse};
+ghost use Rattle.c_core.specs.Types.{fit, is_zero};
+ghost use Rattle.c_core.specs.declared.number.DataModel.TheVariants.{Lp64};
+ghost use Rattle.c_meaning.specs.Cells.{put};
+ghost use Rattle.c_meaning.specs.Run.{with_cells};
+ghost use Rattle.flow_code.specs.declared.code.Code.{Code};
+ghost use Rattle.flow_machine.specs.Acting.{top, below, index_of, skipped, kept_value, stack_at, key_at, finished};
+ghost use Rattle.flow_machine.specs.Views.{Acts, control_of, state_of};
+
 use crate::arithmetic::convert;
 use crate::control::{Control, Running, tell};
 use c_meaning::{Event, Watcher};
@@ -6,7 +15,10 @@ use flow_code::{Into, Place, Store, Then};
 use run_state::Halt;
 
 // The index of an element that is written: the number on top of the stack.
-fn element(control: &mut Control) -> u32 {
+fn element(control: &mut Control) -> u32
+    ensures value { result ≡ index_of (top (reverse control.old.stack.items)) }
+    ensures control { control_of control.new ≡ record (control_of control.old) { stack = below (reverse control.old.stack.items) } }
+{
     let top = control.pop();
     if top >= 0 && top < 4294967296 {
         top as u32
@@ -17,7 +29,11 @@ fn element(control: &mut Control) -> u32 {
 
 // Stores a value.
 #[inline]
-fn store(control: &mut Control, run: &mut Running, left: i128, value: i128, store: Store) -> i128 {
+fn store(control: &mut Control, run: &mut Running, left: i128, value: i128, store: Store) -> i128
+    ensures value { result ≡ kept_value store left (fit Lp64 store.ty value) }
+    ensures control { control_of control.new ≡ record (control_of control.old) { stack = stack_at store.place (reverse control.old.stack.items) } }
+    ensures cells { (x : ℕ) → state_of run.new x ≡ with_cells (put (key_at store.place (reverse control.old.stack.items)) (fit Lp64 store.ty value) run.old.memory.cells) (state_of run.old x) }
+{
     let new = convert(store.ty, value);
     match store.place {
         Place::Fixed(object, index) => run.memory.set(object, index, new),
@@ -31,7 +47,9 @@ fn store(control: &mut Control, run: &mut Running, left: i128, value: i128, stor
 
 // Goes on at an address where a value's truth is `way`.
 #[inline]
-fn skip(control: &mut Control, value: i128, way: bool, to: u32) {
+fn skip(control: &mut Control, value: i128, way: bool, to: u32)
+    ensures { control_of control.new ≡ skipped (not (is_zero value)) way to (control_of control.old) }
+{
     if (value != 0) == way {
         control.at = to as usize;
     }
@@ -46,7 +64,9 @@ pub fn finish<W: Watcher>(
     left: i128,
     value: i128,
     into: Into,
-) -> Result<(), Halt> {
+) -> Result<(), Halt>
+    ensures { (c : Code) → Acts result (control_of control.new) (state_of run.new (W.seen watcher.new)) (finished c W.Seen W.after left value into (control_of control.old) (state_of run.old (W.seen watcher.old))) }
+{
     let value = match into.store {
         None => value,
         Some(found) => store(control, run, left, value, found),
