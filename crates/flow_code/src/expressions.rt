@@ -26,12 +26,14 @@ use run_state::{Around, CallSite, is_needed};
 use wv_base::{OutOfMemory, Seq};
 
 /// An operand of an operation, and the steps that the operation takes.
+#[derive(Clone, Copy)]
 pub struct Prepared {
     pub operand: Operand,
     pub steps: u32,
 }
 
 /// Two operands of an operation, and the steps that it takes.
+#[derive(Clone, Copy)]
 pub struct Pair {
     pub left: Operand,
     pub right: Operand,

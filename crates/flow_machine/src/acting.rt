@@ -48,10 +48,10 @@ fn answer<W: Watcher>(
     code: &Code,
     run: &Running,
     watcher: &mut W,
-    from: Source,
+    from: &Source,
     done: Done,
 ) -> Result<i128, Halt>
-    ensures { Gives same result (state_of run.now (W.seen watcher.new)) (runs.answered (program_in code.now) W.Seen (seen_by W.after) (where_of from.around) from.spot done (state_of run.now (W.seen watcher.old))) }
+    ensures { Gives same result (state_of run.now (W.seen watcher.new)) (runs.answered (program_in code.now) W.Seen (seen_by W.after) (where_of from.now.around) from.now.spot done (state_of run.now (W.seen watcher.old))) }
 {
     match done {
         Done::Value(value) => Ok(value),
@@ -84,11 +84,11 @@ fn aim<W: Watcher>(
     run: &Running,
     object: u32,
     size: u32,
-    index: Operand,
+    index: &Operand,
     spot: Spot,
     reads: bool,
 ) -> Result<(), Halt>
-    ensures { (c : Code) (x : W.Seen) → Acts result (control_of control.new) (state_of run.now x) (aimed_at c W.Seen W.after object size index spot reads (control_of control.old) (state_of run.now x)) }
+    ensures { (c : Code) (x : W.Seen) → Acts result (control_of control.new) (state_of run.now x) (aimed_at c W.Seen W.after object size index.now spot reads (control_of control.old) (state_of run.now x)) }
 {
     let index = take(control, run, index);
     let found = index_below(size, index, spot)?;
@@ -131,16 +131,16 @@ pub fn act<W: Watcher>(
         Action::Rest => Ok(()),
         Action::Arrive(spot) => tell(run, watcher, Event::At(*spot)),
         Action::Give { from, into } => {
-            let value = take(control, run, *from);
-            finish(control, run, watcher, value, value, *into)
+            let value = take(control, run, from);
+            finish(control, run, watcher, value, value, into)
         }
         Action::Truth { of, into } => {
-            let value = i128::from(take(control, run, *of) != 0);
-            finish(control, run, watcher, value, value, *into)
+            let value = i128::from(take(control, run, of) != 0);
+            finish(control, run, watcher, value, value, into)
         }
         Action::Convert { ty, of, into } => {
-            let value = convert(*ty, take(control, run, *of));
-            finish(control, run, watcher, value, value, *into)
+            let value = convert(*ty, take(control, run, of));
+            finish(control, run, watcher, value, value, into)
         }
         Action::Look {
             object,
@@ -149,9 +149,9 @@ pub fn act<W: Watcher>(
             spot,
             into,
         } => {
-            let index = index_below(*size, take(control, run, *index), *spot)?;
+            let index = index_below(*size, take(control, run, index), *spot)?;
             let value = look(run, *object, index);
-            finish(control, run, watcher, value, value, *into)
+            finish(control, run, watcher, value, value, into)
         }
         Action::Aim {
             object,
@@ -159,7 +159,7 @@ pub fn act<W: Watcher>(
             index,
             spot,
             reads,
-        } => aim::<W>(control, run, *object, *size, *index, *spot, *reads),
+        } => aim::<W>(control, run, *object, *size, index, *spot, *reads),
         Action::Operate {
             op,
             word,
@@ -169,11 +169,11 @@ pub fn act<W: Watcher>(
             from,
             into,
         } => {
-            let b = take(control, run, *right);
-            let a = take(control, run, *left);
+            let b = take(control, run, right);
+            let a = take(control, run, left);
             let done = operate(*op, *word, a, *count, b);
-            let value = answer(code, run, watcher, *from, done)?;
-            finish(control, run, watcher, a, value, *into)
+            let value = answer(code, run, watcher, from, done)?;
+            finish(control, run, watcher, a, value, into)
         }
         Action::OperateOne {
             op,
@@ -182,9 +182,9 @@ pub fn act<W: Watcher>(
             from,
             into,
         } => {
-            let a = take(control, run, *of);
-            let value = answer(code, run, watcher, *from, operate_one(*op, *word, a))?;
-            finish(control, run, watcher, a, value, *into)
+            let a = take(control, run, of);
+            let value = answer(code, run, watcher, from, operate_one(*op, *word, a))?;
+            finish(control, run, watcher, a, value, into)
         }
         Action::Jump(to) => {
             control.at = *to as usize;
@@ -215,7 +215,7 @@ pub fn act<W: Watcher>(
             into,
         } => {
             let value = input(code, run, watcher, *spot, *close, *ty)?;
-            finish(control, run, watcher, value, value, *into)
+            finish(control, run, watcher, value, value, into)
         }
         Action::Reach { around, spot } => {
             reach(code, run, watcher, *around, *spot)?;

@@ -11,7 +11,7 @@ use flow_code::Operand;
 use run_state::Halt;
 
 /// The value of a cell.
-#[inline]
+#[inline(always)]
 pub fn look(run: &Running, object: u32, index: u32) -> i128
     ensures { result ≡ read (record { object = object; index = index }) run.now.memory.cells }
 {
@@ -19,20 +19,20 @@ pub fn look(run: &Running, object: u32, index: u32) -> i128
 }
 
 /// An operand's value, taken from the stack where it is there.
-#[inline]
-pub fn take(control: &mut Control, run: &Running, operand: Operand) -> i128
-    ensures value { result ≡ value_of operand (reverse control.old.stack.items) run.now.memory.cells }
-    ensures control { control_of control.new ≡ record (control_of control.old) { stack = stack_of operand (reverse control.old.stack.items) } }
+#[inline(always)]
+pub fn take(control: &mut Control, run: &Running, operand: &Operand) -> i128
+    ensures value { result ≡ value_of operand.now (reverse control.old.stack.items) run.now.memory.cells }
+    ensures control { control_of control.new ≡ record (control_of control.old) { stack = stack_of operand.now (reverse control.old.stack.items) } }
 {
     match operand {
         Operand::Top => control.pop(),
-        Operand::Cell(object) => look(run, object, 0),
-        Operand::Number(value) => value,
+        Operand::Cell(object) => look(run, *object, 0),
+        Operand::Number(value) => *value,
     }
 }
 
 /// An index of an array of so many elements.
-#[inline]
+#[inline(always)]
 pub fn index_below(size: u32, index: i128, spot: Spot) -> Result<u32, Halt>
     ensures { IndexBelow size index spot result }
 {

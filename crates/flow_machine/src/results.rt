@@ -28,25 +28,25 @@ fn element(control: &mut Control) -> u32
 }
 
 // Stores a value.
-#[inline]
-fn store(control: &mut Control, run: &mut Running, left: i128, value: i128, store: Store) -> i128
-    ensures value { result ≡ kept_value store left (fit Lp64 store.ty value) }
-    ensures control { control_of control.new ≡ record (control_of control.old) { stack = stack_at store.place (reverse control.old.stack.items) } }
-    ensures cells { (x : ℕ) → state_of run.new x ≡ with_cells (put (key_at store.place (reverse control.old.stack.items)) (fit Lp64 store.ty value) run.old.memory.cells) (state_of run.old x) }
+#[inline(always)]
+fn store(control: &mut Control, run: &mut Running, left: i128, value: i128, store: &Store) -> i128
+    ensures value { result ≡ kept_value store.now left (fit Lp64 store.now.ty value) }
+    ensures control { control_of control.new ≡ record (control_of control.old) { stack = stack_at store.now.place (reverse control.old.stack.items) } }
+    ensures cells { (x : ℕ) → state_of run.new x ≡ with_cells (put (key_at store.now.place (reverse control.old.stack.items)) (fit Lp64 store.now.ty value) run.old.memory.cells) (state_of run.old x) }
 {
     let new = convert(store.ty, value);
-    match store.place {
-        Place::Fixed(object, index) => run.memory.set(object, index, new),
+    match &store.place {
+        Place::Fixed(object, index) => run.memory.set(*object, *index, new),
         Place::Element(object) => {
             let index = element(control);
-            run.memory.set(object, index, new);
+            run.memory.set(*object, index, new);
         }
     }
     if store.old { left } else { new }
 }
 
 // Goes on at an address where a value's truth is `way`.
-#[inline]
+#[inline(always)]
 fn skip(control: &mut Control, value: i128, way: bool, to: u32)
     ensures { control_of control.new ≡ skipped (not (is_zero value)) way to (control_of control.old) }
 {
@@ -56,28 +56,28 @@ fn skip(control: &mut Control, value: i128, way: bool, to: u32)
 }
 
 /// A value goes where it is said; `left` is the value of the left operand.
-#[inline]
+#[inline(always)]
 pub fn finish<W: Watcher>(
     control: &mut Control,
     run: &mut Running,
     watcher: &mut W,
     left: i128,
     value: i128,
-    into: Into,
+    into: &Into,
 ) -> Result<(), Halt>
-    ensures { (c : Code) → Acts result (control_of control.new) (state_of run.new (W.seen watcher.new)) (finished c W.Seen W.after left value into (control_of control.old) (state_of run.old (W.seen watcher.old))) }
+    ensures { (c : Code) → Acts result (control_of control.new) (state_of run.new (W.seen watcher.new)) (finished c W.Seen W.after left value into.now (control_of control.old) (state_of run.old (W.seen watcher.old))) }
 {
-    let value = match into.store {
+    let value = match &into.store {
         None => value,
         Some(found) => store(control, run, left, value, found),
     };
-    match into.then {
+    match &into.then {
         Then::Drop => {}
         Then::Push => control.push(value)?,
-        Then::Skip { way, to } => skip(control, value, way, to),
+        Then::Skip { way, to } => skip(control, value, *way, *to),
         Then::Branch { at, way, to } => {
-            tell(run, watcher, Event::Branch(at, value != 0))?;
-            skip(control, value, way, to);
+            tell(run, watcher, Event::Branch(*at, value != 0))?;
+            skip(control, value, *way, *to);
         }
     }
     Ok(())
