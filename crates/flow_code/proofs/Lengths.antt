@@ -59,9 +59,14 @@ two_size (Some x) None k A B n m a o h g =
 two_size None (Some w) k A B n m a o h g = omega (arith, h, length-append (A ++ []) (a ∷ []), length-append A (let e : List Op = [] in e))
 two_size None None k A B n m a o h g = omega (arith, h, g, length-append (A ++ B) (a ∷ []), length-append A B)
 
+-- a right side whose left side needs l operations to be put on the stack
+abbrev with_kept : Option Operand → ℕ → ℕ → ℕ
+with_kept (Some w) m l = 1
+with_kept None m l = m + l + 1
+
 -- a right side behind a target
 target_size : (z : Option Operand) (x : Operand) (k : ℕ) (J B : List Op) (n m l : ℕ) (a : Op) → length J ≡ n → length B ≡ m → length (kept x k) ≡ l
-    → length (J ++ (paired x k z B).ops ++ a ∷ []) ≡ n + elim z [ Some w ↦ 1 | None ↦ m + l + 1 ]
+    → length (J ++ (paired x k z B).ops ++ a ∷ []) ≡ n + with_kept z m l
 target_size (Some w) x k J B n m l a h g e = omega (arith, h, length-append (J ++ []) (a ∷ []), length-append J (let e : List Op = [] in e))
 target_size None x k J B n m l a h g e = omega (arith, h, g, e, length-append (J ++ (kept x k ++ B)) (a ∷ []), length-append J (kept x k ++ B), length-append (kept x k) B)
 
@@ -93,7 +98,7 @@ module _ (p : Program) (at : Around) where
   kept_target i k spot (Index o e) reads l = refl
   kept_target i k spot _ reads l = refl
 
-  with_left : (n : Node) (z : Option Operand) (m : ℕ) → elim z [ Some w ↦ 1 | None ↦ m + left_of n + 1 ] ≡ with_target n z m
+  with_left : (n : Node) (z : Option Operand) (m : ℕ) → with_kept z m (left_of n) ≡ with_target n z m
   unfolding left_of
   with_left (Index o i) (Some w) m = refl
   with_left (Index o i) None m = omega arith

@@ -62,7 +62,7 @@ abbrev mutual
   size_of_node ty (Choose mark e a b) = size e + (size a + size b + 3)
   size_of_node ty (Comma a b) = size a + size b
   size_of_node ty (Assign None t e) = size_of_aim t + as_stored e (size e)
-  size_of_node ty (Assign (Some op) (Expr spot u n) e) = size_of_aim (Expr spot u n) + with_target n (operand_of e) (size e)
+  size_of_node ty (Assign (Some op) (Expr spot u n) e) = size_of_place n + with_target n (operand_of e) (size e)
   size_of_node ty (Call callee es close) = size_of_callee callee + size_of_all es
 
   -- what finds an element that is written

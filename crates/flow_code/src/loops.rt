@@ -9,7 +9,7 @@ use crate::code::{Action, Op, Then};
 use crate::emit::{ahead, emit, more};
 use crate::expressions::expression;
 use crate::sizes::{first_leaks, size, size_if, size_of_arm};
-use crate::statements::{Inside, arm, close, declare, deeper, full_of, open};
+use crate::statements::{Inside, arm, close_scope, declare, deeper, full_of, open_scope};
 use c_core::{Expr, First, Program, Spot, Stmt};
 use wv_base::{OutOfMemory, Seq};
 
@@ -102,10 +102,10 @@ pub fn for_loop(
 {
     let there = first_leaks(first);
     let within = deeper(inside, there)?;
-    open(ops, there)?;
+    open_scope(ops, there)?;
     begin(program, ops, at, first)?;
     turn(program, ops, within, at, test, step, body)?;
-    close(ops, there)
+    close_scope(ops, there)
 }
 
 // What a `for` does again and again.

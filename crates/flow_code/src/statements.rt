@@ -42,7 +42,7 @@ pub fn deeper(inside: Inside, there: bool) -> Result<Inside, OutOfMemory>
 }
 
 /// A scope begins, where it is there.
-pub fn open(ops: &mut Seq<Op>, there: bool) -> Result<(), OutOfMemory>
+pub fn open_scope(ops: &mut Seq<Op>, there: bool) -> Result<(), OutOfMemory>
     ensures { OnOk result (ops.new ≡ ops.old ++ opened there) }
 {
     if there {
@@ -53,7 +53,7 @@ pub fn open(ops: &mut Seq<Op>, there: bool) -> Result<(), OutOfMemory>
 }
 
 /// A scope ends, where it is there.
-pub fn close(ops: &mut Seq<Op>, there: bool) -> Result<(), OutOfMemory>
+pub fn close_scope(ops: &mut Seq<Op>, there: bool) -> Result<(), OutOfMemory>
     ensures { OnOk result (ops.new ≡ ops.old ++ closed there) }
 {
     if there {
@@ -166,11 +166,11 @@ fn block(
 {
     let there = any_leaks(body);
     let within = deeper(inside, there)?;
-    open(ops, there)?;
+    open_scope(ops, there)?;
     for s in body {
         statement(program, ops, within, s)?;
     }
-    close(ops, there)
+    close_scope(ops, there)
 }
 
 /// A statement that is a scope of its own, if it declares names.
@@ -185,9 +185,9 @@ pub fn arm(
 {
     let there = leaks(s);
     let within = deeper(inside, there)?;
-    open(ops, there)?;
+    open_scope(ops, there)?;
     statement(program, ops, within, s)?;
-    close(ops, there)
+    close_scope(ops, there)
 }
 
 #[cycle(statement)]

@@ -99,7 +99,7 @@ fn aim<W: Watcher>(
     Ok(())
 }
 
-fn open(control: &mut Control, run: &Running) -> Result<(), Halt>
+fn open_scope(control: &mut Control, run: &Running) -> Result<(), Halt>
     ensures { Acts result (control_of control.new) (state_of run.now 0) (Go (record (control_of control.old) { scopes = length run.now.memory.cells ∷ reverse control.old.scopes.items }) (state_of run.now 0)) }
 {
     match control.scopes.push(run.memory.count()) {
@@ -108,7 +108,7 @@ fn open(control: &mut Control, run: &Running) -> Result<(), Halt>
     }
 }
 
-fn close(control: &mut Control, run: &mut Running)
+fn close_scope(control: &mut Control, run: &mut Running)
     ensures { (x : ℕ) → scope_closed (reverse control.old.scopes.items) (control_of control.old) (state_of run.old x) ≡ Go (control_of control.new) (state_of run.new x) }
 {
     if let Some(cells) = control.scopes.pop() {
@@ -190,9 +190,9 @@ pub fn act<W: Watcher>(
             control.at = *to as usize;
             Ok(())
         }
-        Action::Open => open(control, run),
+        Action::Open => open_scope(control, run),
         Action::Close => {
-            close(control, run);
+            close_scope(control, run);
             Ok(())
         }
         Action::Declare {

@@ -1,20 +1,43 @@
 // The machine: a run that can be stopped and goes on.
+ghost use Rattle.std.specs.Prelude.{◌≡◌, ◌≤◌, ◌<◌, ◌+◌, ◌^◌, true, IfOk, OnOk};
+ghost use Rattle.c_core.specs.Tree.{Program};
+ghost use Rattle.c_meaning.specs.Run.{Run};
+ghost use Rattle.flow_code.specs.Programs.{IsCodeOf};
+ghost use Rattle.flow_machine.specs.Runs.{Follows};
+
 use crate::acting::act;
 use crate::control::{Control, Running};
 use c_meaning::{Choices, End, Given, Memory, Run, Watcher};
 use flow_code::Code;
 use run_state::{Halt, Left, LeftAt};
 use std::alloc::Global;
+use std::marker::Model;
 use wv_base::{OutOfMemory, Seq};
 
 /// A run of a program as code.
 #[derive(Drop)]
 pub struct Machine<'a> {
     code: &'a Code,
+    choices: &'a Choices,
     control: Control,
     run: Running,
+    sum: u64,
     taken: u64,
     ended: Option<End>,
+    reserved: bool,
+    whole: bool,
+}
+
+impl<'a> Model for Machine<'a> {
+    ghost use Rattle.std.specs.Prelude.{◌≡◌, vec_capacity, true};
+    ghost use Rattle.flow_machine.specs.Runs.{Held, Rests};
+    ghost use Rattle.flow_machine.specs.Views.{machine_of};
+
+    ghost Value = { Held };
+
+    ghost view = { λ m. record { code = m.code.now; choices = m.choices.now; sum = m.sum; cells = m.run.memory.room; draws = vec_capacity m.run.draws; reserved = m.reserved; whole = m.whole } };
+
+    ghost invariant = { λ m. m.whole ≡ true → Rests m.code.now m.choices.now m.sum m.ended (machine_of m.control m.run tt) };
 }
 
 // The values from the last to the first.
@@ -67,9 +90,12 @@ impl<'a> Machine<'a> {
         alloc: Global,
         code: &'a Code,
         choices: &'a Choices,
-    ) -> Result<Machine<'a>, OutOfMemory> {
+    ) -> Result<Machine<'a>, OutOfMemory>
+        ensures { IfOk result (λ m. (m.code ≡ code.now) × (m.choices ≡ choices.now) × (m.sum ≡ 0) × (m.whole ≡ true)) }
+    {
         Ok(Machine {
             code,
+            choices,
             control: Control {
                 at: code.main as usize,
                 paid: 0,
@@ -85,9 +111,32 @@ impl<'a> Machine<'a> {
                 draws: Vec::new(alloc),
                 unfixed: 0,
             },
+            sum: 0,
             taken: 0,
             ended: None,
+            reserved: false,
+            whole: true,
         })
+    }
+
+    /// Makes room for so many cells and draws in all, and for all that a run without recursion needs besides.
+    pub fn reserve(&mut self, cells: u32, draws: u32) -> Result<(), OutOfMemory>
+        ensures same { (self.new.code ≡ self.old.code) × (self.new.choices ≡ self.old.choices) × (self.new.sum ≡ self.old.sum) × (self.new.whole ≡ self.old.whole) }
+        ensures rooms { (self.old.cells ≤ self.new.cells) × (self.old.draws ≤ self.new.draws) }
+        ensures ok { OnOk result ((cells ≤ self.new.cells) × (draws ≤ self.new.draws) × (self.new.reserved ≡ true)) }
+        ensures kept { self.old.reserved ≡ true → self.new.reserved ≡ true }
+    {
+        self.run.memory.reserve(cells)?;
+        let draws = (draws as usize).saturating_sub(self.run.draws.len());
+        self.run.draws.reserve(draws)?;
+        let code = self.code;
+        self.control.frames.reserve(code.functions.len())?;
+        self.control.scopes.reserve(code.ops.len())?;
+        self.control
+            .stack
+            .reserve(code.ops.len().saturating_mul(2))?;
+        self.reserved = true;
+        Ok(())
     }
 
     // Takes the steps of an operation that are left, or all that there are.
@@ -130,6 +179,7 @@ impl<'a> Machine<'a> {
 
     /// Takes at most so many further steps.
     pub fn advance<W: Watcher>(&mut self, steps: u64, watcher: &mut W) -> Result<End, OutOfMemory> {
+        self.sum = self.sum.saturating_add(steps);
         if let Some(end) = self.ended {
             return Ok(end);
         }
@@ -137,7 +187,10 @@ impl<'a> Machine<'a> {
         let halt = self.go(watcher);
         self.taken = self.taken.saturating_add(steps - self.run.steps);
         match halt {
-            Halt::NoMemory => Err(OutOfMemory),
+            Halt::NoMemory => {
+                self.whole = false;
+                Err(OutOfMemory)
+            }
             Halt::Ends(End::Spent) => Ok(End::Spent),
             Halt::Ends(end) => {
                 self.ended = Some(end);
@@ -147,7 +200,9 @@ impl<'a> Machine<'a> {
     }
 
     /// The run so far.
-    pub fn finish(self) -> Run {
+    pub fn finish(self) -> Run
+        ensures { (p : Program) → IsCodeOf p self.entry.code → self.entry.whole ≡ true → result ≡ Run p self.entry.choices self.entry.sum }
+    {
         let Machine {
             run,
             taken,
