@@ -4,6 +4,7 @@
 #![tactic(auto)]
 
 mod binding;
+mod confirmed;
 mod constraint;
 mod draws;
 mod few;

@@ -6,6 +6,7 @@ ghost use Rattle.c_duties.specs.Obliged.{placed_view};
 ghost use Rattle.sym_invariants.specs.Walking.{IsInvariant};
 
 use crate::binding::{claim_of_invariant, explain_claim, number_in};
+use crate::confirmed::show_obligations;
 use crate::obligations::{explain_failed, invariant_numbered, note_invariant, obligation_text};
 use crate::shrinking::{explain_recursion, explain_weight};
 use c_core::Program;
@@ -80,6 +81,10 @@ fn explain_verdict(
         Verdict::Undecided(Cause::Conflicts { index, count }) => explain_conflicts(
             alloc, files, program, witness, invariants, *index, *count, out,
         ),
+        Verdict::CorrectnessConfirmed { .. } => {
+            let list = duties(alloc, program, invariants)?;
+            show_obligations(alloc, witness, list.as_slice(), out)
+        }
         _ => Ok(()),
     }
 }

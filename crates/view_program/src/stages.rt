@@ -237,7 +237,7 @@ fn explain_tree(
     }
 }
 
-/// What there is to say of three files that were read whole. Nothing is said of a confirmation.
+/// What there is to say of three files that were read whole.
 pub fn explain(
     alloc: Global,
     files: &Files<'_>,

@@ -42,6 +42,24 @@ pub struct Tracker<'a> {
     /// The violation.
     pub violation: Option<Event>,
     pub events: u64,
+    /// The numbers of events whose places are wanted, rising.
+    wanted: &'a [u64],
+    /// The places of those of them that came.
+    pub found: Vec<Spot>,
+}
+
+/// The place of an event.
+fn spot_of(event: Event) -> Spot {
+    match event {
+        Event::At(spot) | Event::Branch(spot, _) | Event::Enter(spot) | Event::Return(spot, _) => {
+            spot
+        }
+        Event::Fail {
+            call: Some(call),
+            ..
+        } => call,
+        Event::Fail { full, .. } => full,
+    }
 }
 
 impl<'a> Tracker<'a> {
@@ -51,6 +69,7 @@ impl<'a> Tracker<'a> {
         program: &'a Program,
         bound: &'a Bound,
         line_count: u32,
+        wanted: &'a [u64],
     ) -> Result<Tracker<'a>, OutOfMemory> {
         let index = Index::new(alloc, program)?;
         let mut lines = Vec::new(alloc);
@@ -76,7 +95,20 @@ impl<'a> Tracker<'a> {
             last: None,
             violation: None,
             events: 0,
+            wanted,
+            found: Vec::new(alloc),
         })
+    }
+
+    /// Keeps the place of an event that is wanted; two neighbours may be passed by one event.
+    fn keep(&mut self, event: Event) -> Result<(), OutOfMemory> {
+        for _ in 0..self.wanted.len() {
+            match self.wanted.get(self.found.len()) {
+                Some(number) if *number == self.events => self.found.push(spot_of(event))?,
+                _ => break,
+            }
+        }
+        Ok(())
     }
 
     fn count_line(&mut self, spot: Spot) {
@@ -167,6 +199,7 @@ impl<'a> Watcher for Tracker<'a> {
     ghost after = { λ _ _ s. s };
 
     fn see(&mut self, event: Event, memory: &Memory) -> Result<(), OutOfMemory> {
+        self.keep(event)?;
         self.events = self.events.saturating_add(1);
         match event {
             Event::At(spot) => self.count_line(spot),

@@ -1,5 +1,6 @@
 // A violation sequence: a waypoint that isn't bound, or the given run.
 use crate::binding::{claim_of_waypoint, explain_claim, number_in};
+use crate::confirmed::show_run;
 use crate::draws::note_unfixed;
 use crate::few::{bind, segments_of};
 use crate::nearest::line_count;
@@ -14,7 +15,7 @@ use view_text::{File, Files, Messages};
 use view_witness::waypoint_path;
 use way_bind::BindFault;
 use way_match::{Bound, Matcher, given};
-use wv_base::OutOfMemory;
+use wv_base::{OutOfMemory, Seq};
 use wv_schema::Witness;
 
 fn explain_unbound(
@@ -114,6 +115,39 @@ fn explain_undefined(
     note_unfixed(alloc, program, choices, run.draws.as_slice(), out)
 }
 
+/// The run that the segments give, and the events that pass them, where some do, as the judge asks it.
+fn judged_run(
+    alloc: Global,
+    program: &Program,
+    bound: &Bound,
+    choices: &Choices,
+    steps: u64,
+) -> Result<(Run, Option<Seq<u64>>), OutOfMemory> {
+    let mut matcher = Matcher::new(alloc, bound, program)?;
+    let run = run_plain(alloc, program, choices, steps, &mut matcher)?;
+    Ok((run, matcher.done()))
+}
+
+/// A run that violates the property.
+fn explain_violated(
+    alloc: Global,
+    files: &Files<'_>,
+    witness: &Witness,
+    run: &Run,
+    positions: Option<&[u64]>,
+    tracker: Tracker<'_>,
+    out: &mut Messages,
+) -> Result<(), OutOfMemory> {
+    let segments = segments_of(witness);
+    match positions {
+        Some(positions) => {
+            let draws = run.draws.as_slice();
+            show_run(alloc, segments, draws, positions, tracker, out)
+        }
+        None => explain_unmatched(alloc, files, witness, segments, &tracker, out),
+    }
+}
+
 /// The run that the segments give, by its end.
 fn explain_run(
     alloc: Global,
@@ -125,35 +159,22 @@ fn explain_run(
     out: &mut Messages,
 ) -> Result<(), OutOfMemory> {
     let choices = given(alloc, bound, program)?;
+    let (run, found) = judged_run(alloc, program, bound, &choices, steps)?;
+    let positions = match &found {
+        Some(positions) => Some(positions.as_slice()),
+        None => None,
+    };
     let lines = line_count(files.text(File::Program));
-    let mut tracker = Tracker::new(alloc, program, bound, lines)?;
-    let run = run_plain(alloc, program, &choices, steps, &mut tracker)?;
+    let wanted = positions.unwrap_or(&[]);
+    let mut tracker = Tracker::new(alloc, program, bound, lines, wanted)?;
+    let _ = run_plain(alloc, program, &choices, steps, &mut tracker)?;
     match run.end {
         End::Ended => explain_ended(alloc, program, &choices, &run, &tracker, out),
         End::Undefined(spot) => explain_undefined(alloc, program, &choices, &run, spot, out),
         End::Spent => explain_spent(alloc, &tracker, steps, out),
         End::Deep => explain_deep(alloc, &tracker, out),
-        End::Violated(_) => {
-            if is_matched(alloc, program, bound, &choices, steps)? {
-                return Ok(());
-            }
-            let segments = segments_of(witness);
-            explain_unmatched(alloc, files, witness, segments, &tracker, out)
-        }
+        End::Violated(_) => explain_violated(alloc, files, witness, &run, positions, tracker, out),
     }
-}
-
-/// Whether the run passes the segments, as the judge asks it.
-fn is_matched(
-    alloc: Global,
-    program: &Program,
-    bound: &Bound,
-    choices: &Choices,
-    steps: u64,
-) -> Result<bool, OutOfMemory> {
-    let mut matcher = Matcher::new(alloc, bound, program)?;
-    let _ = run_plain(alloc, program, choices, steps, &mut matcher)?;
-    Ok(matcher.done().is_some())
 }
 
 /// What there is to say of a program and a violation sequence about it.

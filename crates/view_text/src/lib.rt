@@ -5,6 +5,7 @@
 mod files;
 mod growing;
 mod lines;
+mod listing;
 mod message;
 mod printed;
 mod report;
@@ -13,6 +14,7 @@ mod rules;
 pub use files::Files;
 pub use growing::{Growing, last_holding};
 pub use lines::{line_of, offset_of, spot_at};
+pub use listing::push_listing;
 pub use message::{File, Level, Message, Messages};
 pub use printed::{push_caret, push_printable};
 pub use report::push_message;

@@ -28,11 +28,12 @@ pub struct Message {
     pub text: String,
 }
 
-/// Messages in the order in which they are shown.
+/// Messages in the order in which they are shown; of a confirmation, notes, and how often each line of the program was reached.
 #[derive(Debug, Drop)]
 pub struct Messages {
     alloc: Global,
     list: Vec<Message>,
+    counts: Option<Vec<u64>>,
 }
 
 impl Messages {
@@ -41,12 +42,27 @@ impl Messages {
         Messages {
             alloc,
             list: Vec::new(alloc),
+            counts: None,
         }
     }
 
     /// The messages so far.
     pub fn as_slice(&self) -> &[Message] {
         self.list.as_slice()
+    }
+
+    /// How often each line of the program was reached, from line 1; none where nothing is confirmed. Of a confirmation without a
+    /// run there are no counts.
+    pub fn counts(&self) -> Option<&[u64]> {
+        match &self.counts {
+            Some(counts) => Some(counts.as_slice()),
+            None => None,
+        }
+    }
+
+    /// What is shown is a confirmation, with these counts.
+    pub fn confirm(&mut self, counts: Vec<u64>) {
+        self.counts = Some(counts);
     }
 
     fn push(

@@ -3,7 +3,7 @@ use crate::keeping_shelf::KeepingShelf;
 use crate::reply_sink::ReplySink;
 use std::alloc::Global;
 use view_program::explain;
-use view_text::{File, Files, Messages, advice, push_message};
+use view_text::{File, Files, Messages, advice, push_listing, push_message};
 use witval::run;
 use wv_arguments::{Budgets, Names};
 use wv_base::OutOfMemory;
@@ -90,12 +90,27 @@ fn messages_of(
             messages.error(code, file, None, told)?;
         }
         None => {
-            if replied.status != 0 {
-                explain(alloc, files, budgets, &mut messages)?;
-            }
+            explain(alloc, files, budgets, &mut messages)?;
         }
     }
     Ok(messages)
+}
+
+/// Messages one behind another, or a confirmation in the text of the program.
+fn shown_text(
+    alloc: Global,
+    files: &Files<'_>,
+    messages: &Messages,
+) -> Result<String, OutOfMemory> {
+    let mut text = String::new(alloc);
+    if messages.counts().is_some() {
+        push_listing(alloc, &mut text, files, messages)?;
+        return Ok(text);
+    }
+    for message in messages.as_slice() {
+        push_message(alloc, &mut text, files, message)?;
+    }
+    Ok(text)
 }
 
 /// The bytes that are shown of a judgement, and its status.
@@ -113,10 +128,7 @@ pub fn shown(
         texts: [shelf.kept(0), shelf.kept(1), shelf.kept(2)],
     };
     let messages = messages_of(alloc, &replied, &files, budgets)?;
-    let mut text = String::new(alloc);
-    for message in messages.as_slice() {
-        push_message(alloc, &mut text, &files, message)?;
-    }
+    let text = shown_text(alloc, &files, &messages)?;
     let mut bytes = Vec::from_slice(alloc, replied.reply.bytes())?;
     bytes.extend_from_slice(text.as_str().as_bytes())?;
     Ok((bytes, replied.status))
