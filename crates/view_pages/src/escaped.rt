@@ -28,7 +28,12 @@ pub fn push_html(alloc: Global, out: &mut String, bytes: &[u8]) -> Result<(), Ou
 
 /// Whether a byte stands for itself in a reference to a file (RFC 3986 2.3, and the slash between folders).
 fn is_plain(byte: u8) -> bool {
-    byte.is_ascii_alphanumeric() || byte == b'-' || byte == b'.' || byte == b'_' || byte == b'~' || byte == b'/'
+    byte.is_ascii_alphanumeric()
+        || byte == b'-'
+        || byte == b'.'
+        || byte == b'_'
+        || byte == b'~'
+        || byte == b'/'
 }
 
 /// The name of a file as a relative reference (RFC 3986 2.1).

@@ -79,7 +79,10 @@ fn push_rows(
                 Some(spot) => spot.column,
                 None => 1,
             };
-            write!(out, "<tr class=\"note\"><td class=\"number\"></td><td class=\"number\"></td><td>column {column}, ")?;
+            write!(
+                out,
+                "<tr class=\"note\"><td class=\"number\"></td><td class=\"number\"></td><td>column {column}, "
+            )?;
             push_told(alloc, out, message)?;
             out.push_str("</td></tr>\n")?;
         }

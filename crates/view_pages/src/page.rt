@@ -1,11 +1,11 @@
 // The parts of a page that are the same on each.
 
 /// What stands before the reply. The page asks for nothing from anywhere, and says so to the browser.
-pub const HEAD: &str = r#"<!DOCTYPE html>
-<html lang="en">
+pub const HEAD: &str = "<!DOCTYPE html>
+<html lang=\"en\">
 <head>
-<meta charset="utf-8">
-<meta http-equiv="Content-Security-Policy" content="default-src 'none'; style-src 'unsafe-inline'">
+<meta charset=\"utf-8\">
+<meta http-equiv=\"Content-Security-Policy\" content=\"default-src 'none'; style-src 'unsafe-inline'\">
 <title>witval-view</title>
 <style>
 body { font-family: sans-serif; margin: 1.5em; }
@@ -20,7 +20,7 @@ ul.messages li { margin-bottom: 0.4em; }
 </head>
 <body>
 <h1>Verdict</h1>
-<pre>"#;
+<pre>";
 
 /// What stands behind the files.
 pub const TAIL: &str = "</body>\n</html>\n";

@@ -15,11 +15,7 @@ fn level_word(level: Level) -> &'static str {
 }
 
 /// The column of a place in characters, from 1: that of a message counts bytes.
-fn column_in_characters(
-    alloc: Global,
-    text: &[u8],
-    spot: Spot,
-) -> Result<u64, OutOfMemory> {
+fn column_in_characters(alloc: Global, text: &[u8], spot: Spot) -> Result<u64, OutOfMemory> {
     let line = line_of(text, spot.line);
     let before = (spot.column as usize).saturating_sub(1);
     let front = String::from_utf8_lossy(alloc, line.get(..before).unwrap_or(line))?;
@@ -31,11 +27,7 @@ fn column_in_characters(
 }
 
 /// Where a message stands (3.28, 3.29).
-fn place_value(
-    alloc: Global,
-    files: &Files<'_>,
-    message: &Message,
-) -> Result<Value, OutOfMemory> {
+fn place_value(alloc: Global, files: &Files<'_>, message: &Message) -> Result<Value, OutOfMemory> {
     let uri = reference_to(alloc, files.name(message.file))?;
     match message.spot {
         Some(spot) => {

@@ -13,10 +13,17 @@ fn hostile_texts_are_texts_in_a_page(rt: HostRuntime) -> Result<(), Fail> {
     let alloc = rt.alloc();
     let mut messages = Messages::new(alloc);
     let told = String::from_str(alloc, "<b>'\u{1b}")?;
-    messages.error("place", File::Program, Some(Spot { line: 1, column: 5 }), told)?;
+    messages.error(
+        "place",
+        File::Program,
+        Some(Spot { line: 1, column: 5 }),
+        told,
+    )?;
     let page = page_of(alloc, &FILES, "refused place 1\n", &messages)?;
     let page = page.as_str();
-    assert!(rt; page.contains("&lt;script&gt;") && page.contains("error: &lt;b&gt;&#39;\u{fffd} [place]"));
+    assert!(rt;
+        page.contains("&lt;script&gt;") && page.contains("error: &lt;b&gt;&#39;\u{fffd} [place]")
+    );
     assert!(rt; !page.contains("<script") && !page.contains("<b>"));
     Ok(())
 }
@@ -26,7 +33,12 @@ fn a_log_has_a_result_with_its_place_in_characters(rt: HostRuntime) -> Result<()
     let alloc = rt.alloc();
     let mut messages = Messages::new(alloc);
     let told = String::from_str(alloc, "no")?;
-    messages.error("place", File::Program, Some(Spot { line: 1, column: 8 }), told)?;
+    messages.error(
+        "place",
+        File::Program,
+        Some(Spot { line: 1, column: 8 }),
+        told,
+    )?;
     messages.remark(File::Witness, None, "here")?;
     let log = log_of(alloc, &FILES, "refused place 1\n", 3, messages.as_slice())?;
     let log = log.as_str();

@@ -275,28 +275,35 @@ fn tokens_from(tokens: &[Token], item: Spot) -> usize {
     0
 }
 
+/// The place behind a byte.
+fn behind(spot: Spot, byte: u8) -> Spot {
+    if byte == b'\n' {
+        Spot {
+            line: spot.line.saturating_add(1),
+            column: 1,
+        }
+    } else {
+        Spot {
+            line: spot.line,
+            column: spot.column.saturating_add(1),
+        }
+    }
+}
+
 /// How many bytes stand between the first token and each, as far as the text goes.
 fn starts_of(alloc: Global, text: &[u8], tokens: &[Token]) -> Result<Vec<usize>, OutOfMemory> {
     let mut starts = Vec::new(alloc);
-    let mut rest = tokens.iter();
-    let Some(first) = rest.next() else {
+    let Some(first) = tokens.first() else {
         return Ok(starts);
     };
     let mut spot = first.spot;
-    let mut next = Some(first);
     for (at, byte) in text.iter().enumerate() {
-        if let Some(token) = next {
+        if let Some(token) = tokens.get(starts.len()) {
             if is_same_spot(token.spot, spot) {
                 starts.push(at)?;
-                next = rest.next();
             }
         }
-        if *byte == b'\n' {
-            spot.line = spot.line.saturating_add(1);
-            spot.column = 1;
-        } else {
-            spot.column = spot.column.saturating_add(1);
-        }
+        spot = behind(spot, *byte);
     }
     Ok(starts)
 }
@@ -317,5 +324,8 @@ pub fn untaken(alloc: Global, text: &[u8], item: Spot) -> Result<Option<Spot>, O
         starts: starts.as_slice(),
     };
     let count = first_untaken(alloc, &item)?;
-    Ok(tokens.get(count).map(|token| token.spot))
+    match tokens.get(count) {
+        Some(token) => Ok(Some(token.spot)),
+        None => Ok(None),
+    }
 }

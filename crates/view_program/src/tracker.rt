@@ -20,6 +20,14 @@ pub struct Waiting {
     pub avoided: u64,
 }
 
+/// How a way comes to a segment by an event: not, or by a waypoint to follow that is an assumption or another.
+#[derive(Clone, Copy, Debug, PartialEq, Eq)]
+enum Coming {
+    Not,
+    ByAssumption,
+    ByOther,
+}
+
 const NOT_YET: Waiting = Waiting {
     is_reached: false,
     is_open: false,
@@ -152,39 +160,52 @@ impl<'a> Tracker<'a> {
         (after, self.passes(&segment.follow, event, memory))
     }
 
-    /// The segments that wait, from the first; two assumptions behind one another may pass by one event.
+    /// What comes of the ways that wait for a segment, where one more may come to it, by an event that may pass two; and whether it is
+    /// passed.
+    fn pass_segment(
+        &self,
+        before: Waiting,
+        comes: Coming,
+        segment: &BoundSegment,
+        event: Event,
+        memory: &Memory,
+    ) -> (Waiting, Coming) {
+        let is_assumption = matches!(segment.follow, Point::Assume(_, _));
+        let (mut after, mut passed) = if before.is_open {
+            self.waited(before, segment, event, memory)
+        } else {
+            (before, false)
+        };
+        if matches!(comes, Coming::ByAssumption) && is_assumption {
+            passed = passed || self.passes(&segment.follow, event, memory);
+        }
+        if !matches!(comes, Coming::Not) {
+            after.is_reached = true;
+            after.is_open = true;
+        }
+        match (passed, is_assumption) {
+            (false, _) => (after, Coming::Not),
+            (true, true) => (after, Coming::ByAssumption),
+            (true, false) => (after, Coming::ByOther),
+        }
+    }
+
+    /// All segments, from the first.
     fn pass_segments(&mut self, event: Event, memory: &Memory) {
         let bound = self.bound;
-        let mut enters = false;
-        let mut enters_now = false;
+        let mut comes = Coming::Not;
         for (at, segment) in bound.segments.as_slice().iter().enumerate() {
             let Some(before) = self.waiting.get(at).copied() else {
                 return;
             };
-            let is_assumption = matches!(segment.follow, Point::Assume(_, _));
-            let is_new = enters && enters_now && is_assumption;
-            let mut after = before;
-            let mut passed = false;
-            if before.is_open {
-                (after, passed) = self.waited(before, segment, event, memory);
-            }
-            if is_new {
-                passed = passed || self.passes(&segment.follow, event, memory);
-            }
-            if enters {
-                after.is_reached = true;
-                after.is_open = true;
-            }
+            let (after, next) = self.pass_segment(before, comes, segment, event, memory);
             if let Some(place) = self.waiting.get_mut(at) {
                 *place = after;
             }
-            enters = passed;
-            enters_now = is_assumption;
+            comes = next;
         }
-        if enters {
-            if let Some(end) = self.waiting.last_mut() {
-                end.is_reached = true;
-            }
+        if let Some(end) = self.waiting.last_mut() {
+            end.is_reached = end.is_reached || !matches!(comes, Coming::Not);
         }
     }
 }

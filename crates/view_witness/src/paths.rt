@@ -58,7 +58,7 @@ pub fn reached<'t>(tree: &'t Tree, steps: &[Step<'_>]) -> Option<&'t Tree> {
     let mut at = tree;
     for step in steps {
         let next = match step {
-            Step::Key(key) => value_at(at, key),
+            Step::Key(key) => value_at(at, *key),
             Step::Item(index) => item_at(at, *index),
         };
         at = next?;
