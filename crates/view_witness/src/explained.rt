@@ -1,6 +1,6 @@
 // What is wrong in a witness that can't be read, or doesn't meet the schema.
 use crate::paths::{Step, place_of_path, reached, steps_of};
-use crate::stopping::{first_bad, stopped_at};
+use crate::stopping::{first_bad, repeated_at, stopped_at};
 use c_core::Spot;
 use std::alloc::Global;
 use view_text::{File, Messages, advice, spot_at};
@@ -17,7 +17,7 @@ fn yaml_place(
     match fault {
         YamlFault::Bytes => Ok(("yaml-bytes", spot_at(text, first_bad(text)))),
         YamlFault::Grammar => Ok(("yaml-grammar", stopped_at(alloc, text)?)),
-        YamlFault::Duplicate => Ok(("yaml-duplicate", stopped_at(alloc, text)?)),
+        YamlFault::Duplicate => Ok(("yaml-duplicate", repeated_at(alloc, text)?)),
         YamlFault::OutOfMemory => Err(OutOfMemory),
     }
 }

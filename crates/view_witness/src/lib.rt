@@ -14,7 +14,7 @@ mod tasks;
 pub use explained::{explain_schema, explain_yaml};
 pub use numbers::{invariant_path, waypoint_path};
 pub use paths::{Step, place_of_path, reached, steps_of};
-pub use stopping::{first_bad, stopped_at};
+pub use stopping::{first_bad, repeated_at, stopped_at};
 pub use tasks::explain_task;
 
 #[cfg(test)]

@@ -113,6 +113,24 @@ impl Fronts for Readable {
     }
 }
 
+/// Where the word begins that ends at an offset.
+fn word_start(text: &[u8], end: usize) -> usize {
+    let mut start = end;
+    for at in (0..end).rev() {
+        match text.get(at) {
+            Some(byte) if byte.is_ascii_alphanumeric() || *byte == b'_' => start = at,
+            _ => break,
+        }
+    }
+    start
+}
+
+/// The place in a witness of the key that stands twice in its map, by its second time.
+pub fn repeated_at(alloc: Global, text: &[u8]) -> Result<Spot, OutOfMemory> {
+    let length = longest_front(alloc, text, &Readable)?;
+    Ok(spot_at(text, word_start(text, length)))
+}
+
 /// The place in a witness that can't be read behind which nothing that could follow makes it readable, as far as the completions
 /// that are tried tell.
 pub fn stopped_at(alloc: Global, text: &[u8]) -> Result<Spot, OutOfMemory> {

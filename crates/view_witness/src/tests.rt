@@ -29,8 +29,8 @@ fn reading_stops_at_an_anchor(rt: HostRuntime) -> Result<(), Fail> {
 
 #[test]
 fn a_repeated_key_is_where_it_stands_again(rt: HostRuntime) -> Result<(), Fail> {
-    let spot = stopped_at(rt.alloc(), b"- a: 1\n  b: 2\n  a: 3\n")?;
-    assert_eq!(rt; spot.line, 3);
+    let spot = repeated_at(rt.alloc(), b"- a: 1\n  b: 2\n  a: 3\n")?;
+    assert!(rt; spot == Spot { line: 3, column: 3 });
     Ok(())
 }
 

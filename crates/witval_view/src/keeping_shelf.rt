@@ -66,12 +66,12 @@ impl Shelf for KeepingShelf<'_> {
         self.mark = self.faults;
         self.taken = 0;
         self.file = None;
+        if self.kept.push(Vec::new(alloc)).is_err() {
+            return Err(BeginFault::OutOfMemory);
+        }
         match Text::of(alloc, name) {
             Ok(asked) => self.asked = asked,
             Err(_) => return Err(BeginFault::OutOfMemory),
-        }
-        if self.kept.push(Vec::new(alloc)).is_err() {
-            return Err(BeginFault::OutOfMemory);
         }
         match File::open(self.rt, name) {
             Ok(file) => {
