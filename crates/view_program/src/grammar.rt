@@ -1,5 +1,5 @@
 // The token of an item that the grammar can't take: the first behind the longest front of the item that something completes to an item.
-use crate::sources::{Spelling, spelling, tokens_of};
+use crate::sources::{Spelling, read_source, tokens_of};
 use crate::spelled::is_same_spot;
 use c_core::Spot;
 use c_tokens::{Punct, Token, TokenKind};
@@ -143,14 +143,28 @@ struct Item<'a> {
     starts: &'a [usize],
 }
 
-fn is_spelled(alloc: Global, front: &[u8], parts: [&str; 4]) -> Result<bool, OutOfMemory> {
+fn push_part(text: &mut Vec<u8>, part: &str) -> Result<(), OutOfMemory> {
+    text.extend_from_slice(part.as_bytes())?;
+    text.push(b' ')?;
+    Ok(())
+}
+
+/// Whether a front is a source with what is wanting, what closes its parentheses, what is wanting behind them, what closes its blocks.
+fn is_spelled(
+    alloc: Global,
+    front: &[u8],
+    wanting: &str,
+    inner: &str,
+    behind: &str,
+    outer: &str,
+) -> Result<bool, OutOfMemory> {
     let mut text = Vec::from_slice(alloc, front)?;
     text.push(b'\n')?;
-    for part in parts {
-        text.extend_from_slice(part.as_bytes())?;
-        text.push(b' ')?;
-    }
-    Ok(matches!(spelling(alloc, text.as_slice()), Spelling::Source(_)))
+    push_part(&mut text, wanting)?;
+    push_part(&mut text, inner)?;
+    push_part(&mut text, behind)?;
+    push_part(&mut text, outer)?;
+    Ok(matches!(read_source(alloc, text.as_slice()), Spelling::Source(_)))
 }
 
 impl Item<'_> {
@@ -177,8 +191,14 @@ impl Item<'_> {
         let front = self.front(count);
         for behind in BEHIND {
             for wanting in WANTING {
-                let parts = [wanting, inner.as_str(), behind, outer.as_str()];
-                if is_spelled(alloc, front, parts)? {
+                if is_spelled(
+                    alloc,
+                    front,
+                    wanting,
+                    inner.as_str(),
+                    behind,
+                    outer.as_str(),
+                )? {
                     return Ok(true);
                 }
             }
@@ -192,7 +212,7 @@ impl Item<'_> {
         let (_, outer) = closings(alloc, walk.open.as_slice())?;
         let front = self.front(count);
         for behind in ["", "while (0);", ";"] {
-            if is_spelled(alloc, front, ["", "", behind, outer.as_str()])? {
+            if is_spelled(alloc, front, "", "", behind, outer.as_str())? {
                 return Ok(true);
             }
         }
@@ -257,7 +277,7 @@ fn last_front(alloc: Global, item: &Item<'_>, from: usize) -> Result<usize, OutO
 fn first_untaken(alloc: Global, item: &Item<'_>) -> Result<usize, OutOfMemory> {
     let counts = statement_counts(alloc, item.tokens)?;
     let statements = Statements {
-        item,
+        item: &*item,
         counts: counts.as_slice(),
     };
     let last = last_holding(alloc, &statements, 0, counts.len())?;

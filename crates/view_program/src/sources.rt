@@ -16,7 +16,7 @@ pub enum Spelling {
 }
 
 /// The tokens of a text, and the source that they spell.
-pub fn spelling(alloc: Global, text: &[u8]) -> Spelling {
+pub fn read_source(alloc: Global, text: &[u8]) -> Spelling {
     if text.len() > MAX_LENGTH {
         return Spelling::NoTokens(TokenFault::OutOfMemory);
     }

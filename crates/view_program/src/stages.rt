@@ -2,7 +2,7 @@
 use crate::grammar::untaken;
 use crate::sets::explain_sets;
 use crate::shrinking::end_of;
-use crate::sources::{Spelling, spelling};
+use crate::sources::{Spelling, read_source};
 use crate::violation::explain_sequence;
 use crate::words::word_at;
 use c_check::check;
@@ -194,7 +194,7 @@ fn explain_text(
     witness: &Witness,
     out: &mut Messages,
 ) -> Result<(), OutOfMemory> {
-    match spelling(alloc, files.text(File::Program)) {
+    match read_source(alloc, files.text(File::Program)) {
         Spelling::Source(source) => explain_source(
             alloc, files, budgets, &source, model, property, witness, out,
         ),

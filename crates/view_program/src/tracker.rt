@@ -211,8 +211,6 @@ impl<'a> Tracker<'a> {
 }
 
 impl<'a> Watcher for Tracker<'a> {
-    ghost use Rattle.std.specs.Prelude.{Unit, tt};
-
     ghost Seen = { Unit {0} };
 
     ghost seen = { λ _. tt };

@@ -75,7 +75,7 @@ fn kind_at(path: &str) -> &'static str {
 }
 
 /// The steps without the last.
-fn parent<'s, 'a>(steps: &'s [Step<'a>]) -> &'s [Step<'a>] {
+fn parent<'a>(steps: &'a [Step<'a>]) -> &'a [Step<'a>] {
     steps.get(..steps.len().saturating_sub(1)).unwrap_or(&[])
 }
 

@@ -23,12 +23,14 @@ pub fn front_of(text: &[u8], length: usize) -> &[u8] {
 fn tree_of_parts(
     alloc: Global,
     front: &[u8],
-    parts: [&[u8]; 3],
+    quote: &[u8],
+    middle: &[u8],
+    brackets: &[u8],
 ) -> Result<Option<Tree>, OutOfMemory> {
     let mut text = Vec::from_slice(alloc, front)?;
-    for part in parts {
-        text.extend_from_slice(part)?;
-    }
+    text.extend_from_slice(quote)?;
+    text.extend_from_slice(middle)?;
+    text.extend_from_slice(brackets)?;
     match read(alloc, text.as_slice()) {
         Ok(tree) => Ok(Some(tree)),
         Err(YamlFault::OutOfMemory) => Err(OutOfMemory),
@@ -41,13 +43,13 @@ pub fn tree_of_front(alloc: Global, front: &[u8]) -> Result<Option<Tree>, OutOfM
     let quote = closing_quote(alloc, front)?;
     let brackets = closing_brackets(alloc, front)?;
     for middle in MIDDLES {
-        let parts = [quote, middle.as_bytes(), brackets.as_slice()];
-        if let Some(tree) = tree_of_parts(alloc, front, parts)? {
-            return Ok(Some(tree));
+        let tree = tree_of_parts(alloc, front, quote, middle.as_bytes(), brackets.as_slice())?;
+        if tree.is_some() {
+            return Ok(tree);
         }
     }
     if quote.is_empty() && brackets.len() == 0 {
         return Ok(None);
     }
-    tree_of_parts(alloc, front, [b"", b"", b""])
+    tree_of_parts(alloc, front, &[], &[], &[])
 }

@@ -90,7 +90,7 @@ fn misuse<'a>(alloc: Global, text: &str) -> Result<Asked<'a>, OutOfMemory> {
     Ok(Asked::Misuse(String::from_str(alloc, text)?))
 }
 
-fn asked<'a>(alloc: Global, matches: &ArgMatches<'a>) -> Result<Asked<'a>, OutOfMemory> {
+fn asked_by<'a>(alloc: Global, matches: &ArgMatches<'a>) -> Result<Asked<'a>, OutOfMemory> {
     match matches.get_str("mode") {
         Some("validate") | None => {}
         Some(_) => return misuse(alloc, "error: the one mode is validate\n"),
@@ -108,7 +108,7 @@ fn asked<'a>(alloc: Global, matches: &ArgMatches<'a>) -> Result<Asked<'a>, OutOf
 pub fn read_words(alloc: Global, words: &[String]) -> Result<Asked<'_>, OutOfMemory> {
     let command = command(alloc)?;
     match command.try_get_matches_from(words) {
-        Ok(matches) => asked(alloc, &matches),
+        Ok(matches) => asked_by(alloc, &matches),
         Err(error) => match error.kind() {
             ErrorKind::OutOfMemory => Err(OutOfMemory),
             ErrorKind::DisplayHelp => Ok(Asked::Help(format!(in alloc; "{error}")?)),

@@ -113,6 +113,21 @@ fn shown_text(
     Ok(text)
 }
 
+/// Three files, by their names and by what was read of them.
+fn files_of<'a>(
+    program_name: &'a str,
+    property_name: &'a str,
+    witness_name: &'a str,
+    program: &'a [u8],
+    property: &'a [u8],
+    witness: &'a [u8],
+) -> Files<'a> {
+    Files {
+        names: [program_name, property_name, witness_name],
+        texts: [program, property, witness],
+    }
+}
+
 /// The bytes that are shown of a judgement, and its status.
 pub fn shown(
     rt: &HostRuntime,
@@ -123,10 +138,17 @@ pub fn shown(
     let mut shelf = KeepingShelf::new(rt, alloc);
     let words = words_for(alloc, names, budgets)?;
     let replied = reply_to(alloc, &words, &mut shelf)?;
-    let files = Files {
-        names: [names.program, names.property, names.witness],
-        texts: [shelf.kept(0), shelf.kept(1), shelf.kept(2)],
-    };
+    let program = shelf.kept(0);
+    let property = shelf.kept(1);
+    let witness = shelf.kept(2);
+    let files = files_of(
+        names.program,
+        names.property,
+        names.witness,
+        program,
+        property,
+        witness,
+    );
     let messages = messages_of(alloc, &replied, &files, budgets)?;
     let text = shown_text(alloc, &files, &messages)?;
     let mut bytes = Vec::from_slice(alloc, replied.reply.bytes())?;
