@@ -81,16 +81,22 @@ impl Fronts for Without<'_> {
     }
 }
 
+/// Where a key begins that ends at an offset, or shortly before it: a quote or a colon may stand behind it.
+fn key_start(text: &[u8], end: usize, key: &str) -> usize {
+    for back in 0..3 {
+        let last = end.saturating_sub(back);
+        let start = last.saturating_sub(key.len());
+        if text.get(start..last) == Some(key.as_bytes()) {
+            return start;
+        }
+    }
+    end.saturating_sub(1)
+}
+
 /// Where the last step of a path begins, which ends there.
 fn start_of(text: &[u8], end: usize, last: Option<&Step<'_>>) -> usize {
     match last {
-        Some(Step::Key(key)) => {
-            let start = end.saturating_sub(key.len());
-            match text.get(start..end) {
-                Some(word) if word == key.as_bytes() => start,
-                _ => end.saturating_sub(1),
-            }
-        }
+        Some(Step::Key(key)) => key_start(text, end, *key),
         _ => end.saturating_sub(1),
     }
 }
