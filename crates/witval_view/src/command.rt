@@ -1,7 +1,7 @@
 // The words of the command line, read by `clap`.
 use clap::builder::ValueParser;
 use clap::error::ErrorKind;
-use clap::{Arg, ArgMatches, Command};
+use clap::{Arg, ArgAction, ArgMatches, Command};
 use std::alloc::{AllocError, Global};
 use wv_arguments::{Budgets, Names};
 use wv_base::OutOfMemory;
@@ -16,22 +16,69 @@ FILE:LINE:COLUMN: error: TEXT [code], the line, a caret. Messages are no verdict
 Status: that of `witval validate`: 0 confirmed, 1 not confirmed, 2 undecided, 3 refused, 4 a read fault, 5 a write fault, \
 6 want of memory, 7 misused words; 0 for this help.";
 
+/// How a judgement is shown.
+#[derive(Clone, Copy, Debug, PartialEq, Eq)]
+pub enum Form {
+    Text,
+    Sarif,
+    Html,
+}
+
 /// What the words ask for.
 #[derive(Drop)]
 pub enum Asked<'a> {
-    Judge { names: Names<'a>, budgets: Budgets },
+    Judge {
+        names: Names<'a>,
+        budgets: Budgets,
+        form: Form,
+    },
+    /// Many judgements, by the name of their list.
+    List {
+        name: &'a str,
+        budgets: Budgets,
+    },
     /// The help, as it is printed.
     Help(String),
     /// What is wrong with the words.
     Misuse(String),
 }
 
-fn file<'a>(alloc: Global, name: &'a str, help: &'a str) -> Arg<'a> {
-    Arg::new(alloc, name)
+fn file<'a>(alloc: Global, name: &'a str, help: &'a str) -> Result<Arg<'a>, AllocError> {
+    let arg = Arg::new(alloc, name)
         .long(name)
         .value_name("FILE")
-        .required(true)
         .help(help)
+        .required_unless_present("list")?;
+    Ok(arg)
+}
+
+fn flag<'a>(
+    alloc: Global,
+    name: &'a str,
+    other: &'a str,
+    help: &'a str,
+) -> Result<Arg<'a>, AllocError> {
+    let arg = Arg::new(alloc, name)
+        .long(name)
+        .action(ArgAction::SetTrue)
+        .help(help)
+        .conflicts_with(other)?;
+    Ok(arg)
+}
+
+fn list<'a>(alloc: Global) -> Result<Arg<'a>, AllocError> {
+    let arg = Arg::new(alloc, "list")
+        .long("list")
+        .value_name("FILE")
+        .help(
+            "Judges each line of a list, a program, a property and a witness parted by tabs or blanks, and prints a line of JSON for each; - is standard input",
+        )
+        .conflicts_with("program")?
+        .conflicts_with("property")?
+        .conflicts_with("witness")?
+        .conflicts_with("sarif")?
+        .conflicts_with("html")?;
+    Ok(arg)
 }
 
 fn number<'a>(alloc: Global, name: &'a str, most: u64, default: &'a str, help: &'a str) -> Arg<'a> {
@@ -51,9 +98,12 @@ fn command<'a>(alloc: Global) -> Result<Command<'a>, AllocError> {
         .about(ABOUT)
         .after_help(AFTER)
         .arg(mode)?
-        .arg(file(alloc, "program", "The C program, preprocessed"))?
-        .arg(file(alloc, "property", "The property"))?
-        .arg(file(alloc, "witness", "The witness, format 2.0"))?
+        .arg(file(alloc, "program", "The C program, preprocessed")?)?
+        .arg(file(alloc, "property", "The property")?)?
+        .arg(file(alloc, "witness", "The witness, format 2.0")?)?
+        .arg(list(alloc)?)?
+        .arg(flag(alloc, "sarif", "html", "Prints a SARIF 2.1.0 log instead")?)?
+        .arg(flag(alloc, "html", "sarif", "Prints one page of HTML instead")?)?
         .arg(number(
             alloc,
             "steps",
@@ -78,6 +128,16 @@ fn budgets(matches: &ArgMatches<'_>) -> Budgets {
     }
 }
 
+fn form(matches: &ArgMatches<'_>) -> Form {
+    if matches.get_flag("sarif") {
+        Form::Sarif
+    } else if matches.get_flag("html") {
+        Form::Html
+    } else {
+        Form::Text
+    }
+}
+
 fn names<'a>(matches: &ArgMatches<'a>) -> Option<Names<'a>> {
     Some(Names {
         program: matches.get_str("program")?,
@@ -95,10 +155,15 @@ fn asked_by<'a>(alloc: Global, matches: &ArgMatches<'a>) -> Result<Asked<'a>, Ou
         Some("validate") | None => {}
         Some(_) => return misuse(alloc, "error: the one mode is validate\n"),
     }
+    let budgets = budgets(matches);
+    if let Some(name) = matches.get_str("list") {
+        return Ok(Asked::List { name, budgets });
+    }
     match names(matches) {
         Some(names) => Ok(Asked::Judge {
             names,
-            budgets: budgets(matches),
+            budgets,
+            form: form(matches),
         }),
         None => misuse(alloc, "error: a file isn't named\n"),
     }

@@ -1,7 +1,9 @@
 // One judgement: the reply of the validator, and what there is to look at.
+use crate::command::Form;
 use crate::keeping_shelf::KeepingShelf;
 use crate::reply_sink::ReplySink;
 use std::alloc::Global;
+use view_pages::{log_of, page_of};
 use view_program::explain;
 use view_text::{File, Files, Messages, advice, push_listing, push_message};
 use witval::run;
@@ -113,6 +115,40 @@ fn shown_text(
     Ok(text)
 }
 
+/// The whole of what is printed.
+fn printed(
+    alloc: Global,
+    files: &Files<'_>,
+    replied: &Replied,
+    messages: &Messages,
+    form: Form,
+) -> Result<Vec<u8>, OutOfMemory> {
+    let reply = String::from_utf8_lossy(alloc, replied.reply.bytes())?;
+    let reply = reply.as_str();
+    let text = match form {
+        Form::Text => {
+            let mut text = String::from_str(alloc, reply)?;
+            text.push_str(shown_text(alloc, files, messages)?.as_str())?;
+            text
+        }
+        Form::Sarif => log_of(alloc, files, reply, replied.status, messages.as_slice())?,
+        Form::Html => page_of(alloc, files, reply, messages)?,
+    };
+    Ok(text.into_bytes())
+}
+
+/// The reply to three files.
+pub fn replied_to(
+    rt: &HostRuntime,
+    alloc: Global,
+    names: &Names<'_>,
+    budgets: Budgets,
+) -> Result<Replied, OutOfMemory> {
+    let mut shelf = KeepingShelf::new(rt, alloc);
+    let words = words_for(alloc, names, budgets)?;
+    reply_to(alloc, &words, &mut shelf)
+}
+
 /// Three files, by their names and by what was read of them.
 fn files_of<'a>(
     program_name: &'a str,
@@ -134,6 +170,7 @@ pub fn shown(
     alloc: Global,
     names: &Names<'_>,
     budgets: Budgets,
+    form: Form,
 ) -> Result<(Vec<u8>, u8), OutOfMemory> {
     let mut shelf = KeepingShelf::new(rt, alloc);
     let words = words_for(alloc, names, budgets)?;
@@ -150,8 +187,6 @@ pub fn shown(
         witness,
     );
     let messages = messages_of(alloc, &replied, &files, budgets)?;
-    let text = shown_text(alloc, &files, &messages)?;
-    let mut bytes = Vec::from_slice(alloc, replied.reply.bytes())?;
-    bytes.extend_from_slice(text.as_str().as_bytes())?;
+    let bytes = printed(alloc, &files, &replied, &messages, form)?;
     Ok((bytes, replied.status))
 }

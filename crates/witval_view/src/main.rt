@@ -5,10 +5,12 @@
 mod command;
 mod judging;
 mod keeping_shelf;
+mod list;
 mod reply_sink;
 
 use command::{Asked, read_words};
 use judging::{shown, usage_reply};
+use list::judge_list;
 use std::alloc::Global;
 use std::io::{ErrorKind, Write};
 use std::process::ExitCode;
@@ -59,10 +61,17 @@ fn misused(rt: &HostRuntime, alloc: Global, text: &str) -> u8 {
 
 fn answered(rt: &HostRuntime, alloc: Global, words: &[String]) -> u8 {
     match read_words(alloc, words) {
-        Ok(Asked::Judge { names, budgets }) => match shown(rt, alloc, &names, budgets) {
+        Ok(
+            Asked::Judge {
+                names,
+                budgets,
+                form,
+            },
+        ) => match shown(rt, alloc, &names, budgets, form) {
             Ok((bytes, status)) => written(rt, bytes.as_slice(), status),
             Err(_) => 6,
         },
+        Ok(Asked::List { name, budgets }) => judge_list(rt, alloc, name, budgets),
         Ok(Asked::Help(text)) => written(rt, text.as_str().as_bytes(), 0),
         Ok(Asked::Misuse(text)) => misused(rt, alloc, text.as_str()),
         Err(_) => 6,
