@@ -48,7 +48,8 @@ fn type_at(index: &Index, close: Spot) -> IntType {
 
 fn is_true(done: Done) -> bool {
     match done {
-        Done::Value(value) | Done::Overflow(value) => value != 0,
+        Done::Value(value) => value != 0,
+        Done::Overflow(value) => value != 0,
         Done::Undefined => false,
     }
 }
