@@ -1,0 +1,4 @@
+mod Steps
+mod Bounds
+mod Lengths
+mod Written

@@ -1,0 +1,5 @@
+pub mod Sequence
+pub mod Programs
+pub mod Witnesses
+pub mod Demo
+pub mod Examples
