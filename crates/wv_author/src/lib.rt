@@ -9,3 +9,5 @@ mod witnesses;
 
 pub use demo::{Made, demo};
 
+#[cfg(test)]
+mod tests;
