@@ -4,3 +4,4 @@ pub mod JudgedTask
 pub mod FewWaypoints
 pub mod AllowedBudgets
 pub mod JudgedSets
+pub mod MadeWitness

@@ -2,6 +2,8 @@
 use Rattle.std.specs.Prelude.{◌≡◌, ℕ, ◌==◌, ◌&&◌, ◌||◌, List, [], ◌∷◌, ◌++◌, take, if◌then◌else◌, codes, decimal}
 use Rattle.std.specs.Fmt.{signed_decimal}
 use Rattle.std.specs.List.{position_or_len}
+use Rattle.c_core.specs.declared.number.DataModel.TheVariants.{Ilp32}
+use Rattle.c_core.specs.declared.number.Property.TheVariants.{UnreachCall}
 use Rattle.c_meaning.specs.declared.run.Draw.{Draw}
 use Rattle.c_meaning.specs.declared.verdict.Verdict.TheVariants.{ViolationConfirmed, ViolationNot, CorrectnessConfirmed, CorrectnessNot, Undecided}
 use Rattle.wv_arguments.specs.Words.{Budgets}
@@ -14,6 +16,7 @@ use Rattle.wv_schema.specs.Canonical.{tree_of}
 use Rattle.wv_schema.specs.declared.witness.Witness.{Witness}
 use Rattle.wv_yaml.specs.Canon.{canon}
 use Rattle.witval.specs.Tasks.{RightOnInputs}
+use Rattle.witval.specs.inside.Rests.{RightOnText}
 use Rattle.witval.specs.declared.demonstration.Demonstration.{Demonstration}
 
 -- ---- the replies
@@ -27,11 +30,17 @@ unreach_text = codes "CHECK( init(main()), LTL(G ! call(reach_error())) )"
 abbrev pub RightOnMade : Budgets → List ℕ → Witness → Reply → Type 0
 RightOnMade budgets program witness reply = RightOnInputs budgets program unreach_text (canon (tree_of witness)) reply
 
+-- the same, where the witness is read and is about its program: no refusal of YAML, of the schema or of the task comes
+abbrev pub RightOnRead : Budgets → List ℕ → Witness → Reply → Type 0
+RightOnRead budgets program witness reply = RightOnText budgets UnreachCall program witness Ilp32 reply
+
 -- the replies to the two programs of a number, each with its witness
 pub record IsDemonstration (number : ℕ) (budgets : Budgets) (demo : Demonstration) : Type 0 where
   pub same_number : demo.number ≡ number
   pub on_correct : RightOnMade budgets (correct_program number) (invariants number (correct_program number)) demo.correct
   pub on_faulty : RightOnMade budgets (faulty_program number) (violation number (faulty_program number)) demo.faulty
+  pub correct_read : RightOnRead budgets (correct_program number) (invariants number (correct_program number)) demo.correct
+  pub faulty_read : RightOnRead budgets (faulty_program number) (violation number (faulty_program number)) demo.faulty
 
 -- ---- what is printed
 

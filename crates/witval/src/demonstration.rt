@@ -1,10 +1,13 @@
 // The demo of a number: both of its programs are judged, and told in a line each.
 ghost use Rattle.std.specs.Prelude.{◌≡◌, ◌≤◌, ◌++◌, IfOk, OnOk, length, string_bytes, take};
 ghost use Rattle.std.specs.List.{position_or_len};
+ghost use Rattle.sha2.specs.Sha256.{sha256};
+ghost use Rattle.c_core.specs.declared.number.DataModel.TheVariants.{Ilp32};
+ghost use Rattle.c_core.specs.declared.number.Property.TheVariants.{UnreachCall};
 ghost use Rattle.wv_arguments.specs.Requests.{limits};
 ghost use Rattle.wv_author.specs.Demo.{CanBeWritten};
-ghost use Rattle.wv_report.specs.Report.{text_of};
-ghost use Rattle.witval.specs.Demos.{IsDemonstration, RightOnMade, demo_status, demo_text, drawn_values, first_line, numbers_of, told_line};
+ghost use Rattle.wv_task.specs.Task.{judged};
+ghost use Rattle.witval.specs.Demos.{IsDemonstration, RightOnMade, RightOnRead, demo_status, demo_text, drawn_values, first_line, numbers_of, told_line};
 ghost use Rattle.witval.specs.inside.Allowed.{IsAllowed};
 
 use crate::judging::judge_bytes;
@@ -35,8 +38,10 @@ fn judge_made(
 ) -> Result<Reply, OutOfMemory>
     requires program { length program.now ≤ 1048576 }
     requires written { CanBeWritten witness.now }
+    requires task { judged (sha256 program.now) UnreachCall witness.now.entries ≡ Ok Ilp32 }
     requires allowed { IsAllowed (limits budgets) }
-    ensures { IfOk result (RightOnMade (limits budgets) program.now witness.now) }
+    ensures as_files { IfOk result (RightOnMade (limits budgets) program.now witness.now) }
+    ensures past_task { IfOk result (RightOnRead (limits budgets) program.now witness.now) }
 {
     let tree = tree_of(alloc, witness)?;
     let bytes = write(alloc, &tree)?;

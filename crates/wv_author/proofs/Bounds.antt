@@ -1,6 +1,6 @@
 -- The bounds of a demo: how many there are, and how large they are.
-use Rattle.std.proofs.Common.{◌≡◌, ℕ, zero, suc, ◌+◌, ◌/◌, ◌%◌, ◌≤◌, [], ◌∷◌, ◌++◌, length, All, refl, ap, ◌∙◌, arith, length-append, rules}
-use Rattle.std.proofs.lemmas.List.Elements.{All-push}
+use Rattle.std.proofs.Common.{◌≡◌, ℕ, zero, suc, ◌+◌, ◌/◌, ◌%◌, ◌≤◌, [], ◌∷◌, ◌++◌, length, All, refl, ◌∙◌, arith, length-append}
+use Rattle.std.proofs.lemmas.List.Elements.{All-nil, All-push}
 use Rattle.wv_author.specs.Sequence.{sequence, bound, bounds}
 
 -- from 1 to 100
@@ -13,7 +13,7 @@ bound_fits s = record { some = omega arith; most = omega arith }
 
 pub bounds_fit : (n k : ℕ) → All IsBound (bounds n k)
 unfolding bounds
-bounds_fit n zero = search rules
+bounds_fit n zero = All-nil IsBound
 bounds_fit n (suc k) = All-push IsBound (bounds n k) (bound (sequence n (suc k))) (bounds_fit n k) (bound_fits (sequence n (suc k)))
 
 pub bounds_count : (n k : ℕ) → length (bounds n k) ≡ k

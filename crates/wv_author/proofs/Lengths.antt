@@ -2,6 +2,7 @@
 use Rattle.std.proofs.Common.{◌≡◌, ℕ, ◌+◌, ◌*◌, ◌^◌, ◌<◌, ◌≤◌, List, [], ◌∷◌, ◌++◌, length, All, decimal, codes, refl, arith, length-append}
 use Rattle.std.specs.Str.{chars}
 use Rattle.std.proofs.lemmas.Fmt.{length-decimal-le}
+use Rattle.std.proofs.lemmas.List.Elements.{All-head, All-tail}
 use lib.Utf8.{encode}
 use Rattle.wv_author.specs.Sequence.{bounds, loop_count}
 use Rattle.wv_author.specs.Programs.{opening, closing, loop_lines, loops_lines, input_lines, correct_program, faulty_program}
@@ -30,8 +31,9 @@ loop_length k b small_k small_b =
 loops_length : (k : ℕ) (bs : List ℕ) → All IsBound bs → k + length bs ≤ 100 → length (loops_lines k bs) ≤ 256 * length bs
 loops_length k [] fit few = omega arith
 loops_length k (b ∷ bs) fit few =
-    let one : length (loop_lines k b) ≤ 256 = loop_length k b (omega arith) (omega (arith, (fit.0).most)) in
-    let more : length (loops_lines (k + 1) bs) ≤ 256 * length bs = loops_length (k + 1) bs fit.1 (omega arith) in
+    let first : IsBound b = All-head IsBound b bs fit in
+    let one : length (loop_lines k b) ≤ 256 = loop_length k b (omega arith) (omega arith) in
+    let more : length (loops_lines (k + 1) bs) ≤ 256 * length bs = loops_length (k + 1) bs (All-tail IsBound b bs fit) (omega arith) in
     simp length-append (omega arith)
 
 input_length : (n : ℕ) → n ≤ 999999 → length (input_lines n) ≤ 256

@@ -8,7 +8,7 @@ use Rattle.wv_yaml.specs.Document.{max_depth}
 use Rattle.wv_yaml.specs.Repeats.{Repeats}
 use Rattle.wv_author.specs.Programs.{correct_program, faulty_program}
 use Rattle.wv_author.specs.Witnesses.{invariants, violation}
-use Rattle.wv_author.specs.declared.demo.Made.{Made}
+use Rattle.wv_author.specs.declared.making.Made.{Made}
 
 -- two programs, and a witness about each with its own program's hash
 unfoldable pub demo_of : ℕ → Made

@@ -2,12 +2,12 @@
 //! defines for the number.
 #![tactic(auto)]
 
-mod demo;
+mod making;
 mod programs;
 mod sequence;
 mod witnesses;
 
-pub use demo::{Made, demo};
+pub use making::{Made, demo};
 
 #[cfg(test)]
 mod tests;

@@ -1,0 +1,1 @@
+// Laws, each the contract of a function without a body.

@@ -1,0 +1,4 @@
+//! Laws on what `wv_author` makes: what the stages of the validator find in the programs of a demo.
+#![tactic(auto)]
+
+mod laws;
