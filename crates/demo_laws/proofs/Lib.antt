@@ -1,2 +1,7 @@
-mod Reading
+pub mod Reading
 mod Grammar
+mod Numerals
+pub mod Standing
+mod Loops
+pub mod Grammar2
+mod Bodies

@@ -1,7 +1,8 @@
 -- A text of good lines is read as their tokens.
-use Rattle.std.proofs.Common.{◌≡◌, ℕ, zero, suc, ◌+◌, ◌-◌, ◌*◌, ◌^◌, ◌<◌, ◌≤◌, ◌==◌, ◌∙◌, min, Bool, true, false, not, ◌&&◌, List, [], ◌∷◌, ◌++◌, length, take, drop, replicate, Some, refl, sym, ap, subst, arith, append_assoc, append-nil, length-append, length-replicate, add-zero}
+use Rattle.std.proofs.Common.{◌≡◌, ℕ, zero, suc, ◌+◌, ◌-◌, ◌*◌, ◌^◌, ◌<◌, ◌≤◌, ◌==◌, ◌∙◌, min, Bool, true, false, not, ◌&&◌, List, [], ◌∷◌, ◌++◌, length, take, drop, replicate, Some, refl, sym, ap, subst, arith, append_assoc, append-nil, length-append, add-zero}
+use Rattle.std.proofs.lemmas.List.{length-replicate}
 use Rattle.std.specs.List.{list_all}
-use Rattle.std.proofs.Math.Seq.{take-append_seam}
+use Rattle.std.proofs.Math.Seq.{drop-append_seam, take-append_seam}
 use Rattle.c_tokens.specs.declared.gap.Gap.TheVariants.{Space}
 use Rattle.c_tokens.specs.declared.place.Place.{Place}
 use Rattle.c_tokens.specs.declared.token.Token.{Token}
@@ -60,7 +61,7 @@ reads_token l c f x rest ts end stands small reads =
         longest_found (x.spelling ++ rest) (length x.spelling) (Some x.kind) stands.found in
     let behind = past_bytes l c f x.spelling stands.one_line small in
     let front : take (length x.spelling) (x.spelling ++ rest) ≡ x.spelling = taken x.spelling rest in
-    let left : drop (length x.spelling) (x.spelling ++ rest) ≡ rest = simp (refl) in
+    let left : drop (length x.spelling) (x.spelling ++ rest) ≡ rest = drop-append_seam x.spelling rest in
     let longest : Longest x.spelling (Some x.kind) (x.spelling ++ rest) rest =
         subst (λ w. Longest w (Some x.kind) (x.spelling ++ rest) rest) front (subst (λ r. Longest (take (length x.spelling) (x.spelling ++ rest)) (Some x.kind) (x.spelling ++ rest) r) left long) in
     AToken (stands.no_gap f) longest (subst (λ at. Reads true at rest ts end) (sym behind.1) (reads behind.0))

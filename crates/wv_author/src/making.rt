@@ -22,7 +22,7 @@ pub struct Made {
 }
 
 /// The demo of a number: two programs of forty loops, whose bounds the number gives, and a witness about each.
-#[tactic(auto, using(crate::proofs::Lengths::programs_are_within, crate::proofs::Written::witnesses_are_writable), unfolding(crate::specs::Demo::demo_of, crate::specs::Programs::correct_program, crate::specs::Programs::faulty_program))]
+#[tactic(auto, using(crate::proofs::Lengths::programs_are_within), unfolding(crate::specs::Demo::demo_of, crate::specs::Programs::correct_program, crate::specs::Programs::faulty_program))]
 pub fn demo(alloc: Global, number: u32) -> Result<Made, OutOfMemory>
     requires { number ≤ 999999 }
     ensures made { IfOk result (λ made. made ≡ demo_of number) }

@@ -10,7 +10,6 @@ const OPENING: &str = "void reach_error() { }\nint __VERIFIER_nondet_int();\nint
 const CLOSING: &str = "  return 0;\n}\n";
 
 /// A loop up to its bound, and the test of its variable behind it.
-#[tactic(auto, unfolding(crate::specs::Programs::loop_lines))]
 fn add_loop(out: &mut String, k: u32, bound: u32) -> Result<(), OutOfMemory>
     ensures { OnOk result (string_bytes out.new ≡ string_bytes out.old ++ loop_lines k bound) }
 {
@@ -38,7 +37,6 @@ fn add_loops(out: &mut String, bounds: &[u32]) -> Result<(), OutOfMemory>
 }
 
 /// The input that reaches the error.
-#[tactic(auto, unfolding(crate::specs::Programs::input_lines))]
 fn add_input(out: &mut String, number: u32) -> Result<(), OutOfMemory>
     ensures { OnOk result (string_bytes out.new ≡ string_bytes out.old ++ input_lines number) }
 {

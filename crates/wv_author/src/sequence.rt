@@ -1,5 +1,5 @@
 // The sequence that gives the bounds of loops.
-ghost use Rattle.std.specs.Prelude.{◌≡◌, ◌<◌, ◌≤◌, ◌^◌, IfOk};
+ghost use Rattle.std.specs.Prelude.{◌≡◌, ◌<◌, ◌≤◌, ◌^◌, IfOk, length};
 ghost use Rattle.wv_author.specs.Sequence.{bound, bounds, loop_count, next};
 
 use std::alloc::Global;
@@ -25,10 +25,11 @@ fn bound(number: u64) -> u32
 }
 
 /// The bounds of the loops of a number's demo.
-#[tactic(auto, using(crate::proofs::Steps::sequence_none, crate::proofs::Steps::sequence_more, crate::proofs::Steps::bounds_none, crate::proofs::Steps::bounds_more))]
+#[tactic(auto, using(crate::proofs::Steps::sequence_none, crate::proofs::Steps::sequence_more, crate::proofs::Steps::bounds_none, crate::proofs::Steps::bounds_more, crate::proofs::Bounds::bounds_count))]
 pub fn bounds(alloc: Global, number: u32) -> Result<Vec<u32>, OutOfMemory>
     requires { number ≤ 999999 }
-    ensures { IfOk result (λ all. all.items ≡ bounds number loop_count) }
+    ensures bounds { IfOk result (λ all. all.items ≡ bounds number loop_count) }
+    ensures count { IfOk result (λ all. length all.items ≡ loop_count) }
 {
     let mut all = Vec::new(alloc);
     let mut last = u64::from(number);

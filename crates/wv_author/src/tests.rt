@@ -32,7 +32,13 @@ fn the_number_gives_the_bounds(rt: HostRuntime) -> Result<(), Fail> {
 #[test]
 fn each_witness_has_the_hash_of_its_program(rt: HostRuntime) -> Result<(), Fail> {
     let made = demo(rt.alloc(), 7)?;
-    assert!(rt; hash_in(&made.invariants) == Some("52682147ccf83b6e1930582558dbc74a6406b6a9e304b6bce26076d258519ed4"));
-    assert!(rt; hash_in(&made.violation) == Some("04d2e50ec2188cdb3880bf70290622f6bc347bd3b49d33e00d79a99af0546f96"));
+    assert!(rt;
+        hash_in(&made.invariants)
+            == Some("52682147ccf83b6e1930582558dbc74a6406b6a9e304b6bce26076d258519ed4")
+    );
+    assert!(rt;
+        hash_in(&made.violation)
+            == Some("04d2e50ec2188cdb3880bf70290622f6bc347bd3b49d33e00d79a99af0546f96")
+    );
     Ok(())
 }

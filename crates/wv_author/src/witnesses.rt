@@ -85,8 +85,10 @@ fn at(line: u32, column: u32) -> Location
 fn range_text(alloc: Global, k: u32, bound: u32) -> Result<Text, OutOfMemory>
     ensures { IfOk result (λ text. text ≡ range_text k bound) }
 {
-    let text = format!(in alloc; "0 <= x{k} && x{k} <= {bound}")?;
-    Text::of(alloc, text.as_str())
+    let mut text = String::new(alloc);
+    write!(text, "0 <= x{k} && x{k} <= {bound}")?;
+    let copy = Text::of(alloc, text.as_str())?;
+    Ok(copy)
 }
 
 fn c_expression(alloc: Global) -> Result<Option<Text>, OutOfMemory>
