@@ -1,14 +1,13 @@
 -- The bodies of a demo's programs are read, and their sources.
 use Rattle.std.proofs.Common.{◌≡◌, ℕ, zero, suc, ◌+◌, ◌-◌, ◌*◌, ◌≤◌, ◌∙◌, Bool, true, false, List, [], ◌∷◌, ◌++◌, length, Option, Some, None, codes, refl, sym, ap, subst, arith, append_assoc, length-append}
 use Rattle.c_tokens.specs.declared.token.Token.{Token}
-use Rattle.c_tokens.specs.declared.token.Punct.TheVariants as sign
-use Rattle.c_parser.specs.Signs.{◌>>=◌, is_sign, is_word}
+use Rattle.c_parser.specs.Signs.{is_word}
 use Rattle.c_parser.specs.Tree.{Stm}
-use Rattle.c_parser.specs.ReadExpressions.{Read, level, within}
-use Rattle.c_parser.specs.ReadStatements.{elements, statement_level, braced_within, header_within}
+use Rattle.c_parser.specs.ReadExpressions.{Read}
+use Rattle.c_parser.specs.ReadStatements.{elements}
 use Rattle.demo_laws.specs.DemoLines.{name}
 use Rattle.demo_laws.specs.Source.{loop_tokens, loops_tokens, loop_statements, loops_statements}
-use Rattle.demo_laws.proofs.Grammar2.{one, loop_read}
+use Rattle.demo_laws.proofs.Grammar2.{one, onto, loop_read}
 
 -- what follows loops is no `else`
 behind_no_else : (l k : ℕ) (bs : List ℕ) (rest : List Token) → is_word (codes "else") rest ≡ false → is_word (codes "else") (loops_tokens l k bs ++ rest) ≡ false
@@ -17,17 +16,17 @@ behind_no_else l k (b ∷ bs) rest other = refl
 
 pub loops_read : (n l k : ℕ) (bs : List ℕ) (rest : List Token) (ss : List Stm) (left : List Token) → is_word (codes "else") rest ≡ false → elements one n rest ≡ Some (ss, left) →
     elements one (3 * length bs + n) (loops_tokens l k bs ++ rest) ≡ Some (loops_statements l k bs ss, left)
+unfolding onto
 loops_read n l k [] rest ss left other read = let none : 3 * 0 + n ≡ n = omega arith in ap (λ m. elements one m rest) none ∙ read
 loops_read n l k (b ∷ bs) rest ss left other read =
     let m = l + 1 + 1 + 1 + 1 + 1 + 1 + 1 in
     let fuel : 3 * length (b ∷ bs) + n ≡ suc (suc (suc (3 * length bs + n))) = omega arith in
     let tail = loops_tokens m (k + 1) bs ++ rest in
     let more = loops_read n m (k + 1) bs rest ss left other read in
-    let F : Read (List Stm) → Read (List Stm) = λ o. o >>= λ r. Some (loop_statements l k b r.0, r.1) in
     ap (λ ts. elements one (3 * length (b ∷ bs) + n) ts) (append_assoc (loop_tokens l k b) (loops_tokens m (k + 1) bs) rest)
     ∙ ap (λ f. elements one f (loop_tokens l k b ++ tail)) fuel
     ∙ loop_read (3 * length bs + n) l k b tail (behind_no_else m (k + 1) bs rest other)
-    ∙ ap F more
+    ∙ ap (onto (loop_statements l k b)) more
 
 -- each loop has 31 tokens
 loop_size : (l k b : ℕ) → length (loop_tokens l k b) ≡ 31

@@ -30,27 +30,42 @@ test_read : (k : List ℕ) (b : ℕ) (at : ℕ → Spot) (rest : List Token) →
 unfolding statement_level braced_within header_within level within
 test_read k b at rest other = rw other refl
 
+-- statements before those that are read
+unfoldable pub onto : (List Stm → List Stm) → Read (List Stm) → Read (List Stm)
+onto f None = None
+onto f (Some r) = Some (f r.0, r.1)
+
 -- a statement, and what is read behind it
-one_more : (n : ℕ) (ts rest : List Token) (s : Stm) → is_sign sign.BraceClose ts ≡ false → one ts ≡ Some (s, rest) → elements one (suc n) ts ≡ (elements one n rest >>= λ r. Some (s ∷ r.0, r.1))
-one_more n ts rest s goes_on is = rw (goes_on, is) refl
+same : (s : Stm) (o : Read (List Stm)) → (o >>= λ r. Some (s ∷ r.0, r.1)) ≡ onto (λ ss. s ∷ ss) o
+unfolding onto
+same s None = refl
+same s (Some r) = refl
+
+chosen : (n : ℕ) (ts rest : List Token) (s : Stm) (b : Bool) (o : Read Stm) → b ≡ false → o ≡ Some (s, rest) →
+    elim b as (λ x. Read (List Stm)) [ true ↦ Some ([], ts) | false ↦ (o >>= λ x. elements one n x.1 >>= λ r. Some (x.0 ∷ r.0, r.1)) ] ≡ onto (λ ss. s ∷ ss) (elements one n rest)
+chosen n ts rest s b o e f = rw (e, f) (same s (elements one n rest))
+
+one_more : (n : ℕ) (ts rest : List Token) (s : Stm) → is_sign sign.BraceClose ts ≡ false → one ts ≡ Some (s, rest) → elements one (suc n) ts ≡ onto (λ ss. s ∷ ss) (elements one n rest)
+one_more n ts rest s e f = chosen n ts rest s (is_sign sign.BraceClose ts) (one ts) e f
+
+thrice : (a b c : Stm) (o : Read (List Stm)) → onto (λ ss. a ∷ ss) (onto (λ ss. b ∷ ss) (onto (λ ss. c ∷ ss) o)) ≡ onto (λ ss. a ∷ b ∷ c ∷ ss) o
+unfolding onto
+thrice a b c None = refl
+thrice a b c (Some r) = refl
 
 pub loop_read : (n l k b : ℕ) (rest : List Token) → is_word (codes "else") rest ≡ false →
-    elements one (suc (suc (suc n))) (loop_tokens l k b ++ rest) ≡ (elements one n rest >>= λ r. Some (loop_statements l k b r.0, r.1))
+    elements one (suc (suc (suc n))) (loop_tokens l k b ++ rest) ≡ onto (loop_statements l k b) (elements one n rest)
 loop_read n l k b rest other =
     let tested = test_tokens (name k) b (tested_at (l + 1 + 1 + 1 + 1) k b) ++ rest in
     let looped = while_tokens (name k) b (looped_at (l + 1) k b) ++ tested in
-    let first = one_more (suc (suc n)) (declaration_tokens (name k) (declared_at l k) ++ looped) looped _ refl (declaration_read _ (declared_at l k) looped) in
-    let second = one_more (suc n) looped tested _ refl (while_read _ b (looped_at (l + 1) k b) tested) in
-    let third = one_more n tested rest _ refl (test_read _ b (tested_at (l + 1 + 1 + 1 + 1) k b) rest other) in
-    let D : Read (List Stm) → Read (List Stm) = λ o. o >>= λ r. Some (declaration_statement (name k) (declared_at l k) ∷ r.0, r.1) in
-    let W : Read (List Stm) → Read (List Stm) = λ o. o >>= λ r. Some (while_statement (name k) b (looped_at (l + 1) k b) ∷ r.0, r.1) in
-    first ∙ ap D second ∙ ap (λ o. D (W o)) third ∙ joined (elements one n rest)
-  where
-    joined : (o : Read (List Stm)) → (((o >>= λ r. Some (test_statement (name k) b (tested_at (l + 1 + 1 + 1 + 1) k b) ∷ r.0, r.1))
-        >>= λ r. Some (while_statement (name k) b (looped_at (l + 1) k b) ∷ r.0, r.1)) >>= λ r. Some (declaration_statement (name k) (declared_at l k) ∷ r.0, r.1))
-        ≡ (o >>= λ r. Some (loop_statements l k b r.0, r.1))
-    joined None = refl
-    joined (Some r) = refl
+    let declare : Stm = declaration_statement (name k) (declared_at l k) in
+    let loop : Stm = while_statement (name k) b (looped_at (l + 1) k b) in
+    let test : Stm = test_statement (name k) b (tested_at (l + 1 + 1 + 1 + 1) k b) in
+    let first = one_more (suc (suc n)) (declaration_tokens (name k) (declared_at l k) ++ looped) looped declare refl (declaration_read _ (declared_at l k) looped) in
+    let second = one_more (suc n) looped tested loop refl (while_read _ b (looped_at (l + 1) k b) tested) in
+    let third = one_more n tested rest test refl (test_read _ b (tested_at (l + 1 + 1 + 1 + 1) k b) rest other) in
+    first ∙ ap (onto (λ ss. declare ∷ ss)) second ∙ ap (λ o. onto (λ ss. declare ∷ ss) (onto (λ ss. loop ∷ ss) o)) third
+    ∙ thrice declare loop test (elements one n rest)
 
 -- the tokens of loops' lines
 loop_lexed : (l k b : ℕ) (lines : List (List Piece)) → tokens_from l (loop_pieces k b ++ lines) ≡ loop_tokens l k b ++ tokens_from (l + 1 + 1 + 1 + 1 + 1 + 1 + 1) lines

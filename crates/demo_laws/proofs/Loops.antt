@@ -61,16 +61,16 @@ loop_stands k b rest small some few = (
   (while_stands k b _ small some few, (step_stands k _ small, (end_stands _, (test_stands k b _ small some few, (error_stands _, (end_stands _, tt)))))),
 )
 
+pub text_join : (xs ys : List (List Piece)) → text_of (xs ++ ys) ≡ text_of xs ++ text_of ys
+text_join [] ys = refl
+text_join (x ∷ xs) ys = ap (λ t. line_text x ++ t) (text_join xs ys) ∙ sym (append_assoc (line_text x) (text_of xs) (text_of ys))
+
 -- lines that stand before what follows them, and lines behind them
 lines_join : (xs ys : List (List Piece)) (rest : List ℕ) → LinesStand xs (text_of ys ++ rest) → LinesStand ys rest → LinesStand (xs ++ ys) rest
 lines_join [] ys rest h k = k
 lines_join (x ∷ xs) ys rest h k =
     let joined : text_of (xs ++ ys) ++ rest ≡ text_of xs ++ (text_of ys ++ rest) = ap (λ t. t ++ rest) (text_join xs ys) ∙ append_assoc (text_of xs) (text_of ys) rest in
     (subst (AllStand x) (sym joined) h.0, lines_join xs ys rest h.1 k)
-  where
-    text_join : (xs ys : List (List Piece)) → text_of (xs ++ ys) ≡ text_of xs ++ text_of ys
-    text_join [] ys = refl
-    text_join (x ∷ xs) ys = ap (λ t. line_text x ++ t) (text_join xs ys) ∙ sym (append_assoc (line_text x) (text_of xs) (text_of ys))
 
 -- bounds that a loop may have
 pub record IsPositive (b : ℕ) : Type 0 where
