@@ -45,7 +45,7 @@ chosen : (n : ℕ) (ts rest : List Token) (s : Stm) (b : Bool) (o : Read Stm) �
     elim b as (λ x. Read (List Stm)) [ true ↦ Some ([], ts) | false ↦ (o >>= λ x. elements one n x.1 >>= λ r. Some (x.0 ∷ r.0, r.1)) ] ≡ onto (λ ss. s ∷ ss) (elements one n rest)
 chosen n ts rest s b o e f = rw (e, f) (same s (elements one n rest))
 
-one_more : (n : ℕ) (ts rest : List Token) (s : Stm) → is_sign sign.BraceClose ts ≡ false → one ts ≡ Some (s, rest) → elements one (suc n) ts ≡ onto (λ ss. s ∷ ss) (elements one n rest)
+pub one_more : (n : ℕ) (ts rest : List Token) (s : Stm) → is_sign sign.BraceClose ts ≡ false → one ts ≡ Some (s, rest) → elements one (suc n) ts ≡ onto (λ ss. s ∷ ss) (elements one n rest)
 one_more n ts rest s e f = chosen n ts rest s (is_sign sign.BraceClose ts) (one ts) e f
 
 thrice : (a b c : Stm) (o : Read (List Stm)) → onto (λ ss. a ∷ ss) (onto (λ ss. b ∷ ss) (onto (λ ss. c ∷ ss) o)) ≡ onto (λ ss. a ∷ b ∷ c ∷ ss) o

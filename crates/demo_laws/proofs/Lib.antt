@@ -5,3 +5,6 @@ pub mod Standing
 mod Loops
 pub mod Grammar2
 mod Bodies
+mod Texts
+pub mod ProgramTokens
+pub mod ProgramSources

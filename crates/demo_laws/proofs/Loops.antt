@@ -1,6 +1,7 @@
 -- The lines of a demo stand before any text.
-use Rattle.std.proofs.Common.{◌≡◌, ℕ, zero, suc, ◌+◌, ◌^◌, ◌<◌, ◌==◌, ◌∙◌, Bool, true, false, List, [], ◌∷◌, ◌++◌, length, Some, decimal, codes, refl, sym, ap, subst, arith, append_assoc}
+use Rattle.std.proofs.Common.{◌≡◌, ℕ, zero, suc, ◌+◌, ◌^◌, ◌<◌, ◌==◌, ◌∙◌, Bool, true, false, not, nat_eq, List, [], ◌∷◌, ◌++◌, length, Some, decimal, codes, refl, sym, ap, subst, arith, append_assoc}
 use Rattle.std.specs.Fmt.{digits}
+use Rattle.std.proofs.lemmas.Bool.Decides.{nat_tests}
 use Rattle.std.specs.List.{AllByRecursion, list_all}
 use Rattle.c_tokens.specs.declared.gap.Gap.TheVariants.{Absent}
 use Rattle.c_tokens.specs.declared.token.Punct.TheVariants as sign
@@ -8,7 +9,7 @@ use Rattle.c_tokens.specs.declared.token.TokenKind.TheVariants.{Word, Number, Pu
 use Rattle.c_tokens.specs.Bytes.{is_letter, is_word_byte, is_number_byte}
 use Rattle.c_tokens.specs.Gaps.{gap}
 use Rattle.c_tokens.specs.Scan.{scan}
-use Rattle.demo_laws.specs.DemoLines.{name, piece, word, mark, number, error_line, end_line, head_line, declaration_line, step_line, positive, loop_pieces, loops_pieces, opening_pieces, closing_pieces, correct_pieces}
+use Rattle.demo_laws.specs.DemoLines.{name, piece, word, mark, number, error_line, end_line, head_line, declaration_line, step_line, positive, loop_pieces, loops_pieces, opening_pieces, closing_pieces, input_pieces, correct_pieces, faulty_pieces}
 use Rattle.demo_laws.specs.Lines.{Piece, line_text, text_of, goes_on, Stands, AllStand, LinesStand}
 use Rattle.demo_laws.proofs.Standing.{name_stands, number_stands}
 
@@ -98,3 +99,31 @@ pub correct_stands : (bs : List ℕ) → length bs < 2 ^ 32 → AllByRecursion I
 correct_stands bs few fit =
     lines_join opening_pieces (loops_pieces 1 bs ++ closing_pieces) [] (opening_stands _)
     (lines_join (loops_pieces 1 bs) closing_pieces [] (loops_stand 1 bs _ (omega arith) fit) closing_stands)
+
+-- 0, or a positive number, before a closing parenthesis
+zero_stands : (rest : List ℕ) → Stands (number 1 0) (41 ∷ rest)
+unfolding digits
+zero_stands rest = fixed _ _ refl refl refl refl
+
+not_zero : (n : ℕ) → 0 < n → nat_eq n 0 ≡ false
+not_zero n some = grind (arith, nat_tests)
+
+number_any : (n : ℕ) (rest : List ℕ) → n < 2 ^ 64 → Stands (number 1 n) (41 ∷ rest)
+number_any zero rest small = zero_stands rest
+number_any (suc n) rest small =
+    subst (λ b. Stands (piece 1 (decimal (suc n)) (Number (suc n) (not b) false 0)) (41 ∷ rest)) (sym (not_zero (suc n) (omega arith)))
+    (number_stands 1 (suc n) 41 rest (omega arith) small refl)
+
+input_stands : (n : ℕ) (rest : List ℕ) → n < 2 ^ 64 → LinesStand (input_pieces n) rest
+input_stands n rest small = (
+  (fixed _ _ refl refl refl refl, (fixed _ _ refl refl refl refl, (fixed _ _ refl refl refl refl, (fixed _ _ refl refl refl refl, (fixed _ _ refl refl refl refl, (fixed _ _ refl refl refl refl, (fixed _ _ refl refl refl refl, tt))))))),
+  ((fixed _ _ refl refl refl refl, (fixed _ _ refl refl refl refl, (fixed _ _ refl refl refl refl, (fixed _ _ refl refl refl refl, (number_any n _ small, (fixed _ _ refl refl refl refl, (fixed _ _ refl refl refl refl, tt))))))),
+  (error_stands _, (end_stands _, tt))),
+)
+
+-- the lines of the faulty program stand
+pub faulty_stands : (n : ℕ) (bs : List ℕ) → n < 2 ^ 64 → length bs < 2 ^ 32 → AllByRecursion IsPositive bs → LinesStand (faulty_pieces n bs) []
+faulty_stands n bs small few fit =
+    lines_join opening_pieces (loops_pieces 1 bs ++ (input_pieces n ++ closing_pieces)) [] (opening_stands _)
+    (lines_join (loops_pieces 1 bs) (input_pieces n ++ closing_pieces) [] (loops_stand 1 bs _ (omega arith) fit)
+    (lines_join (input_pieces n) closing_pieces [] (input_stands n _ small) closing_stands))

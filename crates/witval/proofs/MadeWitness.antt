@@ -11,23 +11,32 @@ use Rattle.uuid.specs.Text.{by_index}
 use Rattle.c_core.specs.declared.number.DataModel.TheVariants.{Ilp32}
 use Rattle.c_core.specs.declared.number.Property.TheVariants.{UnreachCall}
 use Rattle.wv_arguments.specs.Words.{Budgets}
-use Rattle.wv_author.specs.Demo.{CanBeWritten}
-use Rattle.wv_author.specs.Witnesses.{hash_of, witness}
+use Rattle.wv_author.specs.Demo.{CanBeWritten, demo_of}
+use Rattle.wv_author.specs.Programs.{correct_program, faulty_program}
+use Rattle.wv_author.specs.Sequence.{bounds, loop_count}
+use Rattle.wv_author.specs.Witnesses.{drawn, hash_of, ranges, reached, witness}
+use Rattle.wv_author.specs.declared.making.Made.{Made}
 use Rattle.wv_report.specs.declared.reply.Reply.{Reply}
 use Rattle.wv_schema.specs.Canonical.{tree_of}
 use Rattle.wv_schema.specs.Schema.{witness_of}
 use Rattle.wv_schema.specs.declared.witness.Content.{Content}
+use Rattle.wv_schema.specs.declared.witness.Content.TheVariants.{Invariants, Violation}
 use Rattle.wv_schema.specs.declared.witness.Witness.{Witness}
 use Rattle.wv_schema.proofs.WrittenWitness.{read_again}
+use Rattle.wv_task.specs.PropertyText.{property_of}
 use Rattle.wv_task.specs.Task.{judged, spells}
 use Rattle.wv_yaml.specs.declared.tree.Tree.{Tree}
+use Rattle.wv_yaml.specs.Canon.{canon}
 use Rattle.wv_yaml.specs.Document.{Spelled}
 use Rattle.wv_yaml.proofs.CanonLaws.{spelled_back}
 use Rattle.yaml_scalars.specs.Gives.{Gives}
 use Rattle.yaml_scalars.specs.declared.fault.YamlFault.{YamlFault}
 use Rattle.yaml_scalars.specs.declared.fault.YamlFault.TheVariants.{Bytes, Grammar, Duplicate, OutOfMemory}
-use Rattle.witval.specs.Refusals.{IsRefusal, IsSchemaRefusal, IsTaskRefusal}
-use Rattle.witval.specs.Stages.{known, itself}
+use Rattle.witval.specs.Demos.{IsDemonstration, RightOnMade, RightOnRead, unreach_text}
+use Rattle.witval.specs.declared.demonstration.Demonstration.{Demonstration}
+use Rattle.witval.specs.Refusals.{IsRefusal, IsSchemaRefusal, IsTaskRefusal, plain}
+use Rattle.witval.specs.Stages.{given, known, itself}
+use Rattle.witval.specs.Tasks.{RightOnInputs}
 use Rattle.witval.specs.inside.Rests.{RightOnText, RightOnTree, RightOnWitness, RightUnder}
 
 -- ---- the hash
@@ -95,3 +104,42 @@ pub read_as_made : (budgets : Budgets) (program bytes : List ℕ) (w : Witness) 
 read_as_made budgets program bytes w reply can spelled task right =
     past_task budgets program w reply task (past_schema budgets program w reply can
     (past_answer budgets program (tree_of w) reply right.0 (spelled_back (tree_of w) bytes right.0 spelled can.no_repeats right.1) right.2))
+
+pub read_if : {E : Type 0} (budgets : Budgets) (program bytes : List ℕ) (w : Witness) (result : Result Reply E) → CanBeWritten w → Spelled (tree_of w) bytes
+    → judged (sha256 program) UnreachCall w.entries ≡ Ok Ilp32 → IfOk result (RightUnder budgets program bytes UnreachCall) → IfOk result (RightOnRead budgets program w)
+read_if budgets program bytes w (Ok reply) can spelled task right = read_as_made budgets program bytes w reply can spelled task right
+read_if budgets program bytes w (Err e) can spelled task right = tt
+
+-- the property file asks for the property that they are about
+property_known : property_of unreach_text ≡ Some UnreachCall
+property_known = refl
+
+pub as_files_if : {E : Type 0} (budgets : Budgets) (program bytes : List ℕ) (w : Witness) (result : Result Reply E) → bytes ≡ canon (tree_of w)
+    → IfOk result (RightUnder budgets program bytes UnreachCall) → IfOk result (RightOnMade budgets program w)
+as_files_if budgets program bytes w (Ok reply) text right =
+    subst (λ b. RightOnInputs budgets program unreach_text b reply) text
+    (subst (λ o. given (plain (codes "property")) o (RightUnder budgets program bytes) reply) (sym property_known) right)
+as_files_if budgets program bytes w (Err e) text right = tt
+
+-- ---- a demo
+
+-- each of its witnesses is about its program
+pub of_demo : (n : ℕ) (made : Made) → made ≡ demo_of n
+    → (judged (sha256 made.correct) UnreachCall made.invariants.entries ≡ Ok Ilp32) × (judged (sha256 made.faulty) UnreachCall made.violation.entries ≡ Ok Ilp32)
+unfolding demo_of
+of_demo n made e =
+    subst (λ (m : Made). (judged (sha256 m.correct) UnreachCall m.invariants.entries ≡ Ok Ilp32) × (judged (sha256 m.faulty) UnreachCall m.violation.entries ≡ Ok Ilp32)) (sym e)
+    (about_its_program (correct_program n) (Invariants (ranges 1 (bounds n loop_count))), about_its_program (faulty_program n) (Violation (drawn n ∷ reached ∷ [])))
+
+-- the replies to what was made are those to the demo of the number
+pub demonstrated : (n : ℕ) (budgets : Budgets) (made : Made) (demo : Demonstration) → made ≡ demo_of n → demo.number ≡ n
+    → RightOnMade budgets made.correct made.invariants demo.correct → RightOnMade budgets made.faulty made.violation demo.faulty
+    → RightOnRead budgets made.correct made.invariants demo.correct → RightOnRead budgets made.faulty made.violation demo.faulty → IsDemonstration n budgets demo
+unfolding demo_of
+demonstrated n budgets made demo e same on_correct on_faulty correct_read faulty_read = record {
+  same_number = same;
+  on_correct = subst (λ (m : Made). RightOnMade budgets m.correct m.invariants demo.correct) e on_correct;
+  on_faulty = subst (λ (m : Made). RightOnMade budgets m.faulty m.violation demo.faulty) e on_faulty;
+  correct_read = subst (λ (m : Made). RightOnRead budgets m.correct m.invariants demo.correct) e correct_read;
+  faulty_read = subst (λ (m : Made). RightOnRead budgets m.faulty m.violation demo.faulty) e faulty_read;
+}

@@ -1,5 +1,5 @@
 -- The sequence of two numbers, computed.
-use Rattle.std.specs.Prelude.{◌≡◌, ℕ, [], ◌∷◌, refl}
+use Rattle.std.specs.Prelude.{◌≡◌, [], ◌∷◌, refl}
 use Rattle.wv_author.specs.Sequence.{sequence, bounds}
 
 first_bounds_of_0 : bounds 0 2 ≡ 1 ∷ 69 ∷ []

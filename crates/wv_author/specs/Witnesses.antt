@@ -5,14 +5,12 @@ use Rattle.sha2.specs.Sha256.{sha256}
 use Rattle.wv_schema.specs.declared.witness.Constraint.{Constraint}
 use Rattle.wv_schema.specs.declared.witness.Content.{Content}
 use Rattle.wv_schema.specs.declared.witness.Content.TheVariants.{Violation, Invariants}
-use Rattle.wv_schema.specs.declared.witness.Entry.{Entry}
 use Rattle.wv_schema.specs.declared.witness.FileHash.{FileHash}
 use Rattle.wv_schema.specs.declared.witness.Invariant.{Invariant}
 use Rattle.wv_schema.specs.declared.witness.InvariantKind.TheVariants.{Loop}
 use Rattle.wv_schema.specs.declared.witness.Location.{Location}
 use Rattle.wv_schema.specs.declared.witness.Metadata.{Metadata}
 use Rattle.wv_schema.specs.declared.witness.Segment.{Segment}
-use Rattle.wv_schema.specs.declared.witness.Waypoint.{Waypoint}
 use Rattle.wv_schema.specs.declared.witness.WayKind.{WayKind}
 use Rattle.wv_schema.specs.declared.witness.WayKind.TheVariants.{Target, FunctionReturn}
 use Rattle.wv_schema.specs.declared.witness.Witness.{Witness}
