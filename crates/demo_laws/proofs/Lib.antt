@@ -8,3 +8,4 @@ mod Bodies
 mod Texts
 pub mod ProgramTokens
 pub mod ProgramSources
+pub mod Quiet

@@ -1,14 +1,18 @@
 -- The sources of a demo's programs are read from their tokens.
-use Rattle.std.proofs.Common.{◌≡◌, ℕ, zero, suc, ◌+◌, ◌*◌, ◌-◌, ◌≤◌, ◌∙◌, Bool, true, false, not, nat_eq, List, [], ◌∷◌, ◌++◌, length, Option, Some, None, codes, refl, sym, ap, subst, arith, length-append}
+use Rattle.std.proofs.Common.{◌≡◌, ℕ, zero, suc, ◌+◌, ◌*◌, ◌-◌, ◌≤◌, ◌∙◌, Bool, true, false, not, nat_eq, List, [], ◌∷◌, ◌++◌, length, Option, Some, None, Result, Ok, Err, codes, refl, sym, ap, subst, arith, length-append}
 use Rattle.c_core.specs.declared.number.Spot.{Spot}
 use Rattle.c_tokens.specs.declared.token.Token.{Token}
 use Rattle.c_tokens.specs.declared.token.Punct.TheVariants as sign
 use Rattle.c_parser.specs.Signs.{is_word}
-use Rattle.c_parser.specs.Sources.{IsSource}
+use Rattle.c_parser.specs.Parsing.{Answers, IsFound, source_view}
+use Rattle.c_parser.specs.Sources.{IsSource, IsSyntax}
 use Rattle.c_parser.specs.Tree.{Stm, Item}
 use Rattle.c_parser.specs.ReadExpressions.{Read, level, within}
 use Rattle.c_parser.specs.ReadItems.{Outcome, Source, Syntax, onto_outcome, read_item, read_items}
 use Rattle.c_parser.specs.ReadStatements.{elements, statement_level, braced_within, header_within}
+use Rattle.c_parser.specs.declared.item.Source.{Source as Parsed}
+use Rattle.c_parser.specs.declared.fault.ParseFault.{ParseFault}
+use Rattle.c_parser.specs.declared.fault.ParseFault.TheVariants.{Syntax as Refused, OutOfMemory}
 use Rattle.c_parser.proofs.ParsingLaws.{all_found}
 use Rattle.demo_laws.specs.DemoLines.{loops_pieces, opening_pieces, closing_pieces, input_pieces, correct_pieces, faulty_pieces}
 use Rattle.demo_laws.specs.Lines.{tokens_from}
@@ -136,3 +140,24 @@ pub faulty_source : (n : ℕ) (bs : List ℕ) → IsSource (tokens_from 1 (fault
 faulty_source n bs =
     subst (λ ts. IsSource ts (faulty_items n bs)) (sym (faulty_lexed n bs))
     (program_read bs (faulty_end (line_behind 4 bs) n) (faulty_last (line_behind 4 bs) n) _ (faulty_ends (line_behind 4 bs) n))
+
+-- ---- what the parser answers
+
+-- tokens spell one source
+abbrev pub OneSource : Type 0
+OneSource = (ts : List Token) (xs ys : List Item) → IsSource ts xs → IsSource ts ys → xs ≡ ys
+
+-- tokens that spell a source have no first item that fits no form
+abbrev pub SourceOrSyntax : Type 0
+SourceOrSyntax = (ts : List Token) (xs : List Item) (p : Spot) → IsSource ts xs → IsSyntax ts p → ⊥
+
+pub found_by : OneSource → SourceOrSyntax → (ts : List Token) (xs : List Item) → IsSource ts xs → (answer : Result Parsed ParseFault) → Answers ts answer → IsFound answer xs
+found_by one either ts xs is (Ok s) found = one ts (source_view s) xs found is
+found_by one either ts xs is (Err (Refused line column)) found = either ts xs (record { line = line; column = column }) is found
+found_by one either ts xs is (Err OutOfMemory) found = tt
+
+pub correct_found : OneSource → SourceOrSyntax → (bs : List ℕ) (answer : Result Parsed ParseFault) → Answers (tokens_from 1 (correct_pieces bs)) answer → IsFound answer (correct_items bs)
+correct_found one either bs = found_by one either (tokens_from 1 (correct_pieces bs)) (correct_items bs) (correct_source bs)
+
+pub faulty_found : OneSource → SourceOrSyntax → (n : ℕ) (bs : List ℕ) (answer : Result Parsed ParseFault) → Answers (tokens_from 1 (faulty_pieces n bs)) answer → IsFound answer (faulty_items n bs)
+faulty_found one either n bs = found_by one either (tokens_from 1 (faulty_pieces n bs)) (faulty_items n bs) (faulty_source n bs)

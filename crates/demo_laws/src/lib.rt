@@ -3,4 +3,4 @@
 
 mod laws;
 
-pub use laws::{demos_are_sources, demos_are_tokens};
+pub use laws::{demos_are_parsed, demos_are_sources, demos_are_tokens};
