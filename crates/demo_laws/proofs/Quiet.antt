@@ -1,5 +1,5 @@
 -- Expressions that store nothing and call no function with a body have no order to break.
-use Rattle.std.proofs.Common.{◌≡◌, ◌<◌, ◌⊎◌, inl, inr, ◌∙◌, ℕ, zero, suc, Bool, true, false, List, [], ◌∷◌, length, Option, refl, sym, subst, arith}
+use Rattle.std.proofs.Common.{◌≡◌, ◌<◌, ◌⊎◌, inl, inr, ℕ, zero, suc, Bool, true, false, List, [], ◌∷◌, length, Option, subst, arith}
 use Rattle.std.specs.List.{AllByRecursion, Contains}
 use Rattle.c_core.specs.declared.number.DataModel.{DataModel}
 use Rattle.c_parser.specs.Tree.{Item}
@@ -9,7 +9,7 @@ use Rattle.check_rules.specs.Parts.{Part}
 
 -- no part passes the test
 none_passes : {test : Part → Bool} {ps : List Part} → AllByRecursion (λ p. test p ≡ false) ps → SomeOf test ps → ⊥
-none_passes all (This e) = let f = all.0 in absurd (cc)
+none_passes {test = test} all (This {p = p} e) = let f : test p ≡ false = all.0 in absurd (cc)
 none_passes all (Other s) = none_passes all.1 s
 
 module _ (m : DataModel) (items : List Item) where
@@ -42,3 +42,4 @@ module _ (m : DataModel) (items : List Item) where
       only (zero, (low, e)) = in_any_order ps rs h (subst AreQuiet e k) u
       only (suc n, (low, e)) = absurd (omega arith)
   two_in_any_order ps qs h k (OfOthers (OfFirst {qs = rs} c u)) = absurd (omega (arith, c.1.0))
+  two_in_any_order ps qs h k (OfOthers (OfOthers p)) = elim p [ ]

@@ -1,5 +1,5 @@
 -- A witness that is made is read as it was, and it is about its program.
-use Rattle.std.proofs.Common.{◌≡◌, ◌<◌, ℕ, zero, suc, List, [], ◌∷◌, ◌++◌, length, true, Result, Ok, Err, Option, Some, refl, sym, subst, arith, lit<}
+use Rattle.std.proofs.Common.{◌≡◌, ◌<◌, ℕ, zero, suc, List, [], ◌∷◌, ◌++◌, length, true, Result, Ok, Err, Option, Some, refl, sym, subst, ◌∙◌, arith, lit<}
 use Rattle.std.specs.Int.{w32, byte_at, bytes_high_first, to_be_bytes}
 use Rattle.std.specs.List.{AllByRecursion}
 use Rattle.std.proofs.lemmas.Option.{same_Some}
@@ -105,21 +105,25 @@ read_as_made budgets program bytes w reply can spelled task right =
     past_task budgets program w reply task (past_schema budgets program w reply can
     (past_answer budgets program (tree_of w) reply right.0 (spelled_back (tree_of w) bytes right.0 spelled can.no_repeats right.1) right.2))
 
-pub read_if : {E : Type 0} (budgets : Budgets) (program bytes : List ℕ) (w : Witness) (result : Result Reply E) → CanBeWritten w → Spelled (tree_of w) bytes
-    → judged (sha256 program) UnreachCall w.entries ≡ Ok Ilp32 → IfOk result (RightUnder budgets program bytes UnreachCall) → IfOk result (RightOnRead budgets program w)
-read_if budgets program bytes w (Ok reply) can spelled task right = read_as_made budgets program bytes w reply can spelled task right
-read_if budgets program bytes w (Err e) can spelled task right = tt
+-- the same of a result, where p and b are these bytes
+pub read_if : {E : Type 0} (budgets : Budgets) (program p bytes b : List ℕ) (w : Witness) (result : Result Reply E) → p ≡ program → b ≡ bytes → CanBeWritten w → Spelled (tree_of w) bytes
+    → judged (sha256 program) UnreachCall w.entries ≡ Ok Ilp32 → IfOk result (RightUnder budgets p b UnreachCall) → IfOk result (RightOnRead budgets program w)
+read_if budgets program p bytes b w (Ok reply) same_program same_bytes can spelled task right =
+    read_as_made budgets program bytes w reply can spelled task
+    (subst (λ x. RightUnder budgets program x UnreachCall reply) same_bytes (subst (λ x. RightUnder budgets x b UnreachCall reply) same_program right))
+read_if budgets program p bytes b w (Err e) same_program same_bytes can spelled task right = tt
 
 -- the property file asks for the property that they are about
 property_known : property_of unreach_text ≡ Some UnreachCall
 property_known = refl
 
-pub as_files_if : {E : Type 0} (budgets : Budgets) (program bytes : List ℕ) (w : Witness) (result : Result Reply E) → bytes ≡ canon (tree_of w)
-    → IfOk result (RightUnder budgets program bytes UnreachCall) → IfOk result (RightOnMade budgets program w)
-as_files_if budgets program bytes w (Ok reply) text right =
-    subst (λ b. RightOnInputs budgets program unreach_text b reply) text
-    (subst (λ o. given (plain (codes "property")) o (RightUnder budgets program bytes) reply) (sym property_known) right)
-as_files_if budgets program bytes w (Err e) text right = tt
+pub as_files_if : {E : Type 0} (budgets : Budgets) (program p bytes b : List ℕ) (w : Witness) (result : Result Reply E) → p ≡ program → b ≡ bytes → bytes ≡ canon (tree_of w)
+    → IfOk result (RightUnder budgets p b UnreachCall) → IfOk result (RightOnMade budgets program w)
+as_files_if budgets program p bytes b w (Ok reply) same_program same_bytes text right =
+    let here : RightUnder budgets program b UnreachCall reply = subst (λ x. RightUnder budgets x b UnreachCall reply) same_program right in
+    subst (λ x. RightOnInputs budgets program unreach_text x reply) (same_bytes ∙ text)
+    (subst (λ o. given (plain (codes "property")) o (RightUnder budgets program b) reply) (sym property_known) here)
+as_files_if budgets program p bytes b w (Err e) same_program same_bytes text right = tt
 
 -- ---- a demo
 
