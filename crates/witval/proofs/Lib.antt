@@ -5,3 +5,4 @@ pub mod FewWaypoints
 pub mod AllowedBudgets
 pub mod JudgedSets
 pub mod MadeWitness
+pub mod FirstLine
