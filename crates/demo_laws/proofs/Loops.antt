@@ -45,15 +45,31 @@ end_stands rest = (fixed _ _ refl refl refl refl, tt)
 while_stands : (k b : ℕ) (rest : List ℕ) → k < 2 ^ 64 → 0 < b → b < 2 ^ 64 → AllStand (head_line (codes "while") (name k) (codes "<") sign.Less (positive b)) rest
 while_stands k b rest small some few = (
   fixed _ _ refl refl refl refl,
-  (fixed _ _ refl refl refl refl, (name_stands 0 k 32 _ small refl, (fixed _ _ refl refl refl refl,
-  (number_stands 1 b 41 _ some few refl, (fixed _ _ refl refl refl refl, (fixed _ _ refl refl refl refl, tt)))))),
+  (
+    fixed _ _ refl refl refl refl,
+    (
+      name_stands 0 k 32 _ small refl,
+      (
+        fixed _ _ refl refl refl refl,
+        (number_stands 1 b 41 _ some few refl, (fixed _ _ refl refl refl refl, (fixed _ _ refl refl refl refl, tt))),
+      ),
+    ),
+  ),
 )
 
 test_stands : (k b : ℕ) (rest : List ℕ) → k < 2 ^ 64 → 0 < b → b < 2 ^ 64 → AllStand (head_line (codes "if") (name k) (codes "!=") sign.NotEqual (positive b)) rest
 test_stands k b rest small some few = (
   fixed _ _ refl refl refl refl,
-  (fixed _ _ refl refl refl refl, (name_stands 0 k 32 _ small refl, (fixed _ _ refl refl refl refl,
-  (number_stands 1 b 41 _ some few refl, (fixed _ _ refl refl refl refl, (fixed _ _ refl refl refl refl, tt)))))),
+  (
+    fixed _ _ refl refl refl refl,
+    (
+      name_stands 0 k 32 _ small refl,
+      (
+        fixed _ _ refl refl refl refl,
+        (number_stands 1 b 41 _ some few refl, (fixed _ _ refl refl refl refl, (fixed _ _ refl refl refl refl, tt))),
+      ),
+    ),
+  ),
 )
 
 loop_stands : (k b : ℕ) (rest : List ℕ) → k < 2 ^ 64 → 0 < b → b < 2 ^ 64 → LinesStand (loop_pieces k b) rest
@@ -86,8 +102,10 @@ loops_stand k (b ∷ bs) rest few fit =
 opening_stands : (rest : List ℕ) → LinesStand opening_pieces rest
 opening_stands rest = (
   (fixed _ _ refl refl refl refl, (fixed _ _ refl refl refl refl, (fixed _ _ refl refl refl refl, (fixed _ _ refl refl refl refl, (fixed _ _ refl refl refl refl, (fixed _ _ refl refl refl refl, tt)))))),
-  ((fixed _ _ refl refl refl refl, (fixed _ _ refl refl refl refl, (fixed _ _ refl refl refl refl, (fixed _ _ refl refl refl refl, (fixed _ _ refl refl refl refl, tt))))),
-  ((fixed _ _ refl refl refl refl, (fixed _ _ refl refl refl refl, (fixed _ _ refl refl refl refl, (fixed _ _ refl refl refl refl, (fixed _ _ refl refl refl refl, tt))))), tt)),
+  (
+    (fixed _ _ refl refl refl refl, (fixed _ _ refl refl refl refl, (fixed _ _ refl refl refl refl, (fixed _ _ refl refl refl refl, (fixed _ _ refl refl refl refl, tt))))),
+    ((fixed _ _ refl refl refl refl, (fixed _ _ refl refl refl refl, (fixed _ _ refl refl refl refl, (fixed _ _ refl refl refl refl, (fixed _ _ refl refl refl refl, tt))))), tt),
+  ),
 )
 
 closing_stands : LinesStand closing_pieces []
@@ -117,8 +135,10 @@ number_any (suc n) rest small =
 input_stands : (n : ℕ) (rest : List ℕ) → n < 2 ^ 64 → LinesStand (input_pieces n) rest
 input_stands n rest small = (
   (fixed _ _ refl refl refl refl, (fixed _ _ refl refl refl refl, (fixed _ _ refl refl refl refl, (fixed _ _ refl refl refl refl, (fixed _ _ refl refl refl refl, (fixed _ _ refl refl refl refl, (fixed _ _ refl refl refl refl, tt))))))),
-  ((fixed _ _ refl refl refl refl, (fixed _ _ refl refl refl refl, (fixed _ _ refl refl refl refl, (fixed _ _ refl refl refl refl, (number_any n _ small, (fixed _ _ refl refl refl refl, (fixed _ _ refl refl refl refl, tt))))))),
-  (error_stands _, (end_stands _, tt))),
+  (
+    (fixed _ _ refl refl refl refl, (fixed _ _ refl refl refl refl, (fixed _ _ refl refl refl refl, (fixed _ _ refl refl refl refl, (number_any n _ small, (fixed _ _ refl refl refl refl, (fixed _ _ refl refl refl refl, tt))))))),
+    (error_stands _, (end_stands _, tt)),
+  ),
 )
 
 -- the lines of the faulty program stand

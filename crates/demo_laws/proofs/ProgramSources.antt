@@ -101,7 +101,7 @@ items_read n body ss p h =
     let behind_main = main_tokens main_at ++ body in
     let behind_reach = prototype_tokens prototype_at ++ behind_main in
     let main : read_items 200 200 (suc n) behind_main ≡ Source (main_item main_at ss ∷ []) =
-        item_read n _ _ [] (Some (main_item main_at ss)) (main_read main_at body ss p h) ∙ ap (onto_outcome (Some (main_item main_at ss))) (no_item n) in
+    item_read n _ _ [] (Some (main_item main_at ss)) (main_read main_at body ss p h) ∙ ap (onto_outcome (Some (main_item main_at ss))) (no_item n) in
     item_read (suc (suc n)) _ _ behind_reach None (reach_read reached_at behind_reach)
     ∙ item_read (suc n) _ _ behind_main (Some (prototype_item prototype_at)) (prototype_read prototype_at behind_main)
     ∙ ap (onto_outcome (Some (prototype_item prototype_at))) main

@@ -16,7 +16,7 @@ whole : (lines : List (List Piece)) (text : List ℕ) → text_of lines ≡ text
 whole lines text is stand few short =
     let size = ap length is in
     let read : Reads true (place 1 1 true) (text_of lines ++ []) (tokens_from 1 lines ++ []) Whole =
-        reads_lines 1 true lines [] [] Whole stand (omega arith) (omega (arith, size)) (λ g. AtEnd) in
+    reads_lines 1 true lines [] [] Whole stand (omega arith) (omega (arith, size)) (λ g. AtEnd) in
     let plain : Reads true (place 1 1 true) (text_of lines) (tokens_from 1 lines) Whole = simp append-nil at read in
     subst (λ t. Tokens t (tokens_from 1 lines) Whole) is plain
 

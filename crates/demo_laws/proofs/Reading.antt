@@ -39,7 +39,7 @@ reads_blanks (suc n) l c f text ts end small reads =
     let sum : c + suc n ≡ c + 1 + n = omega arith in
     let here : past (place l c f) (32 ∷ []) ≡ place l (c + 1) (f && true) = after_byte l c 32 f refl (omega arith) in
     let more : Reads true (place l (c + 1) (f && true)) (replicate n 32 ++ text) ts end =
-        reads_blanks n l (c + 1) (f && true) text ts end (omega arith) (λ g. subst (λ m. Reads true (place l m g) text ts end) sum (reads g)) in
+    reads_blanks n l (c + 1) (f && true) text ts end (omega arith) (λ g. subst (λ m. Reads true (place l m g) text ts end) sum (reads g)) in
     Between {n = 1} refl (subst (λ at. Reads true at (replicate n 32 ++ text) ts end) (sym here) more)
 
 -- the end of a line is passed
@@ -58,12 +58,12 @@ reads_token : (l c : ℕ) (f : Bool) (x : Piece) (rest : List ℕ) (ts : List To
     Reads true (place l c f) (x.spelling ++ rest) (record { kind = x.kind; spot = spot l c } ∷ ts) end
 reads_token l c f x rest ts end stands small reads =
     let long : Longest (take (length x.spelling) (x.spelling ++ rest)) (Some x.kind) (x.spelling ++ rest) (drop (length x.spelling) (x.spelling ++ rest)) =
-        longest_found (x.spelling ++ rest) (length x.spelling) (Some x.kind) stands.found in
+    longest_found (x.spelling ++ rest) (length x.spelling) (Some x.kind) stands.found in
     let behind = past_bytes l c f x.spelling stands.one_line small in
     let front : take (length x.spelling) (x.spelling ++ rest) ≡ x.spelling = taken x.spelling rest in
     let left : drop (length x.spelling) (x.spelling ++ rest) ≡ rest = drop-append_seam x.spelling rest in
     let longest : Longest x.spelling (Some x.kind) (x.spelling ++ rest) rest =
-        subst (λ w. Longest w (Some x.kind) (x.spelling ++ rest) rest) front (subst (λ r. Longest (take (length x.spelling) (x.spelling ++ rest)) (Some x.kind) (x.spelling ++ rest) r) left long) in
+    subst (λ w. Longest w (Some x.kind) (x.spelling ++ rest) rest) front (subst (λ r. Longest (take (length x.spelling) (x.spelling ++ rest)) (Some x.kind) (x.spelling ++ rest) r) left long) in
     AToken (stands.no_gap f) longest (subst (λ at. Reads true at rest ts end) (sym behind.1) (reads behind.0))
 
 -- the tokens of a line are read
@@ -76,9 +76,9 @@ reads_line l c f (x ∷ xs) rest ts end stand low wide reads =
     let size : length (piece_text x ++ line_text xs) ≡ x.blanks + length x.spelling + length (line_text xs) = simp (length-append, length-replicate) in
     let d = c + x.blanks in
     let more : (g : Bool) → Reads true (place l (d + length x.spelling) g) text (line_tokens l (d + length x.spelling) xs ++ ts) end =
-        λ g. reads_line l (d + length x.spelling) g xs rest ts end stand.1 low (omega (arith, size, wide)) reads in
+    λ g. reads_line l (d + length x.spelling) g xs rest ts end stand.1 low (omega (arith, size, wide)) reads in
     let here : (g : Bool) → Reads true (place l d g) (x.spelling ++ text) (line_tokens l c (x ∷ xs) ++ ts) end =
-        λ g. reads_token l d g x text (line_tokens l (d + length x.spelling) xs ++ ts) end stand.0 (omega (arith, size, wide)) more in
+    λ g. reads_token l d g x text (line_tokens l (d + length x.spelling) xs ++ ts) end stand.0 (omega (arith, size, wide)) more in
     subst (λ t. Reads true (place l c f) t (line_tokens l c (x ∷ xs) ++ ts) end) (sym shape)
     (reads_blanks x.blanks l c f (x.spelling ++ text) (line_tokens l c (x ∷ xs) ++ ts) end (omega (arith, size, wide)) here)
 
@@ -91,9 +91,9 @@ reads_lines l f (xs ∷ lines) rest ts end stand low short reads =
     let size : length (line_text xs ++ text_of lines) ≡ length (line_text xs) + length (text_of lines) = length-append (line_text xs) (text_of lines) in
     let sum : l + length (xs ∷ lines) ≡ l + 1 + length lines = omega arith in
     let more : (g : Bool) → Reads true (place (l + 1) 1 g) (text_of lines ++ rest) (tokens_from (l + 1) lines ++ ts) end =
-        λ g. reads_lines (l + 1) g lines rest ts end stand.1 (omega (arith, sum)) (omega (arith, size)) (λ h. subst (λ n. Reads true (place n 1 h) rest ts end) sum (reads h)) in
+    λ g. reads_lines (l + 1) g lines rest ts end stand.1 (omega (arith, sum)) (omega (arith, size)) (λ h. subst (λ n. Reads true (place n 1 h) rest ts end) sum (reads h)) in
     let here : Reads true (place l 1 f) (line_text xs ++ (text_of lines ++ rest)) (line_tokens l 1 xs ++ (tokens_from (l + 1) lines ++ ts)) end =
-        reads_line l 1 f xs (text_of lines ++ rest) (tokens_from (l + 1) lines ++ ts) end stand.0 (omega arith) (omega (arith, size)) more in
+    reads_line l 1 f xs (text_of lines ++ rest) (tokens_from (l + 1) lines ++ ts) end stand.0 (omega arith) (omega (arith, size)) more in
     let P : List ℕ → List Token → Type 0 = λ text tokens. Reads true (place l 1 f) text tokens end in
     subst (λ text. P text ((line_tokens l 1 xs ++ tokens_from (l + 1) lines) ++ ts)) (sym (append_assoc (line_text xs) (text_of lines) rest))
     (subst (P (line_text xs ++ (text_of lines ++ rest))) (sym (append_assoc (line_tokens l 1 xs) (tokens_from (l + 1) lines) ts)) here)

@@ -74,9 +74,9 @@ loop_text k b =
     let step = line_text (step_line (name k)) ++ (line_text end_line ++ test) in
     let loop = line_text (head_line (codes "while") (name k) (codes "<") sign.Less (positive b)) ++ step in
     let from_steps : step ≡ from_step x (decimal b) =
-        stepped_text k test ∙ ap (λ t. codes "    x" ++ (x ++ (codes " = x" ++ (x ++ (codes " + 1;\n" ++ (codes "  }\n" ++ t)))))) (test_text k b) in
+    stepped_text k test ∙ ap (λ t. codes "    x" ++ (x ++ (codes " = x" ++ (x ++ (codes " + 1;\n" ++ (codes "  }\n" ++ t)))))) (test_text k b) in
     let from_loop : loop ≡ from_while x (decimal b) =
-        while_text k b step ∙ ap (λ t. codes "  while (x" ++ (x ++ (codes " < " ++ (decimal b ++ (codes ") {\n" ++ t))))) from_steps in
+    while_text k b step ∙ ap (λ t. codes "  while (x" ++ (x ++ (codes " < " ++ (decimal b ++ (codes ") {\n" ++ t))))) from_steps in
     declared_text k loop ∙ ap (λ t. codes "  int x" ++ (x ++ (codes " = 0;\n" ++ t))) from_loop ∙ sym (nested k b)
 
 loops_text : (k : ℕ) (bs : List ℕ) → text_of (loops_pieces k bs) ≡ loops_lines k bs
@@ -122,7 +122,7 @@ unfolding faulty_program
 faulty_text n =
     let loops = loops_lines 1 (bounds n loop_count) in
     let ends : text_of (input_pieces n ++ closing_pieces) ≡ input_lines n ++ closing =
-        text_join (input_pieces n) closing_pieces ∙ ap (λ t. t ++ text_of closing_pieces) (input_text n) ∙ ap (λ t. input_lines n ++ t) closing_text in
+    text_join (input_pieces n) closing_pieces ∙ ap (λ t. t ++ text_of closing_pieces) (input_text n) ∙ ap (λ t. input_lines n ++ t) closing_text in
     framed (bounds n loop_count) (input_pieces n ++ closing_pieces) (input_lines n ++ closing) ends
     ∙ ap (λ t. opening ++ t) (sym (append_assoc loops (input_lines n) closing))
     ∙ sym (append_assoc opening (loops ++ input_lines n) closing) ∙ ap (λ t. t ++ closing) (sym (append_assoc opening loops (input_lines n)))
