@@ -15,6 +15,7 @@ pub struct Lookup<'a> {
 }
 
 impl<'a> Lookup<'a> {
+    /// The program's names and its lines' places, each made once for all waypoints of a witness.
     pub fn new(alloc: Global, program: &'a Program) -> Result<Lookup<'a>, OutOfMemory>
         ensures { IfOk result (λ lookup. lookup.index ≡ program.now) }
     {

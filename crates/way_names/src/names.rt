@@ -52,6 +52,7 @@ fn scope_of(kind: PlaceKind, spot: Spot, statements: &ScopesAt, loops: &ScopesAt
 }
 
 impl<'a> Names<'a> {
+    /// The scopes of a program's names, in one walk over it.
     pub fn new(alloc: Global, program: &'a Program) -> Result<Names<'a>, OutOfMemory>
         ensures { IfOk result (λ names. names ≡ program.now) }
     {
