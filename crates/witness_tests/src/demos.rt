@@ -1,6 +1,7 @@
-use super::*;
+// The programs and witnesses of a number.
 use std::process::Abort;
 use std::test::Fail;
+use wv_author::demo;
 use wv_schema::Witness;
 
 /// The text has this line behind so many others.

@@ -1,13 +1,14 @@
+// Each reply, as lines and as JSON.
 ghost use Rattle.std.specs.Prelude.{◌≡◌};
 ghost use Rattle.wv_report.specs.Json.{HasJsonIntegers};
 
-use super::*;
 use c_core::{IntType, Spot};
 use c_meaning::{Cause, Draw, DrawKind, Duty, DutyKind, Reason, Verdict};
 use std::alloc::Global;
 use std::process::Abort;
 use std::test::Fail;
 use wv_base::{OutOfMemory, Seq, Text};
+use wv_report::{Reply, json, status, text};
 
 /// Where the reply has drawn values, these are JSON integers.
 fn reports(

@@ -1,9 +1,10 @@
-use crate::{created, identifier, judge_task, property, specification};
+// What a witness says about its task.
 use c_core::Property;
 use std::alloc::Global;
 use std::test::Fail;
 use wv_base::{OutOfMemory, Seq, Text};
 use wv_schema::{Content, Entry, FileHash, Metadata, Witness};
+use wv_task::{created, identifier, judge_task, property, specification};
 
 /// Texts of property files, behind what is read.
 const PROPERTIES: &str = "\

@@ -1,4 +1,4 @@
-use super::*;
+// What `show` prints.
 use std::alloc::Global;
 use std::process::Abort;
 use std::test::Fail;
@@ -7,6 +7,7 @@ use wv_schema::{
     Constraint, Content, Entry, FileHash, Invariant, InvariantKind, Location, Metadata, Segment,
     WayKind, Waypoint, Witness,
 };
+use wv_show::summary;
 
 const UUID: &str = "01234567-89AB-4CDE-8F01-23456789ABCD";
 

@@ -1,6 +1,6 @@
 // Small clause sets, beside a search through all assignments.
-use crate::{Answer, solve};
 use clauses::{Clause, Cnf, accepts, accepts_log};
+use sat_core::{Answer, solve};
 use std::alloc::Global;
 use std::test::Fail;
 use wv_base::{OutOfMemory, Seq};

@@ -1,6 +1,7 @@
-use super::*;
+// The words of the command line.
 use std::alloc::{AllocError, Global};
 use std::test::Fail;
+use wv_arguments::{Budgets, Names, Request, read_words};
 
 fn words(alloc: Global, line: &str) -> Result<Vec<String>, AllocError> {
     let mut words = Vec::new(alloc);
