@@ -1,7 +1,7 @@
 // What words stand for, from declarations made by hand.
-use crate::{Functions, Known, Meaning, Stated, Table, built_in};
 use c_core::{Callee, IntType, Spot};
 use c_parser::{Item, RawForm, RawParam, RawStmt};
+use check_scope::{Functions, Known, Meaning, Stated, Table, built_in};
 use std::alloc::Global;
 use std::test::Fail;
 use wv_base::{OutOfMemory, Seq, Text};
