@@ -1,6 +1,10 @@
-use super::*;
+// Texts, lists, files and sinks in memory.
 use std::alloc::Global;
 use std::test::Fail;
+use wv_base::{
+    MemoryShelf, MemorySink, OutOfMemory, ReadFault, Seq, Shelf, Sink, SteadyShelf, SteadySink,
+    Text, read_all, write_all,
+};
 
 #[test]
 fn a_text_gives_back_what_it_holds(rt: HostRuntime) -> Result<(), Fail> {
