@@ -67,6 +67,11 @@ pub fn told(rt: &HostRuntime, row: &Row) -> Result<String, NotTried> {
 
 /// A row's program, which has to be one in ILP32.
 pub fn checked_program(rt: &HostRuntime, row: &Row) -> Result<Program, NotTried> {
+    checked_for(rt, row, Property::UnreachCall)
+}
+
+/// The same, for a property.
+pub fn checked_for(rt: &HostRuntime, row: &Row, property: Property) -> Result<Program, NotTried> {
     let alloc = rt.alloc();
     let Some(text) = program(rt, row)? else {
         return Err(NotTried::Lacks("program"));
@@ -74,7 +79,7 @@ pub fn checked_program(rt: &HostRuntime, row: &Row) -> Result<Program, NotTried>
     let Some(Ok(source)) = parsed(alloc, text.as_slice()) else {
         return Err(NotTried::Lacks("a source that parses"));
     };
-    match check(alloc, &source, DataModel::Ilp32, Property::UnreachCall) {
+    match check(alloc, &source, DataModel::Ilp32, property) {
         Ok(program) => Ok(program),
         Err(_) => Err(NotTried::Lacks("a source that is a program")),
     }

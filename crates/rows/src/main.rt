@@ -14,7 +14,8 @@
 //! witnesses, in which `hash` stands for HASH and `formula` for FORMULA and `edits` are made (`OLD | NEW | OLD | NEW ..`, the first
 //! occurrence of each), `segments` are put behind them, and `yaml` is a witness's text. Segments stand between the words `then`, the
 //! waypoints of one between semicolons, and a waypoint is its action, its type, its line or `line:column`, and its constraint.
-//! `property` is a property, `words` is a command line over the files `p`, `q` and `w`, `model` is a data model or `both`.
+//! `property` is a property, `words` is a command line over the files `p`, `q` and `w`, `model` is a data model or `both`. Of a run `values`
+//! are those of its input calls in turn, `given` are a call's place and its values, and `steps` is its budget.
 //!
 //! `escapes.rt` says how control characters, bytes and repeated texts are written.
 #![tactic(auto)]
@@ -25,6 +26,7 @@ mod escapes;
 mod expressions;
 mod few;
 mod lexing;
+mod plain_run;
 mod run;
 mod schema;
 mod sources;
@@ -57,6 +59,8 @@ fn came(rt: &HostRuntime, row: &Row) -> Result<String, NotTried> {
         "result" => expressions::on_result(rt, row),
         // The first refusal of a source.
         "check" => check::told(rt, row),
+        // A run of a program, by the values of its input calls.
+        "plain-run" => plain_run::told(rt, row),
         // The point of the first follow; the values given to input calls; all input calls.
         "bind" => bind::told(rt, row),
         "values" => bind::values(rt, row),

@@ -80,8 +80,9 @@ impl Row {
 
 fn is_field(name: &str) -> bool {
     match name {
-        "answer" | "edits" | "formula" | "hash" | "model" | "program" | "property" => true,
-        "segments" | "source" | "text" | "witness" | "words" | "yaml" => true,
+        "answer" | "edits" | "formula" | "given" | "hash" | "model" | "program" => true,
+        "property" | "segments" | "source" | "steps" | "text" | "values" => true,
+        "witness" | "words" | "yaml" => true,
         _ => false,
     }
 }
