@@ -31,6 +31,7 @@ mod run;
 mod schema;
 mod sources;
 mod table;
+mod tasks;
 mod texts;
 mod yaml;
 
@@ -68,6 +69,12 @@ fn came(rt: &HostRuntime, row: &Row) -> Result<String, NotTried> {
         // The schema of a witness; its tree, read and made again.
         "schema" => schema::told(rt, row),
         "same" => schema::tree_again(rt, row),
+        // What a witness says about its task: texts, and what is judged of whole entries.
+        "property" => tasks::property_told(rt, row),
+        "specification" => tasks::specification_told(rt, row),
+        "created" => tasks::created_told(rt, row),
+        "identifier" => tasks::identifier_told(rt, row),
+        "task" => tasks::told(rt, row),
         // Whether YAML is read; its tree; its canonical form; a text between quotes.
         "yaml" => yaml::told(rt, row),
         "tree" => yaml::tree(rt, row),

@@ -139,10 +139,7 @@ fn of_one_call(alloc: Global, text: &str) -> Result<Choices, NotTried> {
 fn choices(alloc: Global, row: &Row) -> Result<Choices, NotTried> {
     match row.text("given")? {
         Some(text) => of_one_call(alloc, text),
-        None => Ok(Choices::InTurn(numbers(
-            alloc,
-            row.wanted_text("values")?,
-        )?)),
+        None => Ok(Choices::InTurn(numbers(alloc, row.wanted_text("values")?)?)),
     }
 }
 

@@ -1,4 +1,4 @@
-//! What the crates of the witness and of the reply answer by their public calls: words, tasks, summaries, reports, demos. The crate
+//! What the crates of the witness and of the reply answer by their public calls: words, summaries, reports, demos. The crate
 //! has tests alone, so that for them none of these crates is proved again.
 #![tactic(auto)]
 
@@ -8,7 +8,5 @@ mod demos;
 mod reports;
 #[cfg(test)]
 mod summaries;
-#[cfg(test)]
-mod tasks;
 #[cfg(test)]
 mod words;
