@@ -1,9 +1,9 @@
 // Rows of runs: a program, the values of its input calls, and behind them the run's end, steps, draws and events.
 use crate::check::checked_for;
-use crate::table::{NotTried, Row};
 use c_core::{Property, Spot};
 use c_interpreter::run_plain;
 use c_meaning::{Choices, Draw, End, Event, Given, Memory, Run, Watcher};
+use row_files::{NotTried, Row, Trial};
 use std::alloc::{AllocError, Global};
 use wv_base::{OutOfMemory, Seq};
 
@@ -151,9 +151,9 @@ fn property(row: &Row) -> Result<Property, NotTried> {
 }
 
 /// What is told of a row's run.
-pub fn told(rt: &HostRuntime, row: &Row) -> Result<String, NotTried> {
-    let alloc = rt.alloc();
-    let program = checked_for(rt, row, property(row)?)?;
+pub fn told(trial: &impl Trial, row: &Row) -> Result<String, NotTried> {
+    let alloc = trial.alloc();
+    let program = checked_for(trial, row, property(row)?)?;
     let choices = choices(alloc, row)?;
     let Ok(steps) = row.wanted_text("steps")?.parse::<u64>() else {
         return Err(NotTried::Lacks("a number of steps"));

@@ -1,6 +1,5 @@
 // Rows of the whole program: its words and its files, and behind them its status and its report.
-use crate::table::{NotTried, Row};
-use crate::texts::{program, witness};
+use row_files::{NotTried, Row, Trial, program, witness};
 use std::alloc::Global;
 use std::str;
 use witval::run;
@@ -15,24 +14,24 @@ fn words(alloc: Global, line: &str) -> Result<Vec<String>, OutOfMemory> {
 }
 
 /// The files that a row gives: its program is `p`, its property is `q`, its witness is `w`.
-fn shelf(rt: &HostRuntime, row: &Row) -> Result<MemoryShelf, NotTried> {
-    let mut shelf = MemoryShelf::new(rt.alloc(), 4096);
-    if let Some(program) = program(rt, row)? {
+fn shelf(trial: &impl Trial, row: &Row) -> Result<MemoryShelf, NotTried> {
+    let mut shelf = MemoryShelf::new(trial.alloc(), 4096);
+    if let Some(program) = program(trial, row)? {
         shelf.put("p", program.as_slice())?;
     }
     if let Some(property) = row.bytes("property") {
         shelf.put("q", property)?;
     }
-    if let Some(witness) = witness(rt, row)? {
+    if let Some(witness) = witness(trial, row)? {
         shelf.put("w", witness.as_slice())?;
     }
     Ok(shelf)
 }
 
 /// The status, and behind a blank the report.
-pub fn told(rt: &HostRuntime, row: &Row) -> Result<String, NotTried> {
-    let alloc = rt.alloc();
-    let mut shelf = shelf(rt, row)?;
+pub fn told(trial: &impl Trial, row: &Row) -> Result<String, NotTried> {
+    let alloc = trial.alloc();
+    let mut shelf = shelf(trial, row)?;
     let words = words(alloc, row.wanted_text("words")?)?;
     // A write takes few bytes, so that a report is written in several.
     let mut out = MemorySink::new(alloc, 1000, 7)?;
@@ -60,7 +59,7 @@ fn without_values(alloc: Global, report: &str) -> Result<String, OutOfMemory> {
 }
 
 /// The same without the values: which of those that fit is shown is the solver's choice.
-pub fn told_without_values(rt: &HostRuntime, row: &Row) -> Result<String, NotTried> {
-    let report = told(rt, row)?;
-    Ok(without_values(rt.alloc(), report.as_str())?)
+pub fn told_without_values(trial: &impl Trial, row: &Row) -> Result<String, NotTried> {
+    let report = told(trial, row)?;
+    Ok(without_values(trial.alloc(), report.as_str())?)
 }
