@@ -6,10 +6,11 @@ ghost use Rattle.witval.specs.inside.Allowed.{AreAllowed, IsAllowed};
 ghost use Rattle.wv_arguments.specs.Requests.{limits, named, stated};
 
 use crate::canonical::canonical;
+use crate::demonstration::demonstrate;
 use crate::input::{Stop, read_one, read_three};
 use crate::judging::judge;
 use crate::output::Output;
-use crate::refusal::{read_fault, refuse_plainly, refuse_too_long, refuse_unbuilt};
+use crate::refusal::{read_fault, refuse_plainly, refuse_too_long};
 use crate::shown::shown;
 use std::alloc::Global;
 use wv_arguments::{Asked, Budgets, Names, Request};
@@ -79,7 +80,11 @@ pub fn answer<S: Shelf>(
         )?)),
         Some(Request::Normalise(name)) => normalise(alloc, name, shelf),
         Some(Request::Show(name)) => show(alloc, name, shelf),
-        Some(Request::Demo { .. }) => Ok(Output::Report(refuse_unbuilt(alloc, "words")?)),
+        Some(Request::Demo { number, budgets }) => Ok(Output::Demo(demonstrate(
+            alloc,
+            number as u32,
+            budgets,
+        )?)),
         None => Ok(Output::Report(refuse_plainly(alloc, "usage")?)),
     }
 }
