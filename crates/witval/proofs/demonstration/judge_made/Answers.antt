@@ -1,19 +1,10 @@
-use Rattle.std.proofs.Common.{◌≡◌, ◌∙◌, ◌≤◌, length, ap, subst, sym}
+use Rattle.std.proofs.Common.{◌∙◌, ap, subst}
 use Rattle.wv_arguments.specs.Requests.{limits}
 use Rattle.wv_schema.specs.Canonical.{tree_of}
-use Rattle.wv_yaml.specs.Canon.{Fits, IsCollection, canon}
-use Rattle.wv_yaml.specs.Document.{Spelled, max_depth}
+use Rattle.wv_yaml.specs.Canon.{canon}
+use Rattle.wv_yaml.specs.Document.{Spelled}
 use Rattle.witval.proofs.MadeWitness.{as_files_if, read_if}
 use Rattle.witval.proofs.demonstration.judge_made.Goals as goal
-
-pub write-requires-clause-collection : goal.write-requires-clause-collection
-write-requires-clause-collection c = subst IsCollection (sym c.in_ok-tree.ensures) c.requires.written.collection
-
-pub write-requires-clause-fits : goal.write-requires-clause-fits
-write-requires-clause-fits c = subst (Fits max_depth) (sym c.in_ok-tree.ensures) c.requires.written.fits
-
-pub judge_bytes-requires-clause-program : goal.judge_bytes-requires-clause-program
-judge_bytes-requires-clause-program c = subst (λ xs. length xs ≤ 1048576) (sym (c.as_bytes.ensures.value ∙ c.as_str.ensures)) c.requires.program
 
 pub returns-clause-as_files : goal.returns-clause-as_files
 returns-clause-as_files c =
