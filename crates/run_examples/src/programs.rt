@@ -47,10 +47,6 @@ int main() {{
     read(alloc, property, text.as_str())
 }
 
-";
-    read(alloc, property, text)
-}
-
 /// The error stands behind a loop of three turns.
 pub fn count_to_three(alloc: Global) -> Result<Program, NoProgram> {
     let text = "void reach_error() { }
@@ -110,24 +106,12 @@ int main() {
     read(alloc, Property::UnreachCall, text)
 }
 
-";
-    read(alloc, Property::UnreachCall, text)
-}
-
 /// An array of `short` with the name `a` is the only object.
 pub fn hold_shorts(alloc: Global) -> Result<Program, NoProgram> {
     let text = "short a[3];
 int main() {
   return 0;
 }
-";
-    read(alloc, Property::UnreachCall, text)
-}
-
-";
-    read(alloc, Property::UnreachCall, text)
-}
-
 ";
     read(alloc, Property::UnreachCall, text)
 }
