@@ -1,0 +1,70 @@
+-- The given run of a demo's faulty program violates the property and passes its witness's segments.
+use Rattle.std.proofs.Common.{◌≡◌, ◌<◌, ◌≤◌, ◌+◌, ◌*◌, ◌/◌, ◌%◌, ◌^◌, ℕ, zero, suc, List, [], ◌∷◌, ◌++◌, length, refl, sym, ap, ◌∙◌, subst, arith, length-append}
+use Rattle.std.specs.List.{AllByRecursion}
+use Rattle.c_core.specs.declared.number.DataModel.TheVariants.{Ilp32}
+use Rattle.c_core.specs.declared.number.Property.TheVariants.{UnreachCall}
+use Rattle.c_core.specs.declared.number.Spot.{Spot}
+use Rattle.check_rules.specs.Checked.{program_of}
+use Rattle.way_match.specs.Verdicts.{IsGivenViolation}
+use Rattle.wv_author.specs.Sequence.{bound, bounds, loop_count, sequence}
+use Rattle.demo_laws.specs.Lines.{spot}
+use Rattle.demo_laws.specs.Source.{drawn_at, chosen_at, faulty_items, line_behind}
+use Rattle.demo_run.specs.Segments.{segments_at, demo_segments}
+use Rattle.demo_run.specs.Typed.{faulty_objects, faulty_rest, faulty_typed, loops}
+use Rattle.demo_run.proofs.Blocks.{IsBound}
+use Rattle.demo_run.proofs.Calls.{call_there, drawn_once}
+use Rattle.demo_run.proofs.Elaborated.{faulty_program_of}
+use Rattle.demo_run.proofs.Matched.{given_violates}
+use Rattle.demo_run.proofs.Running.{run_violates}
+
+-- ---- the bounds of a number
+
+joined : (xs ys : List ℕ) → AllByRecursion IsBound xs → AllByRecursion IsBound ys → AllByRecursion IsBound (xs ++ ys)
+joined [] ys h k = k
+joined (x ∷ xs) ys h k = (h.0, joined xs ys h.1 k)
+
+bound_is_one : (s : ℕ) → IsBound (bound s)
+bound_is_one s = record { some = omega arith; most = omega arith }
+
+bounds_are : (n k : ℕ) → AllByRecursion IsBound (bounds n k)
+unfolding bounds
+bounds_are n zero = tt
+bounds_are n (suc k) = joined (bounds n k) (bound (sequence n (suc k)) ∷ []) (bounds_are n k) (bound_is_one (sequence n (suc k)), tt)
+
+bounds_count : (n k : ℕ) → length (bounds n k) ≡ k
+unfolding bounds
+bounds_count n zero = refl
+bounds_count n (suc k) = let few = bounds_count n k in length-append (bounds n k) (bound (sequence n (suc k)) ∷ []) ∙ omega (arith, few)
+
+-- a loop has seven lines
+line_is : (l : ℕ) (bs : List ℕ) → line_behind l bs ≡ l + 7 * length bs
+line_is l [] = omega arith
+line_is l (b ∷ bs) = let more = line_is (l + 1 + 1 + 1 + 1 + 1 + 1 + 1) bs in omega (arith, more)
+
+-- ---- the program
+
+typed_violates : (n : ℕ) (bs : List ℕ) (at : Spot) (steps : ℕ) → n < 2 ^ 31 → AllByRecursion IsBound bs → length bs ≤ 50 → 100000 ≤ steps →
+    IsGivenViolation (faulty_typed n bs) (segments_at n at (drawn_at (line_behind 4 bs) 5) (chosen_at (line_behind 4 bs + 1) n 7)) steps
+typed_violates n bs at steps small fit few enough =
+    let m = line_behind 4 bs in
+    given_violates (faulty_objects bs) (loops 4 1 0 bs (faulty_rest m (length bs) n)) n at (drawn_at m) (chosen_at (m + 1) n) small
+    (call_there (faulty_objects bs) 4 1 0 bs n (length bs)) (length bs) steps (drawn_once (faulty_objects bs) 4 1 0 bs n (length bs))
+    (run_violates 4 1 n bs steps small fit few enough)
+
+-- where the segments stand
+places : (n : ℕ) (at : Spot) (m : ℕ) → m ≡ 284 → segments_at n at (drawn_at m 5) (chosen_at (m + 1) n 7) ≡ demo_segments n at
+places n at m h = ap (λ l. segments_at n at (spot l 33) (spot (l + 1 + 1) 5)) h
+
+pub checked : (n : ℕ) → n ≤ 999999 → program_of Ilp32 UnreachCall (faulty_items n (bounds n loop_count)) ≡ faulty_typed n (bounds n loop_count)
+checked n small = faulty_program_of n (bounds n loop_count) (omega (arith, small)) (bounds_are n loop_count)
+
+pub demo_violates : (n steps : ℕ) (at : Spot) → n ≤ 999999 → 100000 ≤ steps →
+    IsGivenViolation (program_of Ilp32 UnreachCall (faulty_items n (bounds n loop_count))) (demo_segments n at) steps
+demo_violates n steps at small enough =
+    let bs = bounds n loop_count in
+    let count : length bs ≡ 40 = bounds_count n loop_count in
+    let line = line_is 4 bs in
+    let there : line_behind 4 bs ≡ 284 = omega (arith, line, count) in
+    let run = typed_violates n bs at steps (omega (arith, small)) (bounds_are n loop_count) (omega (arith, count)) enough in
+    subst (λ p. IsGivenViolation p (demo_segments n at) steps) (sym (checked n small))
+    (subst (λ ss. IsGivenViolation (faulty_typed n bs) ss steps) (places n at (line_behind 4 bs) there) run)

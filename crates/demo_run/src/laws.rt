@@ -1,0 +1,22 @@
+// Laws, each the contract of a function that says nothing else.
+ghost use Rattle.std.specs.Prelude.{◌≡◌, ◌≤◌, ℕ};
+ghost use Rattle.c_core.specs.declared.number.DataModel.TheVariants.{Ilp32};
+ghost use Rattle.c_core.specs.declared.number.Property.TheVariants.{UnreachCall};
+ghost use Rattle.c_core.specs.declared.number.Spot.{Spot};
+ghost use Rattle.check_rules.specs.Checked.{program_of};
+ghost use Rattle.way_match.specs.Verdicts.{IsGivenViolation};
+ghost use Rattle.wv_author.specs.Sequence.{bounds, loop_count};
+ghost use Rattle.demo_laws.specs.Source.{faulty_items};
+ghost use Rattle.demo_run.specs.Segments.{demo_segments};
+ghost use Rattle.demo_run.specs.Typed.{faulty_typed};
+
+/// The faulty program of a number, checked.
+pub fn demos_have_programs()
+    ensures { (n : ℕ) → n ≤ 999999 → program_of Ilp32 UnreachCall (faulty_items n (bounds n loop_count)) ≡ faulty_typed n (bounds n loop_count) }
+{}
+
+/// With 100,000 steps or more its given run violates the property, and passes the segments of the violation witness.
+pub fn demos_violate()
+    ensures { (n steps : ℕ) (at : Spot) → n ≤ 999999 → 100000 ≤ steps →
+        IsGivenViolation (program_of Ilp32 UnreachCall (faulty_items n (bounds n loop_count))) (demo_segments n at) steps }
+{}
