@@ -40,7 +40,7 @@ line_grows l [] = omega arith
 line_grows l (b ∷ bs) = let more = line_grows (l + 1 + 1 + 1 + 1 + 1 + 1 + 1) bs in omega (arith, more)
 
 -- the error of a loop is reached on its sixth line
-call_line : (l k b : ℕ) → (tested_at l k b 9).line ≡ l + 1
+pub call_line : (l k b : ℕ) → (tested_at l k b 9).line ≡ l + 1
 call_line l k b = refl
 
 pub loops_end_elsewhere : (close : Spot) (l k o : ℕ) (bs : List ℕ) (rest : Stms) → line_behind l bs ≤ close.line →

@@ -137,7 +137,7 @@ loops_typed s l k o (b ∷ bs) last h fit =
 
 -- the scope behind the loops
 ready_behind : (s : Scope) (l k o : ℕ) (bs : List ℕ) → IsReady s o → IsReady (grown_by s l k bs) (o + length bs)
-ready_behind s l k o [] h = subst (IsReady s) (omega arith) h
+ready_behind s l k o [] h = let same : o ≡ o + 0 = omega arith in subst (IsReady s) same h
 ready_behind s l k o (b ∷ bs) h =
     let sum : o + 1 + length bs ≡ o + length (b ∷ bs) = omega arith in
     subst (IsReady (grown_by s l k (b ∷ bs))) sum (ready_behind _ _ (k + 1) (o + 1) bs (ready_grown s (name k) (declared_at l k 1) o refl refl h))
@@ -183,7 +183,8 @@ body_typed : (n : ℕ) (bs : List ℕ) → n < 2 ^ 31 → AllByRecursion IsBound
     typed_block Ilp32 bodies start (stms (loops_statements 4 1 bs (faulty_last (line_behind 4 bs) n))) ≡ loops 4 1 0 bs (faulty_rest (line_behind 4 bs) (length bs) n)
 body_typed n bs small fit =
     let m = line_behind 4 bs in
-    let ready : IsReady (grown_by start 4 1 bs) (length bs) = subst (IsReady (grown_by start 4 1 bs)) (omega arith) (ready_behind start 4 1 0 bs start_ready) in
+    let sum : 0 + length bs ≡ length bs = omega arith in
+    let ready : IsReady (grown_by start 4 1 bs) (length bs) = subst (IsReady (grown_by start 4 1 bs)) sum (ready_behind start 4 1 0 bs start_ready) in
     loops_typed start 4 1 0 bs (faulty_last m n) start_ready fit
     ∙ ap (loops 4 1 0 bs) (last_typed (grown_by start 4 1 bs) (length bs) n (not (nat_eq n 0)) (drawn_at m) (chosen_at (m + 1) n) (ended_at (m + 1 + 1 + 1 + 1)) ready small)
 

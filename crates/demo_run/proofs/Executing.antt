@@ -104,4 +104,4 @@ module _ (objects : List Object) (body : Stms) where
         (while_turn P M call at e (exec P M call result x)) (state base n cs (reached at cs xs))
         ≡ Go Next t →
         exec P M call result (Stmt at (While e x)) (state base (suc n) cs xs) ≡ Go Next (with_cells (take (length cs) t.cells) t)
-    looped at e x n cs xs t h = rw h refl
+    looped at e x n cs xs t h = ap (acts.cut End (State Sights) cells_of with_cells (length cs)) h

@@ -10,4 +10,5 @@ pub mod Running
 pub mod Matched
 pub mod Names
 pub mod Elaborated
+pub mod Placed
 pub mod Violated

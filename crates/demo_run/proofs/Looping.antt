@@ -130,7 +130,7 @@ module _ (objects : List Object) (body : Stms) where
           let start : State Sights = state base (suc (suc (suc n))) live xs in
           subst (λ y. CameTo base (turns P Sights (λ y ys. y ∷ ys) (suc spare) (w 0) loop arrived turn start) n (cs ++ cell o (pos y) ∷ [])) same
           record {
-            seen = _;
+            seen = Told (Branch (w 0) false) live ∷ (headed (w 0) loop arrived start).seen;
             is = turn_leaves objects body call base result spare (w 0) loop arrived turn start _ (turn_off x n cs (headed (w 0) loop arrived start).seen same);
           }
       turns_run (suc r) x spare n arrived cs xs e =

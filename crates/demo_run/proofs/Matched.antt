@@ -78,6 +78,7 @@ module _ (objects : List Object) (body : Stms) (n : ℕ) (at : Spot) (w v : ℕ 
       let after : List Seen = seen_of (in_order o n w v cs) in
       let m = length before in
       let size = length-append before after in
+      let nine : length after ≡ 9 = refl in
       (
         ap (λ s. seen_passes P s (gives n at (w 5)).follow) (slice_behind before after 2) ∙ returns (with_y o 0 cs),
         inl (omega arith),
@@ -86,7 +87,7 @@ module _ (objects : List Object) (body : Stms) (n : ℕ) (at : Spot) (w v : ℕ 
           ap (λ s. seen_passes P s (violates (v 7)).follow) (slice_behind before after 8) ∙ fails (with_y o n cs),
           inl (omega arith),
           (λ i low high. none_avoided P (slice_get (before ++ after) i)),
-          omega (arith, size),
+          omega (arith, size, nine),
         ),
       )
 

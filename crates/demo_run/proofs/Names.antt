@@ -23,7 +23,9 @@ object_counts (Some k) o = refl
 -- the last declaration of an object counts
 declared_last : (es : List Entry) (x : List ℕ) (o : ℕ) → declared_as (es ++ object_entry x o ∷ []) x ≡ Some (Object o Int false false)
 declared_last [] x o = rw (same_bytes x) refl
-declared_last (e ∷ es) x o = rw (declared_last es x o) (object_counts (cond (bytes_eq e.name x) (Some e.kind) None) o)
+declared_last (e ∷ es) x o =
+    let earlier : Option Kind = cond (bytes_eq e.name x) (Some e.kind) None in
+    ap (later earlier) (declared_last es x o) ∙ object_counts earlier o
 
 -- a declaration of another word changes nothing
 pub declared_still : (es : List Entry) (x z : List ℕ) (o : ℕ) → bytes_eq x z ≡ false → declared_as (es ++ object_entry x o ∷ []) z ≡ declared_as es z
