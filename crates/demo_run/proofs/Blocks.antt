@@ -16,6 +16,7 @@ use Rattle.c_meaning.specs.Exec.{exec, execs}
 use Rattle.c_meaning.specs.Meaning.{Meaning, Where, Calls}
 use Rattle.c_meaning.specs.Objects.{type_of_object, size_of_object}
 use Rattle.c_meaning.specs.Run.{Told, State, most_cells}
+use Rattle.demo_laws.specs.Bounds.{IsBound}
 use Rattle.demo_laws.specs.Source.{declared_at, looped_at, tested_at}
 use Rattle.demo_run.specs.Typed.{constant, operation, declaration, counting, error_if, error_block, loops, main_alone}
 use Rattle.demo_run.proofs.LastCell.{key, cell, put_last}
@@ -23,11 +24,6 @@ use Rattle.demo_run.proofs.States.{Sights, Ran, meaning, state, reached}
 use Rattle.demo_run.proofs.Evaluating.{kept, not_unequal, operated}
 use Rattle.demo_run.proofs.Executing.{first_done, passed_over, declared}
 use Rattle.demo_run.proofs.Looping.{CameTo, loop_steps, loop_steps_are, loop_runs}
-
--- a loop's bound
-pub record IsBound (b : ℕ) : Type 0 where
-  pub some : 1 ≤ b
-  pub most : b ≤ 100
 
 -- ---- steps
 
@@ -54,7 +50,7 @@ all_steps_are (b ∷ bs) n =
 pub few_steps : (bs : List ℕ) → AllByRecursion IsBound bs → taken_by bs ≤ 1011 * length bs
 few_steps [] fit = omega arith
 few_steps (b ∷ bs) fit =
-    let most = (fit.0).most in
+    let most = (fit.0).few in
     let more = few_steps bs fit.1 in
     omega (arith, most, more)
 
@@ -128,7 +124,7 @@ module _ (objects : List Object) (body : Stms) where
     loops_run l k o [] rest n cs xs ints fit few = record { cells = cs; seen = xs; few = omega arith; is = refl }
     loops_run l k o (b ∷ bs) rest n cs xs ints fit few =
         let behind = loops (l + 1 + 1 + 1 + 1 + 1 + 1 + 1) (k + 1) (o + 1) bs rest in
-        let bound = (fit.0).most in
+        let bound = (fit.0).few in
         let one = block_runs o b (declared_at l k) (looped_at (l + 1) k b) (tested_at (l + 1 + 1 + 1 + 1) k b) behind (all_steps bs n) cs xs ints.0 ints.1 (omega (arith, few)) (omega (arith, bound)) in
         let size = one.few in
         let more = loops_run (l + 1 + 1 + 1 + 1 + 1 + 1 + 1) (k + 1) (o + 1) bs rest n one.cells one.seen ints.2 fit.1 (omega (arith, size, few)) in

@@ -16,11 +16,11 @@ use Rattle.check_rules.specs.Checked.{typed_statement, typed_block, functions_of
 use Rattle.check_rules.specs.Names.{Entry, Object as AnObject, declared_as, named}
 use Rattle.check_rules.specs.Scopes.{Scope, scope, seen, opened, with_object, with_entry, after_block, after_items, inside, outermost, entry_of_function, entry_of_prototype}
 use Rattle.check_rules.specs.Typed.{typed}
+use Rattle.demo_laws.specs.Bounds.{IsBound}
 use Rattle.demo_laws.specs.DemoLines.{name}
 use Rattle.demo_laws.specs.Shapes.{name_exp, declaration_statement, while_statement, test_statement, chosen_statement, input_statement, return_statement}
 use Rattle.demo_laws.specs.Source.{declared_at, looped_at, tested_at, drawn_at, chosen_at, ended_at, loop_statements, loops_statements, line_behind, faulty_last, faulty_items}
 use Rattle.demo_run.specs.Typed.{variable, constant, operation, declaration, counting, error_block, error_if, input, end, loops, last_statements, faulty_rest, local, loop_objects, faulty_objects, main_alone, faulty_typed}
-use Rattle.demo_run.proofs.Blocks.{IsBound}
 use Rattle.demo_run.proofs.Names.{object_entry, declared_still, named_last, reach_name, input_name, prototype, named_reach, named_input, constant_is_int}
 
 -- the functions with a body
@@ -122,7 +122,7 @@ block_typed s l k o b ss h few =
     ∙ ap₂ (λ x y. MoreStm (declaration o w) (MoreStm x (MoreStm y rest))) (counting_typed g (name k) o b v is few) (error_if_typed g binary.Ne (name k) o b true u is ready.reach few refl)
 
 abbrev bound_fits : (b : ℕ) → IsBound b → b < 2 ^ 31
-bound_fits b h = let most = h.most in omega (arith, most)
+bound_fits b h = let most = h.few in omega (arith, most)
 
 loops_typed : (s : Scope) (l k o : ℕ) (bs : List ℕ) (last : List raw.Stm) → IsReady s o → AllByRecursion IsBound bs →
     typed_block Ilp32 bodies s (stms (loops_statements l k bs last)) ≡ loops l k o bs (typed_block Ilp32 bodies (grown_by s l k bs) (stms last))

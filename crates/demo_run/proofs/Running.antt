@@ -15,11 +15,12 @@ use Rattle.c_meaning.specs.Exec.{exec, execs, call_of, run_in}
 use Rattle.c_meaning.specs.Meaning.{Meaning, Site, Calls}
 use Rattle.c_meaning.specs.Objects.{type_in, size_in}
 use Rattle.c_meaning.specs.Run.{State, Whole, first_cells, static_cells}
+use Rattle.demo_laws.specs.Bounds.{IsBound}
 use Rattle.demo_laws.specs.DemoLines.{name}
 use Rattle.demo_laws.specs.Source.{declared_at, drawn_at, chosen_at, ended_at, line_behind}
 use Rattle.demo_run.specs.Typed.{local, loop_objects, loops, faulty_rest, end, main_alone}
 use Rattle.demo_run.proofs.States.{Sights, Ran, meaning, state}
-use Rattle.demo_run.proofs.Blocks.{IsBound, all_steps, all_steps_are, taken_by, few_steps, AreInts, Reaches, loops_run}
+use Rattle.demo_run.proofs.Blocks.{all_steps, all_steps_are, taken_by, few_steps, AreInts, Reaches, loops_run}
 use Rattle.demo_run.proofs.Ending.{one_input, undrawn, drawn, with_y, last_seen, rest_stops}
 
 -- ---- objects

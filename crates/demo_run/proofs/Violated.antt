@@ -7,11 +7,11 @@ use Rattle.c_core.specs.declared.number.Spot.{Spot}
 use Rattle.check_rules.specs.Checked.{program_of}
 use Rattle.way_match.specs.Verdicts.{IsGivenViolation}
 use Rattle.wv_author.specs.Sequence.{bound, bounds, loop_count, sequence}
+use Rattle.demo_laws.specs.Bounds.{IsBound, AreBounds}
 use Rattle.demo_laws.specs.Lines.{spot}
 use Rattle.demo_laws.specs.Source.{drawn_at, chosen_at, faulty_items, line_behind}
 use Rattle.demo_run.specs.Segments.{segments_at, demo_segments}
 use Rattle.demo_run.specs.Typed.{faulty_objects, faulty_rest, faulty_typed, loops}
-use Rattle.demo_run.proofs.Blocks.{IsBound}
 use Rattle.demo_run.proofs.Calls.{call_there, drawn_once}
 use Rattle.demo_run.proofs.Elaborated.{faulty_program_of}
 use Rattle.demo_run.proofs.Matched.{given_violates}
@@ -24,7 +24,7 @@ joined [] ys h k = k
 joined (x ∷ xs) ys h k = (h.0, joined xs ys h.1 k)
 
 bound_is_one : (s : ℕ) → IsBound (bound s)
-bound_is_one s = record { some = omega arith; most = omega arith }
+bound_is_one s = record { some = omega arith; few = omega arith }
 
 bounds_are : (n k : ℕ) → AllByRecursion IsBound (bounds n k)
 unfolding bounds
@@ -55,8 +55,8 @@ typed_violates n bs at steps small fit few enough =
 places : (n : ℕ) (at : Spot) (m : ℕ) → m ≡ 284 → segments_at n at (drawn_at m 5) (chosen_at (m + 1) n 7) ≡ demo_segments n at
 places n at m h = ap (λ l. segments_at n at (spot l 33) (spot (l + 1 + 1) 5)) h
 
-pub checked : (n : ℕ) → n ≤ 999999 → program_of Ilp32 UnreachCall (faulty_items n (bounds n loop_count)) ≡ faulty_typed n (bounds n loop_count)
-checked n small = faulty_program_of n (bounds n loop_count) (omega (arith, small)) (bounds_are n loop_count)
+pub checked : (n : ℕ) (bs : List ℕ) → n ≤ 999999 → AreBounds bs → program_of Ilp32 UnreachCall (faulty_items n bs) ≡ faulty_typed n bs
+checked n bs small fit = faulty_program_of n bs (omega (arith, small)) fit.each
 
 pub demo_violates : (n steps : ℕ) (at : Spot) → n ≤ 999999 → 100000 ≤ steps →
     IsGivenViolation (program_of Ilp32 UnreachCall (faulty_items n (bounds n loop_count))) (demo_segments n at) steps
@@ -66,5 +66,5 @@ demo_violates n steps at small enough =
     let line = line_is 4 bs in
     let there : line_behind 4 bs ≡ 284 = omega (arith, line, count) in
     let run = typed_violates n bs at steps (omega (arith, small)) (bounds_are n loop_count) (omega (arith, count)) enough in
-    subst (λ p. IsGivenViolation p (demo_segments n at) steps) (sym (checked n small))
+    subst (λ p. IsGivenViolation p (demo_segments n at) steps) (sym (faulty_program_of n bs (omega (arith, small)) (bounds_are n loop_count)))
     (subst (λ ss. IsGivenViolation (faulty_typed n bs) ss steps) (places n at (line_behind 4 bs) there) run)

@@ -1,18 +1,19 @@
 // Laws, each the contract of a function that says nothing else.
-ghost use Rattle.std.specs.Prelude.{◌≡◌, ◌≤◌, ℕ};
+ghost use Rattle.std.specs.Prelude.{◌≡◌, ◌≤◌, ℕ, List};
 ghost use Rattle.c_core.specs.declared.number.DataModel.TheVariants.{Ilp32};
 ghost use Rattle.c_core.specs.declared.number.Property.TheVariants.{UnreachCall};
 ghost use Rattle.c_core.specs.declared.number.Spot.{Spot};
 ghost use Rattle.check_rules.specs.Checked.{program_of};
 ghost use Rattle.way_match.specs.Verdicts.{IsGivenViolation};
 ghost use Rattle.wv_author.specs.Sequence.{bounds, loop_count};
+ghost use Rattle.demo_laws.specs.Bounds.{AreBounds};
 ghost use Rattle.demo_laws.specs.Source.{faulty_items};
 ghost use Rattle.demo_run.specs.Segments.{demo_segments};
 ghost use Rattle.demo_run.specs.Typed.{faulty_typed};
 
-/// The faulty program of a number, checked.
+/// The faulty program of a number, checked, whatever the bounds of its loops are.
 pub fn demos_have_programs()
-    ensures { (n : ℕ) → n ≤ 999999 → program_of Ilp32 UnreachCall (faulty_items n (bounds n loop_count)) ≡ faulty_typed n (bounds n loop_count) }
+    ensures { (n : ℕ) (bs : List ℕ) → n ≤ 999999 → AreBounds bs → program_of Ilp32 UnreachCall (faulty_items n bs) ≡ faulty_typed n bs }
 {}
 
 /// With 100,000 steps or more its given run violates the property, and passes the segments of the violation witness.
