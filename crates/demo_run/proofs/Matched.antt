@@ -9,8 +9,9 @@ use Rattle.c_meaning.specs.declared.run.End.TheVariants.{Violated}
 use Rattle.c_meaning.specs.declared.run.Event.TheVariants as event
 use Rattle.c_meaning.specs.Acts.{Stop}
 use Rattle.c_meaning.specs.Cells.{Cell}
+use Rattle.c_meaning.specs.Replay.{values_of}
 use Rattle.c_meaning.specs.Run.{Moment, Told, Here, Head, Whole, end_of, state_of}
-use Rattle.way_match.specs.Given.{given_by, input_calls}
+use Rattle.way_match.specs.Given.{RunGiven, given_by, input_calls}
 use Rattle.way_match.specs.Matching.{Seen, seen_of, seen_passes, seen_passes_any, Matches}
 use Rattle.way_match.specs.Points.{Point, BoundSegment}
 use Rattle.way_match.specs.Verdicts.{IsGivenViolation}
@@ -103,3 +104,7 @@ module _ (objects : List Object) (body : Stms) (n : ℕ) (at : Spot) (w v : ℕ 
           subst (λ es. Matches P segments es ((length before + 2) ∷ (length before + 8) ∷ [])) (sym events) (matched_behind o h.cells before),
         );
       }
+
+  -- and draws n alone
+  pub given_draws : (o N : ℕ) → input_calls P ≡ one_call (w 3) ∷ [] → Violates P o n w v N → values_of (RunGiven P segments N).draws ≡ pos n ∷ []
+  given_draws o N once h = ap (λ r. values_of (state_of r).draws) (ap (λ c. Whole P c N) (given_once once) ∙ h.is)

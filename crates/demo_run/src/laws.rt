@@ -4,11 +4,12 @@ ghost use Rattle.c_core.specs.declared.number.DataModel.TheVariants.{Ilp32};
 ghost use Rattle.c_core.specs.declared.number.Property.TheVariants.{UnreachCall};
 ghost use Rattle.c_core.specs.declared.number.Spot.{Spot};
 ghost use Rattle.check_rules.specs.Checked.{program_of};
-ghost use Rattle.way_match.specs.Verdicts.{IsGivenViolation};
+ghost use Rattle.c_meaning.specs.declared.verdict.Verdict.{Verdict};
+ghost use Rattle.way_match.specs.Verdicts.{IsGivenViolation, IsRightOnViolation};
 ghost use Rattle.wv_author.specs.Sequence.{bounds, loop_count};
 ghost use Rattle.demo_laws.specs.Bounds.{AreBounds};
 ghost use Rattle.demo_laws.specs.Source.{faulty_items};
-ghost use Rattle.demo_run.specs.Segments.{demo_segments};
+ghost use Rattle.demo_run.specs.Segments.{Confirms, demo_segments};
 ghost use Rattle.demo_run.specs.Typed.{faulty_typed};
 
 /// The faulty program of a number, checked, whatever the bounds of its loops are.
@@ -20,4 +21,10 @@ pub fn demos_have_programs()
 pub fn demos_violate()
     ensures { (n steps : ℕ) (at : Spot) → n ≤ 999999 → 100000 ≤ steps →
         IsGivenViolation (program_of Ilp32 UnreachCall (faulty_items n (bounds n loop_count))) (demo_segments n at) steps }
+{}
+
+/// So each right verdict on it confirms the violation, by the number as the one drawn value.
+pub fn demos_are_confirmed()
+    ensures { (n steps : ℕ) (at : Spot) (verdict : Verdict) → n ≤ 999999 → 100000 ≤ steps →
+        IsRightOnViolation (program_of Ilp32 UnreachCall (faulty_items n (bounds n loop_count))) (demo_segments n at) steps verdict → Confirms n verdict }
 {}
