@@ -1,10 +1,9 @@
 -- The loops of a demo run one behind another, each through its declaration, its turns and its test.
-use Rattle.std.proofs.Common.{◌≡◌, ◌<◌, ◌≤◌, ◌+◌, ◌*◌, ◌^◌, ℕ, zero, suc, pos, Bool, true, false, nat_le, List, [], ◌∷◌, ◌++◌, length, Option, refl, ap, ◌∙◌, subst, arith, le-leb, length-append}
+use Rattle.std.proofs.Common.{◌≡◌, ◌<◌, ◌≤◌, ◌+◌, ◌*◌, ◌^◌, ℕ, suc, pos, true, false, nat_le, List, [], ◌∷◌, ◌++◌, length, Option, refl, ap, ◌∙◌, arith, le-leb, length-append}
 use Rattle.std.specs.List.{AllByRecursion}
 use Rattle.c_core.specs.Types.{fit}
 use Rattle.c_core.specs.Tree.{Stms, MoreStm, Program}
 use Rattle.c_core.specs.declared.number.BinOp.TheVariants as binary
-use Rattle.c_core.specs.declared.number.DataModel.TheVariants.{Ilp32}
 use Rattle.c_core.specs.declared.number.IntType.{IntType}
 use Rattle.c_core.specs.declared.number.IntType.TheVariants.{Int}
 use Rattle.c_core.specs.declared.number.Spot.{Spot}
@@ -23,7 +22,7 @@ use Rattle.demo_run.proofs.LastCell.{key, cell, put_last}
 use Rattle.demo_run.proofs.States.{Sights, Ran, meaning, state, reached}
 use Rattle.demo_run.proofs.Evaluating.{kept, not_unequal, operated}
 use Rattle.demo_run.proofs.Executing.{first_done, passed_over, declared}
-use Rattle.demo_run.proofs.Looping.{CameTo, loop_steps, loop_steps_are, loop_runs}
+use Rattle.demo_run.proofs.Looping.{loop_steps, loop_steps_are, loop_runs}
 
 -- ---- steps
 
@@ -109,7 +108,7 @@ module _ (objects : List Object) (body : Stms) where
         let live : List Cell = cs ++ cell o (pos b) ∷ [] in
         let looped = loop_runs objects body call base result o v b few more cs (reached (w 0) cs xs) in
         let declaring = first_done objects body call base result (declaration o w) (MoreStm (counting o b v) (MoreStm test rest)) (state base (block_steps b n) cs xs) _ (zero_declared o w (suc (loop_steps b more)) cs xs one int some) in
-        let looping = first_done objects body call base result (counting o b v) (MoreStm test rest) _ _ looped.is in
+        let looping = first_done objects body call base result (counting o b v) (MoreStm test rest) (state base (suc (loop_steps b more)) (cs ++ cell o (pos 0) ∷ []) (reached (w 0) cs xs)) (state base more live looped.seen) looped.is in
         let testing = first_done objects body call base result test rest (state base more live looped.seen) _ (test_passed o u b n cs looped.seen few) in
         let size = length-append cs (cell o (pos b) ∷ []) in
         record {

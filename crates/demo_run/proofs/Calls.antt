@@ -1,14 +1,13 @@
 -- Of a demo's calls one alone is an input call, and it alone ends where the input comes back.
-use Rattle.std.proofs.Common.{◌≡◌, ◌<◌, ◌≤◌, ◌+◌, ℕ, zero, suc, Bool, true, false, nat_eq, List, [], ◌∷◌, ◌++◌, Option, Some, None, refl, ap, ◌∙◌, arith, append-nil, ne_eqb, find, flat_map, filter_map}
+use Rattle.std.proofs.Common.{◌≡◌, ◌<◌, ◌≤◌, ◌+◌, ℕ, false, nat_eq, List, [], ◌∷◌, Some, refl, ap, ◌∙◌, arith, append-nil, ne_eqb, find, flat_map, filter_map}
 use Rattle.c_core.specs.Parts.{same_spot, statements_of_block, own_fulls_of, exps_of, exps_of_program}
 use Rattle.c_core.specs.Places.{InputCall, ends_at, call_at, input_of}
-use Rattle.c_core.specs.Tree.{Exp, Stms, NoStm, MoreStm, Program}
+use Rattle.c_core.specs.Tree.{Exp, Stms, NoStm, MoreStm}
 use Rattle.c_core.specs.declared.number.BinOp.TheVariants as binary
 use Rattle.c_core.specs.declared.number.IntType.TheVariants.{Int}
 use Rattle.c_core.specs.declared.number.Spot.{Spot}
 use Rattle.c_core.specs.declared.tree.Object.{Object}
 use Rattle.way_match.specs.Given.{input_calls}
-use Rattle.demo_laws.specs.Lines.{spot}
 use Rattle.demo_laws.specs.Source.{declared_at, looped_at, tested_at, drawn_at, chosen_at, ended_at, line_behind}
 use Rattle.demo_run.specs.Typed.{declaration, counting, error_if, input, input_call, end, loops, last_statements, faulty_rest, main_alone}
 use Rattle.demo_run.proofs.Ending.{same_place}

@@ -1,5 +1,5 @@
 -- The faulty source of a demo has its typed program.
-use Rattle.std.proofs.Common.{◌≡◌, ◌<◌, ◌≤◌, ◌+◌, ◌^◌, ℕ, zero, suc, Bool, true, false, not, nat_eq, List, [], ◌∷◌, ◌++◌, length, Option, Some, None, codes, bytes_eq, refl, sym, ap, ap₂, ◌∙◌, subst, arith, append_assoc, append-nil, length-append}
+use Rattle.std.proofs.Common.{◌≡◌, ◌<◌, ◌+◌, ◌^◌, ℕ, Bool, true, false, not, nat_eq, List, [], ◌∷◌, ◌++◌, length, Some, None, codes, bytes_eq, refl, sym, ap, ap₂, ◌∙◌, subst, arith, append_assoc, append-nil, length-append}
 use Rattle.std.specs.List.{AllByRecursion}
 use Rattle.c_core.specs.Typing.{binary_type}
 use Rattle.c_core.specs.Tree.{Expr, Assign, Call, NoExp, Stmt, Do, Declare, Block, If, While, NoElse, NoStm, MoreStm, One, NoName, MoreName}
@@ -12,15 +12,15 @@ use Rattle.c_core.specs.declared.number.Spot.{Spot}
 use Rattle.c_core.specs.declared.tree.Callee.TheVariants.{Input, ReachError}
 use Rattle.c_parser.specs.Tree as raw
 use Rattle.c_parser.specs.Tree.{stms}
-use Rattle.check_rules.specs.Checked.{typed_statement, typed_block, functions_of, program_of}
+use Rattle.check_rules.specs.Checked.{typed_statement, typed_block, program_of}
 use Rattle.check_rules.specs.Names.{Entry, Object as AnObject, declared_as, named}
-use Rattle.check_rules.specs.Scopes.{Scope, scope, seen, opened, with_object, with_entry, after_block, after_items, inside, outermost, entry_of_function, entry_of_prototype}
+use Rattle.check_rules.specs.Scopes.{Scope, seen, with_object, with_entry, after_block, inside, outermost, entry_of_prototype}
 use Rattle.check_rules.specs.Typed.{typed}
 use Rattle.demo_laws.specs.Bounds.{IsBound}
 use Rattle.demo_laws.specs.DemoLines.{name}
-use Rattle.demo_laws.specs.Shapes.{name_exp, declaration_statement, while_statement, test_statement, chosen_statement, input_statement, return_statement}
+use Rattle.demo_laws.specs.Shapes.{name_exp, while_statement, test_statement, chosen_statement, input_statement, return_statement}
 use Rattle.demo_laws.specs.Source.{declared_at, looped_at, tested_at, drawn_at, chosen_at, ended_at, loop_statements, loops_statements, line_behind, faulty_last, faulty_items}
-use Rattle.demo_run.specs.Typed.{variable, constant, operation, declaration, counting, error_block, error_if, input, end, loops, last_statements, faulty_rest, local, loop_objects, faulty_objects, main_alone, faulty_typed}
+use Rattle.demo_run.specs.Typed.{variable, operation, declaration, counting, error_if, end, loops, last_statements, faulty_rest, local, loop_objects, faulty_objects, main_alone, faulty_typed}
 use Rattle.demo_run.proofs.Names.{object_entry, declared_still, named_last, reach_name, input_name, prototype, named_reach, named_input, constant_is_int}
 
 -- the functions with a body
@@ -60,7 +60,7 @@ counting_typed s x o b w is few =
 error_if_typed : (s : Scope) (op : BinOp) (x : List ℕ) (o v : ℕ) (decimal : Bool) (w : ℕ → Spot) → named (seen s) x ≡ Some (AnObject o Int false false) → declared_as (seen s) reach_name ≡ None → v < 2 ^ 31 →
     binary_type Ilp32 op Int Int ≡ Int →
     typed_statement Ilp32 bodies s (raw.Stmt (w 0) (raw.If (raw.Expr (w 2) (raw.Binary op (name_exp x (w 2)) (raw.Expr (w 4) (raw.Number v decimal false 0)))) (
-        raw.Stmt (w 6) (raw.Block (raw.MoreStm (raw.Stmt (w 7) (raw.Do (raw.Expr (w 7) (raw.Call reach_name (w 7) raw.NoExp (w 9))))) raw.NoStm))) raw.NoElse))
+    raw.Stmt (w 6) (raw.Block (raw.MoreStm (raw.Stmt (w 7) (raw.Do (raw.Expr (w 7) (raw.Call reach_name (w 7) raw.NoExp (w 9))))) raw.NoStm))) raw.NoElse))
     ≡ error_if op o v w
 error_if_typed s op x o v decimal w is none small ty =
     let inner : List Entry = (seen s ++ []) ++ [] in
@@ -108,8 +108,8 @@ ready_grown s x at o a b h = record {
 block_typed : (s : Scope) (l k o b : ℕ) (ss : List raw.Stm) → IsReady s o → b < 2 ^ 31 →
     typed_block Ilp32 bodies s (stms (loop_statements l k b ss))
     ≡ MoreStm (declaration o (declared_at l k)) (
-        MoreStm (counting o b (looped_at (l + 1) k b)) (
-            MoreStm (error_if binary.Ne o b (tested_at (l + 1 + 1 + 1 + 1) k b)) (typed_block Ilp32 bodies (grown s (name k) (declared_at l k 1)) (stms ss))))
+    MoreStm (counting o b (looped_at (l + 1) k b)) (
+    MoreStm (error_if binary.Ne o b (tested_at (l + 1 + 1 + 1 + 1) k b)) (typed_block Ilp32 bodies (grown s (name k) (declared_at l k 1)) (stms ss))))
 block_typed s l k o b ss h few =
     let w = declared_at l k in
     let v = looped_at (l + 1) k b in
@@ -139,8 +139,9 @@ loops_typed s l k o (b ∷ bs) last h fit =
 ready_behind : (s : Scope) (l k o : ℕ) (bs : List ℕ) → IsReady s o → IsReady (grown_by s l k bs) (o + length bs)
 ready_behind s l k o [] h = let same : o ≡ o + 0 = omega arith in subst (IsReady s) same h
 ready_behind s l k o (b ∷ bs) h =
+    let m = l + 1 + 1 + 1 + 1 + 1 + 1 + 1 in
     let sum : o + 1 + length bs ≡ o + length (b ∷ bs) = omega arith in
-    subst (IsReady (grown_by s l k (b ∷ bs))) sum (ready_behind _ _ (k + 1) (o + 1) bs (ready_grown s (name k) (declared_at l k 1) o refl refl h))
+    subst (IsReady (grown_by s l k (b ∷ bs))) sum (ready_behind (grown s (name k) (declared_at l k 1)) m (k + 1) (o + 1) bs (ready_grown s (name k) (declared_at l k 1) o refl refl h))
 
 objects_behind : (s : Scope) (l k : ℕ) (bs : List ℕ) → (grown_by s l k bs).objects ≡ s.objects ++ loop_objects l k bs
 objects_behind s l k [] = sym (append-nil s.objects)
@@ -166,7 +167,7 @@ last_typed s o n decimal w v u h small =
     let ready : IsReady g (o + 1) = ready_grown s (codes "y") (w 1) o refl refl h in
     let is = named_grown s (codes "y") (w 1) o h.count in
     ap (λ i. MoreStm (Stmt (w 0) (Declare (MoreName (w 1) i (One (typed Ilp32 bodies (seen g) (raw.Expr (w 3) (raw.Call input_name (w 3) raw.NoExp (w 5))))) NoName))) (
-        MoreStm (typed_statement Ilp32 bodies g (chosen_statement n decimal v)) (MoreStm (end u) NoStm))) h.count
+    MoreStm (typed_statement Ilp32 bodies g (chosen_statement n decimal v)) (MoreStm (end u) NoStm))) h.count
     ∙ ap₂ (λ e x. MoreStm (Stmt (w 0) (Declare (MoreName (w 1) o (One e) NoName))) (MoreStm x (MoreStm (end u) NoStm)))
     (input_typed (seen g) (w 3) (w 3) (w 5) ready.input) (error_if_typed g binary.Eq (codes "y") o n decimal v is ready.reach small refl)
 

@@ -1,5 +1,5 @@
 -- Behind the loops the input draws n, and the error is reached.
-use Rattle.std.proofs.Common.{◌≡◌, ◌<◌, ◌≤◌, ◌+◌, ◌^◌, ℕ, zero, suc, pos, Bool, true, false, List, [], ◌∷◌, ◌++◌, length, Option, Some, None, refl, ap, ◌∙◌, arith, eq-eqb}
+use Rattle.std.proofs.Common.{◌≡◌, ◌<◌, ◌≤◌, ◌^◌, ℕ, suc, pos, true, List, [], ◌∷◌, ◌++◌, length, Option, Some, refl, ap, ◌∙◌, eq-eqb}
 use Rattle.c_core.specs.Tree.{Stms, MoreStm, Program}
 use Rattle.c_core.specs.declared.number.BinOp.TheVariants as binary
 use Rattle.c_core.specs.declared.number.IntType.{IntType}
@@ -11,7 +11,7 @@ use Rattle.c_meaning.specs.declared.run.Choices.TheVariants.{Given}
 use Rattle.c_meaning.specs.declared.run.DrawKind.TheVariants.{Input}
 use Rattle.c_meaning.specs.declared.run.End.TheVariants.{Violated}
 use Rattle.c_meaning.specs.declared.run.Event.TheVariants.{Branch, Enter, Return, Fail}
-use Rattle.c_meaning.specs.Acts.{Go, Stop, Flow, Next}
+use Rattle.c_meaning.specs.Acts.{Go, Stop, Next}
 use Rattle.c_meaning.specs.Cells.{Cell, put}
 use Rattle.c_meaning.specs.Eval.{eval}
 use Rattle.c_meaning.specs.Exec.{exec, execs}

@@ -1,6 +1,6 @@
 -- What the expressions of a demo evaluate to, where the innermost cell is the one that they read.
-use Rattle.std.proofs.Common.{◌≡◌, ◌<◌, ◌≤◌, ◌+◌, ◌^◌, ℕ, suc, ℤ, pos, Bool, true, false, List, [], ◌∷◌, ◌++◌, Some, None, refl, ap, ◌∙◌, arith, lt-ltb, le-ltb}
-use Rattle.c_core.specs.Types.{fit, is_zero}
+use Rattle.std.proofs.Common.{◌≡◌, ◌<◌, ◌≤◌, ◌+◌, ◌^◌, ℕ, suc, ℤ, pos, false, List, [], ◌∷◌, ◌++◌, None, refl, ap, arith, lt-ltb, le-ltb}
+use Rattle.c_core.specs.Types.{fit}
 use Rattle.c_core.specs.Operators.{apply_of, is_shift}
 use Rattle.c_core.specs.Tree.{Exp, Assign, Stms, Program}
 use Rattle.c_core.specs.declared.number.BinOp.{BinOp}

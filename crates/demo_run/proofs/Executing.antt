@@ -1,7 +1,7 @@
 -- What the statements of a demo do, by what their expressions evaluate to.
-use Rattle.std.proofs.Common.{◌≡◌, ◌≤◌, ◌+◌, ℕ, suc, ℤ, pos, Bool, true, false, cond, not, nat_le, List, [], ◌∷◌, ◌++◌, length, take, Option, Some, None, refl, ap, ◌∙◌}
+use Rattle.std.proofs.Common.{◌≡◌, ◌+◌, ℕ, suc, ℤ, pos, true, false, cond, not, nat_le, List, [], ◌∷◌, ◌++◌, length, take, Option, refl, ap}
 use Rattle.c_core.specs.Types.{fit, is_zero}
-use Rattle.c_core.specs.Tree.{Exp, Stm, Stmt, Do, Declare, Block, If, While, NoElse, One, NoName, MoreName, Stms, NoStm, MoreStm, Program}
+use Rattle.c_core.specs.Tree.{Exp, Stm, Stmt, Do, Declare, Block, If, While, NoElse, One, NoName, MoreName, Stms, MoreStm, Program}
 use Rattle.c_core.specs.declared.number.DataModel.TheVariants.{Ilp32}
 use Rattle.c_core.specs.declared.number.IntType.{IntType}
 use Rattle.c_core.specs.declared.number.IntType.TheVariants.{Int}

@@ -1,5 +1,5 @@
 -- The last of the live cells is the innermost of its object.
-use Rattle.std.proofs.Common.{◌≡◌, ℕ, suc, ℤ, true, List, [], ◌∷◌, ◌++◌, length, take, refl, ap, ◌∙◌, eq-eqb}
+use Rattle.std.proofs.Common.{◌≡◌, ℕ, ℤ, true, List, [], ◌∷◌, ◌++◌, length, take, refl, ap, ◌∙◌, eq-eqb}
 use Rattle.std.proofs.Math.Bool.{or-true}
 use Rattle.c_meaning.specs.Cells.{Key, Cell, same_key, live, read, put}
 

@@ -1,7 +1,7 @@
 -- A loop of a demo counts up to its bound, ten steps a turn.
-use Rattle.std.proofs.Common.{◌≡◌, ◌<◌, ◌≤◌, ◌+◌, ◌*◌, ◌^◌, ℕ, zero, suc, pos, Bool, true, false, List, [], ◌∷◌, ◌++◌, length, take, Option, Some, None, refl, ap, ◌∙◌, subst, arith}
+use Rattle.std.proofs.Common.{◌≡◌, ◌<◌, ◌+◌, ◌*◌, ◌^◌, ℕ, zero, suc, pos, true, false, List, [], ◌∷◌, ◌++◌, length, take, Option, None, refl, ap, ◌∙◌, subst, arith}
 use Rattle.c_core.specs.Types.{fit}
-use Rattle.c_core.specs.Tree.{Exp, Assign, Stms, NoStm, MoreStm, Program}
+use Rattle.c_core.specs.Tree.{Assign, Stms, NoStm, MoreStm, Program}
 use Rattle.c_core.specs.declared.number.BinOp.TheVariants as binary
 use Rattle.c_core.specs.declared.number.DataModel.TheVariants.{Ilp32}
 use Rattle.c_core.specs.declared.number.IntType.{IntType}
@@ -18,7 +18,7 @@ use Rattle.c_meaning.specs.Meaning.{Meaning, Where, Calls, Loop, WhileLoop}
 use Rattle.c_meaning.specs.Run.{Told, State, cells_of, with_cells, turns}
 use Rattle.demo_run.specs.Typed.{int_exp, variable, operation, step, step_block, counting, main_alone}
 use Rattle.demo_run.proofs.LastCell.{key, cell, take_last, stored_last}
-use Rattle.demo_run.proofs.States.{Sights, Ran, meaning, state, reached, branched, headed}
+use Rattle.demo_run.proofs.States.{Sights, Ran, meaning, state, reached, headed}
 use Rattle.demo_run.proofs.Evaluating.{kept, below, not_below, one_more, operated, assigned}
 use Rattle.demo_run.proofs.Executing.{done, blocked, first_done, decided, continued, turn_goes, turn_leaves, looped}
 

@@ -1,23 +1,22 @@
 -- The run of a demo's faulty program passes the segments of its witness.
-use Rattle.std.proofs.Common.{◌≡◌, ◌<◌, ◌≤◌, ◌+◌, ◌^◌, ◌⊎◌, inl, ℕ, zero, suc, pos, Bool, true, false, List, [], ◌∷◌, ◌++◌, length, reverse, Option, Some, None, slice_get, refl, sym, ap, ◌∙◌, subst, arith, suc-add, zero-add, length-append, le-ltb}
-use mathlib.Core.List.{reverse_aux, reverse_aux-eq}
+use Rattle.std.proofs.Common.{◌≡◌, ◌<◌, ◌≤◌, ◌+◌, ◌^◌, inl, ℕ, pos, true, false, List, [], ◌∷◌, ◌++◌, length, reverse, Option, Some, None, slice_get, refl, sym, ap, ◌∙◌, subst, arith, suc-add, zero-add, length-append, le-ltb}
+use mathlib.Core.List.{reverse_aux-eq}
 use Rattle.c_core.specs.Places.{call_at}
 use Rattle.c_core.specs.Tree.{Stms, Program}
 use Rattle.c_core.specs.declared.number.Spot.{Spot}
 use Rattle.c_core.specs.declared.tree.Object.{Object}
-use Rattle.c_meaning.specs.declared.run.End.TheVariants.{Violated}
 use Rattle.c_meaning.specs.declared.run.Event.TheVariants as event
-use Rattle.c_meaning.specs.Acts.{Stop}
+use Rattle.c_meaning.specs.Acts.{Flow}
 use Rattle.c_meaning.specs.Cells.{Cell}
 use Rattle.c_meaning.specs.Replay.{values_of}
 use Rattle.c_meaning.specs.Run.{Moment, Told, Here, Head, Whole, end_of, state_of}
 use Rattle.way_match.specs.Given.{RunGiven, given_by, input_calls}
 use Rattle.way_match.specs.Matching.{Seen, seen_of, seen_passes, seen_passes_any, Matches}
-use Rattle.way_match.specs.Points.{Point, BoundSegment}
+use Rattle.way_match.specs.Points.{BoundSegment}
 use Rattle.way_match.specs.Verdicts.{IsGivenViolation}
 use Rattle.demo_run.specs.Typed.{input_call, main_alone}
 use Rattle.demo_run.specs.Segments.{gives, violates, segments_at}
-use Rattle.demo_run.proofs.States.{Sights}
+use Rattle.demo_run.proofs.States.{Sights, Ran}
 use Rattle.demo_run.proofs.Evaluating.{kept}
 use Rattle.demo_run.proofs.Ending.{same_place, one_input, with_y, last_seen}
 use Rattle.demo_run.proofs.Calls.{one_call}
@@ -79,8 +78,7 @@ module _ (objects : List Object) (body : Stms) (n : ℕ) (at : Spot) (w v : ℕ 
       let after : List Seen = seen_of (in_order o n w v cs) in
       let m = length before in
       let size = length-append before after in
-      let nine : length after ≡ 9 = refl in
-      (
+      let nine : length after ≡ 9 = refl in (
         ap (λ s. seen_passes P s (gives n at (w 5)).follow) (slice_behind before after 2) ∙ returns (with_y o 0 cs),
         inl (omega arith),
         (λ i low high. none_avoided P (slice_get (before ++ after) i)),
@@ -95,7 +93,7 @@ module _ (objects : List Object) (body : Stms) (n : ℕ) (at : Spot) (w v : ℕ 
   pub given_violates : (o N : ℕ) → input_calls P ≡ one_call (w 3) ∷ [] → Violates P o n w v N → IsGivenViolation P segments N
   given_violates o N once h =
       let run = ap (λ c. Whole P c N) (given_once once) ∙ h.is in
-      let events = ap (λ r. seen_of (reverse (state_of r).seen)) run ∙ split o n w v h.cells h.front in
+      let events = ap (λ (r : Ran Flow). seen_of (reverse (state_of r).seen)) run ∙ split o n w v h.cells h.front in
       let before = seen_of (reverse h.front) in
       record {
         violated = (v 7, ap end_of run);
@@ -107,4 +105,4 @@ module _ (objects : List Object) (body : Stms) (n : ℕ) (at : Spot) (w v : ℕ 
 
   -- and draws n alone
   pub given_draws : (o N : ℕ) → input_calls P ≡ one_call (w 3) ∷ [] → Violates P o n w v N → values_of (RunGiven P segments N).draws ≡ pos n ∷ []
-  given_draws o N once h = ap (λ r. values_of (state_of r).draws) (ap (λ c. Whole P c N) (given_once once) ∙ h.is)
+  given_draws o N once h = ap (λ (r : Ran Flow). values_of (state_of r).draws) (ap (λ c. Whole P c N) (given_once once) ∙ h.is)

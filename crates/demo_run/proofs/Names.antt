@@ -1,5 +1,5 @@
 -- What the words of a demo's programs stand for.
-use Rattle.std.proofs.Common.{◌≡◌, ◌<◌, ◌^◌, ℕ, zero, suc, Bool, true, false, cond, List, [], ◌∷◌, ◌++◌, Option, Some, None, codes, bytes_eq, refl, ap, ◌∙◌, eq-eqb, lt-ltb}
+use Rattle.std.proofs.Common.{◌≡◌, ◌<◌, ◌^◌, ℕ, Bool, true, false, cond, List, [], ◌∷◌, ◌++◌, Option, Some, None, codes, bytes_eq, refl, ap, ◌∙◌, eq-eqb, lt-ltb}
 use Rattle.c_core.specs.declared.number.DataModel.TheVariants.{Ilp32}
 use Rattle.c_core.specs.declared.number.IntType.TheVariants.{Int}
 use Rattle.c_core.specs.declared.tree.Callee.TheVariants.{Input, ReachError}

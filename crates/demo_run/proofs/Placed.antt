@@ -1,17 +1,16 @@
 -- Where the waypoints of a demo's violation witness lie in its program.
-use Rattle.std.proofs.Common.{◌≡◌, ◌<◌, ◌≤◌, ◌+◌, ℕ, zero, suc, Bool, true, false, ◌&&◌, ◌||◌, nat_eq, List, [], ◌∷◌, ◌++◌, filter, Option, Some, None, refl, sym, ap, ◌∙◌, subst, arith, append-nil, eq-eqb, ne_eqb}
+use Rattle.std.proofs.Common.{◌≡◌, ◌<◌, ◌≤◌, ◌+◌, ℕ, Bool, true, false, ◌||◌, nat_eq, List, [], ◌∷◌, ◌++◌, filter, Some, refl, ap, ◌∙◌, arith, append-nil, eq-eqb, ne_eqb}
 use Rattle.std.proofs.Math.Bool.{or-true}
 use Rattle.std.specs.List.{list_any}
-use Rattle.c_core.specs.Places.{place_at, aim_fits, aims_of, is_named, leftmost, of_kind, places_of, places_of_block, spots_of_kind}
-use Rattle.c_core.specs.Tree.{Stms, NoStm, MoreStm}
+use Rattle.c_core.specs.Places.{place_at, aim_fits, is_named, leftmost, of_kind, places_of_block, spots_of_kind}
+use Rattle.c_core.specs.Tree.{Stms, MoreStm}
 use Rattle.c_core.specs.declared.number.BinOp.TheVariants as binary
 use Rattle.c_core.specs.declared.number.Spot.{Spot}
 use Rattle.c_core.specs.declared.place.PlaceKind.{PlaceKind}
 use Rattle.c_core.specs.declared.place.PlaceKind.TheVariants.{Statement, CallEnd}
 use Rattle.c_core.specs.declared.tree.Object.{Object}
-use Rattle.demo_laws.specs.Lines.{spot}
 use Rattle.demo_laws.specs.Source.{declared_at, looped_at, tested_at, drawn_at, chosen_at, ended_at, line_behind}
-use Rattle.demo_run.specs.Typed.{declaration, counting, error_if, loops, last_statements, faulty_rest, main_alone}
+use Rattle.demo_run.specs.Typed.{declaration, counting, error_if, loops, faulty_rest, main_alone}
 use Rattle.demo_run.proofs.Calls.{line_grows, call_line}
 
 -- the places of a kind in a block
@@ -65,13 +64,13 @@ any_behind : {A : Type 0} (q : A → Bool) (xs ys : List A) → list_any q ys �
 any_behind q [] ys h = h
 any_behind q (x ∷ xs) ys h = ap (λ b. q x || b) (any_behind q xs ys h) ∙ or-true (q x)
 
+or_still : (b c d : Bool) → (b || c) ≡ true → (c ≡ true → d ≡ true) → (b || d) ≡ true
+or_still true c d h more = refl
+or_still false c d h more = more h
+
 any_before : {A : Type 0} (q : A → Bool) (xs ys : List A) → list_any q xs ≡ true → list_any q (xs ++ ys) ≡ true
 any_before q [] ys h = let e : false ≡ true = h in absurd (cc)
-any_before q (x ∷ xs) ys h = by (q x) h
-  where
-    by : (b : Bool) → (b || list_any q xs) ≡ true → (b || list_any q (xs ++ ys)) ≡ true
-    by true e = refl
-    by false e = any_before q xs ys e
+any_before q (x ∷ xs) ys h = or_still (q x) (list_any q xs) (list_any q (xs ++ ys)) h (λ e. any_before q xs ys e)
 
 loops_before : (q : Spot → Bool) (l k o : ℕ) (bs : List ℕ) (rest : Stms) → list_any q (spots_in_block Statement rest) ≡ true → list_any q (spots_in_block Statement (loops l k o bs rest)) ≡ true
 loops_before q l k o [] rest h = h

@@ -1,26 +1,24 @@
 -- The whole run of a demo's faulty program.
-use Rattle.std.proofs.Common.{◌≡◌, ◌<◌, ◌≤◌, ◌+◌, ◌-◌, ◌*◌, ◌^◌, ℕ, zero, suc, ℤ, pos, Bool, true, false, cond, List, [], ◌∷◌, ◌++◌, length, Option, Some, None, slice_get, codes, refl, sym, ap, ◌∙◌, subst, subst₂, arith, append_assoc, length-append}
+use Rattle.std.proofs.Common.{◌≡◌, ◌<◌, ◌≤◌, ◌+◌, ◌-◌, ◌^◌, ℕ, suc, List, [], ◌∷◌, ◌++◌, length, Some, slice_get, codes, refl, sym, ap, ◌∙◌, subst₂, arith, append_assoc, length-append}
 use Rattle.std.specs.List.{AllByRecursion}
 use Rattle.c_core.specs.Tree.{Stms, NoStm, MoreStm, Program}
-use Rattle.c_core.specs.declared.number.IntType.{IntType}
 use Rattle.c_core.specs.declared.number.IntType.TheVariants.{Int}
 use Rattle.c_core.specs.declared.number.Spot.{Spot}
 use Rattle.c_core.specs.declared.tree.Object.{Object}
-use Rattle.c_meaning.specs.declared.run.Choices.{Choices}
 use Rattle.c_meaning.specs.declared.run.End.{End}
 use Rattle.c_meaning.specs.declared.run.End.TheVariants.{Violated}
-use Rattle.c_meaning.specs.Acts.{Go, Stop, Flow}
+use Rattle.c_meaning.specs.Acts.{Stop}
 use Rattle.c_meaning.specs.Cells.{Cell}
-use Rattle.c_meaning.specs.Exec.{exec, execs, call_of, run_in}
-use Rattle.c_meaning.specs.Meaning.{Meaning, Site, Calls}
+use Rattle.c_meaning.specs.Exec.{execs, call_of, run_in}
+use Rattle.c_meaning.specs.Meaning.{Calls}
 use Rattle.c_meaning.specs.Objects.{type_in, size_in}
 use Rattle.c_meaning.specs.Run.{State, Whole, first_cells, static_cells}
 use Rattle.demo_laws.specs.Bounds.{IsBound}
 use Rattle.demo_laws.specs.DemoLines.{name}
 use Rattle.demo_laws.specs.Source.{declared_at, drawn_at, chosen_at, ended_at, line_behind}
 use Rattle.demo_run.specs.Typed.{local, loop_objects, loops, faulty_rest, end, main_alone}
-use Rattle.demo_run.proofs.States.{Sights, Ran, meaning, state}
-use Rattle.demo_run.proofs.Blocks.{all_steps, all_steps_are, taken_by, few_steps, AreInts, Reaches, loops_run}
+use Rattle.demo_run.proofs.States.{Sights, meaning, state}
+use Rattle.demo_run.proofs.Blocks.{all_steps, all_steps_are, taken_by, few_steps, AreInts, loops_run}
 use Rattle.demo_run.proofs.Ending.{one_input, undrawn, drawn, with_y, last_seen, rest_stops}
 
 -- ---- objects
@@ -43,8 +41,7 @@ loops_are_ints body before l k (b ∷ bs) rest =
     let here : Object = local (name k) (declared_at l k 1) in
     let others : List Object = loop_objects m (k + 1) bs ++ rest in
     let is = local_is_int (before ++ here ∷ others) body (length before) (name k) (declared_at l k 1) (slice_here before others here) in
-    let more = loops_are_ints body (before ++ here ∷ []) m (k + 1) bs rest in
-    (
+    let more = loops_are_ints body (before ++ here ∷ []) m (k + 1) bs rest in (
       is.0,
       is.1,
       subst₂ (λ os o. AreInts (main_alone os body) o bs) (append_assoc before (here ∷ []) others) (length-append before (here ∷ [])) more,

@@ -1,11 +1,10 @@
 -- Runs of a program of `main` alone: their states, and what is seen in them.
-use Rattle.std.proofs.Common.{ℕ, Bool, List, [], ◌∷◌, Option}
-use Rattle.c_core.specs.Tree.{Stms, Program}
+use Rattle.std.proofs.Common.{ℕ, Bool, List, ◌∷◌}
+use Rattle.c_core.specs.Tree.{Program}
 use Rattle.c_core.specs.declared.number.Spot.{Spot}
-use Rattle.c_core.specs.declared.tree.Object.{Object}
 use Rattle.c_meaning.specs.declared.run.End.{End}
 use Rattle.c_meaning.specs.declared.run.Event.TheVariants.{At, Branch}
-use Rattle.c_meaning.specs.Acts.{Res, Flow}
+use Rattle.c_meaning.specs.Acts.{Res}
 use Rattle.c_meaning.specs.Cells.{Cell}
 use Rattle.c_meaning.specs.Meaning.{Meaning}
 use Rattle.c_meaning.specs.Run.{Moment, Told, Here, Head, State, real}

@@ -1,6 +1,6 @@
 -- The typed program of a demo that has an input: its statements, loop by loop, with the numbers of its objects.
-use Rattle.std.specs.Prelude.{ℕ, zero, suc, ◌+◌, pos, false, List, [], ◌∷◌, ◌++◌, length, Some, None, codes}
-use Rattle.c_core.specs.Tree.{Exp, Expr, Node, Const, Var, Binary, Assign, Call, NoExp, One, NoName, MoreName, Stm, Stmt, Do, Declare, Block, If, While, Return, NoElse, Stms, NoStm, MoreStm, Function, Program}
+use Rattle.std.specs.Prelude.{ℕ, ◌+◌, pos, false, List, [], ◌∷◌, ◌++◌, length, Some, None, codes}
+use Rattle.c_core.specs.Tree.{Exp, Expr, Node, Const, Var, Binary, Assign, Call, NoExp, One, NoName, MoreName, Stm, Stmt, Do, Declare, Block, If, While, Return, NoElse, Stms, NoStm, MoreStm, Program}
 use Rattle.c_core.specs.declared.number.BinOp.{BinOp}
 use Rattle.c_core.specs.declared.number.BinOp.TheVariants as binary
 use Rattle.c_core.specs.declared.number.DataModel.TheVariants.{Ilp32}
@@ -76,8 +76,8 @@ abbrev pub loops : ℕ → ℕ → ℕ → List ℕ → Stms → Stms
 loops l k o [] rest = rest
 loops l k o (b ∷ bs) rest =
     MoreStm (declaration o (declared_at l k)) (
-        MoreStm (counting o b (looped_at (l + 1) k b)) (
-            MoreStm (error_if binary.Ne o b (tested_at (l + 1 + 1 + 1 + 1) k b)) (loops (l + 1 + 1 + 1 + 1 + 1 + 1 + 1) (k + 1) (o + 1) bs rest)))
+    MoreStm (counting o b (looped_at (l + 1) k b)) (
+    MoreStm (error_if binary.Ne o b (tested_at (l + 1 + 1 + 1 + 1) k b)) (loops (l + 1 + 1 + 1 + 1 + 1 + 1 + 1) (k + 1) (o + 1) bs rest)))
 
 -- y is drawn and compared with n, and the program ends
 abbrev pub last_statements : ℕ → ℕ → (ℕ → Spot) → (ℕ → Spot) → (ℕ → Spot) → Stms
