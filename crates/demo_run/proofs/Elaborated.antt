@@ -1,4 +1,4 @@
--- The faulty source of a demo has its typed program.
+-- The sources of a demo have their typed programs.
 use Rattle.std.proofs.Common.{◌≡◌, ◌<◌, ◌+◌, ◌^◌, ℕ, Bool, true, false, not, nat_eq, List, [], ◌∷◌, ◌++◌, length, Some, None, codes, bytes_eq, refl, sym, ap, ap₂, ◌∙◌, subst, arith, append_assoc, append-nil, length-append}
 use Rattle.std.specs.List.{AllByRecursion}
 use Rattle.c_core.specs.Typing.{binary_type}
@@ -19,8 +19,8 @@ use Rattle.check_rules.specs.Typed.{typed}
 use Rattle.demo_laws.specs.Bounds.{IsBound}
 use Rattle.demo_laws.specs.DemoLines.{name}
 use Rattle.demo_laws.specs.Shapes.{name_exp, while_statement, test_statement, chosen_statement, input_statement, return_statement}
-use Rattle.demo_laws.specs.Source.{declared_at, looped_at, tested_at, drawn_at, chosen_at, ended_at, loop_statements, loops_statements, line_behind, faulty_last, faulty_items}
-use Rattle.demo_run.specs.Typed.{variable, operation, declaration, counting, error_if, end, loops, last_statements, faulty_rest, local, loop_objects, faulty_objects, main_alone, faulty_typed}
+use Rattle.demo_laws.specs.Source.{declared_at, looped_at, tested_at, drawn_at, chosen_at, ended_at, loop_statements, loops_statements, line_behind, correct_last, faulty_last, correct_items, faulty_items}
+use Rattle.demo_run.specs.Typed.{variable, operation, declaration, counting, error_if, end, loops, last_statements, faulty_rest, local, loop_objects, faulty_objects, main_alone, correct_typed, faulty_typed}
 use Rattle.demo_run.proofs.Names.{object_entry, declared_still, named_last, reach_name, input_name, prototype, named_reach, named_input, constant_is_int}
 
 -- the functions with a body
@@ -197,3 +197,8 @@ body_objects n bs =
 
 pub faulty_program_of : (n : ℕ) (bs : List ℕ) → n < 2 ^ 31 → AllByRecursion IsBound bs → program_of Ilp32 UnreachCall (faulty_items n bs) ≡ faulty_typed n bs
 faulty_program_of n bs small fit = ap₂ main_alone (body_objects n bs) (body_typed n bs small fit)
+
+pub correct_program_of : (bs : List ℕ) → AllByRecursion IsBound bs → program_of Ilp32 UnreachCall (correct_items bs) ≡ correct_typed bs
+correct_program_of bs fit =
+    let last = correct_last (line_behind 4 bs) in
+    ap₂ main_alone (ap (λ (s : Scope). s.objects) (after_loops start 4 1 bs last) ∙ objects_behind start 4 1 bs) (loops_typed start 4 1 0 bs last start_ready fit)

@@ -10,5 +10,4 @@ pub mod Running
 pub mod Matched
 pub mod Names
 pub mod Elaborated
-pub mod Placed
 pub mod Violated

@@ -15,11 +15,11 @@ use Rattle.way_match.specs.Verdicts.{IsGivenViolation, IsRightAt, IsRightOnViola
 use Rattle.wv_author.specs.Sequence.{bound, bounds, loop_count, sequence}
 use Rattle.demo_laws.specs.Bounds.{IsBound, AreBounds}
 use Rattle.demo_laws.specs.Lines.{spot}
-use Rattle.demo_laws.specs.Source.{drawn_at, chosen_at, faulty_items, line_behind}
+use Rattle.demo_laws.specs.Source.{drawn_at, chosen_at, correct_items, faulty_items, line_behind}
 use Rattle.demo_run.specs.Segments.{Confirms, segments_at, demo_segments}
-use Rattle.demo_run.specs.Typed.{faulty_objects, faulty_rest, faulty_typed, loops}
+use Rattle.demo_run.specs.Typed.{faulty_objects, faulty_rest, correct_typed, faulty_typed, loops}
 use Rattle.demo_run.proofs.Calls.{call_there, drawn_once}
-use Rattle.demo_run.proofs.Elaborated.{faulty_program_of}
+use Rattle.demo_run.proofs.Elaborated.{correct_program_of, faulty_program_of}
 use Rattle.demo_run.proofs.Matched.{given_violates, given_draws}
 use Rattle.demo_run.proofs.Running.{run_violates}
 
@@ -85,8 +85,11 @@ typed_violates n bs at steps small fit few enough =
 places : (n : ℕ) (at : Spot) (m : ℕ) → m ≡ 284 → segments_at n at (drawn_at m 5) (chosen_at (m + 1) n 7) ≡ demo_segments n at
 places n at m h = ap (λ l. segments_at n at (spot l 33) (spot (l + 1 + 1) 5)) h
 
-pub checked : (n : ℕ) (bs : List ℕ) → n ≤ 999999 → AreBounds bs → program_of Ilp32 UnreachCall (faulty_items n bs) ≡ faulty_typed n bs
-checked n bs small fit = faulty_program_of n bs (omega (arith, small)) fit.each
+pub faulty_checked : (n : ℕ) (bs : List ℕ) → n ≤ 999999 → AreBounds bs → program_of Ilp32 UnreachCall (faulty_items n bs) ≡ faulty_typed n bs
+faulty_checked n bs small fit = faulty_program_of n bs (omega (arith, small)) fit.each
+
+pub correct_checked : (bs : List ℕ) → AreBounds bs → program_of Ilp32 UnreachCall (correct_items bs) ≡ correct_typed bs
+correct_checked bs fit = correct_program_of bs fit.each
 
 demo_is_violated : (n steps : ℕ) (at : Spot) → n ≤ 999999 → 100000 ≤ steps → IsViolated (program_of Ilp32 UnreachCall (faulty_items n (bounds n loop_count))) (demo_segments n at) n steps
 demo_is_violated n steps at small enough =

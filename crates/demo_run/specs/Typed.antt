@@ -1,4 +1,4 @@
--- The typed program of a demo that has an input: its statements, loop by loop, with the numbers of its objects.
+-- The typed programs of a demo: their statements, loop by loop, with the numbers of their objects.
 use Rattle.std.specs.Prelude.{ℕ, ◌+◌, pos, false, List, [], ◌∷◌, ◌++◌, length, Some, None, codes}
 use Rattle.c_core.specs.Tree.{Exp, Expr, Node, Const, Var, Binary, Assign, Call, NoExp, One, NoName, MoreName, Stm, Stmt, Do, Declare, Block, If, While, Return, NoElse, Stms, NoStm, MoreStm, Program}
 use Rattle.c_core.specs.declared.number.BinOp.{BinOp}
@@ -113,3 +113,7 @@ faulty_objects bs = loop_objects 4 1 bs ++ local (codes "y") (drawn_at (line_beh
 -- the program whose loops have these bounds and whose input reaches the error where it is n
 abbrev pub faulty_typed : ℕ → List ℕ → Program
 faulty_typed n bs = main_alone (faulty_objects bs) (loops 4 1 0 bs (faulty_rest (line_behind 4 bs) (length bs) n))
+
+-- the program that has the loops alone
+abbrev pub correct_typed : List ℕ → Program
+correct_typed bs = main_alone (loop_objects 4 1 bs) (loops 4 1 0 bs (MoreStm (end (ended_at (line_behind 4 bs))) NoStm))

@@ -8,16 +8,17 @@ ghost use Rattle.c_meaning.specs.declared.verdict.Verdict.{Verdict};
 ghost use Rattle.way_match.specs.Verdicts.{IsGivenViolation, IsRightOnViolation};
 ghost use Rattle.wv_author.specs.Sequence.{bounds, loop_count};
 ghost use Rattle.demo_laws.specs.Bounds.{AreBounds};
-ghost use Rattle.demo_laws.specs.Source.{faulty_items};
+ghost use Rattle.demo_laws.specs.Source.{correct_items, faulty_items};
 ghost use Rattle.demo_run.specs.Segments.{Confirms, demo_segments};
-ghost use Rattle.demo_run.specs.Typed.{faulty_typed};
+ghost use Rattle.demo_run.specs.Typed.{correct_typed, faulty_typed};
 
-/// The faulty program of a number, checked, whatever the bounds of its loops are.
+/// The checked programs of a demo's sources, whatever the bounds of their loops are.
 pub fn demos_have_programs()
-    ensures { (n : ℕ) (bs : List ℕ) → n ≤ 999999 → AreBounds bs → program_of Ilp32 UnreachCall (faulty_items n bs) ≡ faulty_typed n bs }
+    ensures correct { (bs : List ℕ) → AreBounds bs → program_of Ilp32 UnreachCall (correct_items bs) ≡ correct_typed bs }
+    ensures faulty { (n : ℕ) (bs : List ℕ) → n ≤ 999999 → AreBounds bs → program_of Ilp32 UnreachCall (faulty_items n bs) ≡ faulty_typed n bs }
 {}
 
-/// With 100,000 steps or more its given run violates the property, and passes the segments of the violation witness.
+/// With 100,000 steps or more the given run of the faulty program violates the property, and passes the segments of the violation witness.
 pub fn demos_violate()
     ensures { (n steps : ℕ) (at : Spot) → n ≤ 999999 → 100000 ≤ steps →
         IsGivenViolation (program_of Ilp32 UnreachCall (faulty_items n (bounds n loop_count))) (demo_segments n at) steps }
