@@ -3,4 +3,4 @@
 
 mod laws;
 
-pub use laws::{demos_are_confirmed, demos_have_programs, demos_violate};
+pub use laws::{demos_are_confirmed, demos_are_typed, demos_violate};

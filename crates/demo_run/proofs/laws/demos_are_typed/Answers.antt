@@ -1,5 +1,5 @@
 use Rattle.demo_run.proofs.Violated.{correct_checked, faulty_checked}
-use Rattle.demo_run.proofs.laws.demos_have_programs.Goals as goal
+use Rattle.demo_run.proofs.laws.demos_are_typed.Goals as goal
 
 pub returns-clause-correct : goal.returns-clause-correct
 returns-clause-correct c = correct_checked
