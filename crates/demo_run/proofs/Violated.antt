@@ -37,7 +37,7 @@ unfolding bounds
 bounds_are n zero = tt
 bounds_are n (suc k) = joined (bounds n k) (bound (sequence n (suc k)) ∷ []) (bounds_are n k) (bound_is_one (sequence n (suc k)), tt)
 
-bounds_count : (n k : ℕ) → length (bounds n k) ≡ k
+pub bounds_count : (n k : ℕ) → length (bounds n k) ≡ k
 unfolding bounds
 bounds_count n zero = refl
 bounds_count n (suc k) = let few = bounds_count n k in length-append (bounds n k) (bound (sequence n (suc k)) ∷ []) ∙ omega (arith, few)
