@@ -7,7 +7,7 @@ use Rattle.c_parser.specs.ReadExpressions.{Read}
 use Rattle.c_parser.specs.ReadStatements.{elements}
 use Rattle.demo_laws.specs.DemoLines.{name}
 use Rattle.demo_laws.specs.Source.{loop_tokens, loops_tokens, loop_statements, loops_statements}
-use Rattle.demo_laws.proofs.Grammar2.{one, onto, loop_read}
+use Rattle.demo_laws.proofs.Grammar.{one, onto, loop_read}
 
 -- what follows loops is no `else`
 behind_no_else : (l k : ℕ) (bs : List ℕ) (rest : List Token) → is_word (codes "else") rest ≡ false → is_word (codes "else") (loops_tokens l k bs ++ rest) ≡ false

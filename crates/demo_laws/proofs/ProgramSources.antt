@@ -19,7 +19,7 @@ use Rattle.demo_laws.specs.Lines.{tokens_from}
 use Rattle.demo_laws.specs.Shapes.{mark, end_tokens, return_statement, input_tokens, input_statement, chosen_tokens, chosen_statement, reach_tokens, prototype_tokens, prototype_item, main_tokens, main_item}
 use Rattle.demo_laws.specs.Source.{loops_tokens, loops_statements, line_behind, ended_at, drawn_at, chosen_at, reached_at, prototype_at, main_at, correct_end, faulty_end, correct_last, faulty_last, program_tokens, program_items, correct_items, faulty_items}
 use Rattle.demo_laws.proofs.Bodies.{loops_read, loops_size}
-use Rattle.demo_laws.proofs.Grammar2.{one, one_more, onto, loops_lexed}
+use Rattle.demo_laws.proofs.Grammar.{one, one_more, onto, loops_lexed}
 
 -- ---- the statements behind the loops
 

@@ -1,0 +1,6 @@
+pub mod Quiet
+pub mod Names
+mod Fine
+mod Expressions
+mod Statements
+mod Programs
