@@ -79,27 +79,33 @@ module _ (ss : List Stm) where
   variable_quiet : (es : List Entry) (x : List ℕ) (p w : Spot) → AreQuiet Ilp32 (items ss) (parts es Value (Expr p (Var x w)))
   variable_quiet es x p w = record { stores = λ test. (refl, tt); calls = λ k. (refl, tt) }
 
+  nothing_quiet : AreQuiet Ilp32 (items ss) []
+  nothing_quiet = record { stores = λ test. tt; calls = λ k. tt }
+
   compared_quiet : (o : BinOp) (es : List Entry) (x : List ℕ) (v : ℕ) (d : Bool) (p q r w : Spot) → AreQuiet Ilp32 (items ss) (parts es Value (compared o x v d p q r w))
   compared_quiet o es x v d p q r w = record { stores = λ test. (refl, (refl, (refl, tt))); calls = λ k. (refl, (refl, (refl, tt))) }
+
+  compared_order : (es : List Entry) (x : List ℕ) (v : ℕ) (d : Bool) (q r w : Spot) → SomePair Ilp32 (items ss) (parts es Value (Expr q (Var x w)) ∷ parts es Value (Expr r (Number v d false 0)) ∷ []) ⊎ ⊥ → ⊥
+  compared_order es x v d q r w (inl pair) =
+      all_in_any_order Ilp32 (items ss) (parts es Value (Expr q (Var x w)) ∷ parts es Value (Expr r (Number v d false 0)) ∷ [])
+      (variable_quiet es x q w, (number_quiet es v d r, tt)) pair
+  compared_order es x v d q r w (inr none) = none
 
   pub compared_fine : (o : BinOp) (es : List Entry) (x : List ℕ) (n v : ℕ) (d : Bool) (p q r w : Spot) → named es x ≡ Some (Object n Int false false) → v < 2 ^ 31 →
       AllByRecursion (IsFine ss) (parts es Value (compared o x v d p q r w))
   compared_fine o es x n v d p q r w e small = (
-    record { known = refl; once = refl; typed = refl; sized = refl; ordered = in_order; bodied = refl; few = refl },
+    record { known = refl; once = refl; typed = refl; sized = refl; ordered = compared_order es x v d q r w; bodied = refl; few = refl },
     (variable_fine es x n q w e, (number_fine es v d r small, tt)),
   )
-    where
-      in_order : SomePair Ilp32 (items ss) (parts es Value (Expr q (Var x w)) ∷ parts es Value (Expr r (Number v d false 0)) ∷ []) ⊎ ⊥ → ⊥
-      in_order (inl pair) = all_in_any_order Ilp32 (items ss) _ (variable_quiet es x q w, (number_quiet es v d r, tt)) pair
-      in_order (inr none) = none
 
   step_order : (es : List Entry) (x : List ℕ) (p q r : Spot) →
       SomePair Ilp32 (items ss) ([] ∷ parts es Value (compared op.Add x 1 true q q r q) ∷ [])
       ⊎ IsStoredTwice Ilp32 (items ss) es (Assign None (Expr p (Var x p)) (compared op.Add x 1 true q q r q))
       → ⊥
   step_order es x p q r (inl pair) =
-      all_in_any_order Ilp32 (items ss) _ (record { stores = λ test. tt; calls = λ k. tt }, (compared_quiet op.Add es x 1 true q q r q, tt)) pair
-  step_order es x p q r (inr (inl h)) = changes_nothing Ilp32 (items ss) h.object [] (record { stores = λ test. tt; calls = λ k. tt }) h.changed
+      all_in_any_order Ilp32 (items ss) ([] ∷ parts es Value (compared op.Add x 1 true q q r q) ∷ [])
+      (nothing_quiet, (compared_quiet op.Add es x 1 true q q r q, tt)) pair
+  step_order es x p q r (inr (inl h)) = changes_nothing Ilp32 (items ss) h.object [] nothing_quiet h.changed
   step_order es x p q r (inr (inr h)) =
       none_passes (changes (is_object h.object)) (parts es Value (compared op.Add x 1 true q q r q)) ((compared_quiet op.Add es x 1 true q q r q).stores (is_object h.object)) h.changed
 

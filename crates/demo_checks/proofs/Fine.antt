@@ -63,7 +63,7 @@ module _ (ss : List Stm) where
   has_program u = record { unrefused = u; main = main_fits; is = refl; named = refl }
 
   main_stays : (p : Spot) → wrong_main items ≡ Some p → ⊥
-  main_stays p e = let fits = main_fits in cc
+  main_stays p e = cc main_fits
 
   no_refusal : (r : Refusal) → IsUnrefused Ilp32 items → Refuses Ilp32 items r → ⊥
   no_refusal r u (OfPart f) = u r f.0

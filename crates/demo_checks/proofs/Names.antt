@@ -10,7 +10,7 @@ use Rattle.c_core.specs.declared.tree.Callee.{Callee}
 use Rattle.c_core.specs.declared.tree.Callee.TheVariants.{Input, ReachError}
 use Rattle.c_tokens.specs.Numbers.{number_in}
 use Rattle.check_rules.specs.Codes.{clashes}
-use Rattle.check_rules.specs.Names.{Kind, Object, Entry, entry, built_in, declared_as, kind_of_callee, later, named, or_built_in}
+use Rattle.check_rules.specs.Names.{Kind, Object, Function, Entry, entry, built_in, declared_as, kind_of_callee, later, named, or_built_in}
 use Rattle.check_rules.specs.Scopes.{entry_of_function, entry_of_prototype}
 use Rattle.demo_laws.specs.DemoLines.{name}
 use Rattle.demo_laws.proofs.Numerals.{decimal_digits}
@@ -72,10 +72,7 @@ reach_named xs h = ap (λ o. or_built_in o (built_in (codes "reach_error"))) (de
 
 pub input_named : (xs : List Entry) → AreOthers (codes "__VERIFIER_nondet_int") xs → named (outside ++ xs) (codes "__VERIFIER_nondet_int") ≡ Some (kind_of_callee (Input Int))
 input_named xs h =
-    ap (λ o. or_built_in (declared_with o) (built_in (codes "__VERIFIER_nondet_int"))) (declared_none xs (codes "__VERIFIER_nondet_int") h)
-  where
-    declared_with : Option Kind → Option Kind
-    declared_with o = later (Some (entry_of_prototype (codes "__VERIFIER_nondet_int") (Some Int) None).kind) (later None o)
+    ap (λ o. or_built_in (later (Some (Function (Some Int) None false)) (later None o)) (Some (Input Int))) (declared_none xs (codes "__VERIFIER_nondet_int") h)
 
 -- two blocks deeper a word stands for the same
 pub named_inside : (es : List Entry) (x : List ℕ) (k : Option Kind) → named es x ≡ k → named ((es ++ []) ++ []) x ≡ k
