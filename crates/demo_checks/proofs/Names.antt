@@ -3,17 +3,16 @@ use Rattle.std.proofs.Common.{◌≡◌, ◌<◌, ◌^◌, ◌∙◌, ℕ, zero,
 use Rattle.std.specs.List.{AllByRecursion, list_any}
 use Rattle.std.specs.Str.{bytes_eq}
 use Rattle.std.proofs.lemmas.Bool.{false_from_ne_true}
+use Rattle.std.proofs.lemmas.Fmt.{decimal_injective}
 use Rattle.std.proofs.lemmas.Slice.Eq.{bytes_eq-Decides}
 use Rattle.c_core.specs.declared.number.IntType.{IntType}
 use Rattle.c_core.specs.declared.number.IntType.TheVariants.{Int}
 use Rattle.c_core.specs.declared.tree.Callee.{Callee}
 use Rattle.c_core.specs.declared.tree.Callee.TheVariants.{Input, ReachError}
-use Rattle.c_tokens.specs.Numbers.{number_in}
 use Rattle.check_rules.specs.Codes.{clashes}
 use Rattle.check_rules.specs.Names.{Kind, Object, Function, Entry, entry, built_in, declared_as, kind_of_callee, later, named, or_built_in}
 use Rattle.check_rules.specs.Scopes.{entry_of_function, entry_of_prototype}
 use Rattle.demo_laws.specs.DemoLines.{name}
-use Rattle.demo_laws.proofs.Numerals.{decimal_digits}
 
 -- what is declared outside of `main`, and `main` itself
 abbrev pub outside : List Entry
@@ -30,10 +29,6 @@ bytes_same x = (bytes_eq-Decides x x).1 refl
 
 bytes_differ : (x y : List ℕ) → (x ≡ y → ⊥) → bytes_eq x y ≡ false
 bytes_differ x y other = false_from_ne_true (bytes_eq x y) (λ e. other ((bytes_eq-Decides x y).0 e))
-
--- a number has one decimal, and a decimal one number
-pub decimal_injective : (j k : ℕ) → j < 2 ^ 64 → k < 2 ^ 64 → decimal j ≡ decimal k → j ≡ k
-decimal_injective j k low high e = sym (decimal_digits j low).value ∙ ap (number_in 10) e ∙ (decimal_digits k high).value
 
 names_differ : (j k : ℕ) → j < k → k < 2 ^ 64 → bytes_eq (name j) (name k) ≡ false
 names_differ j k low small =

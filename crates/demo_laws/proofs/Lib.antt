@@ -1,6 +1,6 @@
 pub mod Bounds
 pub mod Reading
-pub mod Numerals
+mod Numerals
 pub mod Standing
 mod Loops
 pub mod Grammar
