@@ -22,7 +22,7 @@ use Rattle.demo_checks.proofs.Quiet.{AreQuiet, all_in_any_order, changes_nothing
 small_fits : (v : ℕ) → v < 2 ^ 31 → nat_lt v (2 ^ 31) ≡ true
 small_fits v small = grind (arith, nat_tests)
 
-constant_is_int : (v : ℕ) (d : Bool) → v < 2 ^ 31 → constant_type Ilp32 v d false 0 ≡ Some Int
+pub constant_is_int : (v : ℕ) (d : Bool) → v < 2 ^ 31 → constant_type Ilp32 v d false 0 ≡ Some Int
 constant_is_int v true small = ap (λ b. cond b (Some Int) (first_that_holds Ilp32 v (Long ∷ LongLong ∷ []))) (small_fits v small)
 constant_is_int v false small = ap (λ b. cond b (Some Int) (first_that_holds Ilp32 v (UInt ∷ Long ∷ ULong ∷ LongLong ∷ ULongLong ∷ []))) (small_fits v small)
 

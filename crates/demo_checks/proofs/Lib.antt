@@ -1,6 +1,6 @@
 pub mod Quiet
 pub mod Names
-mod Fine
-mod Expressions
+pub mod Fine
+pub mod Expressions
 mod Statements
 mod Programs

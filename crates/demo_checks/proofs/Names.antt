@@ -24,7 +24,7 @@ variable x n = entry x (Object n Int false false)
 
 -- ---- texts
 
-bytes_same : (x : List ℕ) → bytes_eq x x ≡ true
+pub bytes_same : (x : List ℕ) → bytes_eq x x ≡ true
 bytes_same x = (bytes_eq-Decides x x).1 refl
 
 bytes_differ : (x y : List ℕ) → (x ≡ y → ⊥) → bytes_eq x y ≡ false

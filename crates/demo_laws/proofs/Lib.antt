@@ -1,6 +1,6 @@
 pub mod Bounds
 pub mod Reading
-mod Numerals
+pub mod Numerals
 pub mod Standing
 mod Loops
 pub mod Grammar
