@@ -1,5 +1,5 @@
 -- The expressions of a demo's programs: no code refuses a part of them.
-use Rattle.std.proofs.Common.{◌≡◌, ◌<◌, ◌^◌, ◌⊎◌, inl, inr, ◌∙◌, ℕ, zero, suc, ◌+◌, nat_le, nat_lt, Bool, true, false, ◌&&◌, ◌||◌, cond, List, [], ◌∷◌, ◌++◌, length, Option, Some, None, is_none, codes, refl, ap, arith}
+use Rattle.std.proofs.Common.{◌≡◌, ◌<◌, ◌^◌, ◌⊎◌, inl, inr, ℕ, nat_lt, Bool, true, false, ◌&&◌, ◌||◌, cond, List, [], ◌∷◌, Some, None, is_none, codes, refl, ap, arith}
 use Rattle.std.specs.List.{AllByRecursion}
 use Rattle.std.proofs.lemmas.Bool.Decides.{nat_tests}
 use Rattle.c_core.specs.declared.number.BinOp.{BinOp}
@@ -12,8 +12,8 @@ use Rattle.c_parser.specs.Tree.{Exp, Expr, Number, Var, Binary, Assign, Call, No
 use Rattle.check_rules.specs.Codes.{miscalled, is_no_scalar}
 use Rattle.check_rules.specs.Constants.{constant_type, first_that_holds}
 use Rattle.check_rules.specs.Names.{Object, Entry, is_function, kind_of_callee, named}
-use Rattle.check_rules.specs.Order.{IsStoredTwice, SomePair, changes, is_object, reads}
-use Rattle.check_rules.specs.Parts.{Part, Expression, Value, Target, Effect, parts}
+use Rattle.check_rules.specs.Order.{IsStoredTwice, SomePair, changes, is_object}
+use Rattle.check_rules.specs.Parts.{Expression, Value, Target, Effect, parts}
 use Rattle.check_rules.specs.Typed.{result_named}
 use Rattle.demo_checks.proofs.Fine.{IsFine, items}
 use Rattle.demo_checks.proofs.Quiet.{AreQuiet, all_in_any_order, changes_nothing, none_passes}

@@ -1,5 +1,5 @@
 -- Where no code refuses any part, a source with a fitting `main` has its program, and no other answer.
-use Rattle.std.proofs.Common.{◌≡◌, Bool, true, false, List, [], ◌∷◌, ◌++◌, Option, Some, None, Result, Ok, Err, codes, refl}
+use Rattle.std.proofs.Common.{◌≡◌, false, List, [], ◌∷◌, ◌++◌, Some, None, Result, Ok, Err, codes, refl}
 use Rattle.std.specs.List.{AllByRecursion}
 use Rattle.std.proofs.lemmas.List.Elements.{All-contains, All-from_recursion}
 use Rattle.c_check.specs.Checking.{Answers}
@@ -10,7 +10,7 @@ use Rattle.c_core.specs.declared.program.Program.{Program}
 use Rattle.c_parser.specs.Tree.{Item, Stm}
 use Rattle.check_rules.specs.Checked.{HasProgram, program_of}
 use Rattle.check_rules.specs.Codes.{nameless, doubled, mistyped, missized, bodiless, crowded}
-use Rattle.check_rules.specs.First.{Holds, IsRefused, IsUnrefused, Refuses, OfPart, OfMain, refusal, wrong_main}
+use Rattle.check_rules.specs.First.{Holds, IsUnrefused, Refuses, OfPart, OfMain, refusal, wrong_main}
 use Rattle.check_rules.specs.Order.{IsUnordered}
 use Rattle.check_rules.specs.Parts.{Part, parts_of_source}
 use Rattle.check_rules.specs.declared.fault.CheckCode.{CheckCode}

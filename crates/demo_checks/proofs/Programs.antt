@@ -1,5 +1,5 @@
 -- No code refuses a part of a demo's programs.
-use Rattle.std.proofs.Common.{◌≡◌, ◌<◌, ◌≤◌, ◌^◌, ◌∙◌, ℕ, zero, suc, ◌+◌, Bool, true, false, not, nat_eq, List, [], ◌∷◌, ◌++◌, length, Option, Some, None, Result, codes, refl, sym, ap, subst, arith}
+use Rattle.std.proofs.Common.{◌≡◌, ◌<◌, ◌≤◌, ◌^◌, ℕ, ◌+◌, true, false, not, nat_eq, List, [], ◌∷◌, ◌++◌, length, Some, Result, codes, refl, sym, subst, arith}
 use Rattle.std.specs.List.{AllByRecursion}
 use Rattle.std.proofs.lemmas.List.Sums.{sum_by_push}
 use Rattle.c_check.specs.Checking.{Answers}
@@ -16,8 +16,8 @@ use Rattle.check_rules.specs.Checked.{HasProgram, program_of}
 use Rattle.check_rules.specs.Codes.{cells_in}
 use Rattle.check_rules.specs.First.{IsUnrefused}
 use Rattle.check_rules.specs.Names.{Object, Entry, kind_of_callee, named}
-use Rattle.check_rules.specs.Parts.{Part, labels_of_block, parts_of_labels, parts_of_source}
-use Rattle.check_rules.specs.Scopes.{Scope, scope}
+use Rattle.check_rules.specs.Parts.{labels_of_block, parts_of_labels, parts_of_source}
+use Rattle.check_rules.specs.Scopes.{scope}
 use Rattle.check_rules.specs.declared.fault.CheckFault.{CheckFault}
 use Rattle.demo_laws.specs.Bounds.{AreBounds, IsBound}
 use Rattle.demo_laws.specs.DemoLines.{name}

@@ -1,12 +1,12 @@
 -- Expressions that store nothing and call no function with a body have no order to break.
-use Rattle.std.proofs.Common.{◌≡◌, ◌⊎◌, inl, inr, ◌∙◌, ℕ, Bool, true, false, List, [], ◌∷◌, length, Option, sym}
-use Rattle.std.specs.List.{AllByRecursion, Contains}
+use Rattle.std.proofs.Common.{◌≡◌, inl, inr, ◌∙◌, ℕ, Bool, true, false, List, Option, sym}
+use Rattle.std.specs.List.{AllByRecursion}
 use Rattle.std.proofs.lemmas.Bool.{false≢true}
 use Rattle.std.proofs.lemmas.List.Elements.{All-contains, All-from_recursion}
 use Rattle.c_core.specs.declared.number.DataModel.{DataModel}
 use Rattle.c_parser.specs.Tree.{Item}
 use Rattle.check_rules.specs.Names.{Kind}
-use Rattle.check_rules.specs.Order.{changes, reads, calls_function, is_object, SomeOf, This, Other, Leads, Directly, Further, Through, Changes, Touches, CallsOne, Clash, AreUnsequenced, SomePair, OfFirst, OfOthers}
+use Rattle.check_rules.specs.Order.{changes, reads, calls_function, is_object, SomeOf, This, Other, Leads, Directly, Further, Changes, Touches, CallsOne, AreUnsequenced, SomePair, OfFirst, OfOthers}
 use Rattle.check_rules.specs.Parts.{Part}
 
 -- a test that fails doesn't hold

@@ -1,5 +1,5 @@
 -- The statements of a demo's programs: no code refuses a part of them.
-use Rattle.std.proofs.Common.{◌≡◌, ◌<◌, ◌^◌, ◌∙◌, ℕ, zero, suc, ◌+◌, ◌-◌, nat_le, nat_lt, Bool, true, false, ◌&&◌, List, [], ◌∷◌, ◌++◌, length, Option, Some, None, codes, refl, ap, arith}
+use Rattle.std.proofs.Common.{◌≡◌, ◌<◌, ◌^◌, ℕ, ◌+◌, ◌-◌, nat_le, nat_lt, Bool, true, false, ◌&&◌, List, [], ◌∷◌, ◌++◌, length, Some, None, codes, refl, arith}
 use Rattle.std.specs.List.{AllByRecursion}
 use Rattle.std.proofs.lemmas.Bool.Decides.{nat_tests}
 use Rattle.c_core.specs.declared.number.BinOp.{BinOp}
@@ -9,7 +9,7 @@ use Rattle.c_core.specs.declared.number.IntType.TheVariants.{Int}
 use Rattle.c_core.specs.declared.number.Spot.{Spot}
 use Rattle.c_core.specs.declared.tree.Callee.TheVariants.{Input, ReachError}
 use Rattle.c_core.specs.declared.tree.Object.{Object as Stored}
-use Rattle.c_parser.specs.Tree.{Exp, Expr, Number, Binary, Call, NoExp, Stm, Stmt, Block, Declare, Do, If, MoreStm, NoElse, NoStm, One, stms}
+use Rattle.c_parser.specs.Tree.{Exp, Expr, Number, Binary, Call, NoExp, Stm, Stmt, Block, Do, If, MoreStm, NoElse, NoStm, One, stms}
 use Rattle.check_rules.specs.Codes.{cells_in}
 use Rattle.check_rules.specs.Names.{Object, Entry, kind_of_callee, named}
 use Rattle.check_rules.specs.Order.{is_object, reads}

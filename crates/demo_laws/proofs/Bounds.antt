@@ -1,5 +1,5 @@
 -- The bounds that a number gives: as many as a demo has loops, each from 1 to 100.
-use Rattle.std.proofs.Common.{◌≡◌, ℕ, zero, suc, ◌+◌, ◌*◌, ◌/◌, ◌%◌, ◌≤◌, ◌∙◌, List, [], ◌∷◌, ◌++◌, length, refl, arith, length-append}
+use Rattle.std.proofs.Common.{◌≡◌, ℕ, zero, suc, ◌∙◌, List, [], ◌∷◌, ◌++◌, length, refl, arith, length-append}
 use Rattle.std.specs.List.{AllByRecursion}
 use Rattle.wv_author.specs.Sequence.{bounds, bound, loop_count, sequence}
 use Rattle.demo_laws.specs.Bounds.{IsBound, AreBounds}

@@ -1,5 +1,5 @@
 -- The loops of a demo are read, one behind another.
-use Rattle.std.proofs.Common.{◌≡◌, ℕ, zero, suc, ◌+◌, ◌*◌, ◌≤◌, ◌∙◌, Bool, true, false, List, [], ◌∷◌, ◌++◌, length, Option, Some, None, codes, refl, sym, ap, subst, arith, append_assoc}
+use Rattle.std.proofs.Common.{◌≡◌, ℕ, suc, ◌+◌, ◌∙◌, Bool, true, false, List, [], ◌∷◌, ◌++◌, Some, None, codes, refl, sym, ap, append_assoc}
 use Rattle.c_core.specs.declared.number.Spot.{Spot}
 use Rattle.c_tokens.specs.declared.token.Token.{Token}
 use Rattle.c_tokens.specs.declared.token.Punct.TheVariants as sign
@@ -10,7 +10,7 @@ use Rattle.c_parser.specs.ReadStatements.{elements, statement_level, braced_with
 use Rattle.demo_laws.specs.DemoLines.{name, loop_pieces, loops_pieces}
 use Rattle.demo_laws.specs.Lines.{Piece, tokens_from}
 use Rattle.demo_laws.specs.Shapes.{while_tokens, while_statement, test_tokens, test_statement, declaration_tokens, declaration_statement}
-use Rattle.demo_laws.specs.Source.{declared_at, looped_at, tested_at, loop_tokens, loops_tokens, loop_statements, loops_statements, line_behind}
+use Rattle.demo_laws.specs.Source.{declared_at, looped_at, tested_at, loop_tokens, loops_tokens, loop_statements, line_behind}
 
 -- a statement of a function's body
 abbrev pub one : List Token → Read Stm

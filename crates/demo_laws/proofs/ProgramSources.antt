@@ -1,5 +1,5 @@
 -- The sources of a demo's programs are read from their tokens.
-use Rattle.std.proofs.Common.{◌≡◌, ℕ, zero, suc, ◌+◌, ◌*◌, ◌-◌, ◌≤◌, ◌∙◌, Bool, true, false, not, nat_eq, List, [], ◌∷◌, ◌++◌, length, Option, Some, None, Result, Ok, Err, codes, refl, sym, ap, subst, arith, length-append}
+use Rattle.std.proofs.Common.{◌≡◌, ℕ, suc, ◌+◌, ◌*◌, ◌-◌, ◌≤◌, ◌∙◌, Bool, false, not, nat_eq, List, [], ◌∷◌, ◌++◌, length, Option, Some, None, Result, Ok, Err, codes, refl, sym, ap, subst, arith, length-append}
 use Rattle.c_core.specs.declared.number.Spot.{Spot}
 use Rattle.c_tokens.specs.declared.token.Token.{Token}
 use Rattle.c_tokens.specs.declared.token.Punct.TheVariants as sign
@@ -14,7 +14,7 @@ use Rattle.c_parser.specs.declared.item.Source.{Source as Parsed}
 use Rattle.c_parser.specs.declared.fault.ParseFault.{ParseFault}
 use Rattle.c_parser.specs.declared.fault.ParseFault.TheVariants.{Syntax as Refused, OutOfMemory}
 use Rattle.c_parser.proofs.ParsingLaws.{all_found}
-use Rattle.demo_laws.specs.DemoLines.{loops_pieces, opening_pieces, closing_pieces, input_pieces, correct_pieces, faulty_pieces}
+use Rattle.demo_laws.specs.DemoLines.{closing_pieces, input_pieces, correct_pieces, faulty_pieces}
 use Rattle.demo_laws.specs.Lines.{tokens_from}
 use Rattle.demo_laws.specs.Shapes.{mark, end_tokens, return_statement, input_tokens, input_statement, chosen_tokens, chosen_statement, reach_tokens, prototype_tokens, prototype_item, main_tokens, main_item}
 use Rattle.demo_laws.specs.Source.{loops_tokens, loops_statements, line_behind, ended_at, drawn_at, chosen_at, reached_at, prototype_at, main_at, correct_end, faulty_end, correct_last, faulty_last, program_tokens, program_items, correct_items, faulty_items}

@@ -1,12 +1,12 @@
 -- The tokens of a demo's programs.
-use Rattle.std.proofs.Common.{◌≡◌, ℕ, zero, suc, ◌+◌, ◌*◌, ◌/◌, ◌%◌, ◌^◌, ◌<◌, ◌≤◌, ◌∙◌, true, List, [], ◌∷◌, ◌++◌, length, refl, sym, ap, subst, arith, append-nil, length-append}
+use Rattle.std.proofs.Common.{◌≡◌, ℕ, ◌+◌, ◌*◌, ◌^◌, ◌<◌, ◌≤◌, ◌∙◌, true, List, [], ◌∷◌, ◌++◌, length, refl, ap, subst, arith, append-nil, length-append}
 use Rattle.std.specs.List.{AllByRecursion}
-use Rattle.c_tokens.specs.Reading.{Reads, AtEnd, Tokens, Whole, start}
+use Rattle.c_tokens.specs.Reading.{Reads, AtEnd, Tokens, Whole}
 use Rattle.wv_author.specs.Demo.{AreWithin, demo_of}
 use Rattle.wv_author.specs.Programs.{correct_program, faulty_program}
 use Rattle.wv_author.specs.Sequence.{bounds, loop_count}
 use Rattle.demo_laws.specs.Bounds.{IsBound}
-use Rattle.demo_laws.specs.DemoLines.{loop_pieces, loops_pieces, opening_pieces, closing_pieces, input_pieces, correct_pieces, faulty_pieces}
+use Rattle.demo_laws.specs.DemoLines.{loop_pieces, loops_pieces, closing_pieces, input_pieces, correct_pieces, faulty_pieces}
 use Rattle.demo_laws.specs.Lines.{Piece, LinesStand, place, text_of, tokens_from}
 use Rattle.demo_laws.proofs.Bounds.{bounds_count, bounds_fit}
 use Rattle.demo_laws.proofs.Loops.{IsPositive, correct_stands, faulty_stands}

@@ -1,16 +1,12 @@
 -- A text of good lines is read as their tokens.
-use Rattle.std.proofs.Common.{◌≡◌, ℕ, zero, suc, ◌+◌, ◌-◌, ◌*◌, ◌^◌, ◌<◌, ◌≤◌, ◌==◌, ◌∙◌, min, Bool, true, false, not, ◌&&◌, List, [], ◌∷◌, ◌++◌, length, take, drop, replicate, Some, refl, sym, ap, subst, arith, append_assoc, append-nil, length-append, add-zero}
+use Rattle.std.proofs.Common.{◌≡◌, ℕ, zero, suc, ◌+◌, ◌-◌, ◌^◌, ◌<◌, ◌==◌, ◌∙◌, Bool, true, ◌&&◌, List, [], ◌∷◌, ◌++◌, length, take, drop, replicate, Some, refl, sym, ap, subst, arith, append_assoc, length-append, add-zero}
 use Rattle.std.proofs.lemmas.List.{length-replicate}
 use Rattle.std.specs.List.{list_all}
 use Rattle.std.proofs.Math.Seq.{drop-append_seam, take-append_seam}
-use Rattle.c_tokens.specs.declared.gap.Gap.TheVariants.{Space}
-use Rattle.c_tokens.specs.declared.place.Place.{Place}
 use Rattle.c_tokens.specs.declared.token.Token.{Token}
 use Rattle.c_tokens.specs.Bytes.{is_blank}
-use Rattle.c_tokens.specs.Gaps.{gap}
 use Rattle.c_tokens.specs.Pieces.{Longest}
-use Rattle.c_tokens.specs.Reading.{next, after, past, token, Ending, Reads, Between, AToken}
-use Rattle.c_tokens.specs.Scan.{scan}
+use Rattle.c_tokens.specs.Reading.{next, after, past, Ending, Reads, Between, AToken}
 use Rattle.c_tokens.proofs.Choices.{both, not_true}
 use Rattle.c_tokens.proofs.Scanned.{longest_found}
 use Rattle.demo_laws.specs.Lines.{Piece, piece_text, line_text, text_of, place, spot, line_tokens, tokens_from, goes_on, Stands, AllStand, LinesStand}

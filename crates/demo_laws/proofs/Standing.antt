@@ -1,5 +1,5 @@
 -- The pieces of a demo's lines stand: each is the longest token at its place.
-use Rattle.std.proofs.Common.{◌≡◌, ◌≢◌, ℕ, zero, suc, ◌+◌, ◌-◌, ◌*◌, ◌^◌, ◌<◌, ◌≤◌, ◌==◌, ◌∙◌, Bool, true, false, not, ◌&&◌, ◌||◌, nat_lt, List, [], ◌∷◌, ◌++◌, length, take, drop, get_or, Option, Some, decimal, codes, refl, sym, ap, subst, arith, cond}
+use Rattle.std.proofs.Common.{◌≡◌, ◌≢◌, ℕ, suc, ◌+◌, ◌^◌, ◌<◌, ◌==◌, ◌∙◌, Bool, true, false, nat_lt, List, [], ◌∷◌, ◌++◌, length, take, drop, get_or, Option, Some, decimal, refl, ap, arith}
 use Rattle.std.specs.List.{list_all, prefix_len, take_while}
 use Rattle.std.proofs.Math.Seq.{take-append_seam, take-length}
 use Rattle.std.proofs.lemmas.Bool.Decides.{nat_tests}
@@ -9,7 +9,7 @@ use Rattle.c_tokens.specs.declared.token.TokenKind.{TokenKind}
 use Rattle.c_tokens.specs.declared.token.TokenKind.TheVariants.{Word, Number}
 use Rattle.c_tokens.specs.Bytes.{is_digit, is_letter, is_word_byte, is_number_byte}
 use Rattle.c_tokens.specs.Gaps.{gap}
-use Rattle.c_tokens.specs.Numbers.{number_in, constant, in_radix, with_suffix, suffix_of}
+use Rattle.c_tokens.specs.Numbers.{constant}
 use Rattle.c_tokens.specs.Scan.{scan, word_scan, number_scan}
 use Rattle.c_tokens.proofs.Choices.{both, first_choice, second_choice}
 use Rattle.c_tokens.proofs.Runs.{run_exact}
