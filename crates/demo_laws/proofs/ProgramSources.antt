@@ -110,7 +110,9 @@ program_read : (bs : List ℕ) (end : List Token) (last : List Stm) (p : Spot) �
 program_read bs end last p h =
     let body = loops_tokens 4 1 bs ++ end in
     let ss = loops_statements 4 1 bs last in
-    all_found (program_items bs last) 0 (program_tokens bs end) [] refl (sym (items_read (13 + length body) body ss p (body_read bs end last p h)))
+    let fuel : length (program_tokens bs end) ≡ suc (suc (suc (13 + length body))) = omega arith in
+    all_found (program_items bs last) 0 (program_tokens bs end) [] refl
+    (sym (ap (λ n. read_items 200 200 n (program_tokens bs end)) fuel ∙ items_read (13 + length body) body ss p (body_read bs end last p h)))
 
 -- ---- both programs
 
