@@ -113,8 +113,7 @@ module _ (ss : List Stm) where
   source_fine none body =
       let labels = parts_of_labels [] (labels_of_block (stms ss)) in
       let no_label : AllByRecursion (IsFine ss) labels = subst (λ ls. AllByRecursion (IsFine ss) (parts_of_labels [] ls)) (sym none) tt in
-      let main = parts_behind ss (scope outside [] []) ss in
-      (
+      let main = parts_behind ss (scope outside [] []) ss in (
         record { known = refl; once = refl; typed = refl; sized = refl; ordered = λ h. h; bodied = refl; few = refl },
         (
           record { known = refl; once = refl; typed = refl; sized = refl; ordered = λ h. h; bodied = refl; few = refl },
