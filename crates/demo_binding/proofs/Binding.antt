@@ -33,15 +33,15 @@ use Rattle.demo_binding.proofs.ResultTexts.{number_exp, result_test}
 abbrev test_of : BinOp → t.Exp → ReturnTest
 test_of o e = record { op = o; constant = e }
 
+no_more : {A : Type 0} (x : A) (before behind : List A) → [] ≡ before ++ x ∷ behind → ⊥
+no_more x [] behind e = cc
+no_more x (c ∷ before) behind e = cc
+
 -- waypoints of which there are two
 among_two : {A : Type 0} (a b x : A) (before behind : List A) → a ∷ b ∷ [] ≡ before ++ x ∷ behind → (x ≡ a) ⊎ (x ≡ b)
 among_two a b x [] behind e = inl (cc)
 among_two a b x (c ∷ []) behind e = inr (cc)
-among_two a b x (c ∷ d ∷ before) behind e = absurd (none before (cc))
-  where
-    none : (before : List A) → [] ≡ before ++ x ∷ behind → ⊥
-    none [] e = cc
-    none (c ∷ before) e = cc
+among_two a b x (c ∷ d ∷ before) behind e = absurd (no_more x before behind (cc))
 
 module _ (n : ℕ) (bs : List ℕ) (small : n < 2 ^ 31) (many : length bs ≡ 40) where
   abbrev p : t.Program

@@ -107,9 +107,12 @@ module _ (n : ℕ) (bs : List ℕ) (many : length bs ≡ 40) where
   target_suits =
       let p = faulty_typed n bs in
       let first = spots_of_kind place.Statement p in
-      let others = map spot_of (fulls_of_program p) ++ starts_of_reach_error p.property (exps_of_program p) in
-      list_any-append (is_named 286 (Some 5)) first others
-      ∙ ap (λ b. b || list_any (is_named 286 (Some 5)) others) (statements_named 286 5 4 1 0 bs (faulty_rest (line_behind 4 bs) (length bs) n) statement_there)
+      let fulls = map spot_of (fulls_of_program p) in
+      let calls = starts_of_reach_error p.property (exps_of_program p) in
+      let named = is_named 286 (Some 5) in
+      let among_statements : list_any named first ≡ true = statements_named 286 5 4 1 0 bs (faulty_rest (line_behind 4 bs) (length bs) n) statement_there in
+      list_any-append named (first ++ fulls) calls
+      ∙ ap (λ b. b || list_any named calls) (list_any-append named first fulls ∙ ap (λ b. b || list_any named fulls) among_statements)
 
   pub input_valued : is_valued (faulty_typed n bs) (spot 284 33) ≡ true
   unfolding is_valued

@@ -7,6 +7,7 @@ use Rattle.c_core.specs.declared.number.Spot.{Spot}
 use Rattle.c_tokens.specs.declared.gap.Gap.TheVariants.{Absent}
 use Rattle.c_tokens.specs.declared.token.Token.{Token}
 use Rattle.c_tokens.specs.declared.token.TokenKind.TheVariants.{Word, Punct as Sign}
+use Rattle.c_tokens.specs.declared.token.Punct.{Punct}
 use Rattle.c_tokens.specs.declared.token.Punct.TheVariants as sign
 use Rattle.c_tokens.specs.Gaps.{gap}
 use Rattle.c_tokens.specs.Reading.{PlainTokens, Reads, Whole, start}
@@ -24,35 +25,47 @@ use Rattle.demo_binding.proofs.Ending.{number_ends}
 use Rattle.demo_binding.proofs.Pieces.{PiecesStand, pieces_text, reads_pieces}
 use Rattle.demo_binding.proofs.ResultTexts.{number_exp, number_token}
 
+abbrev name_token : List ℕ → Spot → Token
+name_token x at = record { kind = Word x; spot = at }
+
+abbrev sign_token : Punct → Spot → Token
+sign_token s at = record { kind = Sign s; spot = at }
+
 -- its tokens and its tree, over any places
 abbrev range_tokens : List ℕ → ℕ → (ℕ → Spot) → List Token
 range_tokens x b at =
-    number_token 0 (at 0) ∷ record { kind = Sign sign.LessEqual; spot = at 1 } ∷ record { kind = Word x; spot = at 2 } ∷ record { kind = Sign sign.AmpersandAmpersand; spot = at 3 } ∷
-    record { kind = Word x; spot = at 4 } ∷ record { kind = Sign sign.LessEqual; spot = at 5 } ∷ number_token b (at 6) ∷ []
+    number_token 0 (at 0) ∷ sign_token sign.LessEqual (at 1) ∷ name_token x (at 2) ∷ sign_token sign.AmpersandAmpersand (at 3) ∷
+    name_token x (at 4) ∷ sign_token sign.LessEqual (at 5) ∷ number_token b (at 6) ∷ []
 
 abbrev pub range_exp : List ℕ → ℕ → (ℕ → Spot) → Exp
 range_exp x b at =
     Expr (at 0) (Logic true (Expr (at 0) (Binary op.Le (number_exp 0 (at 0)) (Expr (at 2) (Var x (at 2))))) (Expr (at 4) (Binary op.Le (Expr (at 4) (Var x (at 4))) (number_exp b (at 6)))))
 
+-- a number and a name are as strong as any operand
+number_operand : (v : ℕ) (at : Spot) (rest : List Token) → Spells max_brackets 11 (number_token v at ∷ rest) (number_exp v at) rest
+number_operand v at rest = Stronger (Stronger (Stronger (Stronger (Stronger (Stronger SpellsNumber)))))
+
+name_operand : (k : List ℕ) (at : Spot) (rest : List Token) → Spells max_brackets 11 (name_token (120 ∷ k) at ∷ rest) (Expr at (Var (120 ∷ k) at)) rest
+name_operand k at rest = Stronger (Stronger (Stronger (Stronger (Stronger (Stronger (AName refl))))))
+
 range_spelled : (k : List ℕ) (b : ℕ) (at : ℕ → Spot) → Spells max_brackets conditional (range_tokens (120 ∷ k) b at) (range_exp (120 ∷ k) b at) []
 range_spelled k b at =
-    Stronger (Stronger (Joined {s = sign.AmpersandAmpersand} refl
-    (Stronger (Stronger (Stronger (Stronger (Stronger (Joined {s = sign.LessEqual} refl
-    (Stronger (Stronger (Stronger (Stronger (Stronger (Stronger (Stronger SpellsNumber)))))))
-    (Stronger (Stronger (Stronger (Stronger (Stronger (Stronger (AName refl))))))))))))
-    (Stronger (Stronger (Stronger (Stronger (Joined {s = sign.LessEqual} refl
-    (Stronger (Stronger (Stronger (Stronger (Stronger (Stronger (Stronger (AName refl))))))))
-    (Stronger (Stronger (Stronger (Stronger (Stronger (Stronger SpellsNumber)))))))))))))
+    let behind = name_token (120 ∷ k) (at 4) ∷ sign_token sign.LessEqual (at 5) ∷ number_token b (at 6) ∷ [] in
+    let low : Spells max_brackets 10 (range_tokens (120 ∷ k) b at) (Expr (at 0) (Binary op.Le (number_exp 0 (at 0)) (Expr (at 2) (Var (120 ∷ k) (at 2))))) (sign_token sign.AmpersandAmpersand (at 3) ∷ behind) =
+    Joined {s = sign.LessEqual} refl (Stronger (number_operand 0 (at 0) _)) (name_operand k (at 2) (sign_token sign.AmpersandAmpersand (at 3) ∷ behind)) in
+    let high : Spells max_brackets 10 behind (Expr (at 4) (Binary op.Le (Expr (at 4) (Var (120 ∷ k) (at 4))) (number_exp b (at 6)))) [] =
+    Joined {s = sign.LessEqual} refl (Stronger (name_operand k (at 4) _)) (number_operand b (at 6) []) in
+    Stronger (Stronger (Joined {s = sign.AmpersandAmpersand} refl (Stronger (Stronger (Stronger (Stronger (Stronger low))))) (Stronger (Stronger (Stronger (Stronger high))))))
 
 zero_stands : (rest : List ℕ) → Stands (number 0 0) (32 ∷ rest)
 unfolding digits
 zero_stands rest = record { found = refl; no_gap = λ fresh. elim fresh as (λ f. gap f (decimal 0 ++ 32 ∷ rest) ≡ Absent) [ true ↦ refl | false ↦ refl ]; one_line = refl }
 
 low_stands : (rest : List ℕ) → Stands (mark 1 (codes "<=") sign.LessEqual) (32 ∷ rest)
-low_stands rest = record { found = refl; no_gap = λ fresh. elim fresh [ true ↦ refl | false ↦ refl ]; one_line = refl }
+low_stands rest = record { found = refl; no_gap = λ fresh. elim fresh as (λ f. gap f (60 ∷ 61 ∷ 32 ∷ rest) ≡ Absent) [ true ↦ refl | false ↦ refl ]; one_line = refl }
 
 and_stands : (rest : List ℕ) → Stands (mark 1 (codes "&&") sign.AmpersandAmpersand) (32 ∷ rest)
-and_stands rest = record { found = refl; no_gap = λ fresh. elim fresh [ true ↦ refl | false ↦ refl ]; one_line = refl }
+and_stands rest = record { found = refl; no_gap = λ fresh. elim fresh as (λ f. gap f (38 ∷ 38 ∷ 32 ∷ rest) ≡ Absent) [ true ↦ refl | false ↦ refl ]; one_line = refl }
 
 module _ (k b : ℕ) (low : k < 2 ^ 31) (small : b < 2 ^ 31) where
   text_is : pieces_text (range_pieces k b) ≡ range_text k b

@@ -3,9 +3,11 @@ use Rattle.std.proofs.Common.{◌≡◌, ◌<◌, ◌≤◌, ◌^◌, ℕ, ◌+�
 use Rattle.std.proofs.lemmas.Fmt.{length-decimal-le}
 use Rattle.c_core.specs.declared.number.BinOp.TheVariants as op
 use Rattle.c_core.specs.declared.number.Spot.{Spot}
+use Rattle.c_tokens.specs.declared.gap.Gap.TheVariants.{Absent}
 use Rattle.c_tokens.specs.declared.token.Token.{Token}
 use Rattle.c_tokens.specs.declared.token.TokenKind.TheVariants.{Number as ANumber, Punct as Sign}
 use Rattle.c_tokens.specs.declared.token.Punct.TheVariants as sign
+use Rattle.c_tokens.specs.Gaps.{gap}
 use Rattle.c_tokens.specs.Reading.{NoLead, Reads, Whole, past, start}
 use Rattle.c_parser.specs.Expressions.{ANumber as SpellsNumber, Spells, Stronger}
 use Rattle.c_parser.specs.Sources.{max_brackets}
@@ -33,7 +35,7 @@ abbrev pieces : ℕ → List Piece
 pieces n = mark 1 (codes "==") sign.Equal ∷ number 1 n ∷ []
 
 equal_stands : (rest : List ℕ) → Stands (mark 1 (codes "==") sign.Equal) (32 ∷ rest)
-equal_stands rest = record { found = refl; no_gap = λ fresh. elim fresh [ true ↦ refl | false ↦ refl ]; one_line = refl }
+equal_stands rest = record { found = refl; no_gap = λ fresh. elim fresh as (λ f. gap f (61 ∷ 61 ∷ 32 ∷ rest) ≡ Absent) [ true ↦ refl | false ↦ refl ]; one_line = refl }
 
 module _ (n : ℕ) (small : n < 2 ^ 31) where
   short : length (decimal n) ≤ 10

@@ -23,8 +23,8 @@ module _ (objects : List Object) (body : Stms) (none : (f : ℕ) → some_of (so
   none_in (suc h) f = refl
 
   nothing_called : (es : List Exp) (g : ℕ) → ((f : ℕ) → some_of (some_node (calls f)) es ≡ false) → IsCalledFrom p es g → ⊥
-  nothing_called es g no (directly f c) = never (some_of (some_node (calls f)) es) (no f) c.1
-  nothing_called es g no (further f h l c) = never (some_of (some_node (calls h)) (fulls_of_function p f)) (none_in f h) c.1
+  nothing_called es g free (directly f c) = never (some_of (some_node (calls f)) es) (free f) c.1
+  nothing_called es g free (further f h l c) = never (some_of (some_node (calls h)) (fulls_of_function p f)) (none_in f h) c.1
 
   no_cycle : IsFirstRecursion p None
   no_cycle f r = nothing_called (fulls_of_function p f) f (none_in f) r.cycle

@@ -1,5 +1,5 @@
 -- What of a program stands before its k-th loop, and what that loop sees.
-use Rattle.std.proofs.Common.{◌≡◌, ◌<◌, ◌≤◌, ◌∙◌, ℕ, suc, ◌+◌, ◌*◌, ◌-◌, nat_eq, true, false, ◌&&◌, cond, List, [], ◌∷◌, ◌++◌, length, slice_get, Some, refl, sym, ap, arith, append_assoc}
+use Rattle.std.proofs.Common.{◌≡◌, ◌<◌, ◌≤◌, ◌∙◌, ℕ, suc, ◌+◌, ◌*◌, ◌-◌, nat_eq, true, false, ◌&&◌, cond, List, [], ◌∷◌, ◌++◌, length, slice_get, Some, refl, sym, ap, arith, append_assoc, append-nil}
 use Rattle.std.specs.List.{AllByRecursion, filter}
 use Rattle.std.proofs.lemmas.Bool.Decides.{nat_tests}
 use Rattle.std.proofs.lemmas.Grind.{flat_map-append}
@@ -71,6 +71,14 @@ no_static : (n l k : ℕ) (at : Spot) (bs : List ℕ) → fixed_from n at (loop_
 no_static n l k at [] = refl
 no_static n l k at (b ∷ bs) = no_static (suc n) (l + 1 + 1 + 1 + 1 + 1 + 1 + 1) (k + 1) at bs
 
+-- the first loop of those, and what those behind it see
+one_sight : (names : List ℕ) (l k o b : ℕ) (cs : List ℕ) (rest : Stms) →
+    sights_in_block place.Loop names (loops l k o (b ∷ cs) rest)
+    ≡ sight (looped_at (l + 1) k b 0) (names ++ o ∷ []) ∷ sights_in_block place.Loop (names ++ o ∷ []) (loops (l + 1 + 1 + 1 + 1 + 1 + 1 + 1) (k + 1) (o + 1) cs rest)
+one_sight names l k o b cs rest =
+    ap (λ ns. sight (looped_at (l + 1) k b 0) (names ++ o ∷ []) ∷ sights_in_block place.Loop ns (loops (l + 1 + 1 + 1 + 1 + 1 + 1 + 1) (k + 1) (o + 1) cs rest))
+    (append-nil ((names ++ o ∷ []) ++ []) ∙ append-nil (names ++ o ∷ []))
+
 module _ (bs : List ℕ) where
   abbrev pub p : Program
   p = correct_typed bs
@@ -127,7 +135,7 @@ module _ (bs : List ℕ) where
         low_spots = joined (λ (s : Spot). s.line < m) h.spots (at ∷ []) (higher l m h.spots (omega arith) h.low_spots) (omega arith, tt);
         low_sights = joined (λ (s : Sight). s.spot.line < m) h.sights (seen ∷ []) (higher_sights l m h.sights (omega arith) h.low_sights) (omega arith, tt);
         all_spots = h.all_spots ∙ pushed h.spots (loop_spots (loops m (k + 1) (o + 1) cs (last bs))) at;
-        all_sights = h.all_sights ∙ pushed h.sights (sights_in_block place.Loop (h.names ++ o ∷ []) (loops m (k + 1) (o + 1) cs (last bs)) ++ []) seen;
+        all_sights = h.all_sights ∙ ap (λ ss. h.sights ++ (ss ++ [])) (one_sight h.names l k o b cs (last bs)) ∙ pushed h.sights (sights_in_block place.Loop (h.names ++ o ∷ []) (loops m (k + 1) (o + 1) cs (last bs)) ++ []) seen;
         all_objects = h.all_objects ∙ pushed h.objects (loop_objects m (k + 1) cs) object;
         count = length_push h.objects object ∙ ap (λ n. n + 1) h.count;
         line = omega (arith, here);
@@ -156,6 +164,7 @@ module _ (bs : List ℕ) where
       let low : AllByRecursion (λ (s : Sight). s.spot.line < l + 1) h.sights = higher_sights l (l + 1) h.sights (omega arith) h.low_sights in
       ap (λ xs. names_or xs (seen_from at (sights_in_functions place.Loop xs p.functions))) (no_static 0 4 1 at bs)
       ∙ ap (λ ss. names_or [] (seen_from at ss)) h.all_sights
+      ∙ ap (λ ss. names_or [] (seen_from at (h.sights ++ (ss ++ [])))) (one_sight h.names l k o b cs (last bs))
       ∙ ap (names_or []) (unseen_before at h.sights (seen ∷ more) low)
       ∙ ap (λ b. names_or [] (cond b (Some (h.names ++ o ∷ [])) (seen_from at more))) (ap (λ b. b && nat_eq at.column at.column) (same (l + 1)) ∙ same at.column)
 

@@ -1,10 +1,10 @@
 -- A demo's program with its invariants is light: each loop weighs as much, and one invariant stands at its head.
-use Rattle.std.proofs.Common.{◌≡◌, ◌<◌, ◌≤◌, inl, inr, ◌∙◌, ℕ, zero, suc, ◌+◌, ◌*◌, nat_eq, Bool, true, false, ◌&&◌, cond, List, [], ◌∷◌, length, slice_get, Some, refl, sym, ap, subst, arith}
+use Rattle.std.proofs.Common.{◌≡◌, ◌<◌, ◌≤◌, inl, inr, ◌∙◌, ℕ, zero, suc, ◌+◌, ◌*◌, nat_eq, Bool, true, false, ◌&&◌, ◌||◌, cond, List, [], ◌∷◌, length, slice_get, Some, refl, sym, ap, subst, arith}
 use Rattle.std.proofs.lemmas.Bool.Decides.{nat_tests}
 use Rattle.c_core.specs.Tree.{Exp, Program, Stm, Stms}
 use Rattle.c_core.specs.declared.number.IntType.TheVariants.{Int}
 use Rattle.c_core.specs.declared.number.Spot.{Spot}
-use Rattle.c_meaning.specs.Changed.{changed_by}
+use Rattle.c_meaning.specs.Changed.{changed_by, changed_here, changed_there}
 use Rattle.c_meaning.specs.Duties.{Placed}
 use Rattle.c_meaning.specs.Meaning.{WhileLoop}
 use Rattle.c_meaning.specs.Objects.{size_in, type_in}
@@ -60,19 +60,19 @@ module _ (bs : List ℕ) where
   few_bits : (o : ℕ) → bits_of_object p o ≤ 32
   few_bits o = let size = one_cell 4 1 bs o in rw (int_objects 4 1 bs o) (omega (arith, size))
 
+  more_bits : (b : Bool) (o n : ℕ) (os : List ℕ) → bits_of_objects p os ≤ 32 * n → bits_of_objects p (cond b (o ∷ os) os) ≤ 32 * suc n
+  more_bits true o n os few = let here = few_bits o in omega (arith, here, few)
+  more_bits false o n os few = omega (arith, few)
+
   bits_of_those : (q : ℕ → Bool) (os : List ℕ) → bits_of_objects p (those q os) ≤ 32 * length os
   bits_of_those q [] = omega arith
-  bits_of_those q (o ∷ os) = by_test (q o)
-    where
-      by_test : (b : Bool) → bits_of_objects p (cond b (o ∷ those q os) (those q os)) ≤ 32 * length (o ∷ os)
-      by_test true = let here = few_bits o in let others = bits_of_those q os in omega (arith, here, others)
-      by_test false = let others = bits_of_those q os in omega (arith, others)
+  bits_of_those q (o ∷ os) = more_bits (q o) o (length os) (those q os) (bits_of_those q os)
 
   changed_bits : (e : Exp) (b : Stm) → bits_of_objects p (changed_by p (WhileLoop e b)) ≤ 32 * length bs
   changed_bits e b =
       let count = numbers_count 0 (length p.objects) in
       let objects = objects_count 4 1 bs in
-      let all = bits_of_those _ (object_numbers p) in
+      let all = bits_of_those (λ o. changed_here (WhileLoop e b) o || changed_there p (WhileLoop e b) o) (object_numbers p) in
       omega (arith, count, objects, all)
 
   -- ---- invariants
@@ -102,29 +102,26 @@ module _ (bs : List ℕ) where
   at_most true w r light none = omega arith
   at_most false w r light none = omega arith
 
+  by_line : (t : Bool) (l k o b : ℕ) (cs : List ℕ) (at : Spot) → nat_eq (l + 1) at.line ≡ t
+      → placed_weight p (placed_ranges (l + 1 + 1 + 1 + 1 + 1 + 1 + 1) (k + 1) (o + 1) cs) true at ≤ most → placed_weight p (placed_ranges l k o (b ∷ cs)) true at ≤ most
+  by_line true l k o b cs at e more =
+      let line = same_number (l + 1) at.line e in
+      at_most (same_spot (looped_at (l + 1) k b 0) at && true) (evaluation p (range_test o b (range_at k b))) (placed_weight p (placed_ranges (l + 1 + 1 + 1 + 1 + 1 + 1 + 1) (k + 1) (o + 1) cs) true at)
+      (range_weighs o b (range_at k b)) (none_behind (l + 1 + 1 + 1 + 1 + 1 + 1 + 1) (k + 1) (o + 1) cs at (omega (arith, line)))
+  by_line false l k o b cs at e more =
+      let others = placed_weight p (placed_ranges (l + 1 + 1 + 1 + 1 + 1 + 1 + 1) (k + 1) (o + 1) cs) true at in
+      subst (λ t. cond ((t && nat_eq (looped_at (l + 1) k b 0).column at.column) && true) (evaluation p (range_test o b (range_at k b)) + others) others ≤ most) (sym e) more
+
   one_at_loops : (l k o : ℕ) (cs : List ℕ) (at : Spot) → placed_weight p (placed_ranges l k o cs) true at ≤ most
   one_at_loops l k o [] at = omega arith
-  one_at_loops l k o (b ∷ cs) at = by_line (nat_eq (l + 1) at.line) refl
-    where
-      m : ℕ
-      m = l + 1 + 1 + 1 + 1 + 1 + 1 + 1
-
-      by_line : (t : Bool) → nat_eq (l + 1) at.line ≡ t → placed_weight p (placed_ranges l k o (b ∷ cs)) true at ≤ most
-      by_line true e =
-          let line = same_number (l + 1) at.line e in
-          at_most (same_spot (looped_at (l + 1) k b 0) at && true) (evaluation p (range_test o b (range_at k b))) (placed_weight p (placed_ranges (l + 1 + 1 + 1 + 1 + 1 + 1 + 1) (k + 1) (o + 1) cs) true at)
-          (range_weighs o b (range_at k b)) (none_behind (l + 1 + 1 + 1 + 1 + 1 + 1 + 1) (k + 1) (o + 1) cs at (omega (arith, line)))
-      by_line false e =
-          let others = placed_weight p (placed_ranges (l + 1 + 1 + 1 + 1 + 1 + 1 + 1) (k + 1) (o + 1) cs) true at in
-          subst (λ t. cond ((t && nat_eq (looped_at (l + 1) k b 0).column at.column) && true) (evaluation p (range_test o b (range_at k b)) + others) others ≤ most) (sym e)
-          (one_at_loops (l + 1 + 1 + 1 + 1 + 1 + 1 + 1) (k + 1) (o + 1) cs at)
+  one_at_loops l k o (b ∷ cs) at = by_line (nat_eq (l + 1) at.line) l k o b cs at refl (one_at_loops (l + 1 + 1 + 1 + 1 + 1 + 1 + 1) (k + 1) (o + 1) cs at)
 
   -- ---- loops
 
   abbrev weight : Stms → ℕ
   weight b = statements p (weighing (weight_in p I 1)) (placed_weight p I) (Some Int) b
 
-  loop_weighs : (l k o b : ℕ) (rest : Stms) → length bs ≤ 40 → weight (loops l k o (b ∷ []) rest) ≤ 12000 + weight rest
+  loop_weighs : (l k o b : ℕ) (rest : Stms) → length bs ≤ 40 → weight (loops l k o (b ∷ []) rest) ≤ 14000 + weight rest
   loop_weighs l k o b rest few =
       let declared = declared_at l k in
       let looped = looped_at (l + 1) k b in
@@ -141,7 +138,7 @@ module _ (bs : List ℕ) where
       let size = one_cell 4 1 bs o in
       rw (int_objects 4 1 bs o) (omega (arith, a0, a1, a2, a3, a4, a5, a6, head, changed, size, few))
 
-  loops_weigh : (l k o : ℕ) (cs : List ℕ) (rest : Stms) → length bs ≤ 40 → weight (loops l k o cs rest) ≤ 12000 * length cs + weight rest
+  loops_weigh : (l k o : ℕ) (cs : List ℕ) (rest : Stms) → length bs ≤ 40 → weight (loops l k o cs rest) ≤ 14000 * length cs + weight rest
   loops_weigh l k o [] rest few = omega arith
   loops_weigh l k o (b ∷ cs) rest few =
       let m = l + 1 + 1 + 1 + 1 + 1 + 1 + 1 in
