@@ -71,8 +71,8 @@ module _ (n : ℕ) (bs : List ℕ) (small : n < 2 ^ 31) (many : length bs ≡ 40
       let same = (h.2).only op.Eq number (result_test n small) in
       never (is_refused Ilp32 [] number) number_stands (ap (is_refused Ilp32 []) same.1 ∙ (h.4).typing)
   test_stands valued Scope told other h = elim (h.3) [
-      | inl e ↦ never valued e told
-      | inr e ↦ never (in_scope [] number) (ap (in_scope []) ((h.2).only op.Eq number (result_test n small)).1 ∙ e) refl
+    | inl e ↦ never valued e told
+    | inr e ↦ never (in_scope [] number) (ap (in_scope []) ((h.2).only op.Eq number (result_test n small)).1 ∙ e) refl
   ]
   test_stands valued OutOfMemory told other h = other refl
 
@@ -128,8 +128,8 @@ module _ (n : ℕ) (bs : List ℕ) (small : n < 2 ^ 31) (many : length bs ≡ 40
 
   no_least : (k : ℕ) (lack : Unbound) → (lack ≡ OutOfMemory → ⊥) → IsLeast (BindsPoint p) 1 (first ∷ second ∷ []) k lack → ⊥
   no_least k lack other h = elim (among_two first second h.at h.before h.behind h.in_order) [
-      | inl e ↦ first_stands lack other (subst (λ v. BindsPoint p v (Err lack)) e h.fails)
-      | inr e ↦ second_stands lack (subst (λ v. BindsPoint p v (Err lack)) e h.fails)
+    | inl e ↦ first_stands lack other (subst (λ v. BindsPoint p v (Err lack)) e h.fails)
+    | inr e ↦ second_stands lack (subst (λ v. BindsPoint p v (Err lack)) e h.fails)
   ]
 
   pub are_bound : (text : List ℕ) (answer : Result Bound BindFault) → Binds p (violation n text) answer → AreSegments (demo_segments n (spot 1 12)) answer

@@ -8,4 +8,5 @@ mod Straight
 mod Ranges
 mod Sets
 mod Weights
+mod Judged
 mod Binding

@@ -1,5 +1,5 @@
 -- The text `0 <= xk && xk <= b` is an expression of a witness.
-use Rattle.std.proofs.Common.{◌≡◌, ◌<◌, ◌≤◌, ◌^◌, ℕ, true, false, List, [], ◌∷◌, ◌++◌, length, codes, decimal, refl, ap, subst, arith, append-nil, length-append}
+use Rattle.std.proofs.Common.{◌≡◌, ◌<◌, ◌≤◌, ◌^◌, ◌∙◌, ℕ, true, false, List, [], ◌∷◌, ◌++◌, length, codes, decimal, refl, sym, ap, subst, arith, append_assoc, append-nil, length-append}
 use Rattle.std.specs.Fmt.{digits}
 use Rattle.std.proofs.lemmas.Fmt.{length-decimal-le}
 use Rattle.c_core.specs.declared.number.BinOp.TheVariants as op
@@ -68,12 +68,15 @@ and_stands : (rest : List ℕ) → Stands (mark 1 (codes "&&") sign.AmpersandAmp
 and_stands rest = record { found = refl; no_gap = λ fresh. elim fresh as (λ f. gap f (38 ∷ 38 ∷ 32 ∷ rest) ≡ Absent) [ true ↦ refl | false ↦ refl ]; one_line = refl }
 
 module _ (k b : ℕ) (low : k < 2 ^ 31) (small : b < 2 ^ 31) where
+  nested : range_text k b ≡ codes "0 <= x" ++ (decimal k ++ (codes " && x" ++ (decimal k ++ (codes " <= " ++ decimal b))))
+  unfolding range_text
+  nested = simp append_assoc
+
   text_is : pieces_text (range_pieces k b) ≡ range_text k b
-  unfolding digits range_text
-  text_is = ap (λ t. codes "0 <= x" ++ (decimal k ++ (codes " && x" ++ (decimal k ++ (codes " <= " ++ t))))) (append-nil (decimal b))
+  unfolding digits
+  text_is = ap (λ t. codes "0 <= x" ++ (decimal k ++ (codes " && x" ++ (decimal k ++ (codes " <= " ++ t))))) (append-nil (decimal b)) ∙ sym nested
 
   text_short : length (range_text k b) ≤ 100
-  unfolding range_text
   text_short =
       let name : length (decimal k) ≤ 10 = length-decimal-le 10 k (omega arith) (omega arith) (omega arith) in
       let bound : length (decimal b) ≤ 10 = length-decimal-le 10 b (omega arith) (omega arith) (omega arith) in
@@ -83,7 +86,8 @@ module _ (k b : ℕ) (low : k < 2 ^ 31) (small : b < 2 ^ 31) where
       let sizes_of_rest = length-append (decimal k) (codes " && x" ++ (decimal k ++ last)) in
       let sizes_of_middle = length-append (codes " && x") (decimal k ++ last) in
       let sizes_of_all = length-append (codes "0 <= x") (decimal k ++ (codes " && x" ++ (decimal k ++ last))) in
-      omega (arith, name, bound, sizes, sizes_behind, sizes_of_rest, sizes_of_middle, sizes_of_all)
+      let whole = ap length nested in
+      omega (arith, whole, name, bound, sizes, sizes_behind, sizes_of_rest, sizes_of_middle, sizes_of_all)
 
   pieces_stand : PiecesStand (range_pieces k b)
   unfolding digits

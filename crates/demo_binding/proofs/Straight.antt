@@ -1,5 +1,5 @@
 -- The functions of a demo's programs call none with a body, so main reaches no cycle of calls.
-use Rattle.std.proofs.Common.{◌≡◌, ℕ, zero, suc, ◌+◌, Bool, false, List, [], ◌∷◌, length, None, refl}
+use Rattle.std.proofs.Common.{◌≡◌, ℕ, zero, suc, ◌+◌, false, List, [], ◌∷◌, length, None, refl}
 use Rattle.c_calls.specs.Calling.{IsCalledFrom, IsFirstRecursion, directly, further}
 use Rattle.c_core.specs.Tree.{Exp, Program, Stms}
 use Rattle.c_core.specs.declared.tree.Object.{Object}

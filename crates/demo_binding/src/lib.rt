@@ -3,4 +3,4 @@
 
 mod laws;
 
-pub use laws::{sets_are_bound, violations_are_bound};
+pub use laws::{sets_are_bound, sets_can_be_judged, violations_are_bound};
