@@ -1,13 +1,11 @@
 -- The bodies of a demo's programs are read, and their sources.
-use Rattle.std.proofs.Common.{◌≡◌, ℕ, zero, suc, ◌+◌, ◌-◌, ◌*◌, ◌≤◌, ◌∙◌, Bool, true, false, List, [], ◌∷◌, ◌++◌, length, Option, Some, None, codes, refl, sym, ap, subst, arith, append_assoc, length-append}
+use Rattle.std.proofs.Common.{◌≡◌, ℕ, suc, ◌+◌, ◌*◌, ◌∙◌, false, List, [], ◌∷◌, ◌++◌, length, Some, codes, refl, ap, arith, append_assoc, length-append}
 use Rattle.c_tokens.specs.declared.token.Token.{Token}
 use Rattle.c_parser.specs.Signs.{is_word}
 use Rattle.c_parser.specs.Tree.{Stm}
-use Rattle.c_parser.specs.ReadExpressions.{Read}
 use Rattle.c_parser.specs.ReadStatements.{elements}
-use Rattle.demo_laws.specs.DemoLines.{name}
 use Rattle.demo_laws.specs.Source.{loop_tokens, loops_tokens, loop_statements, loops_statements}
-use Rattle.demo_laws.proofs.Grammar2.{one, onto, loop_read}
+use Rattle.demo_laws.proofs.Grammar.{one, onto, loop_read}
 
 -- what follows loops is no `else`
 behind_no_else : (l k : ℕ) (bs : List ℕ) (rest : List Token) → is_word (codes "else") rest ≡ false → is_word (codes "else") (loops_tokens l k bs ++ rest) ≡ false

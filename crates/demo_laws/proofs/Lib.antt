@@ -1,11 +1,10 @@
+pub mod Bounds
 pub mod Reading
-mod Grammar
-mod Numerals
+pub mod Numerals
 pub mod Standing
 mod Loops
-pub mod Grammar2
+pub mod Grammar
 mod Bodies
 mod Texts
 pub mod ProgramTokens
 pub mod ProgramSources
-pub mod Quiet

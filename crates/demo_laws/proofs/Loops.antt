@@ -1,15 +1,14 @@
 -- The lines of a demo stand before any text.
-use Rattle.std.proofs.Common.{◌≡◌, ℕ, zero, suc, ◌+◌, ◌^◌, ◌<◌, ◌==◌, ◌∙◌, Bool, true, false, not, nat_eq, List, [], ◌∷◌, ◌++◌, length, Some, decimal, codes, refl, sym, ap, subst, arith, append_assoc}
+use Rattle.std.proofs.Common.{◌≡◌, ℕ, zero, suc, ◌+◌, ◌^◌, ◌<◌, ◌∙◌, true, false, not, nat_eq, List, [], ◌∷◌, ◌++◌, length, Some, decimal, codes, refl, sym, ap, subst, arith, append_assoc}
 use Rattle.std.specs.Fmt.{digits}
 use Rattle.std.proofs.lemmas.Bool.Decides.{nat_tests}
 use Rattle.std.specs.List.{AllByRecursion, list_all}
 use Rattle.c_tokens.specs.declared.gap.Gap.TheVariants.{Absent}
 use Rattle.c_tokens.specs.declared.token.Punct.TheVariants as sign
-use Rattle.c_tokens.specs.declared.token.TokenKind.TheVariants.{Word, Number, Punct as Sign}
-use Rattle.c_tokens.specs.Bytes.{is_letter, is_word_byte, is_number_byte}
+use Rattle.c_tokens.specs.declared.token.TokenKind.TheVariants.{Number}
 use Rattle.c_tokens.specs.Gaps.{gap}
 use Rattle.c_tokens.specs.Scan.{scan}
-use Rattle.demo_laws.specs.DemoLines.{name, piece, word, mark, number, error_line, end_line, head_line, declaration_line, step_line, positive, loop_pieces, loops_pieces, opening_pieces, closing_pieces, input_pieces, correct_pieces, faulty_pieces}
+use Rattle.demo_laws.specs.DemoLines.{name, piece, number, error_line, end_line, head_line, declaration_line, step_line, positive, loop_pieces, loops_pieces, opening_pieces, closing_pieces, input_pieces, correct_pieces, faulty_pieces}
 use Rattle.demo_laws.specs.Lines.{Piece, line_text, text_of, goes_on, Stands, AllStand, LinesStand}
 use Rattle.demo_laws.proofs.Standing.{name_stands, number_stands}
 

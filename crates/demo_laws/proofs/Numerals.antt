@@ -1,14 +1,12 @@
 -- Decimals as tokens, and names that end in them.
-use Rattle.std.proofs.Common.{◌≡◌, ℕ, zero, suc, ◌+◌, ◌-◌, ◌*◌, ◌/◌, ◌%◌, ◌^◌, ◌<◌, ◌≤◌, ◌==◌, ◌∙◌, Bool, true, false, not, ◌&&◌, nat_lt, List, [], ◌∷◌, ◌++◌, length, take, drop, get_or, Option, Some, decimal, refl, sym, ap, subst, arith, cond}
-use Rattle.std.specs.List.{fold, list_all, prefix_len, take_while}
+use Rattle.std.proofs.Common.{◌≡◌, ℕ, ◌+◌, ◌*◌, ◌/◌, ◌%◌, ◌^◌, ◌<◌, ◌≤◌, ◌∙◌, true, List, [], ◌∷◌, ◌++◌, decimal, refl, ap, arith}
+use Rattle.std.specs.List.{list_all}
 use Rattle.std.proofs.lemmas.Bool.Decides.{nat_tests}
-use Rattle.std.proofs.lemmas.Fmt.{decimal_by_steps, decimal_nonempty, first_decimal}
+use Rattle.std.proofs.lemmas.Fmt.{decimal_by_steps}
 use Rattle.std.proofs.lemmas.List.Folds.{list_all-append}
 use Rattle.std.proofs.lemmas.List.Sums.{fold-append}
-use Rattle.c_tokens.specs.declared.token.TokenKind.{TokenKind}
-use Rattle.c_tokens.specs.declared.token.TokenKind.TheVariants.{Word, Number}
 use Rattle.c_tokens.specs.Bytes.{is_digit, is_word_byte, digit_value}
-use Rattle.c_tokens.specs.Numbers.{number_in, constant}
+use Rattle.c_tokens.specs.Numbers.{number_in}
 
 -- digits alone, and their value
 pub record AreDigits (n : ℕ) (ds : List ℕ) : Type 0 where

@@ -1,5 +1,5 @@
 -- The sources of a demo's programs are read from their tokens.
-use Rattle.std.proofs.Common.{◌≡◌, ℕ, zero, suc, ◌+◌, ◌*◌, ◌-◌, ◌≤◌, ◌∙◌, Bool, true, false, not, nat_eq, List, [], ◌∷◌, ◌++◌, length, Option, Some, None, Result, Ok, Err, codes, refl, sym, ap, subst, arith, length-append}
+use Rattle.std.proofs.Common.{◌≡◌, ℕ, suc, ◌+◌, ◌*◌, ◌-◌, ◌≤◌, ◌∙◌, Bool, false, not, nat_eq, List, [], ◌∷◌, ◌++◌, length, Option, Some, None, Result, Ok, Err, codes, refl, sym, ap, subst, arith, length-append}
 use Rattle.c_core.specs.declared.number.Spot.{Spot}
 use Rattle.c_tokens.specs.declared.token.Token.{Token}
 use Rattle.c_tokens.specs.declared.token.Punct.TheVariants as sign
@@ -14,12 +14,12 @@ use Rattle.c_parser.specs.declared.item.Source.{Source as Parsed}
 use Rattle.c_parser.specs.declared.fault.ParseFault.{ParseFault}
 use Rattle.c_parser.specs.declared.fault.ParseFault.TheVariants.{Syntax as Refused, OutOfMemory}
 use Rattle.c_parser.proofs.ParsingLaws.{all_found}
-use Rattle.demo_laws.specs.DemoLines.{loops_pieces, opening_pieces, closing_pieces, input_pieces, correct_pieces, faulty_pieces}
+use Rattle.demo_laws.specs.DemoLines.{closing_pieces, input_pieces, correct_pieces, faulty_pieces}
 use Rattle.demo_laws.specs.Lines.{tokens_from}
-use Rattle.demo_laws.specs.Shapes.{mark, end_tokens, return_statement, input_tokens, input_statement, chosen_tokens, chosen_statement, reach_tokens, prototype_tokens, prototype_item, main_tokens, main_item}
+use Rattle.demo_laws.specs.Shapes.{word, mark, end_tokens, return_statement, input_tokens, input_statement, chosen_tokens, chosen_statement, reach_tokens, prototype_tokens, prototype_item, main_tokens, main_item}
 use Rattle.demo_laws.specs.Source.{loops_tokens, loops_statements, line_behind, ended_at, drawn_at, chosen_at, reached_at, prototype_at, main_at, correct_end, faulty_end, correct_last, faulty_last, program_tokens, program_items, correct_items, faulty_items}
 use Rattle.demo_laws.proofs.Bodies.{loops_read, loops_size}
-use Rattle.demo_laws.proofs.Grammar2.{one, one_more, onto, loops_lexed}
+use Rattle.demo_laws.proofs.Grammar.{one, one_more, onto, loops_lexed}
 
 -- ---- the statements behind the loops
 
@@ -85,6 +85,7 @@ braced ts = refl
 
 main_read : (at : ℕ → Spot) (body : List Token) (ss : List Stm) (p : Spot) → elements one (length body) body ≡ Some (ss, mark sign.BraceClose p ∷ []) →
     read_item 200 200 (main_tokens at ++ body) ≡ Some (Some (main_item at ss), [])
+unfolding braced_within
 main_read at body ss p h = let e : braced_within 200 199 body ≡ Some (ss, mark sign.BraceClose p ∷ []) = braced body ∙ h in rw e refl
 
 -- an item, and those behind it
@@ -94,6 +95,11 @@ item_read n t ts rest x e = ap (λ o. elim o as (λ (o : Read (Option Item)). Ou
 no_item : (n : ℕ) → read_items 200 200 n [] ≡ Source []
 no_item n = refl
 
+-- the tokens behind the first
+abbrev rest_of : List Token → List Token
+rest_of [] = []
+rest_of (t ∷ ts) = ts
+
 items_read : (n : ℕ) (body : List Token) (ss : List Stm) (p : Spot) → elements one (length body) body ≡ Some (ss, mark sign.BraceClose p ∷ []) →
     read_items 200 200 (suc (suc (suc n))) (reach_tokens reached_at ++ (prototype_tokens prototype_at ++ (main_tokens main_at ++ body)))
     ≡ Source (prototype_item prototype_at ∷ main_item main_at ss ∷ [])
@@ -101,16 +107,19 @@ items_read n body ss p h =
     let behind_main = main_tokens main_at ++ body in
     let behind_reach = prototype_tokens prototype_at ++ behind_main in
     let main : read_items 200 200 (suc n) behind_main ≡ Source (main_item main_at ss ∷ []) =
-    item_read n _ _ [] (Some (main_item main_at ss)) (main_read main_at body ss p h) ∙ ap (onto_outcome (Some (main_item main_at ss))) (no_item n) in
-    item_read (suc (suc n)) _ _ behind_reach None (reach_read reached_at behind_reach)
-    ∙ item_read (suc n) _ _ behind_main (Some (prototype_item prototype_at)) (prototype_read prototype_at behind_main)
+    item_read n (word (codes "int") (main_at 0)) (rest_of (main_tokens main_at) ++ body) [] (Some (main_item main_at ss)) (main_read main_at body ss p h)
+    ∙ ap (onto_outcome (Some (main_item main_at ss))) (no_item n) in
+    item_read (suc (suc n)) (word (codes "void") (reached_at 0)) (rest_of (reach_tokens reached_at) ++ behind_reach) behind_reach None (reach_read reached_at behind_reach)
+    ∙ item_read (suc n) (word (codes "int") (prototype_at 0)) (rest_of (prototype_tokens prototype_at) ++ behind_main) behind_main (Some (prototype_item prototype_at)) (prototype_read prototype_at behind_main)
     ∙ ap (onto_outcome (Some (prototype_item prototype_at))) main
 
 program_read : (bs : List ℕ) (end : List Token) (last : List Stm) (p : Spot) → Ends end last p → IsSource (program_tokens bs end) (program_items bs last)
 program_read bs end last p h =
     let body = loops_tokens 4 1 bs ++ end in
     let ss = loops_statements 4 1 bs last in
-    all_found (program_items bs last) 0 (program_tokens bs end) [] refl (sym (items_read (13 + length body) body ss p (body_read bs end last p h)))
+    let fuel : length (program_tokens bs end) ≡ suc (suc (suc (13 + length body))) = omega arith in
+    all_found (program_items bs last) 0 (program_tokens bs end) [] refl
+    (sym (ap (λ n. read_items 200 200 n (program_tokens bs end)) fuel ∙ items_read (13 + length body) body ss p (body_read bs end last p h)))
 
 -- ---- both programs
 

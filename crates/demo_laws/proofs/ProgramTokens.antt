@@ -1,12 +1,14 @@
 -- The tokens of a demo's programs.
-use Rattle.std.proofs.Common.{◌≡◌, ℕ, zero, suc, ◌+◌, ◌*◌, ◌/◌, ◌%◌, ◌^◌, ◌<◌, ◌≤◌, ◌∙◌, true, List, [], ◌∷◌, ◌++◌, length, refl, sym, ap, subst, arith, append-nil, length-append}
+use Rattle.std.proofs.Common.{◌≡◌, ℕ, ◌+◌, ◌*◌, ◌^◌, ◌<◌, ◌≤◌, ◌∙◌, true, List, [], ◌∷◌, ◌++◌, length, refl, ap, subst, arith, append-nil, length-append}
 use Rattle.std.specs.List.{AllByRecursion}
-use Rattle.c_tokens.specs.Reading.{Reads, AtEnd, Tokens, Whole, start}
+use Rattle.c_tokens.specs.Reading.{Reads, AtEnd, Tokens, Whole}
 use Rattle.wv_author.specs.Demo.{AreWithin, demo_of}
 use Rattle.wv_author.specs.Programs.{correct_program, faulty_program}
-use Rattle.wv_author.specs.Sequence.{bounds, bound, loop_count, sequence}
-use Rattle.demo_laws.specs.DemoLines.{loop_pieces, loops_pieces, opening_pieces, closing_pieces, input_pieces, correct_pieces, faulty_pieces}
+use Rattle.wv_author.specs.Sequence.{bounds, loop_count}
+use Rattle.demo_laws.specs.Bounds.{IsBound}
+use Rattle.demo_laws.specs.DemoLines.{loop_pieces, loops_pieces, closing_pieces, input_pieces, correct_pieces, faulty_pieces}
 use Rattle.demo_laws.specs.Lines.{Piece, LinesStand, place, text_of, tokens_from}
+use Rattle.demo_laws.proofs.Bounds.{bounds_count, bounds_fit}
 use Rattle.demo_laws.proofs.Loops.{IsPositive, correct_stands, faulty_stands}
 use Rattle.demo_laws.proofs.Reading.{reads_lines}
 use Rattle.demo_laws.proofs.Texts.{correct_text, faulty_text}
@@ -20,23 +22,10 @@ whole lines text is stand few short =
     let plain : Reads true (place 1 1 true) (text_of lines) (tokens_from 1 lines) Whole = simp append-nil at read in
     subst (λ t. Tokens t (tokens_from 1 lines) Whole) is plain
 
--- the bounds that a number gives
-joined : (xs ys : List ℕ) → AllByRecursion IsPositive xs → AllByRecursion IsPositive ys → AllByRecursion IsPositive (xs ++ ys)
-joined [] ys h k = k
-joined (x ∷ xs) ys h k = (h.0, joined xs ys h.1 k)
-
-bound_is_positive : (s : ℕ) → IsPositive (bound s)
-bound_is_positive s = record { some = omega arith; few = omega arith }
-
-bounds_are_positive : (n k : ℕ) → AllByRecursion IsPositive (bounds n k)
-unfolding bounds
-bounds_are_positive n zero = tt
-bounds_are_positive n (suc k) = joined (bounds n k) (bound (sequence n (suc k)) ∷ []) (bounds_are_positive n k) (bound_is_positive (sequence n (suc k)), tt)
-
-bounds_count : (n k : ℕ) → length (bounds n k) ≡ k
-unfolding bounds
-bounds_count n zero = refl
-bounds_count n (suc k) = let few = bounds_count n k in length-append (bounds n k) (bound (sequence n (suc k)) ∷ []) ∙ omega (arith, few)
+-- bounds are numbers that a token can have
+positive : (bs : List ℕ) → AllByRecursion IsBound bs → AllByRecursion IsPositive bs
+positive [] h = tt
+positive (b ∷ bs) h = (record { some = omega (arith, (h.0).some); few = omega (arith, (h.0).few) }, positive bs h.1)
 
 -- a loop has seven lines
 loops_count : (k : ℕ) (bs : List ℕ) → length (loops_pieces k bs) ≡ 7 * length bs
@@ -52,7 +41,7 @@ correct_tokens n short =
     let count : length bs ≡ 40 = bounds_count n loop_count in
     let loops : length (loops_pieces 1 bs) ≡ 7 * length bs = loops_count 1 bs in
     let lines : length (loops_pieces 1 bs ++ closing_pieces) ≡ length (loops_pieces 1 bs) + 2 = length-append (loops_pieces 1 bs) closing_pieces in
-    whole (correct_pieces bs) (correct_program n) (correct_text n) (correct_stands bs (omega (arith, count)) (bounds_are_positive n loop_count)) (omega (arith, lines, loops, count)) short
+    whole (correct_pieces bs) (correct_program n) (correct_text n) (correct_stands bs (omega (arith, count)) (positive bs (bounds_fit n).each)) (omega (arith, lines, loops, count)) short
 
 pub faulty_tokens : (n : ℕ) → n < 2 ^ 32 → length (faulty_program n) < 2 ^ 31 → Tokens (faulty_program n) (tokens_from 1 (faulty_pieces n (bounds n loop_count))) Whole
 faulty_tokens n small short =
@@ -60,7 +49,7 @@ faulty_tokens n small short =
     let count : length bs ≡ 40 = bounds_count n loop_count in
     let loops : length (loops_pieces 1 bs) ≡ 7 * length bs = loops_count 1 bs in
     let lines : length (loops_pieces 1 bs ++ (input_pieces n ++ closing_pieces)) ≡ length (loops_pieces 1 bs) + 6 = length-append (loops_pieces 1 bs) (input_pieces n ++ closing_pieces) in
-    whole (faulty_pieces n bs) (faulty_program n) (faulty_text n) (faulty_stands n bs (omega arith) (omega (arith, count)) (bounds_are_positive n loop_count)) (omega (arith, lines, loops, count)) short
+    whole (faulty_pieces n bs) (faulty_program n) (faulty_text n) (faulty_stands n bs (omega arith) (omega (arith, count)) (positive bs (bounds_fit n).each)) (omega (arith, lines, loops, count)) short
 
 -- the same where the programs are within the length that a validator reads
 pub correct_tokens_of : (n : ℕ) → AreWithin (demo_of n) → Tokens (correct_program n) (tokens_from 1 (correct_pieces (bounds n loop_count))) Whole

@@ -1,5 +1,5 @@
 -- The pieces of a demo's lines stand: each is the longest token at its place.
-use Rattle.std.proofs.Common.{◌≡◌, ◌≢◌, ℕ, zero, suc, ◌+◌, ◌-◌, ◌*◌, ◌^◌, ◌<◌, ◌≤◌, ◌==◌, ◌∙◌, Bool, true, false, not, ◌&&◌, ◌||◌, nat_lt, List, [], ◌∷◌, ◌++◌, length, take, drop, get_or, Option, Some, decimal, codes, refl, sym, ap, subst, arith, cond}
+use Rattle.std.proofs.Common.{◌≡◌, ◌≢◌, ℕ, suc, ◌+◌, ◌^◌, ◌<◌, ◌==◌, ◌∙◌, Bool, true, false, nat_lt, List, [], ◌∷◌, ◌++◌, length, take, drop, get_or, Option, Some, decimal, refl, ap, arith}
 use Rattle.std.specs.List.{list_all, prefix_len, take_while}
 use Rattle.std.proofs.Math.Seq.{take-append_seam, take-length}
 use Rattle.std.proofs.lemmas.Bool.Decides.{nat_tests}
@@ -9,7 +9,7 @@ use Rattle.c_tokens.specs.declared.token.TokenKind.{TokenKind}
 use Rattle.c_tokens.specs.declared.token.TokenKind.TheVariants.{Word, Number}
 use Rattle.c_tokens.specs.Bytes.{is_digit, is_letter, is_word_byte, is_number_byte}
 use Rattle.c_tokens.specs.Gaps.{gap}
-use Rattle.c_tokens.specs.Numbers.{number_in, constant, in_radix, with_suffix, suffix_of}
+use Rattle.c_tokens.specs.Numbers.{constant}
 use Rattle.c_tokens.specs.Scan.{scan, word_scan, number_scan}
 use Rattle.c_tokens.proofs.Choices.{both, first_choice, second_choice}
 use Rattle.c_tokens.proofs.Runs.{run_exact}
@@ -30,7 +30,7 @@ word_found b c w rest letter all other =
 
 -- ---- decimals
 
-all_run : (p : ℕ → Bool) (w : List ℕ) → list_all p w ≡ true → prefix_len p w ≡ length w
+pub all_run : (p : ℕ → Bool) (w : List ℕ) → list_all p w ≡ true → prefix_len p w ≡ length w
 all_run p [] all = refl
 all_run p (a ∷ w) all =
     let parts = both (p a) (list_all p w) all in
@@ -47,7 +47,7 @@ dropped (a ∷ w) = dropped w
 number_byte : (b : ℕ) → is_digit b ≡ true → is_number_byte b ≡ true
 number_byte b e = rw (digit_goes_on b e) refl
 
-all_number_bytes : (w : List ℕ) → list_all is_digit w ≡ true → list_all is_number_byte w ≡ true
+pub all_number_bytes : (w : List ℕ) → list_all is_digit w ≡ true → list_all is_number_byte w ≡ true
 all_number_bytes [] all = refl
 all_number_bytes (a ∷ w) all =
     let parts = both (is_digit a) (list_all is_digit w) all in
@@ -62,14 +62,14 @@ all_word_bytes (a ∷ w) all =
 no_line_end : (b : ℕ) → is_digit b ≡ true → goes_on b ≡ true
 no_line_end b e = grind (arith, nat_tests)
 
-all_go_on : (w : List ℕ) → list_all is_digit w ≡ true → list_all goes_on w ≡ true
+pub all_go_on : (w : List ℕ) → list_all is_digit w ≡ true → list_all goes_on w ≡ true
 all_go_on [] all = refl
 all_go_on (a ∷ w) all =
     let parts = both (is_digit a) (list_all is_digit w) all in
     rw (no_line_end a parts.0, all_go_on w parts.1) refl
 
 -- a decimal that doesn't begin with 0 is this constant
-digits_constant : (v d : ℕ) (ds : List ℕ) → AreDigits v (d ∷ ds) → d ≢ 48 → v < 2 ^ 64 → constant (d ∷ ds) ≡ Some (Number v true false 0)
+pub digits_constant : (v d : ℕ) (ds : List ℕ) → AreDigits v (d ∷ ds) → d ≢ 48 → v < 2 ^ 64 → constant (d ∷ ds) ≡ Some (Number v true false 0)
 digits_constant v d ds h other small =
     let first : (d == 48) ≡ false = grind (arith, nat_tests) in
     let run : prefix_len is_digit (d ∷ ds) ≡ length (d ∷ ds) = all_run is_digit (d ∷ ds) h.all in
@@ -79,7 +79,7 @@ digits_constant v d ds h other small =
     let low : nat_lt v (2 ^ 64) ≡ true = grind (arith, nat_tests) in
     rw first (rw (run, taken, left) (rw (some, h.value, low) refl))
 
-digit_no_letter : (b : ℕ) → is_digit b ≡ true → is_letter b ≡ false
+pub digit_no_letter : (b : ℕ) → is_digit b ≡ true → is_letter b ≡ false
 digit_no_letter b e = grind (arith, nat_tests)
 
 digits_found : (v d c : ℕ) (ds rest : List ℕ) → AreDigits v (d ∷ ds) → d ≢ 48 → v < 2 ^ 64 → is_number_byte c ≡ false →
@@ -114,7 +114,7 @@ digit_gap : (fresh : Bool) (b : ℕ) (text : List ℕ) → is_digit b ≡ true �
 digit_gap fresh b text e =
     gap_plain fresh b text (digit_not b 32 e refl) (digit_not b 9 e refl) (digit_not b 10 e refl) (digit_not b 12 e refl) (digit_not b 13 e refl) (digit_not b 35 e refl) (digit_not b 47 e refl)
 
-digits_gap : (fresh : Bool) (v : ℕ) (ds rest : List ℕ) → AreDigits v ds → 0 < length ds → gap fresh (ds ++ rest) ≡ Absent
+pub digits_gap : (fresh : Bool) (v : ℕ) (ds rest : List ℕ) → AreDigits v ds → 0 < length ds → gap fresh (ds ++ rest) ≡ Absent
 digits_gap fresh v [] rest h some = absurd (omega arith)
 digits_gap fresh v (d ∷ ds) rest h some = digit_gap fresh d (ds ++ rest) (both (is_digit d) (list_all is_digit ds) h.all).0
 

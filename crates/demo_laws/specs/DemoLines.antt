@@ -1,5 +1,5 @@
 -- The programs of a demo as lines of pieces.
-use Rattle.std.specs.Prelude.{ℕ, ◌+◌, Bool, true, false, not, nat_eq, List, [], ◌∷◌, ◌++◌, codes, decimal}
+use Rattle.std.specs.Prelude.{ℕ, ◌+◌, true, false, not, nat_eq, List, [], ◌∷◌, ◌++◌, codes, decimal}
 use Rattle.c_tokens.specs.declared.token.TokenKind.{TokenKind}
 use Rattle.c_tokens.specs.declared.token.TokenKind.TheVariants.{Word, Number, Punct as Sign}
 use Rattle.c_tokens.specs.declared.token.Punct.{Punct}

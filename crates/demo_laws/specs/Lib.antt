@@ -1,3 +1,4 @@
+pub mod Bounds
 pub mod Lines
 pub mod Shapes
 pub mod DemoLines

@@ -1,14 +1,13 @@
 -- The tokens and the tree of a loop, over any places.
-use Rattle.std.specs.Prelude.{◌≡◌, ℕ, Bool, true, false, List, [], ◌∷◌, ◌++◌, Option, Some, None, codes}
+use Rattle.std.specs.Prelude.{ℕ, Bool, true, false, List, [], ◌∷◌, Some, None, codes}
 use Rattle.c_core.specs.declared.number.Spot.{Spot}
 use Rattle.c_core.specs.declared.number.IntType.TheVariants.{Int}
 use Rattle.c_core.specs.declared.number.BinOp.TheVariants as op
 use Rattle.c_tokens.specs.declared.token.Token.{Token}
-use Rattle.c_tokens.specs.declared.token.TokenKind.{TokenKind}
 use Rattle.c_tokens.specs.declared.token.TokenKind.TheVariants.{Word, Number as ANumber, Punct as Sign}
 use Rattle.c_tokens.specs.declared.token.Punct.{Punct}
 use Rattle.c_tokens.specs.declared.token.Punct.TheVariants as sign
-use Rattle.c_parser.specs.Tree.{Exp, Expr, Node, Stm, Stmt, MoreStm, NoStm, MoreExp, NoExp, Declared}
+use Rattle.c_parser.specs.Tree.{Exp, Expr, Stm, Stmt, MoreStm, NoStm, NoExp}
 use Rattle.c_parser.specs.Tree as t
 
 abbrev pub word : List ℕ → Spot → Token

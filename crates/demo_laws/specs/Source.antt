@@ -1,9 +1,8 @@
 -- The sources of a demo's programs: their tokens and trees, loop by loop.
-use Rattle.std.specs.Prelude.{ℕ, zero, suc, ◌+◌, ◌*◌, Bool, true, false, not, nat_eq, List, [], ◌∷◌, ◌++◌, length, Option, Some, None, codes}
+use Rattle.std.specs.Prelude.{ℕ, zero, suc, ◌+◌, not, nat_eq, List, [], ◌∷◌, ◌++◌, codes}
 use Rattle.c_core.specs.declared.number.Spot.{Spot}
-use Rattle.c_core.specs.declared.number.IntType.TheVariants.{Int}
 use Rattle.c_tokens.specs.declared.token.Token.{Token}
-use Rattle.c_parser.specs.Tree.{Stm, Stmt, Item, stms}
+use Rattle.c_parser.specs.Tree.{Stm, Item}
 use Rattle.c_parser.specs.Tree as t
 use Rattle.demo_laws.specs.DemoLines.{name, head_line, declaration_line, step_line, end_line, error_line, positive, number, input_line, return_line, last_line, reach_line, prototype_line, main_line}
 use Rattle.demo_laws.specs.Lines.{line_tokens, spot}

@@ -8,11 +8,17 @@ ghost use Rattle.c_tokens.specs.Reading.{Tokens, Whole};
 ghost use Rattle.wv_author.specs.Demo.{AreWithin, demo_of};
 ghost use Rattle.wv_author.specs.Programs.{correct_program, faulty_program};
 ghost use Rattle.wv_author.specs.Sequence.{bounds, loop_count};
+ghost use Rattle.demo_laws.specs.Bounds.{AreBounds};
 ghost use Rattle.demo_laws.specs.DemoLines.{correct_pieces, faulty_pieces};
 ghost use Rattle.demo_laws.specs.Lines.{tokens_from};
 ghost use Rattle.demo_laws.specs.Source.{correct_items, faulty_items};
 
 use c_parser::{one_source, source_or_syntax};
+
+/// The loops of a number have bounds from 1 to 100.
+pub fn demos_have_bounds()
+    ensures { (n : ℕ) → AreBounds (bounds n loop_count) }
+{}
 
 /// The programs of a number are the tokens of their lines.
 pub fn demos_are_tokens()
