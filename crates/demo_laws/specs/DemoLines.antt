@@ -6,6 +6,7 @@ use Rattle.c_tokens.specs.declared.token.Punct.{Punct}
 use Rattle.c_tokens.specs.declared.token.Punct.TheVariants as sign
 use Rattle.demo_laws.specs.Lines.{Piece}
 
+-- blanks and a token
 abbrev pub piece : ℕ → List ℕ → TokenKind → Piece
 piece blanks spelling kind = record { blanks = blanks; spelling = spelling; kind = kind }
 
@@ -99,16 +100,18 @@ input_line =
 abbrev pub input_pieces : ℕ → List (List Piece)
 input_pieces n = input_line ∷ head_line (codes "if") (codes "y") (codes "==") sign.Equal (number 1 n) ∷ error_line ∷ end_line ∷ []
 
--- what stands before the loops, and behind them
+-- what stands before the loops
 abbrev pub opening_pieces : List (List Piece)
 opening_pieces = reach_line ∷ prototype_line ∷ main_line ∷ []
 
+-- what stands behind the loops, or behind the input
 abbrev pub closing_pieces : List (List Piece)
 closing_pieces = return_line ∷ last_line ∷ []
 
--- the programs of these bounds
+-- the program of these bounds
 abbrev pub correct_pieces : List ℕ → List (List Piece)
 correct_pieces bs = opening_pieces ++ (loops_pieces 1 bs ++ closing_pieces)
 
+-- the same with an input that is compared with n
 abbrev pub faulty_pieces : ℕ → List ℕ → List (List Piece)
 faulty_pieces n bs = opening_pieces ++ (loops_pieces 1 bs ++ (input_pieces n ++ closing_pieces))
