@@ -2,6 +2,7 @@
 //! witnesses are hostile: whatever is printed of them is printed as text, without control characters.
 #![tactic(auto)]
 
+mod by_line;
 mod files;
 mod growing;
 mod lines;
@@ -11,6 +12,7 @@ mod printed;
 mod report;
 mod rules;
 
+pub use by_line::{by_line, parted_at};
 pub use files::Files;
 pub use growing::{Growing, last_holding};
 pub use lines::{line_of, offset_of, spot_at};
