@@ -14,6 +14,3 @@ pub use command::{Asked, Form, read_words};
 pub use listed::{Progress, Stop, judge_lines};
 pub use replying::{Replied, replied_to, usage_reply};
 pub use showing::{Shown, shown};
-
-#[cfg(test)]
-mod tests;

@@ -21,6 +21,3 @@ pub use message::{File, Level, Message, Messages};
 pub use printed::{push_caret, push_printable};
 pub use report::push_message;
 pub use rules::{advice, wanted_place};
-
-#[cfg(test)]
-mod tests;
