@@ -13,4 +13,4 @@ mod showing;
 pub use command::{Asked, Form, read_words};
 pub use listed::{Progress, Stop, judge_lines};
 pub use replying::{Replied, replied_to, usage_reply};
-pub use showing::{Shown, shown};
+pub use showing::{Output, shown};

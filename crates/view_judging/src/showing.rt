@@ -11,7 +11,7 @@ use wv_base::{OutOfMemory, Shelf};
 
 /// The bytes that are shown of a judgement, and its status.
 #[derive(Debug, Drop)]
-pub struct Shown {
+pub struct Output {
     pub bytes: Vec<u8>,
     pub status: u8,
 }
@@ -119,7 +119,7 @@ pub fn shown<S: Shelf + Drop>(
     budgets: Budgets,
     form: Form,
     shelf: S,
-) -> Result<Shown, OutOfMemory> {
+) -> Result<Output, OutOfMemory> {
     let mut shelf = Keeping::new(alloc, shelf);
     let replied = replied_to(alloc, names, budgets, &mut shelf)?;
     if shelf.is_lost() {
@@ -138,7 +138,7 @@ pub fn shown<S: Shelf + Drop>(
     );
     let messages = messages_of(alloc, &replied, &files, budgets)?;
     let bytes = printed(alloc, &files, &replied, &messages, form)?;
-    Ok(Shown {
+    Ok(Output {
         bytes,
         status: replied.status,
     })

@@ -2,22 +2,22 @@
 //! witnesses are hostile: whatever is printed of them is printed as text, without control characters.
 #![tactic(auto)]
 
-mod by_line;
 mod files;
 mod growing;
 mod lines;
 mod listing;
 mod message;
+mod noted;
 mod printed;
 mod report;
 mod rules;
 
-pub use by_line::{by_line, parted_at};
 pub use files::Files;
 pub use growing::{Growing, last_holding};
 pub use lines::{line_of, offset_of, spot_at};
 pub use listing::push_listing;
 pub use message::{File, Level, Message, Messages};
+pub use noted::{by_line, parted_at};
 pub use printed::{push_caret, push_printable};
 pub use report::push_message;
 pub use rules::{advice, wanted_place};

@@ -1,7 +1,7 @@
 // A confirmation as gcov prints a run: each line of the program with how often it was reached, and the notes below their lines.
-use crate::by_line::{by_line, parted_at};
 use crate::files::Files;
 use crate::message::{File, Message, Messages};
+use crate::noted::{by_line, parted_at};
 use crate::printed::{push_caret, push_printable};
 use c_core::Spot;
 use std::alloc::Global;
