@@ -36,7 +36,7 @@ impl From<OutOfMemory> for Stop {
 /// Who is told how far a list is.
 pub trait Progress {
     /// A line is begun, by its number from 1, of so many.
-    fn begins(&mut self, number: usize, of: usize);
+    fn begins(&mut self, number: usize, total: usize);
 }
 
 /// A judgement as one line of JSON.
@@ -100,12 +100,12 @@ pub fn judge_lines<S: Shelf, O: Sink, P: Progress>(
     out: &mut O,
     progress: &mut P,
 ) -> Result<u8, Stop> {
-    let of = lines_in(text);
+    let total = lines_in(text);
     let mut worst = 0u8;
     for (index, line) in text.lines().enumerate() {
         let number = index.saturating_add(1);
         let line = line.trim();
-        progress.begins(number, of);
+        progress.begins(number, total);
         if !line.is_empty() {
             worst = worst.max(judge_line(alloc, number, line, budgets, shelf, out)?);
         }

@@ -6,7 +6,7 @@ use wv_arguments::{Budgets, Names};
 use wv_base::{OutOfMemory, Shelf, SteadyShelf};
 
 /// A reply as the validator wrote it, with its status.
-#[derive(Debug, Drop)]
+#[derive(Drop)]
 pub struct Replied {
     pub status: u8,
     pub reply: Vec<u8>,

@@ -10,21 +10,21 @@ use wv_arguments::{Budgets, Names};
 use wv_base::{OutOfMemory, Shelf};
 
 /// The bytes that are shown of a judgement, and its status.
-#[derive(Debug, Drop)]
+#[derive(Drop)]
 pub struct Output {
     pub bytes: Vec<u8>,
     pub status: u8,
 }
 
 /// The code of a reply to files that weren't read whole, and the file.
-fn unread(reply: &[u8]) -> Option<(&'static str, File)> {
+fn unread(reply: &str) -> Option<(&'static str, File)> {
     match reply {
-        b"fault read program\n" => Some(("fault", File::Program)),
-        b"fault read property\n" => Some(("fault", File::Property)),
-        b"fault read witness\n" => Some(("fault", File::Witness)),
-        b"refused too-long program\n" => Some(("too-long", File::Program)),
-        b"refused too-long property\n" => Some(("too-long", File::Property)),
-        b"refused too-long witness\n" => Some(("too-long", File::Witness)),
+        "fault read program\n" => Some(("fault", File::Program)),
+        "fault read property\n" => Some(("fault", File::Property)),
+        "fault read witness\n" => Some(("fault", File::Witness)),
+        "refused too-long program\n" => Some(("too-long", File::Program)),
+        "refused too-long property\n" => Some(("too-long", File::Property)),
+        "refused too-long witness\n" => Some(("too-long", File::Witness)),
         _ => None,
     }
 }
@@ -36,8 +36,9 @@ fn messages_of(
     files: &Files<'_>,
     budgets: Budgets,
 ) -> Result<Messages, OutOfMemory> {
+    let reply = String::from_utf8_lossy(alloc, replied.reply.as_slice())?;
     let mut messages = Messages::new(alloc);
-    match unread(replied.reply.as_slice()) {
+    match unread(reply.as_str()) {
         Some((code, file)) => {
             let told = String::from_str(alloc, advice(code))?;
             messages.error(code, file, None, told)?;

@@ -10,7 +10,7 @@ use wv_base::MemorySink;
 struct Quiet;
 
 impl Progress for Quiet {
-    fn begins(&mut self, _number: usize, _of: usize) {}
+    fn begins(&mut self, _number: usize, _total: usize) {}
 }
 
 fn status_of(judged: Result<u8, Stop>) -> u8 {

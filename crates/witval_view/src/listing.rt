@@ -14,9 +14,9 @@ struct ProgressLine<'a> {
 }
 
 impl Progress for ProgressLine<'_> {
-    fn begins(&mut self, number: usize, of: usize) {
+    fn begins(&mut self, number: usize, total: usize) {
         if self.is_watched {
-            let _ = eprint!(self.rt; "\rwitval-view: line {number} of {of} ");
+            let _ = eprint!(self.rt; "\rwitval-view: line {number} of {total} ");
         }
     }
 }
