@@ -75,11 +75,11 @@ pub fn is_same_spot(a: Spot, b: Spot) -> bool {
     a.line == b.line && a.column == b.column
 }
 
-/// The object that is declared at a place, with its number.
-pub fn declared_at(program: &Program, spot: Spot) -> Option<(usize, &Object)> {
-    for (number, object) in program.objects.as_slice().iter().enumerate() {
+/// The object that is declared at a place.
+pub fn declared_at(program: &Program, spot: Spot) -> Option<&Object> {
+    for object in program.objects.as_slice() {
         if is_same_spot(object.spot, spot) {
-            return Some((number, object));
+            return Some(object);
         }
     }
     None
