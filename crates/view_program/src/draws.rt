@@ -11,7 +11,7 @@ use wv_base::OutOfMemory;
 const MOST: usize = 20;
 
 /// The draws at one place.
-#[derive(Clone, Copy, Debug)]
+#[derive(Clone, Copy)]
 struct Tally {
     spot: Spot,
     kind: DrawKind,

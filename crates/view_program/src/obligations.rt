@@ -110,7 +110,7 @@ pub fn note_invariant(
 }
 
 /// A cell of an object.
-#[derive(Clone, Copy, Debug)]
+#[derive(Clone, Copy)]
 struct Cell {
     object: u32,
     index: u32,

@@ -7,7 +7,7 @@ use view_text::{File, Files, Messages, advice, offset_of, spot_at};
 use wv_base::OutOfMemory;
 
 /// The first token of a line, and how many products, quotients and remainders the line has.
-#[derive(Clone, Copy, Debug)]
+#[derive(Clone, Copy)]
 struct Load {
     spot: Spot,
     count: u32,
