@@ -1,6 +1,6 @@
 // A waypoint or an invariant that isn't bound to the program.
 use crate::constraint::{Lack, lack_of, words_of};
-use crate::names::{at_loop, at_statement, is_visible, names_text};
+use crate::names::{at_loop, at_statement, names_of, names_text};
 use crate::nearest::{Wanted, columns, columns_text, first_spot, nearest_line};
 use crate::segments::Numbered;
 use crate::spelled::{invariant_word, place_text, spot_of, way_word};
@@ -218,22 +218,31 @@ fn explain_expression(
     note_in_witness(alloc, files, claim, key, out)
 }
 
-/// The words of an expression that name no visible object.
+/// The words of an expression that name no visible object, each once.
 fn unseen(
     alloc: Global,
     program: &Program,
     objects: &[u32],
     expression: &str,
 ) -> Result<String, OutOfMemory> {
+    let mut known = names_of(alloc, program, objects)?;
     let mut text = String::new(alloc);
     for word in words_of(alloc, expression)?.as_slice() {
-        if !is_visible(program, objects, word.as_str()) {
-            text.push_str(if text.is_empty() { "`" } else { ", `" })?;
-            text.push_str(word.as_str())?;
-            text.push_str("`")?;
+        let word = word.as_str();
+        if !known.contains(word) {
+            push_word(&mut text, word)?;
+            known.insert(String::from_str(alloc, word)?)?;
         }
     }
     Ok(text)
+}
+
+/// Appends a word between back quotes, behind a comma where words stand before it.
+fn push_word(text: &mut String, word: &str) -> Result<(), OutOfMemory> {
+    text.push_str(if text.is_empty() { "`" } else { ", `" })?;
+    text.push_str(word)?;
+    text.push_str("`")?;
+    Ok(())
 }
 
 /// The objects that a claim may name.
