@@ -148,7 +148,8 @@ impl Front {
 
     /// Whether bytes are left to read a front with its completion.
     fn may_read(&mut self, inner: &str, outer: &str) -> bool {
-        let size = self.text.len().saturating_add(inner.len()).saturating_add(outer.len());
+        let closing = inner.len().saturating_add(outer.len());
+        let size = self.text.len().saturating_add(closing);
         let has_room = size <= self.left;
         self.left = self.left.saturating_sub(size);
         has_room
@@ -168,7 +169,10 @@ impl Front {
                 behind,
                 outer,
             };
-            if self.may_read(inner, outer) && is_spelled(alloc, self.text.as_slice(), with)? {
+            if !self.may_read(inner, outer) {
+                return Ok(false);
+            }
+            if is_spelled(alloc, self.text.as_slice(), with)? {
                 return Ok(true);
             }
         }

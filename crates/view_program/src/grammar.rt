@@ -37,7 +37,8 @@ impl<'a> Item<'a> {
 
     /// The text of so many tokens.
     fn front(&self, count: usize) -> &'a [u8] {
-        self.text.get(..self.start(count)).unwrap_or(self.text)
+        let end = self.start(count);
+        self.text.get(..end).unwrap_or(self.text)
     }
 
     /// A token's text, with the gap behind it.
@@ -58,7 +59,8 @@ impl<'a> Item<'a> {
     /// Whether something completes the front of so many tokens, which ends with a statement.
     fn is_whole_front(&self, alloc: Global, count: usize) -> Result<bool, OutOfMemory> {
         let walk = self.walk(alloc, count)?;
-        Front::of(alloc, self.front(count), walk)?.is_whole(alloc)
+        let front = Front::of(alloc, self.front(count), walk)?;
+        front.is_whole(alloc)
     }
 
     /// The front of so many tokens without what stands whole in its blocks.
@@ -78,7 +80,8 @@ impl<'a> Item<'a> {
         if front.is_whole(alloc)? {
             return Ok(front);
         }
-        Front::of(alloc, self.front(count), self.walk(alloc, count)?)
+        let walk = self.walk(alloc, count)?;
+        Front::of(alloc, self.front(count), walk)
     }
 }
 
