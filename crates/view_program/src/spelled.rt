@@ -1,6 +1,5 @@
 // The names that messages have for things.
-use c_core::{Callee, DataModel, IntType, Object, Program, Spot};
-use c_meaning::DutyKind;
+use c_core::{IntType, Object, Program, Spot};
 use std::alloc::Global;
 use wv_base::OutOfMemory;
 use wv_schema::{InvariantKind, Location, WayKind, Waypoint};
