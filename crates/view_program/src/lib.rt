@@ -13,6 +13,8 @@ mod names;
 mod nearest;
 mod obligations;
 mod passing;
+mod placed;
+mod route;
 mod segments;
 mod sets;
 mod shrinking;
@@ -22,6 +24,7 @@ mod stages;
 mod tracker;
 mod unmatched;
 mod violation;
+mod ways;
 mod words;
 
 pub use stages::explain;
