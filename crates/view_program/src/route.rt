@@ -126,12 +126,12 @@ impl<'a> Route<'a> {
             after.is_reached = true;
             after.is_open = true;
         }
-        (after, coming(passed, assumes))
+        (after, coming_by(passed, assumes))
     }
 }
 
 /// How a way comes to the next segment where it passed one, whose waypoint to follow is an assumption or another.
-fn coming(passed: bool, assumes: bool) -> Coming {
+fn coming_by(passed: bool, assumes: bool) -> Coming {
     if !passed {
         Coming::Not
     } else if assumes {
