@@ -9,7 +9,7 @@ use way_places::Index;
 use wv_base::OutOfMemory;
 
 /// What was seen of a segment while all before it were passed.
-#[derive(Clone, Copy, Debug, PartialEq, Eq)]
+#[derive(Clone, Copy)]
 pub struct Waiting {
     /// Whether a way came so far.
     pub is_reached: bool,
@@ -22,7 +22,7 @@ pub struct Waiting {
 }
 
 /// How a way comes to a segment by an event: not, or by a waypoint to follow that is an assumption or another.
-#[derive(Clone, Copy, Debug, PartialEq, Eq)]
+#[derive(Clone, Copy)]
 pub enum Coming {
     Not,
     ByAssumption,
