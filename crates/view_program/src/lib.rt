@@ -15,6 +15,8 @@ mod names;
 mod nearest;
 mod obligations;
 mod passing;
+mod placed;
+mod route;
 mod segments;
 mod sets;
 mod shrinking;
@@ -24,6 +26,7 @@ mod stages;
 mod tracker;
 mod unmatched;
 mod violation;
+mod ways;
 mod words;
 
 pub use stages::explain;
