@@ -1,6 +1,5 @@
 // Rows of the schema: a witness, and behind it its fault with its path or its segment, or `met`.
-use crate::table::{NotTried, Row};
-use crate::texts::witness;
+use row_files::{NotTried, Row, witness};
 use std::alloc::{AllocError, Global};
 use wv_schema::{SchemaFault, Witness, tree_of, witness_of};
 use wv_yaml::{Tree, read};

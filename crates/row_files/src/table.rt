@@ -1,4 +1,4 @@
-// Files of rows: sections, and rows of named fields. `main.rt` says how they are written.
+// Files of rows: sections, and rows of named fields. The head of the crate says how they are written.
 use crate::escapes::push_meant;
 use std::alloc::{AllocError, AllocFailed, Global};
 use std::str;
