@@ -60,7 +60,11 @@ impl<'a> Route<'a> {
 
     /// The segments from this number, from 0, on.
     pub fn behind(&self, number: usize) -> &[BoundSegment] {
-        self.bound.segments.as_slice().get(number..).unwrap_or(&[])
+        let segments = self.bound.segments.as_slice();
+        match segments.get(number..) {
+            Some(rest) => rest,
+            None => &[],
+        }
     }
 
     /// The numbers of the segments that an event may move. They rise, and one may come more than once.
