@@ -45,11 +45,7 @@ fn value_of(constraint: &Option<Constraint>) -> &str {
 }
 
 /// What is told of a waypoint.
-pub fn claim_of_waypoint<'a, 'p>(
-    number: u32,
-    found: Numbered<'a>,
-    path: &'p str,
-) -> Claim<'a, 'p> {
+pub fn claim_of_waypoint<'a, 'p>(number: u32, found: Numbered<'a>, path: &'p str) -> Claim<'a, 'p> {
     let waypoint = found.waypoint;
     Claim {
         number,

@@ -4,7 +4,7 @@ use crate::obligations::obligation_text;
 use crate::spelled::{type_word, waypoint_text};
 use crate::tracker::Tracker;
 use c_core::Spot;
-use c_meaning::{Draw, DrawKind, Duty};
+use c_meaning::{Draw, DrawKind, Duty, DutyKind};
 use std::alloc::Global;
 use view_text::{File, Messages};
 use wv_base::OutOfMemory;
@@ -96,6 +96,16 @@ pub fn show_run(
     Ok(())
 }
 
+/// What it means that an obligation of a kind holds.
+fn meaning_of(kind: DutyKind) -> &'static str {
+    match kind {
+        DutyKind::Location => "it holds whenever a havoc run reaches this statement",
+        DutyKind::Entry => "it holds whenever a havoc run comes to this loop",
+        DutyKind::Kept => "each turn of this loop keeps it",
+        DutyKind::Property => "no havoc run violates the property here",
+    }
+}
+
 /// Obligations that hold.
 pub fn show_obligations(
     alloc: Global,
@@ -106,7 +116,7 @@ pub fn show_obligations(
     let mut index = 0u32;
     for duty in duties {
         index = index.saturating_add(1);
-        let told = obligation_text(alloc, witness, index, *duty, "holds")?;
+        let told = obligation_text(alloc, witness, index, *duty, meaning_of(duty.kind))?;
         out.note(File::Program, Some(duty.spot), told)?;
     }
     out.confirm(Vec::new(alloc));

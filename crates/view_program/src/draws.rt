@@ -33,10 +33,7 @@ fn given_at(choices: &Choices, spot: Spot) -> u64 {
 }
 
 /// Counts a draw at its line and column.
-fn count_draw(
-    tallies: &mut BTreeMap<(u32, u32), Tally>,
-    draw: &Draw,
-) -> Result<(), OutOfMemory> {
+fn count_draw(tallies: &mut BTreeMap<(u32, u32), Tally>, draw: &Draw) -> Result<(), OutOfMemory> {
     let none = Tally {
         spot: draw.spot,
         kind: draw.from,
@@ -50,10 +47,7 @@ fn count_draw(
 }
 
 /// The draws at each place, by line and column.
-fn tallies_of(
-    alloc: Global,
-    draws: &[Draw],
-) -> Result<BTreeMap<(u32, u32), Tally>, OutOfMemory> {
+fn tallies_of(alloc: Global, draws: &[Draw]) -> Result<BTreeMap<(u32, u32), Tally>, OutOfMemory> {
     let mut tallies = BTreeMap::new(alloc);
     for draw in draws {
         count_draw(&mut tallies, draw)?;
@@ -61,12 +55,22 @@ fn tallies_of(
     Ok(tallies)
 }
 
+/// How a value is given to an input call.
+const REMEDY: &str =
+    "a waypoint gives one: function_return with `\\result == VALUE` at the closing parenthesis, or an assumption on the statement behind it";
+
 fn input_text(alloc: Global, tally: &Tally, given: u64) -> Result<String, OutOfMemory> {
     let ty = type_word(tally.ty);
     let count = tally.count;
     let free = count.saturating_sub(given);
+    let remedy = REMEDY;
+    if count == 1 {
+        return Ok(format!(in alloc;
+            "this input call drew one {ty}, which was 0 for want of a value; {remedy}"
+        )?);
+    }
     Ok(format!(in alloc;
-        "this input call drew {count} values of {ty}, and {free} of them, the last, were 0 for want of a waypoint that gives one: function_return with `\\result == VALUE` at its closing parenthesis, or an assumption on the statement behind it"
+        "this input call drew {count} values of {ty}, the last {free} of them 0 for want of a value; {remedy}"
     )?)
 }
 
@@ -82,7 +86,7 @@ fn cell_text(alloc: Global, program: &Program, tally: &Tally) -> Result<String, 
     let name = name_at(program, tally.spot);
     let count = tally.count;
     Ok(format!(in alloc;
-        "`{name}` is declared here without a value: {count} of its cells were 0, which no waypoint can change"
+        "`{name}` is declared here without a value and stood at 0 (cells: {count}), which no waypoint can change"
     )?)
 }
 

@@ -116,11 +116,7 @@ struct Cell {
     index: u32,
 }
 
-fn push_cells(
-    program: &Program,
-    object: u32,
-    cells: &mut Vec<Cell>,
-) -> Result<(), OutOfMemory> {
+fn push_cells(program: &Program, object: u32, cells: &mut Vec<Cell>) -> Result<(), OutOfMemory> {
     for index in 0..size_of_object(program, object) {
         cells.push(Cell { object, index })?;
     }

@@ -56,7 +56,7 @@ fn explain_conflicts(
         return Ok(());
     };
     let why = format!(in alloc;
-        "{count} conflicts were spent on it: a larger --conflicts, or an invariant that says more of what it needs, may decide"
+        "the budget is spent on it (conflicts: {count}); a larger --conflicts, or an invariant that says more of what it needs, may decide"
     )?;
     let told = obligation_text(alloc, witness, index, *duty, why.as_str())?;
     out.warning("undecided", File::Program, Some(duty.spot), told)?;

@@ -65,11 +65,7 @@ fn largest(objects: &[Object]) -> Option<&Object> {
     objects.get(place)
 }
 
-fn note_line(
-    alloc: Global,
-    files: &Files<'_>,
-    out: &mut Messages,
-) -> Result<(), OutOfMemory> {
+fn note_line(alloc: Global, files: &Files<'_>, out: &mut Messages) -> Result<(), OutOfMemory> {
     let tokens = tokens_of(alloc, files.text(File::Program));
     let load = heaviest_line(tokens.as_slice());
     let count = load.count;
@@ -80,11 +76,7 @@ fn note_line(
     out.note(File::Program, Some(load.spot), told)
 }
 
-fn note_array(
-    alloc: Global,
-    program: &Program,
-    out: &mut Messages,
-) -> Result<(), OutOfMemory> {
+fn note_array(alloc: Global, program: &Program, out: &mut Messages) -> Result<(), OutOfMemory> {
     let Some(object) = largest(program.objects.as_slice()) else {
         return Ok(());
     };
