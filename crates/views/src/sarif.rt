@@ -68,25 +68,25 @@ fn is_level(value: Option<&Value>) -> bool {
 }
 
 /// What a result lacks.
-fn result_lacks(result: &Value) -> Option<&'static str> {
-    if !is_text(result.pointer("/message/text")) {
+fn result_lacks(found: &Value) -> Option<&'static str> {
+    if !is_text(found.pointer("/message/text")) {
         return Some("message.text");
     }
-    if !is_level(result.get("level")) {
+    if !is_level(found.get("level")) {
         return Some("level");
     }
-    if !is_text(result.get("ruleId")) {
+    if !is_text(found.get("ruleId")) {
         return Some("ruleId");
     }
-    if let Some(member) = locations_lack(items_of(result.get("locations"))) {
+    if let Some(member) = locations_lack(items_of(found.get("locations"))) {
         return Some(member);
     }
-    locations_lack(items_of(result.get("relatedLocations")))
+    locations_lack(items_of(found.get("relatedLocations")))
 }
 
 fn results_lack(results: &[Value]) -> Option<&'static str> {
-    for result in results {
-        if let Some(member) = result_lacks(result) {
+    for found in results {
+        if let Some(member) = result_lacks(found) {
             return Some(member);
         }
     }
