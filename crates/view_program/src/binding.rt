@@ -123,7 +123,7 @@ fn note_columns(
     let listed = columns_text(alloc, found)?;
     let listed = listed.as_str();
     let kind = claim.kind;
-    let told = format!(in alloc; "on line {line} a {kind} may stand at column {listed}")?;
+    let told = format!(in alloc; "on line {line} there is a place for {kind} at column {listed}")?;
     out.note(File::Program, Some(first_spot(line, found)), told)
 }
 
@@ -270,6 +270,22 @@ fn scope_text(alloc: Global, index: &Index, claim: &Claim<'_, '_>) -> Result<Str
     Ok(format!(in alloc; "no object of this name is visible there: {names}")?)
 }
 
+/// The names that a claim may name.
+fn visible_text(
+    alloc: Global,
+    index: &Index,
+    claim: &Claim<'_, '_>,
+) -> Result<String, OutOfMemory> {
+    let objects = visible(alloc, index, claim)?;
+    let names = names_text(alloc, index.program(), objects.as_slice())?;
+    let names = names.as_str();
+    if names.is_empty() {
+        Ok(String::from_str(alloc, "no object is visible there")?)
+    } else {
+        Ok(format!(in alloc; "visible there, just before it, are: {names}")?)
+    }
+}
+
 fn explain_scope(
     alloc: Global,
     files: &Files<'_>,
@@ -284,10 +300,7 @@ fn explain_scope(
     let told = format!(in alloc; "{head}: {lack}")?;
     out.error("scope", File::Program, Some(spot_of(claim.location)), told)?;
     if !claim.is_result {
-        let objects = visible(alloc, index, claim)?;
-        let names = names_text(alloc, index.program(), objects.as_slice())?;
-        let names = names.as_str();
-        let told = format!(in alloc; "visible there, just before it, are: {names}")?;
+        let told = visible_text(alloc, index, claim)?;
         out.note(File::Program, Some(spot_of(claim.location)), told)?;
     }
     note_in_witness(alloc, files, claim, "location", out)

@@ -28,29 +28,27 @@ pub struct Front {
     left: usize,
 }
 
-/// What is put behind a front: what is wanting, what closes its parentheses, what is wanting behind them, what closes its blocks.
-#[derive(Clone, Copy)]
-struct Completion<'a> {
-    wanting: &'a str,
-    inner: &'a str,
-    behind: &'a str,
-    outer: &'a str,
-}
-
 fn push_part(text: &mut Vec<u8>, part: &str) -> Result<(), OutOfMemory> {
     text.extend_from_slice(part.as_bytes())?;
     text.push(b' ')?;
     Ok(())
 }
 
-/// Whether a front with its completion is a source.
-fn is_spelled(alloc: Global, front: &[u8], with: Completion<'_>) -> Result<bool, OutOfMemory> {
+/// Whether a front is a source with what is wanting, what closes its parentheses, what is wanting behind them, what closes its blocks.
+fn is_spelled(
+    alloc: Global,
+    front: &[u8],
+    wanting: &str,
+    inner: &str,
+    behind: &str,
+    outer: &str,
+) -> Result<bool, OutOfMemory> {
     let mut text = Vec::from_slice(alloc, front)?;
     text.push(b'\n')?;
-    push_part(&mut text, with.wanting)?;
-    push_part(&mut text, with.inner)?;
-    push_part(&mut text, with.behind)?;
-    push_part(&mut text, with.outer)?;
+    push_part(&mut text, wanting)?;
+    push_part(&mut text, inner)?;
+    push_part(&mut text, behind)?;
+    push_part(&mut text, outer)?;
     match read_source(alloc, text.as_slice()) {
         Spelling::Source(_) => Ok(true),
         Spelling::NoTokens(_) | Spelling::NoSource(_) => Ok(false),
@@ -133,13 +131,7 @@ impl Front {
     pub fn is_whole(&self, alloc: Global) -> Result<bool, OutOfMemory> {
         let outer = self.walk.outer(alloc)?;
         for behind in BEHIND_STATEMENT {
-            let with = Completion {
-                wanting: "",
-                inner: "",
-                behind,
-                outer: outer.as_str(),
-            };
-            if is_spelled(alloc, self.text.as_slice(), with)? {
+            if is_spelled(alloc, self.text.as_slice(), "", "", behind, outer.as_str())? {
                 return Ok(true);
             }
         }
@@ -163,16 +155,10 @@ impl Front {
         outer: &str,
     ) -> Result<bool, OutOfMemory> {
         for wanting in WANTING {
-            let with = Completion {
-                wanting,
-                inner,
-                behind,
-                outer,
-            };
             if !self.may_read(inner, outer) {
                 return Ok(false);
             }
-            if is_spelled(alloc, self.text.as_slice(), with)? {
+            if is_spelled(alloc, self.text.as_slice(), wanting, inner, behind, outer)? {
                 return Ok(true);
             }
         }

@@ -47,12 +47,11 @@ pub fn names_text(
 ) -> Result<String, OutOfMemory> {
     let mut text = String::new(alloc);
     let mut listed = Vec::new(alloc);
-    let mut between = "";
     for object in objects.iter().rev() {
         let name = name_of(program, *object);
         if listed.len() < MOST && !is_named(program, listed.as_slice(), name) {
+            let between = if listed.len() == 0 { "" } else { ", " };
             text.push_str(between)?;
-            between = ", ";
             text.push_str(name)?;
             listed.push(*object)?;
         }
