@@ -120,6 +120,14 @@ fn push_line(
     Ok(())
 }
 
+/// A text without the end of its last line.
+fn without_last_end(text: &[u8]) -> &[u8] {
+    match text {
+        [front @ .., b'\n'] => front,
+        _ => text,
+    }
+}
+
 /// A file line by line, with how often each was reached and what is told of it.
 fn push_lines(
     alloc: Global,
@@ -133,7 +141,7 @@ fn push_lines(
     let word = anchor_word(file).unwrap_or("property");
     let mut later = places.as_slice();
     let mut number = 0u32;
-    for line in files.text(file).split(|byte| *byte == b'\n') {
+    for line in without_last_end(files.text(file)).split(|byte| *byte == b'\n') {
         let count = counts.get(number as usize);
         number = number.saturating_add(1);
         let (here, behind) = parted_at(later, number);
