@@ -1,4 +1,4 @@
-// Files of rows: sections, and rows of named fields. The head of the crate says how they are written.
+// Files of rows: sections, and rows of named fields. `main.rt` says how they are written.
 use crate::escapes::push_meant;
 use std::alloc::{AllocError, AllocFailed, Global};
 use std::str;
@@ -80,8 +80,9 @@ impl Row {
 
 fn is_field(name: &str) -> bool {
     match name {
-        "answer" | "edits" | "formula" | "hash" | "model" | "program" | "property" => true,
-        "segments" | "source" | "text" | "witness" | "words" | "yaml" => true,
+        "answer" | "edits" | "formula" | "given" | "hash" | "model" | "program" => true,
+        "property" | "segments" | "source" | "steps" | "text" | "values" => true,
+        "witness" | "words" | "yaml" => true,
         _ => false,
     }
 }

@@ -1,36 +1,26 @@
 // Programs and witnesses of rows: files of `data/`, and what a row adds to them.
 use crate::table::{NotTried, Row};
+use crate::trial::Trial;
 use std::alloc::Global;
-use std::fs;
-use std::io::ErrorKind;
 use wv_base::OutOfMemory;
 
-/// The text of a file of `data/`.
-pub fn read(rt: &HostRuntime, name: &str) -> Result<String, NotTried> {
-    match fs::read_to_string(rt, name) {
-        Ok(text) => Ok(text),
-        Err(e) if e.kind() == ErrorKind::OutOfMemory => Err(NotTried::OutOfMemory),
-        Err(_) => Err(NotTried::Lacks("a file of the name that it gives")),
-    }
-}
-
 /// Files one behind another.
-fn read_each(rt: &HostRuntime, names: &str) -> Result<String, NotTried> {
-    let mut text = String::new(rt.alloc());
+fn read_each(trial: &impl Trial, names: &str) -> Result<String, NotTried> {
+    let mut text = String::new(trial.alloc());
     for name in names.split_whitespace() {
-        text.push_str(read(rt, name)?.as_str())?;
+        text.push_str(trial.file(name)?.as_str())?;
     }
     Ok(text)
 }
 
 /// A row's program: files, and behind them its own lines.
-pub fn program(rt: &HostRuntime, row: &Row) -> Result<Option<Vec<u8>>, NotTried> {
+pub fn program(trial: &impl Trial, row: &Row) -> Result<Option<Vec<u8>>, NotTried> {
     let names = row.text("program")?;
     let source = row.bytes("source");
     if names.is_none() && source.is_none() {
         return Ok(None);
     }
-    let files = read_each(rt, names.unwrap_or(""))?;
+    let files = read_each(trial, names.unwrap_or(""))?;
     let mut bytes = files.into_bytes();
     bytes.extend_from_slice(source.unwrap_or(b""))?;
     Ok(Some(bytes))
@@ -126,14 +116,14 @@ fn push_segments(alloc: Global, out: &mut String, segments: &str) -> Result<(), 
 }
 
 /// A row's witness: files with what is replaced in them, its own lines, and its segments.
-pub fn witness(rt: &HostRuntime, row: &Row) -> Result<Option<Vec<u8>>, NotTried> {
-    let alloc = rt.alloc();
+pub fn witness(trial: &impl Trial, row: &Row) -> Result<Option<Vec<u8>>, NotTried> {
+    let alloc = trial.alloc();
     let names = row.text("witness")?;
     let yaml = row.bytes("yaml");
     if names.is_none() && yaml.is_none() {
         return Ok(None);
     }
-    let mut text = read_each(rt, names.unwrap_or(""))?;
+    let mut text = read_each(trial, names.unwrap_or(""))?;
     if let Some(hash) = row.text("hash")? {
         text = replaced(alloc, text.as_str(), "HASH", hash)?;
     }

@@ -3,9 +3,9 @@
 use crate::check::checked_program;
 use crate::few::bind;
 use crate::schema::read_witness;
+use crate::table::{NotTried, Row};
 use c_core::Spot;
 use c_meaning::{Choices, Given};
-use row_files::{NotTried, Row};
 use std::alloc::{AllocError, Global};
 use way_bind::BindFault;
 use way_match::{Aim, Bound, Point, given};

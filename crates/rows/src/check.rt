@@ -1,9 +1,10 @@
 // Rows of the checker: a source, and behind it the code and the place of its first refusal, or `program`.
 use crate::sources::{parsed, refused};
+use crate::table::{NotTried, Row};
+use crate::texts::program;
 use c_check::{CheckCode, CheckFault, check};
 use c_core::{DataModel, Program, Property};
 use c_parser::Source;
-use row_files::{NotTried, Row, program};
 use std::alloc::{AllocError, Global};
 
 fn word(code: CheckCode) -> &'static str {

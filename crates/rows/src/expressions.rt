@@ -1,8 +1,8 @@
 // Rows of expressions: of a source, of a witness, and constraints on results, and behind them what they are in Lisp's form.
 use crate::sources::parsed;
+use crate::table::{NotTried, Row};
 use c_core::IntType;
 use c_parser::{ExprFault, Item, RawExpr, RawForm, RawNode, Source, parse_expr, parse_result};
-use row_files::{NotTried, Row};
 use std::alloc::{AllocError, Global};
 
 fn push_type(text: &mut String, to: Option<IntType>) -> Result<(), AllocError> {

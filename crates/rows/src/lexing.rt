@@ -1,6 +1,7 @@
 // Rows of tokens: a source, and behind it its tokens, or the place where it has none.
+use crate::table::{NotTried, Row};
+use crate::texts::program;
 use c_tokens::{Token, TokenFault, TokenKind, plain_tokens, tokens};
-use row_files::{NotTried, Row, program};
 use std::alloc::{AllocError, Global};
 use wv_base::Seq;
 

@@ -1,9 +1,33 @@
 // Rows of the whole program: its words and its files, and behind them its status and its report.
-use row_files::{NotTried, Row, shelf, words};
+use crate::table::{NotTried, Row};
+use crate::texts::{program, witness};
 use std::alloc::Global;
 use std::str;
 use witval::run;
-use wv_base::{MemorySink, OutOfMemory};
+use wv_base::{MemoryShelf, MemorySink, OutOfMemory};
+
+fn words(alloc: Global, line: &str) -> Result<Vec<String>, OutOfMemory> {
+    let mut words = Vec::new(alloc);
+    for word in line.split(' ') {
+        words.push(String::from_str(alloc, word)?)?;
+    }
+    Ok(words)
+}
+
+/// The files that a row gives: its program is `p`, its property is `q`, its witness is `w`.
+fn shelf(rt: &HostRuntime, row: &Row) -> Result<MemoryShelf, NotTried> {
+    let mut shelf = MemoryShelf::new(rt.alloc(), 4096);
+    if let Some(program) = program(rt, row)? {
+        shelf.put("p", program.as_slice())?;
+    }
+    if let Some(property) = row.bytes("property") {
+        shelf.put("q", property)?;
+    }
+    if let Some(witness) = witness(rt, row)? {
+        shelf.put("w", witness.as_slice())?;
+    }
+    Ok(shelf)
+}
 
 /// The status, and behind a blank the report.
 pub fn told(rt: &HostRuntime, row: &Row) -> Result<String, NotTried> {

@@ -1,5 +1,6 @@
 // Rows of the schema: a witness, and behind it its fault with its path or its segment, or `met`.
-use row_files::{NotTried, Row, witness};
+use crate::table::{NotTried, Row};
+use crate::texts::witness;
 use std::alloc::{AllocError, Global};
 use wv_schema::{SchemaFault, Witness, tree_of, witness_of};
 use wv_yaml::{Tree, read};

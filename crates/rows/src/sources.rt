@@ -1,12 +1,13 @@
 // Rows of the grammar: a source, and behind it its items as text, with parentheses round each operation and brackets round each
 // statement that is a part; or the place where it fits no form.
+use crate::table::{NotTried, Row};
+use crate::texts::program;
 use c_core::{BinOp, IntType, StepOp, UnOp};
 use c_parser::{
     Item, ParseFault, RawDeclared, RawExpr, RawFirst, RawForm, RawInit, RawNode, RawStmt, Source,
     parse,
 };
 use c_tokens::tokens;
-use row_files::{NotTried, Row, program};
 use std::alloc::{AllocError, Global};
 
 fn type_text(ty: IntType) -> &'static str {

@@ -1,5 +1,5 @@
 // Rows of YAML: what is read of a text, what is written of its tree, and texts between quotes.
-use row_files::{NotTried, Row};
+use crate::table::{NotTried, Row};
 use std::alloc::Global;
 use std::str;
 use wv_base::Text;

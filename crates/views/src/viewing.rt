@@ -1,7 +1,8 @@
 // Rows of views: a command line and its files, and behind them the status and what is printed.
+use crate::command_lines::{shelf, words};
 use crate::replies::begins_with_reply;
 use crate::sarif::lacking;
-use row_files::{NotTried, Row, shelf, words};
+use row_files::{NotTried, Row, Trial};
 use std::alloc::Global;
 use view_judging::{Asked, Form, read_words, shown, usage_reply};
 use wv_arguments::{Budgets, Names};
@@ -9,14 +10,14 @@ use wv_base::OutOfMemory;
 
 /// What is shown of files in one form, with its status before it.
 fn shown_as(
-    rt: &HostRuntime,
+    trial: &impl Trial,
     row: &Row,
     names: &Names<'_>,
     budgets: Budgets,
     form: Form,
 ) -> Result<String, NotTried> {
-    let alloc = rt.alloc();
-    let shown = shown(alloc, names, budgets, form, shelf(rt, row)?)?;
+    let alloc = trial.alloc();
+    let shown = shown(alloc, names, budgets, form, shelf(trial, row)?)?;
     let status = shown.status;
     let text = String::from_utf8_lossy(alloc, shown.bytes.as_slice())?;
     Ok(format!(in alloc; "{status} {text}")?)
@@ -24,24 +25,24 @@ fn shown_as(
 
 /// The same, where the reply stands before all else and the log lacks nothing.
 fn judged(
-    rt: &HostRuntime,
+    trial: &impl Trial,
     row: &Row,
     names: &Names<'_>,
     budgets: Budgets,
     form: Form,
 ) -> Result<String, NotTried> {
-    let text = shown_as(rt, row, names, budgets, Form::Text)?;
-    if !begins_with_reply(rt, row, text.as_str())? {
-        return Ok(format!(in rt.alloc(); "the reply isn't that of `run`: {text}")?);
+    let text = shown_as(trial, row, names, budgets, Form::Text)?;
+    if !begins_with_reply(trial, row, text.as_str())? {
+        return Ok(format!(in trial.alloc(); "the reply isn't that of `run`: {text}")?);
     }
-    let log = shown_as(rt, row, names, budgets, Form::Sarif)?;
-    if let Some(member) = lacking(rt.alloc(), log.as_str())? {
-        return Ok(format!(in rt.alloc(); "the log lacks {member}: {log}")?);
+    let log = shown_as(trial, row, names, budgets, Form::Sarif)?;
+    if let Some(member) = lacking(trial.alloc(), log.as_str())? {
+        return Ok(format!(in trial.alloc(); "the log lacks {member}: {log}")?);
     }
     match form {
         Form::Text => Ok(text),
         Form::Sarif => Ok(log),
-        Form::Html => shown_as(rt, row, names, budgets, form),
+        Form::Html => shown_as(trial, row, names, budgets, form),
     }
 }
 
@@ -54,15 +55,15 @@ fn misused(alloc: Global, told: &str) -> Result<String, OutOfMemory> {
 }
 
 /// The status, and behind a blank what is printed.
-pub fn told(rt: &HostRuntime, row: &Row) -> Result<String, NotTried> {
-    let alloc = rt.alloc();
+pub fn told(trial: &impl Trial, row: &Row) -> Result<String, NotTried> {
+    let alloc = trial.alloc();
     let words = words(alloc, row.wanted_text("words")?)?;
     match read_words(alloc, words.as_slice())? {
         Asked::Judge {
             names,
             budgets,
             form,
-        } => judged(rt, row, &names, budgets, form),
+        } => judged(trial, row, &names, budgets, form),
         Asked::Help(text) => Ok(format!(in alloc; "0 {text}")?),
         Asked::Misuse(text) => Ok(misused(alloc, text.as_str())?),
         Asked::List { .. } => Err(NotTried::Lacks("files, or it is a list")),
