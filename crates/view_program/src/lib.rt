@@ -4,15 +4,19 @@
 #![tactic(auto)]
 
 mod binding;
+mod brackets;
 mod confirmed;
 mod constraint;
 mod draws;
 mod few;
+mod fronts;
 mod grammar;
 mod names;
 mod nearest;
 mod obligations;
 mod passing;
+mod placed;
+mod route;
 mod segments;
 mod sets;
 mod shrinking;
@@ -22,6 +26,7 @@ mod stages;
 mod tracker;
 mod unmatched;
 mod violation;
+mod ways;
 mod words;
 
 pub use stages::explain;

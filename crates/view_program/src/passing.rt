@@ -1,6 +1,6 @@
 // Which events stand at a waypoint, and which of them pass it (`way_match/specs/Passing.antt` defines both).
 use crate::spelled::is_same_spot;
-use c_core::{Done, IntType, Program, Spot, computed};
+use c_core::{Done, Expr, IntType, Program, Spot, computed};
 use c_meaning::{Event, Memory, type_of, value_in};
 use std::alloc::Global;
 use way_match::{Aim, Point, ReturnTest};
@@ -10,6 +10,13 @@ fn aims(aim: Aim, at: Spot) -> bool {
     match aim {
         Aim::At(spot) => is_same_spot(spot, at),
         Aim::Line(line) => line == at.line,
+    }
+}
+
+fn aims_if(aim: Aim, at: Option<Spot>) -> bool {
+    match at {
+        Some(at) => aims(aim, at),
+        None => false,
     }
 }
 
@@ -27,13 +34,7 @@ pub fn is_at(point: &Point, event: Event) -> bool {
                 full,
                 call,
             },
-        ) => {
-            let at_call = match call {
-                Some(call) => aims(*aim, call),
-                None => false,
-            };
-            aims(*aim, statement) || aims(*aim, full) || at_call
-        }
+        ) => aims(*aim, statement) || aims(*aim, full) || aims_if(*aim, call),
         _ => false,
     }
 }
@@ -54,18 +55,17 @@ fn is_true(done: Done) -> bool {
     }
 }
 
-/// Whether a value that a call gave meets a test.
-fn meets(
-    alloc: Global,
-    index: &Index,
-    close: Spot,
-    test: &ReturnTest,
-    value: Option<i128>,
-) -> bool {
-    let program = index.program();
+/// The value of an expression without names.
+fn constant(alloc: Global, program: &Program, e: &Expr) -> Option<i128> {
     let memory = Memory::new(alloc);
-    match (value, value_in(program, &test.constant, &memory)) {
-        (Some(value), Some(constant)) => is_true(computed(
+    value_in(program, e, &memory)
+}
+
+/// Whether a value that a call gave meets a test.
+fn meets(alloc: Global, index: &Index, close: Spot, test: &ReturnTest, value: i128) -> bool {
+    let program = index.program();
+    match constant(alloc, program, &test.constant) {
+        Some(constant) => is_true(computed(
             program.model,
             test.op,
             type_at(index, close),
@@ -73,11 +73,27 @@ fn meets(
             type_of(&test.constant),
             constant,
         )),
-        _ => false,
+        None => false,
     }
 }
 
-fn holds(program: &Program, test: &c_core::Expr, memory: &Memory) -> bool {
+fn meets_if(
+    alloc: Global,
+    index: &Index,
+    close: Spot,
+    test: &Option<ReturnTest>,
+    value: Option<i128>,
+) -> bool {
+    match test {
+        None => true,
+        Some(test) => match value {
+            Some(value) => meets(alloc, index, close, test, value),
+            None => false,
+        },
+    }
+}
+
+fn holds(program: &Program, test: &Expr, memory: &Memory) -> bool {
     match value_in(program, test, memory) {
         Some(value) => value != 0,
         None => false,
@@ -92,8 +108,8 @@ pub fn passes(alloc: Global, index: &Index, point: &Point, event: Event, memory:
     match (point, event) {
         (Point::Assume(_, test), _) => holds(index.program(), test, memory),
         (Point::Branch(_, way), Event::Branch(_, taken)) => *way == taken,
-        (Point::Return(close, Some(test)), Event::Return(_, value)) => {
-            meets(alloc, index, *close, test, value)
+        (Point::Return(close, test), Event::Return(_, value)) => {
+            meets_if(alloc, index, *close, test, value)
         }
         _ => true,
     }

@@ -1,4 +1,6 @@
 // The stages of the validator, in its order, up to the one that refuses or judges.
+ghost use Rattle.std.specs.Prelude.{◌≤◌};
+
 use crate::grammar::untaken;
 use crate::sets::explain_sets;
 use crate::shrinking::end_of;
@@ -15,12 +17,26 @@ use view_text::{File, Files, Messages, advice, offset_of};
 use view_witness::{explain_schema, explain_task, explain_yaml};
 use wv_arguments::Budgets;
 use wv_base::OutOfMemory;
-use wv_schema::{Content, Witness, witness_of};
+use wv_schema::{Content, Entry, Witness, witness_of};
 use wv_task::{judge_task, property};
 use wv_yaml::{Tree, read};
 
 /// More conflicts aren't spent.
 const MOST_CONFLICTS: u64 = 1_000_000;
+
+/// The conflicts that may be spent, at least one.
+fn limited(conflicts: u64) -> u64
+    ensures some { 1 ≤ result }
+    ensures bounded { result ≤ 1000000 }
+{
+    if conflicts == 0 {
+        1
+    } else if conflicts > MOST_CONFLICTS {
+        MOST_CONFLICTS
+    } else {
+        conflicts
+    }
+}
 
 fn error(
     alloc: Global,
@@ -33,21 +49,32 @@ fn error(
     out.error(code, file, spot, told)
 }
 
-/// A byte of a program that begins no token.
-fn token_text(alloc: Global, text: &[u8], spot: Spot) -> Result<String, OutOfMemory> {
+/// The word of a text that begins at a place; empty where none does.
+fn word_text(alloc: Global, text: &[u8], spot: Spot) -> Result<String, OutOfMemory> {
+    let word = word_at(text, offset_of(text, spot));
+    Ok(String::from_utf8_lossy(alloc, word)?)
+}
+
+/// What may be wrong where a byte begins no token.
+fn byte_text(alloc: Global, byte: u8) -> Result<String, OutOfMemory> {
     let rule = advice("token");
+    match byte {
+        b'0'..=b'9' | b'.' => Ok(format!(in alloc;
+            "{rule}: floating point, or a constant that no type holds?"
+        )?),
+        b'"' | b'\'' => Ok(format!(in alloc;
+            "{rule}: this text or character isn't closed, or has an escape that isn't read"
+        )?),
+        b'/' => Ok(format!(in alloc; "{rule}: this comment isn't closed")?),
+        _ => Ok(format!(in alloc; "{rule}: the byte is {byte:#04x}")?),
+    }
+}
+
+/// A place of a program at which no token begins.
+fn token_text(alloc: Global, text: &[u8], spot: Spot) -> Result<String, OutOfMemory> {
     match text.get(offset_of(text, spot)) {
-        Some(byte) => match *byte {
-            b'0'..=b'9' | b'.' => Ok(format!(in alloc;
-                "{rule}: floating point, or a constant that no type holds?"
-            )?),
-            b'"' | b'\'' => Ok(format!(in alloc;
-                "{rule}: this text or character isn't closed, or has an escape that isn't read"
-            )?),
-            b'/' => Ok(format!(in alloc; "{rule}: this comment isn't closed")?),
-            other => Ok(format!(in alloc; "{rule}: the byte is {other:#04x}")?),
-        },
-        None => Ok(String::from_str(alloc, rule)?),
+        Some(byte) => byte_text(alloc, *byte),
+        None => Ok(String::from_str(alloc, advice("token"))?),
     }
 }
 
@@ -71,43 +98,58 @@ fn explain_tokens(
     }
 }
 
-fn explain_syntax(
+/// The token at a place, which the grammar can't take.
+fn syntax_text(alloc: Global, text: &[u8], spot: Spot) -> Result<String, OutOfMemory> {
+    let found = word_text(alloc, text, spot)?;
+    let word = found.as_str();
+    let rule = advice("syntax");
+    if word.is_empty() {
+        Ok(String::from_str(alloc, rule)?)
+    } else {
+        Ok(format!(in alloc; "{rule}, `{word}`")?)
+    }
+}
+
+/// Where an item that begins at a place can't be taken any more.
+fn explain_item(
     alloc: Global,
-    files: &Files<'_>,
-    fault: ParseFault,
+    text: &[u8],
+    item: Spot,
     out: &mut Messages,
 ) -> Result<(), OutOfMemory> {
-    let ParseFault::Syntax { line, column } = fault else {
-        return Err(OutOfMemory);
-    };
-    let item = Spot { line, column };
-    let text = files.text(File::Program);
     match untaken(alloc, text, item)? {
         Some(spot) => {
-            let word = word_at(text, offset_of(text, spot));
-            let word = String::from_utf8_lossy(alloc, word)?;
-            let word = word.as_str();
-            let rule = advice("syntax");
-            let told = if word.is_empty() {
-                String::from_str(alloc, rule)?
-            } else {
-                format!(in alloc; "{rule}, `{word}`")?
-            };
-            out.error("syntax", File::Program, Some(spot), told)?;
+            let told = syntax_text(alloc, text, spot)?;
+            out.error("syntax", File::Program, Some(spot), told)
         }
         None => {
             let told = String::from_str(
                 alloc,
                 "the file ends before this item does, or the item is too long to be looked into",
             )?;
-            out.error("syntax", File::Program, Some(end_of(text)), told)?;
+            out.error("syntax", File::Program, Some(end_of(text)), told)
         }
     }
-    out.remark(
-        File::Program,
-        Some(item),
-        "it stands in the item that begins here; no pointers, struct, union, enum, typedef, switch, goto, sizeof or floating point are read",
-    )
+}
+
+fn explain_syntax(
+    alloc: Global,
+    files: &Files<'_>,
+    fault: ParseFault,
+    out: &mut Messages,
+) -> Result<(), OutOfMemory> {
+    match fault {
+        ParseFault::Syntax { line, column } => {
+            let item = Spot { line, column };
+            explain_item(alloc, files.text(File::Program), item, out)?;
+            out.remark(
+                File::Program,
+                Some(item),
+                "it stands in the item that begins here; no pointers, struct, union, enum, typedef, switch, goto, sizeof or floating point are read",
+            )
+        }
+        ParseFault::OutOfMemory => Err(OutOfMemory),
+    }
 }
 
 fn code_of(code: CheckCode) -> &'static str {
@@ -123,33 +165,46 @@ fn code_of(code: CheckCode) -> &'static str {
     }
 }
 
+/// A rule that is broken at a place, with the word that stands there.
+fn check_text(alloc: Global, code: &str, text: &[u8], spot: Spot) -> Result<String, OutOfMemory> {
+    let found = word_text(alloc, text, spot)?;
+    let word = found.as_str();
+    let rule = advice(code);
+    if word.is_empty() {
+        Ok(String::from_str(alloc, rule)?)
+    } else {
+        Ok(format!(in alloc; "`{word}`: {rule}")?)
+    }
+}
+
 fn explain_check(
     alloc: Global,
     files: &Files<'_>,
     fault: CheckFault,
     out: &mut Messages,
 ) -> Result<(), OutOfMemory> {
-    let CheckFault::Refused { code, spot } = fault else {
-        return Err(OutOfMemory);
-    };
-    let code = code_of(code);
-    let text = files.text(File::Program);
-    let word = word_at(text, offset_of(text, spot));
-    let word = String::from_utf8_lossy(alloc, word)?;
-    let word = word.as_str();
-    let rule = advice(code);
-    let told = if word.is_empty() {
-        String::from_str(alloc, rule)?
-    } else {
-        format!(in alloc; "`{word}`: {rule}")?
-    };
-    out.error(code, File::Program, Some(spot), told)
+    match fault {
+        CheckFault::Refused { code, spot } => {
+            let name = code_of(code);
+            let told = check_text(alloc, name, files.text(File::Program), spot)?;
+            out.error(name, File::Program, Some(spot), told)
+        }
+        CheckFault::OutOfMemory => Err(OutOfMemory),
+    }
 }
 
+fn is_set(entry: &Entry) -> bool {
+    match entry.content {
+        Content::Violation(_) => false,
+        Content::Invariants(_) => true,
+    }
+}
+
+/// Whether the entries are invariant sets; a schema allows no others beside one.
 fn holds_sets(witness: &Witness) -> bool {
-    match witness.entries.as_slice() {
-        [first, ..] => matches!(first.content, Content::Invariants(_)),
-        [] => false,
+    match witness.entries.get(0) {
+        Some(first) => is_set(first),
+        None => false,
     }
 }
 
@@ -162,7 +217,7 @@ fn explain_program(
     out: &mut Messages,
 ) -> Result<(), OutOfMemory> {
     if holds_sets(witness) {
-        let conflicts = budgets.conflicts.min(MOST_CONFLICTS).max(1);
+        let conflicts = limited(budgets.conflicts);
         explain_sets(alloc, files, program, witness, conflicts, out)
     } else {
         explain_sequence(alloc, files, program, witness, budgets.steps, out)
@@ -237,6 +292,21 @@ fn explain_tree(
     }
 }
 
+/// What there is to say of a property that was read, and a witness about it.
+fn explain_bytes(
+    alloc: Global,
+    files: &Files<'_>,
+    budgets: Budgets,
+    property: Property,
+    out: &mut Messages,
+) -> Result<(), OutOfMemory> {
+    let text = files.text(File::Witness);
+    match read(alloc, text) {
+        Ok(tree) => explain_tree(alloc, files, budgets, property, &tree, out),
+        Err(fault) => explain_yaml(alloc, text, fault, out),
+    }
+}
+
 /// What there is to say of three files that were read whole.
 pub fn explain(
     alloc: Global,
@@ -244,13 +314,11 @@ pub fn explain(
     budgets: Budgets,
     out: &mut Messages,
 ) -> Result<(), OutOfMemory> {
-    let Ok(property) = property(files.text(File::Property)) else {
-        let spot = Spot { line: 1, column: 1 };
-        return error(alloc, "property", File::Property, Some(spot), out);
-    };
-    let text = files.text(File::Witness);
-    match read(alloc, text) {
-        Ok(tree) => explain_tree(alloc, files, budgets, property, &tree, out),
-        Err(fault) => explain_yaml(alloc, text, fault, out),
+    match property(files.text(File::Property)) {
+        Ok(property) => explain_bytes(alloc, files, budgets, property, out),
+        Err(_) => {
+            let spot = Spot { line: 1, column: 1 };
+            error(alloc, "property", File::Property, Some(spot), out)
+        }
     }
 }

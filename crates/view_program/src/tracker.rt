@@ -1,48 +1,17 @@
 // What a run comes by: the lines whose statements it begins, and how far it passes the segments.
-use crate::passing::{is_at, passes};
+use crate::route::{Route, Waiting};
+use crate::ways::Ways;
 use c_core::{Program, Spot};
 use c_meaning::{Event, Memory, Watcher};
 use std::alloc::Global;
-use way_match::{Bound, BoundSegment, Point};
-use way_places::Index;
+use way_match::Bound;
 use wv_base::OutOfMemory;
-
-/// What was seen of a segment while all before it were passed.
-#[derive(Clone, Copy, Debug, PartialEq, Eq)]
-pub struct Waiting {
-    /// Whether a way came so far.
-    pub is_reached: bool,
-    /// Whether a way that came so far is still open: no waypoint to avoid was passed since.
-    is_open: bool,
-    /// How often the place of its waypoint to follow was come by.
-    pub visits: u64,
-    /// How often a waypoint to avoid ended the way.
-    pub avoided: u64,
-}
-
-/// How a way comes to a segment by an event: not, or by a waypoint to follow that is an assumption or another.
-#[derive(Clone, Copy, Debug, PartialEq, Eq)]
-enum Coming {
-    Not,
-    ByAssumption,
-    ByOther,
-}
-
-const NOT_YET: Waiting = Waiting {
-    is_reached: false,
-    is_open: false,
-    visits: 0,
-    avoided: 0,
-};
 
 /// Sees the events of a run. It claims nothing: what it keeps is shown, and no verdict rests on it.
 #[derive(Drop)]
 pub struct Tracker<'a> {
-    alloc: Global,
-    index: Index<'a>,
-    bound: &'a Bound,
-    /// One for each segment, and one behind the last.
-    pub waiting: Vec<Waiting>,
+    route: Route<'a>,
+    ways: Ways,
     /// How often a statement of each line was begun; of line 1 at 0.
     pub lines: Vec<u64>,
     /// The statement that was begun last.
@@ -57,17 +26,23 @@ pub struct Tracker<'a> {
 }
 
 /// The place of an event.
-fn spot_of(event: Event) -> Spot {
+pub fn event_spot(event: Event) -> Spot {
     match event {
-        Event::At(spot) | Event::Branch(spot, _) | Event::Enter(spot) | Event::Return(spot, _) => {
-            spot
-        }
-        Event::Fail {
-            call: Some(call),
-            ..
-        } => call,
-        Event::Fail { full, .. } => full,
+        Event::At(spot) => spot,
+        Event::Branch(spot, _) => spot,
+        Event::Enter(spot) => spot,
+        Event::Return(spot, _) => spot,
+        Event::Fail { full, call, .. } => call.unwrap_or(full),
     }
+}
+
+/// No statement of so many lines was begun yet.
+fn no_counts(alloc: Global, lines: u32) -> Result<Vec<u64>, OutOfMemory> {
+    let mut counts = Vec::new(alloc);
+    for _ in 0..lines {
+        counts.push(0)?;
+    }
+    Ok(counts)
 }
 
 impl<'a> Tracker<'a> {
@@ -79,26 +54,12 @@ impl<'a> Tracker<'a> {
         line_count: u32,
         wanted: &'a [u64],
     ) -> Result<Tracker<'a>, OutOfMemory> {
-        let index = Index::new(alloc, program)?;
-        let mut lines = Vec::new(alloc);
-        for _ in 0..line_count {
-            lines.push(0)?;
-        }
-        let mut waiting = Vec::new(alloc);
-        waiting.push(Waiting {
-            is_reached: true,
-            is_open: true,
-            visits: 0,
-            avoided: 0,
-        })?;
-        for _ in bound.segments.as_slice() {
-            waiting.push(NOT_YET)?;
-        }
+        let route = Route::new(alloc, program, bound)?;
+        let ways = Ways::new(alloc, bound.segments.as_slice())?;
+        let lines = no_counts(alloc, line_count)?;
         Ok(Tracker {
-            alloc,
-            index,
-            bound,
-            waiting,
+            route,
+            ways,
             lines,
             last: None,
             violation: None,
@@ -108,13 +69,20 @@ impl<'a> Tracker<'a> {
         })
     }
 
+    /// What was seen of each segment, and behind the last.
+    pub fn waiting(&self) -> &[Waiting] {
+        self.ways.as_slice()
+    }
+
     /// Keeps the place of an event that is wanted; two neighbours may be passed by one event.
     fn keep(&mut self, event: Event) -> Result<(), OutOfMemory> {
-        for _ in 0..self.wanted.len() {
-            match self.wanted.get(self.found.len()) {
-                Some(number) if *number == self.events => self.found.push(spot_of(event))?,
-                _ => break,
+        let wanted = self.wanted;
+        let spot = event_spot(event);
+        for number in wanted.get(self.found.len()..).unwrap_or(&[]) {
+            if *number != self.events {
+                break;
             }
+            self.found.push(spot)?;
         }
         Ok(())
     }
@@ -125,88 +93,6 @@ impl<'a> Tracker<'a> {
             *count = count.saturating_add(1);
         }
         self.last = Some(spot);
-    }
-
-    fn passes(&self, point: &Point, event: Event, memory: &Memory) -> bool {
-        passes(self.alloc, &self.index, point, event, memory)
-    }
-
-    fn is_avoided(&self, segment: &BoundSegment, event: Event, memory: &Memory) -> bool {
-        for point in segment.avoids.as_slice() {
-            if self.passes(point, event, memory) {
-                return true;
-            }
-        }
-        false
-    }
-
-    /// What comes of a way that waits for a segment, and whether it is passed.
-    fn waited(
-        &self,
-        before: Waiting,
-        segment: &BoundSegment,
-        event: Event,
-        memory: &Memory,
-    ) -> (Waiting, bool) {
-        let mut after = before;
-        if is_at(&segment.follow, event) {
-            after.visits = after.visits.saturating_add(1);
-        }
-        if self.is_avoided(segment, event, memory) {
-            after.is_open = false;
-            after.avoided = after.avoided.saturating_add(1);
-            return (after, false);
-        }
-        (after, self.passes(&segment.follow, event, memory))
-    }
-
-    /// What comes of the ways that wait for a segment, where one more may come to it, by an event that may pass two; and whether it is
-    /// passed.
-    fn pass_segment(
-        &self,
-        before: Waiting,
-        comes: Coming,
-        segment: &BoundSegment,
-        event: Event,
-        memory: &Memory,
-    ) -> (Waiting, Coming) {
-        let is_assumption = matches!(segment.follow, Point::Assume(_, _));
-        let (mut after, mut passed) = if before.is_open {
-            self.waited(before, segment, event, memory)
-        } else {
-            (before, false)
-        };
-        if matches!(comes, Coming::ByAssumption) && is_assumption {
-            passed = passed || self.passes(&segment.follow, event, memory);
-        }
-        if !matches!(comes, Coming::Not) {
-            after.is_reached = true;
-            after.is_open = true;
-        }
-        match (passed, is_assumption) {
-            (false, _) => (after, Coming::Not),
-            (true, true) => (after, Coming::ByAssumption),
-            (true, false) => (after, Coming::ByOther),
-        }
-    }
-
-    /// All segments, from the first.
-    fn pass_segments(&mut self, event: Event, memory: &Memory) {
-        let bound = self.bound;
-        let mut comes = Coming::Not;
-        for (at, segment) in bound.segments.as_slice().iter().enumerate() {
-            let Some(before) = self.waiting.get(at).copied() else {
-                return;
-            };
-            let (after, next) = self.pass_segment(before, comes, segment, event, memory);
-            if let Some(place) = self.waiting.get_mut(at) {
-                *place = after;
-            }
-            comes = next;
-        }
-        if let Some(end) = self.waiting.last_mut() {
-            end.is_reached = end.is_reached || !matches!(comes, Coming::Not);
-        }
     }
 }
 
@@ -225,7 +111,7 @@ impl<'a> Watcher for Tracker<'a> {
             Event::Fail { .. } => self.violation = Some(event),
             _ => {}
         }
-        self.pass_segments(event, memory);
+        self.ways.pass(&self.route, event, memory);
         Ok(())
     }
 }

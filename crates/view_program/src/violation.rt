@@ -27,27 +27,31 @@ fn explain_unbound(
     out: &mut Messages,
 ) -> Result<(), OutOfMemory> {
     let number = number_in(fault)?;
-    let path = waypoint_path(alloc, witness, number)?;
-    match (waypoint_at(segments_of(witness), number), path) {
-        (Some(found), Some(path)) => {
+    let Some(path) = waypoint_path(alloc, witness, number)? else {
+        return Ok(());
+    };
+    match waypoint_at(segments_of(witness), number) {
+        Some(found) => {
             let claim = claim_of_waypoint(number, found, path.as_str());
             explain_claim(alloc, files, program, fault, &claim, out)
         }
-        _ => Ok(()),
+        None => Ok(()),
     }
 }
 
-/// The line whose statements were begun most often, from 1.
+/// The line whose statements were begun most often, from 1, and how often.
 fn busiest(lines: &[u64]) -> (u32, u64) {
-    let mut best = (1u32, 0u64);
+    let mut best = 1u32;
+    let mut most = 0u64;
     let mut line = 0u32;
     for count in lines {
         line = line.saturating_add(1);
-        if *count > best.1 {
-            best = (line, *count);
+        if *count > most {
+            best = line;
+            most = *count;
         }
     }
-    best
+    (best, most)
 }
 
 fn explain_spent(
@@ -77,33 +81,41 @@ fn explain_deep(
     out.warning("undecided", File::Program, tracker.last, told)
 }
 
+fn ended_text(alloc: Global, unfixed: u64) -> Result<String, OutOfMemory> {
+    if unfixed == 0 {
+        Ok(String::from_str(
+            alloc,
+            "the run that the witness gives ends without a violation: this is the last statement that it began; other values may violate the property",
+        )?)
+    } else {
+        Ok(format!(in alloc;
+            "the run that the witness gives ends without a violation: this is the last statement that it began; {unfixed} draws took 0 for want of a value"
+        )?)
+    }
+}
+
 fn explain_ended(
     alloc: Global,
     program: &Program,
-    choices: &Choices,
-    run: &Run,
+    judged: &Judged,
     tracker: &Tracker<'_>,
     out: &mut Messages,
 ) -> Result<(), OutOfMemory> {
-    let unfixed = run.unfixed;
-    let told = if unfixed == 0 {
-        format!(in alloc;
-            "the run that the witness gives ends without a violation: this is the last statement that it began; other values may violate the property"
-        )?
-    } else {
-        format!(in alloc;
-            "the run that the witness gives ends without a violation: this is the last statement that it began; {unfixed} draws took 0 for want of a value"
-        )?
-    };
+    let told = ended_text(alloc, judged.run.unfixed)?;
     out.warning("ended", File::Program, tracker.last, told)?;
-    note_unfixed(alloc, program, choices, run.draws.as_slice(), out)
+    note_unfixed(
+        alloc,
+        program,
+        &judged.choices,
+        judged.run.draws.as_slice(),
+        out,
+    )
 }
 
 fn explain_undefined(
     alloc: Global,
     program: &Program,
-    choices: &Choices,
-    run: &Run,
+    judged: &Judged,
     spot: Spot,
     out: &mut Messages,
 ) -> Result<(), OutOfMemory> {
@@ -112,39 +124,102 @@ fn explain_undefined(
         "the run comes to undefined behaviour here before it violates the property: a divisor of 0, an index outside its array, a shift by too much, or a value that a function didn't give",
     )?;
     out.warning("undefined", File::Program, Some(spot), told)?;
-    note_unfixed(alloc, program, choices, run.draws.as_slice(), out)
+    note_unfixed(
+        alloc,
+        program,
+        &judged.choices,
+        judged.run.draws.as_slice(),
+        out,
+    )
 }
 
-/// The run that the segments give, and the events that pass them, where some do, as the judge asks it.
+/// The values that the segments give, the run that draws them, and the events that pass the segments, where some do.
+#[derive(Drop)]
+struct Judged {
+    choices: Choices,
+    run: Run,
+    positions: Option<Seq<u64>>,
+}
+
+/// The run that the segments give, as the judge asks it.
 fn judged_run(
     alloc: Global,
     program: &Program,
     bound: &Bound,
-    choices: &Choices,
     steps: u64,
-) -> Result<(Run, Option<Seq<u64>>), OutOfMemory> {
+) -> Result<Judged, OutOfMemory> {
+    let choices = given(alloc, bound, program)?;
     let mut matcher = Matcher::new(alloc, bound, program)?;
-    let run = run_plain(alloc, program, choices, steps, &mut matcher)?;
-    Ok((run, matcher.done()))
+    let run = run_plain(alloc, program, &choices, steps, &mut matcher)?;
+    let positions = matcher.done();
+    Ok(Judged {
+        choices,
+        run,
+        positions,
+    })
+}
+
+/// The events that pass the segments; none where the run isn't as they say.
+fn events_of(judged: &Judged) -> &[u64] {
+    match &judged.positions {
+        Some(positions) => positions.as_slice(),
+        None => &[],
+    }
+}
+
+/// What the given run comes by.
+fn tracked<'a>(
+    alloc: Global,
+    files: &Files<'_>,
+    program: &'a Program,
+    bound: &'a Bound,
+    judged: &'a Judged,
+    steps: u64,
+) -> Result<Tracker<'a>, OutOfMemory> {
+    let lines = line_count(files.text(File::Program));
+    let mut tracker = Tracker::new(alloc, program, bound, lines, events_of(judged))?;
+    let _ = run_plain(alloc, program, &judged.choices, steps, &mut tracker)?;
+    Ok(tracker)
 }
 
 /// A run that violates the property.
 fn explain_violated(
     alloc: Global,
     files: &Files<'_>,
+    program: &Program,
     witness: &Witness,
-    run: &Run,
-    positions: Option<&[u64]>,
-    tracker: Tracker<'_>,
+    bound: &Bound,
+    judged: &Judged,
+    steps: u64,
     out: &mut Messages,
 ) -> Result<(), OutOfMemory> {
     let segments = segments_of(witness);
-    match positions {
-        Some(positions) => {
-            let draws = run.draws.as_slice();
-            show_run(alloc, segments, draws, positions, tracker, out)
-        }
-        None => explain_unmatched(alloc, files, witness, segments, &tracker, out),
+    if judged.positions.is_none() {
+        let tracker = tracked(alloc, files, program, bound, judged, steps)?;
+        return explain_unmatched(alloc, files, witness, segments, &tracker, out);
+    }
+    let tracker = tracked(alloc, files, program, bound, judged, steps)?;
+    let draws = judged.run.draws.as_slice();
+    show_run(alloc, segments, draws, events_of(judged), tracker, out)
+}
+
+/// A run that ends otherwise.
+fn explain_end(
+    alloc: Global,
+    files: &Files<'_>,
+    program: &Program,
+    bound: &Bound,
+    judged: &Judged,
+    steps: u64,
+    out: &mut Messages,
+) -> Result<(), OutOfMemory> {
+    let tracker = tracked(alloc, files, program, bound, judged, steps)?;
+    match judged.run.end {
+        End::Ended => explain_ended(alloc, program, judged, &tracker, out),
+        End::Undefined(spot) => explain_undefined(alloc, program, judged, spot, out),
+        End::Spent => explain_spent(alloc, &tracker, steps, out),
+        End::Deep => explain_deep(alloc, &tracker, out),
+        End::Violated(_) => Ok(()),
     }
 }
 
@@ -158,22 +233,12 @@ fn explain_run(
     steps: u64,
     out: &mut Messages,
 ) -> Result<(), OutOfMemory> {
-    let choices = given(alloc, bound, program)?;
-    let (run, found) = judged_run(alloc, program, bound, &choices, steps)?;
-    let positions = match &found {
-        Some(positions) => Some(positions.as_slice()),
-        None => None,
-    };
-    let lines = line_count(files.text(File::Program));
-    let wanted = positions.unwrap_or(&[]);
-    let mut tracker = Tracker::new(alloc, program, bound, lines, wanted)?;
-    let _ = run_plain(alloc, program, &choices, steps, &mut tracker)?;
-    match run.end {
-        End::Ended => explain_ended(alloc, program, &choices, &run, &tracker, out),
-        End::Undefined(spot) => explain_undefined(alloc, program, &choices, &run, spot, out),
-        End::Spent => explain_spent(alloc, &tracker, steps, out),
-        End::Deep => explain_deep(alloc, &tracker, out),
-        End::Violated(_) => explain_violated(alloc, files, witness, &run, positions, tracker, out),
+    let judged = judged_run(alloc, program, bound, steps)?;
+    match judged.run.end {
+        End::Violated(_) => explain_violated(
+            alloc, files, program, witness, bound, &judged, steps, out,
+        ),
+        _ => explain_end(alloc, files, program, bound, &judged, steps, out),
     }
 }
 
