@@ -79,7 +79,6 @@ REPLIES = [
     ("refused too-long program", 3, "ERROR (unsupported: too-long)"),
     ("refused too-long property", 3, "ERROR (unsupported: too-long)"),
     ("refused property", 3, "ERROR (unsupported: property)"),
-    ("refused unbuilt words", 3, "ERROR (misuse: unbuilt)"),
     ("refused usage", 7, "ERROR (misuse: usage)"),
     ("refused schema-kind [0].content", 3, "ERROR (invalid witness: schema-kind)"),
     ('refused hash "program" witness', 3, "ERROR (invalid witness: hash)"),

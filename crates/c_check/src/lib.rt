@@ -6,8 +6,6 @@ mod checking;
 mod laws;
 mod main_function;
 mod refusals;
-#[cfg(test)]
-mod tests;
 
 pub use check_rules::{CheckCode, CheckFault};
 pub use checking::check;

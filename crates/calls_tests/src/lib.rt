@@ -2,6 +2,4 @@
 #![tactic(auto)]
 
 #[cfg(test)]
-mod programs;
-#[cfg(test)]
 mod tests;

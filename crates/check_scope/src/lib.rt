@@ -10,8 +10,6 @@ mod log;
 mod meaning;
 mod past;
 mod table;
-#[cfg(test)]
-mod tests;
 
 pub use built_ins::built_in;
 pub use functions::Functions;

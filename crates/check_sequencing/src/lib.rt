@@ -10,8 +10,6 @@ mod marks;
 mod memo;
 mod operands;
 mod seen;
-#[cfg(test)]
-mod tests;
 mod walk;
 
 pub use declarations::Declarations;

@@ -5,8 +5,6 @@
 mod bodies;
 mod laws;
 mod places;
-#[cfg(test)]
-mod tests;
 mod walks;
 
 pub use laws::{tests_find_unordered_parts, typed_trees_keep_order};

@@ -1,5 +1,6 @@
 //! Circuits and their clauses: rows from the C standard, each operator beside the calls on numbers, the clauses of a bit, and
-//! logs of resolution that are right or wrong in one place. The crate has tests alone, above `clauses`.
+//! logs of resolution that are right or wrong in one place, and small clause sets that are solved. The crate has tests alone, above
+//! `sat_core`.
 #![tactic(auto)]
 
 #[cfg(test)]
@@ -8,5 +9,7 @@ mod conjunction;
 mod logs;
 #[cfg(test)]
 mod rows;
+#[cfg(test)]
+mod search;
 #[cfg(test)]
 mod table;

@@ -1,10 +1,8 @@
-//! What programs mean: memories of `c_meaning` beside plain lists, values of expressions in them, and the runs of the example
-//! programs. The crate has tests alone, above `c_interpreter`.
+//! What programs mean: memories of `c_meaning` beside plain lists, and values of expressions in them. The crate has tests alone, above
+//! `c_meaning`; runs are rows of `rows`.
 #![tactic(auto)]
 
 #[cfg(test)]
 mod memories;
-#[cfg(test)]
-mod runs;
 #[cfg(test)]
 mod values;

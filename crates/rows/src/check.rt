@@ -1,10 +1,9 @@
 // Rows of the checker: a source, and behind it the code and the place of its first refusal, or `program`.
 use crate::sources::{parsed, refused};
-use crate::table::{NotTried, Row};
-use crate::texts::program;
 use c_check::{CheckCode, CheckFault, check};
 use c_core::{DataModel, Program, Property};
 use c_parser::Source;
+use row_files::{NotTried, Row, Trial, program};
 use std::alloc::{AllocError, Global};
 
 fn word(code: CheckCode) -> &'static str {
@@ -52,10 +51,10 @@ fn in_models(alloc: Global, source: &Source, models: &str) -> Result<String, Not
 }
 
 /// What is told of a row's source.
-pub fn told(rt: &HostRuntime, row: &Row) -> Result<String, NotTried> {
-    let alloc = rt.alloc();
+pub fn told(trial: &impl Trial, row: &Row) -> Result<String, NotTried> {
+    let alloc = trial.alloc();
     let models = row.wanted_text("model")?;
-    let Some(text) = program(rt, row)? else {
+    let Some(text) = program(trial, row)? else {
         return Err(NotTried::Lacks("source"));
     };
     match parsed(alloc, text.as_slice()) {
@@ -66,15 +65,20 @@ pub fn told(rt: &HostRuntime, row: &Row) -> Result<String, NotTried> {
 }
 
 /// A row's program, which has to be one in ILP32.
-pub fn checked_program(rt: &HostRuntime, row: &Row) -> Result<Program, NotTried> {
-    let alloc = rt.alloc();
-    let Some(text) = program(rt, row)? else {
+pub fn checked_program(trial: &impl Trial, row: &Row) -> Result<Program, NotTried> {
+    checked_for(trial, row, Property::UnreachCall)
+}
+
+/// The same, for a property.
+pub fn checked_for(trial: &impl Trial, row: &Row, property: Property) -> Result<Program, NotTried> {
+    let alloc = trial.alloc();
+    let Some(text) = program(trial, row)? else {
         return Err(NotTried::Lacks("program"));
     };
     let Some(Ok(source)) = parsed(alloc, text.as_slice()) else {
         return Err(NotTried::Lacks("a source that parses"));
     };
-    match check(alloc, &source, DataModel::Ilp32, Property::UnreachCall) {
+    match check(alloc, &source, DataModel::Ilp32, property) {
         Ok(program) => Ok(program),
         Err(_) => Err(NotTried::Lacks("a source that is a program")),
     }

@@ -1,7 +1,6 @@
 // Rows of tokens: a source, and behind it its tokens, or the place where it has none.
-use crate::table::{NotTried, Row};
-use crate::texts::program;
 use c_tokens::{Token, TokenFault, TokenKind, plain_tokens, tokens};
+use row_files::{NotTried, Row, Trial, program};
 use std::alloc::{AllocError, Global};
 use wv_base::Seq;
 
@@ -63,17 +62,17 @@ fn shown(alloc: Global, answer: Result<Seq<Token>, TokenFault>) -> Result<String
 }
 
 /// The tokens of a row's source, or the fault.
-pub fn told(rt: &HostRuntime, row: &Row) -> Result<String, NotTried> {
-    let Some(text) = program(rt, row)? else {
+pub fn told(trial: &impl Trial, row: &Row) -> Result<String, NotTried> {
+    let Some(text) = program(trial, row)? else {
         return Err(NotTried::Lacks("source"));
     };
-    Ok(shown(rt.alloc(), tokens(rt.alloc(), text.as_slice()))?)
+    Ok(shown(trial.alloc(), tokens(trial.alloc(), text.as_slice()))?)
 }
 
 /// The same where no directive may stand.
-pub fn told_plain(rt: &HostRuntime, row: &Row) -> Result<String, NotTried> {
-    let Some(text) = program(rt, row)? else {
+pub fn told_plain(trial: &impl Trial, row: &Row) -> Result<String, NotTried> {
+    let Some(text) = program(trial, row)? else {
         return Err(NotTried::Lacks("source"));
     };
-    Ok(shown(rt.alloc(), plain_tokens(rt.alloc(), text.as_slice()))?)
+    Ok(shown(trial.alloc(), plain_tokens(trial.alloc(), text.as_slice()))?)
 }

@@ -1,16 +1,15 @@
 // Rows of the schema: a witness, and behind it its fault with its path or its segment, or `met`.
-use crate::table::{NotTried, Row};
-use crate::texts::witness;
+use row_files::{NotTried, Row, Trial, witness};
 use std::alloc::{AllocError, Global};
 use wv_schema::{SchemaFault, Witness, tree_of, witness_of};
 use wv_yaml::{Tree, read};
 
 /// A row's witness as a tree.
-fn tree(rt: &HostRuntime, row: &Row) -> Result<Tree, NotTried> {
-    let Some(bytes) = witness(rt, row)? else {
+fn tree(trial: &impl Trial, row: &Row) -> Result<Tree, NotTried> {
+    let Some(bytes) = witness(trial, row)? else {
         return Err(NotTried::Lacks("witness"));
     };
-    match read(rt.alloc(), bytes.as_slice()) {
+    match read(trial.alloc(), bytes.as_slice()) {
         Ok(tree) => Ok(tree),
         Err(_) => Err(NotTried::Lacks("a witness that is YAML")),
     }
@@ -29,9 +28,9 @@ fn fault(alloc: Global, fault: &SchemaFault) -> Result<String, AllocError> {
 }
 
 /// What is told of a row's witness.
-pub fn told(rt: &HostRuntime, row: &Row) -> Result<String, NotTried> {
-    let alloc = rt.alloc();
-    let tree = tree(rt, row)?;
+pub fn told(trial: &impl Trial, row: &Row) -> Result<String, NotTried> {
+    let alloc = trial.alloc();
+    let tree = tree(trial, row)?;
     match witness_of(alloc, &tree) {
         Ok(_) => Ok(String::from_str(alloc, "met")?),
         Err(lack) => Ok(fault(alloc, &lack)?),
@@ -39,19 +38,19 @@ pub fn told(rt: &HostRuntime, row: &Row) -> Result<String, NotTried> {
 }
 
 /// A row's witness, which has to be one.
-pub fn read_witness(rt: &HostRuntime, row: &Row) -> Result<Witness, NotTried> {
-    let tree = tree(rt, row)?;
-    match witness_of(rt.alloc(), &tree) {
+pub fn read_witness(trial: &impl Trial, row: &Row) -> Result<Witness, NotTried> {
+    let tree = tree(trial, row)?;
+    match witness_of(trial.alloc(), &tree) {
         Ok(witness) => Ok(witness),
         Err(_) => Err(NotTried::Lacks("a witness of the schema")),
     }
 }
 
 /// Whether the tree of what is read is the tree of the text.
-pub fn tree_again(rt: &HostRuntime, row: &Row) -> Result<String, NotTried> {
-    let alloc = rt.alloc();
-    let tree = tree(rt, row)?;
-    let witness = read_witness(rt, row)?;
+pub fn tree_again(trial: &impl Trial, row: &Row) -> Result<String, NotTried> {
+    let alloc = trial.alloc();
+    let tree = tree(trial, row)?;
+    let witness = read_witness(trial, row)?;
     let again = tree_of(alloc, &witness)?;
     let first = format!(in alloc; "{tree:?}")?;
     let second = format!(in alloc; "{again:?}")?;

@@ -1,13 +1,12 @@
 // Rows of the grammar: a source, and behind it its items as text, with parentheses round each operation and brackets round each
 // statement that is a part; or the place where it fits no form.
-use crate::table::{NotTried, Row};
-use crate::texts::program;
 use c_core::{BinOp, IntType, StepOp, UnOp};
 use c_parser::{
     Item, ParseFault, RawDeclared, RawExpr, RawFirst, RawForm, RawInit, RawNode, RawStmt, Source,
     parse,
 };
 use c_tokens::tokens;
+use row_files::{NotTried, Row, Trial, program};
 use std::alloc::{AllocError, Global};
 
 fn type_text(ty: IntType) -> &'static str {
@@ -390,9 +389,9 @@ pub fn refused(alloc: Global, fault: ParseFault) -> Result<String, AllocError> {
 }
 
 /// The items of a row's source, or where the first that fits no form stands.
-pub fn told(rt: &HostRuntime, row: &Row) -> Result<String, NotTried> {
-    let alloc = rt.alloc();
-    let Some(text) = program(rt, row)? else {
+pub fn told(trial: &impl Trial, row: &Row) -> Result<String, NotTried> {
+    let alloc = trial.alloc();
+    let Some(text) = program(trial, row)? else {
         return Err(NotTried::Lacks("source"));
     };
     match parsed(alloc, text.as_slice()) {
@@ -407,9 +406,9 @@ pub fn told(rt: &HostRuntime, row: &Row) -> Result<String, NotTried> {
 }
 
 /// `read`, or where the first item that fits no form stands.
-pub fn is_read(rt: &HostRuntime, row: &Row) -> Result<String, NotTried> {
-    let alloc = rt.alloc();
-    let Some(text) = program(rt, row)? else {
+pub fn is_read(trial: &impl Trial, row: &Row) -> Result<String, NotTried> {
+    let alloc = trial.alloc();
+    let Some(text) = program(trial, row)? else {
         return Err(NotTried::Lacks("source"));
     };
     match parsed(alloc, text.as_slice()) {

@@ -5,7 +5,7 @@ mod programs;
 mod reading;
 
 pub use programs::{
-    add_to_input, branch_on_input, combine_inputs, count_calls, count_deep, count_to_ten,
-    count_to_three, fill_in_loops, hold_shorts, nest_arrays, recurse, use_no_value, write_and_read,
+    add_to_input, branch_on_input, combine_inputs, count_calls, count_deep, count_to_three,
+    fill_in_loops, hold_shorts,
 };
 pub use reading::{NoProgram, read};

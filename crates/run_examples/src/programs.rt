@@ -47,23 +47,6 @@ int main() {{
     read(alloc, property, text.as_str())
 }
 
-/// A loop counts to ten.
-pub fn count_to_ten(alloc: Global, property: Property) -> Result<Program, NoProgram> {
-    let text = "void reach_error() { }
-int main() {
-  int x = 0;
-  while (x < 10) {
-    x = x + 1;
-  }
-  if (x != 10) {
-    reach_error();
-  }
-  return 0;
-}
-";
-    read(alloc, property, text)
-}
-
 /// The error stands behind a loop of three turns.
 pub fn count_to_three(alloc: Global) -> Result<Program, NoProgram> {
     let text = "void reach_error() { }
@@ -123,62 +106,10 @@ int main() {
     read(alloc, Property::UnreachCall, text)
 }
 
-/// The error stands behind a recursion of four calls.
-pub fn recurse(alloc: Global) -> Result<Program, NoProgram> {
-    let text = "void reach_error() { }
-int f(int n) { if (n <= 0) { return 0; } return f(n - 1); }
-int main() {
-  f(3);
-  reach_error();
-  return 0;
-}
-";
-    read(alloc, Property::UnreachCall, text)
-}
-
-/// An element is written, and one is read.
-pub fn write_and_read(alloc: Global, written: u8, read_at: u8) -> Result<Program, NoProgram> {
-    let text = format!(in alloc;
-        "void reach_error() {{ }}
-int a[3];
-int main() {{
-  a[{written}] = 7;
-  if (a[{read_at}] != 7) {{
-    reach_error();
-  }}
-  return 0;
-}}
-"
-    )?;
-    read(alloc, Property::UnreachCall, text.as_str())
-}
-
 /// An array of `short` with the name `a` is the only object.
 pub fn hold_shorts(alloc: Global) -> Result<Program, NoProgram> {
     let text = "short a[3];
 int main() {
-  return 0;
-}
-";
-    read(alloc, Property::UnreachCall, text)
-}
-
-/// The value of a call is used, which no `return` gave.
-pub fn use_no_value(alloc: Global) -> Result<Program, NoProgram> {
-    let text = "int f() { }
-int main() {
-  1 + f();
-  return 0;
-}
-";
-    read(alloc, Property::UnreachCall, text)
-}
-
-/// A function declares four arrays of 256 cells and calls itself.
-pub fn nest_arrays(alloc: Global) -> Result<Program, NoProgram> {
-    let text = "void f() { int a[256] = {1}, b[256] = {1}, c[256] = {1}, d[256] = {1}; f(); }
-int main() {
-  f();
   return 0;
 }
 ";

@@ -8,8 +8,6 @@ mod laws;
 mod plain;
 mod propagate;
 mod solver;
-#[cfg(test)]
-mod tests;
 mod trail;
 
 pub use laws::all_variables_decide;

@@ -1,4 +1,4 @@
--- The budgets of a command line are within their ranges.
+-- The budgets and the number of a command line are within their ranges.
 use Rattle.std.proofs.Common.{◌≡◌, ◌≤◌, ℕ, List, [], ◌∷◌, Bool, true, false, Option, Some, None, refl, codes}
 use Rattle.std.specs.Prelude.{IfSome, if◌then◌else◌, bytes_eq}
 use Rattle.std.specs.Str.Parse.{digits_value, without_leading_plus}
@@ -7,7 +7,7 @@ use Rattle.clap.specs.Kinds.{Kinds}
 use Rattle.clap.specs.ValueTests.{accepts}
 use Rattle.clap.specs.declared.builder.value_parser.ValueParser.TheVariants.{Unsigned}
 use Rattle.clap.proofs.ValueTestLemmas.{accepts-Accepts}
-use Rattle.wv_arguments.specs.Arguments.{command, most_conflicts}
+use Rattle.wv_arguments.specs.Arguments.{command, most_conflicts, most_number}
 use Rattle.wv_arguments.specs.Words.{Budgets, Command, Wanted, asked_by, asked_of, budgets_in, budgets_of, command_in, demo_of, made_number, mode_in, normalise_of, number_in, show_of, validate_of, wanted_as}
 use Rattle.witval.specs.inside.Allowed.{AreAllowed, IsAllowed}
 
@@ -44,10 +44,10 @@ normalised : (o : Option Text) → AreAllowed (normalise_of o)
 normalised None = tt
 normalised (Some w) = tt
 
-made : (n : Option ℕ) (b : Option Budgets) → AreAllowed (demo_of n b)
-made None b = tt
-made (Some n) None = tt
-made (Some n) (Some b) = tt
+made : (n : Option ℕ) (b : Option Budgets) → IfSome n (IsWithin 0 most_number) → IfSome b IsAllowed → AreAllowed (demo_of n b)
+made None b h k = tt
+made (Some n) None h k = tt
+made (Some n) (Some b) h k = (h.1, k)
 
 either : (b : Bool) (x y : Option Wanted) → AreAllowed x → AreAllowed y → AreAllowed (if b then x else y)
 either true x y h k = h
@@ -58,7 +58,7 @@ of_mode mode rows =
     either (bytes_eq mode (codes "validate")) _ _ (validated (command_in rows) (budgets_in rows) (both _ _ (read 1 most_conflicts (one_of (codes "conflicts") rows))))
     (either (bytes_eq mode (codes "show")) _ _ (shown (first_of (codes "witness") rows))
     (either (bytes_eq mode (codes "normalise")) _ _ (normalised (first_of (codes "witness") rows))
-    (either (bytes_eq mode (codes "demo")) _ None (made (made_number rows) (budgets_in rows)) tt)))
+    (either (bytes_eq mode (codes "demo")) _ None (made (made_number rows) (budgets_in rows) (read 0 most_number (one_of (codes "number") rows)) (both _ _ (read 1 most_conflicts (one_of (codes "conflicts") rows)))) tt)))
 
 of_kinds : (kinds : Kinds) (rows : List Row) → AreAllowed (asked_of kinds rows).wanted
 of_kinds [] rows = of_mode (mode_in rows) rows

@@ -51,8 +51,9 @@ use Rattle.witval.specs.Tasks.{JudgesSets, RightOnInputs, RightOnPlaced, RightOn
 use Rattle.witval.specs.inside.Rests.{RightOnSource, RightOnText, RightOnTokens, RightOnTree, RightOnWitness, RightUnder}
 use Rattle.witval.specs.Replies.{CanonicalIn, NoReply, NoTreeReply, NoWitnessReply, OnWitness, SummaryIn, RightAlone, RightOnBytes, RightFor, too_long}
 use Rattle.witval.specs.declared.input.Inputs.{Inputs}
+use Rattle.witval.specs.declared.demonstration.Demonstration.{Demonstration}
 use Rattle.witval.specs.declared.output.Output.{Output}
-use Rattle.witval.specs.declared.output.Output.TheVariants.{Report, Canonical, Summary}
+use Rattle.witval.specs.declared.output.Output.TheVariants.{Report, Canonical, Summary, Demo as Demonstrated}
 use Rattle.witval.proofs.ShownValues.{sets_show_integers, shows_integers}
 
 -- a reply that is neither a read fault nor the refusal of a long file; a verdict shows no number beyond 64 bits
@@ -284,6 +285,10 @@ no_summary (Err fault) reply right = (refused fault reply right, refusals fault 
 abbrev RefusesOnly : (Output → List ℕ → Type 0) → List ℕ → Type 0
 RefusesOnly Within bytes = (reply : Reply) → Within (Report reply) bytes → IsRefused reply × NotOfLength reply
 
+-- none of the outputs is a demo
+abbrev NoDemo : (Output → List ℕ → Type 0) → List ℕ → Type 0
+NoDemo Within bytes = (demo : Demonstration) → Within (Demonstrated demo) bytes → ⊥
+
 -- the file holds the bytes that were read
 on_file : (Within : Output → List ℕ → Type 0) (witness bytes : List ℕ) (output : Output) → IsWitness bytes witness → Within output bytes → OnWitness Within output witness
 on_file Within witness bytes output a right = rw (a.not_long, ← a.read) right
@@ -293,21 +298,22 @@ told_one : (Within : Output → List ℕ → Type 0) (name : List ℕ) (files : 
 told_one Within name None bytes output a right = tt
 told_one Within name (Some files) bytes output a right = on_file Within _ bytes output a right
 
-alone : (Within : Output → List ℕ → Type 0) (name : List ℕ) (old new : ShelfState) (bytes : List ℕ) (output : Output) → RefusesOnly Within bytes
+alone : (Within : Output → List ℕ → Type 0) (name : List ℕ) (old new : ShelfState) (bytes : List ℕ) (output : Output) → RefusesOnly Within bytes → NoDemo Within bytes
     → ToldOne name old (IsWitness bytes) → Within output bytes → RightAlone Within name old new output
 unfolding IsRefused NotOfLength
-alone Within name old new bytes (Report (Refused code detail)) only a right = (told_one Within name old.files bytes _ a right, inl (only _ right).1)
-alone Within name old new bytes (Report (ReadFault file)) only a right = absurd (only _ right).0
-alone Within name old new bytes (Report (Judged verdict)) only a right = absurd (only _ right).0
-alone Within name old new bytes (Canonical text) only a right = told_one Within name old.files bytes _ a right
-alone Within name old new bytes (Summary text) only a right = told_one Within name old.files bytes _ a right
+alone Within name old new bytes (Report (Refused code detail)) only none a right = (told_one Within name old.files bytes _ a right, inl (only _ right).1)
+alone Within name old new bytes (Report (ReadFault file)) only none a right = absurd (only _ right).0
+alone Within name old new bytes (Report (Judged verdict)) only none a right = absurd (only _ right).0
+alone Within name old new bytes (Canonical text) only none a right = told_one Within name old.files bytes _ a right
+alone Within name old new bytes (Summary text) only none a right = told_one Within name old.files bytes _ a right
+alone Within name old new bytes (Demonstrated demo) only none a right = absurd (none demo right)
 
 pub canonical_if : {E : Type 0} (name : List ℕ) (old new : ShelfState) (bytes : List ℕ) (result : Result Output E) → ToldOne name old (IsWitness bytes)
     → IfOk result (λ output. CanonicalIn output bytes) → IfOk result (RightAlone CanonicalIn name old new)
-canonical_if name old new bytes (Ok output) a right = alone CanonicalIn name old new bytes output (λ reply r. no_tree r.0 reply r.2) a right
+canonical_if name old new bytes (Ok output) a right = alone CanonicalIn name old new bytes output (λ reply r. no_tree r.0 reply r.2) (λ demo r. r) a right
 canonical_if name old new bytes (Err e) a right = tt
 
 pub shown_if : {E : Type 0} (name : List ℕ) (old new : ShelfState) (bytes : List ℕ) (result : Result Output E) → ToldOne name old (IsWitness bytes)
     → IfOk result (λ output. SummaryIn output bytes) → IfOk result (RightAlone SummaryIn name old new)
-shown_if name old new bytes (Ok output) a right = alone SummaryIn name old new bytes output (λ reply r. no_summary r.0 reply r.2) a right
+shown_if name old new bytes (Ok output) a right = alone SummaryIn name old new bytes output (λ reply r. no_summary r.0 reply r.2) (λ demo r. r) a right
 shown_if name old new bytes (Err e) a right = tt

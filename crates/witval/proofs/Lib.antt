@@ -4,3 +4,5 @@ pub mod JudgedTask
 pub mod FewWaypoints
 pub mod AllowedBudgets
 pub mod JudgedSets
+pub mod MadeWitness
+pub mod FirstLine

@@ -27,10 +27,6 @@ use Rattle.yaml_scalars.specs.declared.fault.YamlFault.TheVariants.{Bytes, Gramm
 abbrev pub plain : List ℕ → Reply
 plain code = Refused code []
 
--- the form of an input that isn't served yet
-abbrev pub unbuilt : List ℕ → Reply
-unbuilt detail = Refused (codes "unbuilt") detail
-
 -- the refusal of bytes that are no tree; want of memory is no refusal
 abbrev pub IsRefusal : YamlFault → Reply → Type 0
 IsRefusal Bytes reply = reply ≡ plain (codes "yaml-bytes")

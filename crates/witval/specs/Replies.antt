@@ -12,13 +12,14 @@ use Rattle.wv_yaml.specs.declared.tree.Tree.{Tree}
 use Rattle.wv_yaml.specs.Canon.{canon}
 use Rattle.wv_yaml.specs.Reading.{IsAnswer}
 use Rattle.witval.specs.Inputs.{Told, ToldOne, Faulted, FaultedAt, TookTooMuch, TookTooMuchOf, word_of, limit_of, first_too_long, too_long_alone}
-use Rattle.witval.specs.Refusals.{IsRefusal, IsSchemaRefusal, plain, unbuilt}
+use Rattle.witval.specs.Refusals.{IsRefusal, IsSchemaRefusal, plain}
 use Rattle.witval.specs.Stages.{known, answered, itself}
 use Rattle.witval.specs.Tasks.{RightOnInputs}
+use Rattle.witval.specs.Demos.{IsDemonstration}
 use Rattle.witval.specs.declared.input.File.{File}
 use Rattle.witval.specs.declared.input.File.TheVariants.{Witness as WitnessFile}
 use Rattle.witval.specs.declared.output.Output.{Output}
-use Rattle.witval.specs.declared.output.Output.TheVariants.{Report, Canonical, Summary}
+use Rattle.witval.specs.declared.output.Output.TheVariants.{Report, Canonical, Summary, Demo as Demonstrated}
 
 -- the code of a file over its limit
 abbrev pub too_long : List ℕ
@@ -48,6 +49,7 @@ abbrev pub RightVerdict : Command → Budgets → ShelfState → ShelfState → 
 RightVerdict command budgets old new (Report reply) = RightFor command budgets old new reply
 RightVerdict command budgets old new (Canonical text) = ⊥
 RightVerdict command budgets old new (Summary text) = ⊥
+RightVerdict command budgets old new (Demonstrated demo) = ⊥
 
 -- no tree has a reply where its canonical form is asked for
 abbrev pub NoReply : Tree → Reply → Type 0
@@ -58,6 +60,7 @@ abbrev pub CanonicalIn : Output → List ℕ → Type 0
 CanonicalIn (Report reply) witness = answered (IsAnswer witness) itself IsRefusal NoReply reply
 CanonicalIn (Canonical text) witness = (tree : Tree) × IsAnswer witness (Ok tree) × (text ≡ canon tree)
 CanonicalIn (Summary text) witness = ⊥
+CanonicalIn (Demonstrated demo) witness = ⊥
 
 -- no witness has a reply where its summary is asked for
 abbrev pub NoWitnessReply : Witness → Reply → Type 0
@@ -71,12 +74,14 @@ NoTreeReply tree reply = known itself IsSchemaRefusal (witness_of tree) NoWitnes
 abbrev pub SummaryOf : Output → Tree → Type 0
 SummaryOf (Report reply) tree = NoTreeReply tree reply
 SummaryOf (Canonical text) tree = ⊥
+SummaryOf (Demonstrated demo) tree = ⊥
 SummaryOf (Summary text) tree = (witness : Witness) × (witness_of tree ≡ Ok witness) × (text ≡ summary_of witness)
 
 -- the same of the bytes of a witness of allowed length
 abbrev pub SummaryIn : Output → List ℕ → Type 0
 SummaryIn (Report reply) witness = answered (IsAnswer witness) itself IsRefusal NoTreeReply reply
 SummaryIn (Canonical text) witness = ⊥
+SummaryIn (Demonstrated demo) witness = ⊥
 SummaryIn (Summary text) witness = (tree : Tree) × IsAnswer witness (Ok tree) × SummaryOf (Summary text) tree
 
 -- what the bytes of a witness call for: the refusal of a long file, or what those of allowed length do
@@ -99,14 +104,18 @@ RightAlone Within name old new (Report (Refused code detail)) = ToldOne name old
 RightAlone Within name old new (Report (Judged verdict)) = ⊥
 RightAlone Within name old new (Canonical text) = ToldOne name old (OnWitness Within (Canonical text))
 RightAlone Within name old new (Summary text) = ToldOne name old (OnWitness Within (Summary text))
+RightAlone Within name old new (Demonstrated demo) = ⊥
 
--- words that ask for nothing, and for what isn't served yet
+-- words that ask for nothing
 abbrev pub usage : Output
 usage = Report (plain (codes "usage"))
 
--- the mode `demo` isn't served yet
-abbrev pub unbuilt_words : Output
-unbuilt_words = Report (unbuilt (codes "words"))
+-- where the demo of a number is asked for, its lines are written, whatever files there are
+abbrev pub RightDemo : ℕ → Budgets → Output → Type 0
+RightDemo number budgets (Demonstrated demo) = IsDemonstration number budgets demo
+RightDemo number budgets (Report reply) = ⊥
+RightDemo number budgets (Canonical text) = ⊥
+RightDemo number budgets (Summary text) = ⊥
 
 -- the output that is owed to what the words ask for
 abbrev pub Right : Option Wanted → ShelfState → ShelfState → Output → Type 0
@@ -114,4 +123,4 @@ Right None old new output = output ≡ usage
 Right (Some (Validate command budgets)) old new output = RightVerdict command budgets old new output
 Right (Some (Show name)) old new output = RightAlone SummaryIn name old new output
 Right (Some (Normalise name)) old new output = RightAlone CanonicalIn name old new output
-Right (Some (Demo number budgets)) old new output = output ≡ unbuilt_words
+Right (Some (Demo number budgets)) old new output = RightDemo number budgets output

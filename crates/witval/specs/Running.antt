@@ -7,16 +7,18 @@ use Rattle.wv_report.specs.Json.{HasJsonIntegers, json_of}
 use Rattle.wv_report.specs.Report.{status_of, text_of}
 use Rattle.wv_report.specs.declared.reply.Reply.{Reply}
 use Rattle.wv_arguments.specs.Words.{Asked, Wanted, Validate, Show, Normalise, Demo, asked_by}
+use Rattle.witval.specs.Demos.{demo_status, demo_text}
 use Rattle.witval.specs.Inputs.{OfFiles}
-use Rattle.witval.specs.Replies.{Right, RightOnBytes, CanonicalIn, SummaryIn, OnWitness, unbuilt_words}
+use Rattle.witval.specs.Replies.{Right, RightOnBytes, CanonicalIn, SummaryIn, OnWitness, RightDemo}
 use Rattle.witval.specs.declared.output.Output.{Output}
-use Rattle.witval.specs.declared.output.Output.TheVariants.{Report, Canonical, Summary}
+use Rattle.witval.specs.declared.output.Output.TheVariants.{Report, Canonical, Summary, Demo as Demonstrated}
 
 -- the status and the bytes of an output
 abbrev pub status_by : Output → ℕ
 status_by (Report reply) = status_of reply
 status_by (Canonical text) = 0
 status_by (Summary text) = 0
+status_by (Demonstrated demo) = demo_status demo
 
 -- JSON where that is asked for
 abbrev pub report_by : Bool → Reply → List ℕ
@@ -28,12 +30,14 @@ abbrev pub bytes_by : Bool → Output → List ℕ
 bytes_by json (Report reply) = report_by json reply
 bytes_by json (Canonical text) = text
 bytes_by json (Summary text) = text
+bytes_by json (Demonstrated demo) = demo_text demo
 
 -- no report shows a number beyond 64 bits
 abbrev pub HasIntegers : Output → Type 0
 HasIntegers (Report reply) = HasJsonIntegers reply
 HasIntegers (Canonical text) = Unit {0}
 HasIntegers (Summary text) = Unit {0}
+HasIntegers (Demonstrated demo) = Unit {0}
 
 -- a right output, its status, and all of its bytes
 abbrev pub Replied : Asked → ShelfState → ShelfState → SinkState → SinkState → ℕ → Type 0
@@ -69,9 +73,10 @@ abbrev pub CallsFor : Wanted → Files → Output → Type 0
 CallsFor (Validate command budgets) files (Report reply) = OfFiles command files (RightOnBytes budgets reply)
 CallsFor (Validate command budgets) files (Canonical text) = ⊥
 CallsFor (Validate command budgets) files (Summary text) = ⊥
+CallsFor (Validate command budgets) files (Demonstrated demo) = ⊥
 CallsFor (Show name) files output = OnWitness SummaryIn output (file_of files name)
 CallsFor (Normalise name) files output = OnWitness CanonicalIn output (file_of files name)
-CallsFor (Demo number budgets) files output = output ≡ unbuilt_words
+CallsFor (Demo number budgets) files output = RightDemo number budgets output
 
 -- what the files call for is written, with its status
 abbrev pub Answered : Bool → Wanted → Files → SinkState → SinkState → ℕ → Type 0

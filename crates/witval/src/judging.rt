@@ -42,7 +42,7 @@ pub fn judge(alloc: Global, inputs: &Inputs, budgets: Budgets) -> Result<Reply, 
 }
 
 /// The reply to a program and the bytes of a witness.
-fn judge_bytes(
+pub fn judge_bytes(
     alloc: Global,
     property: Property,
     program: &[u8],

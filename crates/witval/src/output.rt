@@ -2,16 +2,18 @@ ghost use Rattle.std.specs.Prelude.{◌≡◌, IfOk};
 ghost use Rattle.wv_report.specs.Json.{HasJsonIntegers};
 ghost use Rattle.witval.specs.Running.{HasIntegers, bytes_by, report_by, status_by};
 
+use crate::demonstration::{Demonstration, status_of_demo, text_of_demo};
 use std::alloc::Global;
 use wv_base::{OutOfMemory, Seq};
 use wv_report::{Reply, json, status, text};
 
-/// What is written: the report of a reply, the canonical form of a witness, or its summary.
+/// What is written: the report of a reply, the canonical form of a witness, its summary, or the lines of a demo.
 #[derive(Drop)]
 pub enum Output {
     Report(Reply),
     Canonical(Seq<u8>),
     Summary(Seq<u8>),
+    Demo(Demonstration),
 }
 
 /// The status that the program ends with where the output is written.
@@ -21,6 +23,7 @@ pub fn status_of(output: &Output) -> u8
     match output {
         Output::Report(reply) => status(reply),
         Output::Canonical(_) | Output::Summary(_) => 0,
+        Output::Demo(demo) => status_of_demo(demo),
     }
 }
 
@@ -45,5 +48,6 @@ pub fn bytes_of(alloc: Global, output: Output, is_json: bool) -> Result<Seq<u8>,
         Output::Report(reply) => Ok(Seq::from_vec(report(alloc, &reply, is_json)?)),
         Output::Canonical(bytes) => Ok(bytes),
         Output::Summary(bytes) => Ok(bytes),
+        Output::Demo(demo) => Ok(Seq::from_vec(text_of_demo(alloc, &demo)?)),
     }
 }

@@ -2,7 +2,7 @@
 ghost use Rattle.std.specs.Prelude.{◌≡◌, ◌++◌, ◌∷◌, [], IfOk, codes, decimal};
 ghost use Rattle.wv_report.specs.declared.reply.Reply.TheVariants as replies;
 ghost use Rattle.witval.specs.Inputs.{word_of};
-ghost use Rattle.witval.specs.Refusals.{IsBindRefusal, IsCheckRefusal, IsObligationRefusal, IsRefusal, IsSchemaRefusal, IsSyntaxRefusal, IsTaskRefusal, IsTokenRefusal, both_hashes, check_code, place_text, plain, unbuilt};
+ghost use Rattle.witval.specs.Refusals.{IsBindRefusal, IsCheckRefusal, IsObligationRefusal, IsRefusal, IsSchemaRefusal, IsSyntaxRefusal, IsTaskRefusal, IsTokenRefusal, both_hashes, check_code, place_text, plain};
 ghost use Rattle.witval.specs.Replies.{too_long};
 
 use crate::input::File;
@@ -43,14 +43,6 @@ pub fn refuse_plainly(alloc: Global, code: &str) -> Result<Reply, OutOfMemory>
 {
     let detail = Text::of(alloc, "")?;
     refuse(alloc, code, detail)
-}
-
-/// Input of a form that isn't served yet.
-pub fn refuse_unbuilt(alloc: Global, detail: &str) -> Result<Reply, OutOfMemory>
-    ensures { IfOk result (λ reply. reply ≡ unbuilt detail.now) }
-{
-    let detail = Text::of(alloc, detail)?;
-    refuse(alloc, "unbuilt", detail)
 }
 
 /// A witness whose bytes are no tree.

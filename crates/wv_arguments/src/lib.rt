@@ -8,6 +8,3 @@ mod request;
 
 pub use reading::read_words;
 pub use request::{Asked, Budgets, Names, Request};
-
-#[cfg(test)]
-mod tests;

@@ -8,6 +8,3 @@ mod sequence;
 mod witnesses;
 
 pub use making::{Made, demo};
-
-#[cfg(test)]
-mod tests;

@@ -9,6 +9,3 @@ mod values;
 
 pub use reply::{Reply, status};
 pub use report::{json, text};
-
-#[cfg(test)]
-mod tests;

@@ -6,6 +6,3 @@ mod entries;
 mod words;
 
 pub use entries::summary;
-
-#[cfg(test)]
-mod tests;

@@ -11,6 +11,3 @@ pub use fault::TaskFault;
 pub use judging::judge_task;
 pub use property_text::{NotProperty, property, specification};
 pub use readings::{created, identifier};
-
-#[cfg(test)]
-mod tests;

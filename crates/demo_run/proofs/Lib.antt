@@ -1,0 +1,13 @@
+pub mod LastCell
+pub mod States
+pub mod Evaluating
+pub mod Executing
+pub mod Looping
+pub mod Blocks
+pub mod Ending
+pub mod Calls
+pub mod Running
+pub mod Matched
+pub mod Names
+pub mod Elaborated
+pub mod Violated

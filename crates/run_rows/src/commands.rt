@@ -1,0 +1,65 @@
+// Rows of the whole program: its words and its files, and behind them its status and its report.
+use row_files::{NotTried, Row, Trial, program, witness};
+use std::alloc::Global;
+use std::str;
+use witval::run;
+use wv_base::{MemoryShelf, MemorySink, OutOfMemory};
+
+fn words(alloc: Global, line: &str) -> Result<Vec<String>, OutOfMemory> {
+    let mut words = Vec::new(alloc);
+    for word in line.split(' ') {
+        words.push(String::from_str(alloc, word)?)?;
+    }
+    Ok(words)
+}
+
+/// The files that a row gives: its program is `p`, its property is `q`, its witness is `w`.
+fn shelf(trial: &impl Trial, row: &Row) -> Result<MemoryShelf, NotTried> {
+    let mut shelf = MemoryShelf::new(trial.alloc(), 4096);
+    if let Some(program) = program(trial, row)? {
+        shelf.put("p", program.as_slice())?;
+    }
+    if let Some(property) = row.bytes("property") {
+        shelf.put("q", property)?;
+    }
+    if let Some(witness) = witness(trial, row)? {
+        shelf.put("w", witness.as_slice())?;
+    }
+    Ok(shelf)
+}
+
+/// The status, and behind a blank the report.
+pub fn told(trial: &impl Trial, row: &Row) -> Result<String, NotTried> {
+    let alloc = trial.alloc();
+    let mut shelf = shelf(trial, row)?;
+    let words = words(alloc, row.wanted_text("words")?)?;
+    // A write takes few bytes, so that a report is written in several.
+    let mut out = MemorySink::new(alloc, 1000, 7)?;
+    let status = run(alloc, &words, &mut shelf, &mut out);
+    match str::from_utf8(out.bytes()) {
+        Ok(report) => Ok(format!(in alloc; "{status} {report}")?),
+        Err(_) => Ok(format!(in alloc; "{status} and a report that isn't UTF-8")?),
+    }
+}
+
+/// A report with `_` for each drawn value.
+fn without_values(alloc: Global, report: &str) -> Result<String, OutOfMemory> {
+    let mut out = String::new(alloc);
+    for line in report.lines() {
+        match line.rsplit_once(' ') {
+            Some((front, _)) if line.starts_with("value ") => {
+                out.push_str(front)?;
+                out.push_str(" _")?;
+            }
+            _ => out.push_str(line)?,
+        }
+        out.push_str("\n")?;
+    }
+    Ok(out)
+}
+
+/// The same without the values: which of those that fit is shown is the solver's choice.
+pub fn told_without_values(trial: &impl Trial, row: &Row) -> Result<String, NotTried> {
+    let report = told(trial, row)?;
+    Ok(without_values(trial.alloc(), report.as_str())?)
+}
