@@ -26,4 +26,4 @@ mod trial;
 
 pub use table::{NotTried, Row};
 pub use texts::{program, witness};
-pub use trial::{Trial, try_file};
+pub use trial::{Files, Trial, try_file};

@@ -1,26 +1,26 @@
 // Programs and witnesses of rows: files of `data/`, and what a row adds to them.
 use crate::table::{NotTried, Row};
-use crate::trial::Trial;
+use crate::trial::Files;
 use std::alloc::Global;
 use wv_base::OutOfMemory;
 
 /// Files one behind another.
-fn read_each(trial: &impl Trial, names: &str) -> Result<String, NotTried> {
-    let mut text = String::new(trial.alloc());
+fn read_each(files: &impl Files, names: &str) -> Result<String, NotTried> {
+    let mut text = String::new(files.alloc());
     for name in names.split_whitespace() {
-        text.push_str(trial.file(name)?.as_str())?;
+        text.push_str(files.file(name)?.as_str())?;
     }
     Ok(text)
 }
 
 /// A row's program: files, and behind them its own lines.
-pub fn program(trial: &impl Trial, row: &Row) -> Result<Option<Vec<u8>>, NotTried> {
+pub fn program(files: &impl Files, row: &Row) -> Result<Option<Vec<u8>>, NotTried> {
     let names = row.text("program")?;
     let source = row.bytes("source");
     if names.is_none() && source.is_none() {
         return Ok(None);
     }
-    let files = read_each(trial, names.unwrap_or(""))?;
+    let files = read_each(files, names.unwrap_or(""))?;
     let mut bytes = files.into_bytes();
     bytes.extend_from_slice(source.unwrap_or(b""))?;
     Ok(Some(bytes))
@@ -116,14 +116,14 @@ fn push_segments(alloc: Global, out: &mut String, segments: &str) -> Result<(), 
 }
 
 /// A row's witness: files with what is replaced in them, its own lines, and its segments.
-pub fn witness(trial: &impl Trial, row: &Row) -> Result<Option<Vec<u8>>, NotTried> {
-    let alloc = trial.alloc();
+pub fn witness(files: &impl Files, row: &Row) -> Result<Option<Vec<u8>>, NotTried> {
+    let alloc = files.alloc();
     let names = row.text("witness")?;
     let yaml = row.bytes("yaml");
     if names.is_none() && yaml.is_none() {
         return Ok(None);
     }
-    let mut text = read_each(trial, names.unwrap_or(""))?;
+    let mut text = read_each(files, names.unwrap_or(""))?;
     if let Some(hash) = row.text("hash")? {
         text = replaced(alloc, text.as_str(), "HASH", hash)?;
     }

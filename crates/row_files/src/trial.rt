@@ -3,13 +3,16 @@ use crate::escapes::in_one_line;
 use crate::table::{NotTried, Row, rows_of};
 use std::alloc::Global;
 
-/// A program that tries rows: its files, its output, and what comes of a row.
-pub trait Trial {
+/// The files of a program that tries rows.
+pub trait Files {
     fn alloc(&self) -> Global;
 
     /// The text of a file of `data/`.
     fn file(&self, name: &str) -> Result<String, NotTried>;
+}
 
+/// A program that tries rows: its output, and what comes of a row.
+pub trait Trial {
     /// Prints a line.
     fn print(&self, line: &str) -> Result<(), NotTried>;
 
@@ -18,14 +21,19 @@ pub trait Trial {
 }
 
 /// What came of a row in which something is missing is that it is missing.
-fn told(trial: &impl Trial, row: &Row) -> Result<String, NotTried> {
+fn told<T: Files + Trial>(trial: &T, row: &Row) -> Result<String, NotTried> {
     match trial.came(row) {
         Err(NotTried::Lacks(what)) => Ok(format!(in trial.alloc(); "the row lacks {what}")?),
         answer => answer,
     }
 }
 
-fn print_difference(trial: &impl Trial, file: &str, row: &Row, came: &str) -> Result<(), NotTried> {
+fn print_difference<T: Files + Trial>(
+    trial: &T,
+    file: &str,
+    row: &Row,
+    came: &str,
+) -> Result<(), NotTried> {
     let alloc = trial.alloc();
     let wanted = in_one_line(alloc, row.text("answer")?.unwrap_or(""))?;
     let came = in_one_line(alloc, came)?;
@@ -36,7 +44,7 @@ fn print_difference(trial: &impl Trial, file: &str, row: &Row, came: &str) -> Re
 }
 
 /// Whether a row's answer comes; if not, that is printed.
-fn is_met(trial: &impl Trial, file: &str, row: &Row) -> Result<bool, NotTried> {
+fn is_met<T: Files + Trial>(trial: &T, file: &str, row: &Row) -> Result<bool, NotTried> {
     let came = told(trial, row)?;
     if row.bytes("answer") == Some(came.as_bytes()) {
         return Ok(true);
@@ -46,7 +54,7 @@ fn is_met(trial: &impl Trial, file: &str, row: &Row) -> Result<bool, NotTried> {
 }
 
 /// How many rows a file has, and how many differ.
-pub fn try_file(trial: &impl Trial, file: &str) -> Result<(u64, u64), NotTried> {
+pub fn try_file<T: Files + Trial>(trial: &T, file: &str) -> Result<(u64, u64), NotTried> {
     let text = trial.file(file)?;
     let rows = rows_of(trial.alloc(), text.as_str())?;
     let mut tried = 0_u64;

@@ -5,7 +5,7 @@ use crate::few::bind;
 use crate::schema::read_witness;
 use c_core::Spot;
 use c_meaning::{Choices, Given};
-use row_files::{NotTried, Row, Trial};
+use row_files::{Files, NotTried, Row};
 use std::alloc::{AllocError, Global};
 use way_bind::BindFault;
 use way_match::{Aim, Bound, Point, given};
@@ -46,10 +46,10 @@ fn fault(alloc: Global, fault: BindFault) -> Result<String, AllocError> {
 }
 
 /// What is told of a row's segments.
-pub fn told(trial: &impl Trial, row: &Row) -> Result<String, NotTried> {
-    let alloc = trial.alloc();
-    let program = checked_program(trial, row)?;
-    let witness = read_witness(trial, row)?;
+pub fn told(files: &impl Files, row: &Row) -> Result<String, NotTried> {
+    let alloc = files.alloc();
+    let program = checked_program(files, row)?;
+    let witness = read_witness(files, row)?;
     match bind(alloc, &witness, &program) {
         Ok(bound) => Ok(first(alloc, &bound)?),
         Err(lack) => Ok(fault(alloc, lack)?),
@@ -76,10 +76,10 @@ fn push_call(alloc: Global, text: &mut String, call: &Given) -> Result<(), OutOf
 }
 
 /// What a row's segments give to the input calls of its program.
-fn given_by(trial: &impl Trial, row: &Row) -> Result<Seq<Given>, NotTried> {
-    let alloc = trial.alloc();
-    let program = checked_program(trial, row)?;
-    let witness = read_witness(trial, row)?;
+fn given_by(files: &impl Files, row: &Row) -> Result<Seq<Given>, NotTried> {
+    let alloc = files.alloc();
+    let program = checked_program(files, row)?;
+    let witness = read_witness(files, row)?;
     let Ok(bound) = bind(alloc, &witness, &program) else {
         return Err(NotTried::Lacks("segments that are bound"));
     };
@@ -90,22 +90,22 @@ fn given_by(trial: &impl Trial, row: &Row) -> Result<Seq<Given>, NotTried> {
 }
 
 /// Each input call.
-pub fn calls(trial: &impl Trial, row: &Row) -> Result<String, NotTried> {
-    let calls = given_by(trial, row)?;
-    let mut text = String::new(trial.alloc());
+pub fn calls(files: &impl Files, row: &Row) -> Result<String, NotTried> {
+    let calls = given_by(files, row)?;
+    let mut text = String::new(files.alloc());
     for call in calls.as_slice() {
-        push_call(trial.alloc(), &mut text, call)?;
+        push_call(files.alloc(), &mut text, call)?;
     }
     Ok(text)
 }
 
 /// The calls with values, or `none`.
-pub fn values(trial: &impl Trial, row: &Row) -> Result<String, NotTried> {
-    let calls = given_by(trial, row)?;
-    let mut text = String::new(trial.alloc());
+pub fn values(files: &impl Files, row: &Row) -> Result<String, NotTried> {
+    let calls = given_by(files, row)?;
+    let mut text = String::new(files.alloc());
     for call in calls.as_slice() {
         if call.values.len() > 0 {
-            push_call(trial.alloc(), &mut text, call)?;
+            push_call(files.alloc(), &mut text, call)?;
         }
     }
     if text.len() == 0 {

@@ -3,7 +3,7 @@ use crate::sources::{parsed, refused};
 use c_check::{CheckCode, CheckFault, check};
 use c_core::{DataModel, Program, Property};
 use c_parser::Source;
-use row_files::{NotTried, Row, Trial, program};
+use row_files::{Files, NotTried, Row, program};
 use std::alloc::{AllocError, Global};
 
 fn word(code: CheckCode) -> &'static str {
@@ -51,10 +51,10 @@ fn in_models(alloc: Global, source: &Source, models: &str) -> Result<String, Not
 }
 
 /// What is told of a row's source.
-pub fn told(trial: &impl Trial, row: &Row) -> Result<String, NotTried> {
-    let alloc = trial.alloc();
+pub fn told(files: &impl Files, row: &Row) -> Result<String, NotTried> {
+    let alloc = files.alloc();
     let models = row.wanted_text("model")?;
-    let Some(text) = program(trial, row)? else {
+    let Some(text) = program(files, row)? else {
         return Err(NotTried::Lacks("source"));
     };
     match parsed(alloc, text.as_slice()) {
@@ -65,14 +65,14 @@ pub fn told(trial: &impl Trial, row: &Row) -> Result<String, NotTried> {
 }
 
 /// A row's program, which has to be one in ILP32.
-pub fn checked_program(trial: &impl Trial, row: &Row) -> Result<Program, NotTried> {
-    checked_for(trial, row, Property::UnreachCall)
+pub fn checked_program(files: &impl Files, row: &Row) -> Result<Program, NotTried> {
+    checked_for(files, row, Property::UnreachCall)
 }
 
 /// The same, for a property.
-pub fn checked_for(trial: &impl Trial, row: &Row, property: Property) -> Result<Program, NotTried> {
-    let alloc = trial.alloc();
-    let Some(text) = program(trial, row)? else {
+pub fn checked_for(files: &impl Files, row: &Row, property: Property) -> Result<Program, NotTried> {
+    let alloc = files.alloc();
+    let Some(text) = program(files, row)? else {
         return Err(NotTried::Lacks("program"));
     };
     let Some(Ok(source)) = parsed(alloc, text.as_slice()) else {

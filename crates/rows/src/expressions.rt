@@ -2,7 +2,7 @@
 use crate::sources::parsed;
 use c_core::IntType;
 use c_parser::{ExprFault, Item, RawExpr, RawForm, RawNode, Source, parse_expr, parse_result};
-use row_files::{NotTried, Row, Trial};
+use row_files::{Files, NotTried, Row};
 use std::alloc::{AllocError, Global};
 
 fn push_type(text: &mut String, to: Option<IntType>) -> Result<(), AllocError> {
@@ -111,8 +111,8 @@ fn first_test<'a>(source: &'a Source) -> Option<&'a RawExpr> {
 }
 
 /// What a row's text is as a whole expression of a source: as the test of an `if`.
-pub fn in_source(trial: &impl Trial, row: &Row) -> Result<String, NotTried> {
-    let alloc = trial.alloc();
+pub fn in_source(files: &impl Files, row: &Row) -> Result<String, NotTried> {
+    let alloc = files.alloc();
     let text = row.wanted_text("text")?;
     let source = format!(in alloc; "int f() {{ if ({text}) ; }}")?;
     match parsed(alloc, source.as_bytes()) {
@@ -134,8 +134,8 @@ fn fault(alloc: Global, fault: ExprFault) -> Result<String, AllocError> {
 }
 
 /// What a row's text is as the expression of a witness.
-pub fn in_witness(trial: &impl Trial, row: &Row) -> Result<String, NotTried> {
-    let alloc = trial.alloc();
+pub fn in_witness(files: &impl Files, row: &Row) -> Result<String, NotTried> {
+    let alloc = files.alloc();
     match parse_expr(alloc, row.wanted_text("text")?.as_bytes()) {
         Ok(expr) => Ok(lisp(alloc, &expr)?),
         Err(cause) => Ok(fault(alloc, cause)?),
@@ -143,8 +143,8 @@ pub fn in_witness(trial: &impl Trial, row: &Row) -> Result<String, NotTried> {
 }
 
 /// `read`, or the cause for which a row's text is no expression of a witness.
-pub fn is_in_witness(trial: &impl Trial, row: &Row) -> Result<String, NotTried> {
-    let alloc = trial.alloc();
+pub fn is_in_witness(files: &impl Files, row: &Row) -> Result<String, NotTried> {
+    let alloc = files.alloc();
     match parse_expr(alloc, row.wanted_text("text")?.as_bytes()) {
         Ok(_) => Ok(String::from_str(alloc, "read")?),
         Err(cause) => Ok(fault(alloc, cause)?),
@@ -152,8 +152,8 @@ pub fn is_in_witness(trial: &impl Trial, row: &Row) -> Result<String, NotTried> 
 }
 
 /// What a row's text is as a constraint on a result.
-pub fn on_result(trial: &impl Trial, row: &Row) -> Result<String, NotTried> {
-    let alloc = trial.alloc();
+pub fn on_result(files: &impl Files, row: &Row) -> Result<String, NotTried> {
+    let alloc = files.alloc();
     match parse_result(alloc, row.wanted_text("text")?.as_bytes()) {
         Ok(test) => {
             let op = test.op;

@@ -1,6 +1,6 @@
 // Rows of tokens: a source, and behind it its tokens, or the place where it has none.
 use c_tokens::{Token, TokenFault, TokenKind, plain_tokens, tokens};
-use row_files::{NotTried, Row, Trial, program};
+use row_files::{Files, NotTried, Row, program};
 use std::alloc::{AllocError, Global};
 use wv_base::Seq;
 
@@ -62,17 +62,17 @@ fn shown(alloc: Global, answer: Result<Seq<Token>, TokenFault>) -> Result<String
 }
 
 /// The tokens of a row's source, or the fault.
-pub fn told(trial: &impl Trial, row: &Row) -> Result<String, NotTried> {
-    let Some(text) = program(trial, row)? else {
+pub fn told(files: &impl Files, row: &Row) -> Result<String, NotTried> {
+    let Some(text) = program(files, row)? else {
         return Err(NotTried::Lacks("source"));
     };
-    Ok(shown(trial.alloc(), tokens(trial.alloc(), text.as_slice()))?)
+    Ok(shown(files.alloc(), tokens(files.alloc(), text.as_slice()))?)
 }
 
 /// The same where no directive may stand.
-pub fn told_plain(trial: &impl Trial, row: &Row) -> Result<String, NotTried> {
-    let Some(text) = program(trial, row)? else {
+pub fn told_plain(files: &impl Files, row: &Row) -> Result<String, NotTried> {
+    let Some(text) = program(files, row)? else {
         return Err(NotTried::Lacks("source"));
     };
-    Ok(shown(trial.alloc(), plain_tokens(trial.alloc(), text.as_slice()))?)
+    Ok(shown(files.alloc(), plain_tokens(files.alloc(), text.as_slice()))?)
 }

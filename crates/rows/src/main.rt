@@ -13,47 +13,47 @@ mod sources;
 mod tasks;
 mod yaml;
 
-use row_files::{NotTried, Row, Trial, try_file};
+use row_files::{Files, NotTried, Row, Trial, try_file};
 use std::alloc::Global;
 use std::process::ExitCode;
 use std::{env, fs, io};
 
 /// What comes of a row, by its kind.
-fn came(trial: &Rows<'_>, row: &Row) -> Result<String, NotTried> {
+fn came(files: &Rows<'_>, row: &Row) -> Result<String, NotTried> {
     match row.kind.as_str() {
         // Tokens of a source; of a text in which no directive may stand.
-        "tokens" => lexing::told(trial, row),
-        "plain" => lexing::told_plain(trial, row),
+        "tokens" => lexing::told(files, row),
+        "plain" => lexing::told_plain(files, row),
         // The items of a source; only whether they are read.
-        "items" => sources::told(trial, row),
-        "depth" => sources::is_read(trial, row),
+        "items" => sources::told(files, row),
+        "depth" => sources::is_read(files, row),
         // An expression of a source, of a witness, on a result, and only whether it is read.
-        "expression" => expressions::in_source(trial, row),
-        "constraint" => expressions::in_witness(trial, row),
-        "constraint-depth" => expressions::is_in_witness(trial, row),
-        "result" => expressions::on_result(trial, row),
+        "expression" => expressions::in_source(files, row),
+        "constraint" => expressions::in_witness(files, row),
+        "constraint-depth" => expressions::is_in_witness(files, row),
+        "result" => expressions::on_result(files, row),
         // The first refusal of a source.
-        "check" => check::told(trial, row),
+        "check" => check::told(files, row),
         // A run of a program, by the values of its input calls.
-        "plain-run" => plain_run::told(trial, row),
+        "plain-run" => plain_run::told(files, row),
         // The point of the first follow; the values given to input calls; all input calls.
-        "bind" => bind::told(trial, row),
-        "values" => bind::values(trial, row),
-        "calls" => bind::calls(trial, row),
+        "bind" => bind::told(files, row),
+        "values" => bind::values(files, row),
+        "calls" => bind::calls(files, row),
         // The schema of a witness; its tree, read and made again.
-        "schema" => schema::told(trial, row),
-        "same" => schema::tree_again(trial, row),
+        "schema" => schema::told(files, row),
+        "same" => schema::tree_again(files, row),
         // What a witness says about its task: texts, and what is judged of whole entries.
-        "property" => tasks::property_told(trial, row),
-        "specification" => tasks::specification_told(trial, row),
-        "created" => tasks::created_told(trial, row),
-        "identifier" => tasks::identifier_told(trial, row),
-        "task" => tasks::told(trial, row),
+        "property" => tasks::property_told(files, row),
+        "specification" => tasks::specification_told(files, row),
+        "created" => tasks::created_told(files, row),
+        "identifier" => tasks::identifier_told(files, row),
+        "task" => tasks::told(files, row),
         // Whether YAML is read; its tree; its canonical form; a text between quotes.
-        "yaml" => yaml::told(trial, row),
-        "tree" => yaml::tree(trial, row),
-        "canonical" => yaml::written(trial, row),
-        "quoted" => yaml::quoted(trial, row),
+        "yaml" => yaml::told(files, row),
+        "tree" => yaml::tree(files, row),
+        "canonical" => yaml::written(files, row),
+        "quoted" => yaml::quoted(files, row),
         _ => Err(NotTried::Lacks("a kind, or it is no row")),
     }
 }
@@ -64,7 +64,7 @@ struct Rows<'a> {
     rt: &'a HostRuntime,
 }
 
-impl<'a> Trial for Rows<'a> {
+impl<'a> Files for Rows<'a> {
     fn alloc(&self) -> Global {
         self.rt.alloc()
     }
@@ -76,7 +76,9 @@ impl<'a> Trial for Rows<'a> {
             Err(_) => Err(NotTried::Lacks("a file of the name that it gives")),
         }
     }
+}
 
+impl<'a> Trial for Rows<'a> {
     fn print(&self, line: &str) -> Result<(), NotTried> {
         match self.rt.println(line) {
             Ok(()) => Ok(()),

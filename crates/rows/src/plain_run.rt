@@ -3,7 +3,7 @@ use crate::check::checked_for;
 use c_core::{Property, Spot};
 use c_interpreter::run_plain;
 use c_meaning::{Choices, Draw, End, Event, Given, Memory, Run, Watcher};
-use row_files::{NotTried, Row, Trial};
+use row_files::{Files, NotTried, Row};
 use std::alloc::{AllocError, Global};
 use wv_base::{OutOfMemory, Seq};
 
@@ -151,9 +151,9 @@ fn property(row: &Row) -> Result<Property, NotTried> {
 }
 
 /// What is told of a row's run.
-pub fn told(trial: &impl Trial, row: &Row) -> Result<String, NotTried> {
-    let alloc = trial.alloc();
-    let program = checked_for(trial, row, property(row)?)?;
+pub fn told(files: &impl Files, row: &Row) -> Result<String, NotTried> {
+    let alloc = files.alloc();
+    let program = checked_for(files, row, property(row)?)?;
     let choices = choices(alloc, row)?;
     let Ok(steps) = row.wanted_text("steps")?.parse::<u64>() else {
         return Err(NotTried::Lacks("a number of steps"));

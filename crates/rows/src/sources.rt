@@ -6,7 +6,7 @@ use c_parser::{
     parse,
 };
 use c_tokens::tokens;
-use row_files::{NotTried, Row, Trial, program};
+use row_files::{Files, NotTried, Row, program};
 use std::alloc::{AllocError, Global};
 
 fn type_text(ty: IntType) -> &'static str {
@@ -389,9 +389,9 @@ pub fn refused(alloc: Global, fault: ParseFault) -> Result<String, AllocError> {
 }
 
 /// The items of a row's source, or where the first that fits no form stands.
-pub fn told(trial: &impl Trial, row: &Row) -> Result<String, NotTried> {
-    let alloc = trial.alloc();
-    let Some(text) = program(trial, row)? else {
+pub fn told(files: &impl Files, row: &Row) -> Result<String, NotTried> {
+    let alloc = files.alloc();
+    let Some(text) = program(files, row)? else {
         return Err(NotTried::Lacks("source"));
     };
     match parsed(alloc, text.as_slice()) {
@@ -406,9 +406,9 @@ pub fn told(trial: &impl Trial, row: &Row) -> Result<String, NotTried> {
 }
 
 /// `read`, or where the first item that fits no form stands.
-pub fn is_read(trial: &impl Trial, row: &Row) -> Result<String, NotTried> {
-    let alloc = trial.alloc();
-    let Some(text) = program(trial, row)? else {
+pub fn is_read(files: &impl Files, row: &Row) -> Result<String, NotTried> {
+    let alloc = files.alloc();
+    let Some(text) = program(files, row)? else {
         return Err(NotTried::Lacks("source"));
     };
     match parsed(alloc, text.as_slice()) {

@@ -1,6 +1,6 @@
 // Rows of tasks: texts of properties, specifications, creation times and identifiers, and entries that are judged.
 use c_core::Property;
-use row_files::{NotTried, Row, Trial, program};
+use row_files::{Files, NotTried, Row, program};
 use std::alloc::Global;
 use wv_base::{OutOfMemory, Seq, Text};
 use wv_schema::{Content, Entry, FileHash, Metadata, Witness};
@@ -26,20 +26,20 @@ fn name_of(property: Option<Property>) -> &'static str {
 }
 
 /// What is read of a property file's text.
-pub fn property_told(trial: &impl Trial, row: &Row) -> Result<String, NotTried> {
+pub fn property_told(files: &impl Files, row: &Row) -> Result<String, NotTried> {
     let read = property(row.bytes("text").unwrap_or(b""));
-    Ok(String::from_str(trial.alloc(), name_of(read.ok()))?)
+    Ok(String::from_str(files.alloc(), name_of(read.ok()))?)
 }
 
 /// What is read of a witness's specification.
-pub fn specification_told(trial: &impl Trial, row: &Row) -> Result<String, NotTried> {
+pub fn specification_told(files: &impl Files, row: &Row) -> Result<String, NotTried> {
     let read = specification(row.bytes("text").unwrap_or(b""));
-    Ok(String::from_str(trial.alloc(), name_of(read.ok()))?)
+    Ok(String::from_str(files.alloc(), name_of(read.ok()))?)
 }
 
 /// The second that a creation time says.
-pub fn created_told(trial: &impl Trial, row: &Row) -> Result<String, NotTried> {
-    let alloc = trial.alloc();
+pub fn created_told(files: &impl Files, row: &Row) -> Result<String, NotTried> {
+    let alloc = files.alloc();
     let time = Text::of(alloc, row.wanted_text("text")?)?;
     match created(alloc, &time)? {
         Some(second) => Ok(format!(in alloc; "{second}")?),
@@ -48,8 +48,8 @@ pub fn created_told(trial: &impl Trial, row: &Row) -> Result<String, NotTried> {
 }
 
 /// An identifier in its canonical form.
-pub fn identifier_told(trial: &impl Trial, row: &Row) -> Result<String, NotTried> {
-    let alloc = trial.alloc();
+pub fn identifier_told(files: &impl Files, row: &Row) -> Result<String, NotTried> {
+    let alloc = files.alloc();
     let text = Text::of(alloc, row.wanted_text("text")?)?;
     match identifier(alloc, &text)? {
         Some(found) => Ok(String::from_str(alloc, found.as_str())?),
@@ -118,10 +118,10 @@ fn witness_of(alloc: Global, rows: &str) -> Result<Witness, OutOfMemory> {
 }
 
 /// What is answered to entries about a row's program, as `Debug` prints it.
-pub fn told(trial: &impl Trial, row: &Row) -> Result<String, NotTried> {
-    let alloc = trial.alloc();
+pub fn told(files: &impl Files, row: &Row) -> Result<String, NotTried> {
+    let alloc = files.alloc();
     let witness = witness_of(alloc, row.wanted_text("text")?)?;
-    let text = program(trial, row)?;
+    let text = program(files, row)?;
     let bytes = match &text {
         Some(bytes) => bytes.as_slice(),
         None => b"",

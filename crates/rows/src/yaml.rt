@@ -1,5 +1,5 @@
 // Rows of YAML: what is read of a text, what is written of its tree, and texts between quotes.
-use row_files::{NotTried, Row, Trial};
+use row_files::{Files, NotTried, Row};
 use std::alloc::Global;
 use std::str;
 use wv_base::Text;
@@ -23,8 +23,8 @@ fn fault(alloc: Global, fault: YamlFault) -> Result<String, NotTried> {
 }
 
 /// `read`, or the cause for which a text isn't.
-pub fn told(trial: &impl Trial, row: &Row) -> Result<String, NotTried> {
-    let alloc = trial.alloc();
+pub fn told(files: &impl Files, row: &Row) -> Result<String, NotTried> {
+    let alloc = files.alloc();
     match read(alloc, given(row)?) {
         Ok(_) => Ok(String::from_str(alloc, "read")?),
         Err(cause) => fault(alloc, cause),
@@ -32,8 +32,8 @@ pub fn told(trial: &impl Trial, row: &Row) -> Result<String, NotTried> {
 }
 
 /// The tree of a text.
-pub fn tree(trial: &impl Trial, row: &Row) -> Result<String, NotTried> {
-    let alloc = trial.alloc();
+pub fn tree(files: &impl Files, row: &Row) -> Result<String, NotTried> {
+    let alloc = files.alloc();
     match read(alloc, given(row)?) {
         Ok(tree) => Ok(format!(in alloc; "{tree:?}")?),
         Err(cause) => fault(alloc, cause),
@@ -51,8 +51,8 @@ fn is_text_of(alloc: Global, bytes: &[u8], tree: &Tree) -> Result<bool, NotTried
 }
 
 /// What is written of the tree of a text, from which the tree has to come back.
-pub fn written(trial: &impl Trial, row: &Row) -> Result<String, NotTried> {
-    let alloc = trial.alloc();
+pub fn written(files: &impl Files, row: &Row) -> Result<String, NotTried> {
+    let alloc = files.alloc();
     let tree = match read(alloc, given(row)?) {
         Ok(tree) => tree,
         Err(cause) => return fault(alloc, cause),
@@ -69,8 +69,8 @@ pub fn written(trial: &impl Trial, row: &Row) -> Result<String, NotTried> {
 }
 
 /// A text between double quotes.
-pub fn quoted(trial: &impl Trial, row: &Row) -> Result<String, NotTried> {
-    let text = Text::of(trial.alloc(), row.wanted_text("yaml")?)?;
-    let quoted = quote(trial.alloc(), &text)?;
-    Ok(String::from_str(trial.alloc(), quoted.as_str())?)
+pub fn quoted(files: &impl Files, row: &Row) -> Result<String, NotTried> {
+    let text = Text::of(files.alloc(), row.wanted_text("yaml")?)?;
+    let quoted = quote(files.alloc(), &text)?;
+    Ok(String::from_str(files.alloc(), quoted.as_str())?)
 }

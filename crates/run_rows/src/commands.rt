@@ -1,5 +1,5 @@
 // Rows of the whole program: its words and its files, and behind them its status and its report.
-use row_files::{NotTried, Row, Trial, program, witness};
+use row_files::{Files, NotTried, Row, program, witness};
 use std::alloc::Global;
 use std::str;
 use witval::run;
@@ -14,24 +14,24 @@ fn words(alloc: Global, line: &str) -> Result<Vec<String>, OutOfMemory> {
 }
 
 /// The files that a row gives: its program is `p`, its property is `q`, its witness is `w`.
-fn shelf(trial: &impl Trial, row: &Row) -> Result<MemoryShelf, NotTried> {
-    let mut shelf = MemoryShelf::new(trial.alloc(), 4096);
-    if let Some(program) = program(trial, row)? {
+fn shelf(files: &impl Files, row: &Row) -> Result<MemoryShelf, NotTried> {
+    let mut shelf = MemoryShelf::new(files.alloc(), 4096);
+    if let Some(program) = program(files, row)? {
         shelf.put("p", program.as_slice())?;
     }
     if let Some(property) = row.bytes("property") {
         shelf.put("q", property)?;
     }
-    if let Some(witness) = witness(trial, row)? {
+    if let Some(witness) = witness(files, row)? {
         shelf.put("w", witness.as_slice())?;
     }
     Ok(shelf)
 }
 
 /// The status, and behind a blank the report.
-pub fn told(trial: &impl Trial, row: &Row) -> Result<String, NotTried> {
-    let alloc = trial.alloc();
-    let mut shelf = shelf(trial, row)?;
+pub fn told(files: &impl Files, row: &Row) -> Result<String, NotTried> {
+    let alloc = files.alloc();
+    let mut shelf = shelf(files, row)?;
     let words = words(alloc, row.wanted_text("words")?)?;
     // A write takes few bytes, so that a report is written in several.
     let mut out = MemorySink::new(alloc, 1000, 7)?;
@@ -59,7 +59,7 @@ fn without_values(alloc: Global, report: &str) -> Result<String, OutOfMemory> {
 }
 
 /// The same without the values: which of those that fit is shown is the solver's choice.
-pub fn told_without_values(trial: &impl Trial, row: &Row) -> Result<String, NotTried> {
-    let report = told(trial, row)?;
-    Ok(without_values(trial.alloc(), report.as_str())?)
+pub fn told_without_values(files: &impl Files, row: &Row) -> Result<String, NotTried> {
+    let report = told(files, row)?;
+    Ok(without_values(files.alloc(), report.as_str())?)
 }

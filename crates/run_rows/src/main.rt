@@ -4,18 +4,18 @@
 
 mod commands;
 
-use row_files::{NotTried, Row, Trial, try_file};
+use row_files::{Files, NotTried, Row, Trial, try_file};
 use std::alloc::Global;
 use std::process::ExitCode;
 use std::{env, fs, io};
 
 /// What comes of a row, by its kind.
-fn came(trial: &Rows<'_>, row: &Row) -> Result<String, NotTried> {
+fn came(files: &Rows<'_>, row: &Row) -> Result<String, NotTried> {
     match row.kind.as_str() {
         // The whole program: its status and its report.
-        "run" => commands::told(trial, row),
+        "run" => commands::told(files, row),
         // The same without the values that are drawn.
-        "shape" => commands::told_without_values(trial, row),
+        "shape" => commands::told_without_values(files, row),
         _ => Err(NotTried::Lacks("a kind, or it is no row")),
     }
 }
@@ -26,7 +26,7 @@ struct Rows<'a> {
     rt: &'a HostRuntime,
 }
 
-impl<'a> Trial for Rows<'a> {
+impl<'a> Files for Rows<'a> {
     fn alloc(&self) -> Global {
         self.rt.alloc()
     }
@@ -38,7 +38,9 @@ impl<'a> Trial for Rows<'a> {
             Err(_) => Err(NotTried::Lacks("a file of the name that it gives")),
         }
     }
+}
 
+impl<'a> Trial for Rows<'a> {
     fn print(&self, line: &str) -> Result<(), NotTried> {
         match self.rt.println(line) {
             Ok(()) => Ok(()),
