@@ -1,6 +1,6 @@
 // Rows of lists: a command line, a list and its files, and behind them the status and the lines that are printed.
 use crate::command_lines::{shelf, words};
-use row_files::{NotTried, Row, Trial};
+use row_files::{Files, NotTried, Row};
 use std::alloc::Global;
 use view_judging::{Asked, Progress, Stop, judge_lines, read_words};
 use wv_arguments::Budgets;
@@ -21,9 +21,9 @@ fn status_of(judged: Result<u8, Stop>) -> u8 {
     }
 }
 
-fn listed(trial: &impl Trial, row: &Row, budgets: Budgets) -> Result<String, NotTried> {
-    let alloc = trial.alloc();
-    let mut shelf = shelf(trial, row)?;
+fn listed(files: &impl Files, row: &Row, budgets: Budgets) -> Result<String, NotTried> {
+    let alloc = files.alloc();
+    let mut shelf = shelf(files, row)?;
     let mut out = MemorySink::new(alloc, 65536, 4096)?;
     let list = row.wanted_text("text")?;
     let judged = judge_lines(alloc, list, budgets, &mut shelf, &mut out, &mut Quiet);
@@ -33,11 +33,11 @@ fn listed(trial: &impl Trial, row: &Row, budgets: Budgets) -> Result<String, Not
 }
 
 /// The status, and behind a blank what is printed.
-pub fn told(trial: &impl Trial, row: &Row) -> Result<String, NotTried> {
-    let alloc: Global = trial.alloc();
+pub fn told(files: &impl Files, row: &Row) -> Result<String, NotTried> {
+    let alloc: Global = files.alloc();
     let words = words(alloc, row.wanted_text("words")?)?;
     match read_words(alloc, words.as_slice())? {
-        Asked::List { budgets, .. } => listed(trial, row, budgets),
+        Asked::List { budgets, .. } => listed(files, row, budgets),
         _ => Err(NotTried::Lacks("the words for a list")),
     }
 }

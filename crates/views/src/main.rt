@@ -11,16 +11,16 @@ mod replies;
 mod sarif;
 mod viewing;
 
-use row_files::{NotTried, Row, Trial, try_file};
+use row_files::{Files, NotTried, Row, Trial, try_file};
 use std::alloc::Global;
 use std::process::ExitCode;
 use std::{env, fs, io};
 
 /// What comes of a row, by its kind.
-fn came(trial: &Views<'_>, row: &Row) -> Result<String, NotTried> {
+fn came(files: &Views<'_>, row: &Row) -> Result<String, NotTried> {
     match row.kind.as_str() {
-        "view" => viewing::told(trial, row),
-        "list" => listing::told(trial, row),
+        "view" => viewing::told(files, row),
+        "list" => listing::told(files, row),
         _ => Err(NotTried::Lacks("a kind, or it is no row")),
     }
 }
@@ -31,7 +31,7 @@ struct Views<'a> {
     rt: &'a HostRuntime,
 }
 
-impl<'a> Trial for Views<'a> {
+impl<'a> Files for Views<'a> {
     fn alloc(&self) -> Global {
         self.rt.alloc()
     }
@@ -43,7 +43,9 @@ impl<'a> Trial for Views<'a> {
             Err(_) => Err(NotTried::Lacks("a file of the name that it gives")),
         }
     }
+}
 
+impl<'a> Trial for Views<'a> {
     fn print(&self, line: &str) -> Result<(), NotTried> {
         match self.rt.println(line) {
             Ok(()) => Ok(()),

@@ -1,6 +1,6 @@
 // The reply of the top call to the files of a row.
 use crate::command_lines::shelf;
-use row_files::{NotTried, Row, Trial};
+use row_files::{Files, NotTried, Row};
 use std::alloc::Global;
 use std::str;
 use witval::run;
@@ -25,10 +25,10 @@ fn validate_words(alloc: Global, line: &str) -> Result<Vec<String>, OutOfMemory>
 }
 
 /// Whether a text begins with the status and the reply of the top call.
-pub fn begins_with_reply(trial: &impl Trial, row: &Row, text: &str) -> Result<bool, NotTried> {
-    let alloc = trial.alloc();
+pub fn begins_with_reply(files: &impl Files, row: &Row, text: &str) -> Result<bool, NotTried> {
+    let alloc = files.alloc();
     let words = validate_words(alloc, row.wanted_text("words")?)?;
-    let mut shelf = shelf(trial, row)?;
+    let mut shelf = shelf(files, row)?;
     let mut out = MemorySink::new(alloc, 65536, 4096)?;
     let status = run(alloc, &words, &mut shelf, &mut out);
     match str::from_utf8(out.bytes()) {

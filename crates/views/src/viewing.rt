@@ -2,7 +2,7 @@
 use crate::command_lines::{shelf, words};
 use crate::replies::begins_with_reply;
 use crate::sarif::lacking;
-use row_files::{NotTried, Row, Trial};
+use row_files::{Files, NotTried, Row};
 use std::alloc::Global;
 use view_judging::{Asked, Form, read_words, shown, usage_reply};
 use wv_arguments::{Budgets, Names};
@@ -10,14 +10,14 @@ use wv_base::OutOfMemory;
 
 /// What is shown of files in one form, with its status before it.
 fn shown_as(
-    trial: &impl Trial,
+    files: &impl Files,
     row: &Row,
     names: &Names<'_>,
     budgets: Budgets,
     form: Form,
 ) -> Result<String, NotTried> {
-    let alloc = trial.alloc();
-    let shown = shown(alloc, names, budgets, form, shelf(trial, row)?)?;
+    let alloc = files.alloc();
+    let shown = shown(alloc, names, budgets, form, shelf(files, row)?)?;
     let status = shown.status;
     let text = String::from_utf8_lossy(alloc, shown.bytes.as_slice())?;
     Ok(format!(in alloc; "{status} {text}")?)
@@ -25,24 +25,24 @@ fn shown_as(
 
 /// The same, where the reply stands before all else and the log lacks nothing.
 fn judged(
-    trial: &impl Trial,
+    files: &impl Files,
     row: &Row,
     names: &Names<'_>,
     budgets: Budgets,
     form: Form,
 ) -> Result<String, NotTried> {
-    let text = shown_as(trial, row, names, budgets, Form::Text)?;
-    if !begins_with_reply(trial, row, text.as_str())? {
-        return Ok(format!(in trial.alloc(); "the reply isn't that of `run`: {text}")?);
+    let text = shown_as(files, row, names, budgets, Form::Text)?;
+    if !begins_with_reply(files, row, text.as_str())? {
+        return Ok(format!(in files.alloc(); "the reply isn't that of `run`: {text}")?);
     }
-    let log = shown_as(trial, row, names, budgets, Form::Sarif)?;
-    if let Some(member) = lacking(trial.alloc(), log.as_str())? {
-        return Ok(format!(in trial.alloc(); "the log lacks {member}: {log}")?);
+    let log = shown_as(files, row, names, budgets, Form::Sarif)?;
+    if let Some(member) = lacking(files.alloc(), log.as_str())? {
+        return Ok(format!(in files.alloc(); "the log lacks {member}: {log}")?);
     }
     match form {
         Form::Text => Ok(text),
         Form::Sarif => Ok(log),
-        Form::Html => shown_as(trial, row, names, budgets, form),
+        Form::Html => shown_as(files, row, names, budgets, form),
     }
 }
 
@@ -55,15 +55,15 @@ fn misused(alloc: Global, told: &str) -> Result<String, OutOfMemory> {
 }
 
 /// The status, and behind a blank what is printed.
-pub fn told(trial: &impl Trial, row: &Row) -> Result<String, NotTried> {
-    let alloc = trial.alloc();
+pub fn told(files: &impl Files, row: &Row) -> Result<String, NotTried> {
+    let alloc = files.alloc();
     let words = words(alloc, row.wanted_text("words")?)?;
     match read_words(alloc, words.as_slice())? {
         Asked::Judge {
             names,
             budgets,
             form,
-        } => judged(trial, row, &names, budgets, form),
+        } => judged(files, row, &names, budgets, form),
         Asked::Help(text) => Ok(format!(in alloc; "0 {text}")?),
         Asked::Misuse(text) => Ok(misused(alloc, text.as_str())?),
         Asked::List { .. } => Err(NotTried::Lacks("files, or it is a list")),
