@@ -27,10 +27,7 @@ fn visits_text(alloc: Global, kind: WayKind, visits: u64) -> Result<String, OutO
     if kind == WayKind::Target {
         Ok(String::from_str(alloc, "the violation isn't there")?)
     } else if visits == 0 {
-        Ok(String::from_str(
-            alloc,
-            "the run didn't come by there any more",
-        )?)
+        Ok(String::from_str(alloc, "the run didn't come by there any more")?)
     } else {
         Ok(format!(in alloc; "the run came by there {visits} times, and it was never passed")?)
     }

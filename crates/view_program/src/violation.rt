@@ -103,7 +103,13 @@ fn explain_ended(
 ) -> Result<(), OutOfMemory> {
     let told = ended_text(alloc, judged.run.unfixed)?;
     out.warning("ended", File::Program, tracker.last, told)?;
-    note_unfixed(alloc, program, &judged.choices, judged.run.draws.as_slice(), out)
+    note_unfixed(
+        alloc,
+        program,
+        &judged.choices,
+        judged.run.draws.as_slice(),
+        out,
+    )
 }
 
 fn explain_undefined(
@@ -118,7 +124,13 @@ fn explain_undefined(
         "the run comes to undefined behaviour here before it violates the property: a divisor of 0, an index outside its array, a shift by too much, or a value that a function didn't give",
     )?;
     out.warning("undefined", File::Program, Some(spot), told)?;
-    note_unfixed(alloc, program, &judged.choices, judged.run.draws.as_slice(), out)
+    note_unfixed(
+        alloc,
+        program,
+        &judged.choices,
+        judged.run.draws.as_slice(),
+        out,
+    )
 }
 
 /// The values that the segments give, the run that draws them, and the events that pass the segments, where some do.
