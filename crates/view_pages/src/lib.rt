@@ -10,6 +10,3 @@ mod sarif_log;
 
 pub use html::page_of;
 pub use sarif_log::log_of;
-
-#[cfg(test)]
-mod tests;

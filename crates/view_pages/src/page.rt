@@ -10,12 +10,14 @@ pub const HEAD: &str = "<!DOCTYPE html>
 <style>
 body { font-family: sans-serif; margin: 1.5em; }
 pre, td { font-family: monospace; font-size: 13px; white-space: pre-wrap; }
+pre { border-left: 4px solid; padding-left: 0.8em; }
 table { border-collapse: collapse; }
 td { vertical-align: top; padding: 0 0.6em; }
-td.number { text-align: right; border-right: 1px solid; white-space: nowrap; }
-tr.told td { font-weight: bold; }
-tr.note td { font-style: italic; border: 1px solid; padding: 0.3em 0.6em; }
-ul.messages li { margin-bottom: 0.4em; }
+tr td:nth-child(1), tr td:nth-child(2) { text-align: right; border-right: 1px solid; white-space: nowrap; }
+tr.told td { font-weight: bold; border-top: 1px solid; }
+tr.note td:nth-child(3) { font-family: sans-serif; font-style: italic; padding: 0.2em 0.6em 0.2em 2.6em; }
+tr:target { outline: 2px solid; }
+ul li { margin-bottom: 0.4em; }
 </style>
 </head>
 <body>

@@ -6,14 +6,6 @@ use std::alloc::Global;
 use view_text::{Files, Level, Message, line_of, push_printable};
 use wv_base::OutOfMemory;
 
-fn level_word(level: Level) -> &'static str {
-    match level {
-        Level::Error => "error",
-        Level::Warning => "warning",
-        Level::Note => "note",
-    }
-}
-
 /// The column of a place in characters, from 1: that of a message counts bytes.
 fn column_in_characters(alloc: Global, text: &[u8], spot: Spot) -> Result<u64, OutOfMemory> {
     let line = line_of(text, spot.line);
@@ -86,7 +78,7 @@ fn result_value(
     let text = text_of(alloc, message)?;
     let place = place_value(alloc, files, message)?;
     let related = related_values(alloc, files, behind)?;
-    let level = level_word(message.level);
+    let level = message.level.word();
     let code = message.code.as_str();
     Ok(json!(in alloc; {
         "level": level,

@@ -1,6 +1,6 @@
 // A waypoint or an invariant that isn't bound to the program.
 use crate::constraint::{Lack, lack_of, words_of};
-use crate::names::{at_loop, at_statement, is_visible, names_text};
+use crate::names::{at_loop, at_statement, names_of, names_text};
 use crate::nearest::{Wanted, columns, columns_text, first_spot, nearest_line};
 use crate::segments::Numbered;
 use crate::spelled::{invariant_word, place_text, spot_of, way_word};
@@ -15,7 +15,7 @@ use wv_schema::{Constraint, Invariant, InvariantKind, Location, WayKind};
 
 /// A waypoint or an invariant, as what is told of it needs it.
 #[derive(Drop)]
-pub struct Claim<'a> {
+pub struct Claim<'a, 'p> {
     pub number: u32,
     /// `waypoint` or `invariant`, and its type.
     pub noun: &'static str,
@@ -25,7 +25,7 @@ pub struct Claim<'a> {
     pub expression: &'a str,
     pub is_result: bool,
     /// Its place in the witness.
-    pub path: &'a str,
+    pub path: &'p str,
 }
 
 fn wanted_of(kind: WayKind) -> Wanted {
@@ -45,7 +45,7 @@ fn value_of(constraint: &Option<Constraint>) -> &str {
 }
 
 /// What is told of a waypoint.
-pub fn claim_of_waypoint<'a>(number: u32, found: Numbered<'a>, path: &'a str) -> Claim<'a> {
+pub fn claim_of_waypoint<'a, 'p>(number: u32, found: Numbered<'a>, path: &'p str) -> Claim<'a, 'p> {
     let waypoint = found.waypoint;
     Claim {
         number,
@@ -64,7 +64,11 @@ pub fn claim_of_waypoint<'a>(number: u32, found: Numbered<'a>, path: &'a str) ->
 }
 
 /// What is told of an invariant.
-pub fn claim_of_invariant<'a>(number: u32, invariant: &'a Invariant, path: &'a str) -> Claim<'a> {
+pub fn claim_of_invariant<'a, 'p>(
+    number: u32,
+    invariant: &'a Invariant,
+    path: &'p str,
+) -> Claim<'a, 'p> {
     Claim {
         number,
         noun: "invariant",
@@ -81,7 +85,7 @@ pub fn claim_of_invariant<'a>(number: u32, invariant: &'a Invariant, path: &'a s
 }
 
 /// A claim by its number, its type, its place and its expression.
-pub fn head(alloc: Global, claim: &Claim<'_>) -> Result<String, OutOfMemory> {
+pub fn head(alloc: Global, claim: &Claim<'_, '_>) -> Result<String, OutOfMemory> {
     let number = claim.number;
     let noun = claim.noun;
     let kind = claim.kind;
@@ -98,7 +102,7 @@ pub fn head(alloc: Global, claim: &Claim<'_>) -> Result<String, OutOfMemory> {
 fn note_in_witness(
     alloc: Global,
     files: &Files<'_>,
-    claim: &Claim<'_>,
+    claim: &Claim<'_, '_>,
     key: &str,
     out: &mut Messages,
 ) -> Result<(), OutOfMemory> {
@@ -111,7 +115,7 @@ fn note_in_witness(
 
 fn note_columns(
     alloc: Global,
-    claim: &Claim<'_>,
+    claim: &Claim<'_, '_>,
     line: u32,
     found: &[u32],
     out: &mut Messages,
@@ -119,7 +123,7 @@ fn note_columns(
     let listed = columns_text(alloc, found)?;
     let listed = listed.as_str();
     let kind = claim.kind;
-    let told = format!(in alloc; "on line {line} a {kind} may stand at column {listed}")?;
+    let told = format!(in alloc; "on line {line} there is a place for {kind} at column {listed}")?;
     out.note(File::Program, Some(first_spot(line, found)), told)
 }
 
@@ -128,7 +132,7 @@ fn note_places(
     alloc: Global,
     files: &Files<'_>,
     index: &Index,
-    claim: &Claim<'_>,
+    claim: &Claim<'_, '_>,
     out: &mut Messages,
 ) -> Result<(), OutOfMemory> {
     let text = files.text(File::Program);
@@ -154,7 +158,7 @@ fn explain_place(
     alloc: Global,
     files: &Files<'_>,
     index: &Index,
-    claim: &Claim<'_>,
+    claim: &Claim<'_, '_>,
     out: &mut Messages,
 ) -> Result<(), OutOfMemory> {
     let head = head(alloc, claim)?;
@@ -169,7 +173,7 @@ fn explain_place(
 }
 
 /// What is wrong with an expression.
-fn lack_text(alloc: Global, claim: &Claim<'_>) -> Result<String, OutOfMemory> {
+fn lack_text(alloc: Global, claim: &Claim<'_, '_>) -> Result<String, OutOfMemory> {
     match lack_of(alloc, claim.is_result, claim.expression)? {
         Lack::Types => Ok(String::from_str(
             alloc,
@@ -191,7 +195,7 @@ fn lack_text(alloc: Global, claim: &Claim<'_>) -> Result<String, OutOfMemory> {
 fn explain_expression(
     alloc: Global,
     files: &Files<'_>,
-    claim: &Claim<'_>,
+    claim: &Claim<'_, '_>,
     out: &mut Messages,
 ) -> Result<(), OutOfMemory> {
     let head = head(alloc, claim)?;
@@ -218,26 +222,37 @@ fn explain_expression(
     note_in_witness(alloc, files, claim, key, out)
 }
 
-/// The words of an expression that name no visible object.
+/// The words of an expression that name no visible object, each once.
 fn unseen(
     alloc: Global,
     program: &Program,
     objects: &[u32],
     expression: &str,
 ) -> Result<String, OutOfMemory> {
+    let mut known = names_of(alloc, program, objects)?;
     let mut text = String::new(alloc);
-    for word in words_of(alloc, expression)?.as_slice() {
-        if !is_visible(program, objects, word.as_str()) {
-            text.push_str(if text.is_empty() { "`" } else { ", `" })?;
-            text.push_str(word.as_str())?;
-            text.push_str("`")?;
+    let words = words_of(alloc, expression)?;
+    for word in words.as_slice() {
+        let word = word.as_str();
+        if !known.contains(word) {
+            push_word(&mut text, word)?;
+            known.insert(String::from_str(alloc, word)?)?;
         }
     }
     Ok(text)
 }
 
+/// Appends a word between back quotes, behind a comma where words stand before it.
+fn push_word(text: &mut String, word: &str) -> Result<(), OutOfMemory> {
+    let between = if text.is_empty() { "`" } else { ", `" };
+    text.push_str(between)?;
+    text.push_str(word)?;
+    text.push_str("`")?;
+    Ok(())
+}
+
 /// The objects that a claim may name.
-fn visible(alloc: Global, index: &Index, claim: &Claim<'_>) -> Result<Seq<u32>, OutOfMemory> {
+fn visible(alloc: Global, index: &Index, claim: &Claim<'_, '_>) -> Result<Seq<u32>, OutOfMemory> {
     match claim.wanted {
         Wanted::Place(PlaceKind::Loop) => at_loop(alloc, index, claim.location),
         Wanted::Place(PlaceKind::Statement) => at_statement(alloc, index, claim.location),
@@ -245,7 +260,7 @@ fn visible(alloc: Global, index: &Index, claim: &Claim<'_>) -> Result<Seq<u32>, 
     }
 }
 
-fn scope_text(alloc: Global, index: &Index, claim: &Claim<'_>) -> Result<String, OutOfMemory> {
+fn scope_text(alloc: Global, index: &Index, claim: &Claim<'_, '_>) -> Result<String, OutOfMemory> {
     if claim.is_result {
         return Ok(String::from_str(alloc, "the call gives no value")?);
     }
@@ -255,11 +270,27 @@ fn scope_text(alloc: Global, index: &Index, claim: &Claim<'_>) -> Result<String,
     Ok(format!(in alloc; "no object of this name is visible there: {names}")?)
 }
 
+/// The names that a claim may name.
+fn visible_text(
+    alloc: Global,
+    index: &Index,
+    claim: &Claim<'_, '_>,
+) -> Result<String, OutOfMemory> {
+    let objects = visible(alloc, index, claim)?;
+    let names = names_text(alloc, index.program(), objects.as_slice())?;
+    let names = names.as_str();
+    if names.is_empty() {
+        Ok(String::from_str(alloc, "no object is visible there")?)
+    } else {
+        Ok(format!(in alloc; "visible there, just before it, are: {names}")?)
+    }
+}
+
 fn explain_scope(
     alloc: Global,
     files: &Files<'_>,
     index: &Index,
-    claim: &Claim<'_>,
+    claim: &Claim<'_, '_>,
     out: &mut Messages,
 ) -> Result<(), OutOfMemory> {
     let head = head(alloc, claim)?;
@@ -269,10 +300,7 @@ fn explain_scope(
     let told = format!(in alloc; "{head}: {lack}")?;
     out.error("scope", File::Program, Some(spot_of(claim.location)), told)?;
     if !claim.is_result {
-        let objects = visible(alloc, index, claim)?;
-        let names = names_text(alloc, index.program(), objects.as_slice())?;
-        let names = names.as_str();
-        let told = format!(in alloc; "visible there, just before it, are: {names}")?;
+        let told = visible_text(alloc, index, claim)?;
         out.note(File::Program, Some(spot_of(claim.location)), told)?;
     }
     note_in_witness(alloc, files, claim, "location", out)
@@ -294,7 +322,7 @@ pub fn explain_claim(
     files: &Files<'_>,
     program: &Program,
     fault: BindFault,
-    claim: &Claim<'_>,
+    claim: &Claim<'_, '_>,
     out: &mut Messages,
 ) -> Result<(), OutOfMemory> {
     let index = Index::new(alloc, program)?;

@@ -1,11 +1,10 @@
 // A confirmation: how often each line was reached, the values that were drawn, the event that passes each segment; of invariants, each
 // obligation at its place.
 use crate::obligations::obligation_text;
-use crate::segments::number_of_follow;
 use crate::spelled::{type_word, waypoint_text};
 use crate::tracker::Tracker;
 use c_core::Spot;
-use c_meaning::{Draw, DrawKind, Duty};
+use c_meaning::{Draw, DrawKind, Duty, DutyKind};
 use std::alloc::Global;
 use view_text::{File, Messages};
 use wv_base::OutOfMemory;
@@ -14,35 +13,72 @@ use wv_schema::{Segment, Witness};
 /// So many values are told.
 const MOST: usize = 200;
 
-fn note_draw(alloc: Global, draw: &Draw, out: &mut Messages) -> Result<(), OutOfMemory> {
+fn draw_text(alloc: Global, draw: &Draw) -> Result<String, OutOfMemory> {
     let ty = type_word(draw.ty);
     let value = draw.value;
-    let told = match draw.from {
-        DrawKind::Input => format!(in alloc; "draws {ty} {value}")?,
-        _ => format!(in alloc; "has no value here: {ty} {value}")?,
-    };
-    out.note(File::Program, Some(draw.spot), told)
+    match draw.from {
+        DrawKind::Input => Ok(format!(in alloc; "draws {ty} {value}")?),
+        _ => Ok(format!(in alloc; "has no value here: {ty} {value}")?),
+    }
 }
 
-fn note_segment(
+/// A note for each value that the run draws.
+fn note_draws(alloc: Global, draws: &[Draw], out: &mut Messages) -> Result<(), OutOfMemory> {
+    for draw in draws.get(..MOST).unwrap_or(draws) {
+        let told = draw_text(alloc, draw)?;
+        out.note(File::Program, Some(draw.spot), told)?;
+    }
+    Ok(())
+}
+
+/// A segment that an event passes, and the number of its waypoint to follow.
+fn segment_text(
     alloc: Global,
-    segments: &[Segment],
-    at: usize,
+    segment: &Segment,
+    number: usize,
+    waypoint: u32,
     position: u64,
-    spot: Spot,
-    out: &mut Messages,
-) -> Result<(), OutOfMemory> {
-    let Some(segment) = segments.get(at) else {
-        return Ok(());
-    };
-    let number = at.saturating_add(1);
-    let waypoint = number_of_follow(segments, at);
+) -> Result<String, OutOfMemory> {
     let told = waypoint_text(alloc, &segment.follow)?;
     let told = told.as_str();
-    let text = format!(in alloc;
+    Ok(format!(in alloc;
         "segment {number} is passed by event {position}: waypoint {waypoint}, {told}"
-    )?;
-    out.note(File::Program, Some(spot), text)
+    )?)
+}
+
+/// How many waypoints a segment has.
+fn waypoints_in(segment: &Segment) -> u32 {
+    match u32::try_from(segment.avoids.len()) {
+        Ok(count) => count.saturating_add(1),
+        Err(_) => u32::MAX,
+    }
+}
+
+/// A note for each segment whose event was found, at the place of that event.
+fn note_segments(
+    alloc: Global,
+    segments: &[Segment],
+    positions: &[u64],
+    found: &[Spot],
+    out: &mut Messages,
+) -> Result<(), OutOfMemory> {
+    let mut waypoint = 0u32;
+    for (at, segment) in segments.iter().enumerate() {
+        let Some(spot) = found.get(at) else {
+            return Ok(());
+        };
+        waypoint = waypoint.saturating_add(waypoints_in(segment));
+        let position = positions.get(at).copied().unwrap_or(0);
+        let number = at.saturating_add(1);
+        let told = segment_text(alloc, segment, number, waypoint, position)?;
+        out.note(File::Program, Some(*spot), told)?;
+    }
+    Ok(())
+}
+
+/// How often each line was reached.
+fn lines_of(tracker: Tracker<'_>) -> Vec<u64> {
+    tracker.lines
 }
 
 /// A run that violates the property as the witness says.
@@ -54,16 +90,20 @@ pub fn show_run(
     tracker: Tracker<'_>,
     out: &mut Messages,
 ) -> Result<(), OutOfMemory> {
-    for draw in draws.get(..MOST).unwrap_or(draws) {
-        note_draw(alloc, draw, out)?;
-    }
-    let Tracker { lines, found, .. } = tracker;
-    for (at, spot) in found.as_slice().iter().enumerate() {
-        let position = positions.get(at).copied().unwrap_or(0);
-        note_segment(alloc, segments, at, position, *spot, out)?;
-    }
-    out.confirm(lines);
+    note_draws(alloc, draws, out)?;
+    note_segments(alloc, segments, positions, tracker.found.as_slice(), out)?;
+    out.confirm(lines_of(tracker));
     Ok(())
+}
+
+/// What it means that an obligation of a kind holds.
+fn meaning_of(kind: DutyKind) -> &'static str {
+    match kind {
+        DutyKind::Location => "it holds whenever a havoc run reaches this statement",
+        DutyKind::Entry => "it holds whenever a havoc run comes to this loop",
+        DutyKind::Kept => "each turn of this loop keeps it",
+        DutyKind::Property => "no havoc run violates the property here",
+    }
 }
 
 /// Obligations that hold.
@@ -76,7 +116,7 @@ pub fn show_obligations(
     let mut index = 0u32;
     for duty in duties {
         index = index.saturating_add(1);
-        let told = obligation_text(alloc, witness, index, *duty, "holds")?;
+        let told = obligation_text(alloc, witness, index, *duty, meaning_of(duty.kind))?;
         out.note(File::Program, Some(duty.spot), told)?;
     }
     out.confirm(Vec::new(alloc));

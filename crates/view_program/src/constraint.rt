@@ -1,6 +1,6 @@
 // Where an expression of a witness stops to be one.
 use c_parser::{ExprFault, parse_expr, parse_result};
-use c_tokens::{TokenKind, plain_tokens};
+use c_tokens::{Token, TokenKind, plain_tokens};
 use std::alloc::Global;
 use wv_base::{OutOfMemory, Text};
 
@@ -13,14 +13,18 @@ const WANTING: [&str; 6] = ["", "0", "x", ": 0", "0 : 0", ")0"];
 /// And of a comparison of a result.
 const WANTING_OF_RESULT: [&str; 4] = ["", "0", "== 0", "\\result == 0"];
 
-/// Whether a text is an expression, or a comparison of a result.
-fn is_read(alloc: Global, is_result: bool, text: &[u8]) -> Result<bool, OutOfMemory> {
-    let fault = if is_result {
+/// The fault of a text as an expression, or as a comparison of a result.
+fn fault_of(alloc: Global, is_result: bool, text: &[u8]) -> Option<ExprFault> {
+    if is_result {
         parse_result(alloc, text).err()
     } else {
         parse_expr(alloc, text).err()
-    };
-    match fault {
+    }
+}
+
+/// Whether a text is an expression, or a comparison of a result.
+fn is_read(alloc: Global, is_result: bool, text: &[u8]) -> Result<bool, OutOfMemory> {
+    match fault_of(alloc, is_result, text) {
         None => Ok(true),
         Some(ExprFault::OutOfMemory) => Err(OutOfMemory),
         Some(_) => Ok(false),
@@ -57,18 +61,30 @@ fn completes(
     is_read(alloc, is_result, text.as_slice())
 }
 
-fn is_front(alloc: Global, is_result: bool, front: &[u8]) -> Result<bool, OutOfMemory> {
-    let wanting = if is_result {
-        WANTING_OF_RESULT.as_slice()
-    } else {
-        WANTING.as_slice()
-    };
-    for text in wanting {
-        if completes(alloc, is_result, front, text)? {
+fn is_front_of_expression(alloc: Global, front: &[u8]) -> Result<bool, OutOfMemory> {
+    for wanting in WANTING {
+        if completes(alloc, false, front, wanting)? {
             return Ok(true);
         }
     }
     Ok(false)
+}
+
+fn is_front_of_result(alloc: Global, front: &[u8]) -> Result<bool, OutOfMemory> {
+    for wanting in WANTING_OF_RESULT {
+        if completes(alloc, true, front, wanting)? {
+            return Ok(true);
+        }
+    }
+    Ok(false)
+}
+
+fn is_front(alloc: Global, is_result: bool, front: &[u8]) -> Result<bool, OutOfMemory> {
+    if is_result {
+        is_front_of_result(alloc, front)
+    } else {
+        is_front_of_expression(alloc, front)
+    }
 }
 
 /// What is wrong with an expression.
@@ -82,6 +98,19 @@ pub enum Lack {
     Unknown,
 }
 
+/// The length of the longest front of an expression that something completes.
+fn longest_front(alloc: Global, is_result: bool, bytes: &[u8]) -> Result<usize, OutOfMemory> {
+    let mut last = 0usize;
+    for (before, _) in bytes.iter().enumerate() {
+        let length = before.saturating_add(1);
+        let front = bytes.get(..length).unwrap_or(bytes);
+        if is_front(alloc, is_result, front)? {
+            last = length;
+        }
+    }
+    Ok(last)
+}
+
 /// How far an expression of a witness is one.
 pub fn lack_of(alloc: Global, is_result: bool, text: &str) -> Result<Lack, OutOfMemory> {
     let bytes = text.as_bytes();
@@ -91,25 +120,24 @@ pub fn lack_of(alloc: Global, is_result: bool, text: &str) -> Result<Lack, OutOf
     if bytes.len() > LONGEST {
         return Ok(Lack::Unknown);
     }
-    let mut last = 0usize;
-    for length in 0..=bytes.len() {
-        let front = bytes.get(..length).unwrap_or(bytes);
-        if is_front(alloc, is_result, front)? {
-            last = length;
+    Ok(Lack::Grammar(longest_front(alloc, is_result, bytes)?))
+}
+
+/// The words among tokens.
+fn words_in(alloc: Global, tokens: &[Token]) -> Result<Vec<Text>, OutOfMemory> {
+    let mut words = Vec::new(alloc);
+    for token in tokens {
+        if let TokenKind::Word(word) = &token.kind {
+            words.push(Text::of(alloc, word.as_str())?)?;
         }
     }
-    Ok(Lack::Grammar(last))
+    Ok(words)
 }
 
 /// The words of an expression that name something.
 pub fn words_of(alloc: Global, text: &str) -> Result<Vec<Text>, OutOfMemory> {
-    let mut words = Vec::new(alloc);
-    if let Ok(tokens) = plain_tokens(alloc, text.as_bytes()) {
-        for token in tokens.as_slice() {
-            if let TokenKind::Word(word) = &token.kind {
-                words.push(Text::of(alloc, word.as_str())?)?;
-            }
-        }
+    match plain_tokens(alloc, text.as_bytes()) {
+        Ok(tokens) => words_in(alloc, tokens.as_slice()),
+        Err(_) => Ok(Vec::new(alloc)),
     }
-    Ok(words)
 }

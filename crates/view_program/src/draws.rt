@@ -10,28 +10,19 @@ use wv_base::OutOfMemory;
 /// Draws are told of so many places.
 const MOST: usize = 20;
 
-#[derive(Clone, Copy, Debug, PartialEq, Eq, PartialOrd, Ord)]
-struct At {
-    line: u32,
-    column: u32,
-}
-
 /// The draws at one place.
-#[derive(Clone, Copy, Debug)]
+#[derive(Clone, Copy)]
 struct Tally {
+    spot: Spot,
     kind: DrawKind,
     ty: IntType,
     count: u64,
 }
 
 /// How many values are given to the input call at a place.
-fn given_at(choices: &Choices, at: At) -> u64 {
+fn given_at(choices: &Choices, spot: Spot) -> u64 {
     let Choices::Given(calls) = choices else {
         return 0;
-    };
-    let spot = Spot {
-        line: at.line,
-        column: at.column,
     };
     for call in calls.as_slice() {
         if is_same_spot(call.spot, spot) {
@@ -41,47 +32,81 @@ fn given_at(choices: &Choices, at: At) -> u64 {
     0
 }
 
-fn tallies(alloc: Global, draws: &[Draw]) -> Result<BTreeMap<At, Tally>, OutOfMemory> {
-    let mut places = BTreeMap::new(alloc);
-    for draw in draws {
-        let at = At {
-            line: draw.spot.line,
-            column: draw.spot.column,
-        };
-        let first = Tally {
-            kind: draw.from,
-            ty: draw.ty,
-            count: 0,
-        };
-        let place = places.entry(at)?.or_insert(first);
-        place.count = place.count.saturating_add(1);
-    }
-    Ok(places)
+/// Counts a draw at its line and column.
+fn count_draw(tallies: &mut BTreeMap<(u32, u32), Tally>, draw: &Draw) -> Result<(), OutOfMemory> {
+    let none = Tally {
+        spot: draw.spot,
+        kind: draw.from,
+        ty: draw.ty,
+        count: 0,
+    };
+    let place = (draw.spot.line, draw.spot.column);
+    let tally = tallies.entry(place)?.or_insert(none);
+    tally.count = tally.count.saturating_add(1);
+    Ok(())
 }
 
-fn input_text(alloc: Global, tally: Tally, given: u64) -> Result<String, OutOfMemory> {
+/// The draws at each place, by line and column.
+fn tallies_of(alloc: Global, draws: &[Draw]) -> Result<BTreeMap<(u32, u32), Tally>, OutOfMemory> {
+    let mut tallies = BTreeMap::new(alloc);
+    for draw in draws {
+        count_draw(&mut tallies, draw)?;
+    }
+    Ok(tallies)
+}
+
+/// How a value is given to an input call.
+const REMEDY: &str =
+    "a waypoint gives one: function_return with `\\result == VALUE` at the closing parenthesis, or an assumption on the statement behind it";
+
+fn input_text(alloc: Global, tally: &Tally, given: u64) -> Result<String, OutOfMemory> {
     let ty = type_word(tally.ty);
     let count = tally.count;
     let free = count.saturating_sub(given);
+    let remedy = REMEDY;
+    if count == 1 {
+        return Ok(format!(in alloc;
+            "this input call drew one {ty}, which was 0 for want of a value; {remedy}"
+        )?);
+    }
     Ok(format!(in alloc;
-        "this input call drew {count} values of {ty}, and {free} of them, the last, were 0 for want of a waypoint that gives one: function_return with `\\result == VALUE` at its closing parenthesis, or an assumption on the statement behind it"
+        "this input call drew {count} values of {ty}, the last {free} of them 0 for want of a value; {remedy}"
     )?)
 }
 
-fn cell_text(
-    alloc: Global,
-    program: &Program,
-    tally: Tally,
-    spot: Spot,
-) -> Result<String, OutOfMemory> {
-    let name = match declared_at(program, spot) {
-        Some((_, object)) => object.name.as_str(),
+/// The name of the object that is declared at a place.
+fn name_at(program: &Program, spot: Spot) -> &str {
+    match declared_at(program, spot) {
+        Some(object) => object.name.as_str(),
         None => "an object",
-    };
+    }
+}
+
+fn cell_text(alloc: Global, program: &Program, tally: &Tally) -> Result<String, OutOfMemory> {
+    let name = name_at(program, tally.spot);
     let count = tally.count;
     Ok(format!(in alloc;
-        "`{name}` is declared here without a value: {count} of its cells were 0, which no waypoint can change"
+        "`{name}` is declared here without a value and stood at 0 (cells: {count}), which no waypoint can change"
     )?)
+}
+
+/// What is told of the draws at a place; nothing of an input call that was given all its values.
+fn told_of(
+    alloc: Global,
+    program: &Program,
+    choices: &Choices,
+    tally: &Tally,
+) -> Result<Option<String>, OutOfMemory> {
+    match tally.kind {
+        DrawKind::Input => {
+            let given = given_at(choices, tally.spot);
+            if tally.count <= given {
+                return Ok(None);
+            }
+            Ok(Some(input_text(alloc, tally, given)?))
+        }
+        _ => Ok(Some(cell_text(alloc, program, tally)?)),
+    }
 }
 
 /// A note for each place whose draws no waypoint gave a value.
@@ -92,25 +117,16 @@ pub fn note_unfixed(
     draws: &[Draw],
     out: &mut Messages,
 ) -> Result<(), OutOfMemory> {
-    let places = tallies(alloc, draws)?;
-    let mut told = 0usize;
-    for (at, tally) in places.iter() {
-        let spot = Spot {
-            line: at.line,
-            column: at.column,
-        };
-        let given = given_at(choices, *at);
-        let is_input = tally.kind == DrawKind::Input;
-        if (is_input && tally.count <= given) || told >= MOST {
-            continue;
+    let tallies = tallies_of(alloc, draws)?;
+    let mut count = 0usize;
+    for tally in tallies.values() {
+        if count >= MOST {
+            return Ok(());
         }
-        told = told.saturating_add(1);
-        let text = if is_input {
-            input_text(alloc, *tally, given)?
-        } else {
-            cell_text(alloc, program, *tally, spot)?
-        };
-        out.note(File::Program, Some(spot), text)?;
+        if let Some(told) = told_of(alloc, program, choices, tally)? {
+            out.note(File::Program, Some(tally.spot), told)?;
+            count = count.saturating_add(1);
+        }
     }
     Ok(())
 }

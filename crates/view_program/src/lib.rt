@@ -4,10 +4,12 @@
 #![tactic(auto)]
 
 mod binding;
+mod brackets;
 mod confirmed;
 mod constraint;
 mod draws;
 mod few;
+mod fronts;
 mod grammar;
 mod names;
 mod nearest;

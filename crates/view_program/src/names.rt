@@ -1,6 +1,7 @@
 // The objects that are visible at a place.
 use c_core::{PlaceKind, Program};
 use std::alloc::Global;
+use std::collections::BTreeSet;
 use way_bind::place_named;
 use way_names::names_at;
 use way_places::Index;
@@ -45,24 +46,39 @@ pub fn names_text(
     objects: &[u32],
 ) -> Result<String, OutOfMemory> {
     let mut text = String::new(alloc);
-    let mut listed: Vec<&str> = Vec::new(alloc);
+    let mut listed = Vec::new(alloc);
     for object in objects.iter().rev() {
         let name = name_of(program, *object);
-        if listed.len() < MOST && !listed.as_slice().contains(&name) {
-            text.push_str(if listed.len() == 0 { "" } else { ", " })?;
+        if listed.len() < MOST && !is_named(program, listed.as_slice(), name) {
+            let between = if listed.len() == 0 { "" } else { ", " };
+            text.push_str(between)?;
             text.push_str(name)?;
-            listed.push(name)?;
+            listed.push(*object)?;
         }
     }
     Ok(text)
 }
 
 /// Whether a word is the name of one of the objects.
-pub fn is_visible(program: &Program, objects: &[u32], word: &str) -> bool {
+fn is_named(program: &Program, objects: &[u32], word: &str) -> bool {
     for object in objects {
         if name_of(program, *object) == word {
             return true;
         }
     }
     false
+}
+
+/// The names of objects as a set.
+pub fn names_of(
+    alloc: Global,
+    program: &Program,
+    objects: &[u32],
+) -> Result<BTreeSet<String>, OutOfMemory> {
+    let mut names = BTreeSet::new(alloc);
+    for object in objects {
+        let name = String::from_str(alloc, name_of(program, *object))?;
+        names.insert(name)?;
+    }
+    Ok(names)
 }

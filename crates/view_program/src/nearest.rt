@@ -39,7 +39,7 @@ pub fn columns(
         return Ok(columns);
     }
     let width = line_of(text, line).len().min(WIDEST) as u32;
-    for column in 1..=width {
+    for column in 1..width.saturating_add(1) {
         if columns.len() < MOST && stands(index, wanted, line, Some(column)) {
             columns.push(column)?;
         }
@@ -62,7 +62,7 @@ pub fn line_count(text: &[u8]) -> u32 {
 pub fn nearest_line(index: &Index, text: &[u8], wanted: Wanted, line: u32) -> Option<u32> {
     let lines = line_count(text);
     let from = line.min(lines.saturating_add(1));
-    for distance in 1..=lines {
+    for distance in 1..lines.saturating_add(1) {
         let later = from.saturating_add(distance);
         if stands(index, wanted, later, None) {
             return Some(later);

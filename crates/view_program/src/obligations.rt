@@ -1,5 +1,5 @@
 // An obligation that fails: its invariant, its place, and the values of the havoc run that ends there, by the names of their objects.
-use crate::binding::{Claim, claim_of_invariant, head};
+use crate::binding::{claim_of_invariant, head};
 use crate::names::name_of;
 use crate::spelled::{declared_at, is_same_spot, type_word};
 use c_calls::changed;
@@ -9,21 +9,28 @@ use std::alloc::Global;
 use view_text::{File, Files, Messages};
 use view_witness::{invariant_path, place_of_path, steps_of};
 use wv_base::OutOfMemory;
-use wv_schema::{Content, Invariant, Witness};
+use wv_schema::{Content, Entry, Invariant, Witness};
 
 /// So many values are told.
 const MOST: usize = 60;
+
+/// The invariants of an entry.
+fn set_of(entry: &Entry) -> &[Invariant] {
+    match &entry.content {
+        Content::Invariants(set) => set.as_slice(),
+        Content::Violation(_) => &[],
+    }
+}
 
 /// The invariant of this number, from 0 over all sets.
 fn invariant_at(witness: &Witness, number: u32) -> Option<&Invariant> {
     let mut before = number as usize;
     for entry in witness.entries.as_slice() {
-        if let Content::Invariants(set) = &entry.content {
-            if let Some(found) = set.get(before) {
-                return Some(found);
-            }
-            before = before.saturating_sub(set.len());
+        let set = set_of(entry);
+        if let Some(found) = set.get(before) {
+            return Some(found);
         }
+        before = before.saturating_sub(set.len());
     }
     None
 }
@@ -47,18 +54,25 @@ fn meaning_of(kind: DutyKind) -> &'static str {
     }
 }
 
-/// The invariant of an obligation by its number, its type, its place and its text; empty for one about the property.
+/// An invariant by its number, its type, its place and its text, in parentheses.
+fn in_parentheses(
+    alloc: Global,
+    number: u32,
+    invariant: &Invariant,
+) -> Result<String, OutOfMemory> {
+    let claim = claim_of_invariant(number, invariant, "");
+    let told = head(alloc, &claim)?;
+    let told = told.as_str();
+    Ok(format!(in alloc; " ({told})")?)
+}
+
+/// The invariant of an obligation; empty for one about the property.
 fn invariant_text(alloc: Global, witness: &Witness, duty: Duty) -> Result<String, OutOfMemory> {
     let Some(number) = duty.invariant else {
         return Ok(String::new(alloc));
     };
     match invariant_at(witness, number) {
-        Some(invariant) => {
-            let claim: Claim<'_> = claim_of_invariant(number.saturating_add(1), invariant, "");
-            let head = head(alloc, &claim)?;
-            let head = head.as_str();
-            Ok(format!(in alloc; " ({head})")?)
-        }
+        Some(invariant) => in_parentheses(alloc, number.saturating_add(1), invariant),
         None => Ok(String::new(alloc)),
     }
 }
@@ -87,54 +101,60 @@ pub fn note_invariant(
     let Some(number) = duty.invariant else {
         return Ok(());
     };
-    if let Some(path) = invariant_path(alloc, witness, number.saturating_add(1))? {
-        let steps = steps_of(alloc, path.as_str())?;
-        let spot = place_of_path(alloc, files.text(File::Witness), steps.as_slice())?;
-        out.remark(File::Witness, Some(spot), "the invariant stands here")?;
-    }
-    Ok(())
+    let Some(path) = invariant_path(alloc, witness, number.saturating_add(1))? else {
+        return Ok(());
+    };
+    let steps = steps_of(alloc, path.as_str())?;
+    let spot = place_of_path(alloc, files.text(File::Witness), steps.as_slice())?;
+    out.remark(File::Witness, Some(spot), "the invariant stands here")
 }
 
 /// A cell of an object.
-#[derive(Clone, Copy, Debug)]
+#[derive(Clone, Copy)]
 struct Cell {
     object: u32,
     index: u32,
 }
 
-/// The cells that draw at a loop's head, in their order.
+fn push_cells(program: &Program, object: u32, cells: &mut Vec<Cell>) -> Result<(), OutOfMemory> {
+    for index in 0..size_of_object(program, object) {
+        cells.push(Cell { object, index })?;
+    }
+    Ok(())
+}
+
+/// The cells that draw at the head of a loop, in their order.
 fn cells_at(alloc: Global, program: &Program, spot: Spot) -> Result<Vec<Cell>, OutOfMemory> {
+    let objects = changed(alloc, program, spot)?;
     let mut cells = Vec::new(alloc);
-    for object in changed(alloc, program, spot)?.as_slice() {
-        for index in 0..size_of_object(program, *object) {
-            cells.push(Cell {
-                object: *object,
-                index,
-            })?;
-        }
+    for object in objects.as_slice() {
+        push_cells(program, *object, &mut cells)?;
     }
     Ok(cells)
+}
+
+fn is_array(program: &Program, object: u32) -> bool {
+    match program.objects.get(object as usize) {
+        Some(object) => object.array,
+        None => false,
+    }
 }
 
 fn cell_name(alloc: Global, program: &Program, cell: Cell) -> Result<String, OutOfMemory> {
     let name = name_of(program, cell.object);
     let index = cell.index;
-    let is_array = match program.objects.get(cell.object as usize) {
-        Some(object) => object.array,
-        None => false,
-    };
-    if is_array {
+    if is_array(program, cell.object) {
         Ok(format!(in alloc; "`{name}[{index}]`")?)
     } else {
         Ok(format!(in alloc; "`{name}`")?)
     }
 }
 
-/// Where draws stand that follow one another at one place.
+/// Draws that follow one another at one place.
 #[derive(Drop)]
 struct Series {
     spot: Spot,
-    /// The cells that draw there, where it is a loop.
+    /// The cells that draw there, where it is the head of a loop.
     cells: Vec<Cell>,
     /// How many have drawn.
     drawn: usize,
@@ -148,27 +168,49 @@ fn nowhere(alloc: Global) -> Series {
     }
 }
 
-/// Goes on to the series that a draw belongs to; a loop's cells are drawn all before they are drawn again.
-fn follow(
-    alloc: Global,
-    program: &Program,
-    series: Series,
-    draw: &Draw,
-) -> Result<Series, OutOfMemory> {
-    let ends = draw.from == DrawKind::Havoc && series.drawn >= series.cells.len();
-    if is_same_spot(series.spot, draw.spot) && !ends {
-        return Ok(series);
-    }
-    let cells = if draw.from == DrawKind::Havoc {
-        cells_at(alloc, program, draw.spot)?
-    } else {
-        Vec::new(alloc)
+/// Whether a draw belongs to a series; the cells of a loop are drawn all before they are drawn again.
+fn goes_on(series: &Series, draw: &Draw) -> bool {
+    let is_over = draw.from == DrawKind::Havoc && series.drawn >= series.cells.len();
+    is_same_spot(series.spot, draw.spot) && !is_over
+}
+
+/// The series that a draw begins.
+fn begun_by(alloc: Global, program: &Program, draw: &Draw) -> Result<Series, OutOfMemory> {
+    let cells = match draw.from {
+        DrawKind::Havoc => cells_at(alloc, program, draw.spot)?,
+        _ => Vec::new(alloc),
     };
     Ok(Series {
         spot: draw.spot,
         cells,
         drawn: 0,
     })
+}
+
+fn input_name(alloc: Global, draw: &Draw) -> Result<String, OutOfMemory> {
+    let ty = type_word(draw.ty);
+    Ok(format!(in alloc; "this input call gives the {ty}")?)
+}
+
+fn declared_name(alloc: Global, program: &Program, draw: &Draw) -> Result<String, OutOfMemory> {
+    match declared_at(program, draw.spot) {
+        Some(object) => {
+            let name = object.name.as_str();
+            Ok(format!(in alloc; "`{name}`, declared without a value, is")?)
+        }
+        None => Ok(String::from_str(alloc, "a cell without a value is")?),
+    }
+}
+
+fn havoc_name(alloc: Global, program: &Program, series: &Series) -> Result<String, OutOfMemory> {
+    match series.cells.get(series.drawn) {
+        Some(cell) => {
+            let name = cell_name(alloc, program, *cell)?;
+            let name = name.as_str();
+            Ok(format!(in alloc; "at the head of this loop {name} is")?)
+        }
+        None => Ok(String::from_str(alloc, "at the head of this loop a cell is")?),
+    }
 }
 
 fn draw_name(
@@ -178,26 +220,25 @@ fn draw_name(
     draw: &Draw,
 ) -> Result<String, OutOfMemory> {
     match draw.from {
-        DrawKind::Input => {
-            let ty = type_word(draw.ty);
-            Ok(format!(in alloc; "this input call gives the {ty}")?)
-        }
-        DrawKind::Cell => match declared_at(program, draw.spot) {
-            Some((_, object)) => {
-                let name = object.name.as_str();
-                Ok(format!(in alloc; "`{name}`, declared without a value, is")?)
-            }
-            None => Ok(String::from_str(alloc, "a cell without a value is")?),
-        },
-        DrawKind::Havoc => match series.cells.get(series.drawn) {
-            Some(cell) => {
-                let name = cell_name(alloc, program, *cell)?;
-                let name = name.as_str();
-                Ok(format!(in alloc; "at the head of this loop {name} is")?)
-            }
-            None => Ok(String::from_str(alloc, "at the head of this loop a cell is")?),
-        },
+        DrawKind::Input => input_name(alloc, draw),
+        DrawKind::Cell => declared_name(alloc, program, draw),
+        DrawKind::Havoc => havoc_name(alloc, program, series),
     }
+}
+
+/// A note for the next value of a series.
+fn note_draw(
+    alloc: Global,
+    program: &Program,
+    series: &Series,
+    draw: &Draw,
+    out: &mut Messages,
+) -> Result<(), OutOfMemory> {
+    let name = draw_name(alloc, program, series, draw)?;
+    let name = name.as_str();
+    let value = draw.value;
+    let told = format!(in alloc; "{name} {value}")?;
+    out.note(File::Program, Some(draw.spot), told)
 }
 
 /// A note for each value that the havoc run draws.
@@ -209,12 +250,10 @@ fn note_draws(
 ) -> Result<(), OutOfMemory> {
     let mut series = nowhere(alloc);
     for draw in draws.get(..MOST).unwrap_or(draws) {
-        series = follow(alloc, program, series, draw)?;
-        let name = draw_name(alloc, program, &series, draw)?;
-        let name = name.as_str();
-        let value = draw.value;
-        let told = format!(in alloc; "{name} {value}")?;
-        out.note(File::Program, Some(draw.spot), told)?;
+        if !goes_on(&series, draw) {
+            series = begun_by(alloc, program, draw)?;
+        }
+        note_draw(alloc, program, &series, draw, out)?;
         series.drawn = series.drawn.saturating_add(1);
     }
     Ok(())

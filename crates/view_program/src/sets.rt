@@ -30,14 +30,14 @@ fn explain_unbound(
     out: &mut Messages,
 ) -> Result<(), OutOfMemory> {
     let number = number_in(fault)?;
-    let path = invariant_path(alloc, witness, number)?;
-    match (invariant_numbered(witness, number), path) {
-        (Some(invariant), Some(path)) => {
-            let claim = claim_of_invariant(number, invariant, path.as_str());
-            explain_claim(alloc, files, program, fault, &claim, out)
-        }
-        _ => Ok(()),
-    }
+    let Some(path) = invariant_path(alloc, witness, number)? else {
+        return Ok(());
+    };
+    let Some(invariant) = invariant_numbered(witness, number) else {
+        return Ok(());
+    };
+    let claim = claim_of_invariant(number, invariant, path.as_str());
+    explain_claim(alloc, files, program, fault, &claim, out)
 }
 
 /// An obligation on which the budget was spent.
@@ -56,7 +56,7 @@ fn explain_conflicts(
         return Ok(());
     };
     let why = format!(in alloc;
-        "{count} conflicts were spent on it: a larger --conflicts, or an invariant that says more of what it needs, may decide"
+        "the budget is spent on it (conflicts: {count}); a larger --conflicts, or an invariant that says more of what it needs, may decide"
     )?;
     let told = obligation_text(alloc, witness, index, *duty, why.as_str())?;
     out.warning("undecided", File::Program, Some(duty.spot), told)?;
@@ -88,6 +88,21 @@ fn explain_verdict(
     }
 }
 
+/// A program whose obligations aren't judged.
+fn explain_fault(
+    alloc: Global,
+    files: &Files<'_>,
+    program: &Program,
+    fault: &SymFault,
+    out: &mut Messages,
+) -> Result<(), OutOfMemory> {
+    match fault {
+        SymFault::Recursion(name) => explain_recursion(alloc, program, name.as_str(), out),
+        SymFault::TooBig => explain_weight(alloc, files, program, out),
+        SymFault::OutOfMemory => Err(OutOfMemory),
+    }
+}
+
 fn explain_placed(
     alloc: Global,
     files: &Files<'_>,
@@ -106,9 +121,7 @@ fn explain_placed(
             let verdict = &judged.verdict;
             explain_verdict(alloc, files, program, witness, invariants, verdict, out)
         }
-        Err(SymFault::Recursion(name)) => explain_recursion(alloc, program, name.as_str(), out),
-        Err(SymFault::TooBig) => explain_weight(alloc, files, program, out),
-        Err(SymFault::OutOfMemory) => Err(OutOfMemory),
+        Err(fault) => explain_fault(alloc, files, program, &fault, out),
     }
 }
 

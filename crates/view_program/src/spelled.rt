@@ -1,6 +1,5 @@
 // The names that messages have for things.
-use c_core::{Callee, DataModel, IntType, Object, Program, Spot};
-use c_meaning::DutyKind;
+use c_core::{IntType, Object, Program, Spot};
 use std::alloc::Global;
 use wv_base::OutOfMemory;
 use wv_schema::{InvariantKind, Location, WayKind, Waypoint};
@@ -75,11 +74,11 @@ pub fn is_same_spot(a: Spot, b: Spot) -> bool {
     a.line == b.line && a.column == b.column
 }
 
-/// The object that is declared at a place, with its number.
-pub fn declared_at(program: &Program, spot: Spot) -> Option<(usize, &Object)> {
-    for (number, object) in program.objects.as_slice().iter().enumerate() {
+/// The object that is declared at a place.
+pub fn declared_at(program: &Program, spot: Spot) -> Option<&Object> {
+    for object in program.objects.as_slice() {
         if is_same_spot(object.spot, spot) {
-            return Some((number, object));
+            return Some(object);
         }
     }
     None

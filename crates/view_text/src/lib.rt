@@ -7,6 +7,7 @@ mod growing;
 mod lines;
 mod listing;
 mod message;
+mod noted;
 mod printed;
 mod report;
 mod rules;
@@ -16,9 +17,7 @@ pub use growing::{Growing, last_holding};
 pub use lines::{line_of, offset_of, spot_at};
 pub use listing::push_listing;
 pub use message::{File, Level, Message, Messages};
+pub use noted::{by_line, parted_at};
 pub use printed::{push_caret, push_printable};
 pub use report::push_message;
 pub use rules::{advice, wanted_place};
-
-#[cfg(test)]
-mod tests;

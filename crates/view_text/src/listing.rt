@@ -1,6 +1,7 @@
 // A confirmation as gcov prints a run: each line of the program with how often it was reached, and the notes below their lines.
 use crate::files::Files;
 use crate::message::{File, Message, Messages};
+use crate::noted::{by_line, parted_at};
 use crate::printed::{push_caret, push_printable};
 use c_core::Spot;
 use std::alloc::Global;
@@ -34,17 +35,18 @@ fn push_note(
     Ok(())
 }
 
-/// The notes about a line of the program.
+/// The notes about a line of the program, by their numbers.
 fn push_notes(
     alloc: Global,
     out: &mut String,
     line: &[u8],
-    number: u32,
+    places: &[(u32, usize)],
     messages: &[Message],
 ) -> Result<(), OutOfMemory> {
-    for message in messages {
-        if let Some(spot) = message.spot {
-            if message.file == File::Program && spot.line == number {
+    for place in places {
+        let (_, index) = *place;
+        if let Some(message) = messages.get(index) {
+            if let Some(spot) = message.spot {
                 push_note(alloc, out, line, spot, message.text.as_str())?;
             }
         }
@@ -82,12 +84,16 @@ pub fn push_listing(
     messages: &Messages,
 ) -> Result<(), OutOfMemory> {
     let counts = messages.counts().unwrap_or(&[]);
+    let places = by_line(alloc, messages.as_slice(), File::Program)?;
+    let mut later = places.as_slice();
     let mut number = 0u32;
     for line in without_last_end(files.text(File::Program)).split(|byte| *byte == b'\n') {
         let count = counts.get(number as usize);
         number = number.saturating_add(1);
+        let (here, behind) = parted_at(later, number);
+        later = behind;
         push_line(alloc, out, line, number, count)?;
-        push_notes(alloc, out, line, number, messages.as_slice())?;
+        push_notes(alloc, out, line, here, messages.as_slice())?;
     }
     Ok(())
 }

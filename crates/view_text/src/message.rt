@@ -18,6 +18,17 @@ pub enum Level {
     Note,
 }
 
+impl Level {
+    /// Its word, in the form of compilers and of SARIF.
+    pub fn word(self) -> &'static str {
+        match self {
+            Level::Error => "error",
+            Level::Warning => "warning",
+            Level::Note => "note",
+        }
+    }
+}
+
 /// One message about a file, at a place of it where it has one. The code is that of the reply, and empty at a note.
 #[derive(Debug, Drop)]
 pub struct Message {

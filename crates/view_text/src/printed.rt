@@ -19,9 +19,18 @@ fn printable(c: char) -> char {
     if c != '\t' && is_hidden(c) { OTHER } else { c }
 }
 
-/// Appends bytes as one line of text: a tab stays, and what isn't printable or no UTF-8 is U+FFFD.
+/// A line without a carriage return at its end.
+fn without_return(line: &[u8]) -> &[u8] {
+    match line {
+        [front @ .., b'\r'] => front,
+        _ => line,
+    }
+}
+
+/// Appends bytes as one line of text: a tab stays, a carriage return at the end isn't shown, and what isn't printable or no UTF-8 is
+/// U+FFFD.
 pub fn push_printable(alloc: Global, out: &mut String, bytes: &[u8]) -> Result<(), OutOfMemory> {
-    let text = String::from_utf8_lossy(alloc, bytes)?;
+    let text = String::from_utf8_lossy(alloc, without_return(bytes))?;
     for c in text.as_str().chars() {
         out.push(printable(c))?;
     }

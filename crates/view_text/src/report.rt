@@ -1,7 +1,7 @@
 // A message in the form of compilers: `FILE:LINE:COLUMN: error: TEXT [code]`, the line of the file, a caret.
 use crate::files::Files;
 use crate::lines::line_of;
-use crate::message::{Level, Message};
+use crate::message::Message;
 use crate::printed::{push_caret, push_printable};
 use c_core::Spot;
 use std::alloc::Global;
@@ -9,14 +9,6 @@ use wv_base::OutOfMemory;
 
 /// So many bytes of a line are shown before and behind a place of it.
 const AROUND: usize = 120;
-
-fn level_word(level: Level) -> &'static str {
-    match level {
-        Level::Error => "error",
-        Level::Warning => "warning",
-        Level::Note => "note",
-    }
-}
 
 /// A line of a file and a caret below its column. Of a long line the part round the column is shown.
 fn push_source(
@@ -56,7 +48,7 @@ pub fn push_message(
 ) -> Result<(), OutOfMemory> {
     push_printable(alloc, out, files.name(message.file).as_bytes())?;
     push_place(out, message.spot)?;
-    let level = level_word(message.level);
+    let level = message.level.word();
     write!(out, ": {level}: ")?;
     push_printable(alloc, out, message.text.as_bytes())?;
     if !message.code.is_empty() {

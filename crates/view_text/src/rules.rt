@@ -3,6 +3,7 @@
 /// What a refusal says, by its code.
 pub fn advice(code: &str) -> &'static str {
     match code {
+        "fault" => "this file isn't there, or can't be read",
         "usage" => "the words of the command line are misused",
         "too-long" =>
             "the file is too long: 1,048,576 bytes of a program or a witness, 4,096 of a property",

@@ -16,6 +16,3 @@ pub use numbers::{invariant_path, waypoint_path};
 pub use paths::{Step, place_of_path, reached, steps_of};
 pub use stopping::{first_bad, repeated_at, stopped_at};
 pub use tasks::explain_task;
-
-#[cfg(test)]
-mod tests;

@@ -20,8 +20,8 @@ impl ReplySink {
     }
 
     /// What was written.
-    pub fn bytes(&self) -> &[u8] {
-        self.bytes.as_slice()
+    pub fn into_bytes(self) -> Vec<u8> {
+        self.bytes
     }
 
     /// Whether memory was wanting for what was written.

@@ -128,7 +128,7 @@ fn budgets(matches: &ArgMatches<'_>) -> Budgets {
     }
 }
 
-fn form(matches: &ArgMatches<'_>) -> Form {
+fn wanted_form(matches: &ArgMatches<'_>) -> Form {
     if matches.get_flag("sarif") {
         Form::Sarif
     } else if matches.get_flag("html") {
@@ -163,7 +163,7 @@ fn asked_by<'a>(alloc: Global, matches: &ArgMatches<'a>) -> Result<Asked<'a>, Ou
         Some(names) => Ok(Asked::Judge {
             names,
             budgets,
-            form: form(matches),
+            form: wanted_form(matches),
         }),
         None => misuse(alloc, "error: a file isn't named\n"),
     }
