@@ -1,0 +1,183 @@
+// The words of the command line, read by `clap`.
+use clap::builder::ValueParser;
+use clap::error::ErrorKind;
+use clap::{Arg, ArgAction, ArgMatches, Command};
+use std::alloc::{AllocError, Global};
+use wv_arguments::{Budgets, Names};
+use wv_base::OutOfMemory;
+
+const ABOUT: &str =
+    "Judges a software verification witness as `witval validate` does, and shows what there is to look at in the files: \
+what a refusal speaks of, why a violation isn't confirmed, which obligation fails and with which values.";
+
+const AFTER: &str =
+    "It prints the reply of `witval validate` word for word, and then messages in the form of compilers: \
+FILE:LINE:COLUMN: error: TEXT [code], the line, a caret. Messages are no verdicts of their own.\n\n\
+Status: that of `witval validate`: 0 confirmed, 1 not confirmed, 2 undecided, 3 refused, 4 a read fault, 5 a write fault, \
+6 want of memory, 7 misused words; 0 for this help.";
+
+/// How a judgement is shown.
+#[derive(Clone, Copy, Debug, PartialEq, Eq)]
+pub enum Form {
+    Text,
+    Sarif,
+    Html,
+}
+
+/// What the words ask for.
+#[derive(Drop)]
+pub enum Asked<'a> {
+    Judge {
+        names: Names<'a>,
+        budgets: Budgets,
+        form: Form,
+    },
+    /// Many judgements, by the name of their list.
+    List {
+        name: &'a str,
+        budgets: Budgets,
+    },
+    /// The help, as it is printed.
+    Help(String),
+    /// What is wrong with the words.
+    Misuse(String),
+}
+
+fn file<'a>(alloc: Global, name: &'a str, help: &'a str) -> Result<Arg<'a>, AllocError> {
+    let arg = Arg::new(alloc, name)
+        .long(name)
+        .value_name("FILE")
+        .help(help)
+        .required_unless_present("list")?;
+    Ok(arg)
+}
+
+fn flag<'a>(
+    alloc: Global,
+    name: &'a str,
+    other: &'a str,
+    help: &'a str,
+) -> Result<Arg<'a>, AllocError> {
+    let arg = Arg::new(alloc, name)
+        .long(name)
+        .action(ArgAction::SetTrue)
+        .help(help)
+        .conflicts_with(other)?;
+    Ok(arg)
+}
+
+fn list<'a>(alloc: Global) -> Result<Arg<'a>, AllocError> {
+    let arg = Arg::new(alloc, "list")
+        .long("list")
+        .value_name("FILE")
+        .help(
+            "Judges each line of a list, a program, a property and a witness parted by tabs or blanks, and prints a line of JSON for each; - is standard input",
+        )
+        .conflicts_with("program")?
+        .conflicts_with("property")?
+        .conflicts_with("witness")?
+        .conflicts_with("sarif")?
+        .conflicts_with("html")?;
+    Ok(arg)
+}
+
+fn number<'a>(alloc: Global, name: &'a str, most: u64, default: &'a str, help: &'a str) -> Arg<'a> {
+    Arg::new(alloc, name)
+        .long(name)
+        .value_name("N")
+        .value_parser(ValueParser::unsigned(1, most))
+        .default_value(default)
+        .help(help)
+}
+
+fn command<'a>(alloc: Global) -> Result<Command<'a>, AllocError> {
+    let mode = Arg::new(alloc, "mode")
+        .value_name("validate")
+        .help("May stand, as in the words of witval");
+    let command = Command::new(alloc, "witval-view")
+        .about(ABOUT)
+        .after_help(AFTER)
+        .arg(mode)?
+        .arg(file(alloc, "program", "The C program, preprocessed")?)?
+        .arg(file(alloc, "property", "The property")?)?
+        .arg(file(alloc, "witness", "The witness, format 2.0")?)?
+        .arg(list(alloc)?)?
+        .arg(flag(alloc, "sarif", "html", "Prints a SARIF 2.1.0 log instead")?)?
+        .arg(flag(alloc, "html", "sarif", "Prints one page of HTML instead")?)?
+        .arg(number(
+            alloc,
+            "steps",
+            100_000_000,
+            "10000000",
+            "The most steps of a run, 1 to 100000000",
+        ))?
+        .arg(number(
+            alloc,
+            "conflicts",
+            1_000_000,
+            "100000",
+            "The most conflicts on one obligation, 1 to 1000000",
+        ))?;
+    Ok(command)
+}
+
+fn budgets(matches: &ArgMatches<'_>) -> Budgets {
+    Budgets {
+        steps: matches.get_one::<u64>("steps").unwrap_or(10_000_000),
+        conflicts: matches.get_one::<u64>("conflicts").unwrap_or(100_000),
+    }
+}
+
+fn wanted_form(matches: &ArgMatches<'_>) -> Form {
+    if matches.get_flag("sarif") {
+        Form::Sarif
+    } else if matches.get_flag("html") {
+        Form::Html
+    } else {
+        Form::Text
+    }
+}
+
+fn names<'a>(matches: &ArgMatches<'a>) -> Option<Names<'a>> {
+    Some(Names {
+        program: matches.get_str("program")?,
+        property: matches.get_str("property")?,
+        witness: matches.get_str("witness")?,
+    })
+}
+
+fn misuse<'a>(alloc: Global, text: &str) -> Result<Asked<'a>, OutOfMemory> {
+    Ok(Asked::Misuse(String::from_str(alloc, text)?))
+}
+
+fn asked_by<'a>(alloc: Global, matches: &ArgMatches<'a>) -> Result<Asked<'a>, OutOfMemory> {
+    match matches.get_str("mode") {
+        Some("validate") | None => {}
+        Some(_) => return misuse(alloc, "error: the one mode is validate\n"),
+    }
+    let budgets = budgets(matches);
+    if let Some(name) = matches.get_str("list") {
+        return Ok(Asked::List { name, budgets });
+    }
+    match names(matches) {
+        Some(names) => Ok(Asked::Judge {
+            names,
+            budgets,
+            form: wanted_form(matches),
+        }),
+        None => misuse(alloc, "error: a file isn't named\n"),
+    }
+}
+
+/// What the words ask for, the first of which is the program's own name.
+pub fn read_words(alloc: Global, words: &[String]) -> Result<Asked<'_>, OutOfMemory> {
+    let command = command(alloc)?;
+    match command.try_get_matches_from(words) {
+        Ok(matches) => asked_by(alloc, &matches),
+        Err(error) => match error.kind() {
+            ErrorKind::OutOfMemory => Err(OutOfMemory),
+            ErrorKind::DisplayHelp => Ok(Asked::Help(format!(in alloc; "{error}")?)),
+            _ => Ok(Asked::Misuse(format!(in alloc; "{error}")?)),
+        },
+    }
+}

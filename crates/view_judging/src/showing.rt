@@ -1,0 +1,146 @@
+// One judgement: the reply of the validator, and what there is to look at.
+use crate::command::Form;
+use crate::keeping::Keeping;
+use crate::replying::{Replied, replied_to};
+use std::alloc::Global;
+use view_pages::{log_of, page_of};
+use view_program::explain;
+use view_text::{File, Files, Messages, advice, push_listing, push_message};
+use wv_arguments::{Budgets, Names};
+use wv_base::{OutOfMemory, Shelf};
+
+/// The bytes that are shown of a judgement, and its status.
+#[derive(Drop)]
+pub struct Output {
+    pub bytes: Vec<u8>,
+    pub status: u8,
+}
+
+/// The code of a reply to files that weren't read whole, and the file.
+fn unread(reply: &str) -> Option<(&'static str, File)> {
+    match reply {
+        "fault read program\n" => Some(("fault", File::Program)),
+        "fault read property\n" => Some(("fault", File::Property)),
+        "fault read witness\n" => Some(("fault", File::Witness)),
+        "refused too-long program\n" => Some(("too-long", File::Program)),
+        "refused too-long property\n" => Some(("too-long", File::Property)),
+        "refused too-long witness\n" => Some(("too-long", File::Witness)),
+        _ => None,
+    }
+}
+
+/// What there is to say of a reply.
+fn messages_of(
+    alloc: Global,
+    replied: &Replied,
+    files: &Files<'_>,
+    budgets: Budgets,
+) -> Result<Messages, OutOfMemory> {
+    let reply = String::from_utf8_lossy(alloc, replied.reply.as_slice())?;
+    let mut messages = Messages::new(alloc);
+    match unread(reply.as_str()) {
+        Some((code, file)) => {
+            let told = String::from_str(alloc, advice(code))?;
+            messages.error(code, file, None, told)?;
+        }
+        None => explain(alloc, files, budgets, &mut messages)?,
+    }
+    Ok(messages)
+}
+
+/// Messages one behind another, or a confirmation in the text of the program.
+fn shown_text(
+    alloc: Global,
+    files: &Files<'_>,
+    messages: &Messages,
+) -> Result<String, OutOfMemory> {
+    let mut text = String::new(alloc);
+    if messages.counts().is_some() {
+        push_listing(alloc, &mut text, files, messages)?;
+        return Ok(text);
+    }
+    for message in messages.as_slice() {
+        push_message(alloc, &mut text, files, message)?;
+    }
+    Ok(text)
+}
+
+/// The reply's own bytes, and behind them what there is to look at.
+fn shown_behind(
+    alloc: Global,
+    files: &Files<'_>,
+    replied: &Replied,
+    messages: &Messages,
+) -> Result<Vec<u8>, OutOfMemory> {
+    let text = shown_text(alloc, files, messages)?;
+    let mut bytes = replied.reply.clone()?;
+    bytes.extend_from_slice(text.as_bytes())?;
+    Ok(bytes)
+}
+
+/// The whole of what is printed.
+fn printed(
+    alloc: Global,
+    files: &Files<'_>,
+    replied: &Replied,
+    messages: &Messages,
+    form: Form,
+) -> Result<Vec<u8>, OutOfMemory> {
+    if form == Form::Text {
+        return shown_behind(alloc, files, replied, messages);
+    }
+    let reply = String::from_utf8_lossy(alloc, replied.reply.as_slice())?;
+    let reply = reply.as_str();
+    let text = match form {
+        Form::Html => page_of(alloc, files, reply, messages)?,
+        _ => log_of(alloc, files, reply, replied.status, messages.as_slice())?,
+    };
+    Ok(text.into_bytes())
+}
+
+/// Three files, by their names and by what was read of them.
+fn files_of<'a>(
+    program_name: &'a str,
+    property_name: &'a str,
+    witness_name: &'a str,
+    program: &'a [u8],
+    property: &'a [u8],
+    witness: &'a [u8],
+) -> Files<'a> {
+    Files {
+        names: [program_name, property_name, witness_name],
+        texts: [program, property, witness],
+    }
+}
+
+/// A judgement over the files of a shelf, in one of its forms.
+pub fn shown<S: Shelf + Drop>(
+    alloc: Global,
+    names: &Names<'_>,
+    budgets: Budgets,
+    form: Form,
+    shelf: S,
+) -> Result<Output, OutOfMemory> {
+    let mut shelf = Keeping::new(alloc, shelf);
+    let replied = replied_to(alloc, names, budgets, &mut shelf)?;
+    if shelf.is_lost() {
+        return Err(OutOfMemory);
+    }
+    let program = shelf.kept(0);
+    let property = shelf.kept(1);
+    let witness = shelf.kept(2);
+    let files = files_of(
+        names.program,
+        names.property,
+        names.witness,
+        program,
+        property,
+        witness,
+    );
+    let messages = messages_of(alloc, &replied, &files, budgets)?;
+    let bytes = printed(alloc, &files, &replied, &messages, form)?;
+    Ok(Output {
+        bytes,
+        status: replied.status,
+    })
+}

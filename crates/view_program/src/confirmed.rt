@@ -1,0 +1,124 @@
+// A confirmation: how often each line was reached, the values that were drawn, the event that passes each segment; of invariants, each
+// obligation at its place.
+use crate::obligations::obligation_text;
+use crate::spelled::{type_word, waypoint_text};
+use crate::tracker::Tracker;
+use c_core::Spot;
+use c_meaning::{Draw, DrawKind, Duty, DutyKind};
+use std::alloc::Global;
+use view_text::{File, Messages};
+use wv_base::OutOfMemory;
+use wv_schema::{Segment, Witness};
+
+/// So many values are told.
+const MOST: usize = 200;
+
+fn draw_text(alloc: Global, draw: &Draw) -> Result<String, OutOfMemory> {
+    let ty = type_word(draw.ty);
+    let value = draw.value;
+    match draw.from {
+        DrawKind::Input => Ok(format!(in alloc; "draws {ty} {value}")?),
+        _ => Ok(format!(in alloc; "has no value here: {ty} {value}")?),
+    }
+}
+
+/// A note for each value that the run draws.
+fn note_draws(alloc: Global, draws: &[Draw], out: &mut Messages) -> Result<(), OutOfMemory> {
+    for draw in draws.get(..MOST).unwrap_or(draws) {
+        let told = draw_text(alloc, draw)?;
+        out.note(File::Program, Some(draw.spot), told)?;
+    }
+    Ok(())
+}
+
+/// A segment that an event passes, and the number of its waypoint to follow.
+fn segment_text(
+    alloc: Global,
+    segment: &Segment,
+    number: usize,
+    waypoint: u32,
+    position: u64,
+) -> Result<String, OutOfMemory> {
+    let told = waypoint_text(alloc, &segment.follow)?;
+    let told = told.as_str();
+    Ok(format!(in alloc;
+        "segment {number} is passed by event {position}: waypoint {waypoint}, {told}"
+    )?)
+}
+
+/// How many waypoints a segment has.
+fn waypoints_in(segment: &Segment) -> u32 {
+    match u32::try_from(segment.avoids.len()) {
+        Ok(count) => count.saturating_add(1),
+        Err(_) => u32::MAX,
+    }
+}
+
+/// A note for each segment whose event was found, at the place of that event.
+fn note_segments(
+    alloc: Global,
+    segments: &[Segment],
+    positions: &[u64],
+    found: &[Spot],
+    out: &mut Messages,
+) -> Result<(), OutOfMemory> {
+    let mut waypoint = 0u32;
+    for (at, segment) in segments.iter().enumerate() {
+        let Some(spot) = found.get(at) else {
+            return Ok(());
+        };
+        waypoint = waypoint.saturating_add(waypoints_in(segment));
+        let position = positions.get(at).copied().unwrap_or(0);
+        let number = at.saturating_add(1);
+        let told = segment_text(alloc, segment, number, waypoint, position)?;
+        out.note(File::Program, Some(*spot), told)?;
+    }
+    Ok(())
+}
+
+/// How often each line was reached.
+fn lines_of(tracker: Tracker<'_>) -> Vec<u64> {
+    tracker.lines
+}
+
+/// A run that violates the property as the witness says.
+pub fn show_run(
+    alloc: Global,
+    segments: &[Segment],
+    draws: &[Draw],
+    positions: &[u64],
+    tracker: Tracker<'_>,
+    out: &mut Messages,
+) -> Result<(), OutOfMemory> {
+    note_draws(alloc, draws, out)?;
+    note_segments(alloc, segments, positions, tracker.found.as_slice(), out)?;
+    out.confirm(lines_of(tracker));
+    Ok(())
+}
+
+/// What it means that an obligation of a kind holds.
+fn meaning_of(kind: DutyKind) -> &'static str {
+    match kind {
+        DutyKind::Location => "it holds whenever a havoc run reaches this statement",
+        DutyKind::Entry => "it holds whenever a havoc run comes to this loop",
+        DutyKind::Kept => "each turn of this loop keeps it",
+        DutyKind::Property => "no havoc run violates the property here",
+    }
+}
+
+/// Obligations that hold.
+pub fn show_obligations(
+    alloc: Global,
+    witness: &Witness,
+    duties: &[Duty],
+    out: &mut Messages,
+) -> Result<(), OutOfMemory> {
+    let mut index = 0u32;
+    for duty in duties {
+        index = index.saturating_add(1);
+        let told = obligation_text(alloc, witness, index, *duty, meaning_of(duty.kind))?;
+        out.note(File::Program, Some(duty.spot), told)?;
+    }
+    out.confirm(Vec::new(alloc));
+    Ok(())
+}

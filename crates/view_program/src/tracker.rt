@@ -1,0 +1,117 @@
+// What a run comes by: the lines whose statements it begins, and how far it passes the segments.
+use crate::route::{Route, Waiting};
+use crate::ways::Ways;
+use c_core::{Program, Spot};
+use c_meaning::{Event, Memory, Watcher};
+use std::alloc::Global;
+use way_match::Bound;
+use wv_base::OutOfMemory;
+
+/// Sees the events of a run. It claims nothing: what it keeps is shown, and no verdict rests on it.
+#[derive(Drop)]
+pub struct Tracker<'a> {
+    route: Route<'a>,
+    ways: Ways,
+    /// How often a statement of each line was begun; of line 1 at 0.
+    pub lines: Vec<u64>,
+    /// The statement that was begun last.
+    pub last: Option<Spot>,
+    /// The violation.
+    pub violation: Option<Event>,
+    pub events: u64,
+    /// The numbers of events whose places are wanted, rising.
+    wanted: &'a [u64],
+    /// The places of those of them that came.
+    pub found: Vec<Spot>,
+}
+
+/// The place of an event.
+pub fn event_spot(event: Event) -> Spot {
+    match event {
+        Event::At(spot) => spot,
+        Event::Branch(spot, _) => spot,
+        Event::Enter(spot) => spot,
+        Event::Return(spot, _) => spot,
+        Event::Fail { full, call, .. } => call.unwrap_or(full),
+    }
+}
+
+/// No statement of so many lines was begun yet.
+fn no_counts(alloc: Global, lines: u32) -> Result<Vec<u64>, OutOfMemory> {
+    let mut counts = Vec::new(alloc);
+    for _ in 0..lines {
+        counts.push(0)?;
+    }
+    Ok(counts)
+}
+
+impl<'a> Tracker<'a> {
+    /// Before all events of a run of a program of so many lines.
+    pub fn new(
+        alloc: Global,
+        program: &'a Program,
+        bound: &'a Bound,
+        line_count: u32,
+        wanted: &'a [u64],
+    ) -> Result<Tracker<'a>, OutOfMemory> {
+        let route = Route::new(alloc, program, bound)?;
+        let ways = Ways::new(alloc, bound.segments.as_slice())?;
+        let lines = no_counts(alloc, line_count)?;
+        Ok(Tracker {
+            route,
+            ways,
+            lines,
+            last: None,
+            violation: None,
+            events: 0,
+            wanted,
+            found: Vec::new(alloc),
+        })
+    }
+
+    /// What was seen of each segment, and behind the last.
+    pub fn waiting(&self) -> &[Waiting] {
+        self.ways.as_slice()
+    }
+
+    /// Keeps the place of an event that is wanted; two neighbours may be passed by one event.
+    fn keep(&mut self, event: Event) -> Result<(), OutOfMemory> {
+        let wanted = self.wanted;
+        let spot = event_spot(event);
+        for number in wanted.get(self.found.len()..).unwrap_or(&[]) {
+            if *number != self.events {
+                break;
+            }
+            self.found.push(spot)?;
+        }
+        Ok(())
+    }
+
+    fn count_line(&mut self, spot: Spot) {
+        let at = (spot.line as usize).saturating_sub(1);
+        if let Some(count) = self.lines.get_mut(at) {
+            *count = count.saturating_add(1);
+        }
+        self.last = Some(spot);
+    }
+}
+
+impl<'a> Watcher for Tracker<'a> {
+    ghost Seen = { Unit {0} };
+
+    ghost seen = { λ _. tt };
+
+    ghost after = { λ _ _ s. s };
+
+    fn see(&mut self, event: Event, memory: &Memory) -> Result<(), OutOfMemory> {
+        self.keep(event)?;
+        self.events = self.events.saturating_add(1);
+        match event {
+            Event::At(spot) => self.count_line(spot),
+            Event::Fail { .. } => self.violation = Some(event),
+            _ => {}
+        }
+        self.ways.pass(&self.route, event, memory);
+        Ok(())
+    }
+}

@@ -1,0 +1,258 @@
+// A violation sequence: a waypoint that isn't bound, or the given run.
+use crate::binding::{claim_of_waypoint, explain_claim, number_in};
+use crate::confirmed::show_run;
+use crate::draws::note_unfixed;
+use crate::few::{bind, segments_of};
+use crate::nearest::line_count;
+use crate::segments::waypoint_at;
+use crate::tracker::Tracker;
+use crate::unmatched::explain_unmatched;
+use c_core::{Program, Spot};
+use c_interpreter::run_plain;
+use c_meaning::{Choices, End, Run};
+use std::alloc::Global;
+use view_text::{File, Files, Messages};
+use view_witness::waypoint_path;
+use way_bind::BindFault;
+use way_match::{Bound, Matcher, given};
+use wv_base::{OutOfMemory, Seq};
+use wv_schema::Witness;
+
+fn explain_unbound(
+    alloc: Global,
+    files: &Files<'_>,
+    program: &Program,
+    witness: &Witness,
+    fault: BindFault,
+    out: &mut Messages,
+) -> Result<(), OutOfMemory> {
+    let number = number_in(fault)?;
+    let Some(path) = waypoint_path(alloc, witness, number)? else {
+        return Ok(());
+    };
+    match waypoint_at(segments_of(witness), number) {
+        Some(found) => {
+            let claim = claim_of_waypoint(number, found, path.as_str());
+            explain_claim(alloc, files, program, fault, &claim, out)
+        }
+        None => Ok(()),
+    }
+}
+
+/// The line whose statements were begun most often, from 1, and how often.
+fn busiest(lines: &[u64]) -> (u32, u64) {
+    let mut best = 1u32;
+    let mut most = 0u64;
+    let mut line = 0u32;
+    for count in lines {
+        line = line.saturating_add(1);
+        if *count > most {
+            best = line;
+            most = *count;
+        }
+    }
+    (best, most)
+}
+
+fn explain_spent(
+    alloc: Global,
+    tracker: &Tracker<'_>,
+    steps: u64,
+    out: &mut Messages,
+) -> Result<(), OutOfMemory> {
+    let told = format!(in alloc;
+        "the run that the witness gives isn't over after {steps} steps: this is the last statement that it began; a larger --steps may decide"
+    )?;
+    out.warning("undecided", File::Program, tracker.last, told)?;
+    let (line, count) = busiest(tracker.lines.as_slice());
+    let told = format!(in alloc; "statements of this line were begun most often, {count} times")?;
+    out.note(File::Program, Some(Spot { line, column: 1 }), told)
+}
+
+fn explain_deep(
+    alloc: Global,
+    tracker: &Tracker<'_>,
+    out: &mut Messages,
+) -> Result<(), OutOfMemory> {
+    let told = String::from_str(
+        alloc,
+        "over 1,000,000 cells would be live behind this statement: the violation needs fewer calls or smaller arrays",
+    )?;
+    out.warning("undecided", File::Program, tracker.last, told)
+}
+
+fn ended_text(alloc: Global, unfixed: u64) -> Result<String, OutOfMemory> {
+    if unfixed == 0 {
+        Ok(String::from_str(
+            alloc,
+            "the run that the witness gives ends without a violation: this is the last statement that it began; other values may violate the property",
+        )?)
+    } else {
+        Ok(format!(in alloc;
+            "the run that the witness gives ends without a violation: this is the last statement that it began; {unfixed} draws took 0 for want of a value"
+        )?)
+    }
+}
+
+fn explain_ended(
+    alloc: Global,
+    program: &Program,
+    judged: &Judged,
+    tracker: &Tracker<'_>,
+    out: &mut Messages,
+) -> Result<(), OutOfMemory> {
+    let told = ended_text(alloc, judged.run.unfixed)?;
+    out.warning("ended", File::Program, tracker.last, told)?;
+    note_unfixed(
+        alloc,
+        program,
+        &judged.choices,
+        judged.run.draws.as_slice(),
+        out,
+    )
+}
+
+fn explain_undefined(
+    alloc: Global,
+    program: &Program,
+    judged: &Judged,
+    spot: Spot,
+    out: &mut Messages,
+) -> Result<(), OutOfMemory> {
+    let told = String::from_str(
+        alloc,
+        "the run comes to undefined behaviour here before it violates the property: a divisor of 0, an index outside its array, a shift by too much, or a value that a function didn't give",
+    )?;
+    out.warning("undefined", File::Program, Some(spot), told)?;
+    note_unfixed(
+        alloc,
+        program,
+        &judged.choices,
+        judged.run.draws.as_slice(),
+        out,
+    )
+}
+
+/// The values that the segments give, the run that draws them, and the events that pass the segments, where some do.
+#[derive(Drop)]
+struct Judged {
+    choices: Choices,
+    run: Run,
+    positions: Option<Seq<u64>>,
+}
+
+/// The run that the segments give, as the judge asks it.
+fn judged_run(
+    alloc: Global,
+    program: &Program,
+    bound: &Bound,
+    steps: u64,
+) -> Result<Judged, OutOfMemory> {
+    let choices = given(alloc, bound, program)?;
+    let mut matcher = Matcher::new(alloc, bound, program)?;
+    let run = run_plain(alloc, program, &choices, steps, &mut matcher)?;
+    let positions = matcher.done();
+    Ok(Judged {
+        choices,
+        run,
+        positions,
+    })
+}
+
+/// The events that pass the segments; none where the run isn't as they say.
+fn events_of(judged: &Judged) -> &[u64] {
+    match &judged.positions {
+        Some(positions) => positions.as_slice(),
+        None => &[],
+    }
+}
+
+/// What the given run comes by.
+fn tracked<'a>(
+    alloc: Global,
+    files: &Files<'_>,
+    program: &'a Program,
+    bound: &'a Bound,
+    judged: &'a Judged,
+    steps: u64,
+) -> Result<Tracker<'a>, OutOfMemory> {
+    let lines = line_count(files.text(File::Program));
+    let mut tracker = Tracker::new(alloc, program, bound, lines, events_of(judged))?;
+    let _ = run_plain(alloc, program, &judged.choices, steps, &mut tracker)?;
+    Ok(tracker)
+}
+
+/// A run that violates the property.
+fn explain_violated(
+    alloc: Global,
+    files: &Files<'_>,
+    program: &Program,
+    witness: &Witness,
+    bound: &Bound,
+    judged: &Judged,
+    steps: u64,
+    out: &mut Messages,
+) -> Result<(), OutOfMemory> {
+    let segments = segments_of(witness);
+    if judged.positions.is_none() {
+        let tracker = tracked(alloc, files, program, bound, judged, steps)?;
+        return explain_unmatched(alloc, files, witness, segments, &tracker, out);
+    }
+    let tracker = tracked(alloc, files, program, bound, judged, steps)?;
+    let draws = judged.run.draws.as_slice();
+    show_run(alloc, segments, draws, events_of(judged), tracker, out)
+}
+
+/// A run that ends otherwise.
+fn explain_end(
+    alloc: Global,
+    files: &Files<'_>,
+    program: &Program,
+    bound: &Bound,
+    judged: &Judged,
+    steps: u64,
+    out: &mut Messages,
+) -> Result<(), OutOfMemory> {
+    let tracker = tracked(alloc, files, program, bound, judged, steps)?;
+    match judged.run.end {
+        End::Ended => explain_ended(alloc, program, judged, &tracker, out),
+        End::Undefined(spot) => explain_undefined(alloc, program, judged, spot, out),
+        End::Spent => explain_spent(alloc, &tracker, steps, out),
+        End::Deep => explain_deep(alloc, &tracker, out),
+        End::Violated(_) => Ok(()),
+    }
+}
+
+/// The run that the segments give, by its end.
+fn explain_run(
+    alloc: Global,
+    files: &Files<'_>,
+    program: &Program,
+    witness: &Witness,
+    bound: &Bound,
+    steps: u64,
+    out: &mut Messages,
+) -> Result<(), OutOfMemory> {
+    let judged = judged_run(alloc, program, bound, steps)?;
+    match judged.run.end {
+        End::Violated(_) => explain_violated(
+            alloc, files, program, witness, bound, &judged, steps, out,
+        ),
+        _ => explain_end(alloc, files, program, bound, &judged, steps, out),
+    }
+}
+
+/// What there is to say of a program and a violation sequence about it.
+pub fn explain_sequence(
+    alloc: Global,
+    files: &Files<'_>,
+    program: &Program,
+    witness: &Witness,
+    steps: u64,
+    out: &mut Messages,
+) -> Result<(), OutOfMemory> {
+    match bind(alloc, witness, program) {
+        Ok(bound) => explain_run(alloc, files, program, witness, &bound, steps, out),
+        Err(fault) => explain_unbound(alloc, files, program, witness, fault, out),
+    }
+}

@@ -1,0 +1,23 @@
+//! What a person is shown of a verdict: messages with their places in the files that were judged, in the form of compilers. Files and
+//! witnesses are hostile: whatever is printed of them is printed as text, without control characters.
+#![tactic(auto)]
+
+mod files;
+mod growing;
+mod lines;
+mod listing;
+mod message;
+mod noted;
+mod printed;
+mod report;
+mod rules;
+
+pub use files::Files;
+pub use growing::{Growing, last_holding};
+pub use lines::{line_of, offset_of, spot_at};
+pub use listing::push_listing;
+pub use message::{File, Level, Message, Messages};
+pub use noted::{by_line, parted_at};
+pub use printed::{push_caret, push_printable};
+pub use report::push_message;
+pub use rules::{advice, wanted_place};

@@ -1,0 +1,99 @@
+// A confirmation as gcov prints a run: each line of the program with how often it was reached, and the notes below their lines.
+use crate::files::Files;
+use crate::message::{File, Message, Messages};
+use crate::noted::{by_line, parted_at};
+use crate::printed::{push_caret, push_printable};
+use c_core::Spot;
+use std::alloc::Global;
+use wv_base::OutOfMemory;
+
+/// So many bytes of a line are shown.
+const WIDEST: usize = 240;
+
+fn push_count(out: &mut String, count: Option<&u64>) -> Result<(), OutOfMemory> {
+    match count {
+        Some(count) if *count > 0 => write!(out, "{count:9}:")?,
+        _ => out.push_str("        -:")?,
+    }
+    Ok(())
+}
+
+/// A note below its line, with a caret at its column.
+fn push_note(
+    alloc: Global,
+    out: &mut String,
+    line: &[u8],
+    spot: Spot,
+    text: &str,
+) -> Result<(), OutOfMemory> {
+    let column = (spot.column as usize).saturating_sub(1).min(WIDEST);
+    out.push_str("                ")?;
+    push_caret(alloc, out, line.get(..column).unwrap_or(line))?;
+    out.push_str(" ")?;
+    push_printable(alloc, out, text.as_bytes())?;
+    out.push_str("\n")?;
+    Ok(())
+}
+
+/// The notes about a line of the program, by their numbers.
+fn push_notes(
+    alloc: Global,
+    out: &mut String,
+    line: &[u8],
+    places: &[(u32, usize)],
+    messages: &[Message],
+) -> Result<(), OutOfMemory> {
+    for place in places {
+        let (_, index) = *place;
+        if let Some(message) = messages.get(index) {
+            if let Some(spot) = message.spot {
+                push_note(alloc, out, line, spot, message.text.as_str())?;
+            }
+        }
+    }
+    Ok(())
+}
+
+fn push_line(
+    alloc: Global,
+    out: &mut String,
+    line: &[u8],
+    number: u32,
+    count: Option<&u64>,
+) -> Result<(), OutOfMemory> {
+    push_count(out, count)?;
+    write!(out, "{number:5}:")?;
+    push_printable(alloc, out, line.get(..WIDEST).unwrap_or(line))?;
+    out.push_str("\n")?;
+    Ok(())
+}
+
+/// A text without the end of its last line.
+fn without_last_end(text: &[u8]) -> &[u8] {
+    match text {
+        [front @ .., b'\n'] => front,
+        _ => text,
+    }
+}
+
+/// Appends the program line by line, with counts and notes. A count of 0 is a dash, as that of a line without a statement.
+pub fn push_listing(
+    alloc: Global,
+    out: &mut String,
+    files: &Files<'_>,
+    messages: &Messages,
+) -> Result<(), OutOfMemory> {
+    let counts = messages.counts().unwrap_or(&[]);
+    let places = by_line(alloc, messages.as_slice(), File::Program)?;
+    let mut later = places.as_slice();
+    let mut number = 0u32;
+    for line in without_last_end(files.text(File::Program)).split(|byte| *byte == b'\n') {
+        let count = counts.get(number as usize);
+        number = number.saturating_add(1);
+        let (here, behind) = parted_at(later, number);
+        later = behind;
+        push_line(alloc, out, line, number, count)?;
+        push_notes(alloc, out, line, here, messages.as_slice())?;
+    }
+    Ok(())
+}

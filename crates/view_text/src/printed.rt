@@ -1,0 +1,48 @@
+// Texts of files as they may be printed.
+use std::alloc::Global;
+use wv_base::OutOfMemory;
+
+/// What stands for a character that isn't printed.
+const OTHER: char = '\u{fffd}';
+
+/// Whether a terminal or an editor may take a character for a command, or for a change of direction.
+fn is_hidden(c: char) -> bool {
+    match c {
+        '\u{0}'..='\u{1f}' | '\u{7f}'..='\u{9f}' => true,
+        '\u{61c}' | '\u{200b}'..='\u{200f}' | '\u{2028}'..='\u{202e}' => true,
+        '\u{2060}'..='\u{206f}' | '\u{feff}' | '\u{fff9}'..='\u{fffb}' => true,
+        _ => false,
+    }
+}
+
+fn printable(c: char) -> char {
+    if c != '\t' && is_hidden(c) { OTHER } else { c }
+}
+
+/// A line without a carriage return at its end.
+fn without_return(line: &[u8]) -> &[u8] {
+    match line {
+        [front @ .., b'\r'] => front,
+        _ => line,
+    }
+}
+
+/// Appends bytes as one line of text: a tab stays, a carriage return at the end isn't shown, and what isn't printable or no UTF-8 is
+/// U+FFFD.
+pub fn push_printable(alloc: Global, out: &mut String, bytes: &[u8]) -> Result<(), OutOfMemory> {
+    let text = String::from_utf8_lossy(alloc, without_return(bytes))?;
+    for c in text.as_str().chars() {
+        out.push(printable(c))?;
+    }
+    Ok(())
+}
+
+/// Appends blanks for these bytes, and tabs for their tabs, and then a caret.
+pub fn push_caret(alloc: Global, out: &mut String, before: &[u8]) -> Result<(), OutOfMemory> {
+    let text = String::from_utf8_lossy(alloc, before)?;
+    for c in text.as_str().chars() {
+        out.push(if c == '\t' { '\t' } else { ' ' })?;
+    }
+    out.push_str("^")?;
+    Ok(())
+}

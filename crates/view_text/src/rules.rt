@@ -1,0 +1,63 @@
+// What each code says and what may stand there, in one sentence.
+
+/// What a refusal says, by its code.
+pub fn advice(code: &str) -> &'static str {
+    match code {
+        "fault" => "this file isn't there, or can't be read",
+        "usage" => "the words of the command line are misused",
+        "too-long" =>
+            "the file is too long: 1,048,576 bytes of a program or a witness, 4,096 of a property",
+        "property" => "the file holds neither the property of unreach-call nor that of no-overflow",
+        "yaml-bytes" => "no such character may stand in a witness",
+        "yaml-grammar" =>
+            "the witness can be read up to here: what follows is outside the YAML that is read (no anchors, aliases, tags, directives, second documents, tabs as indentation; no GraphML)",
+        "yaml-duplicate" => "this key stands twice in its map",
+        "schema-missing" => "a key is missing here",
+        "schema-kind" => "a value of another kind has to stand here",
+        "schema-value" => "this text may not stand here",
+        "schema-version" => "the version of the format has to be \"2.0\"",
+        "schema-shape" =>
+            "a segment is waypoints to avoid and then one to follow; a target is the follow of the last segment and stands nowhere else",
+        "schema-entries" => "a witness is one violation sequence, or invariant sets alone",
+        "files" => "an entry names one input file, and one hash, whose key is that file's name",
+        "hash" => "the witness was made for other bytes of the program",
+        "specification" =>
+            "this isn't the property that was handed in: its whole text, or its inner formula, has to stand here",
+        "language" => "the language has to be C",
+        "model" => "the data model has to be ILP32 or LP64, and that of the first entry",
+        "uuid" => "this is no identifier of RFC 9562",
+        "token" => "no token of integer C stands here",
+        "directive" =>
+            "a directive that isn't passed over: run the preprocessor first (#include, #line, #pragma and line markers are passed over)",
+        "syntax" => "the grammar can't take this token",
+        "check-name" =>
+            "this word names no object in scope, and no function that was declared before",
+        "check-again" =>
+            "this name is declared in this scope already, or this label in this function",
+        "check-typing" =>
+            "a rule on types is broken here: of operands, of arguments, of an initializer, or of return, break or continue",
+        "check-size" =>
+            "an array has a constant size from 1 to 256, and at most as many initializers",
+        "check-order" =>
+            "operands without an order change or read one object here, or call two functions that are defined in this file: give each its own statement",
+        "check-body" => "this function has no body here, and isn't one of those that are built in",
+        "check-main" => "main is missing, has parameters, or gives something other than int",
+        "check-cells" => "with this declaration all objects have more than 100,000 cells",
+        "recursion" =>
+            "main reaches a cycle of calls, on which this function lies: invariants are judged of programs without recursion",
+        "weight" => "the obligations are too big as a circuit",
+        _ => "this release doesn't judge this form",
+    }
+}
+
+/// Where a waypoint or an invariant of a type has to stand.
+pub fn wanted_place(kind: &str) -> &'static str {
+    match kind {
+        "assumption" | "location_invariant" =>
+            "the first character of a statement or of a declaration in a block",
+        "loop_invariant" => "the first character of while, for or do",
+        "branching" => "the first character of if, while, for or do, or the ? of a conditional",
+        "function_enter" | "function_return" => "the closing parenthesis of a call",
+        _ => "the first character of a statement, of a full expression or of a call of reach_error",
+    }
+}

@@ -1,0 +1,209 @@
+// What is wrong in a witness that can't be read, or doesn't meet the schema.
+use crate::paths::{Step, place_of_path, reached, steps_of};
+use crate::stopping::{first_bad, repeated_at, stopped_at};
+use c_core::Spot;
+use std::alloc::Global;
+use view_text::{File, Messages, advice, spot_at};
+use wv_base::OutOfMemory;
+use wv_schema::SchemaFault;
+use wv_yaml::{Tree, YamlFault};
+
+/// The code of a text that spells no tree, and the place where that shows.
+fn yaml_place(
+    alloc: Global,
+    text: &[u8],
+    fault: YamlFault,
+) -> Result<(&'static str, Spot), OutOfMemory> {
+    match fault {
+        YamlFault::Bytes => Ok(("yaml-bytes", spot_at(text, first_bad(text)))),
+        YamlFault::Grammar => Ok(("yaml-grammar", stopped_at(alloc, text)?)),
+        YamlFault::Duplicate => Ok(("yaml-duplicate", repeated_at(alloc, text)?)),
+        YamlFault::OutOfMemory => Err(OutOfMemory),
+    }
+}
+
+/// A witness whose bytes spell no tree.
+pub fn explain_yaml(
+    alloc: Global,
+    text: &[u8],
+    fault: YamlFault,
+    out: &mut Messages,
+) -> Result<(), OutOfMemory> {
+    let (code, spot) = yaml_place(alloc, text, fault)?;
+    let told = String::from_str(alloc, advice(code))?;
+    out.error(code, File::Witness, Some(spot), told)
+}
+
+/// What may stand at a path, by its last keys.
+fn allowed(path: &str) -> &'static str {
+    if path.ends_with("entry_type") {
+        "violation_sequence or invariant_set"
+    } else if path.ends_with("waypoint.type") {
+        "assumption, target, function_enter, function_return or branching"
+    } else if path.ends_with("invariant.type") {
+        "loop_invariant or location_invariant"
+    } else if path.ends_with("action") {
+        "follow or avoid"
+    } else if path.ends_with(".format") {
+        "c_expression, acsl_expression or ext_c_expression"
+    } else if path.ends_with("constraint.value") {
+        "true or false, the way that the branching takes"
+    } else if path.ends_with("line") || path.ends_with("column") {
+        "a number of 1 to 7 digits, at least 1"
+    } else {
+        "docs/FORMATS.md lists what may stand there"
+    }
+}
+
+/// The kind of value that a path wants.
+fn kind_at(path: &str) -> &'static str {
+    if path.ends_with("]") || path.ends_with("metadata") || path.ends_with("producer") {
+        "a map"
+    } else if path.ends_with("task") || path.ends_with("location") || path.ends_with("hashes") {
+        "a map"
+    } else if path.ends_with("waypoint") || path.ends_with(".invariant") {
+        "a map"
+    } else if path.ends_with("constraint") {
+        "a map"
+    } else if path.ends_with("witness") || path.ends_with("content") {
+        "a list"
+    } else if path.ends_with("segment") || path.ends_with("input_files") {
+        "a list"
+    } else {
+        "a text"
+    }
+}
+
+/// The steps without the last.
+fn parent<'a>(steps: &'a [Step<'a>]) -> &'a [Step<'a>] {
+    steps.get(..steps.len().saturating_sub(1)).unwrap_or(&[])
+}
+
+fn missing(alloc: Global, text: &[u8], path: &str, out: &mut Messages) -> Result<(), OutOfMemory> {
+    let steps = steps_of(alloc, path)?;
+    let spot = place_of_path(alloc, text, parent(steps.as_slice()))?;
+    let told = format!(in alloc;
+        "the key {path} is missing: it belongs into the map that begins here"
+    )?;
+    out.error("schema-missing", File::Witness, Some(spot), told)
+}
+
+fn wrong_kind(
+    alloc: Global,
+    text: &[u8],
+    path: &str,
+    out: &mut Messages,
+) -> Result<(), OutOfMemory> {
+    let steps = if path == "witness" {
+        Vec::new(alloc)
+    } else {
+        steps_of(alloc, path)?
+    };
+    let spot = place_of_path(alloc, text, steps.as_slice())?;
+    let kind = kind_at(path);
+    let told = format!(in alloc; "{path} has a value of another kind: {kind} has to stand here")?;
+    out.error("schema-kind", File::Witness, Some(spot), told)
+}
+
+/// The text at a path, where one stands there.
+fn text_at<'t>(tree: &'t Tree, steps: &[Step<'_>]) -> &'t str {
+    match reached(tree, steps) {
+        Some(Tree::Text(text)) => text.as_str(),
+        _ => "",
+    }
+}
+
+fn bad_value(
+    alloc: Global,
+    text: &[u8],
+    tree: &Tree,
+    path: &str,
+    out: &mut Messages,
+) -> Result<(), OutOfMemory> {
+    let steps = steps_of(alloc, path)?;
+    let spot = place_of_path(alloc, text, steps.as_slice())?;
+    let stands = text_at(tree, steps.as_slice());
+    let may = allowed(path);
+    let told = format!(in alloc; "{path} is `{stands}`: may be {may}")?;
+    out.error("schema-value", File::Witness, Some(spot), told)
+}
+
+/// The first entry that states another version than 2.0.
+fn other_version(tree: &Tree) -> usize {
+    let Tree::List(items) = tree else {
+        return 0;
+    };
+    for (index, item) in items.as_slice().iter().enumerate() {
+        let steps = [Step::Key("metadata"), Step::Key("format_version")];
+        if text_at(item, &steps) != "2.0" {
+            return index;
+        }
+    }
+    0
+}
+
+fn version(alloc: Global, text: &[u8], tree: &Tree, out: &mut Messages) -> Result<(), OutOfMemory> {
+    let steps = [
+        Step::Item(other_version(tree)),
+        Step::Key("metadata"),
+        Step::Key("format_version"),
+    ];
+    let spot = place_of_path(alloc, text, &steps)?;
+    let stands = text_at(tree, &steps);
+    let told = format!(in alloc; "the version of the format is `{stands}`: it has to be \"2.0\"")?;
+    out.error("schema-version", File::Witness, Some(spot), told)
+}
+
+/// The first entry that is a violation sequence.
+fn first_sequence(tree: &Tree) -> usize {
+    let Tree::List(items) = tree else {
+        return 0;
+    };
+    for (index, item) in items.as_slice().iter().enumerate() {
+        if text_at(item, &[Step::Key("entry_type")]) == "violation_sequence" {
+            return index;
+        }
+    }
+    0
+}
+
+fn shape(
+    alloc: Global,
+    text: &[u8],
+    tree: &Tree,
+    number: u32,
+    out: &mut Messages,
+) -> Result<(), OutOfMemory> {
+    let steps = [
+        Step::Item(first_sequence(tree)),
+        Step::Key("content"),
+        Step::Item((number as usize).saturating_sub(1)),
+    ];
+    let spot = place_of_path(alloc, text, &steps)?;
+    let rule = advice("schema-shape");
+    let told = format!(in alloc; "segment {number}: {rule}")?;
+    out.error("schema-shape", File::Witness, Some(spot), told)
+}
+
+/// A tree that is no witness: the path, its place, and what may stand there.
+pub fn explain_schema(
+    alloc: Global,
+    text: &[u8],
+    tree: &Tree,
+    fault: &SchemaFault,
+    out: &mut Messages,
+) -> Result<(), OutOfMemory> {
+    match fault {
+        SchemaFault::Missing(path) => missing(alloc, text, path.as_str(), out),
+        SchemaFault::WrongKind(path) => wrong_kind(alloc, text, path.as_str(), out),
+        SchemaFault::BadValue(path) => bad_value(alloc, text, tree, path.as_str(), out),
+        SchemaFault::Version => version(alloc, text, tree, out),
+        SchemaFault::Shape(number) => shape(alloc, text, tree, *number, out),
+        SchemaFault::Entries => {
+            let spot = Spot { line: 1, column: 1 };
+            let told = String::from_str(alloc, advice("schema-entries"))?;
+            out.error("schema-entries", File::Witness, Some(spot), told)
+        }
+        SchemaFault::OutOfMemory => Err(OutOfMemory),
+    }
+}

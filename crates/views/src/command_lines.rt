@@ -1,0 +1,28 @@
+// Rows of command lines: their words and their files.
+use row_files::{Files, NotTried, Row, program, witness};
+use std::alloc::Global;
+use wv_base::{MemoryShelf, OutOfMemory};
+
+/// The words of a command line, which stand between single blanks.
+pub fn words(alloc: Global, line: &str) -> Result<Vec<String>, OutOfMemory> {
+    let mut words = Vec::new(alloc);
+    for word in line.split(' ') {
+        words.push(String::from_str(alloc, word)?)?;
+    }
+    Ok(words)
+}
+
+/// The files that a row gives: its program is `p`, its property is `q`, its witness is `w`.
+pub fn shelf(files: &impl Files, row: &Row) -> Result<MemoryShelf, NotTried> {
+    let mut shelf = MemoryShelf::new(files.alloc(), 4096);
+    if let Some(program) = program(files, row)? {
+        shelf.put("p", program.as_slice())?;
+    }
+    if let Some(property) = row.bytes("property") {
+        shelf.put("q", property)?;
+    }
+    if let Some(witness) = witness(files, row)? {
+        shelf.put("w", witness.as_slice())?;
+    }
+    Ok(shelf)
+}

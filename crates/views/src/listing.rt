@@ -1,0 +1,43 @@
+// Rows of lists: a command line, a list and its files, and behind them the status and the lines that are printed.
+use crate::command_lines::{shelf, words};
+use row_files::{Files, NotTried, Row};
+use std::alloc::Global;
+use view_judging::{Asked, Progress, Stop, judge_lines, read_words};
+use wv_arguments::Budgets;
+use wv_base::MemorySink;
+
+/// Nobody is told.
+#[derive(Drop)]
+struct Quiet;
+
+impl Progress for Quiet {
+    fn begins(&mut self, _number: usize, _total: usize) {}
+}
+
+fn status_of(judged: Result<u8, Stop>) -> u8 {
+    match judged {
+        Ok(status) => status,
+        Err(stop) => stop.status(),
+    }
+}
+
+fn listed(files: &impl Files, row: &Row, budgets: Budgets) -> Result<String, NotTried> {
+    let alloc = files.alloc();
+    let mut shelf = shelf(files, row)?;
+    let mut out = MemorySink::new(alloc, 65536, 4096)?;
+    let list = row.wanted_text("text")?;
+    let judged = judge_lines(alloc, list, budgets, &mut shelf, &mut out, &mut Quiet);
+    let status = status_of(judged);
+    let lines = String::from_utf8_lossy(alloc, out.bytes())?;
+    Ok(format!(in alloc; "{status} {lines}")?)
+}
+
+/// The status, and behind a blank what is printed.
+pub fn told(files: &impl Files, row: &Row) -> Result<String, NotTried> {
+    let alloc: Global = files.alloc();
+    let words = words(alloc, row.wanted_text("words")?)?;
+    match read_words(alloc, words.as_slice())? {
+        Asked::List { budgets, .. } => listed(files, row, budgets),
+        _ => Err(NotTried::Lacks("the words for a list")),
+    }
+}

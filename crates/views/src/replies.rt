@@ -1,0 +1,41 @@
+// The reply of the top call to the files of a row.
+use crate::command_lines::shelf;
+use row_files::{Files, NotTried, Row};
+use std::alloc::Global;
+use std::str;
+use witval::run;
+use wv_base::{MemorySink, OutOfMemory};
+
+/// Whether a word of the viewer's is one of `validate` too.
+fn is_shared(word: &str) -> bool {
+    word != "validate" && word != "--sarif" && word != "--html"
+}
+
+/// The viewer's words as those of `validate`.
+fn validate_words(alloc: Global, line: &str) -> Result<Vec<String>, OutOfMemory> {
+    let mut words = Vec::new(alloc);
+    words.push(String::from_str(alloc, "witval")?)?;
+    words.push(String::from_str(alloc, "validate")?)?;
+    for word in line.split(' ').skip(1) {
+        if is_shared(word) {
+            words.push(String::from_str(alloc, word)?)?;
+        }
+    }
+    Ok(words)
+}
+
+/// Whether a text begins with the status and the reply of the top call.
+pub fn begins_with_reply(files: &impl Files, row: &Row, text: &str) -> Result<bool, NotTried> {
+    let alloc = files.alloc();
+    let words = validate_words(alloc, row.wanted_text("words")?)?;
+    let mut shelf = shelf(files, row)?;
+    let mut out = MemorySink::new(alloc, 65536, 4096)?;
+    let status = run(alloc, &words, &mut shelf, &mut out);
+    match str::from_utf8(out.bytes()) {
+        Ok(reply) => {
+            let wanted = format!(in alloc; "{status} {reply}")?;
+            Ok(text.as_bytes().starts_with(wanted.as_bytes()))
+        }
+        Err(_) => Ok(false),
+    }
+}

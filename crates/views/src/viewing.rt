@@ -1,0 +1,71 @@
+// Rows of views: a command line and its files, and behind them the status and what is printed.
+use crate::command_lines::{shelf, words};
+use crate::replies::begins_with_reply;
+use crate::sarif::lacking;
+use row_files::{Files, NotTried, Row};
+use std::alloc::Global;
+use view_judging::{Asked, Form, read_words, shown, usage_reply};
+use wv_arguments::{Budgets, Names};
+use wv_base::OutOfMemory;
+
+/// What is shown of files in one form, with its status before it.
+fn shown_as(
+    files: &impl Files,
+    row: &Row,
+    names: &Names<'_>,
+    budgets: Budgets,
+    form: Form,
+) -> Result<String, NotTried> {
+    let alloc = files.alloc();
+    let shown = shown(alloc, names, budgets, form, shelf(files, row)?)?;
+    let status = shown.status;
+    let text = String::from_utf8_lossy(alloc, shown.bytes.as_slice())?;
+    Ok(format!(in alloc; "{status} {text}")?)
+}
+
+/// The same, where the reply stands before all else and the log lacks nothing.
+fn judged(
+    files: &impl Files,
+    row: &Row,
+    names: &Names<'_>,
+    budgets: Budgets,
+    form: Form,
+) -> Result<String, NotTried> {
+    let text = shown_as(files, row, names, budgets, Form::Text)?;
+    if !begins_with_reply(files, row, text.as_str())? {
+        return Ok(format!(in files.alloc(); "the reply isn't that of `run`: {text}")?);
+    }
+    let log = shown_as(files, row, names, budgets, Form::Sarif)?;
+    if let Some(member) = lacking(files.alloc(), log.as_str())? {
+        return Ok(format!(in files.alloc(); "the log lacks {member}: {log}")?);
+    }
+    match form {
+        Form::Text => Ok(text),
+        Form::Sarif => Ok(log),
+        Form::Html => shown_as(files, row, names, budgets, form),
+    }
+}
+
+/// The validator's reply to misused words, and what goes to standard error.
+fn misused(alloc: Global, told: &str) -> Result<String, OutOfMemory> {
+    let replied = usage_reply(alloc)?;
+    let status = replied.status;
+    let reply = String::from_utf8_lossy(alloc, replied.reply.as_slice())?;
+    Ok(format!(in alloc; "{status} {reply}{told}")?)
+}
+
+/// The status, and behind a blank what is printed.
+pub fn told(files: &impl Files, row: &Row) -> Result<String, NotTried> {
+    let alloc = files.alloc();
+    let words = words(alloc, row.wanted_text("words")?)?;
+    match read_words(alloc, words.as_slice())? {
+        Asked::Judge {
+            names,
+            budgets,
+            form,
+        } => judged(files, row, &names, budgets, form),
+        Asked::Help(text) => Ok(format!(in alloc; "0 {text}")?),
+        Asked::Misuse(text) => Ok(misused(alloc, text.as_str())?),
+        Asked::List { .. } => Err(NotTried::Lacks("files, or it is a list")),
+    }
+}

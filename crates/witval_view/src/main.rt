@@ -1,0 +1,61 @@
+//! The program that shows a verdict in the files that were judged: the words, the files and standard output of the process, handed to
+//! the calls of the crate below.
+#![tactic(auto)]
+
+mod listing;
+
+use listing::judge_list;
+use std::alloc::Global;
+use std::process::ExitCode;
+use view_judging::{Asked, read_words, shown, usage_reply};
+use wv_base::write_all;
+use wv_process::{FileShelf, OutSink, words_of};
+
+/// Writes all bytes to standard output; the status that the program ends with.
+fn written(rt: &HostRuntime, bytes: &[u8], status: u8) -> u8 {
+    let mut out = OutSink::new(rt);
+    match write_all(&mut out, bytes) {
+        Ok(()) => status,
+        Err(_) => 5,
+    }
+}
+
+/// The answer to misused words: the validator's on standard output, what is wrong on standard error.
+fn misused(rt: &HostRuntime, alloc: Global, text: &str) -> u8 {
+    match usage_reply(alloc) {
+        Ok(replied) => {
+            let _ = rt.eprint(text);
+            written(rt, replied.reply.as_slice(), replied.status)
+        }
+        Err(_) => 6,
+    }
+}
+
+/// The status of what is asked for, once it is answered.
+fn answered(rt: &HostRuntime, alloc: Global, asked: &Asked<'_>) -> u8 {
+    match asked {
+        Asked::Judge {
+            names,
+            budgets,
+            form,
+        } => match shown(alloc, names, *budgets, *form, FileShelf::new(rt, alloc)) {
+            Ok(shown) => written(rt, shown.bytes.as_slice(), shown.status),
+            Err(_) => 6,
+        },
+        Asked::List { name, budgets } => judge_list(rt, alloc, *name, *budgets),
+        Asked::Help(text) => written(rt, text.as_bytes(), 0),
+        Asked::Misuse(text) => misused(rt, alloc, text.as_str()),
+    }
+}
+
+fn main(rt: HostRuntime) -> ExitCode {
+    let alloc = rt.alloc();
+    let words = match words_of(&rt, alloc) {
+        Ok(words) => words,
+        Err(status) => return ExitCode::from(status),
+    };
+    match read_words(alloc, words.as_slice()) {
+        Ok(asked) => ExitCode::from(answered(&rt, alloc, &asked)),
+        Err(_) => ExitCode::from(6),
+    }
+}
