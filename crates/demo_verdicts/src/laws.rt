@@ -2,7 +2,9 @@
 ghost use Rattle.std.specs.Prelude.{◌≤◌, ℕ};
 ghost use Rattle.c_core.specs.declared.number.DataModel.TheVariants.{Ilp32};
 ghost use Rattle.c_core.specs.declared.number.Property.TheVariants.{UnreachCall};
-ghost use Rattle.demo_verdicts.specs.Confirming.{ConfirmsDemo, IsVerdict};
+ghost use Rattle.demo_verdicts.specs.Confirming.{ConfirmsDemo, IsConfirmed, IsVerdict};
+ghost use Rattle.witval.specs.Demos.{IsDemonstration};
+ghost use Rattle.witval.specs.declared.demonstration.Demonstration.{Demonstration};
 ghost use Rattle.witval.specs.inside.Rests.{RightOnText};
 ghost use Rattle.wv_arguments.specs.Words.{Budgets};
 ghost use Rattle.wv_author.specs.Demo.{AreWithin, demo_of};
@@ -15,6 +17,7 @@ use demo_binding::{sets_are_bound, sets_can_be_judged, violations_are_bound};
 use demo_checks::demos_are_checked;
 use demo_laws::{demos_are_parsed, demos_are_tokens, demos_have_bounds};
 use demo_run::{demos_are_confirmed, demos_are_typed};
+use wv_author::demos_are_within;
 
 /// From the tokens on no stage refuses a demo: the reply to the correct program of a number, with its invariants, is a verdict.
 pub fn correct_demos_are_judged()
@@ -47,4 +50,14 @@ pub fn faulty_demos_are_confirmed()
     demos_are_typed();
     violations_are_bound();
     demos_are_confirmed();
+}
+
+/// So what the mode `demo` tells of a number is two verdicts: no refusal applies to its programs and witnesses, and with 100,000 steps
+/// or more the second confirms the violation.
+pub fn demonstrations_are_confirmed()
+    ensures { (n : ℕ) (budgets : Budgets) (demo : Demonstration) → n ≤ 999999 → IsDemonstration n budgets demo → IsConfirmed n budgets demo }
+{
+    demos_are_within();
+    correct_demos_are_judged();
+    faulty_demos_are_confirmed();
 }

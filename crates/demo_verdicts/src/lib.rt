@@ -3,4 +3,6 @@
 
 mod laws;
 
-pub use laws::{correct_demos_are_judged, faulty_demos_are_confirmed};
+pub use laws::{
+    correct_demos_are_judged, demonstrations_are_confirmed, faulty_demos_are_confirmed,
+};
