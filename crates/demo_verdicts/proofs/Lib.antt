@@ -1,3 +1,4 @@
 pub mod Stages
 pub mod FaultyDemo
 pub mod CorrectDemo
+pub mod Within

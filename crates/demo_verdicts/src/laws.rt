@@ -17,7 +17,6 @@ use demo_binding::{sets_are_bound, sets_can_be_judged, violations_are_bound};
 use demo_checks::demos_are_checked;
 use demo_laws::{demos_are_parsed, demos_are_tokens, demos_have_bounds};
 use demo_run::{demos_are_confirmed, demos_are_typed};
-use wv_author::demos_are_within;
 
 /// From the tokens on no stage refuses a demo: the reply to the correct program of a number, with its invariants, is a verdict.
 pub fn correct_demos_are_judged()
@@ -57,7 +56,7 @@ pub fn faulty_demos_are_confirmed()
 pub fn demonstrations_are_confirmed()
     ensures { (n : ℕ) (budgets : Budgets) (demo : Demonstration) → n ≤ 999999 → IsDemonstration n budgets demo → IsConfirmed n budgets demo }
 {
-    demos_are_within();
+    demos_have_bounds();
     correct_demos_are_judged();
     faulty_demos_are_confirmed();
 }

@@ -2,11 +2,9 @@
 //! defines for the number.
 #![tactic(auto)]
 
-mod laws;
 mod making;
 mod programs;
 mod sequence;
 mod witnesses;
 
-pub use laws::demos_are_within;
 pub use making::{Made, demo};
