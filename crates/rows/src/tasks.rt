@@ -121,11 +121,10 @@ fn witness_of(alloc: Global, rows: &str) -> Result<Witness, OutOfMemory> {
 pub fn told(files: &impl Files, row: &Row) -> Result<String, NotTried> {
     let alloc = files.alloc();
     let witness = witness_of(alloc, row.wanted_text("text")?)?;
-    let text = program(files, row)?;
-    let bytes = match &text {
-        Some(bytes) => bytes.as_slice(),
-        None => b"",
+    let Some(text) = program(files, row)? else {
+        return Err(NotTried::Lacks("a program"));
     };
+    let bytes = text.as_slice();
     if witness.entries.len() == 0 || bytes.len() > MAX_LENGTH {
         return Err(NotTried::Lacks("entries about a short program"));
     }
