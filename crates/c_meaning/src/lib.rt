@@ -2,7 +2,6 @@
 #![tactic(auto)]
 
 mod laws;
-mod layout;
 mod memory;
 mod numbers;
 mod run;

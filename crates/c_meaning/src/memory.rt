@@ -2,7 +2,6 @@ ghost use Rattle.std.specs.Prelude.{◌≡◌, ◌≤◌, ◌<◌, ◌++◌, ◌
 ghost use Rattle.c_meaning.specs.Cells.{Key, Cell, same_key, live, found, put};
 ghost use Rattle.c_meaning.specs.Memory.{cells_of, IsInnermost};
 
-use crate::layout::Layout;
 use crate::slots::{Entry, place_in, seek, slot_of, table};
 use std::alloc::Global;
 use std::marker::Model;
@@ -17,15 +16,12 @@ pub struct Live {
     pub hides: Option<usize>,
 }
 
-/// The live cells of objects, the innermost last, and where the innermost cell of each name lies: names of a layout in a list of
-/// places, others in a table.
+/// The live cells of objects, the innermost last, and a table from names to the places of the innermost cells.
 #[derive(Debug, Drop)]
 pub struct Memory {
     alloc: Global,
     cells: Vec<Live>,
     slots: Vec<Option<Entry>>,
-    layout: Layout,
-    places: Vec<Option<usize>>,
 }
 
 impl Model for Memory {
@@ -49,37 +45,6 @@ impl Memory {
             alloc,
             cells: Vec::new(alloc),
             slots: Vec::new(alloc),
-            layout: Layout::new(alloc),
-            places: Vec::new(alloc),
-        }
-    }
-
-    /// Gives each name of objects of these sizes a place of its own, where its innermost cell is found without a search.
-    pub fn lay_out(&mut self, sizes: &[u32]) -> Result<(), OutOfMemory> {
-        self.cut(0);
-        self.layout.fill(sizes)?;
-        self.places.clear();
-        self.places.resize(self.layout.len(), None)?;
-        Ok(())
-    }
-
-    // Where the innermost cell of a name lies, if there is one.
-    #[inline(always)]
-    fn find(&self, object: u32, index: u32) -> Option<usize> {
-        match self.layout.slot(object, index) {
-            Some(slot) => self.places[slot],
-            None => self.find_hashed(object, index),
-        }
-    }
-
-    // From now on the innermost cell of a name lies there, if anywhere.
-    fn place(&mut self, object: u32, index: u32, place: Option<usize>) {
-        match self.layout.slot(object, index) {
-            Some(slot) => self.places[slot] = place,
-            None => {
-                let at = seek(self.slots.as_slice(), object, index);
-                self.slots[at] = slot_of(object, index, place);
-            }
         }
     }
 
@@ -125,7 +90,6 @@ impl Memory {
     }
 
     /// The innermost such cell's value, where one is live.
-    #[inline(always)]
     pub fn cell(&self, object: u32, index: u32) -> Option<i128>
         ensures { result ≡ found (record { object = object; index = index }) self.now.cells }
     {
@@ -136,7 +100,6 @@ impl Memory {
     }
 
     /// Writes the innermost such cell, where one is live.
-    #[inline(always)]
     pub fn set(&mut self, object: u32, index: u32, value: i128)
         ensures cells { self.new.cells ≡ put (record { object = object; index = index }) value self.old.cells }
         ensures kept { self.old.room ≤ self.new.room }
@@ -147,8 +110,7 @@ impl Memory {
     }
 
     // Where the innermost such cell lies.
-    #[inline(never)]
-    fn find_hashed(&self, object: u32, index: u32) -> Option<usize>
+    fn find(&self, object: u32, index: u32) -> Option<usize>
         ensures { MatchOption result (live (record { object = object; index = index }) self.now.cells ≡ false) (IsInnermost (record { object = object; index = index }) self.now.cells) }
     {
         if self.cells.len() == 0 {
@@ -180,14 +142,14 @@ impl Memory {
         ensures ok { IsOk result }
     {
         let place = self.cells.len();
-        let hides = self.find(object, index);
+        let at = seek(self.slots.as_slice(), object, index);
         self.cells.push(Live {
             object,
             index,
             value,
-            hides,
+            hides: place_in(self.slots[at]),
         })?;
-        self.place(object, index, Some(place));
+        self.slots[at] = slot_of(object, index, Some(place));
         Ok(())
     }
 
@@ -197,7 +159,8 @@ impl Memory {
         ensures room { self.new.room ≡ self.old.room }
     {
         if let Some(last) = self.cells.pop() {
-            self.place(last.object, last.index, last.hides);
+            let at = seek(self.slots.as_slice(), last.object, last.index);
+            self.slots[at] = slot_of(last.object, last.index, last.hides);
         }
     }
 
@@ -209,7 +172,7 @@ impl Memory {
         ensures room { OnOk result (self.new.room ≡ size / 2) }
     {
         self.cells.reserve(size / 2 - self.cells.len())?;
-        self.slots = table(self.alloc, self.cells.as_slice(), &self.layout, size)?;
+        self.slots = table(self.alloc, self.cells.as_slice(), size)?;
         Ok(())
     }
 }

@@ -2,7 +2,6 @@
 ghost use Rattle.std.specs.Prelude.{◌≡◌, ◌<◌, ◌≤◌, length, None, IfOk, MatchOption, replicate};
 ghost use Rattle.c_meaning.specs.Slots.{home_of, stops as stops_of, Passes, IsNext, Ends, IsTable, names_of, slot_of as filled, place_in as placed, free};
 
-use crate::layout::Layout;
 use crate::memory::Live;
 use std::alloc::Global;
 use wv_base::OutOfMemory;
@@ -95,12 +94,7 @@ fn empty(alloc: Global, size: usize) -> Result<Vec<Option<Entry>>, OutOfMemory>
 }
 
 /// The table of these cells, with so many slots.
-pub fn table(
-    alloc: Global,
-    cells: &[Live],
-    layout: &Layout,
-    size: usize,
-) -> Result<Vec<Option<Entry>>, OutOfMemory>
+pub fn table(alloc: Global, cells: &[Live], size: usize) -> Result<Vec<Option<Entry>>, OutOfMemory>
     requires { length cells.now < size }
     ensures size { IfOk result (λ t. length t.items ≡ size) }
     ensures table { IfOk result (λ t. IsTable size (names_of cells.now) t.items) }
@@ -108,10 +102,6 @@ pub fn table(
     let mut slots = empty(alloc, size)?;
     let mut place = 0;
     for cell in cells {
-        if layout.slot(cell.object, cell.index).is_some() {
-            place += 1;
-            continue;
-        }
         let at = seek(slots.as_slice(), cell.object, cell.index);
         slots[at] = slot_of(cell.object, cell.index, Some(place));
         place += 1;

@@ -27,6 +27,7 @@ only then = record { store = None; then = then }
 abbrev pub stored_in : Place → IntType → Bool → Then → Into
 stored_in place ty old then = record { store = Some (record { place = place; ty = ty; old = old }); then = then }
 
+-- an operand goes where it is said
 abbrev pub give : ℕ → Operand → Then → Op
 give steps x then = op steps (Give x (only then))
 
@@ -36,6 +37,7 @@ pub record Ready : Type 0 where
   pub operand : Operand
   pub steps : ℕ
 
+-- the same for two operands
 pub record ReadyPair : Type 0 where
   pub ops : List Op
   pub left : Operand
@@ -44,12 +46,20 @@ pub record ReadyPair : Type 0 where
 
 -- an expression that is an operand by itself takes its step with the operation; another is evaluated, its value on the stack
 abbrev pub prepared : Option Operand → ℕ → List Op → Ready
-prepared (Some x) k ops = record { ops = []; operand = x; steps = suc k }
+prepared (Some x) k ops = record { ops = []; operand = x; steps = k + 1 }
 prepared None k ops = record { ops = ops; operand = Top; steps = 0 }
+
+-- an operand that is ready, and the operation that takes it
+abbrev pub taken : Ready → (Operand → Action) → List Op
+taken r f = r.ops ++ op r.steps (f r.operand) ∷ []
+
+-- two operands that are ready, and the operation that takes them
+abbrev pub taken_both : ReadyPair → (Operand → Operand → Action) → List Op
+taken_both r f = r.ops ++ op r.steps (f r.left r.right) ∷ []
 
 -- an operand, and the operation that takes it
 abbrev pub with_operand : Option Operand → ℕ → List Op → (Operand → Action) → List Op
-with_operand y k ops f = (prepared y k ops).ops ++ op (prepared y k ops).steps (f (prepared y k ops).operand) ∷ []
+with_operand y k ops f = taken (prepared y k ops) f
 
 -- operations that put a left operand on the stack, unless it is there
 abbrev pub kept : Operand → ℕ → List Op
@@ -63,19 +73,28 @@ rest x k = 0
 
 -- a right operand, beside a left one that is ready
 abbrev pub paired : Operand → ℕ → Option Operand → List Op → ReadyPair
-paired x k (Some y) ops = record { ops = []; left = x; right = y; steps = suc k }
+paired x k (Some y) ops = record { ops = []; left = x; right = y; steps = k + 1 }
 paired x k None ops = record { ops = kept x k ++ ops; left = Top; right = Top; steps = 0 }
 
 -- a pair behind other operations
-abbrev pub behind : List Op → ReadyPair → Pair
+abbrev pub behind : List Op → ReadyPair → ReadyPair
 behind ops p = record p { ops = ops ++ p.ops }
 
--- a scope around operations, where it is there
+-- the right operand behind a left one that is ready, where its code depends on where it begins and on the steps that are left
+abbrev pub paired_at : ℕ → Ready → Option Operand → (ℕ → ℕ → List Op) → ReadyPair
+paired_at i j y f = behind j.ops (paired j.operand j.steps y (f (i + length j.ops + length (kept j.operand j.steps)) (rest j.operand j.steps)))
+
+-- a scope begins, where it is there
 abbrev pub opened : Bool → List Op
 opened b = cond b (op 0 Open ∷ []) []
 
+-- a scope ends, where it is there
 abbrev pub closed : Bool → List Op
 closed b = cond b (op 0 Close ∷ []) []
+
+-- a scope around operations, where it is there
+abbrev pub scope : Bool → ℕ → (ℕ → List Op) → List Op
+scope b i f = followed i (opened b) f ++ closed b
 
 -- so many scopes end
 abbrev pub all_closed : ℕ → List Op

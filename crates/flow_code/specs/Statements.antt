@@ -13,7 +13,7 @@ use Rattle.flow_code.specs.declared.code.Into.{Into}
 use Rattle.flow_code.specs.declared.code.Action.TheVariants.{Arrive, Jump, Leave, Declare as DeclareOf, Return as ReturnOf}
 use Rattle.flow_code.specs.declared.code.Op.{Op}
 use Rattle.flow_code.specs.declared.statements.Inside.{Inside}
-use Rattle.flow_code.specs.Preparing.{followed, op, stored_in, opened, closed, all_closed}
+use Rattle.flow_code.specs.Preparing.{followed, op, stored_in, scope, all_closed}
 use Rattle.flow_code.specs.Sizes.{size, size_if, size_of_arm, size_of_test, leaks, any_leaks, first_leaks, one_if}
 use Rattle.flow_code.specs.Expressions.{code, stored_code}
 use Rattle.flow_code.specs.Words.{native}
@@ -34,6 +34,11 @@ in_loop again broken w = record w { broken = broken; again = again; inner = 0 }
 abbrev pub jump_out : ℕ → ℕ → List Op
 jump_out n to = all_closed n ++ op 0 (Jump to) ∷ []
 
+-- `return` without a value, out of so many scopes
+abbrev pub leaving : ℕ → List Op
+leaving n = all_closed n ++ op 0 Leave ∷ []
+
+-- a name without an initializer draws its cells' values
 abbrev pub draws : Init → Bool
 draws Absent = true
 draws _ = false
@@ -49,10 +54,12 @@ module _ (p : Program) where
   initial_code i at o j (Expr s u n) =
       stored_code p (record { statement = at; full = s }) i 0 (Expr s u n) (stored_in (Fixed o j) (native p.model (type_of_object p o)) false Drop)
 
+  -- the values of a list
   abbrev pub initials_code : ℕ → Spot → ℕ → ℕ → Exps → List Op
   initials_code i at o j NoExp = []
   initials_code i at o j (MoreExp e es) = followed i (initial_code i at o j e) (λ l. initials_code l at o (j + 1) es)
 
+  -- an initializer
   abbrev pub init_code : ℕ → Spot → ℕ → Init → List Op
   init_code i at o Absent = []
   init_code i at o (One e) = initial_code i at o 0 e
@@ -63,15 +70,18 @@ module _ (p : Program) where
   name_code i at spot o j =
       followed i (op (size_of_object p o) (DeclareOf spot o (size_of_object p o) (type_of_object p o) (draws j)) ∷ []) (λ l. init_code l at o j)
 
+  -- declared names in their order
   abbrev pub names_code : ℕ → Spot → Names → List Op
   names_code i at NoName = []
   names_code i at (MoreName spot o j ns) = followed i (name_code i at spot o j) (λ l. names_code l at ns)
 
+  -- the first part of a `for`
   abbrev pub first_code : ℕ → Spot → First → List Op
   first_code i at NoFirst = []
   first_code i at (FirstExp e) = code p (full_of at e) i 0 Unused e Drop
   first_code i at (FirstNames ns) = names_code i at ns
 
+  -- an expression whose value is not used, where there is one
   abbrev pub only_if : ℕ → Spot → Option Exp → List Op
   only_if i at None = []
   only_if i at (Some e) = code p (full_of at e) i 0 Unused e Drop
@@ -85,10 +95,6 @@ module _ (p : Program) where
   abbrev pub return_code : ℕ → Spot → Option IntType → Exp → ℕ → List Op
   return_code i at ty e n = code p (full_of at e) i 0 Used e Push ++ all_closed n ++ op 0 (ReturnOf ty) ∷ []
 
-  -- a scope around operations, where it is there
-  abbrev pub scope : Bool → ℕ → (ℕ → List Op) → List Op
-  scope b i f = followed i (opened b) f ++ closed b
-
   -- what a `for` does again and again, around the code of its body
   abbrev pub turns : ℕ → ℕ → ℕ → Spot → Option Exp → Option Exp → (ℕ → List Op) → List Op
   turns i start head at e s body = followed i (followed i (followed i (op 0 (Jump head) ∷ []) body) (λ j. only_if j at s)) (λ j. test_code j at e start)
@@ -98,6 +104,7 @@ module _ (p : Program) where
     pub statement_code : ℕ → Inside → Stm → List Op
     statement_code i w (Stmt at f) = followed i (op 1 (Arrive at) ∷ []) (λ j. form_code j w at f)
 
+    -- by its form
     pub form_code : ℕ → Inside → Spot → Form → List Op
     form_code i w at Empty = []
     form_code i w at (Do e) = code p (full_of at e) i 0 Unused e Drop
@@ -123,7 +130,7 @@ module _ (p : Program) where
         turns m (m + 1) head at e s (λ j. scope (leaks b) j (λ k. statement_code k (deeper (leaks b) v) b))))
     form_code i w at Break = jump_out w.inner w.broken
     form_code i w at Continue = jump_out w.inner w.again
-    form_code i w at (Return None) = all_closed w.scopes ++ op 0 Leave ∷ []
+    form_code i w at (Return None) = leaving w.scopes
     form_code i w at (Return (Some e)) = return_code i at w.result e w.scopes
     form_code i w at (Label b) = statement_code i w b
 
@@ -133,14 +140,20 @@ module _ (p : Program) where
     else_code i to w (OrElse b) =
         followed i (op 0 (Jump (to + size_of_arm w.inner w.scopes b)) ∷ []) (λ j. scope (leaks b) j (λ l. statement_code l (deeper (leaks b) w) b))
 
+    -- the statements of a block
     pub block_code : ℕ → Inside → Stms → List Op
     block_code i w NoStm = []
     block_code i w (MoreStm s b) = followed i (statement_code i w s) (λ j. block_code j w b)
+
+  -- a block, which is a scope if it declares names
+  abbrev pub scoped_block : ℕ → Inside → Stms → List Op
+  scoped_block i w b = scope (any_leaks b) i (λ j. block_code j (deeper (any_leaks b) w) b)
 
   -- a statement that is a scope of its own, if it declares names
   abbrev pub arm_code : ℕ → Inside → Stm → List Op
   arm_code i w s = scope (leaks s) i (λ l. statement_code l (deeper (leaks s) w) s)
 
+  -- the same around a statement
   abbrev pub turns_code : ℕ → Inside → Spot → Option Exp → Option Exp → Stm → List Op
   turns_code i w at e s b =
       let again = i + 1 + size_of_arm 0 w.scopes b in

@@ -26,12 +26,18 @@ type_of_word Unsigned32 = UInt
 type_of_word Signed64 = LongLong
 type_of_word Unsigned64 = ULongLong
 
+-- `long` has 32 bits in one of the models
+abbrev pub native_ilp32 : IntType → IntType
+native_ilp32 Long = Int
+native_ilp32 ULong = UInt
+native_ilp32 ty = ty
+
 -- the type that a type is where `long` has 64 bits
 abbrev pub native : DataModel → IntType → IntType
-native Ilp32 Long = Int
-native Ilp32 ULong = UInt
-native _ ty = ty
+native Ilp32 ty = native_ilp32 ty
+native Lp64 ty = ty
 
+-- the same, where there is one
 abbrev pub native_if : DataModel → Option IntType → Option IntType
 native_if m None = None
 native_if m (Some ty) = Some (native m ty)

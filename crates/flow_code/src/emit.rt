@@ -13,7 +13,8 @@ use wv_base::{OutOfMemory, Seq};
 pub fn emit(ops: &mut Seq<Op>, steps: u32, action: Action) -> Result<(), OutOfMemory>
     ensures { OnOk result (ops.new ≡ ops.old ++ op steps action ∷ []) }
 {
-    ops.push(Op { steps, action })
+    ops.push(Op { steps, action })?;
+    Ok(())
 }
 
 /// A sum, unless no code is as long.
@@ -26,14 +27,38 @@ pub fn more(count: u32, by: u32) -> Result<u32, OutOfMemory>
     }
 }
 
+/// A count, unless no code has as many.
+pub fn counted(count: usize) -> Result<u32, OutOfMemory>
+    ensures { IfOk result (λ n. n ≡ count) }
+{
+    match u32::try_from(count) {
+        Ok(number) => Ok(number),
+        Err(_) => Err(OutOfMemory),
+    }
+}
+
+/// The address behind the end.
+pub fn here(ops: &Seq<Op>) -> Result<u32, OutOfMemory>
+    ensures { IfOk result (λ n. n ≡ length ops.now) }
+{
+    let count = counted(ops.len())?;
+    Ok(count)
+}
+
 /// The address so many operations behind the end.
 pub fn ahead(ops: &Seq<Op>, by: u32) -> Result<u32, OutOfMemory>
     ensures { IfOk result (λ n. n ≡ length ops.now + by) }
 {
-    let Ok(here) = u32::try_from(ops.len()) else {
-        return Err(OutOfMemory);
-    };
-    more(here, by)
+    let count = here(ops)?;
+    let sum = more(count, by)?;
+    Ok(sum)
+}
+
+/// 1 where something is there.
+pub fn one_if(there: bool) -> u32
+    ensures { result ≡ sizes.one_if there }
+{
+    if there { 1 } else { 0 }
 }
 
 /// A value that is stored nowhere.
@@ -54,16 +79,11 @@ pub fn operand_of(e: &Expr) -> Option<Operand>
     }
 }
 
-/// An operand is left on the stack, or goes elsewhere.
+/// An operand goes where it is said.
 pub fn give(ops: &mut Seq<Op>, steps: u32, from: Operand, then: Then) -> Result<(), OutOfMemory>
     ensures { OnOk result (ops.new ≡ ops.old ++ preparing.give steps from then ∷ []) }
 {
-    emit(
-        ops,
-        steps,
-        Action::Give {
-            from,
-            into: only(then),
-        },
-    )
+    let into = only(then);
+    emit(ops, steps, Action::Give { from, into })?;
+    Ok(())
 }

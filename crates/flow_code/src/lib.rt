@@ -1,13 +1,19 @@
 //! Programs as code: one list of operations with jumps.
 #![tactic(auto)]
 
+mod calls;
+mod choices;
 mod code;
 mod compiled;
+mod declarations;
 mod emit;
 mod expressions;
 mod loops;
+mod operands;
 mod sizes;
 mod statements;
+mod statics;
+mod targets;
 mod words;
 
 pub use code::{

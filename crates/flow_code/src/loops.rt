@@ -1,15 +1,16 @@
 // The code of loops: the test stands behind the body, and a loop begins with a jump to it.
-ghost use Rattle.std.specs.Prelude.{◌≡◌, ◌++◌, length, OnOk};
+ghost use Rattle.std.specs.Prelude.{◌≡◌, ◌++◌, length, Some, OnOk};
 ghost use Rattle.c_core.specs.Tree as t;
 ghost use Rattle.c_core.specs.View.{program_view, expr_view, expr_view_if, first_view, stmt_view};
-ghost use Rattle.flow_code.specs.Statements.{form_code, test_code, first_code, turns_code};
+ghost use Rattle.flow_code.specs.Statements.{form_code, test_code, first_code, only_if, turns_code};
 ghost use Rattle.flow_code.specs.Statements as spec;
 
 use crate::code::{Action, Op, Then};
-use crate::emit::{ahead, emit, more};
+use crate::declarations::declare;
+use crate::emit::{ahead, emit, here, more};
 use crate::expressions::expression;
-use crate::sizes::{first_leaks, size, size_if, size_of_arm};
-use crate::statements::{Inside, arm, close_scope, declare, deeper, full_of, open_scope};
+use crate::sizes::{first_leaks, size, size_if, size_of_arm, size_of_test};
+use crate::statements::{Inside, arm, close_scope, deeper, full_of, open_scope};
 use c_core::{Expr, First, Program, Spot, Stmt};
 use wv_base::{OutOfMemory, Seq};
 
@@ -21,7 +22,8 @@ fn in_loop(inside: Inside, again: u32, broken: u32) -> Inside
         broken,
         again,
         inner: 0,
-        ..inside
+        scopes: inside.scopes,
+        result: inside.result,
     }
 }
 
@@ -35,10 +37,13 @@ fn test_at(
 ) -> Result<(), OutOfMemory>
     ensures { OnOk result (ops.new ≡ ops.old ++ test_code (program_view program.now) (length ops.old) at (Some (expr_view test.now)) to) }
 {
-    let then = Then::Branch { at, way: true, to };
-    expression(program, ops, 0, full_of(at, test), true, test, then)
+    let branch = Then::Branch { at, way: true, to };
+    let around = full_of(at, test);
+    expression(program, ops, 0, around, true, test, branch)?;
+    Ok(())
 }
 
+/// `while`: `continue` goes on at the test.
 #[cycle(statement)]
 pub fn while_loop(
     program: &Program,
@@ -51,13 +56,18 @@ pub fn while_loop(
     ensures { OnOk result (ops.new ≡ ops.old ++ form_code (program_view program.now) (length ops.old) inside at (t.While (expr_view test.now) (stmt_view body.now))) }
 {
     let start = ahead(ops, 1)?;
-    let again = more(start, size_of_arm(body, 0, inside.scopes)?)?;
-    let broken = more(again, size(test)?)?;
+    let turn = size_of_arm(body, 0, inside.scopes)?;
+    let tested = size(test)?;
+    let again = more(start, turn)?;
+    let broken = more(again, tested)?;
+    let within = in_loop(inside, again, broken);
     emit(ops, 0, Action::Jump(again))?;
-    arm(program, ops, in_loop(inside, again, broken), body)?;
-    test_at(program, ops, at, test, start)
+    arm(program, ops, within, body)?;
+    test_at(program, ops, at, test, start)?;
+    Ok(())
 }
 
+/// `do`: the body comes first.
 #[cycle(statement)]
 pub fn do_loop(
     program: &Program,
@@ -69,11 +79,15 @@ pub fn do_loop(
 ) -> Result<(), OutOfMemory>
     ensures { OnOk result (ops.new ≡ ops.old ++ form_code (program_view program.now) (length ops.old) inside at (t.DoWhile (stmt_view body.now) (expr_view test.now))) }
 {
-    let start = ahead(ops, 0)?;
-    let again = more(start, size_of_arm(body, 0, inside.scopes)?)?;
-    let broken = more(again, size(test)?)?;
-    arm(program, ops, in_loop(inside, again, broken), body)?;
-    test_at(program, ops, at, test, start)
+    let start = here(ops)?;
+    let turn = size_of_arm(body, 0, inside.scopes)?;
+    let tested = size(test)?;
+    let again = more(start, turn)?;
+    let broken = more(again, tested)?;
+    let within = in_loop(inside, again, broken);
+    arm(program, ops, within, body)?;
+    test_at(program, ops, at, test, start)?;
+    Ok(())
 }
 
 // The first part of a `for`.
@@ -87,6 +101,7 @@ fn begin(program: &Program, ops: &mut Seq<Op>, at: Spot, first: &First) -> Resul
     }
 }
 
+/// `for`: a scope around it, if its first part declares names.
 #[cycle(statement)]
 pub fn for_loop(
     program: &Program,
@@ -104,13 +119,45 @@ pub fn for_loop(
     let within = deeper(inside, there)?;
     open_scope(ops, there)?;
     begin(program, ops, at, first)?;
-    turn(program, ops, within, at, test, step, body)?;
-    close_scope(ops, there)
+    turns(program, ops, within, at, test, step, body)?;
+    close_scope(ops, there)?;
+    Ok(())
 }
 
-// What a `for` does again and again.
+// An expression whose value is not used, where there is one.
+fn evaluate_if(
+    program: &Program,
+    ops: &mut Seq<Op>,
+    at: Spot,
+    e: &Option<Expr>,
+) -> Result<(), OutOfMemory>
+    ensures { OnOk result (ops.new ≡ ops.old ++ only_if (program_view program.now) (length ops.old) at (expr_view_if e.now)) }
+{
+    match e {
+        None => Ok(()),
+        Some(e) => expression(program, ops, 0, full_of(at, e), false, e, Then::Drop),
+    }
+}
+
+// The test of a `for`, or the jump in its place.
+fn test_if(
+    program: &Program,
+    ops: &mut Seq<Op>,
+    at: Spot,
+    test: &Option<Expr>,
+    to: u32,
+) -> Result<(), OutOfMemory>
+    ensures { OnOk result (ops.new ≡ ops.old ++ test_code (program_view program.now) (length ops.old) at (expr_view_if test.now) to) }
+{
+    match test {
+        None => emit(ops, 0, Action::Jump(to)),
+        Some(e) => test_at(program, ops, at, e, to),
+    }
+}
+
+// What a `for` does again and again: its body, its last part, its test.
 #[cycle(statement)]
-fn turn(
+fn turns(
     program: &Program,
     ops: &mut Seq<Op>,
     inside: Inside,
@@ -122,20 +169,16 @@ fn turn(
     ensures { OnOk result (ops.new ≡ ops.old ++ turns_code (program_view program.now) (length ops.old) inside at (expr_view_if test.now) (expr_view_if step.now) (stmt_view body.now)) }
 {
     let start = ahead(ops, 1)?;
-    let again = more(start, size_of_arm(body, 0, inside.scopes)?)?;
-    let head = more(again, size_if(step)?)?;
-    let tested = match test {
-        None => 1,
-        Some(e) => size(e)?,
-    };
+    let turn = size_of_arm(body, 0, inside.scopes)?;
+    let last = size_if(step)?;
+    let tested = size_of_test(test)?;
+    let again = more(start, turn)?;
+    let head = more(again, last)?;
     let broken = more(head, tested)?;
+    let within = in_loop(inside, again, broken);
     emit(ops, 0, Action::Jump(head))?;
-    arm(program, ops, in_loop(inside, again, broken), body)?;
-    if let Some(e) = step {
-        expression(program, ops, 0, full_of(at, e), false, e, Then::Drop)?;
-    }
-    match test {
-        None => emit(ops, 0, Action::Jump(start)),
-        Some(e) => test_at(program, ops, at, e, start),
-    }
+    arm(program, ops, within, body)?;
+    evaluate_if(program, ops, at, step)?;
+    test_if(program, ops, at, test, start)?;
+    Ok(())
 }

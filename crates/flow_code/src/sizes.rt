@@ -1,11 +1,13 @@
-// How many operations the code of a part has.
-ghost use Rattle.std.specs.Prelude.{◌≡◌, ◌+◌, ℕ, IfOk};
+// How many operations the code of a part has. Each part asks for the sizes of those that its jumps pass: a part is counted at most as
+// often as it is deep, and the front end bounds the depth.
+ghost use Rattle.std.specs.Prelude.{◌≡◌, ◌+◌, None, IfOk};
 ghost use Rattle.c_core.specs.Tree as t;
 ghost use Rattle.c_core.specs.View.{expr_view, exprs_view, node_view, expr_view_if, init_view, names_view, first_view, form_view, stmt_view, stmts_view};
+ghost use Rattle.run_state.specs.Interpreting.{else_part};
 ghost use Rattle.flow_code.specs.Sizes as spec;
 
-use crate::emit::{more, operand_of};
-use c_core::{Callee, Declared, Expr, First, Form, Init, Node, Stmt};
+use crate::emit::{more, one_if, operand_of};
+use c_core::{BinOp, Callee, Declared, Expr, First, Form, Init, Node, Stmt};
 use wv_base::OutOfMemory;
 
 // The sum of three.
@@ -13,7 +15,8 @@ fn all(a: u32, b: u32, c: u32) -> Result<u32, OutOfMemory>
     ensures { IfOk result (λ n. n ≡ a + b + c) }
 {
     let two = more(a, b)?;
-    more(two, c)
+    let sum = more(two, c)?;
+    Ok(sum)
 }
 
 /// An expression's code.
@@ -32,37 +35,55 @@ pub fn size(e: &Expr) -> Result<u32, OutOfMemory>
         },
         Node::Step { target, .. } => {
             let aim = size_of_aim(target)?;
-            more(aim, 1)
+            let sum = more(aim, 1)?;
+            Ok(sum)
         }
         Node::Binary { left, right, .. } => size_with_two(left, right),
         Node::Logic { left, right, .. } => {
             let first = size(left)?;
             let second = size_with_one(right)?;
-            all(first, second, 2)
+            let sum = all(first, second, 2)?;
+            Ok(sum)
         }
         Node::Choose { test, yes, no, .. } => {
             let test = size(test)?;
             let yes = size(yes)?;
             let no = size(no)?;
             let arms = all(yes, no, 3)?;
-            more(test, arms)
+            let sum = more(test, arms)?;
+            Ok(sum)
         }
         Node::Comma { first, last } => {
             let first = size(first)?;
             let last = size(last)?;
-            more(first, last)
+            let sum = more(first, last)?;
+            Ok(sum)
         }
-        Node::Assign { op, target, from } => {
-            let aim = size_of_aim(target)?;
-            let value = match op {
-                None => size_stored(from)?,
-                Some(_) => size_of_second(target, from)?,
-            };
-            more(aim, value)
-        }
+        Node::Assign { op, target, from } => size_of_assign(*op, target, from),
         Node::Call { callee, args, .. } => {
-            let all = size_of_all(args.as_slice())?;
-            more(size_of_callee(*callee), all)
+            let values = size_of_all(args.as_slice())?;
+            let sum = more(size_of_callee(*callee), values)?;
+            Ok(sum)
+        }
+    }
+}
+
+// The code of an assignment, which reads its target where it has an operator.
+#[cycle(size)]
+fn size_of_assign(op: Option<BinOp>, target: &Expr, from: &Expr) -> Result<u32, OutOfMemory>
+    ensures { IfOk result (λ n. n ≡ spec.size_of_node None (t.Assign op (expr_view target.now) (expr_view from.now))) }
+{
+    let aim = size_of_aim(target)?;
+    match op {
+        None => {
+            let value = size_stored(from)?;
+            let sum = more(aim, value)?;
+            Ok(sum)
+        }
+        Some(_) => {
+            let value = size_of_second(target, from)?;
+            let sum = more(aim, value)?;
+            Ok(sum)
         }
     }
 }
@@ -98,7 +119,8 @@ pub fn size_with_one(e: &Expr) -> Result<u32, OutOfMemory>
         Some(_) => Ok(1),
         None => {
             let inner = size(e)?;
-            more(inner, 1)
+            let sum = more(inner, 1)?;
+            Ok(sum)
         }
     }
 }
@@ -109,17 +131,27 @@ fn size_with_two(a: &Expr, b: &Expr) -> Result<u32, OutOfMemory>
     ensures { IfOk result (λ n. n ≡ spec.with_two (spec.operand_of (expr_view a.now)) (spec.operand_of (expr_view b.now)) (spec.size (expr_view a.now)) (spec.size (expr_view b.now))) }
 {
     match operand_of(a) {
-        Some(_) => match operand_of(b) {
-            Some(_) => Ok(1),
-            None => {
-                let second = size(b)?;
-                more(second, 2)
-            }
-        },
+        Some(_) => size_behind_operand(b),
         None => {
             let first = size(a)?;
             let second = size_with_one(b)?;
-            more(first, second)
+            let sum = more(first, second)?;
+            Ok(sum)
+        }
+    }
+}
+
+// The code of a second operand behind one that isn't on the stack, and an operation that takes both.
+#[cycle(size)]
+fn size_behind_operand(b: &Expr) -> Result<u32, OutOfMemory>
+    ensures { IfOk result (λ n. n ≡ spec.behind_operand (spec.operand_of (expr_view b.now)) (spec.size (expr_view b.now))) }
+{
+    match operand_of(b) {
+        Some(_) => Ok(1),
+        None => {
+            let second = size(b)?;
+            let sum = more(second, 2)?;
+            Ok(sum)
         }
     }
 }
@@ -140,15 +172,9 @@ fn size_of_aim(target: &Expr) -> Result<u32, OutOfMemory>
 fn size_of_second(target: &Expr, from: &Expr) -> Result<u32, OutOfMemory>
     ensures { IfOk result (λ n. n ≡ spec.with_target (node_view target.now.node) (spec.operand_of (expr_view from.now)) (spec.size (expr_view from.now))) }
 {
-    match operand_of(from) {
-        Some(_) => Ok(1),
-        None => {
-            let second = size(from)?;
-            match &target.node {
-                Node::Index { .. } => more(second, 1),
-                _ => more(second, 2),
-            }
-        }
+    match &target.node {
+        Node::Index { .. } => size_with_one(from),
+        _ => size_behind_operand(from),
     }
 }
 
@@ -196,11 +222,16 @@ pub fn first_leaks(first: &First) -> bool
     }
 }
 
-/// Two operations more where there is a scope.
-pub fn with_scope(there: bool, inner: u32) -> Result<u32, OutOfMemory>
+// Two operations more where there is a scope.
+fn with_scope(there: bool, inner: u32) -> Result<u32, OutOfMemory>
     ensures { IfOk result (λ n. n ≡ spec.with_scope there inner) }
 {
-    if there { more(inner, 2) } else { Ok(inner) }
+    if there {
+        let sum = more(inner, 2)?;
+        Ok(sum)
+    } else {
+        Ok(inner)
+    }
 }
 
 /// The code of an expression, if there is one.
@@ -209,6 +240,16 @@ pub fn size_if(e: &Option<Expr>) -> Result<u32, OutOfMemory>
 {
     match e {
         None => Ok(0),
+        Some(e) => size(e),
+    }
+}
+
+/// The code of a loop's test, or of the jump in its place.
+pub fn size_of_test(e: &Option<Expr>) -> Result<u32, OutOfMemory>
+    ensures { IfOk result (λ n. n ≡ spec.size_of_test (expr_view_if e.now)) }
+{
+    match e {
+        None => Ok(1),
         Some(e) => size(e),
     }
 }
@@ -245,8 +286,8 @@ fn size_of_names(names: &[Declared]) -> Result<u32, OutOfMemory>
     Ok(sum)
 }
 
-/// The code of the first part of a `for`.
-pub fn size_of_first(first: &First) -> Result<u32, OutOfMemory>
+// The code of the first part of a `for`.
+fn size_of_first(first: &First) -> Result<u32, OutOfMemory>
     ensures { IfOk result (λ n. n ≡ spec.size_of_first (first_view first.now)) }
 {
     match first {
@@ -262,9 +303,11 @@ pub fn size_of_statement(s: &Stmt, inner: u32, scopes: u32) -> Result<u32, OutOf
     ensures { IfOk result (λ n. n ≡ spec.size_of_statement inner scopes (stmt_view s.now)) }
 {
     let form = size_of_form(&s.form, inner, scopes)?;
-    more(form, 1)
+    let sum = more(form, 1)?;
+    Ok(sum)
 }
 
+/// The code of a form, without the step and the event of its statement.
 #[cycle(size_of_statement)]
 pub fn size_of_form(form: &Form, inner: u32, scopes: u32) -> Result<u32, OutOfMemory>
     ensures { IfOk result (λ n. n ≡ spec.size_of_form inner scopes (form_view form.now)) }
@@ -274,28 +317,13 @@ pub fn size_of_form(form: &Form, inner: u32, scopes: u32) -> Result<u32, OutOfMe
         Form::Expr(e) => size(e),
         Form::Declare(names) => size_of_names(names.as_slice()),
         Form::Block(body) => size_of_block(body.as_slice(), inner, scopes),
-        Form::If { test, yes, no } => {
-            let test = size(test)?;
-            let yes = size_of_arm(yes, inner, scopes)?;
-            let no = match no {
-                None => 0,
-                Some(no) => {
-                    let no = size_of_arm(no, inner, scopes)?;
-                    more(no, 1)?
-                }
-            };
-            all(test, yes, no)
-        }
+        Form::If { test, yes, no } => size_of_choice(test, yes, no, inner, scopes),
         Form::While { test, body } => {
-            let test = size(test)?;
-            let body = size_of_arm(body, 0, scopes)?;
-            all(test, body, 1)
+            let loop_size = size_of_loop(test, body, scopes)?;
+            let sum = more(loop_size, 1)?;
+            Ok(sum)
         }
-        Form::Do { body, test } => {
-            let test = size(test)?;
-            let body = size_of_arm(body, 0, scopes)?;
-            more(test, body)
-        }
+        Form::Do { body, test } => size_of_loop(test, body, scopes),
         Form::For {
             first,
             test,
@@ -307,7 +335,8 @@ pub fn size_of_form(form: &Form, inner: u32, scopes: u32) -> Result<u32, OutOfMe
         Form::Return(None) => more(scopes, 1),
         Form::Return(Some(e)) => {
             let value = size(e)?;
-            all(value, scopes, 1)
+            let sum = all(value, scopes, 1)?;
+            Ok(sum)
         }
         Form::Label(s) => size_of_statement(s, inner, scopes),
     }
@@ -319,9 +348,54 @@ pub fn size_of_arm(s: &Stmt, inner: u32, scopes: u32) -> Result<u32, OutOfMemory
     ensures { IfOk result (λ n. n ≡ spec.size_of_arm inner scopes (stmt_view s.now)) }
 {
     let there = leaks(s);
-    let more_scopes = u32::from(there);
-    let size = size_of_statement(s, more(inner, more_scopes)?, more(scopes, more_scopes)?)?;
-    with_scope(there, size)
+    let by = one_if(there);
+    let inner_here = more(inner, by)?;
+    let scopes_here = more(scopes, by)?;
+    let size = size_of_statement(s, inner_here, scopes_here)?;
+    let sum = with_scope(there, size)?;
+    Ok(sum)
+}
+
+#[cycle(size_of_statement)]
+fn size_of_choice(
+    test: &Expr,
+    yes: &Stmt,
+    no: &Option<Box<Stmt>>,
+    inner: u32,
+    scopes: u32,
+) -> Result<u32, OutOfMemory>
+    ensures { IfOk result (λ n. n ≡ spec.size_of_form inner scopes (t.If (expr_view test.now) (stmt_view yes.now) (else_part no.now))) }
+{
+    let tested = size(test)?;
+    let first = size_of_arm(yes, inner, scopes)?;
+    let second = size_of_else(no, inner, scopes)?;
+    let sum = all(tested, first, second)?;
+    Ok(sum)
+}
+
+#[cycle(size_of_statement)]
+fn size_of_else(no: &Option<Box<Stmt>>, inner: u32, scopes: u32) -> Result<u32, OutOfMemory>
+    ensures { IfOk result (λ n. n ≡ spec.size_of_else inner scopes (else_part no.now)) }
+{
+    match no {
+        None => Ok(0),
+        Some(no) => {
+            let arm = size_of_arm(no, inner, scopes)?;
+            let sum = more(arm, 1)?;
+            Ok(sum)
+        }
+    }
+}
+
+// A loop's body and its test.
+#[cycle(size_of_statement)]
+fn size_of_loop(test: &Expr, body: &Stmt, scopes: u32) -> Result<u32, OutOfMemory>
+    ensures { IfOk result (λ n. n ≡ spec.size (expr_view test.now) + spec.size_of_arm 0 scopes (stmt_view body.now)) }
+{
+    let tested = size(test)?;
+    let arm = size_of_arm(body, 0, scopes)?;
+    let sum = more(tested, arm)?;
+    Ok(sum)
 }
 
 #[cycle(size_of_statement)]
@@ -329,18 +403,26 @@ fn size_of_block(body: &[Stmt], inner: u32, scopes: u32) -> Result<u32, OutOfMem
     ensures { IfOk result (λ n. n ≡ spec.size_of_form inner scopes (t.Block (stmts_view body.now))) }
 {
     let there = any_leaks(body);
-    let more_scopes = u32::from(there);
-    let inner = more(inner, more_scopes)?;
-    let scopes = more(scopes, more_scopes)?;
+    let by = one_if(there);
+    let inner_here = more(inner, by)?;
+    let scopes_here = more(scopes, by)?;
+    let size = size_of_statements(body, inner_here, scopes_here)?;
+    let sum = with_scope(there, size)?;
+    Ok(sum)
+}
+
+#[cycle(size_of_statement)]
+fn size_of_statements(body: &[Stmt], inner: u32, scopes: u32) -> Result<u32, OutOfMemory>
+    ensures { IfOk result (λ n. n ≡ spec.size_of_block inner scopes (stmts_view body.now)) }
+{
     let mut sum = 0;
     for s in body {
         let one = size_of_statement(s, inner, scopes)?;
         sum = more(sum, one)?;
     }
-    with_scope(there, sum)
+    Ok(sum)
 }
 
-/// What a `for` does again and again: its test, its last part and its body, and two jumps at most.
 #[cycle(size_of_statement)]
 fn size_of_for(
     first: &First,
@@ -349,18 +431,16 @@ fn size_of_for(
     body: &Stmt,
     scopes: u32,
 ) -> Result<u32, OutOfMemory>
-    ensures { IfOk result (λ n. (inner : ℕ) → n ≡ spec.size_of_form inner scopes (t.For (first_view first.now) (expr_view_if test.now) (expr_view_if step.now) (stmt_view body.now))) }
+    ensures { IfOk result (λ n. n ≡ spec.size_of_form 0 scopes (t.For (first_view first.now) (expr_view_if test.now) (expr_view_if step.now) (stmt_view body.now))) }
 {
     let there = first_leaks(first);
-    let first = size_of_first(first)?;
-    let scopes = more(scopes, u32::from(there))?;
-    let body = size_of_arm(body, 0, scopes)?;
-    let step = size_if(step)?;
-    let test = match test {
-        None => 1,
-        Some(e) => size(e)?,
-    };
-    let turn = all(body, step, test)?;
-    let whole = all(first, turn, 1)?;
-    with_scope(there, whole)
+    let begins = size_of_first(first)?;
+    let scopes_here = more(scopes, one_if(there))?;
+    let arm = size_of_arm(body, 0, scopes_here)?;
+    let last = size_if(step)?;
+    let tested = size_of_test(test)?;
+    let turn = all(arm, last, tested)?;
+    let whole = all(begins, turn, 1)?;
+    let sum = with_scope(there, whole)?;
+    Ok(sum)
 }

@@ -1,20 +1,19 @@
 // The code of statements.
-ghost use Rattle.std.specs.Prelude.{◌≡◌, ◌++◌, length, OnOk, IfOk};
+ghost use Rattle.std.specs.Prelude.{◌≡◌, ◌++◌, ◌∷◌, [], length, OnOk, IfOk};
 ghost use Rattle.c_core.specs.Tree as t;
-ghost use Rattle.c_core.specs.View.{program_view, expr_view, exprs_view, init_view, names_view, form_view, stmt_view, stmts_view};
+ghost use Rattle.c_core.specs.View.{program_view, expr_view, form_view, stmt_view, stmts_view};
 ghost use Rattle.run_state.specs.Interpreting.{else_part};
 ghost use Rattle.flow_code.specs.Preparing.{opened, closed, all_closed};
-ghost use Rattle.flow_code.specs.Statements.{statement_code, form_code, arm_code, return_code, names_code, name_code, initials_code, initial_code};
+ghost use Rattle.flow_code.specs.Statements.{statement_code, form_code, arm_code, block_code, else_code, return_code};
 ghost use Rattle.flow_code.specs.Statements as spec;
 
-use crate::code::{Action, Into, Op, Place, Store, Then};
-use crate::emit::{ahead, emit, more};
-use crate::expressions::{expression, stored};
+use crate::code::{Action, Op, Then};
+use crate::declarations::declare;
+use crate::emit::{ahead, emit, more, one_if};
+use crate::expressions::expression;
 use crate::loops::{do_loop, for_loop, while_loop};
 use crate::sizes::{any_leaks, leaks, size, size_of_arm};
-use crate::words::native;
-use c_core::{Declared, Expr, Form, Init, IntType, Program, Spot, Stmt};
-use c_meaning::{size_of_object, type_of_object};
+use c_core::{Expr, Form, IntType, Program, Spot, Stmt};
 use run_state::Around;
 use wv_base::{OutOfMemory, Seq};
 
@@ -33,11 +32,15 @@ pub struct Inside {
 pub fn deeper(inside: Inside, there: bool) -> Result<Inside, OutOfMemory>
     ensures { IfOk result (λ w. w ≡ spec.deeper there inside) }
 {
-    let by = u32::from(there);
+    let by = one_if(there);
+    let inner = more(inside.inner, by)?;
+    let scopes = more(inside.scopes, by)?;
     Ok(Inside {
-        inner: more(inside.inner, by)?,
-        scopes: more(inside.scopes, by)?,
-        ..inside
+        broken: inside.broken,
+        again: inside.again,
+        inner,
+        scopes,
+        result: inside.result,
     })
 }
 
@@ -46,7 +49,8 @@ pub fn open_scope(ops: &mut Seq<Op>, there: bool) -> Result<(), OutOfMemory>
     ensures { OnOk result (ops.new ≡ ops.old ++ opened there) }
 {
     if there {
-        emit(ops, 0, Action::Open)
+        emit(ops, 0, Action::Open)?;
+        Ok(())
     } else {
         Ok(())
     }
@@ -57,7 +61,8 @@ pub fn close_scope(ops: &mut Seq<Op>, there: bool) -> Result<(), OutOfMemory>
     ensures { OnOk result (ops.new ≡ ops.old ++ closed there) }
 {
     if there {
-        emit(ops, 0, Action::Close)
+        emit(ops, 0, Action::Close)?;
+        Ok(())
     } else {
         Ok(())
     }
@@ -67,7 +72,7 @@ pub fn close_scope(ops: &mut Seq<Op>, there: bool) -> Result<(), OutOfMemory>
 fn close_all(ops: &mut Seq<Op>, count: u32) -> Result<(), OutOfMemory>
     ensures { OnOk result (ops.new ≡ ops.old ++ all_closed count) }
 {
-    for _ in 0..count {
+    for index in 0..count {
         emit(ops, 0, Action::Close)?;
     }
     Ok(())
@@ -94,9 +99,11 @@ pub fn statement(
     ensures { OnOk result (ops.new ≡ ops.old ++ statement_code (program_view program.now) (length ops.old) inside (stmt_view s.now)) }
 {
     emit(ops, 1, Action::Arrive(s.spot))?;
-    form(program, ops, inside, s.spot, &s.form)
+    form(program, ops, inside, s.spot, &s.form)?;
+    Ok(())
 }
 
+/// What a statement does by its form.
 #[cycle(statement)]
 pub fn form(
     program: &Program,
@@ -111,7 +118,7 @@ pub fn form(
         Form::Empty => Ok(()),
         Form::Expr(e) => expression(program, ops, 0, full_of(at, e), false, e, Then::Drop),
         Form::Declare(names) => declare(program, ops, at, names.as_slice()),
-        Form::Block(body) => block(program, ops, inside, at, body.as_slice()),
+        Form::Block(body) => block(program, ops, inside, body.as_slice()),
         Form::If { test, yes, no } => choose(program, ops, inside, at, test, yes, no),
         Form::While { test, body } => while_loop(program, ops, inside, at, test, body),
         Form::Do { body, test } => do_loop(program, ops, inside, at, body, test),
@@ -123,10 +130,7 @@ pub fn form(
         } => for_loop(program, ops, inside, at, first, test, step, body),
         Form::Break => jump_out(ops, inside.inner, inside.broken),
         Form::Continue => jump_out(ops, inside.inner, inside.again),
-        Form::Return(None) => {
-            close_all(ops, inside.scopes)?;
-            emit(ops, 0, Action::Leave)
-        }
+        Form::Return(None) => leave(ops, inside.scopes),
         Form::Return(Some(e)) => give_back(program, ops, inside, at, e),
         Form::Label(s) => statement(program, ops, inside, s),
     }
@@ -137,9 +141,20 @@ fn jump_out(ops: &mut Seq<Op>, scopes: u32, to: u32) -> Result<(), OutOfMemory>
     ensures { OnOk result (ops.new ≡ ops.old ++ spec.jump_out scopes to) }
 {
     close_all(ops, scopes)?;
-    emit(ops, 0, Action::Jump(to))
+    emit(ops, 0, Action::Jump(to))?;
+    Ok(())
 }
 
+// `return` without a value, out of so many scopes.
+fn leave(ops: &mut Seq<Op>, scopes: u32) -> Result<(), OutOfMemory>
+    ensures { OnOk result (ops.new ≡ ops.old ++ spec.leaving scopes) }
+{
+    close_all(ops, scopes)?;
+    emit(ops, 0, Action::Leave)?;
+    Ok(())
+}
+
+// `return` with a value.
 fn give_back(
     program: &Program,
     ops: &mut Seq<Op>,
@@ -149,28 +164,45 @@ fn give_back(
 ) -> Result<(), OutOfMemory>
     ensures { OnOk result (ops.new ≡ ops.old ++ return_code (program_view program.now) (length ops.old) at inside.result (expr_view e.now) inside.scopes) }
 {
-    expression(program, ops, 0, full_of(at, e), true, e, Then::Push)?;
+    let around = full_of(at, e);
+    expression(program, ops, 0, around, true, e, Then::Push)?;
     close_all(ops, inside.scopes)?;
-    emit(ops, 0, Action::Return(inside.result))
+    emit(ops, 0, Action::Return(inside.result))?;
+    Ok(())
 }
 
+// A block, which is a scope if it declares names.
 #[cycle(statement)]
 fn block(
     program: &Program,
     ops: &mut Seq<Op>,
     inside: Inside,
-    at: Spot,
     body: &[Stmt],
 ) -> Result<(), OutOfMemory>
-    ensures { OnOk result (ops.new ≡ ops.old ++ form_code (program_view program.now) (length ops.old) inside at (t.Block (stmts_view body.now))) }
+    ensures { OnOk result (ops.new ≡ ops.old ++ spec.scoped_block (program_view program.now) (length ops.old) inside (stmts_view body.now)) }
 {
     let there = any_leaks(body);
     let within = deeper(inside, there)?;
     open_scope(ops, there)?;
+    sequence(program, ops, within, body)?;
+    close_scope(ops, there)?;
+    Ok(())
+}
+
+// The statements of a block in their order.
+#[cycle(statement)]
+fn sequence(
+    program: &Program,
+    ops: &mut Seq<Op>,
+    inside: Inside,
+    body: &[Stmt],
+) -> Result<(), OutOfMemory>
+    ensures { OnOk result (ops.new ≡ ops.old ++ block_code (program_view program.now) (length ops.old) inside (stmts_view body.now)) }
+{
     for s in body {
-        statement(program, ops, within, s)?;
+        statement(program, ops, inside, s)?;
     }
-    close_scope(ops, there)
+    Ok(())
 }
 
 /// A statement that is a scope of its own, if it declares names.
@@ -187,9 +219,21 @@ pub fn arm(
     let within = deeper(inside, there)?;
     open_scope(ops, there)?;
     statement(program, ops, within, s)?;
-    close_scope(ops, there)
+    close_scope(ops, there)?;
+    Ok(())
 }
 
+// The way of the first arm around the second.
+fn else_jump(no: &Option<Box<Stmt>>) -> u32
+    ensures { result ≡ spec.else_jump (else_part no.now) }
+{
+    match no {
+        None => 0,
+        Some(_) => 1,
+    }
+}
+
+// `if`: its test, which leads to the second arm where it doesn't hold.
 #[cycle(statement)]
 fn choose(
     program: &Program,
@@ -202,101 +246,50 @@ fn choose(
 ) -> Result<(), OutOfMemory>
     ensures { OnOk result (ops.new ≡ ops.old ++ form_code (program_view program.now) (length ops.old) inside at (t.If (expr_view test.now) (stmt_view yes.now) (else_part no.now))) }
 {
-    let jump = u32::from(no.is_some());
-    let first = more(size(test)?, size_of_arm(yes, inside.inner, inside.scopes)?)?;
-    let to = ahead(ops, more(first, jump)?)?;
-    let then = Then::Branch { at, way: false, to };
-    expression(program, ops, 0, full_of(at, test), true, test, then)?;
+    let tested = size(test)?;
+    let taken = size_of_arm(yes, inside.inner, inside.scopes)?;
+    let jump = else_jump(no);
+    let both = more(tested, taken)?;
+    let first = more(both, jump)?;
+    let to = ahead(ops, first)?;
+    let branch = Then::Branch { at, way: false, to };
+    let around = full_of(at, test);
+    expression(program, ops, 0, around, true, test, branch)?;
     arm(program, ops, inside, yes)?;
+    otherwise(program, ops, inside, to, no)?;
+    Ok(())
+}
+
+// The second arm, and before it the way of the first around it.
+#[cycle(statement)]
+fn otherwise(
+    program: &Program,
+    ops: &mut Seq<Op>,
+    inside: Inside,
+    to: u32,
+    no: &Option<Box<Stmt>>,
+) -> Result<(), OutOfMemory>
+    ensures { OnOk result (ops.new ≡ ops.old ++ else_code (program_view program.now) (length ops.old) to inside (else_part no.now)) }
+{
     match no {
         None => Ok(()),
-        Some(no) => {
-            let second = size_of_arm(no, inside.inner, inside.scopes)?;
-            emit(ops, 0, Action::Jump(more(to, second)?))?;
-            arm(program, ops, inside, no)
-        }
+        Some(no) => second_arm(program, ops, inside, to, no),
     }
 }
 
-/// Declared names, each with its cells and its initializer.
-pub fn declare(
+#[cycle(statement)]
+fn second_arm(
     program: &Program,
     ops: &mut Seq<Op>,
-    at: Spot,
-    names: &[Declared],
+    inside: Inside,
+    to: u32,
+    s: &Stmt,
 ) -> Result<(), OutOfMemory>
-    ensures { OnOk result (ops.new ≡ ops.old ++ names_code (program_view program.now) (length ops.old) at (names_view names.now)) }
+    ensures { OnOk result (ops.new ≡ ops.old ++ else_code (program_view program.now) (length ops.old) to inside (t.OrElse (stmt_view s.now))) }
 {
-    for name in names {
-        declare_one(program, ops, at, name)?;
-    }
+    let taken = size_of_arm(s, inside.inner, inside.scopes)?;
+    let end = more(to, taken)?;
+    emit(ops, 0, Action::Jump(end))?;
+    arm(program, ops, inside, s)?;
     Ok(())
-}
-
-fn declare_one(
-    program: &Program,
-    ops: &mut Seq<Op>,
-    at: Spot,
-    name: &Declared,
-) -> Result<(), OutOfMemory>
-    ensures { OnOk result (ops.new ≡ ops.old ++ name_code (program_view program.now) (length ops.old) at name.now.spot name.now.object (init_view name.now.init)) }
-{
-    let object = name.object;
-    let size = size_of_object(program, object);
-    emit(
-        ops,
-        size,
-        Action::Declare {
-            spot: name.spot,
-            object,
-            size,
-            ty: type_of_object(program, object),
-            draws: matches!(name.init, Init::Absent),
-        },
-    )?;
-    match &name.init {
-        Init::Absent => Ok(()),
-        Init::One(e) => initial(program, ops, at, object, 0, e),
-        Init::Many(values) => initials(program, ops, at, object, values.as_slice()),
-    }
-}
-
-fn initials(
-    program: &Program,
-    ops: &mut Seq<Op>,
-    at: Spot,
-    object: u32,
-    values: &[Expr],
-) -> Result<(), OutOfMemory>
-    ensures { OnOk result (ops.new ≡ ops.old ++ initials_code (program_view program.now) (length ops.old) at object 0 (exprs_view values.now)) }
-{
-    let mut index = 0;
-    for e in values {
-        initial(program, ops, at, object, index, e)?;
-        index = more(index, 1)?;
-    }
-    Ok(())
-}
-
-// The value of a cell.
-fn initial(
-    program: &Program,
-    ops: &mut Seq<Op>,
-    at: Spot,
-    object: u32,
-    index: u32,
-    e: &Expr,
-) -> Result<(), OutOfMemory>
-    ensures { OnOk result (ops.new ≡ ops.old ++ initial_code (program_view program.now) (length ops.old) at object index (expr_view e.now)) }
-{
-    let store = Store {
-        place: Place::Fixed(object, index),
-        ty: native(program.model, type_of_object(program, object)),
-        old: false,
-    };
-    let into = Into {
-        store: Some(store),
-        then: Then::Drop,
-    };
-    stored(program, ops, 0, full_of(at, e), e, into)
 }

@@ -6,16 +6,23 @@ ghost use Rattle.flow_code.specs.Words as spec;
 use crate::code::Word;
 use c_core::{DataModel, IntType, signed, width};
 
+// By sign, and by whether it has 64 bits.
+fn word_by(signed: bool, wide: bool) -> Word
+    ensures { result ≡ spec.word_by signed wide }
+{
+    match (signed, wide) {
+        (true, true) => Word::Signed64,
+        (false, true) => Word::Unsigned64,
+        (true, false) => Word::Signed32,
+        (false, false) => Word::Unsigned32,
+    }
+}
+
 /// The type that operators of a promoted type compute in.
 pub fn word_of(model: DataModel, ty: IntType) -> Word
     ensures { result ≡ spec.word_of model ty }
 {
-    match (signed(ty), width(model, ty)) {
-        (true, 64) => Word::Signed64,
-        (false, 64) => Word::Unsigned64,
-        (true, _) => Word::Signed32,
-        (false, _) => Word::Unsigned32,
-    }
+    word_by(signed(ty), width(model, ty) == 64)
 }
 
 /// The type that such a type is where `long` has 64 bits.
@@ -31,14 +38,24 @@ pub fn type_of_word(word: Word) -> IntType
     }
 }
 
+// `long` has 32 bits in one of the models.
+fn native_ilp32(ty: IntType) -> IntType
+    ensures { result ≡ spec.native_ilp32 ty }
+{
+    match ty {
+        IntType::Long => IntType::Int,
+        IntType::ULong => IntType::UInt,
+        _ => ty,
+    }
+}
+
 /// The type that a type is where `long` has 64 bits.
 pub fn native(model: DataModel, ty: IntType) -> IntType
     ensures { result ≡ spec.native model ty }
 {
-    match (model, ty) {
-        (DataModel::Ilp32, IntType::Long) => IntType::Int,
-        (DataModel::Ilp32, IntType::ULong) => IntType::UInt,
-        _ => ty,
+    match model {
+        DataModel::Ilp32 => native_ilp32(ty),
+        DataModel::Lp64 => ty,
     }
 }
 
