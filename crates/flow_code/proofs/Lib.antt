@@ -1,2 +1,7 @@
-pub mod Lengths
 pub mod Gluing
+pub mod Listing
+pub mod Weights
+pub mod Readying
+pub mod Forms
+pub mod Blocks
+pub mod Lengths

@@ -73,12 +73,13 @@ fn add_body(program: &Program, ops: &mut Seq<Op>, function: &Function) -> Result
     let size = size_of_form(&function.body.form, 0, 0)?;
     emit(ops, 1, Action::Rest)?;
     let leave = ahead(ops, size)?;
+    let result = native_if(program.model, function.result);
     let inside = Inside {
         broken: leave,
         again: leave,
         inner: 0,
         scopes: 0,
-        result: native_if(program.model, function.result),
+        result,
     };
     let at = function.body.spot;
     form(program, ops, inside, at, &function.body.form)?;

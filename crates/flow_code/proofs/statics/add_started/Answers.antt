@@ -1,0 +1,13 @@
+use Rattle.std.proofs.Common.{rules, ◌++◌, ◌∙◌, ap, sym}
+use Rattle.run_state.proofs.Taking.{appended, next_cell}
+use Rattle.flow_code.specs.declared.code.First.{First}
+use Rattle.flow_code.specs.Programs.{cells_of}
+use Rattle.flow_code.proofs.Listing.{cells_pushed}
+use Rattle.flow_code.proofs.statics.add_started.Goals as goal
+
+pub loop-index-preserved : goal.loop-index-preserved
+loop-index-preserved c =
+    let first : First = record { object = c.args.object; index = c.loop-index.index; value = c.value_at-value.result } in
+    appended _ _ _ c.args.object c.loop-index.index c.args.values.now c.loop-index.invariant
+    (ap cells_of c.in_ok-push.ensures.ok ∙ cells_pushed c.loop-index.cells first
+    ∙ ap (λ ds. cells_of c.loop-index.cells ++ ds) (sym (next_cell c.args.object c.loop-index.index c.args.values.now c.value_at-value.result c.value_at-value.ensures)))
