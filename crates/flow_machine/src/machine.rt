@@ -77,7 +77,6 @@ fn left(alloc: Global, choices: &Choices) -> Result<Left, OutOfMemory> {
 
 fn first_cells(alloc: Global, code: &Code) -> Result<Memory, OutOfMemory> {
     let mut memory = Memory::new(alloc);
-    memory.lay_out(code.sizes.as_slice())?;
     for cell in code.first.as_slice() {
         memory.add(cell.object, cell.index, cell.value)?;
     }
