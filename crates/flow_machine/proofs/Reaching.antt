@@ -1,38 +1,32 @@
 -- What machines reach, part by part.
-use Rattle.std.proofs.Common.{◌≡◌, ℕ, zero, suc, ◌+◌, ◌-◌, ◌≤◌, ◌<◌, Bool, true, false, cond, List, Option, Some, None, slice_get, nat_le, refl, sym, ap, ◌∙◌, subst, arith}
-use Rattle.std.proofs.lemmas.Bool.Decides.{nat_tests}
-use Rattle.c_core.specs.Tree.{Program}
+use Rattle.std.proofs.Common.{◌≡◌, ℕ, zero, suc, ◌+◌, List, refl, sym, ap, ◌∙◌, arith}
 use Rattle.c_meaning.specs.declared.run.End.{End}
-use Rattle.c_meaning.specs.declared.run.End.TheVariants.{Spent}
 use Rattle.c_meaning.specs.declared.run.Event.{Event}
 use Rattle.c_meaning.specs.Cells.{Cell}
 use Rattle.c_meaning.specs.Acts.{Res, Go, Stop, bind}
 use Rattle.c_meaning.specs.Run.{State}
-use Rattle.flow_code.specs.declared.code.Op.{Op}
 use Rattle.flow_code.specs.declared.code.Code.{Code}
-use Rattle.flow_machine.specs.Machines.{Control, Machine}
-use Rattle.flow_machine.specs.Acting.{acted}
-use Rattle.flow_machine.specs.Stepping.{moved, due, done, done_if, step, steps, Reaches, Ends}
+use Rattle.flow_machine.specs.Machines.{Machine}
+use Rattle.flow_machine.specs.Stepping.{Turn, On, Short, Over, onward, outcome, step, steps, Reaches, Ends}
+
+onward_twice : {S : Type 0} (t : Turn S) (f g : Machine S → Turn S) → onward (onward t f) g ≡ onward t (λ x. onward (f x) g)
+onward_twice (On m) f g = refl
+onward_twice (Short m) f g = refl
+onward_twice (Over e s) f g = refl
+
+onward_same : {S : Type 0} (t : Turn S) (f g : Machine S → Turn S) → ((x : Machine S) → f x ≡ g x) → onward t f ≡ onward t g
+onward_same (On m) f g h = h m
+onward_same (Short m) f g h = refl
+onward_same (Over e s) f g h = refl
 
 module _ (c : Code) (S : Type 0) (after : Event → List Cell → S → S) where
-  abbrev Stepped : Type 0
-  Stepped = Res End (Machine S) (Unit {0})
-
-  bind_twice : (r : Stepped) (f g : Machine S → Stepped) → bind (bind r (λ _. f)) (λ _. g) ≡ bind r (λ _ x. bind (f x) (λ _. g))
-  bind_twice (Go a x) f g = refl
-  bind_twice (Stop e x) f g = refl
-
-  bind_same : (r : Stepped) (f g : Machine S → Stepped) → ((x : Machine S) → f x ≡ g x) → bind r (λ _. f) ≡ bind r (λ _. g)
-  bind_same (Go a x) f g h = h x
-  bind_same (Stop e x) f g h = refl
-
   -- some operations, and then some more
-  pub steps_on : (n m : ℕ) (x : Machine S) → steps c S after (n + m) x ≡ bind (steps c S after n x) (λ _. steps c S after m)
+  pub steps_on : (n m : ℕ) (x : Machine S) → steps c S after (n + m) x ≡ onward (steps c S after n x) (steps c S after m)
   steps_on zero m x = let e : 0 + m ≡ m = omega arith in rw e refl
   steps_on (suc n) m x =
       let e : suc n + m ≡ suc (n + m) = omega arith in
-      rw e (bind_same (step c S after x) (steps c S after (n + m)) (λ y. bind (steps c S after n y) (λ _. steps c S after m)) (steps_on n m)
-      ∙ sym (bind_twice (step c S after x) (steps c S after n) (steps c S after m)))
+      rw e (onward_same (step c S after x) (steps c S after (n + m)) (λ y. onward (steps c S after n y) (steps c S after m)) (steps_on n m)
+      ∙ sym (onward_twice (step c S after x) (steps c S after n) (steps c S after m)))
 
   pub reaches_itself : (m : Machine S) → Reaches c S after m m
   reaches_itself m = record { count = 0; is = refl }
@@ -40,29 +34,34 @@ module _ (c : Code) (S : Type 0) (after : Event → List Cell → S → S) where
   pub reaches_on : (x y z : Machine S) → Reaches c S after x y → Reaches c S after y z → Reaches c S after x z
   reaches_on x y z r q = record {
     count = r.count + q.count;
-    is = steps_on r.count q.count x ∙ ap (λ u. bind u (λ _. steps c S after q.count)) r.is ∙ q.is;
+    is = steps_on r.count q.count x ∙ ap (λ t. onward t (steps c S after q.count)) r.is ∙ q.is;
   }
 
-  pub ends_on : (x y z : Machine S) (e : End) → Reaches c S after x y → Ends c S after y e z → Ends c S after x e z
-  ends_on x y z e r q = record {
+  pub ends_on : (x y : Machine S) (e : End) (s : State S) → Reaches c S after x y → Ends c S after y e s → Ends c S after x e s
+  ends_on x y e s r q = record {
     count = r.count + q.count;
-    is = steps_on r.count q.count x ∙ ap (λ u. bind u (λ _. steps c S after q.count)) r.is ∙ q.is;
+    is = ap outcome (steps_on r.count q.count x ∙ ap (λ t. onward t (steps c S after q.count)) r.is) ∙ q.is;
   }
 
-  pub one_step : (x y : Machine S) → step c S after x ≡ Go tt y → Reaches c S after x y
-  one_step x y h = record { count = 1; is = ap (λ u. bind u (λ _. steps c S after 0)) h }
+  onward_end : (t : Turn S) (f : Machine S → Turn S) (e : End) (s : State S) → outcome t ≡ Stop e s → outcome (onward t f) ≡ Stop e s
+  onward_end (On m) f e s h = cc
+  onward_end (Short m) f e s h = h
+  onward_end (Over x u) f e s h = h
 
-  pub one_end : (x y : Machine S) (e : End) → step c S after x ≡ Stop e y → Ends c S after x e y
-  one_end x y e h = record { count = 1; is = ap (λ u. bind u (λ _. steps c S after 0)) h }
+  pub one_step : (x y : Machine S) → step c S after x ≡ On y → Reaches c S after x y
+  one_step x y h = record { count = 1; is = ap (λ t. onward t (steps c S after 0)) h }
+
+  pub one_end : (x : Machine S) (e : End) (s : State S) → outcome (step c S after x) ≡ Stop e s → Ends c S after x e s
+  one_end x e s h = record { count = 1; is = onward_end (step c S after x) (steps c S after 0) e s h }
 
   -- from a machine, a part of a run is done: the machine reaches one that stands behind the part, or comes to the part's end
   abbrev pub Does : {A : Type 0} → Machine S → Res End (State S) A → (A → State S → Machine S → Type 0) → Type 0
   Does x (Go a s) K = (y : Machine S) × Reaches c S after x y × K a s y
-  Does x (Stop e s) K = (y : Machine S) × Ends c S after x e y × (y.run ≡ s)
+  Does x (Stop e s) K = Ends c S after x e s
 
   pub does_from : {A : Type 0} (x y : Machine S) (r : Res End (State S) A) (K : A → State S → Machine S → Type 0) → Reaches c S after x y → Does y r K → Does x r K
   does_from x y (Go a s) K q d = (d.0, reaches_on x y d.0 q d.1, d.2)
-  does_from x y (Stop e s) K q d = (d.0, ends_on x y d.0 e q d.1, d.2)
+  does_from x y (Stop e s) K q d = ends_on x y e s q d
 
   -- a part, and what comes behind it
   pub does_then : {A B : Type 0} (x : Machine S) (r : Res End (State S) A) (k : A → State S → Res End (State S) B) (K : A → State S → Machine S → Type 0) (L : B → State S → Machine S → Type 0)

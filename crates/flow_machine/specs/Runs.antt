@@ -32,8 +32,7 @@ pub record Follows (p : Program) (c : Choices) (n m : ℕ) {S : Type 0} (after :
 -- the machine of a program's code comes to the end of the program's run, in the state in which that ends, whoever watches
 pub record IsSimulated (p : Program) (c : Code) : Type 1 where
   pub ends : (S : Type 0) (after : Event → List Cell → S → S) (x : S) (choices : Choices) (n : ℕ)
-      → (k : Machine S) × Ends c S after (first_machine c S x choices n) (end_of (run.Seen p S (seen_by after) x choices n)) k
-      × (k.run ≡ state_of (run.Seen p S (seen_by after) x choices n))
+      → Ends c S after (first_machine c S x choices n) (end_of (run.Seen p S (seen_by after) x choices n)) (state_of (run.Seen p S (seen_by after) x choices n))
 
 -- what nobody sees
 abbrev pub unseen : Event → List Cell → Unit {0} → Unit {0}
@@ -50,4 +49,4 @@ module _ (c : Code) where
   abbrev pub Rests : Choices → ℕ → Option End → Machine (Unit {0}) → Type 0
   Rests choices sum None m = (d : ℕ) → Leads (first_machine c (Unit {0}) tt choices (sum + d)) (with_steps d m)
   Rests choices sum (Some e) m =
-      (left : ℕ) × (left ≤ sum) × ((d : ℕ) → Ends c (Unit {0}) unseen (first_machine c (Unit {0}) tt choices (sum + d)) e (with_steps (left + d) m))
+      (left : ℕ) × (left ≤ sum) × ((d : ℕ) → Ends c (Unit {0}) unseen (first_machine c (Unit {0}) tt choices (sum + d)) e (with_steps (left + d) m).run)

@@ -1,7 +1,7 @@
 -- A machine of Rust as the machine of definitions.
-use Rattle.std.specs.Prelude.{◌≡◌, ℕ, ℤ, List, reverse, Option, Some, None, Result, Ok, Err}
+use Rattle.std.specs.Prelude.{◌≡◌, ◌⊎◌, ℕ, ℤ, List, reverse, Option, Some, None, Result, Ok, Err}
 use Rattle.c_core.specs.declared.number.Spot.{Spot}
-use Rattle.c_meaning.specs.declared.run.End.TheVariants.{Undefined}
+use Rattle.c_meaning.specs.declared.run.End.TheVariants.{Undefined, Spent}
 use Rattle.c_meaning.specs.declared.run.End.{End}
 use Rattle.c_meaning.specs.Acts.{Res, Go, Stop}
 use Rattle.c_meaning.specs.Run.{State, index_below}
@@ -11,6 +11,7 @@ use Rattle.run_state.specs.declared.machine.Halt.TheVariants.{Ends, NoMemory}
 use Rattle.flow_machine.specs.declared.control.Control.{Control as Here}
 use Rattle.flow_machine.specs.declared.control.Running.{Running}
 use Rattle.flow_machine.specs.Machines.{Control, Machine}
+use Rattle.flow_machine.specs.Stepping.{Turn, On, Short, Over}
 
 -- the top of each stack first
 abbrev pub control_of : Here → Control
@@ -36,10 +37,10 @@ Acts (Ok u) k s r = r ≡ Go k s
 Acts (Err (Ends e)) k s r = r ≡ Stop e s
 Acts (Err NoMemory) k s r = Unit {0}
 
--- one operation did what it is to do
-abbrev pub Steps : {S : Type 0} → Result (Unit {0}) Halt → Machine S → Res End (Machine S) (Unit {0}) → Type 0
-Steps (Ok u) m r = r ≡ Go tt m
-Steps (Err (Ends e)) m r = r ≡ Stop e m
+-- one operation did what it is to do; where memory is wanting, nothing is said
+abbrev pub Steps : {S : Type 0} → Result (Unit {0}) Halt → Machine S → Turn S → Type 0
+Steps (Ok u) m r = r ≡ On m
+Steps (Err (Ends e)) m r = ((r ≡ Short m) × (e ≡ Spent)) ⊎ (r ≡ Over e m.run)
 Steps (Err NoMemory) m r = Unit {0}
 
 -- an index of an array of so many elements, or the end of the run
