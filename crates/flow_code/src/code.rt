@@ -160,6 +160,7 @@ pub struct Op {
     pub action: Action,
 }
 
+/// A parameter of a function: its object, its type.
 #[derive(Clone, Copy, Debug, PartialEq, Eq)]
 pub struct Parameter {
     pub object: u32,

@@ -4,7 +4,6 @@ ghost use Rattle.c_core.specs.Operators as operators;
 ghost use Rattle.c_core.specs.Tree as t;
 ghost use Rattle.c_core.specs.View.{program_view, expr_view, node_view};
 ghost use Rattle.c_meaning.specs.Meaning.{Used};
-ghost use Rattle.c_meaning.specs.Objects as objects;
 ghost use Rattle.flow_code.specs.Expressions.{node_code, aim_code, stored_code, place_of};
 ghost use Rattle.flow_code.specs.Making.{IsReady};
 ghost use Rattle.flow_code.specs.Preparing as preparing;

@@ -1,5 +1,5 @@
 -- What each action does: it changes where the machine stands and the state of its run, or ends the run.
-use Rattle.std.specs.Prelude.{ℕ, zero, suc, ◌+◌, ◌-◌, ℤ, pos, negsuc, Bool, true, false, cond, not, ◌==◌, List, [], ◌∷◌, ◌++◌, length, take, drop, reverse, Option, Some, None, slice_get}
+use Rattle.std.specs.Prelude.{ℕ, zero, suc, ◌+◌, ◌-◌, ℤ, pos, negsuc, Bool, true, false, cond, not, nat_lt, ◌==◌, List, [], ◌∷◌, ◌++◌, length, take, drop, reverse, Option, Some, None, slice_get}
 use Rattle.c_core.specs.Types.{fit, is_zero, number_of}
 use Rattle.c_core.specs.Operators.{is_shift, apply_of, apply_one_of}
 use Rattle.c_core.specs.declared.number.BinOp.{BinOp}
@@ -69,9 +69,9 @@ abbrev pub stack_of : Operand → List ℤ → List ℤ
 stack_of Top vs = below vs
 stack_of _ vs = vs
 
--- an index that was found, from the stack
+-- an index that was found, from the stack: a number of 32 bits
 abbrev pub index_of : ℤ → ℕ
-index_of (pos i) = i
+index_of (pos i) = cond (nat_lt i 4294967296) i 0
 index_of (negsuc i) = 0
 
 abbrev pub key_at : Place → List ℤ → Key
