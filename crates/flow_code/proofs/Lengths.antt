@@ -16,9 +16,11 @@ use Rattle.flow_code.specs.declared.code.Then.{Then}
 use Rattle.flow_code.specs.declared.code.Then.TheVariants.{Push, Drop, Skip, Branch}
 use Rattle.flow_code.specs.declared.code.Into.{Into}
 use Rattle.flow_code.specs.declared.code.Op.{Op}
-use Rattle.flow_code.specs.Preparing.{followed, only, prepared, kept, rest, paired}
+use Rattle.flow_code.specs.Preparing.{followed, op, only, prepared, with_operand, kept, rest, paired}
 use Rattle.flow_code.specs.Sizes.{operand_in, operand_of, node_of, with_one, with_two, with_target, is_binary, as_stored, size, size_of_node, size_of_aim, size_of_place, size_of_all, size_of_callee}
-use Rattle.flow_code.specs.Expressions.{code, node_code, aim_code, place_code, args_code, callee_code, count_of, stored_by, stored_at, stored_code, site_at}
+use Rattle.flow_code.specs.declared.code.Action.TheVariants.{Give, Truth, Jump}
+use Rattle.c_meaning.specs.Objects.{type_of}
+use Rattle.flow_code.specs.Expressions.{code, node_code, aim_code, place_code, args_code, callee_code, count_of, stored_by, stored_at, stored_code, site_at, constant, as_type, source, operator}
 
 pub followed_size : (i : ℕ) (xs : List Op) (f : ℕ → List Op) (n m : ℕ) → length xs ≡ n → ((j : ℕ) → length (f j) ≡ m) → length (followed i xs f) ≡ n + m
 followed_size i xs f n m h g = length-append xs (f (i + length xs)) ∙ ap₂ ◌+◌ h (g (i + length xs))
@@ -138,24 +140,33 @@ module _ (p : Program) (at : Around) where
     node_size i k want spot ty (Logic both a b) x =
         let decided = i + (size a + (with_one (operand_of b) (size b) + 1)) in
         let first = code p at i k Used a (Skip (not both) decided) in
-        let all = followed_size i first _ (size a) (with_one (operand_of b) (size b)) (code_size i k Used a (Skip (not both) decided))
-        (λ j. one_size (operand_of b) 0 (code p at j 0 Used b Push) (size b) _ (code_size j 0 Used b Push)) in
-        length-append _ _ ∙ ap (λ n. n + 2) all
+        let second = λ (j : ℕ). with_operand (operand_of b) 0 (code p at j 0 Used b Push) (λ y. Truth y x) in
+        let all = followed_size i first second (size a) (with_one (operand_of b) (size b)) (code_size i k Used a (Skip (not both) decided))
+        (λ j. one_size (operand_of b) 0 (code p at j 0 Used b Push) (size b) (op (prepared (operand_of b) 0 (code p at j 0 Used b Push)).steps (Truth (prepared (operand_of b) 0 (code p at j 0 Used b Push)).operand x)) (code_size j 0 Used b Push)) in
+        length-append (followed i first second) (op 0 (Jump (decided + 1)) ∷ op 0 (Give (constant both) x) ∷ []) ∙ ap (λ n. n + 2) all
     node_size i k want spot ty (Choose mark e a b) x =
         let second = i + (size e + size a + 2) in
         let test = code p at i k Used e (Branch mark false second) in
-        let first = followed_size i test _ (size e) (size a + 1) (code_size i k Used e (Branch mark false second)) (λ j. one_more (code p at j 0 Used a Push) _ (size a) (code_size j 0 Used a Push)) in
-        let jumped = followed_size i _ _ (size e + (size a + 1)) 1 first (λ j. refl) in
-        followed_size i _ _ (size e + (size a + 1) + 1) (size b + 1) jumped (λ j. one_more (code p at j 0 Used b Push) _ (size b) (code_size j 0 Used b Push)) ∙ choice_sum (size e) (size a) (size b)
+        let yes = λ (j : ℕ). code p at j 0 Used a Push ++ as_type p.model ty x ∷ [] in
+        let no = λ (j : ℕ). code p at j 0 Used b Push ++ as_type p.model ty x ∷ [] in
+        let past = λ (j : ℕ). op 0 (Jump (second + (size b + 1))) ∷ [] in
+        let first = followed_size i test yes (size e) (size a + 1) (code_size i k Used e (Branch mark false second)) (λ j. one_more (code p at j 0 Used a Push) (as_type p.model ty x) (size a) (code_size j 0 Used a Push)) in
+        let jumped = followed_size i (followed i test yes) past (size e + (size a + 1)) 1 first (λ j. refl) in
+        followed_size i (followed i (followed i test yes) past) no (size e + (size a + 1) + 1) (size b + 1) jumped (λ j. one_more (code p at j 0 Used b Push) (as_type p.model ty x) (size b) (code_size j 0 Used b Push))
+        ∙ choice_sum (size e) (size a) (size b)
     node_size i k want spot ty (Comma a b) x =
         followed_size i (code p at i k Unused a Drop) (λ j. code p at j 0 Used b x.then) (size a) (size b) (code_size i k Unused a Drop) (λ j. code_size j 0 Used b x.then)
-    node_size i k want spot ty (Assign op (Expr s u n) e) x =
+    node_size i k want spot ty (Assign o (Expr s u n) e) x =
+        let into = stored_at p.model (Expr s u n) false x.then in
+        let plain = place_code p at i (k + 1) s n false in
         let j = place_code p at i (k + 1) s n true in
         let from = i + length j.ops + length (kept j.operand j.steps) in
-        let plain = place_code p at i (k + 1) s n false in
-        assign_size op _ _ (size_of_place n) (as_stored e (size e)) (with_target n (operand_of e) (size e))
-        (followed_size i plain.ops _ (size_of_place n) (as_stored e (size e)) (place_size i (k + 1) s n false) (λ l. stored_code_size l plain.steps e _))
-        (λ b. target_size (operand_of e) j.operand j.steps j.ops (code p at from (rest j.operand j.steps) Used e Push) (size_of_place n) (size e) (left_of n) _
+        let value = code p at from (rest j.operand j.steps) Used e Push in
+        let pair = paired j.operand j.steps (operand_of e) value in
+        let last = λ (b : BinOp). op pair.steps (operator p (source at spot) b (type_of (Expr s u n)) (type_of e) into pair.left pair.right) in
+        assign_size o (followed i plain.ops (λ l. stored_code p at l plain.steps e into)) (λ b. (j.ops ++ pair.ops) ++ last b ∷ []) (size_of_place n) (as_stored e (size e)) (with_target n (operand_of e) (size e))
+        (followed_size i plain.ops (λ l. stored_code p at l plain.steps e into) (size_of_place n) (as_stored e (size e)) (place_size i (k + 1) s n false) (λ l. stored_code_size l plain.steps e into))
+        (λ b. target_size (operand_of e) j.operand j.steps j.ops value (size_of_place n) (size e) (left_of n) (last b)
         (place_size i (k + 1) s n true) (code_size from (rest j.operand j.steps) Used e Push) (kept_target i (k + 1) s n true j.steps)
         ∙ ap (λ m. size_of_place n + m) (with_left n (operand_of e) (size e)))
     node_size i k want spot ty (Call callee es close) x =
