@@ -60,7 +60,11 @@ pub fn size(e: &Expr) -> Result<u32, OutOfMemory>
             Ok(sum)
         }
         Node::Assign { op, target, from } => size_of_assign(*op, target, from),
-        Node::Call { callee, args, .. } => {
+        Node::Call {
+            callee,
+            args,
+            close,
+        } => {
             let values = size_of_all(args.as_slice())?;
             let sum = more(size_of_callee(*callee), values)?;
             Ok(sum)

@@ -1,3 +1,6 @@
+use mir.Val.{SFits}
+use mir.Syntax.{w128}
+use Rattle.std.proofs.lemmas.Int.{to_z-of_z}
 use Rattle.std.proofs.Common.{◌≡◌, ◌+◌, pos, Bool, ◌++◌, ◌∷◌, [], ℕ, not, Option, None, Some, true, false, drop, length, refl, sym, ap, ap₂, ◌∙◌, arith, rules, append-nil}
 use Rattle.std.proofs.lemmas.List.{drop_all}
 use Rattle.std.proofs.lemmas.Result.{on_ok_weaker}
@@ -27,9 +30,11 @@ use Rattle.flow_code.proofs.+expression.Goals as goal
 
 pub expressions::expression-returns-in-Const : goal.expressions::expression-returns-in-Const
 expressions::expression-returns-in-Const t c =
+    let z : SFits w128 c.in-Const.value = search rules in
     let e : node_view c.args.e.now.node ≡ Const c.in-Const.value = rw c.in-Const.is refl in
     as_form (program_view c.args.program.now) c.args.around c.args.e.now (length c.args.ops.now) c.args.steps c.in_ok-sum.sum c.args.used c.args.then
-    (Const c.in-Const.value) c.args.ops.now c.give.new.ops c.give.result c.in_ok-sum.ensures e c.give.ensures
+    (Const c.in-Const.value) c.args.ops.now c.give.new.ops c.give.result c.in_ok-sum.ensures e
+    (rw (to_z-of_z w128 c.in-Const.value z) at c.give.ensures)
 
 pub expressions::expression-returns-in-Var : goal.expressions::expression-returns-in-Var
 expressions::expression-returns-in-Var t c =
@@ -355,6 +360,6 @@ pub calls::call-returns : goal.calls::call-returns
 calls::call-returns t c =
     let p = program_view c.args.program.now in
     let site : Bool → CallSite = λ b. record { spot = c.args.spot; close = c.args.close; needed = b } in
-    call_is p c.args.around c.args.spot c.args.close (use_of c.args.used) c.args.ty c.args.callee (exprs_view c.args.args.now) c.args.steps c.in_ok-left.left c.len.result (site c.is_needed-needed.result) c.args.then
-    c.args.ops.now c.arguments.new.ops c.emit.new.ops c.called.new.ops (ap site c.is_needed-needed.ensures) (c.len.ensures ∙ sym (counted_all c.args.args.now)) c.in_ok-left.ensures.code c.in_ok-left.ensures.due c.in_ok-emit.ensures c.in_ok-called.ensures
+    call_is p c.args.around c.args.spot c.args.close (use_of c.args.used) c.args.ty c.args.callee (exprs_view c.args.args.now) c.args.steps c.in_ok-left.left (length c.args.args.now) (site c.is_needed-needed.result) c.args.then
+    c.args.ops.now c.arguments.new.ops c.emit.new.ops c.called.new.ops (ap site c.is_needed-needed.ensures) (sym (counted_all c.args.args.now)) c.in_ok-left.ensures.code c.in_ok-left.ensures.due c.in_ok-emit.ensures c.in_ok-called.ensures
 
