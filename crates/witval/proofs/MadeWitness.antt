@@ -1,8 +1,8 @@
 -- A witness that is made is read as it was, and it is about its program.
-use Rattle.std.proofs.Common.{◌≡◌, ◌<◌, ℕ, zero, suc, List, [], ◌∷◌, ◌++◌, length, true, Result, Ok, Err, Option, Some, refl, sym, subst, ◌∙◌, arith, lit<}
-use Rattle.std.specs.Int.{w32, byte_at, bytes_high_first, to_be_bytes}
+use Rattle.std.proofs.Common.{◌≡◌, ◌<◌, ℕ, zero, suc, List, [], ◌∷◌, ◌++◌, length, slice_index, true, Result, Ok, Err, IfOk, Some, codes, refl, sym, ap, subst, ◌∙◌, arith, lit<}
+use Rattle.std.specs.Int.{byte_at, bytes_high_first}
 use Rattle.std.specs.List.{AllByRecursion}
-use Rattle.std.proofs.lemmas.Option.{same_Some}
+use Rattle.std.proofs.lemmas.Option.{none-some, same_Some}
 use Rattle.std.proofs.lemmas.Slice.Eq.{bytes_eq-Decides}
 use Rattle.hex.specs.Hex.{IsBytes}
 use Rattle.hex.proofs.HexLemmas.{decode_sized-encode_lower}
@@ -18,13 +18,12 @@ use Rattle.wv_author.specs.Witnesses.{drawn, hash_of, ranges, reached, witness}
 use Rattle.wv_author.specs.declared.making.Made.{Made}
 use Rattle.wv_report.specs.declared.reply.Reply.{Reply}
 use Rattle.wv_schema.specs.Canonical.{tree_of}
-use Rattle.wv_schema.specs.Schema.{witness_of}
 use Rattle.wv_schema.specs.declared.witness.Content.{Content}
 use Rattle.wv_schema.specs.declared.witness.Content.TheVariants.{Invariants, Violation}
 use Rattle.wv_schema.specs.declared.witness.Witness.{Witness}
 use Rattle.wv_schema.proofs.WrittenWitness.{read_again}
 use Rattle.wv_task.specs.PropertyText.{property_of}
-use Rattle.wv_task.specs.Task.{judged, spells}
+use Rattle.wv_task.specs.Task.{is_decoded, judged, spells}
 use Rattle.wv_yaml.specs.declared.tree.Tree.{Tree}
 use Rattle.wv_yaml.specs.Canon.{canon}
 use Rattle.wv_yaml.specs.Document.{Spelled}
@@ -59,7 +58,7 @@ joined_small (x ∷ xs) ys h k = (h.0, joined_small xs ys h.1 k)
 digest_small : (h : List ℕ) (n : ℕ) → AllByRecursion Small (digest_bytes h n)
 unfolding digest_bytes
 digest_small h zero = tt
-digest_small h (suc n) = joined_small (digest_bytes h n) _ (digest_small h n) (bytes_small 4 _)
+digest_small h (suc n) = joined_small (digest_bytes h n) _ (digest_small h n) (bytes_small 4 (slice_index h n))
 
 are_bytes : (xs : List ℕ) → AllByRecursion Small xs → IsBytes xs
 are_bytes [] h i = lit< tt
@@ -72,8 +71,8 @@ digests_are_bytes text = are_bytes (sha256 text) (digest_small (final_hash initi
 
 hash_spelled : (program : List ℕ) → spells (sha256 program) (hash_of program) ≡ true
 hash_spelled program =
-    rw (decode_sized-encode_lower (sha256 program) (length (sha256 program)) refl (digests_are_bytes program))
-    ((bytes_eq-Decides (sha256 program) (sha256 program)).1 refl)
+    ap (λ r. is_decoded (sha256 program) r) (decode_sized-encode_lower (sha256 program) (length (sha256 program)) refl (digests_are_bytes program))
+    ∙ (bytes_eq-Decides (sha256 program) (sha256 program)).1 refl
 
 -- it names its program, the property, the language and a data model
 pub about_its_program : (program : List ℕ) (content : Content) → judged (sha256 program) UnreachCall (witness program content).entries ≡ Ok Ilp32
@@ -94,7 +93,7 @@ past_answer : (budgets : Budgets) (program : List ℕ) (t : Tree) (reply : Reply
     → known itself IsRefusal answer (RightOnTree budgets UnreachCall program) reply → RightOnTree budgets UnreachCall program t reply
 past_answer budgets program t reply (Ok u) given right = subst (λ x. RightOnTree budgets UnreachCall program x reply) (sym (same_Some t u given)) right
 past_answer budgets program t reply (Err Bytes) given right = absurd given
-past_answer budgets program t reply (Err Grammar) given right = absurd (cc)
+past_answer budgets program t reply (Err Grammar) given right = absurd (none-some t (sym given))
 past_answer budgets program t reply (Err Duplicate) given right = absurd given
 past_answer budgets program t reply (Err OutOfMemory) given right = absurd right
 

@@ -2,10 +2,13 @@
 use Rattle.std.specs.Prelude.{◌≡◌, ℕ, ◌==◌, ◌&&◌, ◌||◌, List, [], ◌∷◌, ◌++◌, take, if◌then◌else◌, codes, decimal}
 use Rattle.std.specs.Fmt.{signed_decimal}
 use Rattle.std.specs.List.{position_or_len}
+use Rattle.c_check.specs.Checking.{Answers as CheckAnswers}
 use Rattle.c_core.specs.declared.number.DataModel.TheVariants.{Ilp32}
 use Rattle.c_core.specs.declared.number.Property.TheVariants.{UnreachCall}
 use Rattle.c_meaning.specs.declared.run.Draw.{Draw}
 use Rattle.c_meaning.specs.declared.verdict.Verdict.TheVariants.{ViolationConfirmed, ViolationNot, CorrectnessConfirmed, CorrectnessNot, Undecided}
+use Rattle.c_parser.specs.Parsing.{Answers as ParserAnswers, source_view}
+use Rattle.c_tokens.specs.Reading.{Answers as TokensAnswers}
 use Rattle.wv_arguments.specs.Words.{Budgets}
 use Rattle.wv_author.specs.Programs.{correct_program, faulty_program}
 use Rattle.wv_author.specs.Witnesses.{invariants, violation}
@@ -15,8 +18,9 @@ use Rattle.wv_report.specs.declared.reply.Reply.TheVariants.{Verdict as Judged, 
 use Rattle.wv_schema.specs.Canonical.{tree_of}
 use Rattle.wv_schema.specs.declared.witness.Witness.{Witness}
 use Rattle.wv_yaml.specs.Canon.{canon}
-use Rattle.witval.specs.Tasks.{RightOnInputs}
-use Rattle.witval.specs.inside.Rests.{RightOnText}
+use Rattle.witval.specs.Refusals.{IsCheckRefusal, IsSyntaxRefusal, IsTokenRefusal}
+use Rattle.witval.specs.Stages.{◌>>=◌, answered, itself}
+use Rattle.witval.specs.Tasks.{RightOnInputs, RightOnProgram}
 use Rattle.witval.specs.declared.demonstration.Demonstration.{Demonstration}
 
 -- ---- the replies
@@ -32,7 +36,11 @@ RightOnMade budgets program witness reply = RightOnInputs budgets program unreac
 
 -- the same, where the witness is read and is about its program: no refusal of YAML, of the schema or of the task comes
 abbrev pub RightOnRead : Budgets → List ℕ → Witness → Reply → Type 0
-RightOnRead budgets program witness reply = RightOnText budgets UnreachCall program witness Ilp32 reply
+RightOnRead budgets program_bytes witness = do
+  tokens ← answered (TokensAnswers program_bytes) itself IsTokenRefusal
+  source ← answered (ParserAnswers tokens) source_view IsSyntaxRefusal
+  program ← answered (CheckAnswers Ilp32 UnreachCall source) itself IsCheckRefusal
+  RightOnProgram budgets witness program
 
 -- the replies to the two programs of a number, each with its witness
 pub record IsDemonstration (number : ℕ) (budgets : Budgets) (demo : Demonstration) : Type 0 where

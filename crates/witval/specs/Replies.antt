@@ -110,7 +110,7 @@ RightAlone Within name old new (Demonstrated demo) = ⊥
 abbrev pub usage : Output
 usage = Report (plain (codes "usage"))
 
--- where the demo of a number is asked for, its lines are written; no file is read
+-- where the demo of a number is asked for, its lines are written, whatever files there are
 abbrev pub RightDemo : ℕ → Budgets → Output → Type 0
 RightDemo number budgets (Demonstrated demo) = IsDemonstration number budgets demo
 RightDemo number budgets (Report reply) = ⊥

@@ -1,6 +1,6 @@
-ghost use Rattle.std.specs.Prelude.{◌≡◌, IfOk};
+ghost use Rattle.std.specs.Prelude.{◌≡◌, ◌≤◌, IfOk};
 ghost use Rattle.wv_report.specs.Json.{HasJsonIntegers};
-ghost use Rattle.witval.specs.Replies.{CanonicalIn, Right, RightAlone, RightFor, SummaryIn};
+ghost use Rattle.witval.specs.Replies.{CanonicalIn, Right, RightAlone, RightDemo, RightFor, SummaryIn};
 ghost use Rattle.witval.specs.Running.{HasIntegers};
 ghost use Rattle.witval.specs.inside.Allowed.{AreAllowed, IsAllowed};
 ghost use Rattle.wv_arguments.specs.Requests.{limits, named, stated};
@@ -63,6 +63,16 @@ fn show<S: Shelf>(alloc: Global, name: &str, shelf: &mut S) -> Result<Output, Ou
     }
 }
 
+/// The demo of a number.
+fn demo(alloc: Global, number: u64, budgets: Budgets) -> Result<Output, OutOfMemory>
+    requires number { number ≤ 999999 }
+    requires allowed { IsAllowed (limits budgets) }
+    ensures { IfOk result (RightDemo number (limits budgets)) }
+{
+    let number = number as u32;
+    Ok(Output::Demo(demonstrate(alloc, number, budgets)?))
+}
+
 /// The output for what is asked, over the files of the shelf.
 pub fn answer<S: Shelf>(
     alloc: Global,
@@ -80,11 +90,7 @@ pub fn answer<S: Shelf>(
         )?)),
         Some(Request::Normalise(name)) => normalise(alloc, name, shelf),
         Some(Request::Show(name)) => show(alloc, name, shelf),
-        Some(Request::Demo { number, budgets }) => Ok(Output::Demo(demonstrate(
-            alloc,
-            number as u32,
-            budgets,
-        )?)),
+        Some(Request::Demo { number, budgets }) => demo(alloc, number, budgets),
         None => Ok(Output::Report(refuse_plainly(alloc, "usage")?)),
     }
 }

@@ -1,6 +1,5 @@
 // The demo of a number: both of its programs are judged, and told in a line each.
-ghost use Rattle.std.specs.Prelude.{◌≡◌, ◌≤◌, ◌++◌, IfOk, OnOk, length, string_bytes, take};
-ghost use Rattle.std.specs.List.{position_or_len};
+ghost use Rattle.std.specs.Prelude.{◌≡◌, ◌≤◌, ◌++◌, IfOk, OnOk, length, string_bytes};
 ghost use Rattle.sha2.specs.Sha256.{sha256};
 ghost use Rattle.c_core.specs.declared.number.DataModel.TheVariants.{Ilp32};
 ghost use Rattle.c_core.specs.declared.number.Property.TheVariants.{UnreachCall};

@@ -9,7 +9,7 @@ use std::alloc::Global;
 use wv_arguments::{Asked, read_words};
 use wv_base::{Shelf, Sink, write_all};
 
-/// What is asked for is read, judged, shown or brought into canonical form, and written.
+/// What is asked for is read or made, judged, shown or brought into canonical form, and written.
 fn run_asked<S: Shelf, O: Sink>(alloc: Global, asked: &Asked<'_>, shelf: &mut S, out: &mut O) -> u8
     requires { AreAllowed (stated asked.now).wanted }
     ensures runs { RunsFor (stated asked.now) (S.state shelf.old) (S.state shelf.new) (O.state out.old) (O.state out.new) result }
@@ -39,7 +39,8 @@ fn run_words<S: Shelf, O: Sink>(alloc: Global, words: &[String], shelf: &mut S, 
     }
 }
 
-/// All that the program does: it reads the files that the words name, judges, shows or brings into canonical form, and writes.
+/// All that the program does: it reads the files that the words name, judges, shows or brings into canonical form, or makes a demo and
+/// judges it, and writes.
 ///
 /// The status is the output's, 5 where a write failed, 6 where memory was wanted. All bytes stand in memory before the
 /// first of them is written.

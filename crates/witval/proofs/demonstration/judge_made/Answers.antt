@@ -8,11 +8,11 @@ use Rattle.witval.proofs.demonstration.judge_made.Goals as goal
 
 pub returns-clause-as_files : goal.returns-clause-as_files
 returns-clause-as_files c =
-    as_files_if (limits c.args.budgets) c.args.program.now c.as_bytes.result.now c.in_ok-bytes.bytes.items c.deref.result.now c.args.witness.now _ c.as_bytes.ensures.value c.deref.ensures.value
-    (c.in_ok-bytes.ensures.text ∙ ap canon c.in_ok-tree.ensures) c.judge_bytes.ensures
+    as_files_if (limits c.args.budgets) c.args.program.now c.as_bytes.result.now c.in_ok-bytes.bytes.items c.deref.result.now c.args.witness.now _
+    (c.as_bytes.ensures.value ∙ c.as_str.ensures) c.deref.ensures.value (c.in_ok-bytes.ensures.text ∙ ap canon c.in_ok-tree.ensures) c.judge_bytes.ensures
 
 pub returns-clause-past_task : goal.returns-clause-past_task
 returns-clause-past_task c =
     let spelled : Spelled (tree_of c.args.witness.now) c.in_ok-bytes.bytes.items = subst (λ t. Spelled t c.in_ok-bytes.bytes.items) c.in_ok-tree.ensures c.in_ok-bytes.ensures.spelled in
-    read_if (limits c.args.budgets) c.args.program.now c.as_bytes.result.now c.in_ok-bytes.bytes.items c.deref.result.now c.args.witness.now _ c.as_bytes.ensures.value c.deref.ensures.value
-    c.requires.written spelled c.requires.task c.judge_bytes.ensures
+    read_if (limits c.args.budgets) c.args.program.now c.as_bytes.result.now c.in_ok-bytes.bytes.items c.deref.result.now c.args.witness.now _
+    (c.as_bytes.ensures.value ∙ c.as_str.ensures) c.deref.ensures.value c.requires.written spelled c.requires.task c.judge_bytes.ensures
