@@ -6,3 +6,6 @@ pub mod AllowedBudgets
 pub mod JudgedSets
 pub mod MadeWitness
 pub mod FirstLine
+mod KnownStages
+mod FaultyDemo
+mod CorrectDemo

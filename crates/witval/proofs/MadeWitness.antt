@@ -1,5 +1,5 @@
 -- A witness that is made is read as it was, and it is about its program.
-use Rattle.std.proofs.Common.{◌≡◌, ◌<◌, ℕ, zero, suc, List, [], ◌∷◌, ◌++◌, length, slice_index, true, Result, Ok, Err, IfOk, Some, codes, refl, sym, ap, subst, ◌∙◌, arith, lit<}
+use Rattle.std.proofs.Common.{◌≡◌, ◌<◌, ◌≤◌, ℕ, zero, suc, List, [], ◌∷◌, ◌++◌, length, slice_index, true, Result, Ok, Err, IfOk, Some, codes, refl, sym, ap, subst, ◌∙◌, arith, lit<}
 use Rattle.std.specs.Int.{byte_at, bytes_high_first}
 use Rattle.std.specs.List.{AllByRecursion}
 use Rattle.std.proofs.lemmas.Option.{none-some, same_Some}
@@ -14,7 +14,7 @@ use Rattle.wv_arguments.specs.Words.{Budgets}
 use Rattle.wv_author.specs.Demo.{CanBeWritten, demo_of}
 use Rattle.wv_author.specs.Programs.{correct_program, faulty_program}
 use Rattle.wv_author.specs.Sequence.{bounds, loop_count}
-use Rattle.wv_author.specs.Witnesses.{drawn, hash_of, ranges, reached, witness}
+use Rattle.wv_author.specs.Witnesses.{drawn, hash_of, invariants, ranges, reached, violation, witness}
 use Rattle.wv_author.specs.declared.making.Made.{Made}
 use Rattle.wv_report.specs.declared.reply.Reply.{Reply}
 use Rattle.wv_schema.specs.Canonical.{tree_of}
@@ -31,6 +31,7 @@ use Rattle.wv_yaml.proofs.CanonLaws.{spelled_back}
 use Rattle.yaml_scalars.specs.Gives.{Gives}
 use Rattle.yaml_scalars.specs.declared.fault.YamlFault.{YamlFault}
 use Rattle.yaml_scalars.specs.declared.fault.YamlFault.TheVariants.{Bytes, Grammar, Duplicate, OutOfMemory}
+use Rattle.witval.specs.Confirming.{ConfirmsDemo, IsVerdict}
 use Rattle.witval.specs.Demos.{IsDemonstration, RightOnMade, RightOnRead, unreach_text}
 use Rattle.witval.specs.declared.demonstration.Demonstration.{Demonstration}
 use Rattle.witval.specs.Refusals.{IsRefusal, IsSchemaRefusal, IsTaskRefusal, plain}
@@ -137,12 +138,23 @@ of_demo n made e =
 -- the replies to what was made are those to the demo of the number
 pub demonstrated : (n : ℕ) (budgets : Budgets) (made : Made) (demo : Demonstration) → made ≡ demo_of n → demo.number ≡ n
     → RightOnMade budgets made.correct made.invariants demo.correct → RightOnMade budgets made.faulty made.violation demo.faulty
-    → RightOnRead budgets made.correct made.invariants demo.correct → RightOnRead budgets made.faulty made.violation demo.faulty → IsDemonstration n budgets demo
+    → RightOnRead budgets made.correct made.invariants demo.correct → RightOnRead budgets made.faulty made.violation demo.faulty
+    → (RightOnRead budgets (correct_program n) (invariants n (correct_program n)) demo.correct → IsVerdict demo.correct)
+    → (RightOnRead budgets (faulty_program n) (violation n (faulty_program n)) demo.faulty → IsVerdict demo.faulty × (100000 ≤ budgets.steps → ConfirmsDemo n demo.faulty))
+    → IsDemonstration n budgets demo
 unfolding demo_of
-demonstrated n budgets made demo e same on_correct on_faulty correct_read faulty_read = record {
-  same_number = same;
-  on_correct = subst (λ (m : Made). RightOnMade budgets m.correct m.invariants demo.correct) e on_correct;
-  on_faulty = subst (λ (m : Made). RightOnMade budgets m.faulty m.violation demo.faulty) e on_faulty;
-  correct_read = subst (λ (m : Made). RightOnRead budgets m.correct m.invariants demo.correct) e correct_read;
-  faulty_read = subst (λ (m : Made). RightOnRead budgets m.faulty m.violation demo.faulty) e faulty_read;
-}
+demonstrated n budgets made demo e same on_correct on_faulty correct_read faulty_read correct_law faulty_law =
+    let correct_right : RightOnRead budgets (correct_program n) (invariants n (correct_program n)) demo.correct =
+    subst (λ (m : Made). RightOnRead budgets m.correct m.invariants demo.correct) e correct_read in
+    let faulty_right : RightOnRead budgets (faulty_program n) (violation n (faulty_program n)) demo.faulty =
+    subst (λ (m : Made). RightOnRead budgets m.faulty m.violation demo.faulty) e faulty_read in
+    record {
+      same_number = same;
+      on_correct = subst (λ (m : Made). RightOnMade budgets m.correct m.invariants demo.correct) e on_correct;
+      on_faulty = subst (λ (m : Made). RightOnMade budgets m.faulty m.violation demo.faulty) e on_faulty;
+      correct_read = correct_right;
+      faulty_read = faulty_right;
+      correct_judged = correct_law correct_right;
+      faulty_judged = (faulty_law faulty_right).0;
+      confirmed = (faulty_law faulty_right).1;
+    }

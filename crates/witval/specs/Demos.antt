@@ -1,5 +1,5 @@
 -- The demo of a number: the replies to its two programs, and the three lines that tell them.
-use Rattle.std.specs.Prelude.{◌≡◌, ℕ, ◌==◌, ◌&&◌, ◌||◌, List, [], ◌∷◌, ◌++◌, take, if◌then◌else◌, codes, decimal}
+use Rattle.std.specs.Prelude.{◌≡◌, ◌≤◌, ℕ, ◌==◌, ◌&&◌, ◌||◌, List, [], ◌∷◌, ◌++◌, take, if◌then◌else◌, codes, decimal}
 use Rattle.std.specs.Fmt.{signed_decimal}
 use Rattle.std.specs.List.{position_or_len}
 use Rattle.c_check.specs.Checking.{Answers as CheckAnswers}
@@ -18,6 +18,7 @@ use Rattle.wv_report.specs.declared.reply.Reply.TheVariants.{Verdict as Judged, 
 use Rattle.wv_schema.specs.Canonical.{tree_of}
 use Rattle.wv_schema.specs.declared.witness.Witness.{Witness}
 use Rattle.wv_yaml.specs.Canon.{canon}
+use Rattle.witval.specs.Confirming.{ConfirmsDemo, IsVerdict}
 use Rattle.witval.specs.Refusals.{IsCheckRefusal, IsSyntaxRefusal, IsTokenRefusal}
 use Rattle.witval.specs.Stages.{◌>>=◌, answered, itself}
 use Rattle.witval.specs.Tasks.{RightOnInputs, RightOnProgram}
@@ -49,6 +50,11 @@ pub record IsDemonstration (number : ℕ) (budgets : Budgets) (demo : Demonstrat
   pub on_faulty : RightOnMade budgets (faulty_program number) (violation number (faulty_program number)) demo.faulty
   pub correct_read : RightOnRead budgets (correct_program number) (invariants number (correct_program number)) demo.correct
   pub faulty_read : RightOnRead budgets (faulty_program number) (violation number (faulty_program number)) demo.faulty
+  -- no refusal applies to them
+  pub correct_judged : IsVerdict demo.correct
+  pub faulty_judged : IsVerdict demo.faulty
+  -- with so many steps the given run of the faulty program violates the property and matches
+  pub confirmed : 100000 ≤ budgets.steps → ConfirmsDemo number demo.faulty
 
 -- ---- what is printed
 

@@ -2,6 +2,7 @@ pub mod Inputs
 pub mod Refusals
 pub mod Stages
 pub mod Tasks
+pub mod Confirming
 pub mod Demos
 pub mod Replies
 pub mod Running

@@ -9,6 +9,7 @@ ghost use Rattle.wv_task.specs.Task.{judged};
 ghost use Rattle.witval.specs.Demos.{IsDemonstration, RightOnMade, RightOnRead, demo_status, demo_text, drawn_values, first_line, numbers_of, told_line};
 ghost use Rattle.witval.specs.inside.Allowed.{IsAllowed};
 
+use crate::confirming::{correct_demos_are_judged, faulty_demos_are_confirmed};
 use crate::judging::judge_bytes;
 use c_core::Property;
 use c_meaning::{Draw, Verdict};
@@ -63,6 +64,8 @@ pub fn demonstrate(
     requires allowed { IsAllowed (limits budgets) }
     ensures { IfOk result (IsDemonstration number (limits budgets)) }
 {
+    correct_demos_are_judged();
+    faulty_demos_are_confirmed();
     let made = demo(alloc, number)?;
     let correct = judge_made(alloc, &made.correct, &made.invariants, budgets)?;
     let faulty = judge_made(alloc, &made.faulty, &made.violation, budgets)?;

@@ -5,6 +5,7 @@
 mod answer;
 mod binding;
 mod canonical;
+mod confirming;
 mod demonstration;
 mod input;
 mod judging;

@@ -3,8 +3,8 @@ use Rattle.demo_laws.specs.Lines.{spot}
 use Rattle.demo_run.proofs.Violated.{bounds_count}
 use Rattle.wv_author.specs.Demo.{AreWithin, demo_of}
 use Rattle.wv_author.specs.Sequence.{bounds, loop_count}
-use Rattle.demo_verdicts.proofs.FaultyDemo.{Laws, faulty_confirms, faulty_judged}
-use Rattle.demo_verdicts.proofs.laws.faulty_demos_are_confirmed.Goals as goal
+use Rattle.witval.proofs.FaultyDemo.{Laws, faulty_confirms, faulty_judged}
+use Rattle.witval.proofs.confirming.faulty_demos_are_confirmed.Goals as goal
 
 pub returns : goal.returns
 returns c =

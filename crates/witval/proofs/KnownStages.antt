@@ -30,7 +30,7 @@ use Rattle.way_match.specs.Points.{BoundSegment}
 use Rattle.way_match.specs.View.{segments_view}
 use Rattle.way_match.specs.declared.point.Bound.{Bound}
 use Rattle.wv_report.specs.declared.reply.Reply.{Reply}
-use Rattle.demo_verdicts.specs.Confirming.{IsVerdict}
+use Rattle.witval.specs.Confirming.{IsVerdict}
 use Rattle.sym_duties.specs.Answers.{CanBeJudged}
 use Rattle.sym_duties.specs.declared.fault.SymFault.{SymFault}
 use Rattle.sym_duties.specs.declared.fault.SymFault.TheVariants as fault

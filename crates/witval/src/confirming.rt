@@ -2,7 +2,7 @@
 ghost use Rattle.std.specs.Prelude.{◌≤◌, ℕ};
 ghost use Rattle.c_core.specs.declared.number.DataModel.TheVariants.{Ilp32};
 ghost use Rattle.c_core.specs.declared.number.Property.TheVariants.{UnreachCall};
-ghost use Rattle.demo_verdicts.specs.Confirming.{ConfirmsDemo, IsVerdict};
+ghost use Rattle.witval.specs.Confirming.{ConfirmsDemo, IsVerdict};
 ghost use Rattle.witval.specs.inside.Rests.{RightOnText};
 ghost use Rattle.wv_arguments.specs.Words.{Budgets};
 ghost use Rattle.wv_author.specs.Demo.{AreWithin, demo_of};

@@ -1,6 +1,6 @@
 use Rattle.wv_author.specs.Sequence.{bounds, loop_count}
-use Rattle.demo_verdicts.proofs.CorrectDemo.{correct_judged}
-use Rattle.demo_verdicts.proofs.laws.correct_demos_are_judged.Goals as goal
+use Rattle.witval.proofs.CorrectDemo.{correct_judged}
+use Rattle.witval.proofs.confirming.correct_demos_are_judged.Goals as goal
 
 pub returns : goal.returns
 returns c n budgets reply within right =

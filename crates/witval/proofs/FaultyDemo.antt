@@ -20,8 +20,8 @@ use Rattle.demo_laws.specs.Lines.{spot, tokens_from}
 use Rattle.demo_laws.specs.Source.{faulty_items}
 use Rattle.demo_run.specs.Segments.{Confirms, demo_segments}
 use Rattle.demo_run.specs.Typed.{faulty_typed}
-use Rattle.demo_verdicts.specs.Confirming.{ConfirmsDemo, IsVerdict}
-use Rattle.demo_verdicts.proofs.Stages.{OneOutcome, on_tokens, on_items, on_program, on_segments}
+use Rattle.witval.specs.Confirming.{ConfirmsDemo, IsVerdict}
+use Rattle.witval.proofs.KnownStages.{OneOutcome, on_tokens, on_items, on_program, on_segments}
 use Rattle.way_bind.specs.Binding.{Binds}
 use Rattle.way_bind.specs.declared.fault.BindFault.{BindFault}
 use Rattle.way_match.specs.Points.{BoundSegment}

@@ -19,8 +19,8 @@ use Rattle.demo_laws.specs.DemoLines.{correct_pieces}
 use Rattle.demo_laws.specs.Lines.{tokens_from}
 use Rattle.demo_laws.specs.Source.{correct_items}
 use Rattle.demo_run.specs.Typed.{correct_typed}
-use Rattle.demo_verdicts.specs.Confirming.{IsVerdict}
-use Rattle.demo_verdicts.proofs.Stages.{OneOutcome, on_tokens, on_items, on_program, on_placed, on_judged}
+use Rattle.witval.specs.Confirming.{IsVerdict}
+use Rattle.witval.proofs.KnownStages.{OneOutcome, on_tokens, on_items, on_program, on_placed, on_judged}
 use Rattle.sym_duties.specs.Answers.{CanBeJudged}
 use Rattle.way_bind.specs.declared.fault.BindFault.{BindFault}
 use Rattle.way_invariants.specs.Invariants.{BindsInvariants}

@@ -1,3 +1,0 @@
-pub mod Stages
-pub mod FaultyDemo
-pub mod CorrectDemo

@@ -1,6 +1,0 @@
-//! What the laws on a demo's programs come to: no stage of the validator refuses them, and the reply to the faulty one confirms its violation.
-#![tactic(auto)]
-
-mod laws;
-
-pub use laws::{correct_demos_are_judged, faulty_demos_are_confirmed};
