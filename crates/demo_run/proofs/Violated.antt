@@ -1,5 +1,5 @@
 -- The given run of a demo's faulty program violates the property and passes its witness's segments.
-use Rattle.std.proofs.Common.{◌≡◌, ◌<◌, ◌≤◌, ◌+◌, ◌*◌, ◌^◌, ℕ, zero, suc, pos, List, [], ◌∷◌, ◌++◌, length, Option, Some, None, refl, sym, ap, ◌∙◌, subst, arith, length-append}
+use Rattle.std.proofs.Common.{◌≡◌, ◌<◌, ◌≤◌, ◌+◌, ◌*◌, ◌^◌, ℕ, pos, List, [], ◌∷◌, length, Option, Some, None, sym, ap, subst, arith}
 use Rattle.std.specs.List.{AllByRecursion}
 use Rattle.c_core.specs.declared.number.DataModel.TheVariants.{Ilp32}
 use Rattle.c_core.specs.declared.number.Property.TheVariants.{UnreachCall}
@@ -12,35 +12,17 @@ use Rattle.way_match.specs.Given.{RunGiven, SeenGiven}
 use Rattle.way_match.specs.Matching.{Finds}
 use Rattle.way_match.specs.Points.{BoundSegment}
 use Rattle.way_match.specs.Verdicts.{IsGivenViolation, IsRightAt, IsRightOnViolation, verdict_at}
-use Rattle.wv_author.specs.Sequence.{bound, bounds, loop_count, sequence}
+use Rattle.wv_author.specs.Sequence.{bounds, loop_count}
 use Rattle.demo_laws.specs.Bounds.{IsBound, AreBounds}
 use Rattle.demo_laws.specs.Lines.{spot}
 use Rattle.demo_laws.specs.Source.{drawn_at, chosen_at, correct_items, faulty_items, line_behind}
 use Rattle.demo_run.specs.Segments.{Confirms, segments_at, demo_segments}
 use Rattle.demo_run.specs.Typed.{faulty_objects, faulty_rest, correct_typed, faulty_typed, loops}
+use Rattle.demo_laws.proofs.Bounds.{bounds_count, bounds_fit}
 use Rattle.demo_run.proofs.Calls.{call_there, drawn_once}
 use Rattle.demo_run.proofs.Elaborated.{correct_program_of, faulty_program_of}
 use Rattle.demo_run.proofs.Matched.{given_violates, given_draws}
 use Rattle.demo_run.proofs.Running.{run_violates}
-
--- ---- the bounds of a number
-
-joined : (xs ys : List ℕ) → AllByRecursion IsBound xs → AllByRecursion IsBound ys → AllByRecursion IsBound (xs ++ ys)
-joined [] ys h k = k
-joined (x ∷ xs) ys h k = (h.0, joined xs ys h.1 k)
-
-bound_is_one : (s : ℕ) → IsBound (bound s)
-bound_is_one s = record { some = omega arith; few = omega arith }
-
-bounds_are : (n k : ℕ) → AllByRecursion IsBound (bounds n k)
-unfolding bounds
-bounds_are n zero = tt
-bounds_are n (suc k) = joined (bounds n k) (bound (sequence n (suc k)) ∷ []) (bounds_are n k) (bound_is_one (sequence n (suc k)), tt)
-
-pub bounds_count : (n k : ℕ) → length (bounds n k) ≡ k
-unfolding bounds
-bounds_count n zero = refl
-bounds_count n (suc k) = let few = bounds_count n k in length-append (bounds n k) (bound (sequence n (suc k)) ∷ []) ∙ omega (arith, few)
 
 -- a loop has seven lines
 line_is : (l : ℕ) (bs : List ℕ) → line_behind l bs ≡ l + 7 * length bs
@@ -97,8 +79,8 @@ demo_is_violated n steps at small enough =
     let count : length bs ≡ 40 = bounds_count n loop_count in
     let line = line_is 4 bs in
     let there : line_behind 4 bs ≡ 284 = omega (arith, line, count) in
-    let run = typed_violates n bs at steps (omega (arith, small)) (bounds_are n loop_count) (omega (arith, count)) enough in
-    subst (λ p. IsViolated p (demo_segments n at) n steps) (sym (faulty_program_of n bs (omega (arith, small)) (bounds_are n loop_count)))
+    let run = typed_violates n bs at steps (omega (arith, small)) (bounds_fit n).each (omega (arith, count)) enough in
+    subst (λ p. IsViolated p (demo_segments n at) n steps) (sym (faulty_program_of n bs (omega (arith, small)) (bounds_fit n).each))
     (subst (λ ss. IsViolated (faulty_typed n bs) ss n steps) (places n at (line_behind 4 bs) there) run)
 
 pub demo_violates : (n steps : ℕ) (at : Spot) → n ≤ 999999 → 100000 ≤ steps →

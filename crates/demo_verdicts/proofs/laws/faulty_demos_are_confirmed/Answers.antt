@@ -1,6 +1,6 @@
 use Rattle.std.proofs.Common.{◌≤◌, ℕ, arith}
 use Rattle.demo_laws.specs.Lines.{spot}
-use Rattle.demo_run.proofs.Violated.{bounds_count}
+use Rattle.demo_laws.proofs.Bounds.{bounds_count}
 use Rattle.wv_author.specs.Demo.{AreWithin, demo_of}
 use Rattle.wv_author.specs.Sequence.{bounds, loop_count}
 use Rattle.demo_verdicts.proofs.FaultyDemo.{Laws, faulty_confirms, faulty_judged}
