@@ -1,8 +1,8 @@
-// The shelf and the sink in memory, whose calls fail by their number, and those that never fail.
+// The shelf and the sink in memory, whose calls fail by their number.
 use std::alloc::{AllocError, Global};
 use std::test::Fail;
 use witval::run;
-use wv_base::{MemoryShelf, MemorySink, OutOfMemory, SteadyShelf, SteadySink};
+use wv_base::{MemoryShelf, MemorySink, OutOfMemory};
 
 const PROGRAM: &str = "void reach_error() { }
 int __VERIFIER_nondet_int();
@@ -106,27 +106,5 @@ fn a_failing_write_leaves_a_prefix(rt: HostRuntime) -> Result<(), Fail> {
         5
     );
     assert_eq!(rt; out.bytes(), b"viola".as_slice());
-    Ok(())
-}
-
-const CONFIRMED: &str = "violation confirmed
-value 4:11 int 5
-segment 1 event 2
-segment 2 event 8
-";
-
-#[test]
-fn the_steady_shelf_and_sink_serve(rt: HostRuntime) -> Result<(), Fail> {
-    let alloc = rt.alloc();
-    let mut shelf = SteadyShelf::new(alloc, 2);
-    shelf.put("p", PROGRAM.as_bytes())?;
-    shelf.put("q", PROPERTY.as_bytes())?;
-    shelf.put("w", WITNESS.as_bytes())?;
-    let mut out = SteadySink::new(alloc, 1000)?;
-    assert_eq!(rt;
-        run(alloc, &words(alloc, VALIDATE)?, &mut shelf, &mut out),
-        0
-    );
-    assert_eq!(rt; out.bytes(), CONFIRMED.as_bytes());
     Ok(())
 }

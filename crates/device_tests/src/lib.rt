@@ -1,6 +1,8 @@
-//! The validator over devices that fail, and over those that never do: what no row of `rows` can say. The crate has tests alone,
+//! What no command line can say: the validator over devices that fail, and the texts and hashes of a demo. The crate has tests alone,
 //! above `witval`.
 #![tactic(auto)]
 
+#[cfg(test)]
+mod demos;
 #[cfg(test)]
 mod devices;

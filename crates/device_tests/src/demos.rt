@@ -17,22 +17,12 @@ fn hash_in(witness: &Witness) -> Option<&str> {
     Some(pair.hash.as_str())
 }
 
-#[test]
-fn the_number_gives_the_bounds(rt: HostRuntime) -> Result<(), Fail> {
-    let alloc = rt.alloc();
-    let zero = demo(alloc, 0)?;
-    has_line(&rt, zero.correct.as_str(), 4, "  while (x1 < 1) {");
-    has_line(&rt, zero.correct.as_str(), 11, "  while (x2 < 69) {");
-    let seven = demo(alloc, 7)?;
-    has_line(&rt, seven.correct.as_str(), 4, "  while (x1 < 65) {");
-    has_line(&rt, seven.faulty.as_str(), 284, "  if (y == 7) {");
-    Ok(())
-}
-
 /// The hashes are those that `sha256sum` gives for the two texts.
 #[test]
-fn each_witness_has_the_hash_of_its_program(rt: HostRuntime) -> Result<(), Fail> {
+fn the_number_gives_the_bounds_and_the_hashes(rt: HostRuntime) -> Result<(), Fail> {
     let made = demo(rt.alloc(), 7)?;
+    has_line(&rt, made.correct.as_str(), 4, "  while (x1 < 65) {");
+    has_line(&rt, made.faulty.as_str(), 284, "  if (y == 7) {");
     assert!(rt;
         hash_in(&made.invariants)
             == Some("52682147ccf83b6e1930582558dbc74a6406b6a9e304b6bce26076d258519ed4")
