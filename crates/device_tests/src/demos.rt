@@ -20,6 +20,9 @@ fn hash_in(witness: &Witness) -> Option<&str> {
 /// The hashes are those that `sha256sum` gives for the two texts.
 #[test]
 fn the_number_gives_the_bounds_and_the_hashes(rt: HostRuntime) -> Result<(), Fail> {
+    let zero = demo(rt.alloc(), 0)?;
+    has_line(&rt, zero.correct.as_str(), 4, "  while (x1 < 1) {");
+    has_line(&rt, zero.correct.as_str(), 11, "  while (x2 < 69) {");
     let made = demo(rt.alloc(), 7)?;
     has_line(&rt, made.correct.as_str(), 4, "  while (x1 < 65) {");
     has_line(&rt, made.faulty.as_str(), 284, "  if (y == 7) {");
