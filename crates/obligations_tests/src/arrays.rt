@@ -1,10 +1,8 @@
 // Arrays at variable indices.
-use crate::beside::differing;
 use crate::cases::Case;
-use std::test::Fail;
 use wv_schema::InvariantKind::{Location, Loop};
 
-const CASES: [Case; 3] = [
+pub const CASES: [Case; 3] = [
     Case {
         name: "elements",
         source: "\
@@ -96,11 +94,3 @@ int main() {
         ],
     },
 ];
-
-#[test]
-fn arrays_are_told_alike(rt: HostRuntime) -> Result<(), Fail> {
-    for case in &CASES {
-        assert_eq!(rt; differing(rt.alloc(), case)?, 0, "{}", case.name);
-    }
-    Ok(())
-}

@@ -2,6 +2,7 @@
 use crate::cases::{Case, Judged, evaluate};
 use crate::inputs::numbered_input;
 use crate::told::{Told, told_by_net};
+use crate::{arrays, branches, loops, operators};
 use c_core::{DataModel, Property};
 use c_havoc::run_havoc;
 use c_meaning::{Draw, HavocEnd};
@@ -52,8 +53,8 @@ fn count_differing(alloc: Global, judged: &Judged) -> Result<u64, OutOfMemory> {
     Ok(count)
 }
 
-/// Under so many inputs the net of a program and its run differ, under unreach-call in LP64 and no-overflow in ILP32.
-pub fn differing(alloc: Global, case: &Case) -> Result<u64, Fail> {
+// Under so many inputs the net of a program and its run differ, under unreach-call in LP64 and no-overflow in ILP32.
+fn differing(alloc: Global, case: &Case) -> Result<u64, Fail> {
     let calls = evaluate(
         alloc,
         case.source,
@@ -72,4 +73,21 @@ pub fn differing(alloc: Global, case: &Case) -> Result<u64, Fail> {
     .ok_or(case.name)?;
     let differing = count_differing(alloc, &calls)?;
     Ok(differing.saturating_add(count_differing(alloc, &overflows)?))
+}
+
+#[test]
+fn nets_and_runs_are_told_alike(rt: HostRuntime) -> Result<(), Fail> {
+    for case in &arrays::CASES {
+        assert_eq!(rt; differing(rt.alloc(), case)?, 0, "{}", case.name);
+    }
+    for case in &branches::CASES {
+        assert_eq!(rt; differing(rt.alloc(), case)?, 0, "{}", case.name);
+    }
+    for case in &loops::CASES {
+        assert_eq!(rt; differing(rt.alloc(), case)?, 0, "{}", case.name);
+    }
+    for case in &operators::CASES {
+        assert_eq!(rt; differing(rt.alloc(), case)?, 0, "{}", case.name);
+    }
+    Ok(())
 }

@@ -1,10 +1,8 @@
 // Programs without loops: branches, calls, early ends.
-use crate::beside::differing;
 use crate::cases::Case;
-use std::test::Fail;
 use wv_schema::InvariantKind::Location;
 
-const CASES: [Case; 4] = [
+pub const CASES: [Case; 4] = [
     Case {
         name: "choices",
         source: "\
@@ -119,11 +117,3 @@ int main() {
         claims: &[(Location, 10, "seen != 4"), (Location, 21, "seen == 2")],
     },
 ];
-
-#[test]
-fn branches_are_told_alike(rt: HostRuntime) -> Result<(), Fail> {
-    for case in &CASES {
-        assert_eq!(rt; differing(rt.alloc(), case)?, 0, "{}", case.name);
-    }
-    Ok(())
-}

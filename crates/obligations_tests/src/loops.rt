@@ -1,11 +1,9 @@
 // Loops of all kinds.
-use crate::beside::differing;
 use crate::cases::Case;
 use crate::examples::{COUNT_CALLS, COUNT_UP_DOWN};
-use std::test::Fail;
 use wv_schema::InvariantKind::{Location, Loop};
 
-const CASES: [Case; 6] = [
+pub const CASES: [Case; 6] = [
     Case {
         name: "nested loops",
         source: "\
@@ -147,11 +145,3 @@ int main() {
         claims: &[(Loop, 6, "g <= 20"), (Loop, 8, "g <= 20")],
     },
 ];
-
-#[test]
-fn loops_are_told_alike(rt: HostRuntime) -> Result<(), Fail> {
-    for case in &CASES {
-        assert_eq!(rt; differing(rt.alloc(), case)?, 0, "{}", case.name);
-    }
-    Ok(())
-}

@@ -1,10 +1,8 @@
 // Operators and types.
-use crate::beside::differing;
 use crate::cases::Case;
-use std::test::Fail;
 use wv_schema::InvariantKind::Location;
 
-const CASES: [Case; 3] = [
+pub const CASES: [Case; 3] = [
     Case {
         name: "shifts and quotients",
         source: "\
@@ -105,11 +103,3 @@ int main() {
         ],
     },
 ];
-
-#[test]
-fn operators_are_told_alike(rt: HostRuntime) -> Result<(), Fail> {
-    for case in &CASES {
-        assert_eq!(rt; differing(rt.alloc(), case)?, 0, "{}", case.name);
-    }
-    Ok(())
-}

@@ -1,13 +1,25 @@
 // The matcher beside the plain search.
+use crate::cases::program;
 use crate::plain::{Mark, Plain, Sign, any_fits, fits};
 use crate::trees::{at, first_is, number, target};
-use c_core::{IntType, Program};
+use c_core::{DataModel, IntType, Program, Property};
 use c_meaning::{Event, Memory, Watcher};
-use run_examples::branch_on_input;
 use std::alloc::Global;
 use std::test::Fail;
 use way_match::{Bound, BoundSegment, Matcher, Point};
 use wv_base::{OutOfMemory, Seq};
+
+const SOURCE: &str = "\
+void reach_error() { }
+int __VERIFIER_nondet_int();
+int main() {
+  int x = __VERIFIER_nondet_int();
+  if (x == 5) {
+    reach_error();
+  }
+  return 0;
+}
+";
 
 fn point_of(alloc: Global, mark: Mark) -> Result<Point, OutOfMemory> {
     match mark {
@@ -138,7 +150,7 @@ fn some_segments(alloc: Global, seed: u64) -> Result<Vec<Plain>, OutOfMemory> {
 #[test]
 fn positions_are_found_exactly_where_some_fit(rt: HostRuntime) -> Result<(), Fail> {
     let alloc = rt.alloc();
-    let program = branch_on_input(alloc, 5)?;
+    let program = program(alloc, SOURCE, Property::UnreachCall, DataModel::Ilp32).ok_or("refused")?;
     let mut random: u64 = 7;
     let mut matched: u64 = 0;
     for _ in 0..4000 {
@@ -156,27 +168,5 @@ fn positions_are_found_exactly_where_some_fit(rt: HostRuntime) -> Result<(), Fai
         }
     }
     assert!(rt; matched > 100);
-    Ok(())
-}
-
-#[test]
-fn assumptions_share_an_event(rt: HostRuntime) -> Result<(), Fail> {
-    let alloc = rt.alloc();
-    let program = branch_on_input(alloc, 5)?;
-    let mut segments = Vec::new(alloc);
-    segments.push(Plain {
-        avoids: Vec::new(alloc),
-        follow: Mark::Any,
-    })?;
-    segments.push(Plain {
-        avoids: Vec::new(alloc),
-        follow: Mark::One,
-    })?;
-    let bound = bound_of(alloc, segments.as_slice())?;
-    let positions = found(alloc, &program, &bound, [Sign::AtOne].as_slice())?;
-    assert!(rt; positions.is_some());
-    if let Some(positions) = positions {
-        assert_eq!(rt; positions.as_slice(), [0, 0].as_slice());
-    }
     Ok(())
 }
