@@ -1,8 +1,6 @@
 //! The checked program: types, operators, trees.
 #![tactic(auto)]
 
-#[cfg(test)]
-mod built;
 mod computing;
 mod laws;
 mod number;
@@ -10,12 +8,8 @@ mod operate;
 mod place;
 mod program;
 mod program_laws;
-#[cfg(test)]
-mod tests;
 mod tree;
 mod types;
-#[cfg(test)]
-mod worked;
 
 pub use computing::{
     computed, computed_one, fitted, is_shift, op_of_step, right_type_for, type_for,

@@ -1,3 +1,5 @@
 pub mod ExampleRuns
 pub mod ExampleHavocRuns
 pub mod Loops
+pub mod WorkedPlaces
+pub mod JudgedPrograms

@@ -4,7 +4,5 @@
 mod check;
 mod known;
 mod names;
-#[cfg(test)]
-mod tests;
 
 pub use check::check_expr;
