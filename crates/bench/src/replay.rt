@@ -1,9 +1,9 @@
 // Runs a loop at the bottom of a recursion, beside arrays of 256 live cells, and prints how the run ends, its steps and its
 // events: what bench/replay times. The words are the arrays, the depth of the recursion, the turns of the loop, and the budget.
+use crate::check::program_of;
 use c_core::Program;
 use c_interpreter::run_plain;
 use c_meaning::{Choices, End, Event, Memory, Run, Watcher};
-use run_examples::{NoProgram, count_deep};
 use std::alloc::Global;
 use std::io;
 use wv_base::{OutOfMemory, Seq};
@@ -36,6 +36,35 @@ struct Size {
     depth: u32,
     turns: u32,
     steps: u64,
+}
+
+/// A loop of so many turns at the bottom of a recursion, beside so many arrays of 256 cells.
+fn count_deep(alloc: Global, size: &Size) -> Result<String, OutOfMemory> {
+    let depth = size.depth;
+    let turns = size.turns;
+    let mut text = String::new(alloc);
+    for number in 0..size.arrays {
+        text.push_str(format!(in alloc; "int a{number}[256];\n")?.as_str())?;
+    }
+    let functions = format!(in alloc;
+        "int count(int n) {{
+  int x = 0;
+  if (n > 0) {{
+    return count(n - 1);
+  }}
+  while (x < {turns}) {{
+    x = x + 1;
+  }}
+  return 0;
+}}
+int main() {{
+  count({depth});
+  return 0;
+}}
+"
+    )?;
+    text.push_str(functions.as_str())?;
+    Ok(text)
 }
 
 fn number(word: Option<&String>) -> Option<u64> {
@@ -74,9 +103,12 @@ fn report(rt: &HostRuntime, program: &Program, size: &Size) -> io::Result<()> {
 }
 
 fn run_of(rt: &HostRuntime, size: &Size) -> io::Result<()> {
-    match count_deep(rt.alloc(), size.arrays, size.depth, size.turns) {
-        Ok(program) => report(rt, &program, size),
-        Err(NoProgram) => println!(rt; "no such program"),
+    let Ok(text) = count_deep(rt.alloc(), size) else {
+        return println!(rt; "out of memory");
+    };
+    match program_of(rt.alloc(), text.as_str().as_bytes()) {
+        Some(program) => report(rt, &program, size),
+        None => println!(rt; "no such program"),
     }
 }
 

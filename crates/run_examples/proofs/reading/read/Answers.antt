@@ -1,9 +1,0 @@
-use Rattle.std.proofs.Common.{◌<◌, ◌^◌, length, arith}
-use Rattle.c_tokens.specs.Reading.{Whole}
-use Rattle.c_parser.proofs.OrderlyTokens.{text_orderly}
-use Rattle.run_examples.proofs.reading.read.Goals as goal
-
-pub parse-requires : goal.parse-requires
-parse-requires c =
-    let short : length c.as_bytes-bytes.result.now < 2 ^ 30 = omega (arith, c.if-bytes-gt-MAX_LENGTH.false) in
-    text_orderly c.as_bytes-bytes.result.now c.in-Ok.found Whole short c.in-Ok.ensures.found
