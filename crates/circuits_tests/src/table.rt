@@ -1,14 +1,17 @@
 // Every operator at numbers of 8 bits that are converted to `int`, beside the calls on numbers.
 use c_core::{BinOp, DataModel, Done, IntType, UnOp, apply, apply_one, convert};
-use circuits::{Bits, Net, Outcome, apply_bits, convert_bits, input_bits, one_bits, value_of_bit};
+use circuits::{
+    Bits, Net, Outcome, apply_bits, choose_bits, const_bits, convert_bits, input_bits, one_bits,
+    value_of_bit,
+};
 use std::alloc::Global;
 use std::test::Fail;
 use wv_base::OutOfMemory;
 
-pub const LP64: DataModel = DataModel::Lp64;
+const LP64: DataModel = DataModel::Lp64;
 
-/// The number of bits, of the values of all nodes.
-pub fn number(values: &[bool], ty: IntType, bits: &Bits) -> i128 {
+// The number of bits, of the values of all nodes.
+fn number(values: &[bool], ty: IntType, bits: &Bits) -> i128 {
     let mut number: i128 = 0;
     for bit in bits.bits.as_slice().iter().rev() {
         let digit = i128::from(value_of_bit(values, *bit));
@@ -17,8 +20,8 @@ pub fn number(values: &[bool], ty: IntType, bits: &Bits) -> i128 {
     convert(LP64, ty, number)
 }
 
-/// What an outcome says, of the values of all nodes.
-pub fn done(values: &[bool], ty: IntType, out: &Outcome) -> Done {
+// What an outcome says, of the values of all nodes.
+fn done(values: &[bool], ty: IntType, out: &Outcome) -> Done {
     if value_of_bit(values, out.undefined) {
         return Done::Undefined;
     }
@@ -140,5 +143,19 @@ fn operators_agree_with_the_calls_on_numbers(rt: HostRuntime) -> Result<(), Fail
     for op in [UnOp::Plus, UnOp::Neg, UnOp::BitNot, UnOp::Not] {
         assert!(rt; unary_agrees(rt.alloc(), op)?);
     }
+    Ok(())
+}
+
+// The bit that chooses is a constant, so it folds.
+#[test]
+fn chooses_a_number(rt: HostRuntime) -> Result<(), Fail> {
+    let mut net = Net::new(rt.alloc())?;
+    let one = const_bits(rt.alloc(), &net, LP64, IntType::Int, 1)?;
+    let two = const_bits(rt.alloc(), &net, LP64, IntType::Int, 2)?;
+    let yes = net.yes();
+    let out = choose_bits(rt.alloc(), &mut net, yes, &one, &two)?;
+    let values = net.values(rt.alloc(), &[])?;
+    assert_eq!(rt; number(&values, IntType::Int, &out), 1);
+    assert_eq!(rt; net.ands(), 0);
     Ok(())
 }
