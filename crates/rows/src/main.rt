@@ -1,4 +1,4 @@
-//! Tries the rows of files of `data/`, whose names are its arguments: tokens, grammar, checks, runs, waypoints, tasks, the schema, YAML.
+//! Tries the rows of files of `data/`, whose names are its arguments: tokens, grammar, checks, runs, waypoints, trees of witnesses.
 //! It prints each row that differs, and then `N rows, M differ`. The head of `row_files` says how rows are written.
 #![tactic(auto)]
 
@@ -10,8 +10,6 @@ mod lexing;
 mod plain_run;
 mod schema;
 mod sources;
-mod tasks;
-mod yaml;
 
 use row_files::{Files, NotTried, Row, Trial, try_file};
 use std::alloc::Global;
@@ -40,20 +38,8 @@ fn came(files: &Rows<'_>, row: &Row) -> Result<String, NotTried> {
         "bind" => bind::told(files, row),
         "values" => bind::values(files, row),
         "calls" => bind::calls(files, row),
-        // The schema of a witness; its tree, read and made again.
-        "schema" => schema::told(files, row),
+        // The tree of a witness, read and made again.
         "same" => schema::tree_again(files, row),
-        // What a witness says about its task: texts, and what is judged of whole entries.
-        "property" => tasks::property_told(files, row),
-        "specification" => tasks::specification_told(files, row),
-        "created" => tasks::created_told(files, row),
-        "identifier" => tasks::identifier_told(files, row),
-        "task" => tasks::told(files, row),
-        // Whether YAML is read; its tree; its canonical form; a text between quotes.
-        "yaml" => yaml::told(files, row),
-        "tree" => yaml::tree(files, row),
-        "canonical" => yaml::written(files, row),
-        "quoted" => yaml::quoted(files, row),
         _ => Err(NotTried::Lacks("a kind, or it is no row")),
     }
 }

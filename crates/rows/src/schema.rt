@@ -1,7 +1,6 @@
-// Rows of the schema: a witness, and behind it its fault with its path or its segment, or `met`.
+// Rows of the schema: a witness, and whether its tree comes back.
 use row_files::{Files, NotTried, Row, witness};
-use std::alloc::{AllocError, Global};
-use wv_schema::{SchemaFault, Witness, tree_of, witness_of};
+use wv_schema::{Witness, tree_of, witness_of};
 use wv_yaml::{Tree, read};
 
 /// A row's witness as a tree.
@@ -12,28 +11,6 @@ fn tree(files: &impl Files, row: &Row) -> Result<Tree, NotTried> {
     match read(files.alloc(), bytes.as_slice()) {
         Ok(tree) => Ok(tree),
         Err(_) => Err(NotTried::Lacks("a witness that is YAML")),
-    }
-}
-
-fn fault(alloc: Global, fault: &SchemaFault) -> Result<String, AllocError> {
-    match fault {
-        SchemaFault::Missing(path) => format!(in alloc; "missing {}", path.as_str()),
-        SchemaFault::WrongKind(path) => format!(in alloc; "kind {}", path.as_str()),
-        SchemaFault::BadValue(path) => format!(in alloc; "value {}", path.as_str()),
-        SchemaFault::Version => String::from_str(alloc, "version"),
-        SchemaFault::Shape(segment) => format!(in alloc; "shape {segment}"),
-        SchemaFault::Entries => String::from_str(alloc, "entries"),
-        SchemaFault::OutOfMemory => Err(AllocError),
-    }
-}
-
-/// What is told of a row's witness.
-pub fn told(files: &impl Files, row: &Row) -> Result<String, NotTried> {
-    let alloc = files.alloc();
-    let tree = tree(files, row)?;
-    match witness_of(alloc, &tree) {
-        Ok(_) => Ok(String::from_str(alloc, "met")?),
-        Err(lack) => Ok(fault(alloc, &lack)?),
     }
 }
 

@@ -34,7 +34,7 @@ pub fn told(files: &impl Files, row: &Row) -> Result<String, NotTried> {
     let mut shelf = shelf(files, row)?;
     let words = words(alloc, row.wanted_text("words")?)?;
     // A write takes few bytes, so that a report is written in several.
-    let mut out = MemorySink::new(alloc, 1000, 7)?;
+    let mut out = MemorySink::new(alloc, 5000, 7)?;
     let status = run(alloc, &words, &mut shelf, &mut out);
     match str::from_utf8(out.bytes()) {
         Ok(report) => Ok(format!(in alloc; "{status} {report}")?),
