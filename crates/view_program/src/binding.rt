@@ -4,7 +4,7 @@ use crate::names::{at_loop, at_statement, names_of, names_text};
 use crate::nearest::{Wanted, columns, columns_text, first_spot, nearest_line};
 use crate::segments::Numbered;
 use crate::spelled::{invariant_word, place_text, spot_of, way_word};
-use c_core::{PlaceKind, Program, Spot};
+use c_core::{PlaceKind, Program};
 use std::alloc::Global;
 use view_text::{File, Files, Messages, wanted_place};
 use view_witness::{place_of_path, steps_of};
@@ -332,9 +332,4 @@ pub fn explain_claim(
         BindFault::Scope(_) => explain_scope(alloc, files, &index, claim, out),
         BindFault::OutOfMemory => Err(OutOfMemory),
     }
-}
-
-/// A place in the program, or its first character where there is none.
-pub fn first_character() -> Spot {
-    Spot { line: 1, column: 1 }
 }
