@@ -1,32 +1,10 @@
 // Rows of the whole program: its words and its files, and behind them its status and its report.
-use row_files::{Files, NotTried, Row, program, witness};
+use crate::command_lines::{shelf, words};
+use row_files::{Files, NotTried, Row};
 use std::alloc::Global;
 use std::str;
 use witval::run;
-use wv_base::{MemoryShelf, MemorySink, OutOfMemory};
-
-fn words(alloc: Global, line: &str) -> Result<Vec<String>, OutOfMemory> {
-    let mut words = Vec::new(alloc);
-    for word in line.split(' ') {
-        words.push(String::from_str(alloc, word)?)?;
-    }
-    Ok(words)
-}
-
-/// The files that a row gives: its program is `p`, its property is `q`, its witness is `w`.
-fn shelf(files: &impl Files, row: &Row) -> Result<MemoryShelf, NotTried> {
-    let mut shelf = MemoryShelf::new(files.alloc(), 4096);
-    if let Some(program) = program(files, row)? {
-        shelf.put("p", program.as_slice())?;
-    }
-    if let Some(property) = row.bytes("property") {
-        shelf.put("q", property)?;
-    }
-    if let Some(witness) = witness(files, row)? {
-        shelf.put("w", witness.as_slice())?;
-    }
-    Ok(shelf)
-}
+use wv_base::{MemorySink, OutOfMemory};
 
 /// The status, and behind a blank the report.
 pub fn told(files: &impl Files, row: &Row) -> Result<String, NotTried> {

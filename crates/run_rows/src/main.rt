@@ -1,8 +1,17 @@
-//! Tries the rows of files of `data/`, whose names are its arguments: command lines of the whole program over files in memory. It prints
-//! each row that differs, and then `N rows, M differ`. The head of `row_files` says how rows are written.
+//! Tries the rows of files of `data/`, whose names are its arguments: command lines of `witval` and of `witval-view` over files in memory.
+//! It prints each row that differs, and then `N rows, M differ`. The head of the crate `row_files` says how rows are written.
+//! - `run`: the status of `witval` and its report; `shape`: the same without the values that are drawn.
+//! - `view`: the status of `witval-view` and all that it prints. Of each the reply of `witval::run` must stand before all else, and a SARIF
+//!   log must have the members that the schema of SARIF 2.1.0 requires.
+//! - `list`: the same of a list, the field `text`, with one line of JSON for each of its lines.
 #![tactic(auto)]
 
+mod command_lines;
 mod commands;
+mod listing;
+mod replies;
+mod sarif;
+mod viewing;
 
 use row_files::{Files, NotTried, Row, Trial, try_file};
 use std::alloc::Global;
@@ -12,10 +21,10 @@ use std::{env, fs, io};
 /// What comes of a row, by its kind.
 fn came(files: &Rows<'_>, row: &Row) -> Result<String, NotTried> {
     match row.kind.as_str() {
-        // The whole program: its status and its report.
         "run" => commands::told(files, row),
-        // The same without the values that are drawn.
         "shape" => commands::told_without_values(files, row),
+        "view" => viewing::told(files, row),
+        "list" => listing::told(files, row),
         _ => Err(NotTried::Lacks("a kind, or it is no row")),
     }
 }
