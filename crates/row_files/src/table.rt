@@ -1,4 +1,4 @@
-// Files of rows: sections, and rows of named fields. `main.rt` says how they are written.
+// Files of rows: sections, and rows of named fields. `lib.rt` says how they are written.
 use crate::escapes::push_meant;
 use std::alloc::{AllocError, AllocFailed, Global};
 use std::str;
@@ -80,8 +80,8 @@ impl Row {
 
 fn is_field(name: &str) -> bool {
     match name {
-        "answer" | "edits" | "formula" | "given" | "hash" | "model" | "program" => true,
-        "property" | "segments" | "source" | "steps" | "text" | "values" => true,
+        "answer" | "edits" | "formula" | "hash" | "model" | "program" => true,
+        "property" | "segments" | "source" | "text" => true,
         "witness" | "words" | "yaml" => true,
         _ => false,
     }

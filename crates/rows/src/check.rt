@@ -66,11 +66,6 @@ pub fn told(files: &impl Files, row: &Row) -> Result<String, NotTried> {
 
 /// A row's program, which has to be one in ILP32.
 pub fn checked_program(files: &impl Files, row: &Row) -> Result<Program, NotTried> {
-    checked_for(files, row, Property::UnreachCall)
-}
-
-/// The same, for a property.
-pub fn checked_for(files: &impl Files, row: &Row, property: Property) -> Result<Program, NotTried> {
     let alloc = files.alloc();
     let Some(text) = program(files, row)? else {
         return Err(NotTried::Lacks("program"));
@@ -78,7 +73,7 @@ pub fn checked_for(files: &impl Files, row: &Row, property: Property) -> Result<
     let Some(Ok(source)) = parsed(alloc, text.as_slice()) else {
         return Err(NotTried::Lacks("a source that parses"));
     };
-    match check(alloc, &source, DataModel::Ilp32, property) {
+    match check(alloc, &source, DataModel::Ilp32, Property::UnreachCall) {
         Ok(program) => Ok(program),
         Err(_) => Err(NotTried::Lacks("a source that is a program")),
     }

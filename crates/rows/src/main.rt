@@ -1,4 +1,4 @@
-//! Tries the rows of files of `data/`, whose names are its arguments: tokens, grammar, checks, runs, waypoints, trees of witnesses.
+//! Tries the rows of files of `data/`, whose names are its arguments: tokens, grammar, checks, waypoints, trees of witnesses.
 //! It prints each row that differs, and then `N rows, M differ`. The head of `row_files` says how rows are written.
 #![tactic(auto)]
 
@@ -7,7 +7,6 @@ mod check;
 mod expressions;
 mod few;
 mod lexing;
-mod plain_run;
 mod schema;
 mod sources;
 
@@ -32,8 +31,6 @@ fn came(files: &Rows<'_>, row: &Row) -> Result<String, NotTried> {
         "result" => expressions::on_result(files, row),
         // The first refusal of a source.
         "check" => check::told(files, row),
-        // A run of a program, by the values of its input calls.
-        "plain-run" => plain_run::told(files, row),
         // The point of the first follow; the values given to input calls; all input calls.
         "bind" => bind::told(files, row),
         "values" => bind::values(files, row),
