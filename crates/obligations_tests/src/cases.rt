@@ -49,12 +49,7 @@ fn parsed(alloc: Global, text: &[u8]) -> Option<Source> {
 }
 
 /// The program of a text that isn't refused.
-pub fn program(
-    alloc: Global,
-    source: &str,
-    property: Property,
-    model: DataModel,
-) -> Option<Program> {
+fn program(alloc: Global, source: &str, property: Property, model: DataModel) -> Option<Program> {
     let source = parsed(alloc, source.as_bytes())?;
     check(alloc, &source, model, property).ok()
 }

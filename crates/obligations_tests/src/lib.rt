@@ -1,5 +1,5 @@
 //! The nets of programs beside their havoc runs: under each input the failing bits and the live sites tell the end and the draws of the
-//! run that draws the same. And the matcher beside a plain search over all positions. The crate has tests alone, above `sym_eval`.
+//! run that draws the same. The crate has tests alone, above `sym_eval`.
 #![tactic(auto)]
 
 #[cfg(test)]
@@ -19,10 +19,4 @@ mod loops;
 #[cfg(test)]
 mod operators;
 #[cfg(test)]
-mod plain;
-#[cfg(test)]
-mod search;
-#[cfg(test)]
 mod told;
-#[cfg(test)]
-mod trees;
