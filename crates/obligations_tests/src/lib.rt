@@ -1,5 +1,6 @@
 //! The nets of programs beside their havoc runs: under each input the failing bits and the live sites tell the end and the draws of the
-//! run that draws the same. The crate has tests alone, above `sym_eval`.
+//! run that draws the same. Circuits and their clauses: each operator beside the calls on numbers, the clauses of a bit, logs of
+//! resolution that are wrong in one place. The crate has tests alone, above `sym_eval` and `clauses`.
 #![tactic(auto)]
 
 #[cfg(test)]
@@ -11,12 +12,18 @@ mod branches;
 #[cfg(test)]
 mod cases;
 #[cfg(test)]
+mod conjunction;
+#[cfg(test)]
 mod examples;
 #[cfg(test)]
 mod inputs;
 #[cfg(test)]
+mod logs;
+#[cfg(test)]
 mod loops;
 #[cfg(test)]
 mod operators;
+#[cfg(test)]
+mod table;
 #[cfg(test)]
 mod told;
