@@ -7,7 +7,6 @@ mod evaluate;
 mod frontend;
 mod obligations;
 mod operators;
-mod replay;
 mod task;
 mod yaml;
 
@@ -25,9 +24,7 @@ fn words_of(rt: &HostRuntime) -> io::Result<Vec<String>> {
 }
 
 fn usage(rt: &HostRuntime) -> io::Result<ExitCode> {
-    println!(rt;
-        "usage: bench check|circuits|evaluate|frontend|obligations|replay|task|yaml WORD.."
-    )?;
+    println!(rt; "usage: bench check|circuits|evaluate|frontend|obligations|task|yaml WORD..")?;
     Ok(ExitCode::from(7))
 }
 
@@ -42,7 +39,6 @@ fn run(rt: &HostRuntime) -> io::Result<ExitCode> {
         "evaluate" => evaluate::run(rt, words)?,
         "frontend" => frontend::run(rt, words)?,
         "obligations" => obligations::run(rt, words)?,
-        "replay" => replay::run(rt, words)?,
         "task" => task::run(rt, words)?,
         "yaml" => yaml::run(rt, words)?,
         _ => return usage(rt),
