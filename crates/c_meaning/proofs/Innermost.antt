@@ -1,13 +1,30 @@
 -- The innermost of a list's live cells of one name.
-use Rattle.std.proofs.Common.{◌≡◌, ℕ, zero, suc, ◌<◌, ◌≤◌, ℤ, pos, List, [], ◌∷◌, ◌++◌, length, take, drop, get_or, Bool, true, false, ◌||◌, Some, None, cond, refl, sym, ap, ◌∙◌, arith, slice_set}
+use Rattle.std.proofs.Common.{◌≡◌, ℕ, zero, suc, ◌<◌, ◌≤◌, ℤ, pos, List, [], ◌∷◌, ◌++◌, length, take, drop, get_or, Bool, true, false, ◌||◌, Some, None, cond, nat_eq, eq-eqb, eqb-true, refl, sym, ap, ◌∙◌, arith, slice_set}
+use Rattle.std.proofs.lemmas.Bool.{and_parts, and_from}
 use Rattle.std.specs.Prelude.{slice_index_or, unwrap_or}
 use Rattle.c_meaning.specs.Cells.{Key, Cell, same_key, live, read, put, found}
 use Rattle.c_meaning.specs.Memory.{cell_of, cells_of, no_cell}
 use Rattle.c_meaning.specs.declared.memory.Live.{Live}
 
+-- names with the same numbers are the same
+pub keys_same : (a b : Key) → a.object ≡ b.object → a.index ≡ b.index → a ≡ b
+keys_same a b e f = ap (λ (o : ℕ). record a { object = o }) e ∙ ap (λ (i : ℕ). record b { index = i }) f
+
+pub same_key_is : (a b : Key) → same_key a b ≡ true → a ≡ b
+same_key_is a b h = let p = and_parts (nat_eq a.object b.object) (nat_eq a.index b.index) h in
+    keys_same a b (eqb-true a.object b.object p.0) (eqb-true a.index b.index p.1)
+
+pub same_key_self : (k : Key) → same_key k k ≡ true
+same_key_self k = and_from (nat_eq k.object k.object) (nat_eq k.index k.index) (eq-eqb k.object k.object refl) (eq-eqb k.index k.index refl)
+
 pub length_cells : (ls : List Live) → length (cells_of ls) ≡ length ls
 length_cells [] = refl
 length_cells (l ∷ ls) = ap suc (length_cells ls)
+
+-- no cells are seen where none are held
+pub no_cells : (ls : List Live) → cells_of ls ≡ [] → ls ≡ []
+no_cells [] h = refl
+no_cells (l ∷ ls) h = absurd (cc)
 
 pub cells_append : (ls : List Live) (l : Live) → cells_of (ls ++ l ∷ []) ≡ cells_of ls ++ cell_of l ∷ []
 cells_append [] l = refl

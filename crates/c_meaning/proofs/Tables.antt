@@ -1,25 +1,18 @@
 -- The table of a memory's cells: searches end, and find the innermost.
-use Rattle.std.proofs.Common.{◌≡◌, ℕ, zero, suc, ◌+◌, ◌*◌, ◌/◌, ◌%◌, ◌^◌, ◌<◌, ◌≤◌, ◌⊎◌, inl, inr, List, [], ◌∷◌, ◌++◌, length, map, reverse, Bool, true, false, cond, nat_lt, nat_eq, ltb-true, ltb-false, eq-eqb, eqb-true, get_or, drop, Option, Some, None, is_some, is_none, MatchOption, unwrap_or, refl, sym, ap, subst, ◌∙◌, arith, slice_set, get_or-set_same, get_or-set_other, length-set, length-append, set-set, pow_pos, div-lt_iff_lt-mul, mul_comm, mul-lt-mul_of_pos_right}
+use Rattle.std.proofs.Common.{◌≡◌, ℕ, zero, suc, ◌+◌, ◌*◌, ◌/◌, ◌%◌, ◌^◌, ◌<◌, ◌≤◌, ◌⊎◌, inl, inr, List, [], ◌∷◌, ◌++◌, length, map, reverse, Bool, true, false, cond, nat_lt, ltb-true, ltb-false, get_or, drop, Option, Some, None, is_some, is_none, MatchOption, unwrap_or, refl, sym, ap, subst, ◌∙◌, arith, slice_set, get_or-set_same, get_or-set_other, length-set, length-append, set-set, pow_pos, div-lt_iff_lt-mul, mul_comm, mul-lt-mul_of_pos_right}
+use Rattle.std.specs.Prelude.{slice_index_or}
 use Rattle.std.proofs.lemmas.Nat.{mod_below}
-use Rattle.std.proofs.lemmas.Bool.{true≢false, and_parts, and_from, cases_order, cases_eq, cases_lt, or_parts}
+use Rattle.std.proofs.lemmas.Bool.{true≢false, cases_order, cases_eq, cases_lt, or_parts}
 use Rattle.std.proofs.lemmas.Option.{none-some, same_Some}
 use Rattle.std.proofs.lemmas.List.{set-get_or, map-set, map_push, get_or-map, get_or_at, get_or_append_left, drop-append-le, reverse-append, reverse-reverse, length-reverse, length-map}
 use Rattle.c_meaning.specs.Cells.{Key, Cell, same_key, live}
 use Rattle.c_meaning.specs.Memory.{cell_of, cells_of, no_cell, IsInnermost}
-use Rattle.c_meaning.proofs.Innermost.{length_cells, cells_append, none_past}
-use Rattle.c_meaning.specs.Slots.{Named, name_of, names_of, place_of, key_of, entry_of, slot_of, place_in, home_of, turn, stops, slot, Passes, IsNext, Ends, Enters, IsTable, free, IsKept}
+use Rattle.c_meaning.proofs.Innermost.{same_key_is, same_key_self, length_cells, cells_append, none_past}
+use Rattle.c_meaning.specs.Slots.{Named, name_of, names_of, place_of, key_of, entry_of, slot_of, place_in, home_of, turn, stops, slot, Passes, IsNext, Ends, Enters, IsTable, place_among, outside, IsPlaced, free, IsKept}
+use Rattle.c_meaning.specs.Layout.{Rising, number_of}
+use Rattle.c_meaning.proofs.Layouts.{no_object, outside_place, outside_length, outside_numbered, outside_unnumbered, placed_more, placed_beside, placed_fewer, placed_left}
 use Rattle.c_meaning.specs.declared.memory.Live.{Live}
 use Rattle.c_meaning.specs.declared.slots.Entry.{Entry}
-
-same_key_is : (a b : Key) → same_key a b ≡ true → a ≡ b
-same_key_is a b h = let p = and_parts (nat_eq a.object b.object) (nat_eq a.index b.index) h in
-    by_numbers (eqb-true a.object b.object p.0) (eqb-true a.index b.index p.1)
-  where
-    by_numbers : a.object ≡ b.object → a.index ≡ b.index → a ≡ b
-    by_numbers e f = ap (λ (o : ℕ). record a { object = o }) e ∙ ap (λ (i : ℕ). record b { index = i }) f
-
-same_key_self : (k : Key) → same_key k k ≡ true
-same_key_self k = and_from (nat_eq k.object k.object) (nat_eq k.index k.index) (eq-eqb k.object k.object refl) (eq-eqb k.index k.index refl)
 
 -- when a slot's turn comes
 turn_cases : (home size i : ℕ) → ((i < home) × (turn home size i ≡ i + size)) ⊎ ((home ≤ i) × (turn home size i ≡ i))
@@ -40,30 +33,30 @@ ends_once k size t i j a b = by_order (cases_order (turn (home_of k size) size i
     by_order (inr (inl h)) = absurd (true≢false (sym a.here ∙ b.first i a.within h))
     by_order (inr (inr h)) = absurd (true≢false (sym b.here ∙ a.first j b.within h))
 
-table_size : (size : ℕ) (cs : List Named) (t : List (Option Entry)) → IsTable size cs t → length t ≡ size
+table_size : (size : ℕ) (es : List Entry) (t : List (Option Entry)) → IsTable size es t → length t ≡ size
 table_size size [] t h = h.0
-table_size size (c ∷ cs) t h = ap length h.2.written ∙ length-set h.0 h.2.i (Some (entry_of c.key (length cs))) ∙ table_size size cs h.0 h.1
+table_size size (e ∷ es) t h = ap length h.2.written ∙ length-set h.0 h.2.i (Some e) ∙ table_size size es h.0 h.1
 
 -- the written slot, and the others
-module _ (size : ℕ) (k : Key) (n : ℕ) (old new : List (Option Entry)) (w : Enters k n size old new) where
-  written_here : length old ≡ size → slot new w.i ≡ Some (entry_of k n)
-  written_here e = ap (λ t. slot t w.i) w.written ∙ get_or-set_same old w.i (Some (entry_of k n)) None (omega (arith, w.ends.within))
+module _ (size : ℕ) (x : Entry) (old new : List (Option Entry)) (w : Enters x size old new) where
+  written_here : length old ≡ size → slot new w.i ≡ Some x
+  written_here e = ap (λ t. slot t w.i) w.written ∙ get_or-set_same old w.i (Some x) None (omega (arith, w.ends.within))
 
   written_elsewhere : (i : ℕ) → (i ≡ w.i → ⊥) → slot new i ≡ slot old i
-  written_elsewhere i d = ap (λ t. slot t i) w.written ∙ get_or-set_other old w.i i (Some (entry_of k n)) None d
+  written_elsewhere i d = ap (λ t. slot t i) w.written ∙ get_or-set_other old w.i i (Some x) None d
 
   undone : slice_set new w.i (slot old w.i) ≡ old
-  undone = ap (λ t. slice_set t w.i (slot old w.i)) w.written ∙ set-set old w.i (Some (entry_of k n)) (slot old w.i) ∙ set-get_or old w.i None
+  undone = ap (λ t. slice_set t w.i (slot old w.i)) w.written ∙ set-set old w.i (Some x) (slot old w.i) ∙ set-get_or old w.i None
 
   earlier : (home i j : ℕ) → turn home size i < turn home size j → i ≡ j → ⊥
   earlier home i j h e = let f : turn home size i ≡ turn home size j = ap (turn home size) e in omega arith
 
   -- a search for the name ends there as before
-  ends_as_before : length old ≡ size → Ends k size new w.i
+  ends_as_before : length old ≡ size → Ends (key_of x) size new w.i
   ends_as_before e = record {
     within = w.ends.within;
-    here = ap (stops k) (written_here e) ∙ same_key_self k;
-    first = λ j h before. ap (stops k) (written_elsewhere j (earlier (home_of k size) j w.i before)) ∙ w.ends.first j h before;
+    here = ap (stops (key_of x)) (written_here e) ∙ same_key_self (key_of x);
+    first = λ j h before. ap (stops (key_of x)) (written_elsewhere j (earlier (home_of (key_of x) size) j w.i before)) ∙ w.ends.first j h before;
   }
 
   -- a search for another name that passes there
@@ -87,21 +80,21 @@ module _ (size : ℕ) (k : Key) (n : ℕ) (old new : List (Option Entry)) (w : E
   }
 
 -- what stands in a slot is the name of a live cell
-entries_live : (size : ℕ) (cs : List Named) (t : List (Option Entry)) (i : ℕ) (e : Entry) → IsTable size cs t → slot t i ≡ Some e → is_some (place_of (key_of e) cs) ≡ true
+entries_live : (size : ℕ) (es : List Entry) (t : List (Option Entry)) (i : ℕ) (e : Entry) → IsTable size es t → slot t i ≡ Some e → is_some (place_among (key_of e) es) ≡ true
 entries_live size [] t i e h s = absurd (none-some e (sym (h.1 i) ∙ s))
-entries_live size (c ∷ cs) t i e h s = by_place (λ q. entries_live size cs h.0 i e h.1 q) (cases_eq i h.2.i)
+entries_live size (c ∷ es) t i e h s = by_place (λ q. entries_live size es h.0 i e h.1 q) (cases_eq i h.2.i)
   where
-    by_test : (b : Bool) → is_some (place_of (key_of e) cs) ≡ true → is_some (cond b (Some (length cs)) (place_of (key_of e) cs)) ≡ true
+    by_test : (b : Bool) → is_some (place_among (key_of e) es) ≡ true → is_some (cond b (Some c.place) (place_among (key_of e) es)) ≡ true
     by_test true p = refl
     by_test false p = p
 
-    by_place : (slot h.0 i ≡ Some e → is_some (place_of (key_of e) cs) ≡ true) → (i ≡ h.2.i) ⊎ (i ≡ h.2.i → ⊥) → is_some (cond (same_key c.key (key_of e)) (Some (length cs)) (place_of (key_of e) cs)) ≡ true
+    by_place : (slot h.0 i ≡ Some e → is_some (place_among (key_of e) es) ≡ true) → (i ≡ h.2.i) ⊎ (i ≡ h.2.i → ⊥) → is_some (cond (same_key (key_of c) (key_of e)) (Some c.place) (place_among (key_of e) es)) ≡ true
     by_place older (inl q) =
-        let there = written_here size c.key (length cs) h.0 t h.2 (table_size size cs h.0 h.1) in
-        let same : entry_of c.key (length cs) ≡ e = same_Some _ _ (sym there ∙ ap (slot t) (sym q) ∙ s) in
-        let k : same_key c.key (key_of e) ≡ true = ap (λ (x : _). same_key c.key (key_of x)) (sym same) ∙ same_key_self c.key in
+        let there = written_here size c h.0 t h.2 (table_size size es h.0 h.1) in
+        let same : c ≡ e = same_Some _ _ (sym there ∙ ap (slot t) (sym q) ∙ s) in
+        let k : same_key (key_of c) (key_of e) ≡ true = ap (λ (x : _). same_key (key_of c) (key_of x)) (sym same) ∙ same_key_self (key_of c) in
         rw k refl
-    by_place older (inr d) = by_test (same_key c.key (key_of e)) (older (sym (written_elsewhere size c.key (length cs) h.0 t h.2 i d) ∙ s))
+    by_place older (inr d) = by_test (same_key (key_of c) (key_of e)) (older (sym (written_elsewhere size c h.0 t h.2 i d) ∙ s))
 
 none_of : (k : Key) (n : Option ℕ) → None ≡ slot_of k n → n ≡ None
 none_of k None h = refl
@@ -111,40 +104,40 @@ not_live : (n : Option ℕ) → n ≡ None → is_some n ≡ true → ⊥
 not_live n e h = true≢false (sym h ∙ ap is_some e)
 
 -- where a search ends, the place of the innermost cell of the name stands, if one is live
-module _ (size : ℕ) (c : Named) (cs : List Named) (old new : List (Option Entry)) (h : IsTable size cs old) (w : Enters c.key (length cs) size old new) (k : Key) (i : ℕ) (a : Ends k size new i) where
+module _ (size : ℕ) (c : Entry) (es : List Entry) (old new : List (Option Entry)) (h : IsTable size es old) (w : Enters c size old new) (k : Key) (i : ℕ) (a : Ends k size new i) where
   abbrev Found : List (Option Entry) → ℕ → Type 0
-  Found t j = slot t j ≡ slot_of k (place_of k cs)
+  Found t j = slot t j ≡ slot_of k (place_among k es)
 
-  same_name : same_key c.key k ≡ true → slot new i ≡ slot_of k (Some (length cs))
+  same_name : same_key (key_of c) k ≡ true → slot new i ≡ slot_of k (Some c.place)
   same_name e =
-      let q : c.key ≡ k = same_key_is c.key k e in
-      let there = ends_as_before size c.key (length cs) old new w (table_size size cs old h) in
+      let q : key_of c ≡ k = same_key_is (key_of c) k e in
+      let there = ends_as_before size c old new w (table_size size es old h) in
       let j : i ≡ w.i = ends_once k size new i w.i a (subst (λ l. Ends l size new w.i) q there) in
-      ap (slot new) j ∙ written_here size c.key (length cs) old new w (table_size size cs old h) ∙ ap (λ l. Some (entry_of l (length cs))) q
+      ap (slot new) j ∙ written_here size c old new w (table_size size es old h) ∙ ap (λ l. Some (entry_of l c.place)) q
 
-  module _ (differs : same_key c.key k ≡ false) (older : (j : ℕ) → Ends k size old j → Found old j) where
+  module _ (differs : same_key (key_of c) k ≡ false) (older : (j : ℕ) → Ends k size old j → Found old j) where
     elsewhere : i ≡ w.i → ⊥
-    elsewhere e = true≢false (sym a.here ∙ ap (stops k) (ap (slot new) e ∙ written_here size c.key (length cs) old new w (table_size size cs old h)) ∙ differs)
+    elsewhere e = true≢false (sym a.here ∙ ap (stops k) (ap (slot new) e ∙ written_here size c old new w (table_size size es old h)) ∙ differs)
 
     as_older : (turn (home_of k size) size w.i < turn (home_of k size) size i → stops k (slot old w.i) ≡ false) → Found new i
-    as_older passed = written_elsewhere size c.key (length cs) old new w i elsewhere ∙ older i (ends_past size c.key (length cs) old new w k i a elsewhere passed)
+    as_older passed = written_elsewhere size c old new w i elsewhere ∙ older i (ends_past size c old new w k i a elsewhere passed)
 
     -- the slot was free, so no such cell is live
     was_free : slot old w.i ≡ None → turn (home_of k size) size w.i < turn (home_of k size) size i → Found new i
-    was_free empty before = written_elsewhere size c.key (length cs) old new w i elsewhere ∙ by_slot (slot old i) refl
+    was_free empty before = written_elsewhere size c old new w i elsewhere ∙ by_slot (slot old i) refl
       where
-        none : place_of k cs ≡ None
-        none = none_of k (place_of k cs) (sym empty ∙ older w.i (ends_before size c.key (length cs) old new w k i a empty before))
+        none : place_among k es ≡ None
+        none = none_of k (place_among k es) (sym empty ∙ older w.i (ends_before size c old new w k i a empty before))
 
-        by_slot : (x : Option Entry) → slot old i ≡ x → slot old i ≡ slot_of k (place_of k cs)
+        by_slot : (x : Option Entry) → slot old i ≡ x → slot old i ≡ slot_of k (place_among k es)
         by_slot None e = e ∙ ap (slot_of k) (sym none)
         by_slot (Some x) e =
-            let q : key_of x ≡ k = same_key_is (key_of x) k (ap (stops k) (sym (written_elsewhere size c.key (length cs) old new w i elsewhere ∙ e)) ∙ a.here) in
-            absurd (not_live (place_of k cs) none (ap (λ l. is_some (place_of l cs)) (sym q) ∙ entries_live size cs old i x h e))
+            let q : key_of x ≡ k = same_key_is (key_of x) k (ap (stops k) (sym (written_elsewhere size c old new w i elsewhere ∙ e)) ∙ a.here) in
+            absurd (not_live (place_among k es) none (ap (λ l. is_some (place_among l es)) (sym q) ∙ entries_live size es old i x h e))
 
     by_slot : (x : Option Entry) → slot old w.i ≡ x → Found new i
     by_slot (Some x) e =
-        let q : key_of x ≡ c.key = same_key_is (key_of x) c.key (ap (stops c.key) (sym e) ∙ w.ends.here) in
+        let q : key_of x ≡ key_of c = same_key_is (key_of x) (key_of c) (ap (stops (key_of c)) (sym e) ∙ w.ends.here) in
         as_older (λ before. ap (stops k) e ∙ ap (λ l. same_key l k) q ∙ differs)
     by_slot None e = by_order (cases_order (turn (home_of k size) size w.i) (turn (home_of k size) size i))
       where
@@ -156,13 +149,13 @@ module _ (size : ℕ) (c : Named) (cs : List Named) (old new : List (Option Entr
     other_name : Found new i
     other_name = by_slot (slot old w.i) refl
 
-found_where_it_ends : (size : ℕ) (cs : List Named) (t : List (Option Entry)) (k : Key) (i : ℕ) → IsTable size cs t → Ends k size t i → slot t i ≡ slot_of k (place_of k cs)
+found_where_it_ends : (size : ℕ) (es : List Entry) (t : List (Option Entry)) (k : Key) (i : ℕ) → IsTable size es t → Ends k size t i → slot t i ≡ slot_of k (place_among k es)
 found_where_it_ends size [] t k i h a = h.1 i
-found_where_it_ends size (c ∷ cs) t k i h a = by_name (same_key c.key k) refl (λ j b. found_where_it_ends size cs h.0 k j h.1 b)
+found_where_it_ends size (c ∷ es) t k i h a = by_name (same_key (key_of c) k) refl (λ j b. found_where_it_ends size es h.0 k j h.1 b)
   where
-    by_name : (b : Bool) → same_key c.key k ≡ b → ((j : ℕ) → Ends k size h.0 j → slot h.0 j ≡ slot_of k (place_of k cs)) → slot t i ≡ slot_of k (cond (same_key c.key k) (Some (length cs)) (place_of k cs))
-    by_name true e older = rw e (same_name size c cs h.0 t h.1 h.2 k i a e)
-    by_name false e older = rw e (other_name size c cs h.0 t h.1 h.2 k i a e older)
+    by_name : (b : Bool) → same_key (key_of c) k ≡ b → ((j : ℕ) → Ends k size h.0 j → slot h.0 j ≡ slot_of k (place_among k es)) → slot t i ≡ slot_of k (cond (same_key (key_of c) k) (Some c.place) (place_among k es))
+    by_name true e older = rw e (same_name size c es h.0 t h.1 h.2 k i a e)
+    by_name false e older = rw e (other_name size c es h.0 t h.1 h.2 k i a e older)
 
 -- a slot is free while there are fewer cells than slots
 free_all : (t : List (Option Entry)) → ((i : ℕ) → slot t i ≡ None) → free t ≡ length t
@@ -180,11 +173,11 @@ free_written (y ∷ t) zero x = by_slots y x
     by_slots (Some y) (Some x) = omega arith
 free_written (y ∷ t) (suc i) x = let h = free_written t i x in omega (arith, h)
 
-pub free_left : (size : ℕ) (cs : List Named) (t : List (Option Entry)) → IsTable size cs t → size ≤ free t + length cs
+pub free_left : (size : ℕ) (es : List Entry) (t : List (Option Entry)) → IsTable size es t → size ≤ free t + length es
 free_left size [] t h = omega (arith, h.0, free_all t h.1)
-free_left size (c ∷ cs) t h =
-    let older = free_left size cs h.0 h.1 in
-    let one = free_written h.0 h.2.i (Some (entry_of c.key (length cs))) in
+free_left size (c ∷ es) t h =
+    let older = free_left size es h.0 h.1 in
+    let one = free_written h.0 h.2.i (Some c) in
     let e = ap free h.2.written in
     omega (arith, older, one, e)
 
@@ -293,49 +286,108 @@ pub located : (k : Key) (ls : List Live) → MatchOption (place_of k (names_of l
 unfolding Located
 located k ls = subst (Located k) (reverse-reverse ls) (located_backwards k (reverse ls))
 
--- a memory's table
-pub kept_free : (cs : List Named) (t : List (Option Entry)) → IsKept cs t → 0 < length t → 0 < free t
-kept_free cs t k h = let f = free_left (length t) cs t k.table in omega (arith, f, k.half, h)
+-- what a memory keeps
+pub kept_free : (starts : List ℕ) (places : List (Option ℕ)) (cs : List Named) (t : List (Option Entry)) → IsKept starts places cs t → 0 < length t → 0 < free t
+kept_free starts places cs t k h =
+    let f = free_left (length t) (outside starts cs) t k.table in
+    let n = outside_length starts cs in
+    omega (arith, f, n, k.half, h)
 
 placed_back : (k : Key) (n : Option ℕ) → place_in (slot_of k n) ≡ n
 placed_back k None = refl
 placed_back k (Some n) = refl
 
-pub kept_found : (cs : List Named) (t : List (Option Entry)) (k : Key) (i : ℕ) → IsKept cs t → Ends k (length t) t i → place_in (slot t i) ≡ place_of k cs
-kept_found cs t k i h a = ap place_in (found_where_it_ends (length t) cs t k i h.table a) ∙ placed_back k (place_of k cs)
+-- the table's answer for a name outside of the layout
+pub kept_found : (starts : List ℕ) (places : List (Option ℕ)) (cs : List Named) (t : List (Option Entry)) (k : Key) (i : ℕ) → number_of starts k ≡ None → IsKept starts places cs t → Ends k (length t) t i → place_in (slot t i) ≡ place_of k cs
+kept_found starts places cs t k i e h a = ap place_in (found_where_it_ends (length t) (outside starts cs) t k i h.table a) ∙ placed_back k (place_among k (outside starts cs)) ∙ outside_place starts k e cs
 
 -- made anew, of another size
-pub kept_anew : (cs : List Named) (t u : List (Option Entry)) (size : ℕ) → IsKept cs t → length u ≡ size → IsTable size cs u → length cs ≤ size / 2 → IsKept cs u
-kept_anew cs t u size h e table half = record {
-  table = subst (λ n. IsTable n cs u) (sym e) table;
+pub kept_anew : (starts : List ℕ) (places : List (Option ℕ)) (cs : List Named) (t u : List (Option Entry)) (size : ℕ) → IsKept starts places cs t → length u ≡ size → IsTable size (outside starts cs) u → length cs ≤ size / 2 → IsKept starts places cs u
+kept_anew starts places cs t u size h e table half = record {
+  rising = h.rising;
+  placed = h.placed;
+  table = subst (λ n. IsTable n (outside starts cs) u) (sym e) table;
   chained = h.chained;
   half = subst (λ (n : ℕ). length cs ≤ n / 2) (sym e) half;
 }
 
--- with one cell more
-pub kept_more : (cs : List Named) (t : List (Option Entry)) (k : Key) (i n : ℕ) (hides : Option ℕ) → IsKept cs t → length cs < length t / 2 → Ends k (length t) t i → hides ≡ place_in (slot t i) → n ≡ length cs
-    → IsKept (record { key = k; hides = hides } ∷ cs) (slice_set t i (Some (entry_of k n)))
-kept_more cs t k i n hides h within a e m =
+-- with one cell more of a name that has a number
+pub kept_more_placed : (starts : List ℕ) (places : List (Option ℕ)) (cs : List Named) (t : List (Option Entry)) (k : Key) (m n : ℕ) (hides : Option ℕ) → number_of starts k ≡ Some m → IsKept starts places cs t
+    → length cs < length t / 2 → hides ≡ slice_index_or places m None → n ≡ length cs → IsKept starts (slice_set places m (Some n)) (record { key = k; hides = hides } ∷ cs) t
+kept_more_placed starts places cs t k m n hides numbered h within e same = record {
+  rising = h.rising;
+  placed = placed_more starts h.rising places (record { key = k; hides = hides }) cs m n numbered same h.placed;
+  table = rw (outside_numbered starts (record { key = k; hides = hides }) cs m numbered) h.table;
+  chained = (e ∙ (h.placed k m numbered).1, h.chained);
+  half = omega (arith, within);
+}
+
+-- with one cell more of a name outside of the layout
+pub kept_more : (starts : List ℕ) (places : List (Option ℕ)) (cs : List Named) (t : List (Option Entry)) (k : Key) (i n : ℕ) (hides : Option ℕ) → number_of starts k ≡ None → IsKept starts places cs t
+    → length cs < length t / 2 → Ends k (length t) t i → hides ≡ place_in (slot t i) → n ≡ length cs
+    → IsKept starts places (record { key = k; hides = hides } ∷ cs) (slice_set t i (Some (entry_of k n)))
+kept_more starts places cs t k i n hides none h within a e m =
     let u : length (slice_set t i (Some (entry_of k n))) ≡ length t = length-set t i (Some (entry_of k n)) in
     record {
-      table = subst (λ s. IsTable s (record { key = k; hides = hides } ∷ cs) (slice_set t i (Some (entry_of k n)))) (sym u)
-          (t, h.table, record { i = i; ends = a; written = ap (λ x. slice_set t i (Some (entry_of k x))) m });
-      chained = (e ∙ kept_found cs t k i h a, h.chained);
+      rising = h.rising;
+      placed = placed_beside starts places (record { key = k; hides = hides }) cs none h.placed;
+      table = rw (outside_unnumbered starts (record { key = k; hides = hides }) cs none)
+          (subst (λ s. IsTable s (entry_of k (length cs) ∷ outside starts cs) (slice_set t i (Some (entry_of k n)))) (sym u)
+          (t, h.table, record { i = i; ends = a; written = ap (λ x. slice_set t i (Some (entry_of k x))) m }));
+      chained = (e ∙ kept_found starts places cs t k i none h a, h.chained);
       half = omega (arith, u, within);
     }
 
--- with one cell less: what it hid stands in its slot again
-pub kept_fewer : (c : Named) (cs : List Named) (t : List (Option Entry)) (i : ℕ) → IsKept (c ∷ cs) t → Ends c.key (length t) t i → IsKept cs (slice_set t i (slot_of c.key c.hides))
-kept_fewer c cs t i h a =
-    let old = h.table.0 in
-    let w = h.table.2 in
-    let size : length old ≡ length t = table_size (length t) cs old h.table.1 in
-    let j : i ≡ w.i = ends_once c.key (length t) t i w.i a (ends_as_before (length t) c.key (length cs) old t w size) in
-    let hid : slot_of c.key c.hides ≡ slot old w.i = ap (slot_of c.key) h.chained.0 ∙ sym (found_where_it_ends (length t) cs old c.key w.i h.table.1 w.ends) in
+-- with one cell less of a name that has a number: what it hid has the place again
+pub kept_fewer_placed : (starts : List ℕ) (places : List (Option ℕ)) (c : Named) (cs : List Named) (t : List (Option Entry)) (m : ℕ) → number_of starts c.key ≡ Some m → IsKept starts places (c ∷ cs) t
+    → IsKept starts (slice_set places m c.hides) cs t
+kept_fewer_placed starts places c cs t m numbered h = record {
+  rising = h.rising;
+  placed = placed_fewer starts h.rising places c cs m numbered h.chained.0 h.placed;
+  table = subst (λ es. IsTable (length t) es t) (outside_numbered starts c cs m numbered) h.table;
+  chained = h.chained.1;
+  half = omega (arith, h.half);
+}
+
+-- with one cell less of a name outside of the layout: what it hid stands in its slot again
+pub kept_fewer : (starts : List ℕ) (places : List (Option ℕ)) (c : Named) (cs : List Named) (t : List (Option Entry)) (i : ℕ) → number_of starts c.key ≡ None → IsKept starts places (c ∷ cs) t → Ends c.key (length t) t i
+    → IsKept starts places cs (slice_set t i (slot_of c.key c.hides))
+kept_fewer starts places c cs t i none h a =
+    let x : Entry = entry_of c.key (length cs) in
+    let es = outside starts cs in
+    let tabled : IsTable (length t) (x ∷ es) t = subst (λ (ys : _). IsTable (length t) ys t) (outside_unnumbered starts c cs none) h.table in
+    let old = tabled.0 in
+    let w = tabled.2 in
+    let size : length old ≡ length t = table_size (length t) es old tabled.1 in
+    let j : i ≡ w.i = ends_once c.key (length t) t i w.i a (ends_as_before (length t) x old t w size) in
+    let hid : slot_of c.key c.hides ≡ slot old w.i =
+    ap (slot_of c.key) (h.chained.0 ∙ sym (outside_place starts c.key none cs)) ∙ sym (found_where_it_ends (length t) es old c.key w.i tabled.1 w.ends) in
     let back : slice_set t i (slot_of c.key c.hides) ≡ old =
-    ap (λ n. slice_set t n (slot_of c.key c.hides)) j ∙ ap (slice_set t w.i) hid ∙ undone (length t) c.key (length cs) old t w in
-    subst (IsKept cs) (sym back) (record {
-      table = subst (λ n. IsTable n cs old) (sym size) h.table.1;
+    ap (λ n. slice_set t n (slot_of c.key c.hides)) j ∙ ap (slice_set t w.i) hid ∙ undone (length t) x old t w in
+    subst (IsKept starts places cs) (sym back) (record {
+      rising = h.rising;
+      placed = placed_left starts places c cs none h.placed;
+      table = subst (λ n. IsTable n es old) (sym size) tabled.1;
       chained = h.chained.1;
       half = omega (arith, h.half, size);
     })
+
+-- of no cells, under another layout
+pub kept_none : (starts tops : List ℕ) (places places2 : List (Option ℕ)) (t : List (Option Entry)) → IsKept starts places [] t → Rising tops → IsPlaced tops [] places2 → IsKept tops places2 [] t
+kept_none starts tops places places2 t h rising placed = record {
+  rising = rising;
+  placed = placed;
+  table = h.table;
+  chained = tt;
+  half = h.half;
+}
+
+-- a memory at first
+pub kept_new : IsKept [] [] [] []
+kept_new = record {
+  rising = λ i j h within. absurd (omega arith);
+  placed = λ k n h. absurd (none-some n (sym (no_object [] k (omega arith)) ∙ h));
+  table = (refl, λ i. refl);
+  chained = tt;
+  half = omega arith;
+}

@@ -1,6 +1,7 @@
--- A table that tells where the innermost cell of each name stands: open addressing, with searches from a name's home on.
+-- Where the innermost cell of each name stands: for names of a layout in a list of places, for others in a table with open addressing and searches from a name's home on.
 use Rattle.std.specs.Prelude.{ℕ, ◌+◌, ◌*◌, ◌/◌, ◌%◌, ◌^◌, ◌<◌, ◌≤◌, ◌≡◌, nat_lt, Bool, true, false, cond, List, [], ◌∷◌, length, reverse, map, slice_set, slice_index_or, Option, Some, None, is_none}
 use Rattle.c_meaning.specs.Cells.{Key, same_key}
+use Rattle.c_meaning.specs.Layout.{Rising, number_of}
 use Rattle.c_meaning.specs.declared.memory.Live.{Live}
 use Rattle.c_meaning.specs.declared.slots.Entry.{Entry}
 
@@ -74,23 +75,39 @@ pub record Ends (k : Key) (size : ℕ) (t : List (Option Entry)) (i : ℕ) : Typ
   pub here : stops k (slot t i) ≡ true
   pub first : (j : ℕ) → j < size → turn (home_of k size) size j < turn (home_of k size) size i → stops k (slot t j) ≡ false
 
--- a table after a cell of that name came to a place
-pub record Enters (k : Key) (place size : ℕ) (old new : List (Option Entry)) : Type 0 where
+-- a table after an entry came to it
+pub record Enters (e : Entry) (size : ℕ) (old new : List (Option Entry)) : Type 0 where
   pub i : ℕ
-  pub ends : Ends k size old i
-  pub written : new ≡ slice_set old i (Some (entry_of k place))
+  pub ends : Ends (key_of e) size old i
+  pub written : new ≡ slice_set old i (Some e)
 
--- the table, with so many slots, of these cells, which came one by one
-abbrev pub IsTable : ℕ → List Named → List (Option Entry) → Type 0
+-- the table, with so many slots, of these entries, the newest first, which came one by one
+abbrev pub IsTable : ℕ → List Entry → List (Option Entry) → Type 0
 IsTable size [] t = (length t ≡ size) × ((i : ℕ) → slot t i ≡ None)
-IsTable size (c ∷ cs) t = (old : List (Option Entry)) × IsTable size cs old × Enters c.key (length cs) size old t
+IsTable size (e ∷ es) t = (old : List (Option Entry)) × IsTable size es old × Enters e size old t
+
+-- the place in the newest entry of a name
+abbrev pub place_among : Key → List Entry → Option ℕ
+place_among k [] = None
+place_among k (e ∷ es) = cond (same_key (key_of e) k) (Some e.place) (place_among k es)
+
+-- the entries of the cells whose names have no number
+abbrev pub outside : List ℕ → List Named → List Entry
+outside starts [] = []
+outside starts (c ∷ cs) = cond (is_none (number_of starts c.key)) (entry_of c.key (length cs) ∷ outside starts cs) (outside starts cs)
+
+-- under each name's number its innermost cell's place, if one is live
+abbrev pub IsPlaced : List ℕ → List Named → List (Option ℕ) → Type 0
+IsPlaced starts cs places = (k : Key) (n : ℕ) → number_of starts k ≡ Some n → (n < length places) × (slice_index_or places n None ≡ place_of k cs)
 
 abbrev pub free : List (Option Entry) → ℕ
 free [] = 0
 free (x ∷ t) = cond (is_none x) 1 0 + free t
 
--- at most half of the slots are taken, so each search ends
-pub record IsKept (cs : List Named) (t : List (Option Entry)) : Type 0 where
-  pub table : IsTable (length t) cs t
+-- names of the layout have places, and other names a table with at most half of its slots taken, so that each search ends
+pub record IsKept (starts : List ℕ) (places : List (Option ℕ)) (cs : List Named) (t : List (Option Entry)) : Type 0 where
+  pub rising : Rising starts
+  pub placed : IsPlaced starts cs places
+  pub table : IsTable (length t) (outside starts cs) t
   pub chained : Chained cs
   pub half : length cs ≤ length t / 2

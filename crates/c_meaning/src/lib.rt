@@ -2,6 +2,7 @@
 #![tactic(auto)]
 
 mod laws;
+mod layout;
 mod memory;
 mod numbers;
 mod run;

@@ -2,6 +2,7 @@ ghost use Rattle.std.specs.Prelude.{◌≡◌, ◌≤◌, ◌<◌, ◌++◌, ◌
 ghost use Rattle.c_meaning.specs.Cells.{Key, Cell, same_key, live, found, put};
 ghost use Rattle.c_meaning.specs.Memory.{cells_of, IsInnermost};
 
+use crate::layout::{number, places, starts};
 use crate::slots::{Entry, place_in, seek, slot_of, table};
 use std::alloc::Global;
 use std::marker::Model;
@@ -16,12 +17,15 @@ pub struct Live {
     pub hides: Option<usize>,
 }
 
-/// The live cells of objects, the innermost last, and a table from names to the places of the innermost cells.
+/// The live cells of objects, the innermost last, and where the innermost cell of each name lies: names of a layout in a list of
+/// places, others in a table.
 #[derive(Debug, Drop)]
 pub struct Memory {
     alloc: Global,
     cells: Vec<Live>,
     slots: Vec<Option<Entry>>,
+    starts: Vec<usize>,
+    places: Vec<Option<usize>>,
 }
 
 impl Model for Memory {
@@ -33,7 +37,7 @@ impl Model for Memory {
 
     ghost view = { λ m. record { cells = cells_of m.cells.items; room = length m.slots.items / 2 } };
 
-    ghost invariant = { λ m. IsKept (names_of m.cells.items) m.slots.items × (length m.slots.items / 2 ≤ vec_capacity m.cells) };
+    ghost invariant = { λ m. IsKept m.starts.items m.places.items (names_of m.cells.items) m.slots.items × (length m.slots.items / 2 ≤ vec_capacity m.cells) };
 }
 
 impl Memory {
@@ -45,7 +49,22 @@ impl Memory {
             alloc,
             cells: Vec::new(alloc),
             slots: Vec::new(alloc),
+            starts: Vec::new(alloc),
+            places: Vec::new(alloc),
         }
+    }
+
+    /// Gives each name of objects of these sizes a place of its own, where its innermost cell is found without a search. No cell
+    /// is left.
+    pub fn lay_out(&mut self, sizes: &[u32]) -> Result<(), OutOfMemory>
+        ensures cells { self.new.cells ≡ [] }
+        ensures kept { self.old.room ≤ self.new.room }
+    {
+        self.cut(0);
+        let starts = starts(self.alloc, sizes)?;
+        self.places = places(self.alloc, starts.as_slice())?;
+        self.starts = starts;
+        Ok(())
     }
 
     /// Makes room for at least so many cells in all.
@@ -90,6 +109,7 @@ impl Memory {
     }
 
     /// The innermost such cell's value, where one is live.
+    #[inline(always)]
     pub fn cell(&self, object: u32, index: u32) -> Option<i128>
         ensures { result ≡ found (record { object = object; index = index }) self.now.cells }
     {
@@ -100,6 +120,7 @@ impl Memory {
     }
 
     /// Writes the innermost such cell, where one is live.
+    #[inline(always)]
     pub fn set(&mut self, object: u32, index: u32, value: i128)
         ensures cells { self.new.cells ≡ put (record { object = object; index = index }) value self.old.cells }
         ensures kept { self.old.room ≤ self.new.room }
@@ -110,9 +131,13 @@ impl Memory {
     }
 
     // Where the innermost such cell lies.
+    #[inline(always)]
     fn find(&self, object: u32, index: u32) -> Option<usize>
         ensures { MatchOption result (live (record { object = object; index = index }) self.now.cells ≡ false) (IsInnermost (record { object = object; index = index }) self.now.cells) }
     {
+        if let Some(name) = number(self.starts.as_slice(), object, index) {
+            return self.places[name];
+        }
         if self.cells.len() == 0 {
             return None;
         }
@@ -142,6 +167,16 @@ impl Memory {
         ensures ok { IsOk result }
     {
         let place = self.cells.len();
+        if let Some(name) = number(self.starts.as_slice(), object, index) {
+            self.cells.push(Live {
+                object,
+                index,
+                value,
+                hides: self.places[name],
+            })?;
+            self.places[name] = Some(place);
+            return Ok(());
+        }
         let at = seek(self.slots.as_slice(), object, index);
         self.cells.push(Live {
             object,
@@ -159,6 +194,10 @@ impl Memory {
         ensures room { self.new.room ≡ self.old.room }
     {
         if let Some(last) = self.cells.pop() {
+            if let Some(name) = number(self.starts.as_slice(), last.object, last.index) {
+                self.places[name] = last.hides;
+                return;
+            }
             let at = seek(self.slots.as_slice(), last.object, last.index);
             self.slots[at] = slot_of(last.object, last.index, last.hides);
         }
@@ -172,7 +211,8 @@ impl Memory {
         ensures room { OnOk result (self.new.room ≡ size / 2) }
     {
         self.cells.reserve(size / 2 - self.cells.len())?;
-        self.slots = table(self.alloc, self.cells.as_slice(), size)?;
+        let starts = self.starts.as_slice();
+        self.slots = table(self.alloc, self.cells.as_slice(), starts, size)?;
         Ok(())
     }
 }

@@ -1,7 +1,8 @@
-// A table that tells where the innermost cell of each name stands: open addressing, with searches from a name's home on.
+// A table that tells where the innermost cell of each name outside of a layout stands: open addressing, with searches from a name's home on.
 ghost use Rattle.std.specs.Prelude.{◌≡◌, ◌<◌, ◌≤◌, length, None, IfOk, MatchOption, replicate};
-ghost use Rattle.c_meaning.specs.Slots.{home_of, stops as stops_of, Passes, IsNext, Ends, IsTable, names_of, slot_of as filled, place_in as placed, free};
+ghost use Rattle.c_meaning.specs.Slots.{home_of, stops as stops_of, Passes, IsNext, Ends, IsTable, names_of, outside, slot_of as filled, place_in as placed, free};
 
+use crate::layout::number;
 use crate::memory::Live;
 use std::alloc::Global;
 use wv_base::OutOfMemory;
@@ -49,6 +50,7 @@ fn scan(slots: &[Option<Entry>], object: u32, index: u32, from: usize, to: usize
 }
 
 /// The slot at which the search for a name ends.
+#[inline(never)]
 pub fn seek(slots: &[Option<Entry>], object: u32, index: u32) -> usize
     requires { 0 < free slots.now }
     ensures { Ends (record { object = object; index = index }) (length slots.now) slots.now result }
@@ -93,17 +95,24 @@ fn empty(alloc: Global, size: usize) -> Result<Vec<Option<Entry>>, OutOfMemory>
     Ok(slots)
 }
 
-/// The table of these cells, with so many slots.
-pub fn table(alloc: Global, cells: &[Live], size: usize) -> Result<Vec<Option<Entry>>, OutOfMemory>
+/// The table of these cells, of those whose names have no number, with so many slots.
+pub fn table(
+    alloc: Global,
+    cells: &[Live],
+    starts: &[usize],
+    size: usize,
+) -> Result<Vec<Option<Entry>>, OutOfMemory>
     requires { length cells.now < size }
     ensures size { IfOk result (λ t. length t.items ≡ size) }
-    ensures table { IfOk result (λ t. IsTable size (names_of cells.now) t.items) }
+    ensures table { IfOk result (λ t. IsTable size (outside starts.now (names_of cells.now)) t.items) }
 {
     let mut slots = empty(alloc, size)?;
     let mut place = 0;
     for cell in cells {
-        let at = seek(slots.as_slice(), cell.object, cell.index);
-        slots[at] = slot_of(cell.object, cell.index, Some(place));
+        if number(starts, cell.object, cell.index).is_none() {
+            let at = seek(slots.as_slice(), cell.object, cell.index);
+            slots[at] = slot_of(cell.object, cell.index, Some(place));
+        }
         place += 1;
     }
     Ok(slots)
