@@ -1,0 +1,20 @@
+use Rattle.std.proofs.Common.{◌++◌, length, ap, ◌∙◌}
+use Rattle.std.proofs.lemmas.Result.{on_ok_weaker}
+use Rattle.c_core.specs.View.{program_view, expr_view}
+use Rattle.c_meaning.specs.Meaning.{Unused}
+use Rattle.flow_code.specs.declared.code.Then.TheVariants.{Drop}
+use Rattle.flow_code.specs.Expressions.{code}
+use Rattle.flow_code.proofs.Gluing.{nothing_more}
+use Rattle.flow_code.proofs.loops.begin.Goals as goal
+
+pub returns-in-Absent : goal.returns-in-Absent
+returns-in-Absent c =
+    rw c.in-Absent.is (nothing_more c.args.ops.now)
+
+pub returns-in-Expr : goal.returns-in-Expr
+returns-in-Expr c =
+    rw c.in-Expr.is (on_ok_weaker c.expression.result (λ h. h ∙ ap (λ a. c.args.ops.now ++ code (program_view c.args.program.now) a (length c.args.ops.now) 0 Unused (expr_view c.in-Expr.e) (Drop)) c.full_of.ensures) c.expression.ensures)
+
+pub returns-in-Declare : goal.returns-in-Declare
+returns-in-Declare c =
+    rw (c.in-Declare.is, ← c.as_slice.ensures) c.declare.ensures

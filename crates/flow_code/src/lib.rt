@@ -1,0 +1,23 @@
+//! Programs as code: one list of operations with jumps.
+#![tactic(auto)]
+
+mod calls;
+mod choices;
+mod code;
+mod compiled;
+mod declarations;
+mod emit;
+mod expressions;
+mod loops;
+mod operands;
+mod sizes;
+mod statements;
+mod statics;
+mod targets;
+mod words;
+
+pub use code::{
+    Action, Body, Code, First, Into, Op, Operand, Parameter, Place, Source, Store, Then, Word,
+};
+pub use compiled::compile;
+pub use words::type_of_word;

@@ -1,0 +1,5 @@
+pub mod Machines
+pub mod Acting
+pub mod Stepping
+pub mod Runs
+pub mod inside
