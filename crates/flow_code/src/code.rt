@@ -4,7 +4,7 @@ use run_state::{Around, CallSite};
 use wv_base::Seq;
 
 /// The types that operators compute in, as the processor has them.
-#[derive(Clone, Copy, Debug, PartialEq, Eq)]
+#[derive(Clone, Copy)]
 pub enum Word {
     Signed32,
     Unsigned32,
@@ -13,7 +13,7 @@ pub enum Word {
 }
 
 /// Where an operand is: on top of the stack, in the cell of a scalar, in the operation itself.
-#[derive(Clone, Copy, Debug, PartialEq, Eq)]
+#[derive(Clone, Copy)]
 pub enum Operand {
     Top,
     Cell(u32),
@@ -21,14 +21,14 @@ pub enum Operand {
 }
 
 /// A cell that an operation writes: one of this object and index, or the element of this array whose index is on top of the stack.
-#[derive(Clone, Copy, Debug, PartialEq, Eq)]
+#[derive(Clone, Copy)]
 pub enum Place {
     Fixed(u32, u32),
     Element(u32),
 }
 
 /// A value is converted to a type and written; the value behind it is the one written, or the old one.
-#[derive(Clone, Copy, Debug, PartialEq, Eq)]
+#[derive(Clone, Copy)]
 pub struct Store {
     pub place: Place,
     pub ty: IntType,
@@ -37,7 +37,7 @@ pub struct Store {
 
 /// What is done with a value: it is left on the stack, or not; where its truth is `way` the machine goes on at an address, for a branch
 /// after having told so.
-#[derive(Clone, Copy, Debug, PartialEq, Eq)]
+#[derive(Clone, Copy)]
 pub enum Then {
     Push,
     Drop,
@@ -46,21 +46,21 @@ pub enum Then {
 }
 
 /// Where a value goes.
-#[derive(Clone, Copy, Debug, PartialEq, Eq)]
+#[derive(Clone, Copy)]
 pub struct Into {
     pub store: Option<Store>,
     pub then: Then,
 }
 
 /// The operation's place in the program.
-#[derive(Clone, Copy, Debug, PartialEq, Eq)]
+#[derive(Clone, Copy)]
 pub struct Source {
     pub around: Around,
     pub spot: Spot,
 }
 
 /// What an operation does after its steps.
-#[derive(Clone, Copy, Debug, PartialEq, Eq)]
+#[derive(Clone, Copy)]
 pub enum Action {
     /// Nothing.
     Rest,
@@ -154,14 +154,14 @@ pub enum Action {
 }
 
 /// An action and the steps that it takes.
-#[derive(Clone, Copy, Debug, PartialEq, Eq)]
+#[derive(Clone, Copy)]
 pub struct Op {
     pub steps: u32,
     pub action: Action,
 }
 
 /// A parameter of a function: its object, its type.
-#[derive(Clone, Copy, Debug, PartialEq, Eq)]
+#[derive(Clone, Copy)]
 pub struct Parameter {
     pub object: u32,
     pub ty: IntType,
@@ -175,7 +175,7 @@ pub struct Body {
 }
 
 /// A cell that lives when a run begins.
-#[derive(Clone, Copy, Debug, PartialEq, Eq)]
+#[derive(Clone, Copy)]
 pub struct First {
     pub object: u32,
     pub index: u32,

@@ -1,5 +1,10 @@
 pub mod Reaching
+pub mod Apart
 pub mod Budgets
+pub mod Seeing
+pub mod Resting
+pub mod Telling
+pub mod Beginning
 pub mod Values
 pub mod Operations
 pub mod Sized

@@ -1,0 +1,15 @@
+use Rattle.std.proofs.Common.{rules}
+use mir.Val.{SFits}
+use mir.Syntax.{w128}
+use Rattle.std.proofs.lemmas.Int.{to_z-of_z}
+use Rattle.flow_machine.specs.Views.{control_of, state_of}
+use Rattle.flow_machine.proofs.Acted.{input_finished}
+use Rattle.flow_machine.proofs.acting.take_input.Goals as goal
+
+pub returns : goal.returns
+returns g c =
+    let z : SFits w128 c.in_ok-value.value = search rules in
+    let f = rw (to_z-of_z w128 c.in_ok-value.value z) at (c.finish.ensures c.args.code.now) in
+    input_finished c.args.code.now g.W.Watcher.Seen g.W.Watcher.after c.args.spot c.args.close c.args.ty c.args.into.now (control_of c.args.control.now) (control_of c.finish.new.control)
+    (state_of c.args.run.now (g.W.Watcher.seen c.args.watcher.now)) (state_of c.input.new.run (g.W.Watcher.seen c.input.new.watcher))
+    (state_of c.finish.new.run (g.W.Watcher.seen c.finish.new.watcher)) c.in_ok-value.value c.finish.result c.in_ok-value.ensures f

@@ -1,0 +1,308 @@
+// One operation.
+ghost use Rattle.std.specs.Prelude.{◌≡◌, ◌∷◌, reverse, length, OnOk, IsOkUnless};
+ghost use Rattle.c_core.specs.Tree.{Program as Tree};
+ghost use Rattle.c_meaning.specs.Acts.{Go};
+ghost use Rattle.c_meaning.specs.Run as runs;
+ghost use Rattle.c_meaning.specs.Watching.{seen_by};
+ghost use Rattle.run_state.specs.Interpreting.{same, where_of};
+ghost use Rattle.flow_code.specs.declared.code.Action.TheVariants.{Input, Reach};
+ghost use Rattle.flow_code.specs.declared.code.Code.{Code};
+ghost use Rattle.flow_laws.specs.Acting.{program_in, acted, scope_closed, aimed_at, reached_at};
+ghost use Rattle.flow_machine.specs.Views.{Acts, Gives, answer_finished, control_of, state_of};
+
+use crate::arithmetic::{convert, operate, operate_one};
+use crate::calling::{call, leave};
+use crate::control::{Control, Running, tell};
+use crate::drawing::{declare, input};
+use crate::operands::{index_below, look, take};
+use crate::results::finish;
+use c_core::{Done, IntType, Property, Spot};
+use c_meaning::{End, Event, Watcher};
+use flow_code::{Action, Code, Into, Operand, Source};
+use run_state::{Around, Halt};
+
+// The violation: its event, and the end of the run.
+fn violate<W: Watcher>(
+    run: &Running,
+    watcher: &mut W,
+    around: Around,
+    spot: Spot,
+    call: Option<Spot>,
+) -> Result<i128, Halt>
+    ensures { (p : Tree) → Gives same result (state_of run.now (W.seen watcher.new)) (runs.violated p W.Seen (seen_by W.after) (where_of around) spot call (state_of run.now (W.seen watcher.old))) }
+{
+    tell(
+        run,
+        watcher,
+        Event::Fail {
+            statement: around.statement,
+            full: around.full,
+            call,
+        },
+    )?;
+    Err(Halt::Ends(End::Violated(spot)))
+}
+
+// An operator's answer: its value, an overflow by the property, or an undefined end.
+#[inline]
+fn answer<W: Watcher>(
+    code: &Code,
+    run: &Running,
+    watcher: &mut W,
+    from: &Source,
+    done: Done,
+) -> Result<i128, Halt>
+    ensures { Gives same result (state_of run.now (W.seen watcher.new)) (runs.answered (program_in code.now) W.Seen (seen_by W.after) (where_of from.now.around) from.now.spot done (state_of run.now (W.seen watcher.old))) }
+{
+    match done {
+        Done::Value(value) => Ok(value),
+        Done::Undefined => Err(Halt::Ends(End::Undefined(from.spot))),
+        Done::Overflow(value) => match code.property {
+            Property::UnreachCall => Ok(value),
+            Property::NoOverflow => violate(run, watcher, from.around, from.spot, None),
+        },
+    }
+}
+
+fn reach<W: Watcher>(
+    code: &Code,
+    run: &Running,
+    watcher: &mut W,
+    around: Around,
+    spot: Spot,
+) -> Result<i128, Halt>
+    ensures { Gives same result (state_of run.now (W.seen watcher.new)) (reached_at code.now W.Seen W.after around spot (state_of run.now (W.seen watcher.old))) }
+{
+    match code.property {
+        Property::UnreachCall => violate(run, watcher, around, spot, Some(spot)),
+        Property::NoOverflow => Err(Halt::Ends(End::Ended)),
+    }
+}
+
+// A call of `reach_error`, apart from what is done often.
+#[inline(never)]
+fn come_to_error<W: Watcher>(
+    code: &Code,
+    control: &Control,
+    run: &Running,
+    watcher: &mut W,
+    around: Around,
+    spot: Spot,
+) -> Result<(), Halt>
+    ensures { Acts result (control_of control.now) (state_of run.now (W.seen watcher.new)) (acted code.now W.Seen W.after (Reach around spot) (control_of control.now) (state_of run.now (W.seen watcher.old))) }
+{
+    reach(code, run, watcher, around, spot)?;
+    Ok(())
+}
+
+// The call of an input function, apart from what is done often.
+#[inline(never)]
+fn take_input<W: Watcher>(
+    code: &Code,
+    control: &mut Control,
+    run: &mut Running,
+    watcher: &mut W,
+    spot: Spot,
+    close: Spot,
+    ty: IntType,
+    into: &Into,
+) -> Result<(), Halt>
+    ensures { Acts result (control_of control.new) (state_of run.new (W.seen watcher.new)) (acted code.now W.Seen W.after (Input spot close ty into.now) (control_of control.old) (state_of run.old (W.seen watcher.old))) }
+{
+    let value = input(code, run, watcher, spot, close, ty)?;
+    finish(control, run, watcher, value, value, into)
+}
+
+// An answer that is no plain value, apart from what is done often.
+#[inline(never)]
+fn finish_answer<W: Watcher>(
+    code: &Code,
+    control: &mut Control,
+    run: &mut Running,
+    watcher: &mut W,
+    from: &Source,
+    left: i128,
+    done: Done,
+    into: &Into,
+) -> Result<(), Halt>
+    ensures { Acts result (control_of control.new) (state_of run.new (W.seen watcher.new)) (answer_finished code.now W.Seen W.after from.now left done into.now (control_of control.old) (state_of run.old (W.seen watcher.old))) }
+{
+    let value = answer(code, run, watcher, from, done)?;
+    finish(control, run, watcher, left, value, into)
+}
+
+// An answer goes where it is said.
+#[inline(always)]
+fn conclude<W: Watcher>(
+    code: &Code,
+    control: &mut Control,
+    run: &mut Running,
+    watcher: &mut W,
+    from: &Source,
+    left: i128,
+    done: Done,
+    into: &Into,
+) -> Result<(), Halt>
+    ensures { Acts result (control_of control.new) (state_of run.new (W.seen watcher.new)) (answer_finished code.now W.Seen W.after from.now left done into.now (control_of control.old) (state_of run.old (W.seen watcher.old))) }
+{
+    match done {
+        Done::Value(value) => finish(control, run, watcher, left, value, into),
+        _ => finish_answer(code, control, run, watcher, from, left, done, into),
+    }
+}
+
+// The index of an element, and its value where it is read.
+fn aim<W: Watcher>(
+    control: &mut Control,
+    run: &Running,
+    object: u32,
+    size: u32,
+    index: &Operand,
+    spot: Spot,
+    reads: bool,
+) -> Result<(), Halt>
+    ensures { (c : Code) (x : W.Seen) → Acts result (control_of control.new) (state_of run.now x) (aimed_at c W.Seen W.after object size index.now spot reads (control_of control.old) (state_of run.now x)) }
+{
+    let index = take(control, run, index);
+    let Some(found) = index_below(size, index) else {
+        return Err(Halt::Ends(End::Undefined(spot)));
+    };
+    control.push(i128::from(found))?;
+    if reads {
+        control.push(look(run, object, found))?;
+    }
+    Ok(())
+}
+
+fn open_scope(control: &mut Control, run: &Running) -> Result<(), Halt>
+    ensures control { OnOk result (control_of control.new ≡ record (control_of control.old) { scopes = length run.now.memory.cells ∷ reverse control.old.scopes.items }) }
+    ensures refused { IsOkUnless result Halt.NoMemory }
+{
+    match control.scopes.push(run.memory.count()) {
+        Ok(()) => Ok(()),
+        Err(_) => Err(Halt::NoMemory),
+    }
+}
+
+fn close_scope<W: Watcher>(control: &mut Control, run: &mut Running)
+    ensures { (x : W.Seen) → scope_closed (reverse control.old.scopes.items) (control_of control.old) (state_of run.old x) ≡ Go (control_of control.new) (state_of run.new x) }
+{
+    if let Some(cells) = control.scopes.pop() {
+        run.memory.cut(cells);
+    }
+}
+
+/// Does an action; `control.at` is the address behind it.
+#[inline(always)]
+pub fn act<W: Watcher>(
+    code: &Code,
+    control: &mut Control,
+    run: &mut Running,
+    watcher: &mut W,
+    action: &Action,
+) -> Result<(), Halt>
+    ensures { Acts result (control_of control.new) (state_of run.new (W.seen watcher.new)) (acted code.now W.Seen W.after action.now (control_of control.old) (state_of run.old (W.seen watcher.old))) }
+{
+    match action {
+        Action::Rest => Ok(()),
+        Action::Arrive(spot) => tell(run, watcher, Event::At(*spot)),
+        Action::Give { from, into } => {
+            let value = take(control, run, from);
+            finish(control, run, watcher, value, value, into)
+        }
+        Action::Truth { of, into } => {
+            let value = i128::from(take(control, run, of) != 0);
+            finish(control, run, watcher, value, value, into)
+        }
+        Action::Convert { ty, of, into } => {
+            let value = convert(*ty, take(control, run, of));
+            finish(control, run, watcher, value, value, into)
+        }
+        Action::Look {
+            object,
+            size,
+            index,
+            spot,
+            into,
+        } => {
+            let Some(index) = index_below(*size, take(control, run, index)) else {
+                return Err(Halt::Ends(End::Undefined(*spot)));
+            };
+            let value = look(run, *object, index);
+            finish(control, run, watcher, value, value, into)
+        }
+        Action::Aim {
+            object,
+            size,
+            index,
+            spot,
+            reads,
+        } => aim::<W>(control, run, *object, *size, index, *spot, *reads),
+        Action::Operate {
+            op,
+            word,
+            count,
+            left,
+            right,
+            from,
+            into,
+        } => {
+            let b = take(control, run, right);
+            let a = take(control, run, left);
+            let done = operate(*op, *word, a, *count, b);
+            conclude(code, control, run, watcher, from, a, done, into)
+        }
+        Action::OperateOne {
+            op,
+            word,
+            of,
+            from,
+            into,
+        } => {
+            let a = take(control, run, of);
+            let done = operate_one(*op, *word, a);
+            conclude(code, control, run, watcher, from, a, done, into)
+        }
+        Action::Jump(to) => {
+            control.at = *to as usize;
+            Ok(())
+        }
+        Action::Open => open_scope(control, run),
+        Action::Close => {
+            close_scope::<W>(control, run);
+            Ok(())
+        }
+        Action::Declare {
+            spot,
+            object,
+            size,
+            ty,
+            draws,
+        } => declare::<W>(code, run, *spot, *object, *size, *ty, *draws),
+        Action::Enter(close) => tell(run, watcher, Event::Enter(*close)),
+        Action::Call {
+            function,
+            arguments,
+            site,
+        } => call::<W>(code, control, run, *function, *arguments, *site),
+        Action::Input {
+            spot,
+            close,
+            ty,
+            into,
+        } => take_input(code, control, run, watcher, *spot, *close, *ty, into),
+        Action::Reach { around, spot } => come_to_error(
+            code, control, run, watcher, *around, *spot,
+        ),
+        Action::End => Err(Halt::Ends(End::Ended)),
+        Action::Leave => leave(control, run, watcher, None),
+        Action::Return(ty) => {
+            let value = control.pop();
+            let given = match ty {
+                None => value,
+                Some(ty) => convert(*ty, value),
+            };
+            leave(control, run, watcher, Some(given))
+        }
+    }
+}

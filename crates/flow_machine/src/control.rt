@@ -1,0 +1,81 @@
+// Where a machine stands, and the state of its run.
+ghost use Rattle.std.specs.Prelude.{◌≡◌, ◌∷◌, reverse, OnOk, IsOkUnless};
+ghost use Rattle.c_core.specs.Tree.{Program as Tree};
+ghost use Rattle.c_meaning.specs.Run.{room as room_for};
+ghost use Rattle.c_meaning.specs.Watching.{seen_by};
+ghost use Rattle.run_state.specs.Interpreting.{same};
+ghost use Rattle.flow_laws.specs.Acting.{top, below};
+ghost use Rattle.flow_machine.specs.Views.{Gives, control_of, state_of};
+
+use c_meaning::{Draw, End, Event, Memory, Watcher};
+use flow_laws::Frame;
+use run_state::{Halt, Left};
+use wv_base::OutOfMemory;
+
+/// What the run is about to do: the operation at an address, of whose steps some are taken, over a stack of values, open scopes with the
+/// cells that lived as they began, and calls.
+#[derive(Drop)]
+pub struct Control {
+    pub at: usize,
+    pub paid: u64,
+    pub stack: Vec<i128>,
+    pub scopes: Vec<usize>,
+    pub frames: Vec<Frame>,
+}
+
+/// What a run has left, holds and drew.
+#[derive(Drop)]
+pub struct Running {
+    pub steps: u64,
+    pub memory: Memory,
+    pub active: u64,
+    pub left: Left,
+    pub draws: Vec<Draw>,
+    pub unfixed: u64,
+}
+
+impl Control {
+    /// The value on top of the stack.
+    #[inline]
+    pub fn pop(&mut self) -> i128
+        ensures value { result ≡ top (reverse self.old.stack.items) }
+        ensures control { control_of self.new ≡ record (control_of self.old) { stack = below (reverse self.old.stack.items) } }
+    {
+        self.stack.pop().unwrap_or(0)
+    }
+
+    #[inline]
+    pub fn push(&mut self, value: i128) -> Result<(), Halt>
+        ensures control { OnOk result (control_of self.new ≡ record (control_of self.old) { stack = value ∷ reverse self.old.stack.items }) }
+        ensures refused { IsOkUnless result Halt.NoMemory }
+    {
+        match self.stack.push(value) {
+            Ok(()) => Ok(()),
+            Err(_) => Err(Halt::NoMemory),
+        }
+    }
+}
+
+/// Tells the watcher an event.
+#[inline]
+pub fn tell<W: Watcher>(run: &Running, watcher: &mut W, event: Event) -> Result<(), Halt>
+    ensures seen { OnOk result (W.seen watcher.new ≡ W.after event run.now.memory.cells (W.seen watcher.old)) }
+    ensures refused { IsOkUnless result Halt.NoMemory }
+{
+    match watcher.see(event, &run.memory) {
+        Ok(()) => Ok(()),
+        Err(OutOfMemory) => Err(Halt::NoMemory),
+    }
+}
+
+/// Room for so many cells more.
+pub fn room<W: Watcher>(run: &Running, cells: u64) -> Result<(), Halt>
+    ensures { (p : Tree) (x : W.Seen) → Gives same result (state_of run.now x) (room_for p W.Seen (seen_by W.after) cells (state_of run.now x)) }
+{
+    let live = run.memory.count() as u128 + run.active as u128 + cells as u128;
+    if live <= 1_000_000 {
+        Ok(())
+    } else {
+        Err(Halt::Ends(End::Deep))
+    }
+}

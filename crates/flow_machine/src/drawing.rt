@@ -1,0 +1,151 @@
+// Draws: each takes the next choice, or none.
+ghost use Rattle.std.specs.Prelude.{◌≡◌, ◌+◌, false, IfOk, IsOkUnless, MatchOption};
+ghost use Rattle.c_meaning.specs.Objects.{same_spot};
+ghost use Rattle.c_meaning.specs.Run as runs;
+ghost use Rattle.c_meaning.specs.Watching.{seen_by};
+ghost use Rattle.run_state.specs.Drawing.{any_at, IsFirst};
+ghost use Rattle.run_state.specs.Interpreting.{same, choices_left, givens_left};
+ghost use Rattle.flow_laws.specs.Acting.{program_in, input_given, declared, cells_drawn};
+ghost use Rattle.flow_machine.specs.Views.{Gives, state_of};
+
+use crate::control::{Running, room, tell};
+use c_core::{IntType, Spot, convert};
+use c_meaning::{Draw, DrawKind, Event, Watcher};
+use flow_code::Code;
+use run_state::{Halt, Left, LeftAt, add_cells};
+
+fn is_at(found: Spot, spot: Spot) -> bool
+    ensures { result ≡ same_spot found spot }
+{
+    found.line == spot.line && found.column == spot.column
+}
+
+// The first entry at a place.
+fn place_of(givens: &[LeftAt], spot: Spot) -> Option<usize>
+    ensures { MatchOption result (any_at spot givens.now ≡ false) (IsFirst spot givens.now) }
+{
+    for (index, left) in givens.iter().enumerate() {
+        if is_at(left.spot, spot) {
+            return Some(index);
+        }
+    }
+    None
+}
+
+// The value given next at a place, if any.
+fn take_given(givens: &mut Vec<LeftAt>, spot: Spot) -> Option<i128>
+    ensures value { result ≡ runs.given_at spot (givens_left givens.old.items) }
+    ensures left { givens_left givens.new.items ≡ runs.given_after spot (givens_left givens.old.items) }
+{
+    match place_of(givens, spot) {
+        Some(at) => givens[at].values.pop(),
+        None => None,
+    }
+}
+
+// The value that the choices give to a draw, if any.
+fn take(left: &mut Left, kind: DrawKind, spot: Spot) -> Option<i128>
+    ensures value { result ≡ runs.chosen kind spot (choices_left left.old) }
+    ensures left { choices_left left.new ≡ runs.after_draw kind spot (choices_left left.old) }
+{
+    match left {
+        Left::InTurn(values) => values.pop(),
+        Left::Given(givens) => match kind {
+            DrawKind::Input => take_given(givens, spot),
+            _ => None,
+        },
+    }
+}
+
+// One more, where none was taken.
+fn counted(unfixed: u64, taken: Option<i128>) -> Result<u64, Halt>
+    ensures count { IfOk result (λ n. n ≡ unfixed + runs.one_if_none taken) }
+    ensures refused { IsOkUnless result Halt.NoMemory }
+{
+    match taken {
+        Some(_) => Ok(unfixed),
+        None => match unfixed.checked_add(1) {
+            Some(more) => Ok(more),
+            None => Err(Halt::NoMemory),
+        },
+    }
+}
+
+/// A drawn value.
+pub fn draw<W: Watcher>(
+    code: &Code,
+    run: &mut Running,
+    kind: DrawKind,
+    spot: Spot,
+    ty: IntType,
+) -> Result<i128, Halt>
+    ensures { (x : W.Seen) → Gives same result (state_of run.new x) (runs.draw (program_in code.now) W.Seen (seen_by W.after) kind spot ty (state_of run.old x)) }
+{
+    let taken = take(&mut run.left, kind, spot);
+    let value = convert(code.model, ty, taken.unwrap_or(0));
+    run.unfixed = counted(run.unfixed, taken)?;
+    let drawn = Draw {
+        spot,
+        ty,
+        value,
+        from: kind,
+    };
+    match run.draws.push(drawn) {
+        Ok(()) => Ok(value),
+        Err(_) => Err(Halt::NoMemory),
+    }
+}
+
+/// The call of an input function.
+pub fn input<W: Watcher>(
+    code: &Code,
+    run: &mut Running,
+    watcher: &mut W,
+    spot: Spot,
+    close: Spot,
+    ty: IntType,
+) -> Result<i128, Halt>
+    ensures { Gives same result (state_of run.new (W.seen watcher.new)) (input_given code.now W.Seen W.after spot close ty (state_of run.old (W.seen watcher.old))) }
+{
+    let value = draw::<W>(code, run, DrawKind::Input, spot, ty)?;
+    tell(run, watcher, Event::Return(close, Some(value)))?;
+    Ok(value)
+}
+
+/// A declared object's cells.
+#[inline(never)]
+pub fn declare<W: Watcher>(
+    code: &Code,
+    run: &mut Running,
+    spot: Spot,
+    object: u32,
+    size: u32,
+    ty: IntType,
+    draws: bool,
+) -> Result<(), Halt>
+    ensures { (x : W.Seen) → Gives same result (state_of run.new x) (declared code.now W.Seen W.after spot object size ty draws (state_of run.old x)) }
+{
+    room::<W>(run, size as u64)?;
+    add_cells(&mut run.memory, object, size)?;
+    if draws {
+        draw_cells::<W>(code, run, spot, object, size, ty)?;
+    }
+    Ok(())
+}
+
+fn draw_cells<W: Watcher>(
+    code: &Code,
+    run: &mut Running,
+    spot: Spot,
+    object: u32,
+    size: u32,
+    ty: IntType,
+) -> Result<(), Halt>
+    ensures { (x : W.Seen) → Gives same result (state_of run.new x) (cells_drawn code.now W.Seen W.after spot object ty 0 size (state_of run.old x)) }
+{
+    for index in 0..size {
+        let value = draw::<W>(code, run, DrawKind::Cell, spot, ty)?;
+        run.memory.set(object, index, value);
+    }
+    Ok(())
+}

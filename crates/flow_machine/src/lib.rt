@@ -1,0 +1,18 @@
+//! A machine that steps the code of a program: it can be stopped and goes on, and keeps the program's calls in a vector.
+#![tactic(auto)]
+
+mod acting;
+mod arithmetic;
+mod beginning;
+mod calling;
+mod control;
+mod drawing;
+mod machine;
+mod operands;
+mod results;
+mod running;
+mod stepping;
+
+pub use flow_code::{Code, compile};
+pub use machine::Machine;
+pub use running::run_machine;

@@ -1,0 +1,66 @@
+// Operations, one after another.
+ghost use Rattle.std.specs.Prelude.{◌≡◌, ◌+◌, ◌-◌, nat_le, true, false};
+ghost use Rattle.flow_laws.specs.Stepping.{step as step_of, steps as steps_of};
+ghost use Rattle.flow_machine.specs.Runs.{Halts};
+ghost use Rattle.flow_machine.specs.Views.{Steps, machine_of};
+
+use crate::acting::act;
+use crate::control::{Control, Running};
+use c_meaning::{End, Watcher};
+use flow_code::Code;
+use run_state::Halt;
+
+// Takes the steps of an operation that are left; where there are too few, all that there are.
+#[inline]
+fn pay(control: &mut Control, run: &mut Running, steps: u32) -> bool
+    ensures enough { result ≡ nat_le (steps - control.old.paid) run.old.steps }
+    ensures paid { result ≡ true → (control.new ≡ record control.old { paid = 0 }) × (run.new ≡ record run.old { steps = run.old.steps - (steps - control.old.paid) }) }
+    ensures short { result ≡ false → (control.new ≡ record control.old { paid = control.old.paid + run.old.steps }) × (run.new ≡ record run.old { steps = 0 }) }
+{
+    let due = u64::from(steps).saturating_sub(control.paid);
+    if due <= run.steps {
+        run.steps -= due;
+        control.paid = 0;
+        return true;
+    }
+    control.paid += run.steps;
+    run.steps = 0;
+    false
+}
+
+// One operation.
+#[inline]
+fn step<W: Watcher>(
+    code: &Code,
+    control: &mut Control,
+    run: &mut Running,
+    watcher: &mut W,
+) -> Result<(), Halt>
+    ensures { Steps result (machine_of control.new run.new (W.seen watcher.new)) (step_of code.now W.Seen W.after (machine_of control.old run.old (W.seen watcher.old))) }
+{
+    let Some(op) = code.ops.as_slice().get(control.at) else {
+        return Err(Halt::Ends(End::Ended));
+    };
+    if !pay(control, run, op.steps) {
+        return Err(Halt::Ends(End::Spent));
+    }
+    control.at += 1;
+    act(code, control, run, watcher, &op.action)
+}
+
+/// Operations until the run ends or its steps are spent.
+pub fn go<W: Watcher>(
+    code: &Code,
+    control: &mut Control,
+    run: &mut Running,
+    watcher: &mut W,
+) -> Halt
+    ensures { Halts result (machine_of control.new run.new (W.seen watcher.new)) (λ n. steps_of code.now W.Seen W.after n (machine_of control.old run.old (W.seen watcher.old))) }
+{
+    for _turn in 0..u64::MAX {
+        if let Err(halt) = step(code, control, run, watcher) {
+            return halt;
+        }
+    }
+    Halt::NoMemory
+}
