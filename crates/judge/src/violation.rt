@@ -5,8 +5,8 @@ ghost use Rattle.way_match.specs.Verdicts.{IsRightVerdict};
 ghost use Rattle.way_match.specs.View.{segments_view};
 
 use c_core::Program;
-use c_interpreter::run_plain;
 use c_meaning::{Cause, End, Reason, Run, Verdict};
+use flow_machine::run_machine;
 use std::alloc::Global;
 use way_match::{Bound, Matcher, given};
 use wv_base::{OutOfMemory, Seq};
@@ -22,7 +22,7 @@ pub fn judge_violation(
 {
     let choices = given(alloc, bound, program)?;
     let mut matcher = Matcher::new(alloc, bound, program)?;
-    let run = run_plain(alloc, program, &choices, steps, &mut matcher)?;
+    let run = run_machine(alloc, program, &choices, steps, &mut matcher)?;
     let found = matcher.done();
     Ok(verdict(run, found, steps))
 }

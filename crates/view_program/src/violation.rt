@@ -8,8 +8,8 @@ use crate::segments::waypoint_at;
 use crate::tracker::Tracker;
 use crate::unmatched::explain_unmatched;
 use c_core::{Program, Spot};
-use c_interpreter::run_plain;
 use c_meaning::{Choices, End, Run};
+use flow_machine::run_machine;
 use std::alloc::Global;
 use view_text::{File, Files, Messages};
 use view_witness::waypoint_path;
@@ -150,7 +150,7 @@ fn judged_run(
 ) -> Result<Judged, OutOfMemory> {
     let choices = given(alloc, bound, program)?;
     let mut matcher = Matcher::new(alloc, bound, program)?;
-    let run = run_plain(alloc, program, &choices, steps, &mut matcher)?;
+    let run = run_machine(alloc, program, &choices, steps, &mut matcher)?;
     let positions = matcher.done();
     Ok(Judged {
         choices,
@@ -178,7 +178,7 @@ fn tracked<'a>(
 ) -> Result<Tracker<'a>, OutOfMemory> {
     let lines = line_count(files.text(File::Program));
     let mut tracker = Tracker::new(alloc, program, bound, lines, events_of(judged))?;
-    let _ = run_plain(alloc, program, &judged.choices, steps, &mut tracker)?;
+    let _ = run_machine(alloc, program, &judged.choices, steps, &mut tracker)?;
     Ok(tracker)
 }
 
