@@ -1,11 +1,10 @@
 -- What actions compute, in the words of the meaning: a code has its program's model and property.
-use Rattle.std.proofs.Common.{◌≡◌, ℕ, ◌+◌, ℤ, Bool, false, List, Option, Some, None, refl, sym, ap, ◌∙◌, subst}
+use Rattle.std.proofs.Common.{◌≡◌, ℕ, ℤ, Bool, false, List, Option, Some, None, refl, ap, ◌∙◌}
 use Rattle.c_core.specs.Types.{fit, promote_of}
 use Rattle.c_core.specs.Operators.{apply_of, apply_one_of, type_for, right_type_for}
 use Rattle.c_core.specs.Tree.{Program}
 use Rattle.c_core.specs.declared.number.BinOp.{BinOp}
 use Rattle.c_core.specs.declared.number.UnOp.{UnOp}
-use Rattle.c_core.specs.declared.number.DataModel.{DataModel}
 use Rattle.c_core.specs.declared.number.DataModel.TheVariants.{Lp64}
 use Rattle.c_core.specs.declared.number.Done.{Done}
 use Rattle.c_core.specs.declared.number.Done.TheVariants.{Value, Overflow, Undefined as NoValue}
@@ -13,11 +12,9 @@ use Rattle.c_core.specs.declared.number.IntType.{IntType}
 use Rattle.c_core.specs.declared.number.Property.{Property}
 use Rattle.c_core.specs.declared.number.Property.TheVariants.{UnreachCall, NoOverflow}
 use Rattle.c_core.specs.declared.number.Spot.{Spot}
-use Rattle.c_meaning.specs.declared.run.DrawKind.{DrawKind}
-use Rattle.c_meaning.specs.declared.run.End.{End}
 use Rattle.c_meaning.specs.declared.run.Event.{Event}
 use Rattle.c_meaning.specs.Cells.{Cell, read}
-use Rattle.c_meaning.specs.Acts.{Res, Go, Stop, bind}
+use Rattle.c_meaning.specs.Acts.{bind}
 use Rattle.c_meaning.specs.Meaning.{Site, Where}
 use Rattle.c_meaning.specs.Eval.{operate}
 use Rattle.c_meaning.specs.Run.{State, index_below}
@@ -25,7 +22,6 @@ use Rattle.c_meaning.specs.Run as run
 use Rattle.c_meaning.specs.Watching.{seen_by}
 use Rattle.run_state.specs.Interpreting.{where_of}
 use Rattle.run_state.specs.declared.machine.Around.{Around}
-use Rattle.flow_code.specs.declared.code.Operand.{Operand}
 use Rattle.flow_code.specs.declared.code.Place.{Place}
 use Rattle.flow_code.specs.declared.code.Then.{Then}
 use Rattle.flow_code.specs.declared.code.Into.{Into}
@@ -37,7 +33,6 @@ use Rattle.flow_code.specs.Words.{word_of, type_of_word, native}
 use Rattle.flow_laws.specs.Machines.{Control}
 use Rattle.flow_laws.specs.Acting.{program_in, right_of, value_of, stack_of, finished, aimed}
 use Rattle.flow_laws.specs.inside.Simulating.{meaning}
-use Rattle.flow_laws.proofs.Operations.{bind_alike}
 use Rattle.flow_laws.proofs.Operands.{Takes, TakesBoth}
 use Rattle.flow_laws.proofs.Values.{fit_native, fit_word, fit_right, apply_word, fit_word_one, apply_word_one}
 
@@ -100,7 +95,7 @@ module _ (p : Program) (c : Code) (S : Type 0) (after : Event → List Cell → 
         let v = value_of y κ.stack s.cells in
         let w = type_of_word (word_of p.model (promote_of ty)) in
         let same : apply_one_of Lp64 o w (fit Lp64 w v) ≡ apply_one_of p.model o (promote_of ty) (fit p.model (promote_of ty) v) =
-            ap (λ a. apply_one_of Lp64 o w a) (fit_word_one p.model ty v) ∙ apply_word_one p.model o ty (fit p.model (promote_of ty) v) in
+        ap (λ a. apply_one_of Lp64 o w a) (fit_word_one p.model ty v) ∙ apply_word_one p.model o ty (fit p.model (promote_of ty) v) in
         ap (λ r. bind r (λ z u. finished c S after v z x (record κ { stack = stack_of y κ.stack }) u))
         (ap (λ d. run.answered (program_in c) S (seen_by after) (where_of at) spot d s) same ∙ answered_as (where_of at) spot (apply_one_of p.model o (promote_of ty) (fit p.model (promote_of ty) v)) s)
 
@@ -115,8 +110,8 @@ module _ (p : Program) (c : Code) (S : Type 0) (after : Event → List Cell → 
         let word = type_of_word (word_of p.model ty) in
         let right = fit p.model (right_type_for o ty b) w in
         let same : apply_of Lp64 o word (fit Lp64 word v) (right_of o (word_of p.model ty) (word_of p.model (right_type_for o ty b)) w) ≡ apply_of p.model o ty (fit p.model ty v) right =
-            ap (λ z. apply_of Lp64 o word z (right_of o (word_of p.model ty) (word_of p.model (right_type_for o ty b)) w)) (fit_word p.model o a b v)
-            ∙ ap (λ z. apply_of Lp64 o word (fit p.model ty v) z) (fit_right p.model o a b w)
-            ∙ apply_word p.model o a b (fit p.model ty v) right in
+        ap (λ z. apply_of Lp64 o word z (right_of o (word_of p.model ty) (word_of p.model (right_type_for o ty b)) w)) (fit_word p.model o a b v)
+        ∙ ap (λ z. apply_of Lp64 o word (fit p.model ty v) z) (fit_right p.model o a b w)
+        ∙ apply_word p.model o a b (fit p.model ty v) right in
         ap (λ q. bind q (λ z u. finished c S after v z x (record κ { stack = stack_of l (stack_of r κ.stack) }) u))
         (ap (λ d. run.answered (program_in c) S (seen_by after) (where_of at) spot d s) same ∙ answered_as (where_of at) spot (apply_of p.model o ty (fit p.model ty v) right) s)

@@ -28,16 +28,14 @@ use Rattle.flow_code.specs.declared.code.Action.TheVariants.{Rest, Arrive, Give,
 use Rattle.flow_code.specs.declared.code.Body.{Body}
 use Rattle.flow_code.specs.declared.code.Code.{Code}
 use Rattle.flow_code.specs.declared.code.Into.{Into}
-use Rattle.flow_code.specs.declared.code.Op.{Op}
 use Rattle.flow_code.specs.declared.code.Operand.{Operand}
 use Rattle.flow_code.specs.declared.code.Store.{Store}
 use Rattle.flow_code.specs.declared.code.Then.{Then}
 use Rattle.flow_code.specs.declared.code.Then.TheVariants.{Push, Drop, Skip, Branch}
 use Rattle.flow_code.specs.Words.{type_of_word}
 use Rattle.flow_laws.specs.declared.frame.Frame.{Frame}
-use Rattle.flow_laws.specs.Machines.{Control, Machine}
+use Rattle.flow_laws.specs.Machines.{Control}
 use Rattle.flow_laws.specs.Acting.{program_in, cell, right_of, top, below, value_of, stack_of, key_at, stack_at, kept_value, arguments, with_parameters, told, passed_on, stored, finished, cells_drawn, drawn_if, declared, input_given, called, left_by, aimed, reached_at, converted, acted, scope_closed}
-use Rattle.flow_laws.specs.Stepping.{Turn, On, Short, Over, onward, moved, due, paid_all, behind, done_if, step, steps}
 
 -- a state with other steps left and another sight
 abbrev pub state_by : {S T : Type 0} → (S → T) → ℕ → State S → State T

@@ -1,21 +1,20 @@
 -- Nodes that change a cell.
-use Rattle.std.proofs.Common.{◌≡◌, ℕ, zero, suc, ◌+◌, ◌≤◌, ℤ, pos, Bool, true, false, cond, not, List, [], ◌∷◌, ◌++◌, length, Option, Some, None, slice_get, refl, sym, ap, ◌∙◌, subst, arith, append_assoc}
+use Rattle.std.proofs.Common.{◌≡◌, ℕ, suc, ◌+◌, ◌≤◌, ℤ, pos, Bool, true, false, cond, not, List, [], ◌∷◌, ◌++◌, length, Option, Some, None, slice_get, refl, sym, ap, ◌∙◌, subst, arith, append_assoc}
 use Rattle.c_core.specs.Types.{fit}
-use Rattle.c_core.specs.Operators.{type_for, op_of_step, is_prefix}
-use Rattle.c_core.specs.Tree.{Exp, Expr, Node, Const, Var, Index, Unary, Cast, Step, Binary, Logic, Choose, Comma, Assign, Call, Program}
+use Rattle.c_core.specs.Operators.{op_of_step, is_prefix}
+use Rattle.c_core.specs.Tree.{Exp, Expr, Node, Var, Index, Step, Binary, Assign, Program}
 use Rattle.c_core.specs.declared.number.BinOp.{BinOp}
 use Rattle.c_core.specs.declared.number.StepOp.{StepOp}
 use Rattle.c_core.specs.declared.number.IntType.{IntType}
 use Rattle.c_core.specs.declared.number.IntType.TheVariants.{Int}
-use Rattle.c_core.specs.declared.number.Property.{Property}
 use Rattle.c_core.specs.declared.number.Spot.{Spot}
 use Rattle.c_meaning.specs.declared.run.End.{End}
 use Rattle.c_meaning.specs.declared.run.Event.{Event}
 use Rattle.c_meaning.specs.Cells.{Cell, Key, read, put}
-use Rattle.c_meaning.specs.Acts.{Res, Go, Stop, bind}
+use Rattle.c_meaning.specs.Acts.{Res, Go, bind}
 use Rattle.c_meaning.specs.Meaning.{Use, Used}
 use Rattle.c_meaning.specs.Objects.{type_of, type_or_int}
-use Rattle.c_meaning.specs.Eval.{operate, store, assign}
+use Rattle.c_meaning.specs.Eval.{operate}
 use Rattle.c_meaning.specs.Run.{State, with_cells}
 use Rattle.run_state.specs.Interpreting.{where_of}
 use Rattle.run_state.specs.declared.machine.Around.{Around}
@@ -27,14 +26,13 @@ use Rattle.flow_code.specs.declared.code.Then.{Then}
 use Rattle.flow_code.specs.declared.code.Then.TheVariants.{Push}
 use Rattle.flow_code.specs.declared.code.Into.{Into}
 use Rattle.flow_code.specs.declared.code.Action.TheVariants.{Give}
-use Rattle.flow_code.specs.declared.code.Op.{Op}
 use Rattle.flow_code.specs.declared.code.Code.{Code}
 use Rattle.flow_code.specs.Preparing.{op, only, stored_in, with_operand, kept, rest, paired}
 use Rattle.flow_code.specs.Sizes.{operand_of, with_one, behind_operand, size, size_stored, size_of_place}
 use Rattle.flow_code.specs.Expressions.{code, stored_code, place_code, source, operator}
 use Rattle.flow_code.specs.Words.{native}
 use Rattle.flow_code.proofs.Lengths.{place_size}
-use Rattle.flow_laws.specs.Machines.{Control, Machine}
+use Rattle.flow_laws.specs.Machines.{Control}
 use Rattle.flow_laws.specs.Acting.{cell, value_of, stack_of, key_at, stack_at, finished, acted}
 use Rattle.flow_laws.specs.inside.Simulating.{HasCode, control_at, meaning, paying}
 use Rattle.flow_laws.proofs.Operations.{code_parts, bind_behind, bind_alike, standing, Comes, op_comes, paying_alike}
@@ -42,7 +40,7 @@ use Rattle.flow_laws.proofs.Operands.{Eval, NodeOf, goes_to, Values, operand_com
 use Rattle.flow_laws.proofs.Pairs.{pair_code, pair_comes}
 use Rattle.flow_laws.proofs.Answering.{stored_new, operator_takes}
 use Rattle.flow_laws.proofs.Nodes.{Noded, binary_goes, noded_steps}
-use Rattle.flow_laws.proofs.Targets.{AreSmall, IsFound, TargetOf, PlaceOf, aim_then, target_steps, stores, InPlace, InTarget}
+use Rattle.flow_laws.proofs.Targets.{AreSmall, TargetOf, PlaceOf, aim_then, target_steps, stores, InTarget}
 
 old_or_new : (b : Bool) (v w : ℤ) → cond (not b) v w ≡ cond b w v
 old_or_new true v w = refl
@@ -204,7 +202,7 @@ module _ (p : Program) (c : Code) (S : Type 0) (after : Event → List Cell → 
       let first_length = place_size p at i k ts (Index x d) true in
       let next = λ (l : ℕ). pair_code p c S after n Top 0 (operand_of e) (code p at (l + 0) 0 Used e Push) f in
       let parts = code_parts c i sz first (next (i + length first)) first_length
-          (subst (HasCode c i) (append_assoc first (paired Top 0 (operand_of e) (code p at (i + length first + 0) 0 Used e Push)).ops _) h) in
+      (subst (HasCode c i) (append_assoc first (paired Top 0 (operand_of e) (code p at (i + length first + 0) 0 Used e Push)).ops _) h) in
       let behind_first = subst (λ l. HasCode c (i + sz) (next (i + l))) first_length parts.1 in
       let j : i + sz + m ≡ i + (sz + m) = omega arith in
       aim_then p c S after n x d ihd small at i k ts true κ s parts.0 below (λ key w. bind (changed at spot o ty e key w) (goes_to p c S after n κ (i + (sz + m)) (only then)))

@@ -1,7 +1,7 @@
 -- Nodes that choose what is evaluated: conditionals, `&&` and `||`, the comma.
-use Rattle.std.proofs.Common.{◌≡◌, ℕ, zero, suc, ◌+◌, ◌≤◌, ℤ, pos, Bool, true, false, cond, not, List, [], ◌∷◌, ◌++◌, length, length-append, Option, Some, None, slice_get, refl, sym, ap, ◌∙◌, subst, arith}
+use Rattle.std.proofs.Common.{◌≡◌, ℕ, suc, ◌+◌, ◌≤◌, ℤ, pos, Bool, true, false, cond, not, List, [], ◌∷◌, ◌++◌, length, length-append, Option, Some, None, slice_get, refl, sym, ap, ◌∙◌, subst, arith}
 use Rattle.c_core.specs.Types.{fit, is_zero, number_of}
-use Rattle.c_core.specs.Tree.{Exp, Expr, Node, Logic, Choose, Comma, Program}
+use Rattle.c_core.specs.Tree.{Exp, Logic, Choose, Comma, Program}
 use Rattle.c_core.specs.declared.number.DataModel.TheVariants.{Lp64}
 use Rattle.c_core.specs.declared.number.IntType.{IntType}
 use Rattle.c_core.specs.declared.number.Spot.{Spot}
@@ -10,7 +10,7 @@ use Rattle.c_meaning.specs.declared.run.Event.{Event}
 use Rattle.c_meaning.specs.declared.run.Event.TheVariants.{Branch as Branched}
 use Rattle.c_meaning.specs.Cells.{Cell, put}
 use Rattle.c_meaning.specs.Acts.{Res, Go, Stop, bind}
-use Rattle.c_meaning.specs.Meaning.{Use, Used, Unused}
+use Rattle.c_meaning.specs.Meaning.{Used, Unused}
 use Rattle.c_meaning.specs.Objects.{type_of}
 use Rattle.c_meaning.specs.Eval.{convert_to}
 use Rattle.c_meaning.specs.Run.{State, with_cells}
@@ -31,10 +31,10 @@ use Rattle.flow_code.specs.Expressions.{code, constant, as_type}
 use Rattle.flow_code.specs.Words.{native}
 use Rattle.flow_code.proofs.Lengths.{code_size, followed_size}
 use Rattle.flow_laws.specs.Machines.{Control, Machine}
-use Rattle.flow_laws.specs.Acting.{skipped, passed_on, stored, kept_value, key_at, stack_at, finished, acted}
+use Rattle.flow_laws.specs.Acting.{skipped, passed_on, stored, kept_value, key_at, stack_at, finished}
 use Rattle.flow_laws.specs.inside.Simulating.{HasCode, control_at, meaning, paying}
 use Rattle.flow_laws.proofs.Values.{fit_native}
-use Rattle.flow_laws.proofs.Operations.{code_parts, bind_behind, bind_alike, standing, Comes, op_comes, comes_then, paying_alike}
+use Rattle.flow_laws.proofs.Operations.{code_parts, bind_behind, standing, Comes, op_comes, comes_then, paying_alike}
 use Rattle.flow_laws.proofs.Operands.{Eval, NodeOf, goes_to, Values, Takes, value_then, pushed_then, operand_comes}
 use Rattle.flow_laws.proofs.Nodes.{Noded}
 

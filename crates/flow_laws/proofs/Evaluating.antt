@@ -1,27 +1,23 @@
 -- The code of an expression does what the expression means.
-use Rattle.std.proofs.Common.{◌≡◌, ℕ, ◌+◌, ◌≤◌, ℤ, Bool, List, Option, Some, None, refl, sym, subst}
+use Rattle.std.proofs.Common.{◌≡◌, ℕ, ◌+◌, Bool, List, Option, sym, subst}
 use Rattle.c_core.specs.Tree.{Exp, Expr, Node, Const, Var, Index, Unary, Cast, Step, Binary, Logic, Choose, Comma, Assign, Call, Exps, NoExp, MoreExp, Program}
 use Rattle.c_core.specs.declared.number.IntType.{IntType}
 use Rattle.c_meaning.specs.declared.run.Event.{Event}
 use Rattle.c_meaning.specs.Cells.{Cell}
-use Rattle.c_meaning.specs.Acts.{bind}
 use Rattle.c_meaning.specs.Meaning.{Used}
-use Rattle.c_meaning.specs.Run.{State}
 use Rattle.flow_code.specs.declared.code.Code.{Code}
-use Rattle.flow_code.specs.declared.code.Into.{Into}
 use Rattle.flow_code.specs.declared.code.Then.{Then}
 use Rattle.flow_code.specs.Preparing.{only, stored_in}
 use Rattle.flow_code.specs.Sizes.{size, size_stored}
-use Rattle.flow_laws.specs.Machines.{Control, Machine}
 use Rattle.flow_laws.specs.Stepping.{Does}
-use Rattle.flow_laws.specs.inside.Simulating.{StandsAt, paying, CallIsDone, Evaluated, StoredAs, Finishes}
+use Rattle.flow_laws.specs.inside.Simulating.{paying, CallIsDone, Evaluated, StoredAs, Finishes}
 use Rattle.flow_laws.proofs.Operations.{standing, stands_as, Comes, paying_behind}
 use Rattle.flow_laws.proofs.Operands.{Eval, goes_to, Values, finishes}
 use Rattle.flow_laws.proofs.Answering.{only_new}
 use Rattle.flow_laws.proofs.Nodes.{Noded, values_of_node, const_goes, var_goes, index_goes, cast_goes, unary_goes, binary_goes}
 use Rattle.flow_laws.proofs.Choosing.{logic_goes, choose_goes, comma_goes}
 use Rattle.flow_laws.proofs.Targets.{AreSmall, InPlace, InTarget}
-use Rattle.flow_laws.proofs.Assigning.{Stores, InBoth, InParts, stored_goes, step_goes, assign_goes}
+use Rattle.flow_laws.proofs.Assigning.{InBoth, InParts, stored_goes, step_goes, assign_goes}
 use Rattle.flow_laws.proofs.Invoking.{InArgs, call_goes}
 
 module _ (p : Program) (c : Code) (S : Type 0) (after : Event → List Cell → S → S) (n : ℕ)

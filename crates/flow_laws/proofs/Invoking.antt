@@ -1,7 +1,7 @@
 -- Calls in expressions: arguments, the event, and what is called.
-use Rattle.std.proofs.Common.{◌≡◌, ℕ, zero, suc, ◌+◌, ◌≤◌, ℤ, Bool, is_some, ◌&&◌, List, [], ◌∷◌, ◌++◌, length, reverse, Option, Some, None, slice_get, refl, sym, ap, ◌∙◌, subst, arith, append_assoc}
+use Rattle.std.proofs.Common.{◌≡◌, ℕ, suc, ◌+◌, ◌≤◌, ℤ, Bool, is_some, ◌&&◌, List, [], ◌∷◌, ◌++◌, length, reverse, Option, Some, None, slice_get, refl, sym, ap, ◌∙◌, subst, arith, append_assoc}
 use Rattle.std.proofs.lemmas.List.{reverse-append}
-use Rattle.c_core.specs.Tree.{Exp, Expr, Node, Call, Exps, NoExp, MoreExp, Function, Program}
+use Rattle.c_core.specs.Tree.{Exp, Call, Exps, NoExp, MoreExp, Function, Program}
 use Rattle.c_core.specs.declared.number.DataModel.{DataModel}
 use Rattle.c_core.specs.declared.number.IntType.{IntType}
 use Rattle.c_core.specs.declared.number.Property.{Property}
@@ -11,7 +11,6 @@ use Rattle.c_core.specs.declared.tree.Callee.{Callee}
 use Rattle.c_core.specs.declared.tree.Callee.TheVariants.{Defined, Input as InputOf, ReachError, Abort, Exit}
 use Rattle.c_meaning.specs.declared.run.DrawKind.TheVariants.{Input as InputDraw}
 use Rattle.c_meaning.specs.declared.run.End.{End}
-use Rattle.c_meaning.specs.declared.run.End.TheVariants.{Ended}
 use Rattle.c_meaning.specs.declared.run.Event.{Event}
 use Rattle.c_meaning.specs.declared.run.Event.TheVariants.{Enter as Entered, Return as Returned}
 use Rattle.c_meaning.specs.Cells.{Cell}
@@ -30,19 +29,18 @@ use Rattle.flow_code.specs.declared.code.Operand.TheVariants.{Top}
 use Rattle.flow_code.specs.declared.code.Then.{Then}
 use Rattle.flow_code.specs.declared.code.Then.TheVariants.{Push, Drop}
 use Rattle.flow_code.specs.declared.code.Action.TheVariants.{Enter, Input, Reach, End as EndHere}
-use Rattle.flow_code.specs.declared.code.Op.{Op}
 use Rattle.flow_code.specs.declared.code.Code.{Code}
 use Rattle.flow_code.specs.Preparing.{op, only, give}
 use Rattle.flow_code.specs.Sizes.{size, size_of_all, size_of_callee}
 use Rattle.flow_code.specs.Expressions.{code, args_code, argument_to, callee_code, count_of, left_by, site_at, call_of as call_op}
 use Rattle.flow_code.proofs.Lengths.{code_size, args_size}
 use Rattle.flow_laws.specs.Machines.{Control, Machine}
-use Rattle.flow_laws.specs.Acting.{program_in, finished, acted}
+use Rattle.flow_laws.specs.Acting.{program_in}
 use Rattle.flow_laws.specs.Stepping.{Does}
 use Rattle.flow_laws.specs.inside.Simulating.{HasCode, control_at, meaning, calls, paying, values_of, CallIsDone}
 use Rattle.flow_laws.proofs.Reaching.{does_nothing}
 use Rattle.flow_laws.proofs.Operations.{Gives, code_parts, bind_behind, bind_alike, standing, Comes, op_comes, comes_on, comes_then, paying_alike, paying_behind}
-use Rattle.flow_laws.proofs.Operands.{Eval, NodeOf, goes_to, Values, value_then, pushed_then}
+use Rattle.flow_laws.proofs.Operands.{Eval, NodeOf, goes_to, Values, value_then}
 use Rattle.flow_laws.proofs.Answering.{reached_as}
 use Rattle.flow_laws.proofs.Nodes.{Noded}
 

@@ -1,5 +1,5 @@
 -- Nodes whose code ends with one operation that gives their value.
-use Rattle.std.proofs.Common.{◌≡◌, ℕ, zero, suc, ◌+◌, ◌≤◌, ℤ, List, [], ◌∷◌, ◌++◌, length, Option, Some, None, refl, sym, ap, ◌∙◌, subst, arith, append_assoc}
+use Rattle.std.proofs.Common.{◌≡◌, ℕ, suc, ◌+◌, ◌≤◌, ℤ, List, ◌∷◌, length, Option, Some, None, refl, sym, ◌∙◌, subst, arith, append_assoc}
 use Rattle.c_core.specs.Types.{fit, promote_of}
 use Rattle.c_core.specs.Operators.{apply_one_of}
 use Rattle.c_core.specs.Tree.{Exp, Expr, Node, Const, Var, Index, Unary, Cast, Binary, Program}
@@ -10,7 +10,7 @@ use Rattle.c_core.specs.declared.number.Spot.{Spot}
 use Rattle.c_meaning.specs.declared.run.End.{End}
 use Rattle.c_meaning.specs.declared.run.Event.{Event}
 use Rattle.c_meaning.specs.Cells.{Cell, read}
-use Rattle.c_meaning.specs.Acts.{Res, Go, Stop, bind}
+use Rattle.c_meaning.specs.Acts.{Res, Go, bind}
 use Rattle.c_meaning.specs.Meaning.{Use, Used, Unused}
 use Rattle.c_meaning.specs.Objects.{type_of, size_of_object}
 use Rattle.c_meaning.specs.Eval.{operate}
@@ -26,18 +26,17 @@ use Rattle.flow_code.specs.declared.code.Then.TheVariants.{Push}
 use Rattle.flow_code.specs.declared.code.Into.{Into}
 use Rattle.flow_code.specs.declared.code.Action.{Action}
 use Rattle.flow_code.specs.declared.code.Action.TheVariants.{Give, Look, Convert, OperateOne}
-use Rattle.flow_code.specs.declared.code.Op.{Op}
 use Rattle.flow_code.specs.declared.code.Code.{Code}
-use Rattle.flow_code.specs.Preparing.{op, only, with_operand, kept, rest, prepared, paired, paired_at, taken_both}
+use Rattle.flow_code.specs.Preparing.{op, only, kept, rest, prepared, paired, paired_at, taken_both}
 use Rattle.flow_code.specs.Sizes.{operand_in, operand_of, with_one, with_two, behind_operand, size, size_of_node}
 use Rattle.flow_code.specs.Expressions.{code, node_code, source, operator}
 use Rattle.flow_code.specs.Words.{word_of, native}
 use Rattle.flow_code.proofs.Lengths.{code_size}
-use Rattle.flow_laws.specs.Machines.{Control, Machine}
-use Rattle.flow_laws.specs.Acting.{cell, value_of, stack_of, finished, acted}
+use Rattle.flow_laws.specs.Machines.{Control}
+use Rattle.flow_laws.specs.Acting.{cell, value_of, stack_of, finished}
 use Rattle.flow_laws.specs.inside.Simulating.{HasCode, control_at, meaning, paying}
 use Rattle.flow_laws.proofs.Operations.{code_parts, bind_behind, bind_alike, standing, Comes, op_comes, paying_alike, paying_more}
-use Rattle.flow_laws.proofs.Operands.{behind_left, Eval, NodeOf, ticked, goes_to, Values, own, TakesBoth, own_steps, operand_comes, pushed_then}
+use Rattle.flow_laws.proofs.Operands.{Eval, NodeOf, ticked, goes_to, Values, own, TakesBoth, own_steps, operand_comes, pushed_then}
 use Rattle.flow_laws.proofs.Pairs.{pair_code, pair_comes}
 use Rattle.flow_laws.proofs.Answering.{IsNew, look_takes, convert_takes, operate_one_takes, operator_takes}
 
@@ -111,9 +110,9 @@ module _ (p : Program) (c : Code) (S : Type 0) (after : Event → List Cell → 
       let code_here = subst (λ l. HasCode c i (pair_code p c S after n y (k + 1) (operand_of b) (code p at (l + length (kept y (k + 1))) (rest y (k + 1)) Used b Push) f)) z h in
       let both = pair_comes p c S after n y b ihb f g takes at i (k + 1) κ s code_here below in
       let placed = subst (λ l. Comes p c S after (standing κ i s) (paying p c S after (k + 1) (λ u. bind (Eval p c S after n at Used b u)
-          (λ w t. g (value_of y κ.stack u.cells) w (record (control_at κ (i + l)) { stack = stack_of y κ.stack }) t)) s)) (o.counts (operand_of b) (size b)) both in
+      (λ w t. g (value_of y κ.stack u.cells) w (record (control_at κ (i + l)) { stack = stack_of y κ.stack }) t)) s)) (o.counts (operand_of b) (size b)) both in
       let stacked = subst (λ vs. Comes p c S after (standing κ i s) (paying p c S after (k + 1) (λ u. bind (Eval p c S after n at Used b u)
-          (λ w t. g (value_of y κ.stack u.cells) w (record (control_at κ (i + behind_operand (operand_of b) (size b))) { stack = vs }) t)) s)) (o.stays κ.stack) placed in
+      (λ w t. g (value_of y κ.stack u.cells) w (record (control_at κ (i + behind_operand (operand_of b) (size b))) { stack = vs }) t)) s)) (o.stays κ.stack) placed in
       subst (Comes p c S after (standing κ i s))
       (own_steps p c S after n x y o at Used spot ty k κ.stack s (λ v u. bind (Eval p c S after n at Used b u) (λ w t. g v w (control_at κ (i + behind_operand (operand_of b) (size b))) t))) stacked
   both_by None spot ty x e iha b ihb f g takes at i k κ s h below =
@@ -122,7 +121,7 @@ module _ (p : Program) (c : Code) (S : Type 0) (after : Event → List Cell → 
       let next = λ (l : ℕ). pair_code p c S after n Top 0 (operand_of b) (code p at (l + 0) 0 Used b Push) f in
       let last = λ (l : ℕ). (paired Top 0 (operand_of b) (code p at (l + 0) 0 Used b Push)).ops in
       let parts = code_parts c i (size a) first (next (i + length first)) (code_size p at i k Used a Push)
-          (subst (HasCode c i) (append_assoc first (last (i + length first)) _) h) in
+      (subst (HasCode c i) (append_assoc first (last (i + length first)) _) h) in
       let behind_first = subst (λ l. HasCode c (i + size a) (next (i + l))) (code_size p at i k Used a Push) parts.1 in
       let j : i + size a + with_one (operand_of b) (size b) ≡ i + (size a + with_one (operand_of b) (size b)) = omega arith in
       pushed_then p c S after n a iha at i k Used κ s parts.0 below

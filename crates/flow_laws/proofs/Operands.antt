@@ -1,5 +1,5 @@
 -- Operands: values that the code of an expression leaves on the stack, or that stand in a cell or in the operation itself.
-use Rattle.std.proofs.Common.{◌≡◌, ℕ, zero, suc, ◌+◌, ◌≤◌, ℤ, pos, Bool, true, false, cond, not, List, [], ◌∷◌, ◌++◌, length, Option, Some, None, slice_get, refl, sym, ap, ◌∙◌, subst, arith, append_assoc}
+use Rattle.std.proofs.Common.{◌≡◌, ℕ, suc, ◌+◌, ◌≤◌, ℤ, List, [], ◌∷◌, Option, Some, None, refl, sym, ap, ◌∙◌, subst, arith}
 use Rattle.c_core.specs.Types.{fit}
 use Rattle.c_core.specs.declared.number.DataModel.TheVariants.{Lp64}
 use Rattle.c_core.specs.Tree.{Exp, Expr, Node, Const, Var, Index, Unary, Cast, Step, Binary, Logic, Choose, Comma, Assign, Call, Program}
@@ -9,11 +9,9 @@ use Rattle.c_meaning.specs.declared.run.End.{End}
 use Rattle.c_meaning.specs.declared.run.Event.{Event}
 use Rattle.c_meaning.specs.Cells.{Cell, put}
 use Rattle.c_meaning.specs.Acts.{Res, Go, Stop, bind}
-use Rattle.c_meaning.specs.Meaning.{AStatement, ANode, Use, Used}
+use Rattle.c_meaning.specs.Meaning.{AStatement, Use, Used}
 use Rattle.c_meaning.specs.Eval.{eval, node}
 use Rattle.c_meaning.specs.Run.{State, with_cells}
-use Rattle.c_meaning.specs.Run as run
-use Rattle.c_meaning.specs.Watching.{seen_by}
 use Rattle.run_state.specs.Interpreting.{where_of}
 use Rattle.run_state.specs.declared.machine.Around.{Around}
 use Rattle.flow_code.specs.declared.code.Operand.{Operand}
@@ -23,17 +21,15 @@ use Rattle.flow_code.specs.declared.code.Then.{Then}
 use Rattle.flow_code.specs.declared.code.Then.TheVariants.{Push, Drop, Skip, Branch}
 use Rattle.flow_code.specs.declared.code.Into.{Into}
 use Rattle.flow_code.specs.declared.code.Action.{Action}
-use Rattle.flow_code.specs.declared.code.Action.TheVariants.{Give}
-use Rattle.flow_code.specs.declared.code.Op.{Op}
 use Rattle.flow_code.specs.declared.code.Code.{Code}
-use Rattle.flow_code.specs.Preparing.{op, only, give, with_operand, kept, rest, paired, prepared, paired_at, taken_both}
-use Rattle.flow_code.specs.Sizes.{operand_in, operand_of, with_one, behind_operand, with_two, size}
+use Rattle.flow_code.specs.Preparing.{op, only, with_operand}
+use Rattle.flow_code.specs.Sizes.{operand_in, operand_of, with_one, behind_operand, size}
 use Rattle.flow_code.specs.Expressions.{code}
 use Rattle.flow_code.proofs.Lengths.{code_size}
 use Rattle.flow_laws.specs.Machines.{Control, Machine}
 use Rattle.flow_laws.specs.Acting.{value_of, stack_of, key_at, stack_at, kept_value, finished, stored, passed_on, acted}
 use Rattle.flow_laws.specs.Stepping.{Does}
-use Rattle.flow_laws.specs.inside.Simulating.{HasCode, StandsAt, control_at, meaning, calls, paying, Finishes}
+use Rattle.flow_laws.specs.inside.Simulating.{HasCode, control_at, meaning, calls, paying, Finishes}
 use Rattle.flow_laws.proofs.Operations.{code_parts, bind_behind, bind_alike, standing, Comes, op_comes, comes_then, paying_alike, paying_behind, paying_more}
 
 -- operations behind a left operand and a right one
@@ -97,8 +93,8 @@ module _ (p : Program) (c : Code) (S : Type 0) (after : Event → List Cell → 
   value_then e ih at i k want then κ s code below h t same f g =
       let r = paying p c S after k (Eval at want e) s in
       let reached : Comes p c S after (standing κ i s) (bind r (λ v u. Go (h v u) (t v u))) =
-          subst (Comes p c S after (standing κ i s)) (sym (paying_behind p c S after k (Eval at want e) (goes_to κ (i + size e) (only then)) s)
-          ∙ bind_alike r (goes_to κ (i + size e) (only then)) (λ v u. Go (h v u) (t v u)) same) (ih at i k want then κ s code below) in
+      subst (Comes p c S after (standing κ i s)) (sym (paying_behind p c S after k (Eval at want e) (goes_to κ (i + size e) (only then)) s)
+      ∙ bind_alike r (goes_to κ (i + size e) (only then)) (λ v u. Go (h v u) (t v u)) same) (ih at i k want then κ s code below) in
       subst (Comes p c S after (standing κ i s)) (paying_behind p c S after k (Eval at want e) f s)
       (comes_then p c S after (standing κ i s) r h t f reached (λ v u l. g v u (let b = below in omega (arith, l, b))))
 
@@ -162,8 +158,8 @@ module _ (p : Program) (c : Code) (S : Type 0) (after : Event → List Cell → 
       let o = own x y e in
       let j : suc i ≡ i + 1 = omega arith in
       let acts : (u : State S) → acted c S after (f y) (control_at κ (suc i)) u ≡ g (value_of y κ.stack u.cells) (control_at κ (i + 1)) u =
-          λ u. takes y (control_at κ (suc i)) u ∙ ap (λ vs. g (value_of y κ.stack u.cells) (control_at (record κ { stack = vs }) (suc i)) u) (o.stays κ.stack)
-          ∙ ap (λ l. g (value_of y κ.stack u.cells) (control_at κ l) u) j in
+      λ u. takes y (control_at κ (suc i)) u ∙ ap (λ vs. g (value_of y κ.stack u.cells) (control_at (record κ { stack = vs }) (suc i)) u) (o.stays κ.stack)
+      ∙ ap (λ l. g (value_of y κ.stack u.cells) (control_at κ l) u) j in
       subst (Comes p c S after (standing κ i s))
       (paying_alike p c S after (k + 1) (acted c S after (f y) (control_at κ (suc i))) (λ u. g (value_of y κ.stack u.cells) (control_at κ (i + 1)) u) s acts
       ∙ own_steps x y o at Used spot ty k κ.stack s (λ v t. g v (control_at κ (i + 1)) t))

@@ -1,5 +1,5 @@
 -- One operation, and operations one behind another.
-use Rattle.std.proofs.Common.{◌≡◌, ℕ, zero, suc, ◌+◌, ◌-◌, ◌≤◌, ◌<◌, nat_le, Bool, true, false, cond, List, [], ◌∷◌, ◌++◌, length, Option, Some, None, slice_get, leb-true, leb-false, refl, sym, ap, ◌∙◌, subst, arith}
+use Rattle.std.proofs.Common.{◌≡◌, ℕ, zero, suc, ◌+◌, ◌-◌, ◌≤◌, ◌<◌, nat_le, Bool, true, false, cond, List, [], ◌∷◌, ◌++◌, length, Some, slice_get, leb-true, leb-false, refl, sym, ap, ◌∙◌, subst, arith}
 use Rattle.c_core.specs.Tree.{Program}
 use Rattle.c_meaning.specs.declared.run.End.{End}
 use Rattle.c_meaning.specs.declared.run.End.TheVariants.{Spent}
@@ -13,7 +13,7 @@ use Rattle.flow_code.specs.declared.code.Op.{Op}
 use Rattle.flow_code.specs.declared.code.Code.{Code}
 use Rattle.flow_laws.specs.Machines.{Control, Machine}
 use Rattle.flow_laws.specs.Acting.{acted}
-use Rattle.flow_laws.specs.Stepping.{Turn, On, Short, Over, outcome, moved, due, paid_all, behind, done_if, step, Reaches, Ends, Does}
+use Rattle.flow_laws.specs.Stepping.{Short, outcome, moved, paid_all, behind, done_if, step, Reaches, Does}
 use Rattle.flow_laws.specs.inside.Simulating.{HasCode, StandsAt, control_at, meaning, paying}
 use Rattle.flow_laws.proofs.Reaching.{one_step, one_end, does_from}
 use Rattle.flow_laws.proofs.Budgets.{fewer}
@@ -81,18 +81,18 @@ module _ (p : Program) (c : Code) (S : Type 0) (after : Event → List Cell → 
       let t : State S = record s { steps = s.steps - o.steps } in
       let g : i + 1 ≡ suc i = omega arith in
       let taken : step c S after (standing k i s) ≡ moved (acted c S after o.action (control_at k (suc i)) t) =
-          ap (done_if c S after (standing k i s)) h
-          ∙ ap (λ q. cond q (moved (acted c S after o.action (behind (control_at k i)) (record s { steps = s.steps - (o.steps - 0) }))) (Short (paid_all (standing k i s)))) e
-          ∙ ap (λ n. moved (acted c S after o.action (behind (control_at k i)) (record s { steps = s.steps - n }))) z
-          ∙ ap (λ j. moved (acted c S after o.action (control_at k j) t)) g in
+      ap (done_if c S after (standing k i s)) h
+      ∙ ap (λ q. cond q (moved (acted c S after o.action (behind (control_at k i)) (record s { steps = s.steps - (o.steps - 0) }))) (Short (paid_all (standing k i s)))) e
+      ∙ ap (λ n. moved (acted c S after o.action (behind (control_at k i)) (record s { steps = s.steps - n }))) z
+      ∙ ap (λ j. moved (acted c S after o.action (control_at k j) t)) g in
       subst (Comes (standing k i s)) (sym (ap (λ r. bind r (λ _ u. acted c S after o.action (control_at k (suc i)) u)) (enough o.steps s s.steps refl f)))
       (moved_comes (standing k i s) (acted c S after o.action (control_at k (suc i)) t) taken)
   paid_or_short false i o k s h e =
       let f : s.steps < o.steps = omega (arith, leb-false (o.steps - 0) s.steps e) in
       let t : State S = record s { steps = 0 } in
       let taken : step c S after (standing k i s) ≡ Short (paid_all (standing k i s)) =
-          ap (done_if c S after (standing k i s)) h
-          ∙ ap (λ q. cond q (moved (acted c S after o.action (behind (control_at k i)) (record s { steps = s.steps - (o.steps - 0) }))) (Short (paid_all (standing k i s)))) e in
+      ap (done_if c S after (standing k i s)) h
+      ∙ ap (λ q. cond q (moved (acted c S after o.action (behind (control_at k i)) (record s { steps = s.steps - (o.steps - 0) }))) (Short (paid_all (standing k i s)))) e in
       subst (Comes (standing k i s)) (sym (ap (λ r. bind r (λ _ u. acted c S after o.action (control_at k (suc i)) u)) (too_few o.steps s s.steps refl f)))
       (one_end c S after (standing k i s) Spent t (ap outcome taken))
 

@@ -1,12 +1,12 @@
 -- Two operands, and the operation that takes them.
-use Rattle.std.proofs.Common.{◌≡◌, ℕ, zero, suc, ◌+◌, ◌≤◌, ℤ, pos, List, [], ◌∷◌, ◌++◌, length, Option, Some, None, slice_get, refl, sym, ap, ◌∙◌, subst, arith, append_assoc}
+use Rattle.std.proofs.Common.{◌≡◌, ℕ, zero, suc, ◌+◌, ◌≤◌, ℤ, List, [], ◌∷◌, ◌++◌, length, Option, Some, None, slice_get, refl, sym, ap, ◌∙◌, subst, arith}
 use Rattle.c_core.specs.Tree.{Exp, Expr, Node, Program}
 use Rattle.c_core.specs.declared.number.IntType.{IntType}
 use Rattle.c_core.specs.declared.number.Spot.{Spot}
 use Rattle.c_meaning.specs.declared.run.End.{End}
 use Rattle.c_meaning.specs.declared.run.Event.{Event}
 use Rattle.c_meaning.specs.Cells.{Cell}
-use Rattle.c_meaning.specs.Acts.{Res, Go, Stop, bind}
+use Rattle.c_meaning.specs.Acts.{Res, Go, bind}
 use Rattle.c_meaning.specs.Meaning.{AStatement, Use, Used}
 use Rattle.c_meaning.specs.Exec.{ticks}
 use Rattle.c_meaning.specs.Run.{State}
@@ -20,15 +20,15 @@ use Rattle.flow_code.specs.declared.code.Action.{Action}
 use Rattle.flow_code.specs.declared.code.Action.TheVariants.{Give}
 use Rattle.flow_code.specs.declared.code.Op.{Op}
 use Rattle.flow_code.specs.declared.code.Code.{Code}
-use Rattle.flow_code.specs.Preparing.{Ready, ReadyPair, op, only, give, with_operand, kept, rest, paired, prepared, paired_at, taken_both}
-use Rattle.flow_code.specs.Sizes.{operand_in, operand_of, with_one, behind_operand, with_two, size}
+use Rattle.flow_code.specs.Preparing.{op, only, give, with_operand, kept, rest, paired}
+use Rattle.flow_code.specs.Sizes.{operand_in, operand_of, with_one, behind_operand, size}
 use Rattle.flow_code.specs.Expressions.{code}
 use Rattle.flow_code.proofs.Lengths.{code_size}
-use Rattle.flow_laws.specs.Machines.{Control, Machine}
+use Rattle.flow_laws.specs.Machines.{Control}
 use Rattle.flow_laws.specs.Acting.{top, below, value_of, stack_of, acted}
 use Rattle.flow_laws.specs.inside.Simulating.{HasCode, control_at, meaning, paying}
 use Rattle.flow_laws.proofs.Operations.{code_parts, bind_behind, bind_alike, standing, Comes, op_comes, comes_then, paying_alike, paying_more}
-use Rattle.flow_laws.proofs.Operands.{behind_left, Eval, NodeOf, ticked, Values, IsOwn, own, Takes, TakesBoth, own_steps, operand_comes, pushed_then}
+use Rattle.flow_laws.proofs.Operands.{behind_left, Eval, NodeOf, ticked, Values, IsOwn, own, TakesBoth, operand_comes, pushed_then}
 
 module _ (p : Program) (c : Code) (S : Type 0) (after : Event → List Cell → S → S) (n : ℕ) where
   -- a step changes no cell
@@ -74,10 +74,10 @@ module _ (p : Program) (c : Code) (S : Type 0) (after : Event → List Cell → 
       let j : suc i ≡ i + 1 = omega arith in
       let both : stack_of x (stack_of y κ.stack) ≡ κ.stack = a.stays (stack_of y κ.stack) ∙ o.stays κ.stack in
       let acts : (u : State S) → acted c S after (f x y) (control_at κ (suc i)) u ≡ g (value_of x κ.stack u.cells) (value_of y κ.stack u.cells) (control_at κ (i + 1)) u =
-          λ u. takes x y (control_at κ (suc i)) u
-          ∙ ap (λ v. g v (value_of y κ.stack u.cells) (control_at (record κ { stack = stack_of x (stack_of y κ.stack) }) (suc i)) u) (a.steady (stack_of y κ.stack) κ.stack u.cells)
-          ∙ ap (λ vs. g (value_of x κ.stack u.cells) (value_of y κ.stack u.cells) (control_at (record κ { stack = vs }) (suc i)) u) both
-          ∙ ap (λ l. g (value_of x κ.stack u.cells) (value_of y κ.stack u.cells) (control_at κ l) u) j in
+      λ u. takes x y (control_at κ (suc i)) u
+      ∙ ap (λ v. g v (value_of y κ.stack u.cells) (control_at (record κ { stack = stack_of x (stack_of y κ.stack) }) (suc i)) u) (a.steady (stack_of y κ.stack) κ.stack u.cells)
+      ∙ ap (λ vs. g (value_of x κ.stack u.cells) (value_of y κ.stack u.cells) (control_at (record κ { stack = vs }) (suc i)) u) both
+      ∙ ap (λ l. g (value_of x κ.stack u.cells) (value_of y κ.stack u.cells) (control_at κ l) u) j in
       subst (Comes p c S after (standing κ i s))
       (paying_alike p c S after (k + 1) (acted c S after (f x y) (control_at κ (suc i))) (λ u. g (value_of x κ.stack u.cells) (value_of y κ.stack u.cells) (control_at κ (i + 1)) u) s acts
       ∙ own_again b y o at Used spot ty k κ.stack s (λ cs w t. g (value_of x κ.stack cs) w (control_at κ (i + 1)) t))
@@ -96,8 +96,8 @@ module _ (p : Program) (c : Code) (S : Type 0) (after : Event → List Cell → 
       let last = subst (λ z. HasCode c (z + size e) (op 0 (f Top Top) ∷ [])) j parts.1 in
       let pushes : State S → Control = λ u. control_at (record κ { stack = value_of x κ.stack u.cells ∷ κ.stack }) (i + 1) in
       let acts : (u : State S) → acted c S after (Give x (only Push)) (control_at κ (suc i)) u ≡ Go (pushes u) u =
-          λ u. ap (λ vs. Go (control_at (record κ { stack = value_of x κ.stack u.cells ∷ vs }) (suc i)) u) (a.stays κ.stack)
-          ∙ ap (λ z. Go (control_at (record κ { stack = value_of x κ.stack u.cells ∷ κ.stack }) z) u) j in
+      λ u. ap (λ vs. Go (control_at (record κ { stack = value_of x κ.stack u.cells ∷ vs }) (suc i)) u) (a.stays κ.stack)
+      ∙ ap (λ z. Go (control_at (record κ { stack = value_of x κ.stack u.cells ∷ κ.stack }) z) u) j in
       comes_then p c S after (standing κ i s) (ticks p (meaning p c S after) AStatement k s) (λ _ u. pushes u) (λ _ u. u)
       (λ _ u. bind (Eval p c S after n at Used e u) (λ w t. g (value_of x κ.stack u.cells) w (control_at κ (i + (size e + 2))) t))
       (subst (Comes p c S after (standing κ i s)) (paying_alike p c S after k (acted c S after (Give x (only Push)) (control_at κ (suc i))) (λ u. Go (pushes u) u) s acts)

@@ -31,7 +31,7 @@ module _ (c : Code) (S : Type 0) (after : Event → List Cell → S → S) where
   ends_once m e f s t g h =
       let swap : g.count + h.count ≡ h.count + g.count = omega arith in
       let same : steps c S after g.count m ≡ steps c S after h.count m =
-          sym (stays g.count h.count m e s g.is) ∙ ap (λ n. steps c S after n m) swap ∙ stays h.count g.count m f t h.is in
+      sym (stays g.count h.count m e s g.is) ∙ ap (λ n. steps c S after n m) swap ∙ stays h.count g.count m f t h.is in
       let ends : Stop e s ≡ Stop f t = sym g.is ∙ ap outcome same ∙ h.is in
       (cc, cc)
 

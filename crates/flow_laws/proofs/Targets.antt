@@ -1,12 +1,10 @@
 -- The targets of assignments: cells, and elements whose index the machine finds.
-use Rattle.std.proofs.Common.{◌≡◌, ℕ, zero, suc, ◌+◌, ◌≤◌, ◌<◌, ℤ, pos, negsuc, nat_lt, Bool, true, false, cond, not, List, [], ◌∷◌, ◌++◌, length, Option, Some, None, slice_get, refl, sym, ap, ◌∙◌, subst, arith}
+use Rattle.std.proofs.Common.{◌≡◌, ℕ, zero, suc, ◌+◌, ◌≤◌, ◌<◌, ℤ, pos, negsuc, nat_lt, Bool, true, false, cond, List, [], ◌∷◌, Option, Some, None, slice_get, refl, sym, ap, ◌∙◌, subst, arith}
 use Rattle.std.specs.List.{All}
 use Rattle.std.proofs.lemmas.Bool.{ltb-true, lt-ltb}
 use Rattle.std.proofs.lemmas.List.Elements.{All-head, All-tail}
 use Rattle.c_core.specs.Types.{fit}
-use Rattle.c_core.specs.Operators.{type_for, op_of_step, is_prefix}
-use Rattle.c_core.specs.Tree.{Exp, Expr, Node, Var, Index, Program}
-use Rattle.c_core.specs.declared.number.DataModel.TheVariants.{Lp64}
+use Rattle.c_core.specs.Tree.{Exp, Expr, Node, Index, Program}
 use Rattle.c_core.specs.declared.number.IntType.{IntType}
 use Rattle.c_core.specs.declared.number.Spot.{Spot}
 use Rattle.c_core.specs.declared.tree.Object.{Object}
@@ -14,7 +12,7 @@ use Rattle.c_meaning.specs.declared.run.End.{End}
 use Rattle.c_meaning.specs.declared.run.Event.{Event}
 use Rattle.c_meaning.specs.Cells.{Cell, Key, read, put}
 use Rattle.c_meaning.specs.Acts.{Res, Go, Stop, bind}
-use Rattle.c_meaning.specs.Meaning.{AStatement, Use, Used}
+use Rattle.c_meaning.specs.Meaning.{AStatement, Used}
 use Rattle.c_meaning.specs.Objects.{size_in, size_of_object}
 use Rattle.c_meaning.specs.Eval.{target, place}
 use Rattle.c_meaning.specs.Exec.{ticks}
@@ -23,22 +21,19 @@ use Rattle.c_meaning.specs.Run as run
 use Rattle.c_meaning.specs.Watching.{seen_by}
 use Rattle.run_state.specs.Interpreting.{where_of}
 use Rattle.run_state.specs.declared.machine.Around.{Around}
-use Rattle.flow_code.specs.declared.code.Operand.{Operand}
-use Rattle.flow_code.specs.declared.code.Operand.TheVariants.{Top, Cell as InCell, Number}
 use Rattle.flow_code.specs.declared.code.Place.{Place}
 use Rattle.flow_code.specs.declared.code.Then.{Then}
-use Rattle.flow_code.specs.declared.code.Action.{Action}
 use Rattle.flow_code.specs.declared.code.Action.TheVariants.{Aim}
 use Rattle.flow_code.specs.declared.code.Code.{Code}
-use Rattle.flow_code.specs.Preparing.{only, stored_in, with_operand}
-use Rattle.flow_code.specs.Sizes.{operand_of, with_one, size, size_of_place}
+use Rattle.flow_code.specs.Preparing.{only, stored_in}
+use Rattle.flow_code.specs.Sizes.{size, size_of_place}
 use Rattle.flow_code.specs.Expressions.{place_code}
 use Rattle.flow_code.specs.Words.{native}
-use Rattle.flow_laws.specs.Machines.{Control, Machine}
+use Rattle.flow_laws.specs.Machines.{Control}
 use Rattle.flow_laws.specs.Acting.{cell, index_of, key_at, stack_at, finished, passed_on, aimed}
 use Rattle.flow_laws.specs.inside.Simulating.{HasCode, control_at, meaning, calls, paying}
 use Rattle.flow_laws.proofs.Values.{fit_native}
-use Rattle.flow_laws.proofs.Operations.{Gives, bind_behind, bind_alike, standing, Comes, comes_on, paying_alike, paying_behind, paying_more}
+use Rattle.flow_laws.proofs.Operations.{Gives, bind_behind, standing, Comes, comes_on, paying_alike, paying_behind, paying_more}
 use Rattle.flow_laws.proofs.Operands.{Eval, ticked, goes_to, Values, operand_comes}
 use Rattle.flow_laws.proofs.Answering.{aim_takes}
 
@@ -100,10 +95,10 @@ module _ (p : Program) (c : Code) (S : Type 0) (after : Event → List Cell → 
       let r = paying p c S after k (PlaceOf at spot (Index o e)) s in
       let reached = operand_comes p c S after n e ih (λ y. Aim o l y spot reads) (λ v κ t. bind (key v t) (λ x u. aimed c S after reads x κ.stack κ u)) (aim_takes p c S after n o l spot reads) at i k κ s h below in
       let placed : Comes p c S after (standing κ i s) (bind r (λ x u. Go (to x u) u)) =
-          subst (Comes p c S after (standing κ i s))
-          (paying_alike p c S after k (λ u. bind (Eval p c S after n at Used e u) (λ v t. bind (key v t) (λ x w. Go (to x w) w))) (λ u. bind (PlaceOf at spot (Index o e) u) (λ x w. Go (to x w) w)) s
-          (λ u. sym (bind_behind (Eval p c S after n at Used e u) key (λ x w. Go (to x w) w)))
-          ∙ sym (paying_behind p c S after k (PlaceOf at spot (Index o e)) (λ x w. Go (to x w) w) s)) reached in
+      subst (Comes p c S after (standing κ i s))
+      (paying_alike p c S after k (λ u. bind (Eval p c S after n at Used e u) (λ v t. bind (key v t) (λ x w. Go (to x w) w))) (λ u. bind (PlaceOf at spot (Index o e) u) (λ x w. Go (to x w) w)) s
+      (λ u. sym (bind_behind (Eval p c S after n at Used e u) key (λ x w. Go (to x w) w)))
+      ∙ sym (paying_behind p c S after k (PlaceOf at spot (Index o e)) (λ x w. Go (to x w) w) s)) reached in
       subst (Comes p c S after (standing κ i s)) (paying_behind p c S after k (PlaceOf at spot (Index o e)) f s)
       (comes_on p c S after (IsFound o) (standing κ i s) r to (λ x u. u) f
       (gives_behind (IsFound o) (ticks p (meaning p c S after) AStatement k s) (PlaceOf at spot (Index o e)) (λ u. found spot o l (Eval p c S after n at Used e u) (object_small p o small)))

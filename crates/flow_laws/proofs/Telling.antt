@@ -143,6 +143,8 @@ module _ (p : Program) (choices : Choices) (n : ℕ) where
       → (run.Run p choices n ≡ record { end = e; steps = n - s.steps; draws = s.draws; unfixed = s.unfixed }) × (s.seen ≡ sights_of (Moments p choices n))
   run_is c h e s g =
       let r = run.Seen p (List Sight) (seen_by noted) [] choices n in
-      let once = ends_once c (List Sight) noted (first_machine c (List Sight) [] choices n) (end_of r) e (state_of r) s (h.ends choices n) g in
-      (sym noted_run.0 ∙ ap (λ x. record { end = x; steps = n - (state_of r).steps; draws = (state_of r).draws; unfixed = (state_of r).unfixed }) once.0
-      ∙ ap (λ u. record { end = e; steps = n - u.steps; draws = u.draws; unfixed = u.unfixed }) once.1, ap (λ u. u.seen) (sym once.1) ∙ noted_run.1)
+      let once = ends_once c (List Sight) noted (first_machine c (List Sight) [] choices n) (end_of r) e (state_of r) s (h.ends choices n) g in (
+        sym noted_run.0 ∙ ap (λ x. record { end = x; steps = n - (state_of r).steps; draws = (state_of r).draws; unfixed = (state_of r).unfixed }) once.0
+            ∙ ap (λ u. record { end = e; steps = n - u.steps; draws = u.draws; unfixed = u.unfixed }) once.1,
+        ap (λ u. u.seen) (sym once.1) ∙ noted_run.1,
+      )

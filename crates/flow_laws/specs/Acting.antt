@@ -1,5 +1,5 @@
 -- What each action does: it changes where the machine stands and the state of its run, or ends the run.
-use Rattle.std.specs.Prelude.{ℕ, zero, suc, ◌+◌, ◌-◌, ℤ, pos, negsuc, Bool, true, false, cond, not, nat_lt, ◌==◌, List, [], ◌∷◌, ◌++◌, length, take, drop, reverse, Option, Some, None, slice_get}
+use Rattle.std.specs.Prelude.{ℕ, zero, suc, ◌-◌, ℤ, pos, negsuc, Bool, false, cond, not, nat_lt, List, [], ◌∷◌, ◌++◌, length, take, drop, reverse, Option, Some, None, slice_get}
 use Rattle.c_core.specs.Types.{fit, is_zero, number_of}
 use Rattle.c_core.specs.Operators.{is_shift, apply_of, apply_one_of}
 use Rattle.c_core.specs.declared.number.BinOp.{BinOp}
@@ -10,13 +10,12 @@ use Rattle.c_core.specs.Tree.{Program}
 use Rattle.c_core.specs.declared.number.IntType.{IntType}
 use Rattle.c_core.specs.declared.number.Spot.{Spot}
 use Rattle.c_meaning.specs.declared.run.End.{End}
-use Rattle.c_meaning.specs.declared.run.End.TheVariants.{Ended, Undefined}
+use Rattle.c_meaning.specs.declared.run.End.TheVariants.{Ended}
 use Rattle.c_meaning.specs.declared.run.Event.{Event}
 use Rattle.c_meaning.specs.declared.run.Event.TheVariants.{At, Branch as Branched, Enter as Entered, Return as Returned}
 use Rattle.c_meaning.specs.declared.run.DrawKind.TheVariants.{Input as InputDraw, Cell as CellDraw}
 use Rattle.c_meaning.specs.Cells.{Key, Cell, read, put, cells_from}
 use Rattle.c_meaning.specs.Acts.{Res, Go, Stop, bind}
-use Rattle.c_meaning.specs.Meaning.{Site}
 use Rattle.c_meaning.specs.Run.{State, index_below, with_cells}
 use Rattle.c_meaning.specs.Run as run
 use Rattle.c_meaning.specs.Watching.{seen_by}

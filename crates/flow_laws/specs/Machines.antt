@@ -1,5 +1,5 @@
 -- Machines that step code: where one stands, and the state of its run.
-use Rattle.std.specs.Prelude.{ℕ, ℤ, pos, List, [], ◌∷◌}
+use Rattle.std.specs.Prelude.{ℕ, ℤ, List, []}
 use Rattle.c_meaning.specs.declared.run.Choices.{Choices}
 use Rattle.c_meaning.specs.Run.{State}
 use Rattle.flow_laws.specs.declared.frame.Frame.{Frame}

@@ -54,41 +54,45 @@ module _ (c : Code) (choices : Choices) where
   pub waits_on : (sum taken b n : ℕ) (m y : Machine (List Sight)) → Waits c choices sum taken m → noting n (with_steps b m) ≡ Short y
       → Waits c choices (sum + b) (taken + b) y × Ends c (List Sight) noted (first c choices (sum + b)) Spent y.run
   waits_on sum taken b n m y w h =
-      let spent : Ends c (List Sight) noted (first c choices (sum + b)) Spent y.run = leads_alike (first c choices (sum + b)) (with_steps b m) (w.goes_on b) Spent y.run (record { count = n; is = ap outcome h }) in
-      (record {
-        all = ap (λ k. k + b) w.all;
-        none = (short_on c (List Sight) noted n (with_steps b m) y 0 h).none;
-        spent = inr spent;
-        goes_on = λ d.
-            let g = short_on c (List Sight) noted n (with_steps b m) y d h in
-            let l = w.goes_on (b + d) in
-            let sums : sum + b + d ≡ sum + (b + d) = omega arith in
-            record {
-              count = l.count + g.count;
-              alike = λ i.
-                  let turns : l.count + g.count + suc i ≡ l.count + suc (g.count + i) = omega arith in
-                  let more : suc (g.count + i) ≡ g.count + suc i = omega arith in
-                  ap (λ k. noting k (first c choices (sum + b + d))) turns ∙ ap (λ k. noting (l.count + suc (g.count + i)) (first c choices k)) sums
-                  ∙ l.alike (g.count + i) ∙ ap (λ k. noting k (with_steps (b + d) m)) more ∙ g.alike i;
-            };
-      }, spent)
+      let spent : Ends c (List Sight) noted (first c choices (sum + b)) Spent y.run = leads_alike (first c choices (sum + b)) (with_steps b m) (w.goes_on b) Spent y.run (record { count = n; is = ap outcome h }) in (
+        record {
+          all = ap (λ k. k + b) w.all;
+          none = (short_on c (List Sight) noted n (with_steps b m) y 0 h).none;
+          spent = inr spent;
+          goes_on = λ d.
+              let g = short_on c (List Sight) noted n (with_steps b m) y d h in
+              let l = w.goes_on (b + d) in
+              let sums : sum + b + d ≡ sum + (b + d) = omega arith in
+              record {
+                count = l.count + g.count;
+                alike = λ i.
+                    let turns : l.count + g.count + suc i ≡ l.count + suc (g.count + i) = omega arith in
+                    let more : suc (g.count + i) ≡ g.count + suc i = omega arith in
+                    ap (λ k. noting k (first c choices (sum + b + d))) turns ∙ ap (λ k. noting (l.count + suc (g.count + i)) (first c choices k)) sums
+                    ∙ l.alike (g.count + i) ∙ ap (λ k. noting k (with_steps (b + d) m)) more ∙ g.alike i;
+              };
+        },
+        spent,
+      )
 
   -- the run ends
   pub ends_on : (sum taken b n : ℕ) (m : Machine (List Sight)) (e : End) (s : State (List Sight)) → Waits c choices sum taken m → noting n (with_steps b m) ≡ Over e s
       → HasEnded c choices (sum + b) (taken + (b - s.steps)) e s × (s.steps ≤ b)
   ends_on sum taken b n m e s w h =
-      let fewer = (over_on c (List Sight) noted n (with_steps b m) e s 0 h).fewer in
-      (record {
-        within = omega (arith, w.all);
-        ends = λ d.
-            let g = over_on c (List Sight) noted n (with_steps b m) e s d h in
-            let sums : sum + b + d ≡ sum + (b + d) = omega arith in
-            let left : s.steps + d ≡ sum + b + d - (taken + (b - s.steps)) = omega (arith, w.all, fewer) in
-            let over : Ends c (List Sight) noted (with_steps (b + d) m) e (record s { steps = s.steps + d }) = record { count = g.count; is = ap outcome g.is } in
-            subst (λ k. Ends c (List Sight) noted (first c choices k) e (record s { steps = sum + b + d - (taken + (b - s.steps)) })) (sym sums)
-            (subst (λ k. Ends c (List Sight) noted (first c choices (sum + (b + d))) e (record s { steps = k })) left
-            (leads_alike (first c choices (sum + (b + d))) (with_steps (b + d) m) (w.goes_on (b + d)) e (record s { steps = s.steps + d }) over));
-      }, fewer)
+      let fewer = (over_on c (List Sight) noted n (with_steps b m) e s 0 h).fewer in (
+        record {
+          within = omega (arith, w.all);
+          ends = λ d.
+              let g = over_on c (List Sight) noted n (with_steps b m) e s d h in
+              let sums : sum + b + d ≡ sum + (b + d) = omega arith in
+              let left : s.steps + d ≡ sum + b + d - (taken + (b - s.steps)) = omega (arith, w.all, fewer) in
+              let over : Ends c (List Sight) noted (with_steps (b + d) m) e (record s { steps = s.steps + d }) = record { count = g.count; is = ap outcome g.is } in
+              subst (λ k. Ends c (List Sight) noted (first c choices k) e (record s { steps = sum + b + d - (taken + (b - s.steps)) })) (sym sums)
+              (subst (λ k. Ends c (List Sight) noted (first c choices (sum + (b + d))) e (record s { steps = k })) left
+              (leads_alike (first c choices (sum + (b + d))) (with_steps (b + d) m) (w.goes_on (b + d)) e (record s { steps = s.steps + d }) over));
+        },
+        fewer,
+      )
 
   -- a run that has ended has ended with each larger sum
   pub ended_on : (sum taken b : ℕ) (e : End) (s : State (List Sight)) → HasEnded c choices sum taken e s → HasEnded c choices (sum + b) taken e s
@@ -150,7 +154,7 @@ module _ (p : Program) (c : Code) (choices : Choices) (simulated : IsSimulated p
       let before = told_at_rest sum taken ended m rest in
       let behind = told_at_rest more taken' ended' m' rest' in
       let both : sights_of (Moments p choices sum) ++ news ≡ sights_of (Moments p choices sum) ++ sights_of rest_of =
-          ap (λ es. es ++ news) (sym before) ∙ sym told ∙ behind ∙ ap sights_of continues.moments.1 ∙ sights_append (Moments p choices sum) rest_of in
+      ap (λ es. es ++ news) (sym before) ∙ sym told ∙ behind ∙ ap sights_of continues.moments.1 ∙ sights_append (Moments p choices sum) rest_of in
       let same : news ≡ sights_of rest_of = append_cancel_left (sights_of (Moments p choices sum)) news (sights_of rest_of) both in
       record {
         end = sym (ap (λ r. r.end) (run_is p choices more c simulated e last ends).0);

@@ -1,5 +1,6 @@
 -- What an operator gives where the type has its exact result.
-use Rattle.std.proofs.Common.{◌≡◌, ℤ, true, refl, ap, ◌∙◌}
+use Rattle.std.proofs.Common.{◌≡◌, ◌≤◌, ℕ, ◌+◌, ◌-◌, ℤ, pos, ◌-ℤ◌, true, refl, ap, sym, ◌∙◌, arith}
+use Rattle.std.proofs.Math.IntN.{+ℤ-neg_ℤ_cancel}
 use Rattle.c_core.specs.Types.{fit, in_range}
 use Rattle.c_core.specs.Operators.{exact}
 use Rattle.c_core.specs.declared.number.DataModel.TheVariants.{Lp64}
@@ -18,6 +19,10 @@ by_range Unsigned32 r h = refl
 by_range Signed64 r h = rw h refl
 by_range Unsigned64 r h = refl
 
--- a result that the type has is the value
-pub exact_kept : (w : Word) (r s : ℤ) → in_range Lp64 (type_of_word w) r ≡ true → r ≡ s → exact Lp64 (type_of_word w) s ≡ Value r
-exact_kept w r s h e = rw (← e) (by_range w r h ∙ value_kept w r h)
+-- an exact result that the type has is the value
+pub exact_fits : (w : Word) (s r : ℤ) → in_range Lp64 (type_of_word w) s ≡ true → r ≡ s → exact Lp64 (type_of_word w) s ≡ Value r
+exact_fits w s r h e = by_range w s h ∙ value_kept w s h ∙ ap Value (sym e)
+
+-- a difference of numbers from 0 on
+pub difference_is : (a b : ℕ) → b ≤ a → pos a -ℤ pos b ≡ pos (a - b)
+difference_is a b h = let e : a ≡ (a - b) + b = omega arith in ap (λ n. pos n -ℤ pos b) e ∙ +ℤ-neg_ℤ_cancel (pos (a - b)) (pos b)

@@ -10,7 +10,7 @@ ghost use Rattle.flow_code.specs.declared.code.Code.{Code};
 ghost use Rattle.flow_laws.specs.Acting.{program_in, acted, scope_closed, aimed_at, reached_at};
 ghost use Rattle.flow_machine.specs.Views.{Acts, Gives, answer_finished, control_of, state_of};
 
-use crate::arithmetic::{convert, operate, operate_one};
+use crate::arithmetic::{convert, operate, operate_one, settle};
 use crate::calling::{call, leave};
 use crate::control::{Control, Running, tell};
 use crate::drawing::{declare, input};
@@ -64,6 +64,7 @@ fn answer<W: Watcher>(
     }
 }
 
+// A call of `reach_error`: the violation, or the end of the run where the property isn't about it.
 fn reach<W: Watcher>(
     code: &Code,
     run: &Running,
@@ -79,7 +80,7 @@ fn reach<W: Watcher>(
     }
 }
 
-// A call of `reach_error`, apart from what is done often.
+// The same as an action, apart from what is done often.
 #[inline(never)]
 fn come_to_error<W: Watcher>(
     code: &Code,
@@ -174,6 +175,7 @@ fn aim<W: Watcher>(
     Ok(())
 }
 
+// A scope begins: how many cells live now.
 fn open_scope(control: &mut Control, run: &Running) -> Result<(), Halt>
     ensures control { OnOk result (control_of control.new ≡ record (control_of control.old) { scopes = length run.now.memory.cells ∷ reverse control.old.scopes.items }) }
     ensures refused { IsOkUnless result Halt.NoMemory }
@@ -184,6 +186,7 @@ fn open_scope(control: &mut Control, run: &Running) -> Result<(), Halt>
     }
 }
 
+// The innermost scope ends, with the cells that came since.
 fn close_scope<W: Watcher>(control: &mut Control, run: &mut Running)
     ensures { (x : W.Seen) → scope_closed (reverse control.old.scopes.items) (control_of control.old) (state_of run.old x) ≡ Go (control_of control.new) (state_of run.new x) }
 {
@@ -249,6 +252,9 @@ pub fn act<W: Watcher>(
         } => {
             let b = take(control, run, right);
             let a = take(control, run, left);
+            if let Some(value) = settle(*op, *word, a, *count, b) {
+                return finish(control, run, watcher, a, value, into);
+            }
             let done = operate(*op, *word, a, *count, b);
             conclude(code, control, run, watcher, from, a, done, into)
         }

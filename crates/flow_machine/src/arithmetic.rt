@@ -1,6 +1,6 @@
 // Values as their types have them, and operators in native arithmetic.
-ghost use Rattle.std.specs.Prelude.{◌≡◌, ◌+ℤ◌, ◌-ℤ◌, IsTrue, IsFalse, IfSome};
-ghost use Rattle.c_core.specs.Operators.{apply_of, apply_one_of, exact};
+ghost use Rattle.std.specs.Prelude.{◌≡◌, IsTrue, IsFalse, IfSome};
+ghost use Rattle.c_core.specs.Operators.{apply_of, apply_one_of};
 ghost use Rattle.c_core.specs.Operators.{is_shift as is_shift_of};
 ghost use Rattle.c_core.specs.declared.number.Done.TheVariants.{Value};
 ghost use Rattle.c_core.specs.Types.{fit, in_range};
@@ -8,6 +8,7 @@ ghost use Rattle.c_core.specs.declared.number.DataModel.TheVariants.{Lp64};
 ghost use Rattle.flow_code.specs.Words.{type_of_word};
 ghost use Rattle.flow_laws.specs.Acting.{right_of};
 
+use crate::native::{signed_32, signed_64, unsigned_32, unsigned_64};
 use c_core::{BinOp, DataModel, Done, IntType, UnOp, apply, apply_one, fitted, is_shift};
 use flow_code::Word;
 
@@ -90,39 +91,18 @@ fn operate_on(op: BinOp, word: Word, a: i128, b: i128) -> Done
     }
 }
 
-// A sum that the type has.
-#[inline(always)]
-fn sum(word: Word, a: i128, b: i128) -> Option<i128>
-    ensures { IfSome result (λ r. exact Lp64 (type_of_word word) (a +ℤ b) ≡ Value r) }
-{
-    let r = a.checked_add(b)?;
-    if has(word, r) { Some(r) } else { None }
-}
-
-// A difference that the type has.
-#[inline(always)]
-fn difference(word: Word, a: i128, b: i128) -> Option<i128>
-    ensures { IfSome result (λ r. exact Lp64 (type_of_word word) (a -ℤ b) ≡ Value r) }
-{
-    let r = a.checked_sub(b)?;
-    if has(word, r) { Some(r) } else { None }
-}
-
-// The value of a sum, a difference, a comparison, where it is one of the type.
+// An operator as the processor does it, where it gives a value.
 #[inline(always)]
 fn quick(op: BinOp, word: Word, a: i128, b: i128) -> Option<i128>
+    requires left { IsTrue (in_range Lp64 (type_of_word word) a) }
+    requires right { IsTrue (in_range Lp64 (type_of_word word) b) }
     ensures { IfSome result (λ r. apply_of Lp64 op (type_of_word word) a b ≡ Value r) }
 {
-    match op {
-        BinOp::Add => sum(word, a, b),
-        BinOp::Sub => difference(word, a, b),
-        BinOp::Lt => Some(i128::from(a < b)),
-        BinOp::Le => Some(i128::from(a <= b)),
-        BinOp::Gt => Some(i128::from(a > b)),
-        BinOp::Ge => Some(i128::from(a >= b)),
-        BinOp::Eq => Some(i128::from(a == b)),
-        BinOp::Ne => Some(i128::from(a != b)),
-        _ => None,
+    match word {
+        Word::Signed32 => signed_32(op, a as i32, b as i32),
+        Word::Unsigned32 => unsigned_32(op, a as u32, b as u32),
+        Word::Signed64 => signed_64(op, a as i64, b as i64),
+        Word::Unsigned64 => unsigned_64(op, a as u64, b as u64),
     }
 }
 
@@ -140,8 +120,34 @@ fn operate_in(op: BinOp, word: Word, left: i128, right: i128) -> Done
     }
 }
 
-/// An operator that computes in a type.
+// The value of an operator that isn't a shift, where the processor gives it.
 #[inline(always)]
+fn settle_in(op: BinOp, word: Word, left: i128, right: i128) -> Option<i128>
+    requires { IsFalse (is_shift_of op) }
+    ensures { IfSome result (λ r. apply_of Lp64 op (type_of_word word) (fit Lp64 (type_of_word word) left) (fit Lp64 (type_of_word word) right) ≡ Value r) }
+{
+    quick(op, word, in_word(word, left), in_word(word, right))
+}
+
+/// The value of an operator, where the processor gives it.
+#[inline(always)]
+pub fn settle(op: BinOp, word: Word, left: i128, count: Word, right: i128) -> Option<i128>
+    ensures { IfSome result (λ r. apply_of Lp64 op (type_of_word word) (fit Lp64 (type_of_word word) left) (right_of op word count right) ≡ Value r) }
+{
+    if is_shift(op) {
+        return None;
+    }
+    // each arm is compiled for its type
+    match word {
+        Word::Signed32 => settle_in(op, Word::Signed32, left, right),
+        Word::Unsigned32 => settle_in(op, Word::Unsigned32, left, right),
+        Word::Signed64 => settle_in(op, Word::Signed64, left, right),
+        Word::Unsigned64 => settle_in(op, Word::Unsigned64, left, right),
+    }
+}
+
+/// An operator that computes in a type.
+#[inline(never)]
 pub fn operate(op: BinOp, word: Word, left: i128, count: Word, right: i128) -> Done
     ensures { result ≡ apply_of Lp64 op (type_of_word word) (fit Lp64 (type_of_word word) left) (right_of op word count right) }
 {

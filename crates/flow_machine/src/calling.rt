@@ -37,6 +37,7 @@ fn set_parameters(
     Ok(())
 }
 
+// One more, where a u64 counts so far.
 fn one_more(count: u64) -> Result<u64, Halt>
     ensures more { IfOk result (λ n. n ≡ suc count) }
     ensures refused { IsOkUnless result Halt.NoMemory }
@@ -64,6 +65,7 @@ fn take_arguments(
     Ok(())
 }
 
+// Notes where a call goes on.
 fn push_frame(control: &mut Control, frame: Frame) -> Result<(), Halt>
     ensures control { OnOk result (control_of control.new ≡ record (control_of control.old) { frames = frame ∷ reverse control.old.frames.items }) }
     ensures refused { IsOkUnless result Halt.NoMemory }
@@ -74,6 +76,7 @@ fn push_frame(control: &mut Control, frame: Frame) -> Result<(), Halt>
     }
 }
 
+// A function begins, where there is room for its parameters.
 fn enter<W: Watcher>(
     control: &mut Control,
     run: &mut Running,

@@ -44,6 +44,7 @@ impl Control {
         self.stack.pop().unwrap_or(0)
     }
 
+    /// Puts a value on top of the stack.
     #[inline]
     pub fn push(&mut self, value: i128) -> Result<(), Halt>
         ensures control { OnOk result (control_of self.new ≡ record (control_of self.old) { stack = value ∷ reverse self.old.stack.items }) }

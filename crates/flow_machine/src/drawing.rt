@@ -14,6 +14,7 @@ use c_meaning::{Draw, DrawKind, Event, Watcher};
 use flow_code::Code;
 use run_state::{Halt, Left, LeftAt, add_cells};
 
+// Is it the same place?
 fn is_at(found: Spot, spot: Spot) -> bool
     ensures { result ≡ same_spot found spot }
 {
@@ -133,6 +134,7 @@ pub fn declare<W: Watcher>(
     Ok(())
 }
 
+// The cells of an object draw their values, one after another.
 fn draw_cells<W: Watcher>(
     code: &Code,
     run: &mut Running,

@@ -8,6 +8,7 @@ mod calling;
 mod control;
 mod drawing;
 mod machine;
+mod native;
 mod operands;
 mod results;
 mod running;

@@ -1,18 +1,18 @@
 -- What the code of each part of a program does, beside the part's meaning: the statements of the simulation, part by part.
 use Rattle.std.specs.Prelude.{◌≡◌, ◌≤◌, ℕ, suc, ◌+◌, ℤ, false, List, [], ◌∷◌, ◌++◌, length, reverse, Option, Some, None, slice_get}
-use Rattle.c_core.specs.Tree.{Exp, Stm, Form, Stms, Function, Program}
+use Rattle.c_core.specs.Tree.{Exp, Stm, Form, Function, Program}
 use Rattle.c_core.specs.declared.number.IntType.{IntType}
 use Rattle.c_core.specs.declared.number.Spot.{Spot}
 use Rattle.c_meaning.specs.declared.run.End.{End}
 use Rattle.c_meaning.specs.declared.run.Event.{Event}
 use Rattle.c_meaning.specs.Cells.{Cell}
 use Rattle.c_meaning.specs.Acts.{Res, Go, Flow, Next, Broken, Again, Gave, bind}
-use Rattle.c_meaning.specs.Meaning.{AStatement, Use, Used, Site, Meaning, Calls}
+use Rattle.c_meaning.specs.Meaning.{AStatement, Use, Used, Meaning, Calls}
 use Rattle.c_meaning.specs.Run.{State}
 use Rattle.c_meaning.specs.Run as run
 use Rattle.c_meaning.specs.Watching.{seen_by}
 use Rattle.c_meaning.specs.Eval.{eval}
-use Rattle.c_meaning.specs.Exec.{ticks, call_of, run_in, exec, form, execs}
+use Rattle.c_meaning.specs.Exec.{ticks, call_of, run_in, exec, form}
 use Rattle.run_state.specs.Interpreting.{where_of, site_of}
 use Rattle.run_state.specs.declared.machine.Around.{Around}
 use Rattle.run_state.specs.declared.machine.CallSite.{CallSite}
@@ -24,9 +24,9 @@ use Rattle.flow_code.specs.declared.code.Into.{Into}
 use Rattle.flow_code.specs.declared.code.Place.{Place}
 use Rattle.flow_code.specs.declared.statements.Inside.{Inside}
 use Rattle.flow_code.specs.Preparing.{op, only, stored_in, all_closed}
-use Rattle.flow_code.specs.Sizes.{size, size_stored, size_of_form, size_of_statement, size_of_block}
+use Rattle.flow_code.specs.Sizes.{size, size_stored, size_of_form, size_of_statement}
 use Rattle.flow_code.specs.Expressions.{code, stored_code, call_of as call_op}
-use Rattle.flow_code.specs.Statements.{statement_code, form_code, block_code, jump_out}
+use Rattle.flow_code.specs.Statements.{statement_code, form_code, jump_out}
 use Rattle.flow_code.specs.Words.{native_if}
 use Rattle.flow_laws.specs.Machines.{Control, Machine}
 use Rattle.flow_laws.specs.Acting.{finished, converted}

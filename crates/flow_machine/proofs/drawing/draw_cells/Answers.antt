@@ -1,24 +1,16 @@
-use Rattle.std.proofs.Common.{rules, ◌≡◌, ◌-◌, suc, Err, sym, ◌∙◌, subst}
+use Rattle.std.proofs.Common.{rules, ◌≡◌, Err, sym, ◌∙◌}
 use mir.Val.{SFits}
 use mir.Syntax.{w128}
 use Rattle.std.proofs.lemmas.Int.{to_z-of_z}
-use Rattle.run_state.specs.Interpreting.{same}
-use Rattle.flow_machine.specs.Views.{Gives, state_of}
-use Rattle.flow_machine.proofs.Giving.{halts}
-use Rattle.flow_machine.proofs.Drawn.{drawing, others, next_drawn, drawn_on, drawn_out}
+use Rattle.flow_machine.specs.Views.{state_of}
+use Rattle.flow_machine.proofs.Drawn.{draw_halts, drawn_on, drawn_out}
 use Rattle.flow_machine.proofs.drawing.draw_cells.Goals as goal
 
 pub returns-in_err-value : goal.returns-in_err-value
 returns-in_err-value g c = λ x.
-    let S = g.W.Watcher.Seen in
-    let after = g.W.Watcher.after in
     let e : c.from_residual.result ≡ Err c.in_err-value.field-0.0 = search rules in
-    let s = state_of c.loop-index.run x in
-    let i = c.loop-index.index in
-    subst (λ r. Gives same c.from_residual.result (state_of c.draw.new.run x) r)
-    (sym (next_drawn c.args.code.now S after c.args.spot c.args.object c.args.ty i c.args.size c.loop-index-test.true s) ∙ c.loop-index.invariant x)
-    (halts same same c.in_err-value.field-0.0 (state_of c.draw.new.run x) (drawing c.args.code.now S after c.args.spot c.args.object c.args.ty s)
-    (others c.args.code.now S after c.args.spot c.args.object c.args.ty i (c.args.size - suc i)) c.from_residual.result e (c.in_err-value.ensures x))
+    draw_halts c.args.code.now g.W.Watcher.Seen g.W.Watcher.after c.args.spot c.args.object c.args.ty c.loop-index.index c.args.size c.loop-index-test.true (state_of c.loop-index.run x)
+    (state_of c.draw.new.run x) c.in_err-value.field-0.0 c.from_residual.result _ e (c.loop-index.invariant x) (c.in_err-value.ensures x)
 
 pub loop-index-preserved : goal.loop-index-preserved
 loop-index-preserved g c = λ x.

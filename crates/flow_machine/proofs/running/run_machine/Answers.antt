@@ -1,4 +1,4 @@
-use Rattle.std.proofs.Common.{◌≡◌, ◌+◌, ◌++◌, List, [], ap, sym, subst, ◌∙◌, true, arith}
+use Rattle.std.proofs.Common.{◌≡◌, ◌++◌, [], ap, sym, subst, ◌∙◌, arith}
 use Rattle.c_core.specs.View.{program_view}
 use Rattle.c_meaning.specs.Run as runs
 use Rattle.c_meaning.specs.Watching.{seen_after}
@@ -27,5 +27,5 @@ returns-clause-seen g c =
     let went = (c.in_ok-advance.ensures.run made.3 p (subst (IsCodeOf p) (sym made.0) c.in_ok-code.ensures)).follows in
     let none : runs.Moments p m.choices m.sum ≡ [] = ap (runs.Moments p m.choices) made.2 ∙ nothing_seen p m.choices in
     let all : runs.Moments p c.args.choices.now c.args.steps ≡ went.more =
-        ap (λ x. runs.Moments p x c.args.steps) (sym made.1) ∙ ap (runs.Moments p m.choices) (sym sum) ∙ went.continues ∙ ap (λ ms. ms ++ went.more) none in
+    ap (λ x. runs.Moments p x c.args.steps) (sym made.1) ∙ ap (runs.Moments p m.choices) (sym sum) ∙ went.continues ∙ ap (λ ms. ms ++ went.more) none in
     went.seen ∙ ap (seen_after g.W.Watcher.after (g.W.Watcher.seen c.args.watcher.now)) (sym all)

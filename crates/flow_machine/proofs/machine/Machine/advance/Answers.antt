@@ -36,7 +36,7 @@ invariant_of-self-in-Spent g c whole =
     let few : m.sum + c.args.steps < 2 ^ 64 = omega (arith, c.requires.within, ap (λ (v : Held). v.sum) c.self.view_is) in
     let i = c.self.invariant whole in
     let went = comes_short m.code.now m.choices.now m.sum m.taken m.ended m.control m.run i c.in_default.is g.W.Watcher.Seen g.W.Watcher.after c.args.steps t.result y.control y.run old new few
-        c.in-Ends.end c.in-Spent.is t.ensures c.in-Ends.ensures in
+    c.in-Ends.end c.in-Spent.is t.ensures c.in-Ends.ensures in
     rw c.in_default.is (now_rests m.code.now m.choices.now m.sum m.taken m.ended m.control m.run i g.W.Watcher.Seen g.W.Watcher.after old new (m.sum + c.args.steps) t.result None y.control y.run Spent went)
 
 pub returns-in-Spent-clause-run : goal.returns-in-Spent-clause-run
@@ -51,7 +51,7 @@ returns-in-Spent-clause-run g c =
     (λ whole p h.
     let i = c.self.invariant whole in
     let went = comes_short m.code.now m.choices.now m.sum m.taken m.ended m.control m.run i c.in_default.is g.W.Watcher.Seen g.W.Watcher.after c.args.steps t.result y.control y.run old new few
-        c.in-Ends.end c.in-Spent.is t.ensures c.in-Ends.ensures in
+    c.in-Ends.end c.in-Spent.is t.ensures c.in-Ends.ensures in
     went_on m.code.now m.choices.now m.sum m.taken m.ended m.control m.run i p (c.code_is_simulated.ensures p m.code.now h) (m.sum + c.args.steps) t.result
     (c.larger_budget_continues.ensures p m.choices.now m.sum (m.sum + c.args.steps) (omega arith)) g.W.Watcher.Seen g.W.Watcher.after old new None y.control y.run Spent went)
 
@@ -66,7 +66,7 @@ invariant_of-self-in_default-end g c whole =
     let few : m.sum + c.args.steps < 2 ^ 64 = omega (arith, c.requires.within, ap (λ (v : Held). v.sum) c.self.view_is) in
     let i = c.self.invariant whole in
     let went = comes_to_end m.code.now m.choices.now m.sum m.taken m.ended m.control m.run i c.in_default.is g.W.Watcher.Seen g.W.Watcher.after c.args.steps t.result y.control y.run old new few
-        e c.in_default-end.not-Spent t.ensures c.in-Ends.ensures in
+    e c.in_default-end.not-Spent t.ensures c.in-Ends.ensures in
     now_rests m.code.now m.choices.now m.sum m.taken m.ended m.control m.run i g.W.Watcher.Seen g.W.Watcher.after old new (m.sum + c.args.steps) t.result (Some e) y.control y.run e went
 
 pub returns-in_default-end-clause-run : goal.returns-in_default-end-clause-run
@@ -82,6 +82,6 @@ returns-in_default-end-clause-run g c =
     (λ whole p h.
     let i = c.self.invariant whole in
     let went = comes_to_end m.code.now m.choices.now m.sum m.taken m.ended m.control m.run i c.in_default.is g.W.Watcher.Seen g.W.Watcher.after c.args.steps t.result y.control y.run old new few
-        e c.in_default-end.not-Spent t.ensures c.in-Ends.ensures in
+    e c.in_default-end.not-Spent t.ensures c.in-Ends.ensures in
     went_on m.code.now m.choices.now m.sum m.taken m.ended m.control m.run i p (c.code_is_simulated.ensures p m.code.now h) (m.sum + c.args.steps) t.result
     (c.larger_budget_continues.ensures p m.choices.now m.sum (m.sum + c.args.steps) (omega arith)) g.W.Watcher.Seen g.W.Watcher.after old new (Some e) y.control y.run e went)

@@ -18,7 +18,7 @@ pub returns : goal.returns
 returns c =
     let m = c.self.inside in
     let end : c.match-ended.result ≡ end_at m.ended =
-        elim c.match-ended.branch [ in-Some w ↦ w.result-is ∙ sym (ap end_at w.in-Some.is) | in-None w ↦ w.result-is ∙ sym (ap end_at w.in-None.is) ] in
+    elim c.match-ended.branch [ in-Some w ↦ w.result-is ∙ sym (ap end_at w.in-Some.is) | in-None w ↦ w.result-is ∙ sym (ap end_at w.in-None.is) ] in
     subst (λ (v : Held). (p : Program) → IsCodeOf p v.code → v.whole ≡ true → run_of c.match-ended.result m.taken c.from_vec.result m.run.unfixed ≡ runs.Run p v.choices v.sum) c.self.view_is
     (λ p h whole.
     let i = c.self.invariant whole in
