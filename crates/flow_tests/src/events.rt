@@ -29,8 +29,6 @@ fn sum_of(memory: &Memory) -> i128 {
 }
 
 impl Watcher for Events {
-    ghost use Rattle.std.specs.Prelude.{Unit};
-
     ghost Seen = { Unit {0} };
 
     ghost seen = { λ _. tt };
