@@ -5,4 +5,5 @@ pub mod Passed
 pub mod Acted
 pub mod Exact
 pub mod Going
+pub mod Lasting
 pub mod Advancing

@@ -1,0 +1,59 @@
+-- Room in which a machine of Rust takes no memory.
+use Rattle.std.specs.Prelude.{◌≡◌, ◌≤◌, ◌<◌, ℕ, ◌+◌, length, vec_len, vec_capacity, Result, IfErr}
+use Rattle.c_meaning.specs.declared.run.End.{End}
+use Rattle.c_meaning.specs.Acts.{Res, Go, Stop}
+use Rattle.c_meaning.specs.Run.{State}
+use Rattle.run_state.specs.declared.machine.Halt.{Halt}
+use Rattle.run_state.specs.declared.machine.Halt.TheVariants.{Ends, NoMemory}
+use Rattle.flow_laws.specs.Stepping.{Turn, On, Short, Over}
+use Rattle.flow_machine.specs.declared.control.Control.{Control as Here}
+use Rattle.flow_machine.specs.declared.control.Running.{Running}
+
+-- the run ends, and no memory is wanting
+abbrev pub IsEnd : Halt → Type 0
+IsEnd (Ends e) = Unit {0}
+IsEnd NoMemory = ⊥
+
+-- no memory is wanting
+abbrev pub Lasts : {A : Type 0} → Result A Halt → Type 0
+Lasts r = IfErr r IsEnd
+
+-- the stacks have room for what one action may push: two values, a scope, a call
+pub record HasSpare (k : Here) : Type 0 where
+  pub stack : vec_len k.stack + 2 ≤ vec_capacity k.stack
+  pub scopes : vec_len k.scopes < vec_capacity k.scopes
+  pub frames : vec_len k.frames < vec_capacity k.frames
+
+-- no more draws took no choice than were made
+abbrev pub IsCounted : Running → Type 0
+IsCounted r = r.unfixed ≤ vec_len r.draws
+
+-- the stacks have at least the room that they had
+abbrev pub KeepsStacks : Here → Here → Type 0
+KeepsStacks old new = (vec_capacity old.stack ≤ vec_capacity new.stack) × (vec_capacity old.scopes ≤ vec_capacity new.scopes) × (vec_capacity old.frames ≤ vec_capacity new.frames)
+
+-- cells and draws have at least the room that they had
+abbrev pub KeepsRooms : Running → Running → Type 0
+KeepsRooms old new = (old.memory.room ≤ new.memory.room) × (vec_capacity old.draws ≤ vec_capacity new.draws)
+
+-- there are at most so many cells and draws
+abbrev pub IsWithin : {S : Type 0} → ℕ → ℕ → State S → Type 0
+IsWithin cells draws s = (length s.cells ≤ cells) × (length s.draws ≤ draws)
+
+-- there are at most so many where a part goes on
+abbrev pub GoesWithin : {S A : Type 0} → ℕ → ℕ → Res End (State S) A → Type 0
+GoesWithin cells draws (Go a s) = IsWithin cells draws s
+GoesWithin cells draws (Stop e s) = Unit {0}
+
+-- there are at most so many where a machine goes on
+abbrev pub TurnsWithin : {S : Type 0} → ℕ → ℕ → Turn S → Type 0
+TurnsWithin cells draws (On m) = IsWithin cells draws m.run
+TurnsWithin cells draws (Short m) = Unit {0}
+TurnsWithin cells draws (Over e s) = Unit {0}
+
+-- the same with the room that there is for them
+abbrev pub GoesInRoom : {S A : Type 0} → Running → Res End (State S) A → Type 0
+GoesInRoom r x = GoesWithin r.memory.room (vec_capacity r.draws) x
+
+abbrev pub TurnsInRoom : {S : Type 0} → Running → Turn S → Type 0
+TurnsInRoom r t = TurnsWithin r.memory.room (vec_capacity r.draws) t
