@@ -6,4 +6,6 @@ pub mod Acted
 pub mod Exact
 pub mod Going
 pub mod Lasting
+pub mod Counting
+pub mod Reserving
 pub mod Advancing

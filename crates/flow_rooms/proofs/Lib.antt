@@ -11,3 +11,5 @@ pub mod Orders
 pub mod Leads
 pub mod StatementsLead
 pub mod Paced
+pub mod Called
+pub mod Chains

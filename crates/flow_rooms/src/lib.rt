@@ -5,4 +5,6 @@
 
 mod laws;
 
-pub use laws::{code_is_paced, operations_are_paced, rooms_are_bounded, rooms_are_kept};
+pub use laws::{
+    chains_are_bounded, code_is_paced, operations_are_paced, rooms_are_bounded, rooms_are_kept,
+};
