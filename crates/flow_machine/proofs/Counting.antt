@@ -55,6 +55,10 @@ TurnCounts (On m) = Few m.run
 TurnCounts (Short m) = Few m.run
 TurnCounts (Over e s) = Unit {0}
 
+-- a part that leaves it so
+abbrev pub Fair : {S A : Type 0} → (State S → Res End (State S) A) → Type 0
+Fair {S = S} f = (s : State S) → Few s → Counts (f s)
+
 counts_then : {S A B : Type 0} (r : Res End (State S) A) (f : A → State S → Res End (State S) B) → Counts r → ((a : A) (s : State S) → Few s → Counts (f a s)) → Counts (bind r f)
 counts_then (Go a s) f h g = g a s h
 counts_then (Stop e s) f h g = tt
@@ -93,7 +97,7 @@ module _ (p : Program) (S : Type 0) (see : run.Moment → S → S) where
   counts_reached UnreachCall at site s h = tt
   counts_reached NoOverflow at site s h = tt
 
-  given_or_not : (b : Bool) (spot : Spot) (s : State S) → Few s → Counts {S = S} {A = ℤ} (cond b (λ t. Stop (Undefined spot) t) (λ t. Go (pos 0) t) s)
+  given_or_not : (b : Bool) (spot : Spot) → Fair {S = S} {A = ℤ} (cond b (λ s. Stop (Undefined spot) s) (λ s. Go (pos 0) s))
   given_or_not true spot s h = tt
   given_or_not false spot s h = h
 

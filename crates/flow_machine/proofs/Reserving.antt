@@ -79,7 +79,7 @@ module _ (c : Code) (S : Type 0) (after : Event → List Cell → S → S) where
       → turn_as {T = Unit {0}} (λ _. tt) t ≡ On (machine_as {T = Unit {0}} (λ _. tt) y) → Noted n m y told
   noted_if n m y told (On z) e h =
       let same : machine_as {T = Unit {0}} (λ _. tt) z ≡ machine_as {T = Unit {0}} (λ _. tt) y = cc in
-      record { machine = z; is = e; cells = ap (λ w. w.run.cells) same; draws = ap (λ w. w.run.draws) same }
+      record { machine = z; is = e; cells = ap (λ (w : Machine (Unit {0})). w.run.cells) same; draws = ap (λ (w : Machine (Unit {0})). w.run.draws) same }
   noted_if n m y told (Short z) e h = absurd (cc)
   noted_if n m y told (Over d s) e h = absurd (cc)
 
@@ -129,19 +129,19 @@ pub sound_roomier : (c : Code) (choices : Choices) (sum taken : ℕ) (ended : Op
     → ((x : List Sight) → state_of t x ≡ state_of r x) → state_of {S = Unit {0}} t tt ≡ state_of r tt → (now ≡ true → IsReserved c l)
     → IsSound c choices sum taken ended before whole k r → IsSound c choices sum taken ended now whole l t
 sound_roomier c choices sum taken ended before now whole k l r t e f g room h =
-    let plain : machine_of {S = Unit {0}} l t tt ≡ machine_of k r tt = ap (λ n. record { control = n; run = state_of t tt }) e ∙ ap (λ s. record { control = control_of k; run = s }) g in
+    let plain : machine_of {S = Unit {0}} l t tt ≡ machine_of k r tt = ap (λ (n : Control). record { control = n; run = state_of {S = Unit {0}} t tt }) e ∙ ap (λ (s : State (Unit {0})). record { control = control_of k; run = s }) g in
     record {
       paced = h.paced;
       at_rest = λ w.
           let i = h.at_rest w in
-          let same : machine_of l t i.told ≡ machine_of k r i.told = ap (λ n. record { control = n; run = state_of t i.told }) e ∙ ap (λ s. record { control = control_of k; run = s }) (f i.told) in
-          record { told = i.told; rests = subst (λ m. Rests c choices sum taken ended m) (sym same) i.rests };
-      in_order = λ w n. subst (λ m. IsInOrder c m) (sym plain) (h.in_order w n);
-      reached = λ w n. subst (λ m. IsReached c m) (sym e) (h.reached w n);
+          let same : machine_of l t i.told ≡ machine_of k r i.told = ap (λ (n : Control). record { control = n; run = state_of t i.told }) e ∙ ap (λ (s : State (List Sight)). record { control = control_of k; run = s }) (f i.told) in
+          record { told = i.told; rests = subst (λ (m : Machine (List Sight)). Rests c choices sum taken ended m) (sym same) i.rests };
+      in_order = λ w n. subst (λ (m : Machine (Unit {0})). IsInOrder c m) (sym plain) (h.in_order w n);
+      reached = λ w n. subst (λ (m : Control). IsReached c m) (sym e) (h.reached w n);
       counted = λ w n.
           let few = h.counted w n in
-          let u = ap (λ s. s.unfixed) g in
-          let d = ap (λ s. length s.draws) g in
+          let u = ap (λ (s : State (Unit {0})). s.unfixed) g in
+          let d = ap (λ (s : State (Unit {0})). length s.draws) g in
           omega (arith, few, u, d);
       room = room;
     }

@@ -1,4 +1,4 @@
-use Rattle.std.proofs.Common.{◌≡◌, ◌+◌, ◌<◌, ◌^◌, true, None, Some, ap, subst, arith}
+use Rattle.std.proofs.Common.{rules, ◌≡◌, ◌+◌, ◌<◌, ◌^◌, true, None, Some, ap, subst, arith}
 use Rattle.c_core.specs.Tree.{Program}
 use Rattle.c_meaning.specs.declared.run.End.TheVariants.{Spent}
 use Rattle.flow_code.specs.Programs.{IsCodeOf}
@@ -11,7 +11,7 @@ use Rattle.flow_machine.proofs.machine.Machine.advance.Goals as goal
 pub go-halt-requires-clause-order : goal.go-halt-requires-clause-order
 go-halt-requires-clause-order g c =
     let m = c.self.inside in
-    let whole : m.whole ≡ true = cc in
+    let whole : m.whole ≡ true = search rules in
     in_order_with m.code.now c.self.invariant.paced g.W.Watcher.Seen g.W.Watcher.after c.args.steps m.control m.control m.run m.run (g.W.Watcher.seen c.args.watcher.now) (g.W.Watcher.seen c.args.watcher.now) m.choices.now
     (c.self.invariant.in_order whole c.in_default.is)
 
