@@ -20,7 +20,7 @@ use Rattle.flow_rooms.proofs.Rooms.{come_on}
 use Rattle.run_state.specs.declared.machine.Halt.TheVariants.{Ends as HaltEnds}
 use Rattle.flow_machine.specs.Rooms.{HasSpare, IsCounted, KeepsStacks, KeepsRooms, IsWithin, TurnsWithin, TurnsInRoom, HoldsWithin, StaysWithin, IsReserved, IsReached, NeedsAtMost}
 use Rattle.flow_rooms.specs.Paces.{IsInOrder}
-use Rattle.flow_machine.specs.Runs.{Halts, Waits, Rests, IsSound, first}
+use Rattle.flow_machine.specs.Runs.{Halts, Waits, Rests, IsSound}
 use Rattle.flow_machine.specs.Views.{control_of, state_of, machine_of}
 use Rattle.flow_machine.proofs.Counting.{Few, TurnCounts, steps_count}
 use Rattle.flow_machine.proofs.Going.{one_more}
@@ -102,7 +102,7 @@ module _ (c : Code) (S : Type 0) (after : Event → List Cell → S → S) where
             let q = reached_on n start m come (inl e) in
             let h = most m.control (rooms q.0 m.control q.1) in
             record { stack = omega (arith, h.stack, reserved.stack); scopes = omega (arith, h.scopes, reserved.scopes); frames = omega (arith, h.frames, reserved.frames) };
-        counted = λ n m e. subst TurnCounts e (steps_count c S after n start few);
+        counted = λ n m e. subst (λ (t : Turn S). TurnCounts t) e (steps_count c S after n start few);
         rooms = λ n m e.
             let t = noted_too (suc n) start m told e in
             let w = needs (l.count + suc n) t.machine (l.alike n ∙ t.is) in
@@ -120,7 +120,7 @@ module _ (c : Code) (S : Type 0) (after : Event → List Cell → S → S) where
 
     -- and its draws are counted
     pub spent_counted : (e : End) → e ≡ Spent → r.unfixed ≤ length r.draws.items → Halts (HaltEnds e) (machine_of k' r' new) (λ n. steps c S after n (machine_of k (record r { steps = b }) old)) → r'.unfixed ≤ length r'.draws.items
-    spent_counted e is few (n, inl h) = subst TurnCounts h.0 (steps_count c S after n (machine_of k (record r { steps = b }) old) few)
+    spent_counted e is few (n, inl h) = subst (λ (t : Turn S). TurnCounts t) h.0 (steps_count c S after n (machine_of k (record r { steps = b }) old) few)
     spent_counted e is few (n, inr h) =
         absurd (never_spent c S after n (machine_of k (record r { steps = b }) old) (machine_of k' r' new).run (subst (λ d. steps c S after n (machine_of k (record r { steps = b }) old) ≡ Over d (machine_of k' r' new).run) is h))
 
