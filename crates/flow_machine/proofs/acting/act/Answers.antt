@@ -7,7 +7,7 @@ use Rattle.c_core.specs.declared.number.Done.TheVariants.{Value}
 use Rattle.flow_machine.specs.Views.{control_of, state_of}
 use Rattle.flow_laws.specs.Acting.{declared}
 use Rattle.flow_machine.proofs.Acted.{operated}
-use Rattle.flow_machine.proofs.Lasting.{first_within, input_within}
+use Rattle.flow_machine.proofs.Lasting.{stacks_kept, first_within, input_within}
 use Rattle.flow_machine.proofs.acting.act.Goals as goal
 
 pub returns-in-Aim-clause-acts : goal.returns-in-Aim-clause-acts
@@ -50,3 +50,41 @@ returns-in-Input-clause-lasting g c = λ sure spare counted fits.
     let f = rw c.in-Input.is at fits in
     let room = input_within c.args.code.now g.W.Watcher.Seen g.W.Watcher.after c.args.run.now.memory.room (vec_capacity c.args.run.now.draws) i.spot i.close i.ty i.into (control_of c.args.control.now) (state_of c.args.run.now x) f in
     c.take_input.ensures.lasting sure spare counted (omega (arith, room, c.args.run.now.draws.ok.0))
+
+pub returns-in-Give-clause-kept : goal.returns-in-Give-clause-kept
+returns-in-Give-clause-kept g c = stacks_kept c.args.control.now c.take-value.new.control c.finish.new.control c.take-value.ensures.kept c.finish.ensures.kept
+
+pub returns-in-Give-clause-lasting : goal.returns-in-Give-clause-lasting
+returns-in-Give-clause-lasting g c = λ sure spare counted fits. c.finish.ensures.lasting sure (c.take-value.ensures.spare spare)
+
+pub returns-in-Truth-clause-kept : goal.returns-in-Truth-clause-kept
+returns-in-Truth-clause-kept g c = stacks_kept c.args.control.now c.take.new.control c.finish-in-Truth.new.control c.take.ensures.kept c.finish-in-Truth.ensures.kept
+
+pub returns-in-Truth-clause-lasting : goal.returns-in-Truth-clause-lasting
+returns-in-Truth-clause-lasting g c = λ sure spare counted fits. c.finish-in-Truth.ensures.lasting sure (c.take.ensures.spare spare)
+
+pub returns-in-Convert-clause-kept : goal.returns-in-Convert-clause-kept
+returns-in-Convert-clause-kept g c = stacks_kept c.args.control.now c.take-in-Convert.new.control c.finish-in-Convert.new.control c.take-in-Convert.ensures.kept c.finish-in-Convert.ensures.kept
+
+pub returns-in-Convert-clause-lasting : goal.returns-in-Convert-clause-lasting
+returns-in-Convert-clause-lasting g c = λ sure spare counted fits. c.finish-in-Convert.ensures.lasting sure (c.take-in-Convert.ensures.spare spare)
+
+pub returns-in-Look-clause-kept : goal.returns-in-Look-clause-kept
+returns-in-Look-clause-kept g c = stacks_kept c.args.control.now c.take-in-Look.new.control c.finish-in-Look.new.control c.take-in-Look.ensures.kept c.finish-in-Look.ensures.kept
+
+pub returns-in-Look-clause-lasting : goal.returns-in-Look-clause-lasting
+returns-in-Look-clause-lasting g c = λ sure spare counted fits. c.finish-in-Look.ensures.lasting sure (c.take-in-Look.ensures.spare spare)
+
+pub returns-in-OperateOne-clause-kept : goal.returns-in-OperateOne-clause-kept
+returns-in-OperateOne-clause-kept g c = stacks_kept c.args.control.now c.take-a-in-OperateOne.new.control c.conclude-in-OperateOne.new.control c.take-a-in-OperateOne.ensures.kept c.conclude-in-OperateOne.ensures.kept
+
+pub returns-in-OperateOne-clause-lasting : goal.returns-in-OperateOne-clause-lasting
+returns-in-OperateOne-clause-lasting g c = λ sure spare counted fits. c.conclude-in-OperateOne.ensures.lasting sure (c.take-a-in-OperateOne.ensures.spare spare)
+
+pub returns-in-Some-settle-clause-kept : goal.returns-in-Some-settle-clause-kept
+returns-in-Some-settle-clause-kept g c =
+    stacks_kept c.args.control.now c.take-b.new.control c.finish-in-Some-settle.new.control c.take-b.ensures.kept
+    (stacks_kept c.take-b.new.control c.take-a.new.control c.finish-in-Some-settle.new.control c.take-a.ensures.kept c.finish-in-Some-settle.ensures.kept)
+
+pub returns-in-Some-settle-clause-lasting : goal.returns-in-Some-settle-clause-lasting
+returns-in-Some-settle-clause-lasting g c = λ sure spare counted fits. c.finish-in-Some-settle.ensures.lasting sure (c.take-a.ensures.spare (c.take-b.ensures.spare spare))

@@ -10,4 +10,4 @@ pub returns-in-Some-value-clause-lasting : goal.returns-in-Some-value-clause-las
 returns-in-Some-value-clause-lasting g c = λ sure spare. c.push.ensures.lasting (omega (arith, spare.stack))
 
 pub returns-else-frame-clause-lasting : goal.returns-else-frame-clause-lasting
-returns-else-frame-clause-lasting g c = λ sure spare. c.push-else-frame.ensures.lasting (omega (arith, spare.stack))
+returns-else-frame-clause-lasting g c = λ sure spare. c.push-in-None.ensures.lasting (omega (arith, spare.stack))
