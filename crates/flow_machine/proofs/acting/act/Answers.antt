@@ -69,11 +69,11 @@ returns-in-Convert-clause-kept g c = stacks_kept c.args.control.now c.take-in-Co
 pub returns-in-Convert-clause-lasting : goal.returns-in-Convert-clause-lasting
 returns-in-Convert-clause-lasting g c = λ sure spare counted fits. c.finish-in-Convert.ensures.lasting sure (c.take-in-Convert.ensures.spare spare)
 
-pub returns-in-Look-clause-kept : goal.returns-in-Look-clause-kept
-returns-in-Look-clause-kept g c = stacks_kept c.args.control.now c.take-in-Look.new.control c.finish-in-Look.new.control c.take-in-Look.ensures.kept c.finish-in-Look.ensures.kept
+pub returns-in-Some-clause-kept : goal.returns-in-Some-clause-kept
+returns-in-Some-clause-kept g c = stacks_kept c.args.control.now c.take-in-Look.new.control c.finish-in-Look.new.control c.take-in-Look.ensures.kept c.finish-in-Look.ensures.kept
 
-pub returns-in-Look-clause-lasting : goal.returns-in-Look-clause-lasting
-returns-in-Look-clause-lasting g c = λ sure spare counted fits. c.finish-in-Look.ensures.lasting sure (c.take-in-Look.ensures.spare spare)
+pub returns-in-Some-clause-lasting : goal.returns-in-Some-clause-lasting
+returns-in-Some-clause-lasting g c = λ sure spare counted fits. c.finish-in-Look.ensures.lasting sure (c.take-in-Look.ensures.spare spare)
 
 pub returns-in-OperateOne-clause-kept : goal.returns-in-OperateOne-clause-kept
 returns-in-OperateOne-clause-kept g c = stacks_kept c.args.control.now c.take-a-in-OperateOne.new.control c.conclude-in-OperateOne.new.control c.take-a-in-OperateOne.ensures.kept c.conclude-in-OperateOne.ensures.kept
@@ -88,3 +88,17 @@ returns-in-Some-settle-clause-kept g c =
 
 pub returns-in-Some-settle-clause-lasting : goal.returns-in-Some-settle-clause-lasting
 returns-in-Some-settle-clause-lasting g c = λ sure spare counted fits. c.finish-in-Some-settle.ensures.lasting sure (c.take-a.ensures.spare (c.take-b.ensures.spare spare))
+
+pub returns-in_default-settle-clause-kept : goal.returns-in_default-settle-clause-kept
+returns-in_default-settle-clause-kept g c =
+    stacks_kept c.args.control.now c.take-b.new.control c.conclude.new.control c.take-b.ensures.kept
+    (stacks_kept c.take-b.new.control c.take-a.new.control c.conclude.new.control c.take-a.ensures.kept c.conclude.ensures.kept)
+
+pub returns-in_default-settle-clause-lasting : goal.returns-in_default-settle-clause-lasting
+returns-in_default-settle-clause-lasting g c = λ sure spare counted fits. c.conclude.ensures.lasting sure (c.take-a.ensures.spare (c.take-b.ensures.spare spare))
+
+pub returns-after-ty-clause-kept : goal.returns-after-ty-clause-kept
+returns-after-ty-clause-kept g c = stacks_kept c.args.control.now c.pop-value.new.self c.leave-in-Return.new.control c.pop-value.ensures.kept c.leave-in-Return.ensures.kept
+
+pub returns-after-ty-clause-lasting : goal.returns-after-ty-clause-lasting
+returns-after-ty-clause-lasting g c = λ sure spare counted fits. c.leave-in-Return.ensures.lasting sure (c.pop-value.ensures.spare spare)
