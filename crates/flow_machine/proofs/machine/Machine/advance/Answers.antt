@@ -1,4 +1,4 @@
-use Rattle.std.proofs.Common.{rules, ◌≡◌, ◌+◌, ◌<◌, ◌^◌, true, None, Some, ap, subst, arith}
+use Rattle.std.proofs.Common.{rules, ◌≡◌, ◌+◌, ◌<◌, ◌^◌, true, false, None, Some, ap, subst, arith}
 use Rattle.c_core.specs.Tree.{Program}
 use Rattle.c_meaning.specs.declared.run.End.TheVariants.{Spent}
 use Rattle.flow_code.specs.Programs.{IsCodeOf}
@@ -14,6 +14,20 @@ go-halt-requires-clause-order g c =
     let whole : m.whole ≡ true = search rules in
     in_order_with m.code.now c.self.invariant.paced g.W.Watcher.Seen g.W.Watcher.after c.args.steps m.control m.control m.run m.run (g.W.Watcher.seen c.args.watcher.now) (g.W.Watcher.seen c.args.watcher.now) m.choices.now
     (c.self.invariant.in_order whole c.in_default.is)
+
+pub invariant_of-self : goal.invariant_of-self
+invariant_of-self g c =
+    let m = c.self.inside in
+    let i = c.self.invariant in
+    let lost : m.whole ≡ false = search rules in
+    record {
+      paced = i.paced;
+      at_rest = λ whole. absurd (cc);
+      in_order = λ whole none. absurd (cc);
+      reached = λ whole none. absurd (cc);
+      counted = λ whole none. absurd (cc);
+      room = i.room;
+    }
 
 pub invariant_of-self-in-Some : goal.invariant_of-self-in-Some
 invariant_of-self-in-Some g c =
