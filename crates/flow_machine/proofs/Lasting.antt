@@ -157,8 +157,8 @@ module _ (c : Code) (S : Type 0) (after : Event → List Cell → S → S) (a b 
 pub step_in_room : (c : Code) (S : Type 0) (after : Event → List Cell → S → S) (k l : Here) (r t : Running) (x : S) (o : Op) (q : Bool) → Some o ≡ slice_get c.ops k.at
     → q ≡ nat_le (o.steps - k.paid) r.steps → q ≡ true → l ≡ record k { paid = 0 } → t ≡ record r { steps = r.steps - (o.steps - k.paid) }
     → TurnsInRoom r (step c S after (machine_of k r x)) → GoesInRoom t (acted c S after o.action (control_of (record l { at = l.at + 1 })) (state_of t x))
-step_in_room c S after k l r t x o q item enough yes el et h =
-    rw (el, et) (op_within c S after r.memory.room (vec_capacity r.draws) (machine_of k r x) o (slice_get c.ops k.at) (sym item) (sym enough ∙ yes) h)
+step_in_room c S after k l r t x o q item enough full el et h =
+    rw (el, et) (op_within c S after r.memory.room (vec_capacity r.draws) (machine_of k r x) o (slice_get c.ops k.at) (sym item) (sym enough ∙ full) h)
 
 -- behind an operation that is paid there is as much to spare
 pub spare_paid : (k l : Here) → l ≡ record k { paid = 0 } → HasSpare k → HasSpare (record l { at = l.at + 1 })

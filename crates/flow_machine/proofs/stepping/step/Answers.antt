@@ -10,7 +10,7 @@ returns-clause-lasting g c = λ sure spare counted fits.
     let r = c.args.run.now in
     let o = c.in-Some.op.now in
     let found = ap (λ os. slice_get os k.at) (sym c.as_slice.ensures) ∙ slice_get_read c.as_slice.result.now _ k.at o refl c.in-Some.ensures.lookup.3.0 c.in-Some.ensures.lookup.1 in
-    let yes : c.pay.result ≡ true = search rules in
-    let p = c.pay.ensures.paid yes in
+    let full : c.pay.result ≡ true = search rules in
+    let p = c.pay.ensures.paid full in
     c.act.ensures.lasting sure (spare_paid k c.pay.new.control p.0 spare) (counted_paid r c.pay.new.run (r.steps - (o.steps - k.paid)) p.1 counted)
-    (step_in_room c.args.code.now g.W.Watcher.Seen g.W.Watcher.after k c.pay.new.control r c.pay.new.run x o c.pay.result (sym found) c.pay.ensures.enough yes p.0 p.1 fits)
+    (step_in_room c.args.code.now g.W.Watcher.Seen g.W.Watcher.after k c.pay.new.control r c.pay.new.run x o c.pay.result (sym found) c.pay.ensures.enough full p.0 p.1 fits)
