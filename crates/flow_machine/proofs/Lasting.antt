@@ -18,7 +18,7 @@ use Rattle.c_meaning.specs.Run as runs
 use Rattle.c_meaning.specs.Watching.{seen_by}
 use Rattle.run_state.proofs.Taking.{length_more}
 use Rattle.run_state.specs.declared.machine.CallSite.{CallSite}
-use Rattle.flow_code.specs.declared.code.Action.TheVariants.{Declare, Input}
+use Rattle.flow_code.specs.declared.code.Action.TheVariants.{Input}
 use Rattle.flow_code.specs.declared.code.Body.{Body}
 use Rattle.flow_code.specs.declared.code.Code.{Code}
 use Rattle.flow_code.specs.declared.code.Into.{Into}
@@ -29,8 +29,8 @@ use Rattle.flow_code.specs.declared.code.Then.{Then}
 use Rattle.flow_code.specs.declared.code.Then.TheVariants.{Push, Drop, Skip, Branch}
 use Rattle.flow_laws.specs.Machines.{Control, Machine}
 use Rattle.flow_laws.specs.Acting.{program_in, cell, arguments, with_parameters, kept_value, key_at, stack_at, passed_on, stored, cells_drawn, drawn_if, declared, called, acted}
-use Rattle.flow_laws.specs.Stepping.{Turn, On, Short, Over, moved, due, paid_all, behind, done_if, step}
-use Rattle.flow_machine.specs.Rooms.{HasSpare, IsCounted, KeepsStacks, KeepsRooms, IsWithin, GoesWithin, TurnsWithin, GoesInRoom, TurnsInRoom}
+use Rattle.flow_laws.specs.Stepping.{Short, moved, due, paid_all, behind, done_if, step}
+use Rattle.flow_machine.specs.Rooms.{HasSpare, IsCounted, KeepsStacks, KeepsRooms, GoesWithin, TurnsWithin, GoesInRoom, TurnsInRoom}
 use Rattle.flow_machine.specs.Views.{control_of, state_of, machine_of}
 use Rattle.flow_machine.specs.declared.control.Control.{Control as Here}
 use Rattle.flow_machine.specs.declared.control.Running.{Running}

@@ -1,5 +1,5 @@
 -- A machine that has reserved room stays within it.
-use Rattle.std.proofs.Common.{◌≡◌, ◌≤◌, ◌<◌, ◌⊎◌, inl, inr, ℕ, suc, ◌+◌, ◌-◌, ◌^◌, List, [], length, Option, Some, None, refl, sym, ap, ◌∙◌, subst, arith}
+use Rattle.std.proofs.Common.{◌≡◌, ◌≤◌, ◌⊎◌, inl, inr, ℕ, suc, ◌+◌, List, length, Option, refl, sym, ap, ◌∙◌, subst, arith}
 use Rattle.std.specs.Prelude.{vec_capacity, Bool, true}
 use Rattle.std.proofs.lemmas.List.{length-reverse}
 use Rattle.c_core.specs.Tree.{Program}
@@ -10,7 +10,7 @@ use Rattle.c_meaning.specs.declared.run.Event.{Event}
 use Rattle.c_meaning.specs.Cells.{Cell}
 use Rattle.c_meaning.specs.Run.{State}
 use Rattle.flow_code.specs.declared.code.Code.{Code}
-use Rattle.flow_laws.specs.Machines.{Control, Machine, with_steps}
+use Rattle.flow_laws.specs.Machines.{Control, Machine}
 use Rattle.flow_laws.specs.Runs.{Sight, noted}
 use Rattle.flow_laws.specs.Stepping.{Turn, On, Short, Over, step, steps}
 use Rattle.flow_laws.proofs.Resting.{never_spent}
@@ -22,7 +22,7 @@ use Rattle.flow_machine.specs.Rooms.{HasSpare, IsCounted, KeepsStacks, KeepsRoom
 use Rattle.flow_rooms.specs.Paces.{IsInOrder}
 use Rattle.flow_machine.specs.Runs.{Halts, Waits, Rests, IsSound}
 use Rattle.flow_machine.specs.Views.{control_of, state_of, machine_of}
-use Rattle.flow_machine.proofs.Counting.{Few, TurnCounts, steps_count}
+use Rattle.flow_machine.proofs.Counting.{TurnCounts, steps_count}
 use Rattle.flow_machine.proofs.Going.{one_more}
 use Rattle.flow_machine.specs.declared.control.Control.{Control as Here}
 use Rattle.flow_machine.specs.declared.control.Running.{Running}

@@ -77,8 +77,8 @@ both_fits j i z g f into x y plain takes a b =
     let q = paired j.operand j.steps z ops in
     let last = op q.steps (f q.left q.right) in
     let whole = seq (Left into y) i j.ops (q.ops ++ last ∷ []) x (held j.operand y) (settled into y)
-        (relabeled Free (Left into y) i j.ops x (held j.operand y) (λ ts l. tt) a)
-        (pair_fits j.operand j.steps (i + length j.ops) z ops f into y plain takes (b l (rest j.operand j.steps))) in
+    (relabeled Free (Left into y) i j.ops x (held j.operand y) (λ ts l. tt) a)
+    (pair_fits j.operand j.steps (i + length j.ops) z ops f into y plain takes (b l (rest j.operand j.steps))) in
     subst (λ os. Fits (Left into y) i os x (settled into y)) (sym (append_assoc j.ops q.ops (last ∷ []))) whole
 
 leads_argument : (c : Callee) (ts : List Shape) (x : Shape) → Leads ts (argument_to c) x
@@ -203,14 +203,14 @@ module _ (p : Program) (at : Around) where
         let L : List Shape → Type 0 = λ ts. Onto then x ts × Has ts decided x × Has ts (decided + 1) (passed then x) in
         let tested = followed i A B in
         let first = seq L i A (B (i + length A)) x x (passed then x)
-            (relabeled (Onto (Skip (not both) decided) x) L i A x x (λ ts l. l.1) (code_fits i k Used a (Skip (not both) decided) x))
-            (relabeled (Onto then x) L (i + length A) (B (i + length A)) x (passed then x) (λ ts l. l.0)
-            (operand_fits (operand_of b) (i + length A) 0 (code p at (i + length A) 0 Used b Push) (λ y. Truth y (only then)) (only then) x (plain b) (λ ts i y x h. h) (code_fits (i + length A) 0 Used b Push x))) in
+        (relabeled (Onto (Skip (not both) decided) x) L i A x x (λ ts l. l.1) (code_fits i k Used a (Skip (not both) decided) x))
+        (relabeled (Onto then x) L (i + length A) (B (i + length A)) x (passed then x) (λ ts l. l.0)
+        (operand_fits (operand_of b) (i + length A) 0 (code p at (i + length A) 0 Used b Push) (λ y. Truth y (only then)) (only then) x (plain b) (λ ts i y x h. h) (code_fits (i + length A) 0 Used b Push x))) in
         let jumped = seq L i tested jump x (passed then x) x first
-            (relabeled (λ ts. Has ts (decided + 1) (passed then x)) L (i + length tested) jump (passed then x) x (λ ts l. l.2) (over_fits then (decided + 1) (i + length tested) x)) in
+        (relabeled (λ ts. Has ts (decided + 1) (passed then x)) L (i + length tested) jump (passed then x) x (λ ts l. l.2) (over_fits then (decided + 1) (i + length tested) x)) in
         let final = one_taken (λ y. Give y (only then)) (only then) (i + length (tested ++ jump)) 0 (constant both) x x (λ ts i y x h. h) refl in
         let e : i + length (tested ++ jump) ≡ decided =
-            omega (arith, node_size p at i k want spot ty (Logic both a b) (only then), length-append tested (op 0 (Jump (decided + 1)) ∷ last), length-append tested jump) in
+        omega (arith, node_size p at i k want spot ty (Logic both a b) (only then), length-append tested (op 0 (Jump (decided + 1)) ∷ last), length-append tested jump) in
         subst (λ os. Fits (Onto then x) i os x (passed then x)) (append_assoc tested jump last)
         (joined L (Onto then x) (Onto then x) i (tested ++ jump) last x x (passed then x) jumped final
         (λ ts l s end. (l, subst (λ j. Has ts j x) e (final.enters ts s end), subst (λ j. Has ts (j + 1) (passed then x)) e end)) (λ ts l s m end. l))
@@ -224,11 +224,11 @@ module _ (p : Program) (at : Around) where
         let L : List Shape → Type 0 = λ ts. Onto then x ts × Has ts second x × Has ts to (passed then x) in
         let tested = followed i T yes in
         let first = seq L i T (yes (i + length T)) x x (passed then x)
-            (relabeled (Onto (Branch mark false second) x) L i T x x (λ ts l. l.1) (code_fits i k Used e (Branch mark false second) x))
-            (relabeled (Onto then x) L (i + length T) (yes (i + length T)) x (passed then x) (λ ts l. l.0)
-            (arm_fits (i + length T) ty a then x (code_fits (i + length T) 0 Used a Push x))) in
+        (relabeled (Onto (Branch mark false second) x) L i T x x (λ ts l. l.1) (code_fits i k Used e (Branch mark false second) x))
+        (relabeled (Onto then x) L (i + length T) (yes (i + length T)) x (passed then x) (λ ts l. l.0)
+        (arm_fits (i + length T) ty a then x (code_fits (i + length T) 0 Used a Push x))) in
         let jumped = seq L i tested jump x (passed then x) x first
-            (relabeled (λ ts. Has ts to (passed then x)) L (i + length tested) jump (passed then x) x (λ ts l. l.2) (over_fits then to (i + length tested) x)) in
+        (relabeled (λ ts. Has ts to (passed then x)) L (i + length tested) jump (passed then x) x (λ ts l. l.2) (over_fits then to (i + length tested) x)) in
         let l = i + length (tested ++ jump) in
         let final = arm_fits l ty b then x (code_fits l 0 Used b Push x) in
         let whole = node_size p at i k want spot ty (Choose mark e a b) (only then) in

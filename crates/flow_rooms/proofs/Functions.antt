@@ -163,20 +163,26 @@ module _ (p : Program) where
       let A = (slice_get (function_code p i g) d ≡ Some o) × (slice_get r.shapes d ≡ Some x) in
       let B = (e : ℕ) × (slice_get (functions_code p j gs) e ≡ Some o) × (slice_get (all_shapes p j (suc f) gs) e ≡ Some x) in
       elim (parted (function_code p i g) (functions_code p j gs) r.shapes (all_shapes p j (suc f) gs) d o x r.same h k) as (λ (u : A ⊎ B). IsOwned p (g ∷ gs) f o x) [
-        inl a ↦
-          let l = low_at f 0 r.shapes d x r.low a.1 in
-          let z : x.function ≡ f + 0 = omega (arith, l.low.function) in
-          let m : 0 + length r.shapes ≡ length (function_code p 0 g) = omega (arith, r.same, function_size p i g) in
-          record {
-            number = 0; function = g; found = refl; start = i; place = d; operation = a.0; is = z;
-            behind = l.behind;
-            low = subst (λ n. IsLow n l.behind x) (sym l.low.function) l.low;
-            within = subst (λ n. l.behind < n) m l.within;
-          }
+        | inl a ↦
+            let l = low_at f 0 r.shapes d x r.low a.1 in
+            let z : x.function ≡ f + 0 = omega (arith, l.low.function) in
+            let m : 0 + length r.shapes ≡ length (function_code p 0 g) = omega (arith, r.same, function_size p i g) in
+            record {
+              number = 0;
+              function = g;
+              found = refl;
+              start = i;
+              place = d;
+              operation = a.0;
+              is = z;
+              behind = l.behind;
+              low = subst (λ n. IsLow n l.behind x) (sym l.low.function) l.low;
+              within = subst (λ n. l.behind < n) m l.within;
+            }
         | inr b ↦
-          let q = functions_own j (suc f) gs b.0 o x b.1 b.2 in
-          let z : x.function ≡ f + suc q.number = omega (arith, q.is) in
-          record { number = suc q.number; function = q.function; found = q.found; start = q.start; place = q.place; operation = q.operation; is = z; behind = q.behind; low = q.low; within = q.within }
+            let q = functions_own j (suc f) gs b.0 o x b.1 b.2 in
+            let z : x.function ≡ f + suc q.number = omega (arith, q.is) in
+            record { number = suc q.number; function = q.function; found = q.found; start = q.start; place = q.place; operation = q.operation; is = z; behind = q.behind; low = q.low; within = q.within }
       ]
 
 -- a list of shapes shows its own

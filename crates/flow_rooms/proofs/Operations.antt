@@ -183,7 +183,8 @@ away labels i ops o x y z a h under = record {
       kept_on ts i (length ops) ops (o ∷ []) a.shapes (y ∷ []) refl a.same (a.kept ts l r.0 r.1.0) (h ts l, tt);
   low = λ f n l. let r = a.low f n l in
       let e : length (ops ++ o ∷ []) ≡ length ops + 1 = length-append ops (o ∷ []) in
-      let m = n + length (ops ++ o ∷ []) in
-      (low_on f n (length ops) a.shapes (y ∷ []) a.same r.0 (r.1, tt),
-      record { function = under.function ∙ l.function; height = omega (arith, under.height, l.height); scopes = omega (arith, under.scopes, l.scopes) });
+      let m = n + length (ops ++ o ∷ []) in (
+        low_on f n (length ops) a.shapes (y ∷ []) a.same r.0 (r.1, tt),
+        record { function = under.function ∙ l.function; height = omega (arith, under.height, l.height); scopes = omega (arith, under.scopes, l.scopes) },
+      );
 }

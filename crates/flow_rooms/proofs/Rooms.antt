@@ -255,7 +255,7 @@ module _ (c : Code) (S : Type 0) (after : Event → List Cell → S → S) where
   come_on zero n m y q (inr e) = absurd (cc)
   come_on (suc i) n m y q h =
       elim (onward_on i (step c S after m) y h) [
-        inl a ↦ come_on i (suc n) a.0 y (m, a.0, q, inl a.1, refl) a.2
+        | inl a ↦ come_on i (suc n) a.0 y (m, a.0, q, inl a.1, refl) a.2
         | inr e ↦ (suc n, (m, y, q, inr e, refl))
       ]
 

@@ -191,9 +191,9 @@ module _ (p : Program) (f : ℕ) where
         let y = flat f w.scopes in
         let L : List Shape → Type 0 = λ ts. Ways w f outer ts × Has ts to y in
         let first = seq L i T A y y y
-            (relabeled (λ ts. Has ts to y) L i T y y (λ ts l. l.1) (code_fits p (full_of at x) i 0 Used x (Branch at false to) y))
-            (relabeled (Ways w f outer) L (i + length T) A y y (λ ts l. l.0)
-            (scope_fits t (Ways w f outer) (i + length T) (λ l. statement_code p l (deeper t w) a) f w.scopes (λ j. statement_fits j (deeper t w) outer a z))) in
+        (relabeled (λ ts. Has ts to y) L i T y y (λ ts l. l.1) (code_fits p (full_of at x) i 0 Used x (Branch at false to) y))
+        (relabeled (Ways w f outer) L (i + length T) A y y (λ ts l. l.0)
+        (scope_fits t (Ways w f outer) (i + length T) (λ l. statement_code p l (deeper t w) a) f w.scopes (λ j. statement_fits j (deeper t w) outer a z))) in
         let c : i + length (T ++ A) + 0 ≡ to = omega (arith, length-append T A, code_size p (full_of at x) i 0 Used x (Branch at false to), arm_size p (i + length T) w a) in
         joined L Free (Ways w f outer) i (T ++ A) [] y y y first (nothing Free (i + length (T ++ A)) y) (λ ts l q end. (l, subst (λ k. Has ts k y) c end)) (λ ts l q m end. tt)
     form_fits i w outer at (If x a (OrElse b)) e =
@@ -211,14 +211,14 @@ module _ (p : Program) (f : ℕ) where
         let y = flat f w.scopes in
         let L : List Shape → Type 0 = λ ts. Ways w f outer ts × Has ts to y × Has ts past y in
         let first = seq L i T A y y y
-            (relabeled (λ ts. Has ts to y) L i T y y (λ ts l. l.1) (code_fits p (full_of at x) i 0 Used x (Branch at false to) y))
-            (relabeled (Ways w f outer) L (i + length T) A y y (λ ts l. l.0)
-            (scope_fits t (Ways w f outer) (i + length T) (λ l. statement_code p l (deeper t w) a) f w.scopes (λ j. statement_fits j (deeper t w) outer a z))) in
+        (relabeled (λ ts. Has ts to y) L i T y y (λ ts l. l.1) (code_fits p (full_of at x) i 0 Used x (Branch at false to) y))
+        (relabeled (Ways w f outer) L (i + length T) A y y (λ ts l. l.0)
+        (scope_fits t (Ways w f outer) (i + length T) (λ l. statement_code p l (deeper t w) a) f w.scopes (λ j. statement_fits j (deeper t w) outer a z))) in
         let jumped = seq L i (T ++ A) J y y y first (relabeled (λ ts. Has ts past y) L (i + length (T ++ A)) J y y (λ ts l. l.2) (jump_fits past (i + length (T ++ A)) w.scopes)) in
         let sum = length-append (T ++ A) J in
         let here : j ≡ i + length ((T ++ A) ++ J) = omega (arith, sum) in
         let last = moved (Ways w f outer) j (i + length ((T ++ A) ++ J)) B y y here
-            (scope_fits u (Ways w f outer) j (λ l. statement_code p l (deeper u w) b) f w.scopes (λ j. statement_fits j (deeper u w) outer b v)) in
+        (scope_fits u (Ways w f outer) j (λ l. statement_code p l (deeper u w) b) f w.scopes (λ j. statement_fits j (deeper u w) outer b v)) in
         let c : i + length ((T ++ A) ++ J) ≡ to = omega (arith, sum, length-append T A, code_size p (full_of at x) i 0 Used x (Branch at false to), arm_size p (i + length T) w a) in
         let d : i + length ((T ++ A) ++ J) + length B ≡ past = omega (arith, c, arm_size p j w b) in
         subst (λ os. Fits (Ways w f outer) i os y y) (append_assoc (T ++ A) J B)

@@ -1,4 +1,4 @@
-use Rattle.std.proofs.Common.{rules, ◌≡◌, suc, ◌+◌, ◌≤◌, length, Err, refl, sym, ap, arith}
+use Rattle.std.proofs.Common.{rules, ◌≡◌, suc, ◌+◌, length, Err, ap, arith}
 use Rattle.std.specs.Prelude.{vec_capacity}
 use Rattle.flow_laws.specs.Acting.{program_in}
 use Rattle.flow_machine.specs.Views.{control_of, state_of}
@@ -28,7 +28,7 @@ returns-in_err-take_arguments-clause-lasting g c = λ code x spare fits.
     let e : c.from_residual-in_err-take_arguments.result ≡ Err c.in_err-take_arguments.field-0.0 = search rules in
     let m : c.len.result + 1 ≡ suc c.len.result = omega arith in
     let n = called_within code g.W.Watcher.Seen g.W.Watcher.after c.args.run.now.memory.room (vec_capacity c.args.run.now.draws) c.args.body.now c.args.arguments c.args.site (control_of c.args.control.now) (state_of c.args.run.now x)
-        (c.len.result + 1) c.len.result m c.len.ensures (c.in_ok-room.ensures.gives (program_in code) x) fits in
+    (c.len.result + 1) c.len.result m c.len.ensures (c.in_ok-room.ensures.gives (program_in code) x) fits in
     let l = ap length c.as_slice.ensures in
     rw e (c.in_err-take_arguments.ensures.lasting (omega (arith, n, l)))
 

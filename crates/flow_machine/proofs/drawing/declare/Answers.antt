@@ -44,7 +44,7 @@ returns-in_err-room-clause-lasting g c = λ x counted fits.
 pub returns-in_err-add_cells-clause-lasting : goal.returns-in_err-add_cells-clause-lasting
 returns-in_err-add_cells-clause-lasting g c = λ x counted fits.
     let n = declared_within c.args.code.now g.W.Watcher.Seen g.W.Watcher.after c.args.run.now.memory.room (vec_capacity c.args.run.now.draws) c.args.spot c.args.object c.args.size c.args.ty c.args.draws (state_of c.args.run.now x)
-        (c.in_ok-room.ensures.gives (program_in c.args.code.now) x) fits in
+    (c.in_ok-room.ensures.gives (program_in c.args.code.now) x) fits in
     let no = c.in_err-add_cells.ensures.within n.0 in
     absurd (cc)
 
@@ -52,6 +52,6 @@ pub returns-in_err-draw_cells-clause-lasting : goal.returns-in_err-draw_cells-cl
 returns-in_err-draw_cells-clause-lasting g c = λ x counted fits.
     let e : c.from_residual-in_err-draw_cells.result ≡ Err c.in_err-draw_cells.field-0.0 = search rules in
     let n = declared_within c.args.code.now g.W.Watcher.Seen g.W.Watcher.after c.args.run.now.memory.room (vec_capacity c.args.run.now.draws) c.args.spot c.args.object c.args.size c.args.ty c.args.draws (state_of c.args.run.now x)
-        (c.in_ok-room.ensures.gives (program_in c.args.code.now) x) fits in
+    (c.in_ok-room.ensures.gives (program_in c.args.code.now) x) fits in
     let room = n.1 c.if-draws.true in
     rw e (c.in_err-draw_cells.ensures.lasting counted (omega (arith, room, c.args.run.now.draws.ok.0)))

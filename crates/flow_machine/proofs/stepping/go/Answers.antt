@@ -2,7 +2,7 @@ use Rattle.std.proofs.Common.{refl, arith}
 use Rattle.flow_laws.proofs.Reaching.{one_step, reaches_on}
 use Rattle.flow_machine.specs.Views.{machine_of}
 use Rattle.flow_machine.proofs.Going.{leaves_off}
-use Rattle.flow_machine.proofs.Lasting.{stacks_kept, rooms_kept, same_stacks}
+use Rattle.flow_machine.proofs.Lasting.{stacks_kept, rooms_kept}
 use Rattle.flow_machine.proofs.Reserving.{lasts_there}
 use Rattle.flow_machine.proofs.stepping.go.Goals as goal
 use Rattle.flow_rooms.proofs.Falls.{step_falls}

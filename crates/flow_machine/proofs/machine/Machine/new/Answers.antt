@@ -1,4 +1,4 @@
-use Rattle.std.proofs.Common.{[], ◌≡◌, refl, arith}
+use Rattle.std.proofs.Common.{[], refl, arith}
 use Rattle.flow_machine.proofs.Advancing.{begun, begun_in_order}
 use Rattle.flow_machine.proofs.machine.Machine.new.Goals as goal
 

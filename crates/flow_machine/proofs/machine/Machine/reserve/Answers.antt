@@ -1,5 +1,4 @@
-use Rattle.std.proofs.Common.{◌≡◌, ◌≤◌, ◌+◌, length, refl, arith}
-use Rattle.std.specs.Prelude.{vec_capacity}
+use Rattle.std.proofs.Common.{refl, arith}
 use Rattle.flow_machine.proofs.Reserving.{sound_roomier, still_reserved}
 use Rattle.flow_machine.proofs.machine.Machine.reserve.Goals as goal
 
