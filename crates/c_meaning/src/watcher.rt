@@ -1,4 +1,4 @@
-ghost use Rattle.std.specs.Prelude.{◌≡◌, OnOk, OnErr};
+ghost use Rattle.std.specs.Prelude.{◌≡◌, IsOk, OnOk, OnErr};
 
 use crate::memory::Memory;
 use crate::run::Event;
@@ -18,7 +18,11 @@ pub trait Watcher {
     /// What follows at an event with the live cells of that moment.
     ghost after: { Event → List Cell → Seen → Seen };
 
+    /// What shows that such watchers never want memory, if anything does.
+    ghost sure: { Type 0 };
+
     fn see(&mut self, event: Event, memory: &Memory) -> Result<(), OutOfMemory>
         ensures ok { OnOk result (seen self.new ≡ after event memory.now.cells (seen self.old)) }
-        ensures refused { OnErr result (seen self.new ≡ seen self.old) };
+        ensures refused { OnErr result (seen self.new ≡ seen self.old) }
+        ensures succeeds { sure → IsOk result };
 }

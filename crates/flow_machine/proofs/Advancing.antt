@@ -12,7 +12,7 @@ use Rattle.c_meaning.specs.Cells.{Cell}
 use Rattle.c_meaning.specs.Run.{Moment, Moments, State}
 use Rattle.c_meaning.specs.Run as run
 use Rattle.flow_code.specs.declared.code.Code.{Code}
-use Rattle.flow_laws.specs.Machines.{Machine, with_steps}
+use Rattle.flow_laws.specs.Machines.{Machine, first_machine, with_steps}
 use Rattle.flow_laws.specs.Runs.{Sight, noted, IsSimulated}
 use Rattle.flow_laws.specs.Stepping.{Turn, Short, Over, outcome, steps, Ends}
 use Rattle.flow_laws.proofs.Beginning.{nothing_seen, spent_at_once}
@@ -21,10 +21,16 @@ use Rattle.flow_laws.proofs.Telling.{all_seen, sights_of, sights_append, seen_of
 use Rattle.run_state.specs.declared.machine.Halt.TheVariants.{Ends as HaltEnds}
 use Rattle.flow_machine.specs.Runs.{Advances, Halts, first, Leads, IsSpent, Waits, HasEnded, Rests, IsAtRest}
 use Rattle.flow_machine.specs.Views.{machine_of}
+use Rattle.flow_rooms.specs.Paces.{IsPaced, IsInOrder}
+use Rattle.flow_rooms.proofs.Orders.{shorts_in_order}
 use Rattle.flow_machine.specs.declared.control.Control.{Control as Here}
 use Rattle.flow_machine.specs.declared.control.Running.{Running}
 
 module _ (c : Code) (choices : Choices) where
+  -- before the first step a machine is in order
+  pub begun_in_order : (m : Machine (Unit {0})) → m ≡ first_machine c (Unit {0}) tt choices 0 → IsInOrder c m
+  begun_in_order m h = subst (λ z. IsInOrder c z) (sym h) (record { unpaid = λ o g l. l; noted = refl; few = omega arith })
+
   -- steps of the machine that notes all events
   abbrev noting : ℕ → Machine (List Sight) → Turn (List Sight)
   noting n m = steps c (List Sight) noted n m
@@ -277,3 +283,16 @@ module _ (c : Code) (choices : Choices) (sum taken : ℕ) (ended : Option End) (
   went_on p simulated more taken' continues S after old new ended' k' r' e w =
       advances p c choices simulated after sum taken more taken' ended ended' (machine_of k r rest.told) (machine_of k' r' (rest.told ++ w.news)) e old new w.news w.last
       continues rest.rests w.rests w.ends refl w.seen
+
+module _ (c : Code) (paced : IsPaced c) (S : Type 0) (after : Event → List Cell → S → S) (b : ℕ) (k k' : Here) (r r' : Running) (old new : S) (choices : Choices) where
+  -- a machine in order is so with a budget, whoever watches
+  pub in_order_with : IsInOrder c (machine_of {S = Unit {0}} k r tt) → IsInOrder c (machine_of k (record r { steps = b }) old)
+  in_order_with order = record { unpaid = order.unpaid; noted = order.noted; few = order.few }
+
+  -- where its steps are spent it is in order
+  pub spent_in_order : (e : End) → e ≡ Spent → IsInOrder c (machine_of {S = Unit {0}} k r tt) → Halted c choices S after b k k' r r' old new e → IsInOrder c (machine_of {S = Unit {0}} k' r' tt)
+  spent_in_order e is order (n, inl h) =
+      let y = shorts_in_order c S after paced n (machine_of k (record r { steps = b }) old) (machine_of k' r' new) (in_order_with order) h.0 in
+      record { unpaid = y.unpaid; noted = y.noted; few = y.few }
+  spent_in_order e is order (n, inr h) =
+      absurd (never_spent c S after n (machine_of k (record r { steps = b }) old) (machine_of k' r' new).run (subst (λ x. steps c S after n (machine_of k (record r { steps = b }) old) ≡ Over x (machine_of k' r' new).run) is h))

@@ -18,7 +18,7 @@ module _ (c : Code) (S : Type 0) (after : Event → List Cell → S → S) where
   and_none (Over e s) = refl
 
   -- one operation more
-  one_more : (n : ℕ) (m x : Machine S) (t : Turn S) → steps c S after n m ≡ On x → step c S after x ≡ t → steps c S after (n + 1) m ≡ t
+  pub one_more : (n : ℕ) (m x : Machine S) (t : Turn S) → steps c S after n m ≡ On x → step c S after x ≡ t → steps c S after (n + 1) m ≡ t
   one_more n m x t e h =
       steps_on c S after n 1 m ∙ ap (λ u. onward u (steps c S after 1)) e ∙ ap (λ u. onward u (steps c S after 0)) h ∙ and_none t
 

@@ -5,4 +5,7 @@ pub mod Passed
 pub mod Acted
 pub mod Exact
 pub mod Going
+pub mod Lasting
+pub mod Counting
+pub mod Reserving
 pub mod Advancing

@@ -1,5 +1,5 @@
 -- What a machine promises of the runs of a program.
-use Rattle.std.specs.Prelude.{◌≡◌, ◌≤◌, ◌⊎◌, ℕ, suc, ◌+◌, ◌-◌, Bool, List, [], ◌++◌, Option, Some, None}
+use Rattle.std.specs.Prelude.{◌≡◌, ◌≤◌, ◌⊎◌, ℕ, suc, ◌+◌, ◌-◌, Bool, true, List, [], ◌++◌, Option, Some, None, length}
 use Rattle.c_core.specs.Tree.{Program}
 use Rattle.c_meaning.specs.declared.run.Choices.{Choices}
 use Rattle.c_meaning.specs.declared.run.End.{End}
@@ -14,7 +14,9 @@ use Rattle.flow_code.specs.declared.code.Code.{Code}
 use Rattle.flow_laws.specs.Machines.{Machine, first_machine, with_steps}
 use Rattle.flow_laws.specs.Runs.{Sight, noted}
 use Rattle.flow_laws.specs.Stepping.{Turn, Short, Over, steps, Ends}
-use Rattle.flow_machine.specs.Views.{machine_of}
+use Rattle.flow_machine.specs.Rooms.{IsReached, IsReserved}
+use Rattle.flow_machine.specs.Views.{control_of, machine_of}
+use Rattle.flow_rooms.specs.Paces.{IsPaced, IsInOrder}
 use Rattle.flow_machine.specs.declared.control.Control.{Control as Here}
 use Rattle.flow_machine.specs.declared.control.Running.{Running}
 
@@ -81,3 +83,13 @@ module _ (c : Code) where
   pub record IsAtRest (choices : Choices) (sum taken : ℕ) (ended : Option End) (k : Here) (r : Running) : Type 0 where
     pub told : List Sight
     pub rests : Rests choices sum taken ended (machine_of k r told)
+
+-- a machine of Rust between calls: its code is paced; unless memory was wanting it is at rest, and where the run goes on it is in order, stands where
+-- machines of the code come to, and counts its draws; where room was reserved there is as much
+pub record IsSound (c : Code) (choices : Choices) (sum taken : ℕ) (ended : Option End) (reserved whole : Bool) (k : Here) (r : Running) : Type 0 where
+  pub paced : IsPaced c
+  pub at_rest : whole ≡ true → IsAtRest c choices sum taken ended k r
+  pub in_order : whole ≡ true → ended ≡ None → IsInOrder c (machine_of {S = Unit {0}} k r tt)
+  pub reached : whole ≡ true → ended ≡ None → IsReached c (control_of k)
+  pub counted : whole ≡ true → ended ≡ None → r.unfixed ≤ length r.draws.items
+  pub room : reserved ≡ true → IsReserved c k

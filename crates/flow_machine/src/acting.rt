@@ -1,5 +1,5 @@
 // One operation.
-ghost use Rattle.std.specs.Prelude.{◌≡◌, ◌∷◌, reverse, length, OnOk, IsOkUnless};
+ghost use Rattle.std.specs.Prelude.{◌≡◌, ◌<◌, ◌∷◌, reverse, length, vec_len, vec_capacity, OnOk, IsOkUnless};
 ghost use Rattle.c_core.specs.Tree.{Program as Tree};
 ghost use Rattle.c_meaning.specs.Acts.{Go};
 ghost use Rattle.c_meaning.specs.Run as runs;
@@ -8,6 +8,7 @@ ghost use Rattle.run_state.specs.Interpreting.{same, where_of};
 ghost use Rattle.flow_code.specs.declared.code.Action.TheVariants.{Input, Reach};
 ghost use Rattle.flow_code.specs.declared.code.Code.{Code};
 ghost use Rattle.flow_laws.specs.Acting.{program_in, acted, scope_closed, aimed_at, reached_at};
+ghost use Rattle.flow_machine.specs.Rooms.{GoesInRoom, HasSpare, IsCounted, KeepsRooms, KeepsStacks, Lasts};
 ghost use Rattle.flow_machine.specs.Views.{Acts, Gives, answer_finished, control_of, state_of};
 
 use crate::arithmetic::{convert, operate, operate_one, settle};
@@ -29,7 +30,8 @@ fn violate<W: Watcher>(
     spot: Spot,
     call: Option<Spot>,
 ) -> Result<i128, Halt>
-    ensures { (p : Tree) → Gives same result (state_of run.now (W.seen watcher.new)) (runs.violated p W.Seen (seen_by W.after) (where_of around) spot call (state_of run.now (W.seen watcher.old))) }
+    ensures gives { (p : Tree) → Gives same result (state_of run.now (W.seen watcher.new)) (runs.violated p W.Seen (seen_by W.after) (where_of around) spot call (state_of run.now (W.seen watcher.old))) }
+    ensures lasting { W.sure → Lasts result }
 {
     tell(
         run,
@@ -52,7 +54,8 @@ fn answer<W: Watcher>(
     from: &Source,
     done: Done,
 ) -> Result<i128, Halt>
-    ensures { Gives same result (state_of run.now (W.seen watcher.new)) (runs.answered (program_in code.now) W.Seen (seen_by W.after) (where_of from.now.around) from.now.spot done (state_of run.now (W.seen watcher.old))) }
+    ensures gives { Gives same result (state_of run.now (W.seen watcher.new)) (runs.answered (program_in code.now) W.Seen (seen_by W.after) (where_of from.now.around) from.now.spot done (state_of run.now (W.seen watcher.old))) }
+    ensures lasting { W.sure → Lasts result }
 {
     match done {
         Done::Value(value) => Ok(value),
@@ -72,7 +75,8 @@ fn reach<W: Watcher>(
     around: Around,
     spot: Spot,
 ) -> Result<i128, Halt>
-    ensures { Gives same result (state_of run.now (W.seen watcher.new)) (reached_at code.now W.Seen W.after around spot (state_of run.now (W.seen watcher.old))) }
+    ensures gives { Gives same result (state_of run.now (W.seen watcher.new)) (reached_at code.now W.Seen W.after around spot (state_of run.now (W.seen watcher.old))) }
+    ensures lasting { W.sure → Lasts result }
 {
     match code.property {
         Property::UnreachCall => violate(run, watcher, around, spot, Some(spot)),
@@ -90,7 +94,8 @@ fn come_to_error<W: Watcher>(
     around: Around,
     spot: Spot,
 ) -> Result<(), Halt>
-    ensures { Acts result (control_of control.now) (state_of run.now (W.seen watcher.new)) (acted code.now W.Seen W.after (Reach around spot) (control_of control.now) (state_of run.now (W.seen watcher.old))) }
+    ensures acts { Acts result (control_of control.now) (state_of run.now (W.seen watcher.new)) (acted code.now W.Seen W.after (Reach around spot) (control_of control.now) (state_of run.now (W.seen watcher.old))) }
+    ensures lasting { W.sure → Lasts result }
 {
     reach(code, run, watcher, around, spot)?;
     Ok(())
@@ -108,7 +113,10 @@ fn take_input<W: Watcher>(
     ty: IntType,
     into: &Into,
 ) -> Result<(), Halt>
-    ensures { Acts result (control_of control.new) (state_of run.new (W.seen watcher.new)) (acted code.now W.Seen W.after (Input spot close ty into.now) (control_of control.old) (state_of run.old (W.seen watcher.old))) }
+    ensures acts { Acts result (control_of control.new) (state_of run.new (W.seen watcher.new)) (acted code.now W.Seen W.after (Input spot close ty into.now) (control_of control.old) (state_of run.old (W.seen watcher.old))) }
+    ensures kept { KeepsStacks control.old control.new }
+    ensures rooms { KeepsRooms run.old run.new }
+    ensures lasting { W.sure → HasSpare control.old → IsCounted run.old → vec_len run.old.draws < vec_capacity run.old.draws → Lasts result }
 {
     let value = input(code, run, watcher, spot, close, ty)?;
     finish(control, run, watcher, value, value, into)
@@ -126,7 +134,10 @@ fn finish_answer<W: Watcher>(
     done: Done,
     into: &Into,
 ) -> Result<(), Halt>
-    ensures { Acts result (control_of control.new) (state_of run.new (W.seen watcher.new)) (answer_finished code.now W.Seen W.after from.now left done into.now (control_of control.old) (state_of run.old (W.seen watcher.old))) }
+    ensures acts { Acts result (control_of control.new) (state_of run.new (W.seen watcher.new)) (answer_finished code.now W.Seen W.after from.now left done into.now (control_of control.old) (state_of run.old (W.seen watcher.old))) }
+    ensures kept { KeepsStacks control.old control.new }
+    ensures rooms { KeepsRooms run.old run.new }
+    ensures lasting { W.sure → HasSpare control.old → Lasts result }
 {
     let value = answer(code, run, watcher, from, done)?;
     finish(control, run, watcher, left, value, into)
@@ -144,7 +155,10 @@ fn conclude<W: Watcher>(
     done: Done,
     into: &Into,
 ) -> Result<(), Halt>
-    ensures { Acts result (control_of control.new) (state_of run.new (W.seen watcher.new)) (answer_finished code.now W.Seen W.after from.now left done into.now (control_of control.old) (state_of run.old (W.seen watcher.old))) }
+    ensures acts { Acts result (control_of control.new) (state_of run.new (W.seen watcher.new)) (answer_finished code.now W.Seen W.after from.now left done into.now (control_of control.old) (state_of run.old (W.seen watcher.old))) }
+    ensures kept { KeepsStacks control.old control.new }
+    ensures rooms { KeepsRooms run.old run.new }
+    ensures lasting { W.sure → HasSpare control.old → Lasts result }
 {
     match done {
         Done::Value(value) => finish(control, run, watcher, left, value, into),
@@ -162,7 +176,9 @@ fn aim<W: Watcher>(
     spot: Spot,
     reads: bool,
 ) -> Result<(), Halt>
-    ensures { (c : Code) (x : W.Seen) → Acts result (control_of control.new) (state_of run.now x) (aimed_at c W.Seen W.after object size index.now spot reads (control_of control.old) (state_of run.now x)) }
+    ensures acts { (c : Code) (x : W.Seen) → Acts result (control_of control.new) (state_of run.now x) (aimed_at c W.Seen W.after object size index.now spot reads (control_of control.old) (state_of run.now x)) }
+    ensures kept { KeepsStacks control.old control.new }
+    ensures lasting { HasSpare control.old → Lasts result }
 {
     let index = take(control, run, index);
     let Some(found) = index_below(size, index) else {
@@ -179,6 +195,8 @@ fn aim<W: Watcher>(
 fn open_scope(control: &mut Control, run: &Running) -> Result<(), Halt>
     ensures control { OnOk result (control_of control.new ≡ record (control_of control.old) { scopes = length run.now.memory.cells ∷ reverse control.old.scopes.items }) }
     ensures refused { IsOkUnless result Halt.NoMemory }
+    ensures kept { KeepsStacks control.old control.new }
+    ensures lasting { vec_len control.old.scopes < vec_capacity control.old.scopes → Lasts result }
 {
     match control.scopes.push(run.memory.count()) {
         Ok(()) => Ok(()),
@@ -188,7 +206,9 @@ fn open_scope(control: &mut Control, run: &Running) -> Result<(), Halt>
 
 // The innermost scope ends, with the cells that came since.
 fn close_scope<W: Watcher>(control: &mut Control, run: &mut Running)
-    ensures { (x : W.Seen) → scope_closed (reverse control.old.scopes.items) (control_of control.old) (state_of run.old x) ≡ Go (control_of control.new) (state_of run.new x) }
+    ensures goes { (x : W.Seen) → scope_closed (reverse control.old.scopes.items) (control_of control.old) (state_of run.old x) ≡ Go (control_of control.new) (state_of run.new x) }
+    ensures kept { KeepsStacks control.old control.new }
+    ensures rooms { KeepsRooms run.old run.new }
 {
     if let Some(cells) = control.scopes.pop() {
         run.memory.cut(cells);
@@ -204,7 +224,10 @@ pub fn act<W: Watcher>(
     watcher: &mut W,
     action: &Action,
 ) -> Result<(), Halt>
-    ensures { Acts result (control_of control.new) (state_of run.new (W.seen watcher.new)) (acted code.now W.Seen W.after action.now (control_of control.old) (state_of run.old (W.seen watcher.old))) }
+    ensures acts { Acts result (control_of control.new) (state_of run.new (W.seen watcher.new)) (acted code.now W.Seen W.after action.now (control_of control.old) (state_of run.old (W.seen watcher.old))) }
+    ensures kept { KeepsStacks control.old control.new }
+    ensures rooms { KeepsRooms run.old run.new }
+    ensures lasting { W.sure → HasSpare control.old → IsCounted run.old → GoesInRoom run.old (acted code.now W.Seen W.after action.now (control_of control.old) (state_of run.old (W.seen watcher.old))) → Lasts result }
 {
     match action {
         Action::Rest => Ok(()),

@@ -1,7 +1,8 @@
 // Calls of the program's functions, and the way back.
-ghost use Rattle.std.specs.Prelude.{◌≡◌, ◌∷◌, suc, Some, drop, reverse, slice_get, IfOk, IsOkUnless, OnOk};
+ghost use Rattle.std.specs.Prelude.{◌≡◌, ◌≤◌, ◌<◌, ◌+◌, ◌∷◌, Some, drop, length, reverse, slice_get, vec_len, vec_capacity, IsOkUnless, OnOk};
 ghost use Rattle.flow_code.specs.declared.code.Code.{Code};
 ghost use Rattle.flow_laws.specs.Acting.{called, left_by, arguments, with_parameters};
+ghost use Rattle.flow_machine.specs.Rooms.{GoesInRoom, HasSpare, KeepsRooms, KeepsStacks, Lasts};
 ghost use Rattle.flow_machine.specs.Views.{Acts, argument_of, control_of, state_of};
 
 use crate::arithmetic::convert;
@@ -30,22 +31,13 @@ fn set_parameters(
 ) -> Result<(), Halt>
     ensures cells { OnOk result (memory.new.cells ≡ with_parameters parameters.now values.now memory.old.cells) }
     ensures refused { IsOkUnless result Halt.NoMemory }
+    ensures room { memory.old.room ≤ memory.new.room }
+    ensures lasting { length memory.old.cells + length parameters.now ≤ memory.old.room → Lasts result }
 {
     for (index, parameter) in parameters.iter().enumerate() {
         memory.add(parameter.object, 0, argument(parameter.ty, values, index))?;
     }
     Ok(())
-}
-
-// One more, where a u64 counts so far.
-fn one_more(count: u64) -> Result<u64, Halt>
-    ensures more { IfOk result (λ n. n ≡ suc count) }
-    ensures refused { IsOkUnless result Halt.NoMemory }
-{
-    match count.checked_add(1) {
-        Some(more) => Ok(more),
-        None => Err(Halt::NoMemory),
-    }
 }
 
 // The values on top of the stack go to parameters.
@@ -58,6 +50,9 @@ fn take_arguments(
     ensures control { OnOk result (control_of control.new ≡ record (control_of control.old) { stack = drop count (reverse control.old.stack.items) }) }
     ensures cells { OnOk result (memory.new.cells ≡ with_parameters parameters.now (arguments count (reverse control.old.stack.items)) memory.old.cells) }
     ensures refused { IsOkUnless result Halt.NoMemory }
+    ensures kept { KeepsStacks control.old control.new }
+    ensures room { memory.old.room ≤ memory.new.room }
+    ensures lasting { length memory.old.cells + length parameters.now ≤ memory.old.room → Lasts result }
 {
     let below = control.stack.len().saturating_sub(count as usize);
     set_parameters(memory, parameters, &control.stack.as_slice()[below..])?;
@@ -69,6 +64,8 @@ fn take_arguments(
 fn push_frame(control: &mut Control, frame: Frame) -> Result<(), Halt>
     ensures control { OnOk result (control_of control.new ≡ record (control_of control.old) { frames = frame ∷ reverse control.old.frames.items }) }
     ensures refused { IsOkUnless result Halt.NoMemory }
+    ensures kept { KeepsStacks control.old control.new }
+    ensures lasting { vec_len control.old.frames < vec_capacity control.old.frames → Lasts result }
 {
     match control.frames.push(frame) {
         Ok(()) => Ok(()),
@@ -84,11 +81,14 @@ fn enter<W: Watcher>(
     arguments: u32,
     site: CallSite,
 ) -> Result<(), Halt>
-    ensures { (c : Code) (x : W.Seen) → Acts result (control_of control.new) (state_of run.new x) (called c W.Seen W.after (Some body.now) arguments site (control_of control.old) (state_of run.old x)) }
+    ensures acts { (c : Code) (x : W.Seen) → Acts result (control_of control.new) (state_of run.new x) (called c W.Seen W.after (Some body.now) arguments site (control_of control.old) (state_of run.old x)) }
+    ensures kept { KeepsStacks control.old control.new }
+    ensures rooms { KeepsRooms run.old run.new }
+    ensures lasting { (c : Code) (x : W.Seen) → HasSpare control.old → GoesInRoom run.old (called c W.Seen W.after (Some body.now) arguments site (control_of control.old) (state_of run.old x)) → Lasts result }
 {
-    let cells = one_more(body.parameters.len() as u64)?;
+    let cells = body.parameters.len() as u128 + 1;
     room::<W>(run, cells)?;
-    run.active = one_more(run.active)?;
+    run.active += 1;
     let frame = Frame {
         back: control.at,
         cells: run.memory.count(),
@@ -114,7 +114,10 @@ pub fn call<W: Watcher>(
     arguments: u32,
     site: CallSite,
 ) -> Result<(), Halt>
-    ensures { (x : W.Seen) → Acts result (control_of control.new) (state_of run.new x) (called code.now W.Seen W.after (slice_get code.now.functions function) arguments site (control_of control.old) (state_of run.old x)) }
+    ensures acts { (x : W.Seen) → Acts result (control_of control.new) (state_of run.new x) (called code.now W.Seen W.after (slice_get code.now.functions function) arguments site (control_of control.old) (state_of run.old x)) }
+    ensures kept { KeepsStacks control.old control.new }
+    ensures rooms { KeepsRooms run.old run.new }
+    ensures lasting { (x : W.Seen) → HasSpare control.old → GoesInRoom run.old (called code.now W.Seen W.after (slice_get code.now.functions function) arguments site (control_of control.old) (state_of run.old x)) → Lasts result }
 {
     match code.functions.get(function as usize) {
         Some(body) => enter::<W>(control, run, body, arguments, site),
@@ -130,7 +133,10 @@ pub fn leave<W: Watcher>(
     watcher: &mut W,
     value: Option<i128>,
 ) -> Result<(), Halt>
-    ensures { (c : Code) → Acts result (control_of control.new) (state_of run.new (W.seen watcher.new)) (left_by c W.Seen W.after (reverse control.old.frames.items) value (control_of control.old) (state_of run.old (W.seen watcher.old))) }
+    ensures acts { (c : Code) → Acts result (control_of control.new) (state_of run.new (W.seen watcher.new)) (left_by c W.Seen W.after (reverse control.old.frames.items) value (control_of control.old) (state_of run.old (W.seen watcher.old))) }
+    ensures kept { KeepsStacks control.old control.new }
+    ensures rooms { KeepsRooms run.old run.new }
+    ensures lasting { W.sure → HasSpare control.old → Lasts result }
 {
     let Some(frame) = control.frames.pop() else {
         return Err(Halt::Ends(End::Ended));

@@ -1,10 +1,11 @@
 // Where a machine stands, and the state of its run.
-ghost use Rattle.std.specs.Prelude.{◌≡◌, ◌∷◌, reverse, OnOk, IsOkUnless};
+ghost use Rattle.std.specs.Prelude.{◌≡◌, ◌≤◌, ◌<◌, ◌+◌, ◌^◌, ◌∷◌, reverse, vec_len, vec_capacity, OnOk, IsOkUnless};
 ghost use Rattle.c_core.specs.Tree.{Program as Tree};
 ghost use Rattle.c_meaning.specs.Run.{room as room_for};
 ghost use Rattle.c_meaning.specs.Watching.{seen_by};
 ghost use Rattle.run_state.specs.Interpreting.{same};
 ghost use Rattle.flow_laws.specs.Acting.{top, below};
+ghost use Rattle.flow_machine.specs.Rooms.{HasSpare, KeepsStacks, Lasts};
 ghost use Rattle.flow_machine.specs.Views.{Gives, control_of, state_of};
 
 use c_meaning::{Draw, End, Event, Memory, Watcher};
@@ -40,6 +41,8 @@ impl Control {
     pub fn pop(&mut self) -> i128
         ensures value { result ≡ top (reverse self.old.stack.items) }
         ensures control { control_of self.new ≡ record (control_of self.old) { stack = below (reverse self.old.stack.items) } }
+        ensures kept { KeepsStacks self.old self.new }
+        ensures spare { HasSpare self.old → HasSpare self.new }
     {
         self.stack.pop().unwrap_or(0)
     }
@@ -49,6 +52,9 @@ impl Control {
     pub fn push(&mut self, value: i128) -> Result<(), Halt>
         ensures control { OnOk result (control_of self.new ≡ record (control_of self.old) { stack = value ∷ reverse self.old.stack.items }) }
         ensures refused { IsOkUnless result Halt.NoMemory }
+        ensures kept { KeepsStacks self.old self.new }
+        ensures grown { vec_len self.new.stack ≤ vec_len self.old.stack + 1 }
+        ensures lasting { vec_len self.old.stack < vec_capacity self.old.stack → Lasts result }
     {
         match self.stack.push(value) {
             Ok(()) => Ok(()),
@@ -62,6 +68,7 @@ impl Control {
 pub fn tell<W: Watcher>(run: &Running, watcher: &mut W, event: Event) -> Result<(), Halt>
     ensures seen { OnOk result (W.seen watcher.new ≡ W.after event run.now.memory.cells (W.seen watcher.old)) }
     ensures refused { IsOkUnless result Halt.NoMemory }
+    ensures lasting { W.sure → Lasts result }
 {
     match watcher.see(event, &run.memory) {
         Ok(()) => Ok(()),
@@ -70,10 +77,13 @@ pub fn tell<W: Watcher>(run: &Running, watcher: &mut W, event: Event) -> Result<
 }
 
 /// Room for so many cells more.
-pub fn room<W: Watcher>(run: &Running, cells: u64) -> Result<(), Halt>
-    ensures { (p : Tree) (x : W.Seen) → Gives same result (state_of run.now x) (room_for p W.Seen (seen_by W.after) cells (state_of run.now x)) }
+pub fn room<W: Watcher>(run: &Running, cells: u128) -> Result<(), Halt>
+    requires { cells ≤ 2 ^ 64 }
+    ensures gives { (p : Tree) (x : W.Seen) → Gives same result (state_of run.now x) (room_for p W.Seen (seen_by W.after) cells (state_of run.now x)) }
+    ensures few { OnOk result (run.now.active + cells ≤ 1000000) }
+    ensures lasting { Lasts result }
 {
-    let live = run.memory.count() as u128 + run.active as u128 + cells as u128;
+    let live = run.memory.count() as u128 + run.active as u128 + cells;
     if live <= 1_000_000 {
         Ok(())
     } else {

@@ -1,11 +1,12 @@
 // Draws: each takes the next choice, or none.
-ghost use Rattle.std.specs.Prelude.{◌≡◌, ◌+◌, false, IfOk, IsOkUnless, MatchOption};
+ghost use Rattle.std.specs.Prelude.{◌≡◌, ◌≤◌, ◌<◌, ◌+◌, ◌^◌, false, vec_len, vec_capacity, IfOk, OnOk, IsOkUnless, MatchOption};
 ghost use Rattle.c_meaning.specs.Objects.{same_spot};
 ghost use Rattle.c_meaning.specs.Run as runs;
 ghost use Rattle.c_meaning.specs.Watching.{seen_by};
 ghost use Rattle.run_state.specs.Drawing.{any_at, IsFirst};
 ghost use Rattle.run_state.specs.Interpreting.{same, choices_left, givens_left};
 ghost use Rattle.flow_laws.specs.Acting.{program_in, input_given, declared, cells_drawn};
+ghost use Rattle.flow_machine.specs.Rooms.{GoesInRoom, IsCounted, KeepsRooms, Lasts};
 ghost use Rattle.flow_machine.specs.Views.{Gives, state_of};
 
 use crate::control::{Running, room, tell};
@@ -61,7 +62,9 @@ fn take(left: &mut Left, kind: DrawKind, spot: Spot) -> Option<i128>
 // One more, where none was taken.
 fn counted(unfixed: u64, taken: Option<i128>) -> Result<u64, Halt>
     ensures count { IfOk result (λ n. n ≡ unfixed + runs.one_if_none taken) }
+    ensures most { IfOk result (λ n. n ≤ unfixed + 1) }
     ensures refused { IsOkUnless result Halt.NoMemory }
+    ensures lasting { unfixed + 1 < 2 ^ 64 → Lasts result }
 {
     match taken {
         Some(_) => Ok(unfixed),
@@ -80,7 +83,10 @@ pub fn draw<W: Watcher>(
     spot: Spot,
     ty: IntType,
 ) -> Result<i128, Halt>
-    ensures { (x : W.Seen) → Gives same result (state_of run.new x) (runs.draw (program_in code.now) W.Seen (seen_by W.after) kind spot ty (state_of run.old x)) }
+    ensures gives { (x : W.Seen) → Gives same result (state_of run.new x) (runs.draw (program_in code.now) W.Seen (seen_by W.after) kind spot ty (state_of run.old x)) }
+    ensures rooms { KeepsRooms run.old run.new }
+    ensures counts { OnOk result ((vec_len run.new.draws ≡ vec_len run.old.draws + 1) × (run.new.unfixed ≤ run.old.unfixed + 1)) }
+    ensures lasting { IsCounted run.old → vec_len run.old.draws < vec_capacity run.old.draws → Lasts result }
 {
     let taken = take(&mut run.left, kind, spot);
     let value = convert(code.model, ty, taken.unwrap_or(0));
@@ -106,7 +112,9 @@ pub fn input<W: Watcher>(
     close: Spot,
     ty: IntType,
 ) -> Result<i128, Halt>
-    ensures { Gives same result (state_of run.new (W.seen watcher.new)) (input_given code.now W.Seen W.after spot close ty (state_of run.old (W.seen watcher.old))) }
+    ensures gives { Gives same result (state_of run.new (W.seen watcher.new)) (input_given code.now W.Seen W.after spot close ty (state_of run.old (W.seen watcher.old))) }
+    ensures rooms { KeepsRooms run.old run.new }
+    ensures lasting { W.sure → IsCounted run.old → vec_len run.old.draws < vec_capacity run.old.draws → Lasts result }
 {
     let value = draw::<W>(code, run, DrawKind::Input, spot, ty)?;
     tell(run, watcher, Event::Return(close, Some(value)))?;
@@ -124,9 +132,11 @@ pub fn declare<W: Watcher>(
     ty: IntType,
     draws: bool,
 ) -> Result<(), Halt>
-    ensures { (x : W.Seen) → Gives same result (state_of run.new x) (declared code.now W.Seen W.after spot object size ty draws (state_of run.old x)) }
+    ensures gives { (x : W.Seen) → Gives same result (state_of run.new x) (declared code.now W.Seen W.after spot object size ty draws (state_of run.old x)) }
+    ensures rooms { KeepsRooms run.old run.new }
+    ensures lasting { (x : W.Seen) → IsCounted run.old → GoesInRoom run.old (declared code.now W.Seen W.after spot object size ty draws (state_of run.old x)) → Lasts result }
 {
-    room::<W>(run, size as u64)?;
+    room::<W>(run, size as u128)?;
     add_cells(&mut run.memory, object, size)?;
     if draws {
         draw_cells::<W>(code, run, spot, object, size, ty)?;
@@ -143,7 +153,9 @@ fn draw_cells<W: Watcher>(
     size: u32,
     ty: IntType,
 ) -> Result<(), Halt>
-    ensures { (x : W.Seen) → Gives same result (state_of run.new x) (cells_drawn code.now W.Seen W.after spot object ty 0 size (state_of run.old x)) }
+    ensures gives { (x : W.Seen) → Gives same result (state_of run.new x) (cells_drawn code.now W.Seen W.after spot object ty 0 size (state_of run.old x)) }
+    ensures rooms { KeepsRooms run.old run.new }
+    ensures lasting { IsCounted run.old → vec_len run.old.draws + size ≤ vec_capacity run.old.draws → Lasts result }
 {
     for index in 0..size {
         let value = draw::<W>(code, run, DrawKind::Cell, spot, ty)?;

@@ -1,9 +1,12 @@
 // The machine: a run that can be stopped and goes on.
-ghost use Rattle.std.specs.Prelude.{◌≡◌, ◌≤◌, ◌<◌, ◌+◌, ◌^◌, true, false, IfOk, OnOk, OnErr};
+ghost use Rattle.std.specs.Prelude.{◌≡◌, ◌≤◌, ◌<◌, ◌+◌, ◌^◌, true, false, None, IfOk, IsOk, OnOk, OnErr};
+ghost use Rattle.c_calls.specs.Calling.{IsFirstRecursion};
 ghost use Rattle.c_core.specs.Tree.{Program};
 ghost use Rattle.c_meaning.specs.Run as runs;
 ghost use Rattle.flow_code.specs.Programs.{IsCodeOf};
+ghost use Rattle.flow_machine.specs.Rooms.{NeedsAtMost};
 ghost use Rattle.flow_machine.specs.Runs.{Advances};
+ghost use Rattle.flow_rooms.specs.Paces.{IsPaced};
 
 use crate::beginning::{first_cells, left};
 use crate::control::{Control, Running};
@@ -11,6 +14,7 @@ use crate::stepping::go;
 use c_meaning::{Choices, End, Run, Watcher, larger_budget_continues};
 use flow_code::Code;
 use flow_laws::code_is_simulated;
+use flow_rooms::{chains_are_bounded, rooms_are_bounded, rooms_are_kept};
 use run_state::Halt;
 use std::alloc::Global;
 use std::marker::Model;
@@ -32,13 +36,13 @@ pub struct Machine<'a> {
 
 impl<'a> Model for Machine<'a> {
     ghost use Rattle.std.specs.Prelude.{◌≡◌, vec_capacity, true};
-    ghost use Rattle.flow_machine.specs.Runs.{Held, IsAtRest};
+    ghost use Rattle.flow_machine.specs.Runs.{Held, IsSound};
 
     ghost Value = { Held };
 
     ghost view = { λ m. record { code = m.code.now; choices = m.choices.now; sum = m.sum; cells = m.run.memory.room; draws = vec_capacity m.run.draws; reserved = m.reserved; whole = m.whole } };
 
-    ghost invariant = { λ m. m.whole ≡ true → IsAtRest m.code.now m.choices.now m.sum m.taken m.ended m.control m.run };
+    ghost invariant = { λ m. IsSound m.code.now m.choices.now m.sum m.taken m.ended m.reserved m.whole m.control m.run };
 }
 
 impl<'a> Machine<'a> {
@@ -48,6 +52,7 @@ impl<'a> Machine<'a> {
         code: &'a Code,
         choices: &'a Choices,
     ) -> Result<Machine<'a>, OutOfMemory>
+        requires paced { IsPaced code.now }
         ensures { IfOk result (λ m. (m.code ≡ code.now) × (m.choices ≡ choices.now) × (m.sum ≡ 0) × (m.whole ≡ true)) }
     {
         let memory = first_cells(alloc, code)?;
@@ -98,17 +103,25 @@ impl<'a> Machine<'a> {
         Ok(())
     }
 
-    /// Takes at most so many further steps. Where memory is wanting, the machine isn't whole from then on.
+    /// Takes at most so many further steps. Where memory is wanting, the machine isn't whole from then on. Behind `reserve` none is wanting in
+    /// a program without recursion whose cells and draws are within the rooms, if the watcher wants none.
     pub fn advance<W: Watcher>(&mut self, steps: u64, watcher: &mut W) -> Result<End, OutOfMemory>
         requires within { self.old.sum + steps < 2 ^ 64 }
         ensures same { (self.new.code ≡ self.old.code) × (self.new.choices ≡ self.old.choices) × (self.new.reserved ≡ self.old.reserved) × (self.new.sum ≡ self.old.sum + steps) }
         ensures whole { OnOk result (self.new.whole ≡ self.old.whole) }
         ensures lost { OnErr result (self.new.whole ≡ false) }
         ensures run { IfOk result (λ end. self.old.whole ≡ true → (p : Program) → IsCodeOf p self.old.code → Advances p self.old.choices self.old.sum self.new.sum W.after (W.seen watcher.old) (W.seen watcher.new) end) }
+        ensures enough { W.sure → self.old.reserved ≡ true → self.old.whole ≡ true → (p : Program) → IsCodeOf p self.old.code → IsFirstRecursion p None → NeedsAtMost self.old.code self.old.choices (self.old.sum + steps) self.old.cells self.old.draws → IsOk result }
     {
+        chains_are_bounded();
+        rooms_are_bounded();
+        rooms_are_kept();
         code_is_simulated();
         larger_budget_continues();
         self.sum += steps;
+        if !self.whole {
+            return Err(OutOfMemory);
+        }
         if let Some(end) = self.ended {
             return Ok(end);
         }

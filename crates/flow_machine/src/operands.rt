@@ -3,6 +3,7 @@ ghost use Rattle.std.specs.Prelude.{◌≡◌, reverse};
 ghost use Rattle.c_meaning.specs.Cells.{read};
 ghost use Rattle.flow_laws.specs.Acting.{value_of, stack_of};
 ghost use Rattle.c_meaning.specs.Run.{index_below as index_of_array};
+ghost use Rattle.flow_machine.specs.Rooms.{HasSpare, KeepsStacks};
 ghost use Rattle.flow_machine.specs.Views.{control_of};
 
 use crate::control::{Control, Running};
@@ -24,6 +25,8 @@ pub fn look(run: &Running, object: u32, index: u32) -> i128
 pub fn take(control: &mut Control, run: &Running, operand: &Operand) -> i128
     ensures value { result ≡ value_of operand.now (reverse control.old.stack.items) run.now.memory.cells }
     ensures control { control_of control.new ≡ record (control_of control.old) { stack = stack_of operand.now (reverse control.old.stack.items) } }
+    ensures kept { KeepsStacks control.old control.new }
+    ensures spare { HasSpare control.old → HasSpare control.new }
 {
     match operand {
         Operand::Top => control.pop(),

@@ -1,10 +1,11 @@
 // What is done with a value.
-ghost use Rattle.std.specs.Prelude.{◌≡◌, not, reverse};
+ghost use Rattle.std.specs.Prelude.{◌≡◌, ◌≤◌, not, reverse};
 ghost use Rattle.c_core.specs.Types.{fit, is_zero};
 ghost use Rattle.c_core.specs.declared.number.DataModel.TheVariants.{Lp64};
 ghost use Rattle.c_meaning.specs.Cells.{put};
 ghost use Rattle.flow_code.specs.declared.code.Code.{Code};
 ghost use Rattle.flow_laws.specs.Acting.{top, below, index_of, skipped, kept_value, stack_at, key_at, passed_on, finished};
+ghost use Rattle.flow_machine.specs.Rooms.{HasSpare, KeepsRooms, KeepsStacks, Lasts};
 ghost use Rattle.flow_machine.specs.Views.{Acts, control_of, state_of};
 
 use crate::arithmetic::convert;
@@ -17,6 +18,8 @@ use run_state::Halt;
 fn element(control: &mut Control) -> u32
     ensures value { result ≡ index_of (top (reverse control.old.stack.items)) }
     ensures control { control_of control.new ≡ record (control_of control.old) { stack = below (reverse control.old.stack.items) } }
+    ensures kept { KeepsStacks control.old control.new }
+    ensures spare { HasSpare control.old → HasSpare control.new }
 {
     let top = control.pop();
     if top >= 0 && top < 4294967296 {
@@ -31,6 +34,9 @@ fn element(control: &mut Control) -> u32
 fn store(control: &mut Control, memory: &mut Memory, left: i128, value: i128, store: &Store) -> i128
     ensures value { result ≡ kept_value store.now left (fit Lp64 store.now.ty value) }
     ensures control { control_of control.new ≡ record (control_of control.old) { stack = stack_at store.now.place (reverse control.old.stack.items) } }
+    ensures kept { KeepsStacks control.old control.new }
+    ensures spare { HasSpare control.old → HasSpare control.new }
+    ensures room { memory.old.room ≤ memory.new.room }
     ensures cells { memory.new.cells ≡ put (key_at store.now.place (reverse control.old.stack.items)) (fit Lp64 store.now.ty value) memory.old.cells }
 {
     let new = convert(store.ty, value);
@@ -47,7 +53,8 @@ fn store(control: &mut Control, memory: &mut Memory, left: i128, value: i128, st
 // Goes on at an address where a value's truth is `way`.
 #[inline(always)]
 fn skip(control: &mut Control, value: i128, way: bool, to: u32)
-    ensures { control_of control.new ≡ skipped (not (is_zero value)) way to (control_of control.old) }
+    ensures control { control_of control.new ≡ skipped (not (is_zero value)) way to (control_of control.old) }
+    ensures kept { KeepsStacks control.old control.new }
 {
     if (value != 0) == way {
         control.at = to as usize;
@@ -63,7 +70,9 @@ fn pass<W: Watcher>(
     value: i128,
     then: &Then,
 ) -> Result<(), Halt>
-    ensures { (c : Code) → Acts result (control_of control.new) (state_of run.now (W.seen watcher.new)) (passed_on c W.Seen W.after value then.now (control_of control.old) (state_of run.now (W.seen watcher.old))) }
+    ensures acts { (c : Code) → Acts result (control_of control.new) (state_of run.now (W.seen watcher.new)) (passed_on c W.Seen W.after value then.now (control_of control.old) (state_of run.now (W.seen watcher.old))) }
+    ensures kept { KeepsStacks control.old control.new }
+    ensures lasting { W.sure → HasSpare control.old → Lasts result }
 {
     match then {
         Then::Drop => Ok(()),
@@ -90,7 +99,10 @@ pub fn finish<W: Watcher>(
     value: i128,
     into: &Into,
 ) -> Result<(), Halt>
-    ensures { (c : Code) → Acts result (control_of control.new) (state_of run.new (W.seen watcher.new)) (finished c W.Seen W.after left value into.now (control_of control.old) (state_of run.old (W.seen watcher.old))) }
+    ensures acts { (c : Code) → Acts result (control_of control.new) (state_of run.new (W.seen watcher.new)) (finished c W.Seen W.after left value into.now (control_of control.old) (state_of run.old (W.seen watcher.old))) }
+    ensures kept { KeepsStacks control.old control.new }
+    ensures rooms { KeepsRooms run.old run.new }
+    ensures lasting { W.sure → HasSpare control.old → Lasts result }
 {
     let value = match &into.store {
         None => value,

@@ -2,6 +2,8 @@
 ghost use Rattle.std.specs.Prelude.{◌≡◌, ◌+◌, ◌-◌, nat_le, true, false};
 ghost use Rattle.flow_laws.specs.Stepping.{step as step_of, steps as steps_of};
 ghost use Rattle.flow_machine.specs.Runs.{Halts};
+ghost use Rattle.flow_rooms.specs.Paces.{IsPaced, IsInOrder};
+ghost use Rattle.flow_machine.specs.Rooms.{HasSpare, IsCounted, IsEnd, KeepsRooms, KeepsStacks, Lasts, StaysWithin, TurnsInRoom};
 ghost use Rattle.flow_machine.specs.Views.{Steps, machine_of};
 
 use crate::acting::act;
@@ -16,6 +18,8 @@ fn pay(control: &mut Control, run: &mut Running, steps: u32) -> bool
     ensures enough { result ≡ nat_le (steps - control.old.paid) run.old.steps }
     ensures paid { result ≡ true → (control.new ≡ record control.old { paid = 0 }) × (run.new ≡ record run.old { steps = run.old.steps - (steps - control.old.paid) }) }
     ensures short { result ≡ false → (control.new ≡ record control.old { paid = control.old.paid + run.old.steps }) × (run.new ≡ record run.old { steps = 0 }) }
+    ensures kept { KeepsStacks control.old control.new }
+    ensures rooms { KeepsRooms run.old run.new }
 {
     let due = u64::from(steps).saturating_sub(control.paid);
     if due <= run.steps {
@@ -36,7 +40,10 @@ fn step<W: Watcher>(
     run: &mut Running,
     watcher: &mut W,
 ) -> Result<(), Halt>
-    ensures { Steps result (machine_of control.new run.new (W.seen watcher.new)) (step_of code.now W.Seen W.after (machine_of control.old run.old (W.seen watcher.old))) }
+    ensures steps { Steps result (machine_of control.new run.new (W.seen watcher.new)) (step_of code.now W.Seen W.after (machine_of control.old run.old (W.seen watcher.old))) }
+    ensures kept { KeepsStacks control.old control.new }
+    ensures rooms { KeepsRooms run.old run.new }
+    ensures lasting { W.sure → HasSpare control.old → IsCounted run.old → TurnsInRoom run.old (step_of code.now W.Seen W.after (machine_of control.old run.old (W.seen watcher.old))) → Lasts result }
 {
     let Some(op) = code.ops.as_slice().get(control.at) else {
         return Err(Halt::Ends(End::Ended));
@@ -55,12 +62,16 @@ pub fn go<W: Watcher>(
     run: &mut Running,
     watcher: &mut W,
 ) -> Halt
-    ensures { Halts result (machine_of control.new run.new (W.seen watcher.new)) (λ n. steps_of code.now W.Seen W.after n (machine_of control.old run.old (W.seen watcher.old))) }
+    requires paced { IsPaced code.now }
+    requires order { IsInOrder code.now (machine_of control.old run.old (W.seen watcher.old)) }
+    ensures halts { Halts result (machine_of control.new run.new (W.seen watcher.new)) (λ n. steps_of code.now W.Seen W.after n (machine_of control.old run.old (W.seen watcher.old))) }
+    ensures kept { KeepsStacks control.old control.new }
+    ensures rooms { KeepsRooms run.old run.new }
+    ensures lasting { W.sure → StaysWithin control.old run.old (λ n. steps_of code.now W.Seen W.after n (machine_of control.old run.old (W.seen watcher.old))) → IsEnd result }
 {
-    for _turn in 0..u64::MAX {
+    'turns: loop {
         if let Err(halt) = step(code, control, run, watcher) {
             return halt;
         }
     }
-    Halt::NoMemory
 }

@@ -35,6 +35,9 @@ impl Watcher for Events {
 
     ghost after = { λ event cells seen. tt };
 
+    // it takes memory
+    ghost sure = { ⊥ };
+
     fn see(&mut self, event: Event, memory: &Memory) -> Result<(), OutOfMemory> {
         self.seen.push(Sight {
             event,

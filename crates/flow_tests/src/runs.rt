@@ -1,5 +1,6 @@
 // A run by the interpreter, and by a machine.
 ghost use Rattle.std.specs.Prelude.{◌≡◌};
+ghost use Rattle.flow_rooms.specs.Paces.{IsPaced};
 
 use crate::events::Events;
 use c_core::Program;
@@ -57,7 +58,9 @@ pub fn stepped(
     choices: &Choices,
     part: u64,
     budget: u32,
-) -> Result<Watched, OutOfMemory> {
+) -> Result<Watched, OutOfMemory>
+    requires { IsPaced code.now }
+{
     let mut events = Events {
         seen: Vec::new(alloc),
     };

@@ -1,6 +1,6 @@
 -- Steps taken together, and cells appended one by one.
-use Rattle.std.proofs.Common.{◌≡◌, ℕ, zero, suc, ◌+◌, ◌-◌, ◌<◌, ◌≤◌, ℤ, pos, List, [], ◌∷◌, ◌++◌, drop, slice_get, unwrap_or, refl, ap, sym, ◌∙◌, arith}
-use Rattle.std.proofs.lemmas.List.{append_assoc}
+use Rattle.std.proofs.Common.{◌≡◌, ℕ, zero, suc, ◌+◌, ◌-◌, ◌<◌, ◌≤◌, ℤ, pos, List, [], ◌∷◌, ◌++◌, length, drop, slice_get, unwrap_or, refl, ap, sym, ◌∙◌, arith}
+use Rattle.std.proofs.lemmas.List.{append_assoc, length-append}
 use Rattle.std.proofs.Math.Seq.{drop-nil}
 use Rattle.c_core.specs.Tree.{Program}
 use Rattle.c_meaning.specs.declared.run.End.TheVariants.{Spent}
@@ -62,3 +62,13 @@ next_cell o n vs v h = first_cell o n (drop n vs) ∙ ap (λ x. record { key = r
     dropped zero vs = refl
     dropped (suc n) [] = refl
     dropped (suc n) (w ∷ vs) = dropped n vs
+
+-- there are so many
+length_from : (o i n : ℕ) (vs : List ℤ) → length (cells_from o i n vs) ≡ n
+length_from o i zero vs = refl
+length_from o i (suc n) [] = ap suc (length_from o (suc i) n [])
+length_from o i (suc n) (v ∷ vs) = ap suc (length_from o (suc i) n vs)
+
+-- behind n cells of an object there are as many more
+pub length_more : (cs ds : List Cell) (o n : ℕ) (vs : List ℤ) → ds ≡ cs ++ cells_from o 0 n vs → length ds ≡ length cs + n
+length_more cs ds o n vs e = ap length e ∙ length-append cs (cells_from o 0 n vs) ∙ ap (λ k. length cs + k) (length_from o 0 n vs)

@@ -1,5 +1,5 @@
 // Steps and cells of declared names.
-ghost use Rattle.std.specs.Prelude.{◌≡◌, ◌≤◌, ◌++◌, [], pos, slice_get, unwrap_or, OnOk, IsOkUnless, ℕ};
+ghost use Rattle.std.specs.Prelude.{◌≡◌, ◌≤◌, ◌++◌, [], pos, slice_get, unwrap_or, length, ◌+◌, IsOk, OnOk, IsOkUnless, ℕ};
 ghost use Rattle.c_core.specs.Tree.{Program, Program as Tree};
 ghost use Rattle.c_core.specs.View.{program_view};
 ghost use Rattle.c_meaning.specs.Cells.{cells_from};
@@ -31,6 +31,8 @@ pub fn ticks<W: Watcher>(machine: &mut Machine, count: u64) -> Result<(), Halt>
 pub fn add_cells(memory: &mut Memory, object: u32, count: u32) -> Result<(), Halt>
     ensures cells { OnOk result (memory.new.cells ≡ memory.old.cells ++ cells_from object 0 count []) }
     ensures refused { IsOkUnless result Halt.NoMemory }
+    ensures kept { memory.old.room ≤ memory.new.room }
+    ensures within { length memory.old.cells + count ≤ memory.old.room → IsOk result }
 {
     add_started(memory, object, count, &[])?;
     Ok(())
@@ -44,6 +46,8 @@ pub fn add_started(
     values: &[i128],
 ) -> Result<(), OutOfMemory>
     ensures cells { OnOk result (memory.new.cells ≡ memory.old.cells ++ cells_from object 0 count values.now) }
+    ensures kept { memory.old.room ≤ memory.new.room }
+    ensures within { length memory.old.cells + count ≤ memory.old.room → IsOk result }
 {
     for index in 0..count {
         memory.add(object, index, value_at(values, index))?;

@@ -103,6 +103,9 @@ impl<'a> Watcher for Tracker<'a> {
 
     ghost after = { λ _ _ s. s };
 
+    // it takes memory
+    ghost sure = { ⊥ };
+
     fn see(&mut self, event: Event, memory: &Memory) -> Result<(), OutOfMemory> {
         self.keep(event)?;
         self.events = self.events.saturating_add(1);

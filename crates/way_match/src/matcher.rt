@@ -100,6 +100,9 @@ impl<'a> Watcher for Matcher<'a> {
 
     ghost after = { after };
 
+    // it takes memory
+    ghost sure = { ⊥ };
+
     fn see(&mut self, event: Event, memory: &Memory) -> Result<(), OutOfMemory> {
         // A number that no u64 holds can't be kept.
         let Some(count) = self.count.checked_add(1) else {

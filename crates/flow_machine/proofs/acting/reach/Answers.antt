@@ -1,5 +1,5 @@
 use Rattle.flow_laws.specs.Acting.{program_in}
 use Rattle.flow_machine.proofs.acting.reach.Goals as goal
 
-pub returns-in-UnreachCall : goal.returns-in-UnreachCall
-returns-in-UnreachCall g c = rw c.in-UnreachCall.is (c.violate.ensures (program_in c.args.code.now))
+pub returns-in-UnreachCall-clause-gives : goal.returns-in-UnreachCall-clause-gives
+returns-in-UnreachCall-clause-gives g c = rw c.in-UnreachCall.is (c.violate.ensures.gives (program_in c.args.code.now))

@@ -1,4 +1,4 @@
-use Rattle.std.proofs.Common.{rules}
+use Rattle.std.proofs.Common.{rules, ◌≡◌, Err}
 use mir.Val.{SFits}
 use mir.Syntax.{w128}
 use Rattle.std.proofs.lemmas.Int.{to_z-of_z}
@@ -6,10 +6,18 @@ use Rattle.flow_machine.specs.Views.{control_of, state_of}
 use Rattle.flow_machine.proofs.Acted.{input_finished}
 use Rattle.flow_machine.proofs.acting.take_input.Goals as goal
 
-pub returns : goal.returns
-returns g c =
+pub returns-clause-acts : goal.returns-clause-acts
+returns-clause-acts g c =
     let z : SFits w128 c.in_ok-value.value = search rules in
-    let f = rw (to_z-of_z w128 c.in_ok-value.value z) at (c.finish.ensures c.args.code.now) in
+    let f = rw (to_z-of_z w128 c.in_ok-value.value z) at (c.finish.ensures.acts c.args.code.now) in
     input_finished c.args.code.now g.W.Watcher.Seen g.W.Watcher.after c.args.spot c.args.close c.args.ty c.args.into.now (control_of c.args.control.now) (control_of c.finish.new.control)
     (state_of c.args.run.now (g.W.Watcher.seen c.args.watcher.now)) (state_of c.input.new.run (g.W.Watcher.seen c.input.new.watcher))
-    (state_of c.finish.new.run (g.W.Watcher.seen c.finish.new.watcher)) c.in_ok-value.value c.finish.result c.in_ok-value.ensures f
+    (state_of c.finish.new.run (g.W.Watcher.seen c.finish.new.watcher)) c.in_ok-value.value c.finish.result c.in_ok-value.ensures.gives f
+
+pub returns-in_err-value-clause-lasting : goal.returns-in_err-value-clause-lasting
+returns-in_err-value-clause-lasting g c = λ sure spare counted room.
+    let e : c.from_residual.result ≡ Err c.in_err-value.field-0.0 = search rules in
+    rw e (c.in_err-value.ensures.lasting sure counted room)
+
+pub returns-clause-lasting : goal.returns-clause-lasting
+returns-clause-lasting g c = λ sure spare counted room. c.finish.ensures.lasting sure spare

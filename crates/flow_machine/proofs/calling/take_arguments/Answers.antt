@@ -1,4 +1,4 @@
-use Rattle.std.proofs.Common.{rules, ◌≡◌, length, ◌∙◌, ap}
+use Rattle.std.proofs.Common.{rules, ◌≡◌, Err, length, ◌∙◌, ap}
 use Rattle.std.specs.Vec.{vec_len}
 use Rattle.flow_laws.specs.Acting.{with_parameters}
 use Rattle.flow_laws.specs.Machines.{Control}
@@ -19,3 +19,8 @@ returns-clause-cells c =
     c.in_ok-set_parameters.ensures.cells
     ∙ ap (λ vs. with_parameters c.args.parameters.now vs c.args.memory.now.cells)
     (taken_above c.args.count c.saturating_sub-below.result c.len.result c.args.control.now.stack.items c.as_slice.result.now c.as_slice.ensures.value c.saturating_sub-below.ensures (c.len.ensures ∙ n))
+
+pub returns-in_err-set_parameters-clause-lasting : goal.returns-in_err-set_parameters-clause-lasting
+returns-in_err-set_parameters-clause-lasting c = λ h.
+    let e : c.from_residual.result ≡ Err c.in_err-set_parameters.field-0.0 = search rules in
+    rw e (c.in_err-set_parameters.ensures.lasting h)

@@ -21,6 +21,6 @@ returns c =
     elim c.match-ended.branch [ in-Some w ↦ w.result-is ∙ sym (ap end_at w.in-Some.is) | in-None w ↦ w.result-is ∙ sym (ap end_at w.in-None.is) ] in
     subst (λ (v : Held). (p : Program) → IsCodeOf p v.code → v.whole ≡ true → run_of c.match-ended.result m.taken c.from_vec.result m.run.unfixed ≡ runs.Run p v.choices v.sum) c.self.view_is
     (λ p h whole.
-    let i = c.self.invariant whole in
+    let i = c.self.invariant.at_rest whole in
     ap (λ e. run_of e m.taken c.from_vec.result m.run.unfixed) end ∙ ap (λ ds. run_of (end_at m.ended) m.taken ds m.run.unfixed) c.from_vec.ensures
     ∙ sym (run_at_rest p m.code.now m.choices.now (c.code_is_simulated.ensures p m.code.now h) h.checked m.sum m.taken m.ended (machine_of m.control m.run i.told) i.rests))

@@ -1,0 +1,13 @@
+use Rattle.std.proofs.Common.{rules, ◌≡◌, Err, arith}
+use Rattle.flow_machine.proofs.calling.leave.Goals as goal
+
+pub returns-in_err-tell-clause-lasting : goal.returns-in_err-tell-clause-lasting
+returns-in_err-tell-clause-lasting g c = λ sure spare.
+    let e : c.from_residual.result ≡ Err c.in_err-tell.field-0.0 = search rules in
+    rw e (c.in_err-tell.ensures.lasting sure)
+
+pub returns-in-Some-value-clause-lasting : goal.returns-in-Some-value-clause-lasting
+returns-in-Some-value-clause-lasting g c = λ sure spare. c.push.ensures.lasting (omega (arith, spare.stack))
+
+pub returns-else-frame-clause-lasting : goal.returns-else-frame-clause-lasting
+returns-else-frame-clause-lasting g c = λ sure spare. c.push-in-None.ensures.lasting (omega (arith, spare.stack))

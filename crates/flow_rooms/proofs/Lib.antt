@@ -1,0 +1,15 @@
+pub mod Fitting
+pub mod Operations
+pub mod Expressions
+pub mod Statements
+pub mod Functions
+pub mod Holding
+pub mod Rooms
+pub mod Moves
+pub mod Falls
+pub mod Orders
+pub mod Leads
+pub mod StatementsLead
+pub mod Paced
+pub mod Called
+pub mod Chains
