@@ -13,6 +13,7 @@ use Rattle.flow_code.specs.declared.code.Code.{Code}
 use Rattle.flow_laws.specs.Machines.{Control, Machine}
 use Rattle.flow_laws.specs.Runs.{Sight, noted}
 use Rattle.flow_laws.specs.Stepping.{Turn, On, Short, Over, step, steps}
+use Rattle.flow_laws.proofs.Budgets.{fewer}
 use Rattle.flow_laws.proofs.Resting.{never_spent}
 use Rattle.flow_laws.proofs.Seeing.{machine_as, turn_as, steps_as}
 use Rattle.flow_rooms.specs.Rooms.{HasRoom, HasRooms, HoldsAtMost, unseen}
@@ -74,12 +75,13 @@ module _ (c : Code) (S : Type 0) (after : Event → List Cell → S → S) where
     is : steps c (List Sight) noted n (machine_as (λ _. told) m) ≡ On machine
     cells : machine.run.cells ≡ y.run.cells
     draws : machine.run.draws ≡ y.run.draws
+    steps : machine.run.steps ≡ y.run.steps
 
   noted_if : (n : ℕ) (m y : Machine S) (told : List Sight) (t : Turn (List Sight)) → steps c (List Sight) noted n (machine_as (λ _. told) m) ≡ t
       → turn_as {T = Unit {0}} (λ _. tt) t ≡ On (machine_as {T = Unit {0}} (λ _. tt) y) → Noted n m y told
   noted_if n m y told (On z) e h =
       let same : machine_as {T = Unit {0}} (λ _. tt) z ≡ machine_as {T = Unit {0}} (λ _. tt) y = cc in
-      record { machine = z; is = e; cells = ap (λ (w : Machine (Unit {0})). w.run.cells) same; draws = ap (λ (w : Machine (Unit {0})). w.run.draws) same }
+      record { machine = z; is = e; cells = ap (λ (w : Machine (Unit {0})). w.run.cells) same; draws = ap (λ (w : Machine (Unit {0})). w.run.draws) same; steps = ap (λ (w : Machine (Unit {0})). w.run.steps) same }
   noted_if n m y told (Short z) e h = absurd (cc)
   noted_if n m y told (Over d s) e h = absurd (cc)
 
@@ -93,7 +95,7 @@ module _ (c : Code) (S : Type 0) (after : Event → List Cell → S → S) where
   -- where a run goes on, a machine that has reserved room stays within it
   pub stays_within : (p : Program) → HasRooms p c → ((l : Control) → HasRoom p l → HoldsAtMost c l) → (choices : Choices) (sum taken b : ℕ) (told : List Sight) (k : Here) (r : Running) (x : S)
       → Waits c choices sum taken (machine_of k r told) → IsReached c (control_of k) → r.unfixed ≤ length r.draws.items → IsReserved c k
-      → NeedsAtMost c choices (sum + b) r.memory.room (vec_capacity r.draws) → StaysWithin k (record r { steps = b }) (λ n. steps c S after n (machine_of k (record r { steps = b }) x))
+      → NeedsAtMost c choices (sum + b) b r.memory.room (vec_capacity r.draws) → StaysWithin k (record r { steps = b }) (λ n. steps c S after n (machine_of k (record r { steps = b }) x))
   stays_within p rooms most choices sum taken b told k r x waits come few reserved needs =
       let start : Machine S = machine_of k (record r { steps = b }) x in
       let l = waits.goes_on b in
@@ -105,7 +107,8 @@ module _ (c : Code) (S : Type 0) (after : Event → List Cell → S → S) where
         counted = λ n m e. subst (λ (t : Turn S). TurnCounts t) e (steps_count c S after n start few);
         rooms = λ n m e.
             let t = noted_too (suc n) start m told e in
-            let w = needs (l.count + suc n) t.machine (l.alike n ∙ t.is) in
+            let few : m.run.steps ≤ b = fewer c S after start m (record { count = suc n; is = e }) in
+            let w = needs (l.count + suc n) t.machine (l.alike n ∙ t.is) (omega (arith, few, t.steps)) in
             let i = ap length t.cells in
             let j = ap length t.draws in
             (omega (arith, w.0, i), omega (arith, w.1, j));

@@ -14,12 +14,12 @@ use Rattle.flow_rooms.specs.Rooms.{ComesTo, unseen}
 use Rattle.flow_machine.specs.declared.control.Control.{Control as Here}
 use Rattle.flow_machine.specs.declared.control.Running.{Running}
 
--- the run ends, and no memory is wanting
+-- the run has an end, and no memory was wanting
 abbrev pub IsEnd : Halt → Type 0
 IsEnd (Ends e) = Unit {0}
 IsEnd NoMemory = ⊥
 
--- no memory is wanting
+-- the answer isn't that memory was wanting
 abbrev pub Lasts : {A : Type 0} → Result A Halt → Type 0
 Lasts r = IfErr r IsEnd
 
@@ -29,7 +29,7 @@ pub record HasSpare (k : Here) : Type 0 where
   pub scopes : vec_len k.scopes < vec_capacity k.scopes
   pub frames : vec_len k.frames < vec_capacity k.frames
 
--- no more draws took no choice than were made
+-- at most as many draws took no choice as there were draws
 abbrev pub IsCounted : Running → Type 0
 IsCounted r = r.unfixed ≤ vec_len r.draws
 
@@ -69,8 +69,8 @@ pub record HoldsWithin (k : Here) (l : Control) : Type 0 where
   pub scopes : length l.scopes < vec_capacity k.scopes
   pub frames : length l.frames < vec_capacity k.frames
 
--- wherever operations lead, by their number, a machine of Rust has room on its stacks, and no more draws took no choice than were made;
--- behind an operation its cells and draws are within their rooms
+-- f n is what n operations come to: wherever the machine then goes on, its stacks fit what k has room for, with room for one action more, and
+-- at most as many draws took no choice as there were; behind at least one operation its cells and draws are within the rooms of r
 pub record StaysWithin {S : Type 0} (k : Here) (r : Running) (f : ℕ → Turn S) : Type 0 where
   pub stacks : (n : ℕ) (m : Machine S) → f n ≡ On m → HoldsWithin k m.control
   pub counted : (n : ℕ) (m : Machine S) → f n ≡ On m → m.run.unfixed ≤ length m.run.draws
@@ -86,7 +86,8 @@ pub record IsReserved (c : Code) (k : Here) : Type 0 where
 abbrev pub IsReached : Code → Control → Type 0
 IsReached c k = (n : ℕ) × ComesTo c (Unit {0}) unseen n k
 
--- wherever n steps lead the machine of a code, it has at most so many cells and draws
-abbrev pub NeedsAtMost : Code → Choices → ℕ → ℕ → ℕ → Type 0
-NeedsAtMost c choices n cells draws =
-    (k : ℕ) (m : Machine (List Sight)) → steps c (List Sight) noted k (first_machine c (List Sight) [] choices n) ≡ On m → IsWithin cells draws m.run
+-- with a budget of n steps: after any number of operations behind which the machine goes on and has at most so many steps left, at most
+-- `cells` cells live (active calls are none of them) and at most `draws` draws were made
+abbrev pub NeedsAtMost : Code → Choices → ℕ → ℕ → ℕ → ℕ → Type 0
+NeedsAtMost c choices n left cells draws =
+    (k : ℕ) (m : Machine (List Sight)) → steps c (List Sight) noted k (first_machine c (List Sight) [] choices n) ≡ On m → m.run.steps ≤ left → IsWithin cells draws m.run

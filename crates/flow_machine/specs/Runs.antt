@@ -21,7 +21,7 @@ use Rattle.flow_machine.specs.declared.control.Control.{Control as Here}
 use Rattle.flow_machine.specs.declared.control.Running.{Running}
 
 -- what contracts see of a machine: its code, its choices, the sum of the numbers handed to `advance`, its rooms, whether a `reserve` has answered Ok,
--- and whether no `advance` wanted memory
+-- and whether no `advance` has answered want of memory
 pub record Held : Type 0 where
   pub code : Code
   pub choices : Choices
@@ -42,7 +42,8 @@ pub record Advances (p : Program) (c : Choices) (n m : ℕ) {S : Type 0} (after 
   pub end : e ≡ (Run p c m).end
   pub follows : Follows p c n m after old new
 
--- operations, by their number, came to why they were left off; where memory is wanting, nothing is said
+-- f n is what n operations come to. Where they ended with e, the machine is `Short` of steps behind some number of them, and e is `Spent`, or the run is
+-- `Over` with e, in the state of m; where memory is wanting, nothing is said
 abbrev pub Halts : {S : Type 0} → Halt → Machine S → (ℕ → Turn S) → Type 0
 Halts (HaltEnds e) m f = (n : ℕ) × (((f n ≡ Short m) × (e ≡ Spent)) ⊎ (f n ≡ Over e m.run))
 Halts NoMemory m f = Unit {0}
@@ -52,7 +53,7 @@ module _ (c : Code) where
   abbrev pub first : Choices → ℕ → Machine (List Sight)
   first choices n = first_machine c (List Sight) [] choices n
 
-  -- behind some operations of the first, the two go on alike
+  -- behind some operations the first does what the second does from here on
   pub record Leads (a b : Machine (List Sight)) : Type 0 where
     pub count : ℕ
     pub alike : (n : ℕ) → steps c (List Sight) noted (count + suc n) a ≡ steps c (List Sight) noted (suc n) b

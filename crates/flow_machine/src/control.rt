@@ -90,3 +90,13 @@ pub fn room<W: Watcher>(run: &Running, cells: u128) -> Result<(), Halt>
         Err(Halt::Ends(End::Deep))
     }
 }
+
+/// Makes room for so many values in all.
+pub fn reserve_all<T>(values: &mut Vec<T>, count: usize) -> Result<(), OutOfMemory>
+    ensures items { values.new.items ≡ values.old.items }
+    ensures capacity { vec_capacity values.old ≤ vec_capacity values.new }
+    ensures ok { OnOk result (count ≤ vec_capacity values.new) }
+{
+    values.reserve(count.saturating_sub(values.len()))?;
+    Ok(())
+}

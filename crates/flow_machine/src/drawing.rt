@@ -1,10 +1,8 @@
-// Draws: each takes the next choice, or none.
-ghost use Rattle.std.specs.Prelude.{◌≡◌, ◌≤◌, ◌<◌, ◌+◌, ◌^◌, false, vec_len, vec_capacity, IfOk, OnOk, IsOkUnless, MatchOption};
-ghost use Rattle.c_meaning.specs.Objects.{same_spot};
+// Drawn values, and the cells of declared names.
+ghost use Rattle.std.specs.Prelude.{◌≡◌, ◌≤◌, ◌<◌, ◌+◌, vec_len, vec_capacity, OnOk};
 ghost use Rattle.c_meaning.specs.Run as runs;
 ghost use Rattle.c_meaning.specs.Watching.{seen_by};
-ghost use Rattle.run_state.specs.Drawing.{any_at, IsFirst};
-ghost use Rattle.run_state.specs.Interpreting.{same, choices_left, givens_left};
+ghost use Rattle.run_state.specs.Interpreting.{same};
 ghost use Rattle.flow_laws.specs.Acting.{program_in, input_given, declared, cells_drawn};
 ghost use Rattle.flow_machine.specs.Rooms.{GoesInRoom, IsCounted, KeepsRooms, Lasts};
 ghost use Rattle.flow_machine.specs.Views.{Gives, state_of};
@@ -13,69 +11,10 @@ use crate::control::{Running, room, tell};
 use c_core::{IntType, Spot, convert};
 use c_meaning::{Draw, DrawKind, Event, Watcher};
 use flow_code::Code;
-use run_state::{Halt, Left, LeftAt, add_cells};
-
-// Is it the same place?
-fn is_at(found: Spot, spot: Spot) -> bool
-    ensures { result ≡ same_spot found spot }
-{
-    found.line == spot.line && found.column == spot.column
-}
-
-// The first entry at a place.
-fn place_of(givens: &[LeftAt], spot: Spot) -> Option<usize>
-    ensures { MatchOption result (any_at spot givens.now ≡ false) (IsFirst spot givens.now) }
-{
-    for (index, left) in givens.iter().enumerate() {
-        if is_at(left.spot, spot) {
-            return Some(index);
-        }
-    }
-    None
-}
-
-// The value given next at a place, if any.
-fn take_given(givens: &mut Vec<LeftAt>, spot: Spot) -> Option<i128>
-    ensures value { result ≡ runs.given_at spot (givens_left givens.old.items) }
-    ensures left { givens_left givens.new.items ≡ runs.given_after spot (givens_left givens.old.items) }
-{
-    match place_of(givens, spot) {
-        Some(at) => givens[at].values.pop(),
-        None => None,
-    }
-}
-
-// The value that the choices give to a draw, if any.
-fn take(left: &mut Left, kind: DrawKind, spot: Spot) -> Option<i128>
-    ensures value { result ≡ runs.chosen kind spot (choices_left left.old) }
-    ensures left { choices_left left.new ≡ runs.after_draw kind spot (choices_left left.old) }
-{
-    match left {
-        Left::InTurn(values) => values.pop(),
-        Left::Given(givens) => match kind {
-            DrawKind::Input => take_given(givens, spot),
-            _ => None,
-        },
-    }
-}
-
-// One more, where none was taken.
-fn counted(unfixed: u64, taken: Option<i128>) -> Result<u64, Halt>
-    ensures count { IfOk result (λ n. n ≡ unfixed + runs.one_if_none taken) }
-    ensures most { IfOk result (λ n. n ≤ unfixed + 1) }
-    ensures refused { IsOkUnless result Halt.NoMemory }
-    ensures lasting { unfixed + 1 < 2 ^ 64 → Lasts result }
-{
-    match taken {
-        Some(_) => Ok(unfixed),
-        None => match unfixed.checked_add(1) {
-            Some(more) => Ok(more),
-            None => Err(Halt::NoMemory),
-        },
-    }
-}
+use run_state::{Halt, add_cells, count_unfixed, take_choice};
 
 /// A drawn value.
+#[inline(always)]
 pub fn draw<W: Watcher>(
     code: &Code,
     run: &mut Running,
@@ -88,9 +27,9 @@ pub fn draw<W: Watcher>(
     ensures counts { OnOk result ((vec_len run.new.draws ≡ vec_len run.old.draws + 1) × (run.new.unfixed ≤ run.old.unfixed + 1)) }
     ensures lasting { IsCounted run.old → vec_len run.old.draws < vec_capacity run.old.draws → Lasts result }
 {
-    let taken = take(&mut run.left, kind, spot);
+    let taken = take_choice(&mut run.left, kind, spot);
     let value = convert(code.model, ty, taken.unwrap_or(0));
-    run.unfixed = counted(run.unfixed, taken)?;
+    run.unfixed = count_unfixed(run.unfixed, taken)?;
     let drawn = Draw {
         spot,
         ty,
@@ -104,6 +43,7 @@ pub fn draw<W: Watcher>(
 }
 
 /// The call of an input function.
+#[inline(always)]
 pub fn input<W: Watcher>(
     code: &Code,
     run: &mut Running,

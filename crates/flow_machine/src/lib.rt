@@ -5,6 +5,7 @@ mod acting;
 mod arithmetic;
 mod beginning;
 mod calling;
+mod compiled;
 mod control;
 mod drawing;
 mod machine;
@@ -14,6 +15,6 @@ mod results;
 mod running;
 mod stepping;
 
-pub use flow_code::{Code, compile};
+pub use compiled::{Code, compile};
 pub use machine::Machine;
 pub use running::run_machine;

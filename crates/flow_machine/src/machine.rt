@@ -1,21 +1,22 @@
 // The machine: a run that can be stopped and goes on.
-ghost use Rattle.std.specs.Prelude.{◌≡◌, ◌≤◌, ◌<◌, ◌+◌, ◌^◌, true, false, None, IfOk, IsOk, OnOk, OnErr};
+ghost use Rattle.std.specs.Prelude.{◌≡◌, ◌≤◌, ◌<◌, ◌+◌, ◌^◌, true, false, None, IfOk, IsErr, IsOk, OnOk, OnErr};
 ghost use Rattle.c_calls.specs.Calling.{IsFirstRecursion};
 ghost use Rattle.c_core.specs.Tree.{Program};
 ghost use Rattle.c_meaning.specs.Run as runs;
+ghost use Rattle.c_meaning.specs.declared.run.End.TheVariants.{Spent};
 ghost use Rattle.flow_code.specs.Programs.{IsCodeOf};
 ghost use Rattle.flow_machine.specs.Rooms.{NeedsAtMost};
 ghost use Rattle.flow_machine.specs.Runs.{Advances};
-ghost use Rattle.flow_rooms.specs.Paces.{IsPaced};
 
-use crate::beginning::{first_cells, left};
-use crate::control::{Control, Running};
+use crate::beginning::first_cells;
+use crate::compiled::Code;
+use crate::control::{Control, Running, reserve_all};
 use crate::stepping::go;
 use c_meaning::{Choices, End, Run, Watcher, larger_budget_continues};
-use flow_code::Code;
+use flow_code::Code as Operations;
 use flow_laws::code_is_simulated;
 use flow_rooms::{chains_are_bounded, rooms_are_bounded, rooms_are_kept};
-use run_state::Halt;
+use run_state::{Halt, all_left};
 use std::alloc::Global;
 use std::marker::Model;
 use wv_base::{OutOfMemory, Seq};
@@ -23,14 +24,18 @@ use wv_base::{OutOfMemory, Seq};
 /// A run of a program as code.
 #[derive(Drop)]
 pub struct Machine<'a> {
-    code: &'a Code,
+    code: &'a Operations,
     choices: &'a Choices,
     control: Control,
     run: Running,
+    /// The steps handed to `advance`, and those of them that were taken.
     sum: u64,
     taken: u64,
+    /// How the run has ended, but by a spent budget.
     ended: Option<End>,
+    /// A `reserve` has answered Ok.
     reserved: bool,
+    /// No `advance` has answered want of memory.
     whole: bool,
 }
 
@@ -52,11 +57,11 @@ impl<'a> Machine<'a> {
         code: &'a Code,
         choices: &'a Choices,
     ) -> Result<Machine<'a>, OutOfMemory>
-        requires paced { IsPaced code.now }
         ensures { IfOk result (λ m. (m.code ≡ code.now) × (m.choices ≡ choices.now) × (m.sum ≡ 0) × (m.whole ≡ true)) }
     {
+        let code = &code.operations;
         let memory = first_cells(alloc, code)?;
-        let left = left(alloc, choices)?;
+        let left = all_left(alloc, choices)?;
         Ok(Machine {
             code,
             choices,
@@ -91,27 +96,28 @@ impl<'a> Machine<'a> {
         ensures kept { self.old.reserved ≡ true → self.new.reserved ≡ true }
     {
         self.run.memory.reserve(cells)?;
-        let draws = (draws as usize).saturating_sub(self.run.draws.len());
-        self.run.draws.reserve(draws)?;
+        reserve_all(&mut self.run.draws, draws as usize)?;
         let code = self.code;
-        self.control.frames.reserve(code.functions.len())?;
-        self.control.scopes.reserve(code.ops.len())?;
-        self.control
-            .stack
-            .reserve(code.ops.len().saturating_mul(2))?;
+        reserve_all(&mut self.control.frames, code.functions.len())?;
+        reserve_all(&mut self.control.scopes, code.ops.len())?;
+        reserve_all(&mut self.control.stack, code.ops.len().saturating_mul(2))?;
         self.reserved = true;
         Ok(())
     }
 
-    /// Takes at most so many further steps. Where memory is wanting, the machine isn't whole from then on. Behind `reserve` none is wanting in
-    /// a program without recursion whose cells and draws are within the rooms, if the watcher wants none.
+    /// Takes at most so many further steps, and says how the run with all steps so far ends: it is spent and goes on with the next call, or later calls give
+    /// its end again. An error is want of memory, and then the machine is only to be dropped. There is none where a `reserve` has answered Ok, the program has
+    /// no recursion, the watcher never refuses, and the cells and draws of the run from here on are within the machine's rooms.
     pub fn advance<W: Watcher>(&mut self, steps: u64, watcher: &mut W) -> Result<End, OutOfMemory>
         requires within { self.old.sum + steps < 2 ^ 64 }
         ensures same { (self.new.code ≡ self.old.code) × (self.new.choices ≡ self.old.choices) × (self.new.reserved ≡ self.old.reserved) × (self.new.sum ≡ self.old.sum + steps) }
+        ensures rooms { (self.old.cells ≤ self.new.cells) × (self.old.draws ≤ self.new.draws) }
         ensures whole { OnOk result (self.new.whole ≡ self.old.whole) }
         ensures lost { OnErr result (self.new.whole ≡ false) }
+        ensures gone { self.old.whole ≡ false → IsErr result }
         ensures run { IfOk result (λ end. self.old.whole ≡ true → (p : Program) → IsCodeOf p self.old.code → Advances p self.old.choices self.old.sum self.new.sum W.after (W.seen watcher.old) (W.seen watcher.new) end) }
-        ensures enough { W.sure → self.old.reserved ≡ true → self.old.whole ≡ true → (p : Program) → IsCodeOf p self.old.code → IsFirstRecursion p None → NeedsAtMost self.old.code self.old.choices (self.old.sum + steps) self.old.cells self.old.draws → IsOk result }
+        ensures again { self.old.whole ≡ true → (p : Program) → IsCodeOf p self.old.code → ((runs.Run p self.old.choices self.old.sum).end ≡ Spent → ⊥) → IsOk result }
+        ensures enough { W.sure → self.old.reserved ≡ true → self.old.whole ≡ true → (p : Program) → IsCodeOf p self.old.code → IsFirstRecursion p None → NeedsAtMost self.old.code self.old.choices (self.old.sum + steps) steps self.old.cells self.old.draws → IsOk result }
     {
         chains_are_bounded();
         rooms_are_bounded();

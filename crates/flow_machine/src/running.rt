@@ -4,11 +4,10 @@ ghost use Rattle.c_core.specs.View.{program_view};
 ghost use Rattle.c_meaning.specs.Run as runs;
 ghost use Rattle.c_meaning.specs.Watching.{seen_after};
 
+use crate::compiled::compile;
 use crate::machine::Machine;
 use c_core::Program;
 use c_meaning::{Choices, Run, Watcher};
-use flow_code::compile;
-use flow_rooms::code_is_paced;
 use std::alloc::Global;
 use wv_base::OutOfMemory;
 
@@ -23,7 +22,6 @@ pub fn run_machine<W: Watcher>(
     ensures run { IfOk result (λ r. r ≡ runs.Run (program_view program.now) choices.now steps) }
     ensures seen { IfOk result (λ r. W.seen watcher.new ≡ seen_after W.after (W.seen watcher.old) (runs.Moments (program_view program.now) choices.now steps)) }
 {
-    code_is_paced();
     let code = compile(alloc, program)?;
     let mut machine = Machine::new(alloc, &code, choices)?;
     machine.advance(steps, watcher)?;

@@ -1,11 +1,8 @@
 // The runs of a program under each budget, by the interpreter and by machines.
-ghost use Rattle.flow_rooms.specs.Paces.{IsPaced};
-
 use crate::runs::{Watched, choices, plain, stepped};
 use c_core::Program;
 use c_meaning::{Choices, End};
 use flow_machine::{Code, compile};
-use flow_rooms::code_is_paced;
 use std::alloc::Global;
 use wv_base::OutOfMemory;
 
@@ -27,9 +24,7 @@ fn compare_at(
     budget: u32,
     expected: &Watched,
     found: &mut Found,
-) -> Result<(), OutOfMemory>
-    requires { IsPaced code.now }
-{
+) -> Result<(), OutOfMemory> {
     for part in PARTS {
         let run = stepped(alloc, code, choices, part, budget)?;
         found.tried = found.tried.saturating_add(1);
@@ -42,7 +37,6 @@ fn compare_at(
 
 /// Each budget below this one, up to the first with which the run has ended.
 pub fn compare(alloc: Global, program: &Program, budget: u32) -> Result<Found, OutOfMemory> {
-    code_is_paced();
     let choices = choices(alloc)?;
     let code = compile(alloc, program)?;
     let mut found = Found { tried: 0, wrong: 0 };

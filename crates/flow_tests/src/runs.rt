@@ -1,6 +1,5 @@
 // A run by the interpreter, and by a machine.
 ghost use Rattle.std.specs.Prelude.{◌≡◌};
-ghost use Rattle.flow_rooms.specs.Paces.{IsPaced};
 
 use crate::events::Events;
 use c_core::Program;
@@ -9,6 +8,9 @@ use c_meaning::{Choices, Run};
 use flow_machine::{Code, Machine};
 use std::alloc::Global;
 use wv_base::{OutOfMemory, Seq};
+
+// The cells and draws that room is made for.
+const ROOM: u32 = 1000;
 
 /// A run, with what was seen of it.
 #[derive(Drop)]
@@ -51,20 +53,21 @@ pub fn plain(
     Ok(Watched { run, events })
 }
 
-/// By a machine that gets the budget in parts of this size, the rest of it last.
+/// By a machine that gets the budget in parts of this size, the rest of it last; where they are larger than a step, behind `reserve`.
 pub fn stepped(
     alloc: Global,
     code: &Code,
     choices: &Choices,
     part: u64,
     budget: u32,
-) -> Result<Watched, OutOfMemory>
-    requires { IsPaced code.now }
-{
+) -> Result<Watched, OutOfMemory> {
     let mut events = Events {
         seen: Vec::new(alloc),
     };
     let mut machine = Machine::new(alloc, code, choices)?;
+    if part > 1 {
+        machine.reserve(ROOM, ROOM)?;
+    }
     advance_by(&mut machine, part, budget, &mut events)?;
     Ok(Watched {
         run: machine.finish(),

@@ -1,14 +1,15 @@
 // The state in which a run starts.
-ghost use Rattle.std.specs.Prelude.{◌≡◌, ◌<◌, ◌-◌, ◌++◌, [], pos, cond, length, slice_index_or, IfOk, OnOk, reverse};
+ghost use Rattle.std.specs.Prelude.{◌≡◌, ◌++◌, [], cond, IfOk, OnOk};
 ghost use Rattle.c_core.specs.View.{program_view};
 ghost use Rattle.c_meaning.specs.Cells.{cells_from};
 ghost use Rattle.c_meaning.specs.Run.{first_cells, first_state, start_values as start_values_of};
-ghost use Rattle.run_state.specs.Interpreting.{state_of, choices_left, givens_left};
+ghost use Rattle.run_state.specs.Interpreting.{state_of};
 
 use crate::cells::add_started;
-use crate::machine::{Left, LeftAt, Machine};
+use crate::choices::all_left;
+use crate::machine::Machine;
 use c_core::{Object, Program};
-use c_meaning::{Choices, Given, Memory};
+use c_meaning::{Choices, Memory};
 use std::alloc::Global;
 use wv_base::{OutOfMemory, Seq};
 
@@ -22,7 +23,7 @@ pub fn start(
     ensures { IfOk result (λ machine. state_of machine tt ≡ first_state (program_view program.now) (Unit {0}) tt choices.now steps) }
 {
     let memory = static_cells(alloc, program)?;
-    let left = left(alloc, choices)?;
+    let left = all_left(alloc, choices)?;
     Ok(Machine {
         alloc,
         steps,
@@ -32,55 +33,6 @@ pub fn start(
         draws: Seq::new(alloc),
         unfixed: 0,
     })
-}
-
-// The choices, the next value last.
-fn left(alloc: Global, choices: &Choices) -> Result<Left, OutOfMemory>
-    ensures { IfOk result (λ left. choices_left left ≡ choices.now) }
-{
-    match choices {
-        Choices::Given(givens) => {
-            let left = left_of_givens(alloc, givens.as_slice())?;
-            Ok(Left::Given(left))
-        }
-        Choices::InTurn(values) => {
-            let values = reversed(alloc, values.as_slice())?;
-            Ok(Left::InTurn(values))
-        }
-    }
-}
-
-fn left_of_givens(alloc: Global, givens: &[Given]) -> Result<Vec<LeftAt>, OutOfMemory>
-    ensures { IfOk result (λ left. givens_left left.items ≡ givens.now) }
-{
-    let mut left = Vec::new(alloc);
-    for given in givens {
-        let values = reversed(alloc, given.values.as_slice())?;
-        left.push(LeftAt {
-            spot: given.spot,
-            values,
-        })?;
-    }
-    Ok(left)
-}
-
-// The values from the last to the first.
-fn reversed(alloc: Global, values: &[i128]) -> Result<Vec<i128>, OutOfMemory>
-    ensures { IfOk result (λ found. found.items ≡ reverse values.now) }
-{
-    let mut last_first = Vec::new(alloc);
-    for index in 0..values.len() {
-        last_first.push(from_end(values, index))?;
-    }
-    Ok(last_first)
-}
-
-// The value at an index from the end.
-fn from_end(values: &[i128], index: usize) -> i128
-    requires { index < length values.now }
-    ensures { result ≡ slice_index_or values.now (length values.now - 1 - index) (pos 0) }
-{
-    values[values.len() - 1 - index]
 }
 
 // The cells of objects of static storage.

@@ -3,6 +3,7 @@
 
 mod callees;
 mod cells;
+mod choices;
 mod draws;
 mod initial;
 mod machine;
@@ -12,6 +13,7 @@ mod values;
 
 pub use callees::{input, is_needed, reach, returned};
 pub use cells::{add_cells, add_started, draw_cells, ticks};
+pub use choices::{all_left, count_unfixed, take_choice};
 pub use draws::draw;
 pub use initial::start;
 pub use machine::{Around, CallSite, Element, Flow, Halt, Left, LeftAt, Machine, Typed};

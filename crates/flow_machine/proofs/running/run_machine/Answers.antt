@@ -6,9 +6,6 @@ use Rattle.flow_code.specs.Programs.{IsCodeOf}
 use Rattle.flow_laws.proofs.Beginning.{nothing_seen}
 use Rattle.flow_machine.proofs.running.run_machine.Goals as goal
 
-pub new-requires : goal.new-requires
-new-requires g c = record { paced = c.code_is_paced.ensures (program_view c.args.program.now) c.in_ok-code.code c.in_ok-code.ensures }
-
 pub returns-clause-run : goal.returns-clause-run
 returns-clause-run g c =
     let p = program_view c.args.program.now in

@@ -1,10 +1,11 @@
-use Rattle.std.proofs.Common.{rules, ◌≡◌, ◌+◌, ◌<◌, ◌^◌, true, false, None, Some, ap, subst, arith}
+use Rattle.std.proofs.Common.{rules, ◌≡◌, ◌+◌, ◌<◌, ◌^◌, true, false, None, Some, ap, ◌∙◌, subst, arith}
 use Rattle.c_core.specs.Tree.{Program}
 use Rattle.c_meaning.specs.declared.run.End.TheVariants.{Spent}
+use Rattle.c_meaning.specs.declared.run.Run.{Run as GivenRun}
 use Rattle.flow_code.specs.Programs.{IsCodeOf}
 use Rattle.flow_machine.specs.Runs.{Advances, Held, Rests, Waits}
 use Rattle.flow_machine.specs.Views.{machine_of}
-use Rattle.flow_machine.proofs.Advancing.{rests_on, rests_still, comes_short, comes_to_end, now_rests, went_on, fewer_left, in_order_with, spent_in_order}
+use Rattle.flow_machine.proofs.Advancing.{rests_on, rests_still, comes_short, comes_to_end, now_rests, went_on, fewer_left, in_order_with, spent_in_order, end_at, run_at_rest}
 use Rattle.flow_machine.proofs.Reserving.{stays_within, still_reserved, spent_reached, spent_counted}
 use Rattle.flow_machine.proofs.machine.Machine.advance.Goals as goal
 
@@ -83,6 +84,14 @@ returns-in-NoMemory-clause-enough g c =
     (λ l room. c.rooms_are_bounded.ensures p m.code.now l is (c.chains_are_bounded.ensures p m.code.now is once) room)
     m.choices.now m.sum m.taken c.args.steps rest.told m.control m.run (g.W.Watcher.seen c.args.watcher.now) waits
     (i.reached whole c.in_default.is) (i.counted whole c.in_default.is) (i.room reserved) needs)))
+
+pub returns-in-NoMemory-clause-again : goal.returns-in-NoMemory-clause-again
+returns-in-NoMemory-clause-again g c =
+    let m = c.self.inside in
+    rw (← c.self.view_is) (λ whole p is late.
+    let i = c.self.invariant.at_rest whole in
+    let run = run_at_rest p m.code.now m.choices.now (c.code_is_simulated.ensures p m.code.now is) is.checked m.sum m.taken m.ended (machine_of m.control m.run i.told) i.rests in
+    absurd (late (ap (λ (r : GivenRun). r.end) run ∙ ap end_at c.in_default.is)))
 
 pub invariant_of-self-in-Spent : goal.invariant_of-self-in-Spent
 invariant_of-self-in-Spent g c =

@@ -4,7 +4,7 @@ use Rattle.flow_machine.proofs.machine.Machine.new.Goals as goal
 
 pub invariant_of-result : goal.invariant_of-result
 invariant_of-result c = record {
-  paced = c.requires.paced;
+  paced = c.code.invariant;
   at_rest = λ whole. record {
     told = [];
     rests = begun c.args.code.now c.args.choices.now _ (rw (c.new.ensures.items, c.new-2.ensures.items, c.new-3.ensures.items, c.new-4.ensures.items, c.in_ok-memory.ensures, c.in_ok-left.ensures));

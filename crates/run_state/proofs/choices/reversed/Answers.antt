@@ -3,7 +3,7 @@ use mir.Val.{SFits}
 use mir.Syntax.{w128}
 use Rattle.std.proofs.lemmas.Int.{to_z-of_z}
 use Rattle.run_state.proofs.Starting.{reversed_more}
-use Rattle.flow_machine.proofs.beginning.reversed.Goals as goal
+use Rattle.run_state.proofs.choices.reversed.Goals as goal
 
 pub loop-index-preserved : goal.loop-index-preserved
 loop-index-preserved c =

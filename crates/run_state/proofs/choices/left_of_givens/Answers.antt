@@ -1,7 +1,7 @@
 use Rattle.std.proofs.Common.{◌≡◌, ◌∙◌, ◌+◌, ◌∷◌, suc, drop, drop-cons, ap, sym, refl, arith}
 use Rattle.run_state.specs.declared.machine.LeftAt.{LeftAt}
 use Rattle.run_state.proofs.Starting.{givens_more, turned_round}
-use Rattle.flow_machine.proofs.beginning.left_of_givens.Goals as goal
+use Rattle.run_state.proofs.choices.left_of_givens.Goals as goal
 
 pub loop-given-preserved : goal.loop-given-preserved
 loop-given-preserved c =

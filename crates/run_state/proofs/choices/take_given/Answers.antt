@@ -1,7 +1,7 @@
 use Rattle.std.proofs.Common.{refl}
 use Rattle.run_state.specs.declared.machine.LeftAt.{LeftAt}
 use Rattle.run_state.proofs.Drawing.{at_none, after_none, at_first, after_first}
-use Rattle.flow_machine.proofs.drawing.take_given.Goals as goal
+use Rattle.run_state.proofs.choices.take_given.Goals as goal
 
 pub returns-in-Some-clause-value : goal.returns-in-Some-clause-value
 returns-in-Some-clause-value c =

@@ -1,6 +1,6 @@
 use Rattle.std.proofs.Common.{◌<◌, ◌∙◌, length, sym, arith}
 use Rattle.run_state.proofs.Drawing.{none_more}
-use Rattle.flow_machine.proofs.drawing.place_of.Goals as goal
+use Rattle.run_state.proofs.choices.place_of.Goals as goal
 
 pub loop-index-preserved : goal.loop-index-preserved
 loop-index-preserved c =
