@@ -8,6 +8,7 @@ mod Turn
 mod Skips
 mod Numbers
 mod Passed
+mod PassedBy
 pub mod PlaceLaws
 mod Begin
 mod Done

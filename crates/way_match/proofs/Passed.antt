@@ -48,7 +48,7 @@ passed_to pr e n ns ss live (suc low) lt h =
     passed_to pr e n ns ss live low (omega arith) (λ k g. h k (omega arith)) ∙
     passed_one pr e n ns ss live low (omega arith) (h low (omega arith))
 
-within_of : (ss : List BoundSegment) (i : ℕ) → avoids_none (slice_get ss i) → i < length ss
+pub within_of : (ss : List BoundSegment) (i : ℕ) → avoids_none (slice_get ss i) → i < length ss
 within_of [] i h = absurd h
 within_of (s ∷ ss) zero h = omega arith
 within_of (s ∷ ss) (suc i) h = let l = within_of ss i h in omega (arith, l)

@@ -1,7 +1,7 @@
 -- Numbers of segments by place, with one more.
-use Rattle.std.proofs.Common.{◌≡◌, ℕ, ◌<◌, Bool, true, false, cond, nat_eq, nat_lt, ◌&&◌, List, [], ◌∷◌, ◌++◌, Option, Some, None, refl, sym, ◌∙◌, ap, arith}
+use Rattle.std.proofs.Common.{◌≡◌, ℕ, ◌<◌, Bool, true, false, cond, nat_eq, nat_lt, ◌&&◌, ◌||◌, List, [], ◌∷◌, ◌++◌, Option, Some, None, refl, sym, ◌∙◌, ap, arith}
 use Rattle.std.proofs.lemmas.List.{append-nil}
-use Rattle.std.proofs.lemmas.Bool.{eqb-true, ltb-true, and_parts as both}
+use Rattle.std.proofs.lemmas.Bool.{eqb-true, ltb-true, and_parts as both, or_parts as or_each}
 use Rattle.std.specs.Ordering.{is_eq, nat_cmp, ordering_then}
 use Rattle.std.specs.declared.cmp.Ordering.{Ordering}
 use Rattle.std.specs.declared.cmp.Ordering.TheVariants.{Less, Equal, Greater}
@@ -10,7 +10,8 @@ use Rattle.std.specs.declared.vec.Vec.{Vec}
 use Rattle.std.specs.declared.alloc.Global.{Global}
 use Rattle.c_core.specs.declared.number.Spot.{Spot}
 use Rattle.c_meaning.specs.Objects.{same_spot}
-use Rattle.way_match.specs.inside.ByPlace.{spot_cmp, items_if, same_place, numbers_in}
+use Rattle.way_match.specs.inside.ByPlace.{spot_cmp, items_if, is_marked, IsClear, same_place, numbers_in}
+use Rattle.way_match.specs.declared.by_place.ByPlace.{ByPlace}
 
 equal_numbers : (x y : ℕ) → is_eq (nat_cmp x y) ≡ nat_eq x y
 equal_numbers x y = by_less (nat_lt x y) refl
@@ -46,13 +47,13 @@ same_spots a b e =
     ap (λ (k : ℕ). record { line = k; column = a.column }) l ∙ ap (λ (k : ℕ). record { line = b.line; column = k }) c
 
 -- the numbers of a place with one more behind, those of other places as they were
-pub added : (old between new : BTreeMap (ℕ × ℕ) (Vec ℕ Global)) (targets : Vec ℕ Global) (spot : Spot) (k : ℕ) (before : List ℕ) (numbers : Vec ℕ Global) (at : Option Spot) →
+pub added : (old between new : BTreeMap (ℕ × ℕ) (Vec ℕ Global)) (targets : Vec ℕ Global) (lines more : Vec Bool Global) (spot : Spot) (k : ℕ) (before : List ℕ) (numbers : Vec ℕ Global) (at : Option Spot) →
     before ≡ items_if (get spot_cmp old (spot.line, spot.column)) → numbers.items ≡ before ++ k ∷ [] →
     ((q : ℕ × ℕ) → get spot_cmp between q ≡ cond (is_at (spot_cmp (spot.line, spot.column)) q) None (get spot_cmp old q)) →
     ((q : ℕ × ℕ) → get spot_cmp new q ≡ cond (is_at (spot_cmp (spot.line, spot.column)) q) (Some numbers) (get spot_cmp between q)) →
-    numbers_in (record { placed = new; targets = targets }) at ≡ numbers_in (record { placed = old; targets = targets }) at ++ cond (same_place (Some spot) at) (k ∷ []) []
-added old between new targets spot k before numbers None b i u v = sym (append-nil targets.items)
-added old between new targets spot k before numbers (Some q) b i u v = by_same (same_spot spot q) refl
+    numbers_in (record { placed = new; targets = targets; lines = more }) at ≡ numbers_in (record { placed = old; targets = targets; lines = lines }) at ++ cond (same_place (Some spot) at) (k ∷ []) []
+added old between new targets lines more spot k before numbers None b i u v = sym (append-nil targets.items)
+added old between new targets lines more spot k before numbers (Some q) b i u v = by_same (same_spot spot q) refl
   where
     place : ℕ × ℕ
     place = (q.line, q.column)
@@ -71,3 +72,12 @@ added old between new targets spot k before numbers (Some q) b i u v = by_same (
         v place ∙ ap (λ (x : Bool). cond x (Some numbers) (get spot_cmp between place)) (here ∙ e) ∙
         u place ∙ ap (λ (x : Bool). cond x None (get spot_cmp old place)) (here ∙ e) in
         ap items_if there ∙ sym (append-nil (items_if (get spot_cmp old place)))
+
+-- with one more line marked, that of the place
+pub clear_added : (old new : ByPlace) (spot : Spot) (k : ℕ) → IsClear old →
+    ((line : ℕ) → is_marked new.lines.items line ≡ (nat_eq spot.line line || is_marked old.lines.items line)) →
+    ((at : Option Spot) → numbers_in new at ≡ numbers_in old at ++ cond (same_place (Some spot) at) (k ∷ []) []) → IsClear new
+clear_added old new spot k h m u q f =
+    let o = or_each _ _ (sym (m q.line) ∙ f) in
+    let away : same_spot spot q ≡ false = ap (λ (x : Bool). x && nat_eq spot.column q.column) o.0 in
+    u (Some q) ∙ ap (λ (x : Bool). numbers_in old (Some q) ++ cond x (k ∷ []) []) away ∙ append-nil (numbers_in old (Some q)) ∙ h q o.1

@@ -1,5 +1,5 @@
 -- The test of positions says yes exactly where they match.
-use Rattle.std.proofs.Common.{◌≡◌, ◌⊎◌, ◌↔◌, inl, inr, ℕ, zero, suc, ◌+◌, ◌<◌, ◌≤◌, Bool, true, false, not, nat_eq, nat_le, nat_lt, List, [], ◌∷◌, length, slice_get, ◌&&◌, ◌||◌, refl, ◌∙◌, ap, arith}
+use Rattle.std.proofs.Common.{◌≡◌, ◌⊎◌, ◌↔◌, inl, inr, ℕ, zero, suc, ◌+◌, ◌<◌, ◌≤◌, Bool, true, false, not, nat_eq, nat_le, nat_lt, List, [], ◌∷◌, length, slice_get, ◌||◌, refl, ap, arith}
 use Rattle.std.proofs.lemmas.Bool.{leb-true, le-leb, leb-false, ltb-true, ltb-false, eqb-true, eq-eqb, and_parts as both, and_from as and_of, or_left, or_right}
 use Rattle.c_core.specs.Tree.{Program}
 use Rattle.way_match.specs.Points.{Point, BoundSegment}

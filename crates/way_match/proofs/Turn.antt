@@ -88,7 +88,7 @@ set_is : (xs : List (Option ℕ)) (i : ℕ) (w : Option ℕ) → i < length xs �
 set_is xs i w h = let b : i < i + 1 = omega arith in let s : suc i ≡ i + 1 = omega arith in
     drop-set-lt (i + 1) xs i w b ∙ ap (λ (j : ℕ). drop j xs) (sym s)
 
-set_other : (xs : List (Option ℕ)) (i k : ℕ) (w : Option ℕ) → (k ≡ i → ⊥) → get_or (set xs i w) k None ≡ get_or xs k None
+pub set_other : (xs : List (Option ℕ)) (i k : ℕ) (w : Option ℕ) → (k ≡ i → ⊥) → get_or (set xs i w) k None ≡ get_or xs k None
 set_other [] i k w ne = refl
 set_other (x ∷ xs) zero zero w ne = absurd (ne refl)
 set_other (x ∷ xs) zero (suc k) w ne = refl

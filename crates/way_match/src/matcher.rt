@@ -103,11 +103,17 @@ impl<'a> Watcher for Matcher<'a> {
     // it takes memory
     ghost sure = { ⊥ };
 
+    #[inline]
     fn see(&mut self, event: Event, memory: &Memory) -> Result<(), OutOfMemory> {
         // A number that no u64 holds can't be kept.
         let Some(count) = self.count.checked_add(1) else {
             return Err(OutOfMemory);
         };
+        if !self.by_place.is_watched(&event) {
+            self.states.pass_by();
+            self.count = count;
+            return Ok(());
+        }
         self.states.pass(
             self.program,
             self.bound.segments.as_slice(),

@@ -1,5 +1,6 @@
 // For each number of completed segments whether some positions complete them, and these positions as a chain of nodes.
 ghost use Rattle.std.specs.Prelude.{◌≡◌, ℕ, ◌+◌, ◌<◌, ◌≤◌, true, false, not, ◌&&◌, ◌||◌, [], ◌∷◌, length, replicate, List, None, Some, IfOk, OnErr, OnOk, vec_len, vec_capacity};
+ghost use Rattle.c_core.specs.Tree as tree;
 ghost use Rattle.c_core.specs.View.{program_view};
 ghost use Rattle.way_match.specs.inside.Arena.{chain, Held, way_of, IsHeld, ways_of, AreHeld, AreHeld-prop, came_of, IsFrom, Grown, IsBlank};
 ghost use Rattle.way_match.specs.inside.ByPlace.{event_spot, moved, numbers_in};
@@ -7,6 +8,8 @@ ghost use Rattle.way_match.specs.Passing as passing;
 ghost use Rattle.way_match.specs.inside.Prepared.{all_prepared, prepared_of};
 ghost use Rattle.way_match.specs.inside.Steps.{is_there, only_if, way_now, step, onto};
 ghost use Rattle.way_match.specs.inside.Turning.{ArePassed, IsPassed, IsSettled, assumes_at, outcome, seen_by, sighted};
+ghost use Rattle.way_match.specs.Points as points;
+ghost use Rattle.way_match.specs.Matching.{Seen};
 ghost use Rattle.way_match.specs.View.{each_segment_view, segment_view};
 
 use crate::by_place::ByPlace;
@@ -308,7 +311,21 @@ impl States {
         }
     }
 
+    /// Takes all states past an event that can move no segment: only the state behind all segments doesn't stay.
+    #[inline]
+    pub fn pass_by(&mut self)
+        requires { 0 < length self.old.live.items }
+        ensures ways { (p : tree.Program) (e : Seen) (n : ℕ) (ss : List points.BoundSegment) → length self.old.live.items ≡ length ss + 1 → moved (event_spot e.event) 0 ss ≡ [] → ways_of self.new.nodes.items 0 self.new.live.items ≡ step p e n None false ss (ways_of self.old.nodes.items 0 self.old.live.items) }
+        ensures passed { (ss : List points.BoundSegment) → length self.old.live.items ≡ length ss + 1 → ArePassed ss self.old.live.items self.old.low → ArePassed ss self.new.live.items self.new.low }
+        ensures states { length self.new.live.items ≡ length self.old.live.items }
+    {
+        let last = self.live.len() - 1;
+        self.live[last] = None;
+    }
+
     /// Takes all states past an event of a number.
+    // Never inlined: where it is, all of the event is read and copied before it is known to be watched.
+    #[inline(never)]
     pub fn pass(
         &mut self,
         program: &Program,
@@ -328,6 +345,11 @@ impl States {
         ensures passed { ArePassed (each_segment_view segments.now) self.new.live.items self.new.low }
         ensures states { length self.new.live.items ≡ length self.old.live.items }
     {
+        let numbers = by_place.numbers(event);
+        if numbers.is_empty() {
+            self.pass_by();
+            return Ok(());
+        }
         self.nodes.reserve(self.live.len())?;
         let sight = Sight {
             program,
@@ -337,7 +359,7 @@ impl States {
             memory,
             count,
         };
-        self.advance(&sight, by_place.numbers(event));
+        self.advance(&sight, numbers);
         self.raise(segments);
         Ok(())
     }

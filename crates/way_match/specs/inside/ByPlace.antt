@@ -1,5 +1,5 @@
 -- The segments that an event can move: those with a waypoint at its place, and where the property fails those with a target.
-use Rattle.std.specs.Prelude.{ℕ, ◌+◌, Bool, true, false, cond, List, [], ◌∷◌, ◌++◌, Option, Some, None, ◌||◌}
+use Rattle.std.specs.Prelude.{ℕ, ◌+◌, Bool, true, false, cond, List, [], ◌∷◌, ◌++◌, Option, Some, None, ◌||◌, ◌≡◌, slice_index_or}
 use Rattle.std.specs.List.{list_any}
 use Rattle.std.specs.Ordering.{nat_cmp, ordering_then}
 use Rattle.std.specs.declared.cmp.Ordering.{Ordering}
@@ -63,3 +63,11 @@ items_if (Some numbers) = numbers.items
 abbrev pub numbers_in : ByPlace → Option Spot → List ℕ
 numbers_in m None = m.targets.items
 numbers_in m (Some spot) = items_if (get spot_cmp m.placed (spot.line, spot.column))
+
+-- whether a line is marked; one past all marks isn't
+abbrev pub is_marked : List Bool → ℕ → Bool
+is_marked lines line = slice_index_or lines line false
+
+-- no segment has a waypoint on a line that isn't marked
+abbrev pub IsClear : ByPlace → Type 0
+IsClear m = (spot : Spot) → is_marked m.lines.items spot.line ≡ false → numbers_in m (Some spot) ≡ []

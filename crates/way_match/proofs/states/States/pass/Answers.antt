@@ -1,6 +1,10 @@
+use Rattle.std.proofs.Common.{◌≡◌, ◌+◌, [], length, sym, ◌∙◌, arith}
 use Rattle.c_core.specs.View.{program_view}
+use Rattle.way_match.specs.inside.ByPlace.{event_spot, moved}
 use Rattle.way_match.specs.View.{each_segment_view}
 use Rattle.way_match.proofs.Passed.{stay_passed}
+use Rattle.way_match.proofs.PassedBy.{none_there}
+use Rattle.way_match.proofs.Views.{segments_length}
 use Rattle.way_match.proofs.states.States.pass.Goals as goal
 
 pub raise-requires-clause-passed : goal.raise-requires-clause-passed
@@ -8,3 +12,17 @@ raise-requires-clause-passed c =
     stay_passed (program_view c.args.program.now) (record { event = c.args.event; cells = c.args.memory.now.cells }) c.args.count c.reserve.new.self.items c.advance.new.self.nodes.items
     (each_segment_view c.args.segments.now) c.args.self.now.live.items c.advance.new.self.live.items c.args.self.now.low c.advance.new.self.low c.requires.passed
     c.advance.ensures.low c.advance.ensures.ways
+
+pub returns-then-is_empty-clause-ways : goal.returns-then-is_empty-clause-ways
+returns-then-is_empty-clause-ways c =
+    let l = segments_length c.args.segments.now in
+    let states : length c.args.self.now.live.items ≡ length (each_segment_view c.args.segments.now) + 1 = omega (arith, l, c.requires.states) in
+    let empty : c.numbers-numbers.result.now ≡ [] = none_there c.numbers-numbers.result.now (sym c.is_empty.ensures ∙ c.if-is_empty.true) in
+    let none : moved (event_spot c.args.event) 0 (each_segment_view c.args.segments.now) ≡ [] = sym c.requires.places ∙ sym c.numbers-numbers.ensures ∙ empty in
+    c.pass_by.ensures.ways (program_view c.args.program.now) (record { event = c.args.event; cells = c.args.memory.now.cells }) c.args.count (each_segment_view c.args.segments.now) states none
+
+pub returns-then-is_empty-clause-passed : goal.returns-then-is_empty-clause-passed
+returns-then-is_empty-clause-passed c =
+    let l = segments_length c.args.segments.now in
+    let states : length c.args.self.now.live.items ≡ length (each_segment_view c.args.segments.now) + 1 = omega (arith, l, c.requires.states) in
+    c.pass_by.ensures.passed (each_segment_view c.args.segments.now) states c.requires.passed
