@@ -2,7 +2,8 @@
 use crate::command_lines::{shelf, words};
 use row_files::{Files, NotTried, Row};
 use std::alloc::Global;
-use view_judging::{Asked, Progress, Stop, judge_lines, read_words};
+use view_inputs::{Asked, read_words};
+use view_judging::{Progress, Stop, judge_lines};
 use wv_arguments::Budgets;
 use wv_base::MemorySink;
 

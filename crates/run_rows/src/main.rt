@@ -10,7 +10,6 @@ mod command_lines;
 mod commands;
 mod listing;
 mod replies;
-mod sarif;
 mod viewing;
 
 use row_files::{Files, NotTried, Row, Trial, try_file};

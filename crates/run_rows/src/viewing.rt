@@ -1,10 +1,11 @@
 // Rows of views: a command line and its files, and behind them the status and what is printed.
 use crate::command_lines::{shelf, words};
 use crate::replies::begins_with_reply;
-use crate::sarif::lacking;
 use row_files::{Files, NotTried, Row};
+use row_sarif::lacking;
 use std::alloc::Global;
-use view_judging::{Asked, Form, read_words, shown, usage_reply};
+use view_inputs::{Asked, Form, read_words};
+use view_judging::{shown, usage_reply};
 use wv_arguments::{Budgets, Names};
 use wv_base::OutOfMemory;
 

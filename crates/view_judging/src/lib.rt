@@ -2,15 +2,10 @@
 //! or a SARIF log or a page of HTML; or a line of JSON for each task of a list. The reply is that of `witval::run`, over any shelf.
 #![tactic(auto)]
 
-mod command;
-mod keeping;
 mod listed;
-mod names;
-mod reply_sink;
 mod replying;
 mod showing;
 
-pub use command::{Asked, Form, read_words};
 pub use listed::{Progress, Stop, judge_lines};
 pub use replying::{Replied, replied_to, usage_reply};
 pub use showing::{Output, shown};

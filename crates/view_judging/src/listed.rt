@@ -1,8 +1,8 @@
 // Many judgements in order: a line of JSON for each, and the worst status at the end.
-use crate::names::names_in;
 use crate::replying::{Replied, replied_to};
 use serde_json::json;
 use std::alloc::Global;
+use view_inputs::names_in;
 use wv_arguments::{Budgets, Names};
 use wv_base::{OutOfMemory, Shelf, Sink, write_all};
 

@@ -1,6 +1,6 @@
 // The reply of the validator to three files.
-use crate::reply_sink::ReplySink;
 use std::alloc::Global;
+use view_inputs::ReplySink;
 use witval::run;
 use wv_arguments::{Budgets, Names};
 use wv_base::{OutOfMemory, Shelf, SteadyShelf};

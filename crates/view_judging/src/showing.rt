@@ -1,8 +1,7 @@
 // One judgement: the reply of the validator, and what there is to look at.
-use crate::command::Form;
-use crate::keeping::Keeping;
 use crate::replying::{Replied, replied_to};
 use std::alloc::Global;
+use view_inputs::{Form, Keeping};
 use view_pages::{log_of, page_of};
 use view_program::explain;
 use view_text::{File, Files, Messages, advice, push_listing, push_message};

@@ -1,19 +1,15 @@
 // The stages of the validator, in its order, up to the one that refuses or judges.
 ghost use Rattle.std.specs.Prelude.{◌≤◌};
 
-use crate::grammar::untaken;
 use crate::sets::explain_sets;
-use crate::shrinking::end_of;
-use crate::sources::{Spelling, read_source};
-use crate::violation::explain_sequence;
-use crate::words::word_at;
 use c_check::check;
 use c_core::{DataModel, Program, Property, Spot};
-use c_parser::{ParseFault, Source};
-use c_tokens::TokenFault;
+use c_parser::Source;
 use check_rules::{CheckCode, CheckFault};
 use std::alloc::Global;
-use view_text::{File, Files, Messages, advice, offset_of};
+use view_claims::explain_sequence;
+use view_grammar::{Spelling, explain_syntax, explain_tokens, read_source, word_text};
+use view_text::{File, Files, Messages, advice};
 use view_witness::{explain_schema, explain_task, explain_yaml};
 use wv_arguments::Budgets;
 use wv_base::OutOfMemory;
@@ -35,120 +31,6 @@ fn limited(conflicts: u64) -> u64
         MOST_CONFLICTS
     } else {
         conflicts
-    }
-}
-
-fn error(
-    alloc: Global,
-    code: &str,
-    file: File,
-    spot: Option<Spot>,
-    out: &mut Messages,
-) -> Result<(), OutOfMemory> {
-    let told = String::from_str(alloc, advice(code))?;
-    out.error(code, file, spot, told)
-}
-
-/// The word of a text that begins at a place; empty where none does.
-fn word_text(alloc: Global, text: &[u8], spot: Spot) -> Result<String, OutOfMemory> {
-    let word = word_at(text, offset_of(text, spot));
-    Ok(String::from_utf8_lossy(alloc, word)?)
-}
-
-/// What may be wrong where a byte begins no token.
-fn byte_text(alloc: Global, byte: u8) -> Result<String, OutOfMemory> {
-    let rule = advice("token");
-    match byte {
-        b'0'..=b'9' | b'.' => Ok(format!(in alloc;
-            "{rule}: floating point, or a constant that no type holds?"
-        )?),
-        b'"' | b'\'' => Ok(format!(in alloc;
-            "{rule}: this text or character isn't closed, or has an escape that isn't read"
-        )?),
-        b'/' => Ok(format!(in alloc; "{rule}: this comment isn't closed")?),
-        _ => Ok(format!(in alloc; "{rule}: the byte is {byte:#04x}")?),
-    }
-}
-
-/// A place of a program at which no token begins.
-fn token_text(alloc: Global, text: &[u8], spot: Spot) -> Result<String, OutOfMemory> {
-    match text.get(offset_of(text, spot)) {
-        Some(byte) => byte_text(alloc, *byte),
-        None => Ok(String::from_str(alloc, advice("token"))?),
-    }
-}
-
-fn explain_tokens(
-    alloc: Global,
-    files: &Files<'_>,
-    fault: TokenFault,
-    out: &mut Messages,
-) -> Result<(), OutOfMemory> {
-    match fault {
-        TokenFault::Token { line, column } => {
-            let spot = Spot { line, column };
-            let told = token_text(alloc, files.text(File::Program), spot)?;
-            out.error("token", File::Program, Some(spot), told)
-        }
-        TokenFault::Directive { line } => {
-            let spot = Spot { line, column: 1 };
-            error(alloc, "directive", File::Program, Some(spot), out)
-        }
-        TokenFault::OutOfMemory => Err(OutOfMemory),
-    }
-}
-
-/// The token at a place, which the grammar can't take.
-fn syntax_text(alloc: Global, text: &[u8], spot: Spot) -> Result<String, OutOfMemory> {
-    let found = word_text(alloc, text, spot)?;
-    let word = found.as_str();
-    let rule = advice("syntax");
-    if word.is_empty() {
-        Ok(String::from_str(alloc, rule)?)
-    } else {
-        Ok(format!(in alloc; "{rule}, `{word}`")?)
-    }
-}
-
-/// Where an item that begins at a place can't be taken any more.
-fn explain_item(
-    alloc: Global,
-    text: &[u8],
-    item: Spot,
-    out: &mut Messages,
-) -> Result<(), OutOfMemory> {
-    match untaken(alloc, text, item)? {
-        Some(spot) => {
-            let told = syntax_text(alloc, text, spot)?;
-            out.error("syntax", File::Program, Some(spot), told)
-        }
-        None => {
-            let told = String::from_str(
-                alloc,
-                "the file ends before this item does, or the item is too long to be looked into",
-            )?;
-            out.error("syntax", File::Program, Some(end_of(text)), told)
-        }
-    }
-}
-
-fn explain_syntax(
-    alloc: Global,
-    files: &Files<'_>,
-    fault: ParseFault,
-    out: &mut Messages,
-) -> Result<(), OutOfMemory> {
-    match fault {
-        ParseFault::Syntax { line, column } => {
-            let item = Spot { line, column };
-            explain_item(alloc, files.text(File::Program), item, out)?;
-            out.remark(
-                File::Program,
-                Some(item),
-                "it stands in the item that begins here; no pointers, struct, union, enum, typedef, switch, goto, sizeof or floating point are read",
-            )
-        }
-        ParseFault::OutOfMemory => Err(OutOfMemory),
     }
 }
 
@@ -318,7 +200,8 @@ pub fn explain(
         Ok(property) => explain_bytes(alloc, files, budgets, property, out),
         Err(_) => {
             let spot = Spot { line: 1, column: 1 };
-            error(alloc, "property", File::Property, Some(spot), out)
+            let told = String::from_str(alloc, advice("property"))?;
+            out.error("property", File::Property, Some(spot), told)
         }
     }
 }

@@ -7,7 +7,8 @@ mod listing;
 use listing::judge_list;
 use std::alloc::Global;
 use std::process::ExitCode;
-use view_judging::{Asked, read_words, shown, usage_reply};
+use view_inputs::{Asked, read_words};
+use view_judging::{shown, usage_reply};
 use wv_base::write_all;
 use wv_process::{FileShelf, OutSink, words_of};
 

@@ -1,11 +1,11 @@
 // An obligation that fails: its invariant, its place, and the values of the havoc run that ends there, by the names of their objects.
 use crate::binding::{claim_of_invariant, head};
 use crate::names::name_of;
-use crate::spelled::{declared_at, is_same_spot, type_word};
 use c_calls::changed;
 use c_core::{Program, Spot};
 use c_meaning::{Draw, DrawKind, Duty, DutyKind, size_of_object};
 use std::alloc::Global;
+use view_runs::{declared_at, is_same_spot, type_word};
 use view_text::{File, Files, Messages};
 use view_witness::{invariant_path, place_of_path, steps_of};
 use wv_base::OutOfMemory;

@@ -1,7 +1,7 @@
 use Rattle.std.proofs.Common.{◌<◌, ◌^◌, length, arith}
 use Rattle.c_tokens.specs.Reading.{Whole}
 use Rattle.c_parser.proofs.OrderlyTokens.{text_orderly}
-use Rattle.view_program.proofs.sources.read_source.Goals as goal
+use Rattle.view_grammar.proofs.sources.read_source.Goals as goal
 
 pub parse-requires : goal.parse-requires
 parse-requires c =

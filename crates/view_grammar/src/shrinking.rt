@@ -3,7 +3,7 @@ use crate::sources::tokens_of;
 use c_core::{Object, Program, Spot};
 use c_tokens::{Punct, Token, TokenKind};
 use std::alloc::Global;
-use view_text::{File, Files, Messages, advice, offset_of, spot_at};
+use view_text::{File, Files, Messages, advice};
 use wv_base::OutOfMemory;
 
 /// The first token of a line, and how many products, quotients and remainders the line has.
@@ -122,18 +122,4 @@ pub fn explain_recursion(
     let rule = advice("recursion");
     let told = format!(in alloc; "`{name}`: {rule}")?;
     out.error("recursion", File::Program, body_of(program, name), told)
-}
-
-/// The place behind the text; behind its last line, where that one ends.
-pub fn end_of(text: &[u8]) -> Spot {
-    let last = spot_at(text, text.len());
-    let first = Spot {
-        line: last.line,
-        column: 1,
-    };
-    if last.line == 1 || offset_of(text, first) < text.len() {
-        last
-    } else {
-        spot_at(text, text.len().saturating_sub(1))
-    }
 }

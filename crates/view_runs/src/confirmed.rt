@@ -1,14 +1,12 @@
-// A confirmation: how often each line was reached, the values that were drawn, the event that passes each segment; of invariants, each
-// obligation at its place.
-use crate::obligations::obligation_text;
+// A run that is confirmed: how often each line was reached, the values that were drawn, the event that passes each segment.
 use crate::spelled::{type_word, waypoint_text};
 use crate::tracker::Tracker;
 use c_core::Spot;
-use c_meaning::{Draw, DrawKind, Duty, DutyKind};
+use c_meaning::{Draw, DrawKind};
 use std::alloc::Global;
 use view_text::{File, Messages};
 use wv_base::OutOfMemory;
-use wv_schema::{Segment, Witness};
+use wv_schema::Segment;
 
 /// So many values are told.
 const MOST: usize = 200;
@@ -93,32 +91,5 @@ pub fn show_run(
     note_draws(alloc, draws, out)?;
     note_segments(alloc, segments, positions, tracker.found.as_slice(), out)?;
     out.confirm(lines_of(tracker));
-    Ok(())
-}
-
-/// What it means that an obligation of a kind holds.
-fn meaning_of(kind: DutyKind) -> &'static str {
-    match kind {
-        DutyKind::Location => "it holds whenever a havoc run reaches this statement",
-        DutyKind::Entry => "it holds whenever a havoc run comes to this loop",
-        DutyKind::Kept => "each turn of this loop keeps it",
-        DutyKind::Property => "no havoc run violates the property here",
-    }
-}
-
-/// Obligations that hold.
-pub fn show_obligations(
-    alloc: Global,
-    witness: &Witness,
-    duties: &[Duty],
-    out: &mut Messages,
-) -> Result<(), OutOfMemory> {
-    let mut index = 0u32;
-    for duty in duties {
-        index = index.saturating_add(1);
-        let told = obligation_text(alloc, witness, index, *duty, meaning_of(duty.kind))?;
-        out.note(File::Program, Some(duty.spot), told)?;
-    }
-    out.confirm(Vec::new(alloc));
     Ok(())
 }

@@ -70,6 +70,7 @@ pub fn waypoint_text(alloc: Global, waypoint: &Waypoint) -> Result<String, OutOf
     }
 }
 
+/// Whether two places are the same.
 pub fn is_same_spot(a: Spot, b: Spot) -> bool {
     a.line == b.line && a.column == b.column
 }

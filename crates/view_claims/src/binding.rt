@@ -1,11 +1,10 @@
 // A waypoint or an invariant that isn't bound to the program.
-use crate::constraint::{Lack, lack_of, words_of};
 use crate::names::{at_loop, at_statement, names_of, names_text};
 use crate::nearest::{Wanted, columns, columns_text, first_spot, nearest_line};
-use crate::segments::Numbered;
-use crate::spelled::{invariant_word, place_text, spot_of, way_word};
 use c_core::{PlaceKind, Program};
 use std::alloc::Global;
+use view_grammar::{Lack, lack_of, words_of};
+use view_runs::{Numbered, invariant_word, place_text, spot_of, way_word};
 use view_text::{File, Files, Messages, wanted_place};
 use view_witness::{place_of_path, steps_of};
 use way_bind::BindFault;

@@ -2,7 +2,6 @@
 use crate::brackets::Walk;
 use crate::fronts::Front;
 use crate::sources::tokens_of;
-use crate::spelled::is_same_spot;
 use c_core::Spot;
 use c_tokens::{Punct, Token, TokenKind};
 use std::alloc::Global;
@@ -146,10 +145,15 @@ fn first_untaken(alloc: Global, item: &Item<'_>) -> Result<usize, OutOfMemory> {
     last_front(alloc, item, from)
 }
 
+/// Whether a token stands at a place.
+fn is_at(token: &Token, spot: Spot) -> bool {
+    token.spot.line == spot.line && token.spot.column == spot.column
+}
+
 /// How many tokens stand before the one at a place.
 fn tokens_before(tokens: &[Token], spot: Spot) -> usize {
     for (index, token) in tokens.iter().enumerate() {
-        if is_same_spot(token.spot, spot) {
+        if is_at(token, spot) {
             return index;
         }
     }
@@ -180,7 +184,7 @@ fn starts_of(alloc: Global, text: &[u8], tokens: &[Token]) -> Result<Vec<usize>,
     let mut spot = first.spot;
     for (at, byte) in text.iter().enumerate() {
         if let Some(token) = tokens.get(starts.len()) {
-            if is_same_spot(token.spot, spot) {
+            if is_at(token, spot) {
                 starts.push(at)?;
             }
         }

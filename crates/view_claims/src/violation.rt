@@ -1,16 +1,12 @@
 // A violation sequence: a waypoint that isn't bound, or the given run.
 use crate::binding::{claim_of_waypoint, explain_claim, number_in};
-use crate::confirmed::show_run;
-use crate::draws::note_unfixed;
 use crate::few::{bind, segments_of};
 use crate::nearest::line_count;
-use crate::segments::waypoint_at;
-use crate::tracker::Tracker;
-use crate::unmatched::explain_unmatched;
 use c_core::{Program, Spot};
 use c_meaning::{Choices, End, Run};
 use flow_machine::run_machine;
 use std::alloc::Global;
+use view_runs::{Tracker, explain_unmatched, note_unfixed, show_run, waypoint_at};
 use view_text::{File, Files, Messages};
 use view_witness::waypoint_path;
 use way_bind::BindFault;

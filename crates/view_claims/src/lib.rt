@@ -1,0 +1,16 @@
+//! What a witness claims of a checked program, and what becomes of it: a waypoint or an invariant that isn't bound, a violation sequence
+//! whose run is as it says or isn't, an obligation of invariant sets that fails, that isn't decided or that holds.
+#![tactic(auto)]
+
+mod binding;
+mod few;
+mod names;
+mod nearest;
+mod obligations;
+mod unbound;
+mod verdict;
+mod violation;
+
+pub use unbound::explain_unbound_invariant;
+pub use verdict::explain_verdict;
+pub use violation::explain_sequence;

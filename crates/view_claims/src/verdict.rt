@@ -1,0 +1,85 @@
+// What becomes of the obligations of invariant sets: one fails, the budget is spent on one, or all hold.
+use crate::obligations::{explain_failed, note_invariant, obligation_text};
+use c_core::Program;
+use c_duties::duties;
+use c_meaning::{Cause, Duty, DutyKind, PlacedInvariant, Verdict};
+use std::alloc::Global;
+use view_text::{File, Files, Messages};
+use wv_base::{OutOfMemory, Seq};
+use wv_schema::Witness;
+
+/// What it means that an obligation of a kind holds.
+fn meaning_of(kind: DutyKind) -> &'static str {
+    match kind {
+        DutyKind::Location => "it holds whenever a havoc run reaches this statement",
+        DutyKind::Entry => "it holds whenever a havoc run comes to this loop",
+        DutyKind::Kept => "each turn of this loop keeps it",
+        DutyKind::Property => "no havoc run violates the property here",
+    }
+}
+
+/// Obligations that hold.
+fn show_obligations(
+    alloc: Global,
+    witness: &Witness,
+    duties: &[Duty],
+    out: &mut Messages,
+) -> Result<(), OutOfMemory> {
+    let mut index = 0u32;
+    for duty in duties {
+        index = index.saturating_add(1);
+        let told = obligation_text(alloc, witness, index, *duty, meaning_of(duty.kind))?;
+        out.note(File::Program, Some(duty.spot), told)?;
+    }
+    out.confirm(Vec::new(alloc));
+    Ok(())
+}
+
+/// An obligation on which the budget was spent.
+fn explain_conflicts(
+    alloc: Global,
+    files: &Files<'_>,
+    program: &Program,
+    witness: &Witness,
+    invariants: &Seq<PlacedInvariant>,
+    index: u32,
+    count: u64,
+    out: &mut Messages,
+) -> Result<(), OutOfMemory> {
+    let list = duties(alloc, program, invariants)?;
+    let Some(duty) = list.get((index as usize).saturating_sub(1)) else {
+        return Ok(());
+    };
+    let why = format!(in alloc;
+        "the budget is spent on it (conflicts: {count}); a larger --conflicts, or an invariant that says more of what it needs, may decide"
+    )?;
+    let told = obligation_text(alloc, witness, index, *duty, why.as_str())?;
+    out.warning("undecided", File::Program, Some(duty.spot), told)?;
+    note_invariant(alloc, files, witness, *duty, out)
+}
+
+/// What there is to say of a verdict on invariant sets.
+pub fn explain_verdict(
+    alloc: Global,
+    files: &Files<'_>,
+    program: &Program,
+    witness: &Witness,
+    invariants: &Seq<PlacedInvariant>,
+    verdict: &Verdict,
+    out: &mut Messages,
+) -> Result<(), OutOfMemory> {
+    match verdict {
+        Verdict::CorrectnessNot { index, duty, draws } => {
+            let draws = draws.as_slice();
+            explain_failed(alloc, files, program, witness, *index, *duty, draws, out)
+        }
+        Verdict::Undecided(Cause::Conflicts { index, count }) => explain_conflicts(
+            alloc, files, program, witness, invariants, *index, *count, out,
+        ),
+        Verdict::CorrectnessConfirmed { .. } => {
+            let list = duties(alloc, program, invariants)?;
+            show_obligations(alloc, witness, list.as_slice(), out)
+        }
+        _ => Ok(()),
+    }
+}
