@@ -90,20 +90,24 @@ fn number<'a>(alloc: Global, name: &'a str, most: u64, default: &'a str, help: &
         .help(help)
 }
 
-fn command<'a>(alloc: Global) -> Result<Command<'a>, AllocError> {
-    let mode = Arg::new(alloc, "mode")
-        .value_name("validate")
-        .help("May stand, as in the words of witval");
-    let command = Command::new(alloc, "witval-view")
-        .about(ABOUT)
-        .after_help(AFTER)
-        .arg(mode)?
+fn with_files<'a>(alloc: Global, command: Command<'a>) -> Result<Command<'a>, AllocError> {
+    let command = command
         .arg(file(alloc, "program", "The C program, preprocessed")?)?
         .arg(file(alloc, "property", "The property")?)?
         .arg(file(alloc, "witness", "The witness, format 2.0")?)?
-        .arg(list(alloc)?)?
+        .arg(list(alloc)?)?;
+    Ok(command)
+}
+
+fn with_forms<'a>(alloc: Global, command: Command<'a>) -> Result<Command<'a>, AllocError> {
+    let command = command
         .arg(flag(alloc, "sarif", "html", "Prints a SARIF 2.1.0 log instead")?)?
-        .arg(flag(alloc, "html", "sarif", "Prints one page of HTML instead")?)?
+        .arg(flag(alloc, "html", "sarif", "Prints one page of HTML instead")?)?;
+    Ok(command)
+}
+
+fn with_budgets<'a>(alloc: Global, command: Command<'a>) -> Result<Command<'a>, AllocError> {
+    let command = command
         .arg(number(
             alloc,
             "steps",
@@ -119,6 +123,19 @@ fn command<'a>(alloc: Global) -> Result<Command<'a>, AllocError> {
             "The most conflicts on one obligation, 1 to 1000000",
         ))?;
     Ok(command)
+}
+
+fn command<'a>(alloc: Global) -> Result<Command<'a>, AllocError> {
+    let mode = Arg::new(alloc, "mode")
+        .value_name("validate")
+        .help("May stand, as in the words of witval");
+    let command = Command::new(alloc, "witval-view")
+        .about(ABOUT)
+        .after_help(AFTER)
+        .arg(mode)?;
+    let command = with_files(alloc, command)?;
+    let command = with_forms(alloc, command)?;
+    with_budgets(alloc, command)
 }
 
 fn budgets(matches: &ArgMatches<'_>) -> Budgets {
