@@ -64,7 +64,7 @@ impl Control {
 }
 
 /// Tells the watcher an event.
-#[inline]
+#[inline(always)]
 pub fn tell<W: Watcher>(run: &Running, watcher: &mut W, event: Event) -> Result<(), Halt>
     ensures seen { OnOk result (W.seen watcher.new ≡ W.after event run.now.memory.cells (W.seen watcher.old)) }
     ensures refused { IsOkUnless result Halt.NoMemory }

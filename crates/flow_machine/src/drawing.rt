@@ -1,5 +1,6 @@
 // Drawn values, and the cells of declared names.
-ghost use Rattle.std.specs.Prelude.{◌≡◌, ◌≤◌, ◌<◌, ◌+◌, vec_len, vec_capacity, OnOk};
+ghost use Rattle.std.specs.Prelude.{◌≡◌, ◌≤◌, ◌<◌, ◌+◌, vec_len, vec_capacity, IfOk, IsOk, OnOk};
+ghost use Rattle.c_meaning.specs.Acts.{Go};
 ghost use Rattle.c_meaning.specs.Run as runs;
 ghost use Rattle.c_meaning.specs.Watching.{seen_by};
 ghost use Rattle.run_state.specs.Interpreting.{same};
@@ -7,13 +8,14 @@ ghost use Rattle.flow_laws.specs.Acting.{program_in, input_given, declared, cell
 ghost use Rattle.flow_machine.specs.Rooms.{GoesInRoom, IsCounted, KeepsRooms, Lasts};
 ghost use Rattle.flow_machine.specs.Views.{Gives, state_of};
 
-use crate::control::{Running, room, tell};
+use crate::control::{Running, room};
 use c_core::{IntType, Spot, convert};
 use c_meaning::{Draw, DrawKind, Event, Watcher};
 use flow_code::Code;
 use run_state::{Halt, add_cells, count_unfixed, take_choice};
+use wv_base::OutOfMemory;
 
-/// A drawn value.
+/// A drawn value. An error that holds nothing lets the value stay in registers.
 #[inline(always)]
 pub fn draw<W: Watcher>(
     code: &Code,
@@ -21,25 +23,25 @@ pub fn draw<W: Watcher>(
     kind: DrawKind,
     spot: Spot,
     ty: IntType,
-) -> Result<i128, Halt>
-    ensures gives { (x : W.Seen) → Gives same result (state_of run.new x) (runs.draw (program_in code.now) W.Seen (seen_by W.after) kind spot ty (state_of run.old x)) }
+) -> Result<i128, OutOfMemory>
+    ensures gives { (x : W.Seen) → IfOk result (λ v. runs.draw (program_in code.now) W.Seen (seen_by W.after) kind spot ty (state_of run.old x) ≡ Go v (state_of run.new x)) }
     ensures rooms { KeepsRooms run.old run.new }
     ensures counts { OnOk result ((vec_len run.new.draws ≡ vec_len run.old.draws + 1) × (run.new.unfixed ≤ run.old.unfixed + 1)) }
-    ensures lasting { IsCounted run.old → vec_len run.old.draws < vec_capacity run.old.draws → Lasts result }
+    ensures within { IsCounted run.old → vec_len run.old.draws < vec_capacity run.old.draws → IsOk result }
 {
     let taken = take_choice(&mut run.left, kind, spot);
     let value = convert(code.model, ty, taken.unwrap_or(0));
-    run.unfixed = count_unfixed(run.unfixed, taken)?;
-    let drawn = Draw {
+    let Ok(unfixed) = count_unfixed(run.unfixed, taken) else {
+        return Err(OutOfMemory);
+    };
+    run.unfixed = unfixed;
+    run.draws.push(Draw {
+        value,
         spot,
         ty,
-        value,
         from: kind,
-    };
-    match run.draws.push(drawn) {
-        Ok(()) => Ok(value),
-        Err(_) => Err(Halt::NoMemory),
-    }
+    })?;
+    Ok(value)
 }
 
 /// The call of an input function.
@@ -51,13 +53,13 @@ pub fn input<W: Watcher>(
     spot: Spot,
     close: Spot,
     ty: IntType,
-) -> Result<i128, Halt>
-    ensures gives { Gives same result (state_of run.new (W.seen watcher.new)) (input_given code.now W.Seen W.after spot close ty (state_of run.old (W.seen watcher.old))) }
+) -> Result<i128, OutOfMemory>
+    ensures gives { IfOk result (λ v. input_given code.now W.Seen W.after spot close ty (state_of run.old (W.seen watcher.old)) ≡ Go v (state_of run.new (W.seen watcher.new))) }
     ensures rooms { KeepsRooms run.old run.new }
-    ensures lasting { W.sure → IsCounted run.old → vec_len run.old.draws < vec_capacity run.old.draws → Lasts result }
+    ensures within { W.sure → IsCounted run.old → vec_len run.old.draws < vec_capacity run.old.draws → IsOk result }
 {
     let value = draw::<W>(code, run, DrawKind::Input, spot, ty)?;
-    tell(run, watcher, Event::Return(close, Some(value)))?;
+    watcher.see(Event::Return(close, Some(value)), &run.memory)?;
     Ok(value)
 }
 

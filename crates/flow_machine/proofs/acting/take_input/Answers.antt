@@ -1,4 +1,4 @@
-use Rattle.std.proofs.Common.{rules, ◌≡◌, Err}
+use Rattle.std.proofs.Common.{rules}
 use mir.Val.{SFits}
 use mir.Syntax.{w128}
 use Rattle.std.proofs.lemmas.Int.{to_z-of_z}
@@ -13,11 +13,6 @@ returns-clause-acts g c =
     input_finished c.args.code.now g.W.Watcher.Seen g.W.Watcher.after c.args.spot c.args.close c.args.ty c.args.into.now (control_of c.args.control.now) (control_of c.finish.new.control)
     (state_of c.args.run.now (g.W.Watcher.seen c.args.watcher.now)) (state_of c.input.new.run (g.W.Watcher.seen c.input.new.watcher))
     (state_of c.finish.new.run (g.W.Watcher.seen c.finish.new.watcher)) c.in_ok-value.value c.finish.result c.in_ok-value.ensures.gives f
-
-pub returns-in_err-value-clause-lasting : goal.returns-in_err-value-clause-lasting
-returns-in_err-value-clause-lasting g c = λ sure spare counted room.
-    let e : c.from_residual.result ≡ Err c.in_err-value.field-0.0 = search rules in
-    rw e (c.in_err-value.ensures.lasting sure counted room)
 
 pub returns-clause-lasting : goal.returns-clause-lasting
 returns-clause-lasting g c = λ sure spare counted room. c.finish.ensures.lasting sure spare

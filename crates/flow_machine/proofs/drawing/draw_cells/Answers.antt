@@ -1,23 +1,11 @@
-use Rattle.std.proofs.Common.{rules, ◌≡◌, Err, sym, ◌∙◌, arith}
+use Rattle.std.proofs.Common.{rules, sym, ◌∙◌, arith}
 use mir.Val.{SFits}
 use mir.Syntax.{w128}
 use Rattle.std.proofs.lemmas.Int.{to_z-of_z}
 use Rattle.flow_laws.specs.Acting.{cells_drawn}
 use Rattle.flow_machine.specs.Views.{state_of}
-use Rattle.flow_machine.proofs.Drawn.{draw_halts, drawn_on, drawn_out}
+use Rattle.flow_machine.proofs.Drawn.{drawn_on, drawn_out}
 use Rattle.flow_machine.proofs.drawing.draw_cells.Goals as goal
-
-pub returns-in_err-value-clause-gives : goal.returns-in_err-value-clause-gives
-returns-in_err-value-clause-gives g c = λ x.
-    let e : c.from_residual.result ≡ Err c.in_err-value.field-0.0 = search rules in
-    draw_halts c.args.code.now g.W.Watcher.Seen g.W.Watcher.after c.args.spot c.args.object c.args.ty c.loop-index.index c.args.size c.loop-index-test.true (state_of c.loop-index.run x)
-    (state_of c.draw.new.run x) c.in_err-value.field-0.0 c.from_residual.result _ e (c.loop-index.invariant.gives x) (c.in_err-value.ensures.gives x)
-
-pub returns-in_err-value-clause-lasting : goal.returns-in_err-value-clause-lasting
-returns-in_err-value-clause-lasting g c = λ counted room.
-    let e : c.from_residual.result ≡ Err c.in_err-value.field-0.0 = search rules in
-    let i = c.loop-index.invariant in
-    rw e (c.in_err-value.ensures.lasting (i.counted counted) (omega (arith, room, i.draws, i.rooms.1, c.loop-index-test.true)))
 
 pub loop-index-preserved : goal.loop-index-preserved
 loop-index-preserved g c =
