@@ -50,7 +50,10 @@ fn report_program(
         return println!(rt; "{name}: no program");
     };
     match compare(rt.alloc(), &program, budget) {
-        Ok(found) => println!(rt; "{name}: {} runs, {} differ", found.tried, found.wrong),
+        Ok(found) => println!(rt;
+            "{name}: {} runs, {} differ; {:?} with {} steps",
+            found.tried, found.wrong, found.end, found.steps
+        ),
         Err(OutOfMemory) => println!(rt; "{name}: out of memory"),
     }
 }
