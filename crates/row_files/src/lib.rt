@@ -13,8 +13,8 @@
 //! witnesses, in which `hash` stands for HASH and `formula` for FORMULA and `edits` are made (`OLD | NEW | OLD | NEW ..`, the first
 //! occurrence of each), `segments` are put behind them, and `yaml` is a witness's text. Segments stand between the words `then`, the
 //! waypoints of one between semicolons, and a waypoint is its action, its type, its line or `line:column`, and its constraint.
-//! `property` is a property, `words` is a command line over the files `p`, `q` and `w`, `model` is a data model or `both`, and `text` is a
-//! list.
+//! `property` is a property, `words` is a command line over the files `p`, `q` and `w`, `model` is a data model or `both`, `text` is a
+//! list, and `fails` is the call of a device that fails.
 //!
 //! `escapes.rt` says how control characters, bytes and repeated texts are written.
 #![tactic(auto)]

@@ -80,8 +80,8 @@ impl Row {
 
 fn is_field(name: &str) -> bool {
     match name {
-        "answer" | "edits" | "formula" | "hash" | "model" | "program" => true,
-        "property" | "segments" | "source" | "text" => true,
+        "answer" | "edits" | "fails" | "formula" | "hash" | "model" => true,
+        "program" | "property" | "segments" | "source" | "text" => true,
         "witness" | "words" | "yaml" => true,
         _ => false,
     }

@@ -4,20 +4,35 @@ use row_files::{Files, NotTried, Row};
 use std::alloc::Global;
 use std::str;
 use witval::run;
-use wv_base::{MemorySink, OutOfMemory};
+use wv_base::{MemoryShelf, MemorySink, OutOfMemory};
 
-/// The status, and behind a blank the report.
-pub fn told(files: &impl Files, row: &Row) -> Result<String, NotTried> {
-    let alloc = files.alloc();
-    let mut shelf = shelf(files, row)?;
+/// A sink of which a write takes few bytes, so that a report is written in several.
+pub fn sink(alloc: Global) -> Result<MemorySink, OutOfMemory> {
+    let sink = MemorySink::new(alloc, 5000, 7)?;
+    Ok(sink)
+}
+
+/// The status of a row's command line over these devices, and behind a blank what was written.
+pub fn told_over(
+    alloc: Global,
+    row: &Row,
+    shelf: &mut MemoryShelf,
+    out: &mut MemorySink,
+) -> Result<String, NotTried> {
     let words = words(alloc, row.wanted_text("words")?)?;
-    // A write takes few bytes, so that a report is written in several.
-    let mut out = MemorySink::new(alloc, 5000, 7)?;
-    let status = run(alloc, &words, &mut shelf, &mut out);
+    let status = run(alloc, &words, shelf, out);
     match str::from_utf8(out.bytes()) {
         Ok(report) => Ok(format!(in alloc; "{status} {report}")?),
         Err(_) => Ok(format!(in alloc; "{status} and a report that isn't UTF-8")?),
     }
+}
+
+/// The same over devices that don't fail.
+pub fn told(files: &impl Files, row: &Row) -> Result<String, NotTried> {
+    let alloc = files.alloc();
+    let mut shelf = shelf(files, row)?;
+    let mut out = sink(alloc)?;
+    told_over(alloc, row, &mut shelf, &mut out)
 }
 
 /// A report with `_` for each drawn value.
