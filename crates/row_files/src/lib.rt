@@ -1,5 +1,5 @@
 //! Files of rows, and how they are tried. A row is a small input and what must be answered to it, written down by hand or taken from an
-//! outside tool. `try_file` prints each row that differs, with what was wanted and what came.
+//! outside tool. `try_rows` prints each row that differs, with what was wanted and what came, and then `N rows, M differ`.
 //!
 //! A file is of lines. `# ` begins a comment, and an empty line says nothing.
 //! - `rows KIND FIELD` begins a section: `KIND` says what is tried (the kinds stand in `came` of the programs `rows` and `run_rows`),
@@ -26,4 +26,4 @@ mod trial;
 
 pub use table::{NotTried, Row};
 pub use texts::{program, witness};
-pub use trial::{Files, Trial, try_file};
+pub use trial::{Files, Trial, try_rows};

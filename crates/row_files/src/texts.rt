@@ -5,7 +5,7 @@ use std::alloc::Global;
 use wv_base::OutOfMemory;
 
 /// Files one behind another.
-fn read_each(files: &impl Files, names: &str) -> Result<String, NotTried> {
+fn read_each(files: &Files<'_>, names: &str) -> Result<String, NotTried> {
     let mut text = String::new(files.alloc());
     for name in names.split_whitespace() {
         text.push_str(files.file(name)?.as_str())?;
@@ -14,7 +14,7 @@ fn read_each(files: &impl Files, names: &str) -> Result<String, NotTried> {
 }
 
 /// A row's program: files, and behind them its own lines.
-pub fn program(files: &impl Files, row: &Row) -> Result<Option<Vec<u8>>, NotTried> {
+pub fn program(files: &Files<'_>, row: &Row) -> Result<Option<Vec<u8>>, NotTried> {
     let names = row.text("program")?;
     let source = row.bytes("source");
     if names.is_none() && source.is_none() {
@@ -116,7 +116,7 @@ fn push_segments(alloc: Global, out: &mut String, segments: &str) -> Result<(), 
 }
 
 /// A row's witness: files with what is replaced in them, its own lines, and its segments.
-pub fn witness(files: &impl Files, row: &Row) -> Result<Option<Vec<u8>>, NotTried> {
+pub fn witness(files: &Files<'_>, row: &Row) -> Result<Option<Vec<u8>>, NotTried> {
     let alloc = files.alloc();
     let names = row.text("witness")?;
     let yaml = row.bytes("yaml");

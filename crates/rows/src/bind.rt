@@ -46,7 +46,7 @@ fn fault(alloc: Global, fault: BindFault) -> Result<String, AllocError> {
 }
 
 /// What is told of a row's segments.
-pub fn told(files: &impl Files, row: &Row) -> Result<String, NotTried> {
+pub fn told(files: &Files<'_>, row: &Row) -> Result<String, NotTried> {
     let alloc = files.alloc();
     let program = checked_program(files, row)?;
     let witness = read_witness(files, row)?;
@@ -76,7 +76,7 @@ fn push_call(alloc: Global, text: &mut String, call: &Given) -> Result<(), OutOf
 }
 
 /// What a row's segments give to the input calls of its program.
-fn given_by(files: &impl Files, row: &Row) -> Result<Seq<Given>, NotTried> {
+fn given_by(files: &Files<'_>, row: &Row) -> Result<Seq<Given>, NotTried> {
     let alloc = files.alloc();
     let program = checked_program(files, row)?;
     let witness = read_witness(files, row)?;
@@ -90,7 +90,7 @@ fn given_by(files: &impl Files, row: &Row) -> Result<Seq<Given>, NotTried> {
 }
 
 /// Each input call.
-pub fn calls(files: &impl Files, row: &Row) -> Result<String, NotTried> {
+pub fn calls(files: &Files<'_>, row: &Row) -> Result<String, NotTried> {
     let calls = given_by(files, row)?;
     let mut text = String::new(files.alloc());
     for call in calls.as_slice() {
@@ -100,7 +100,7 @@ pub fn calls(files: &impl Files, row: &Row) -> Result<String, NotTried> {
 }
 
 /// The calls with values, or `none`.
-pub fn values(files: &impl Files, row: &Row) -> Result<String, NotTried> {
+pub fn values(files: &Files<'_>, row: &Row) -> Result<String, NotTried> {
     let calls = given_by(files, row)?;
     let mut text = String::new(files.alloc());
     for call in calls.as_slice() {

@@ -51,7 +51,7 @@ fn in_models(alloc: Global, source: &Source, models: &str) -> Result<String, Not
 }
 
 /// What is told of a row's source.
-pub fn told(files: &impl Files, row: &Row) -> Result<String, NotTried> {
+pub fn told(files: &Files<'_>, row: &Row) -> Result<String, NotTried> {
     let alloc = files.alloc();
     let models = row.wanted_text("model")?;
     let Some(text) = program(files, row)? else {
@@ -65,7 +65,7 @@ pub fn told(files: &impl Files, row: &Row) -> Result<String, NotTried> {
 }
 
 /// A row's program, which has to be one in ILP32.
-pub fn checked_program(files: &impl Files, row: &Row) -> Result<Program, NotTried> {
+pub fn checked_program(files: &Files<'_>, row: &Row) -> Result<Program, NotTried> {
     let alloc = files.alloc();
     let Some(text) = program(files, row)? else {
         return Err(NotTried::Lacks("program"));

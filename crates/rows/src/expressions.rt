@@ -111,7 +111,7 @@ fn first_test<'a>(source: &'a Source) -> Option<&'a RawExpr> {
 }
 
 /// What a row's text is as a whole expression of a source: as the test of an `if`.
-pub fn in_source(files: &impl Files, row: &Row) -> Result<String, NotTried> {
+pub fn in_source(files: &Files<'_>, row: &Row) -> Result<String, NotTried> {
     let alloc = files.alloc();
     let text = row.wanted_text("text")?;
     let source = format!(in alloc; "int f() {{ if ({text}) ; }}")?;
@@ -134,7 +134,7 @@ fn fault(alloc: Global, fault: ExprFault) -> Result<String, AllocError> {
 }
 
 /// What a row's text is as the expression of a witness.
-pub fn in_witness(files: &impl Files, row: &Row) -> Result<String, NotTried> {
+pub fn in_witness(files: &Files<'_>, row: &Row) -> Result<String, NotTried> {
     let alloc = files.alloc();
     match parse_expr(alloc, row.wanted_text("text")?.as_bytes()) {
         Ok(expr) => Ok(lisp(alloc, &expr)?),
@@ -143,7 +143,7 @@ pub fn in_witness(files: &impl Files, row: &Row) -> Result<String, NotTried> {
 }
 
 /// `read`, or the cause for which a row's text is no expression of a witness.
-pub fn is_in_witness(files: &impl Files, row: &Row) -> Result<String, NotTried> {
+pub fn is_in_witness(files: &Files<'_>, row: &Row) -> Result<String, NotTried> {
     let alloc = files.alloc();
     match parse_expr(alloc, row.wanted_text("text")?.as_bytes()) {
         Ok(_) => Ok(String::from_str(alloc, "read")?),
@@ -152,7 +152,7 @@ pub fn is_in_witness(files: &impl Files, row: &Row) -> Result<String, NotTried> 
 }
 
 /// What a row's text is as a constraint on a result.
-pub fn on_result(files: &impl Files, row: &Row) -> Result<String, NotTried> {
+pub fn on_result(files: &Files<'_>, row: &Row) -> Result<String, NotTried> {
     let alloc = files.alloc();
     match parse_result(alloc, row.wanted_text("text")?.as_bytes()) {
         Ok(test) => {

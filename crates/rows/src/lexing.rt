@@ -62,7 +62,7 @@ fn shown(alloc: Global, answer: Result<Seq<Token>, TokenFault>) -> Result<String
 }
 
 /// The tokens of a row's source, or the fault.
-pub fn told(files: &impl Files, row: &Row) -> Result<String, NotTried> {
+pub fn told(files: &Files<'_>, row: &Row) -> Result<String, NotTried> {
     let Some(text) = program(files, row)? else {
         return Err(NotTried::Lacks("source"));
     };
@@ -70,7 +70,7 @@ pub fn told(files: &impl Files, row: &Row) -> Result<String, NotTried> {
 }
 
 /// The same where no directive may stand.
-pub fn told_plain(files: &impl Files, row: &Row) -> Result<String, NotTried> {
+pub fn told_plain(files: &Files<'_>, row: &Row) -> Result<String, NotTried> {
     let Some(text) = program(files, row)? else {
         return Err(NotTried::Lacks("source"));
     };

@@ -4,7 +4,7 @@ use wv_schema::{Witness, tree_of, witness_of};
 use wv_yaml::{Tree, read};
 
 /// A row's witness as a tree.
-fn tree(files: &impl Files, row: &Row) -> Result<Tree, NotTried> {
+fn tree(files: &Files<'_>, row: &Row) -> Result<Tree, NotTried> {
     let Some(bytes) = witness(files, row)? else {
         return Err(NotTried::Lacks("witness"));
     };
@@ -15,7 +15,7 @@ fn tree(files: &impl Files, row: &Row) -> Result<Tree, NotTried> {
 }
 
 /// A row's witness, which has to be one.
-pub fn read_witness(files: &impl Files, row: &Row) -> Result<Witness, NotTried> {
+pub fn read_witness(files: &Files<'_>, row: &Row) -> Result<Witness, NotTried> {
     let tree = tree(files, row)?;
     match witness_of(files.alloc(), &tree) {
         Ok(witness) => Ok(witness),
@@ -24,7 +24,7 @@ pub fn read_witness(files: &impl Files, row: &Row) -> Result<Witness, NotTried> 
 }
 
 /// Whether the tree of what is read is the tree of the text.
-pub fn tree_again(files: &impl Files, row: &Row) -> Result<String, NotTried> {
+pub fn tree_again(files: &Files<'_>, row: &Row) -> Result<String, NotTried> {
     let alloc = files.alloc();
     let tree = tree(files, row)?;
     let witness = read_witness(files, row)?;

@@ -389,7 +389,7 @@ pub fn refused(alloc: Global, fault: ParseFault) -> Result<String, AllocError> {
 }
 
 /// The items of a row's source, or where the first that fits no form stands.
-pub fn told(files: &impl Files, row: &Row) -> Result<String, NotTried> {
+pub fn told(files: &Files<'_>, row: &Row) -> Result<String, NotTried> {
     let alloc = files.alloc();
     let Some(text) = program(files, row)? else {
         return Err(NotTried::Lacks("source"));
@@ -406,7 +406,7 @@ pub fn told(files: &impl Files, row: &Row) -> Result<String, NotTried> {
 }
 
 /// `read`, or where the first item that fits no form stands.
-pub fn is_read(files: &impl Files, row: &Row) -> Result<String, NotTried> {
+pub fn is_read(files: &Files<'_>, row: &Row) -> Result<String, NotTried> {
     let alloc = files.alloc();
     let Some(text) = program(files, row)? else {
         return Err(NotTried::Lacks("source"));

@@ -13,7 +13,7 @@ pub fn words(alloc: Global, line: &str) -> Result<Vec<String>, OutOfMemory> {
 }
 
 /// The files that a row gives: its program is `p`, its property is `q`, its witness is `w`.
-pub fn shelf(files: &impl Files, row: &Row) -> Result<MemoryShelf, NotTried> {
+pub fn shelf(files: &Files<'_>, row: &Row) -> Result<MemoryShelf, NotTried> {
     let mut shelf = MemoryShelf::new(files.alloc(), 4096);
     if let Some(program) = program(files, row)? {
         shelf.put("p", program.as_slice())?;

@@ -28,7 +28,7 @@ pub fn told_over(
 }
 
 /// The same over devices that don't fail.
-pub fn told(files: &impl Files, row: &Row) -> Result<String, NotTried> {
+pub fn told(files: &Files<'_>, row: &Row) -> Result<String, NotTried> {
     let alloc = files.alloc();
     let mut shelf = shelf(files, row)?;
     let mut out = sink(alloc)?;
@@ -52,7 +52,7 @@ fn without_values(alloc: Global, report: &str) -> Result<String, OutOfMemory> {
 }
 
 /// The same without the values: which of those that fit is shown is the solver's choice.
-pub fn told_without_values(files: &impl Files, row: &Row) -> Result<String, NotTried> {
+pub fn told_without_values(files: &Files<'_>, row: &Row) -> Result<String, NotTried> {
     let report = told(files, row)?;
     Ok(without_values(files.alloc(), report.as_str())?)
 }

@@ -26,7 +26,7 @@ fn failing(row: &Row) -> Result<Failing, NotTried> {
 }
 
 /// The status, and behind a blank what was written.
-pub fn told(files: &impl Files, row: &Row) -> Result<String, NotTried> {
+pub fn told(files: &Files<'_>, row: &Row) -> Result<String, NotTried> {
     let alloc = files.alloc();
     let mut shelf = shelf(files, row)?;
     let mut out = sink(alloc)?;

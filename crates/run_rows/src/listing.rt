@@ -22,7 +22,7 @@ fn status_of(judged: Result<u8, Stop>) -> u8 {
     }
 }
 
-fn listed(files: &impl Files, row: &Row, budgets: Budgets) -> Result<String, NotTried> {
+fn listed(files: &Files<'_>, row: &Row, budgets: Budgets) -> Result<String, NotTried> {
     let alloc = files.alloc();
     let mut shelf = shelf(files, row)?;
     let mut out = MemorySink::new(alloc, 65536, 4096)?;
@@ -34,7 +34,7 @@ fn listed(files: &impl Files, row: &Row, budgets: Budgets) -> Result<String, Not
 }
 
 /// The status, and behind a blank what is printed.
-pub fn told(files: &impl Files, row: &Row) -> Result<String, NotTried> {
+pub fn told(files: &Files<'_>, row: &Row) -> Result<String, NotTried> {
     let alloc: Global = files.alloc();
     let words = words(alloc, row.wanted_text("words")?)?;
     match read_words(alloc, words.as_slice())? {

@@ -25,7 +25,7 @@ fn validate_words(alloc: Global, line: &str) -> Result<Vec<String>, OutOfMemory>
 }
 
 /// Whether a text begins with the status and the reply of the top call.
-pub fn begins_with_reply(files: &impl Files, row: &Row, text: &str) -> Result<bool, NotTried> {
+pub fn begins_with_reply(files: &Files<'_>, row: &Row, text: &str) -> Result<bool, NotTried> {
     let alloc = files.alloc();
     let words = validate_words(alloc, row.wanted_text("words")?)?;
     let mut shelf = shelf(files, row)?;

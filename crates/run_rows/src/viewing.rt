@@ -11,7 +11,7 @@ use wv_base::OutOfMemory;
 
 /// What is shown of files in one form, with its status before it.
 fn shown_as(
-    files: &impl Files,
+    files: &Files<'_>,
     row: &Row,
     names: &Names<'_>,
     budgets: Budgets,
@@ -26,7 +26,7 @@ fn shown_as(
 
 /// The same, where the reply stands before all else and the log lacks nothing.
 fn judged(
-    files: &impl Files,
+    files: &Files<'_>,
     row: &Row,
     names: &Names<'_>,
     budgets: Budgets,
@@ -56,7 +56,7 @@ fn misused(alloc: Global, told: &str) -> Result<String, OutOfMemory> {
 }
 
 /// The status, and behind a blank what is printed.
-pub fn told(files: &impl Files, row: &Row) -> Result<String, NotTried> {
+pub fn told(files: &Files<'_>, row: &Row) -> Result<String, NotTried> {
     let alloc = files.alloc();
     let words = words(alloc, row.wanted_text("words")?)?;
     match read_words(alloc, words.as_slice())? {
