@@ -63,52 +63,74 @@ fn sign_text(op: UnOp) -> &'static str {
     }
 }
 
+// Small numbers as they are, all others alike.
+fn number_text(value: u64) -> &'static str {
+    match value {
+        0 => "0",
+        1 => "1",
+        2 => "2",
+        3 => "3",
+        4 => "4",
+        5 => "5",
+        _ => "9",
+    }
+}
+
+fn step_front(op: StepOp) -> &'static str {
+    match op {
+        StepOp::PreInc => "(++",
+        StepOp::PreDec => "(--",
+        StepOp::PostInc | StepOp::PostDec => "(",
+    }
+}
+
+fn step_back(op: StepOp) -> &'static str {
+    match op {
+        StepOp::PostInc => "++)",
+        StepOp::PostDec => "--)",
+        StepOp::PreInc | StepOp::PreDec => ")",
+    }
+}
+
+fn push_two(text: &mut String, first: &str, second: &str) -> Result<(), AllocError> {
+    text.push_str(first)?;
+    text.push_str(second)
+}
+
+fn show_assignment(text: &mut String, op: Option<BinOp>) -> Result<(), AllocError> {
+    match op {
+        Some(op) => push_two(text, op_text(op), "="),
+        None => text.push_str("="),
+    }
+}
+
 /// Each operation in parentheses.
 #[cycle(shown_expr)]
 fn show_expr(text: &mut String, expr: &RawExpr) -> Result<(), AllocError> {
     match &expr.node {
-        RawNode::Number { value, .. } => match *value {
-            0 => text.push_str("0"),
-            1 => text.push_str("1"),
-            2 => text.push_str("2"),
-            3 => text.push_str("3"),
-            4 => text.push_str("4"),
-            5 => text.push_str("5"),
-            _ => text.push_str("9"),
-        },
+        RawNode::Number { value, .. } => text.push_str(number_text(*value)),
         RawNode::Char(_) => text.push_str("char"),
         RawNode::Var { name, .. } => text.push_str(name.as_str()),
         RawNode::Index { object, at, .. } => {
-            text.push_str(object.as_str())?;
-            text.push_str("[")?;
+            push_two(text, object.as_str(), "[")?;
             show_expr(text, at)?;
             text.push_str("]")
         }
         RawNode::Unary { op, of } => {
-            text.push_str("(")?;
-            text.push_str(sign_text(*op))?;
+            push_two(text, "(", sign_text(*op))?;
             show_expr(text, of)?;
             text.push_str(")")
         }
         RawNode::Cast { to, of } => {
-            text.push_str("(")?;
-            text.push_str(result_text(*to))?;
+            push_two(text, "(", result_text(*to))?;
             text.push_str(":")?;
             show_expr(text, of)?;
             text.push_str(")")
         }
         RawNode::Step { op, target } => {
-            match *op {
-                StepOp::PreInc => text.push_str("(++")?,
-                StepOp::PreDec => text.push_str("(--")?,
-                StepOp::PostInc | StepOp::PostDec => text.push_str("(")?,
-            }
+            text.push_str(step_front(*op))?;
             show_expr(text, target)?;
-            match *op {
-                StepOp::PostInc => text.push_str("++)"),
-                StepOp::PostDec => text.push_str("--)"),
-                StepOp::PreInc | StepOp::PreDec => text.push_str(")"),
-            }
+            text.push_str(step_back(*op))
         }
         RawNode::Binary { op, left, right } => {
             text.push_str("(")?;
@@ -143,16 +165,12 @@ fn show_expr(text: &mut String, expr: &RawExpr) -> Result<(), AllocError> {
         RawNode::Assign { op, target, from } => {
             text.push_str("(")?;
             show_expr(text, target)?;
-            if let Some(op) = op {
-                text.push_str(op_text(*op))?;
-            }
-            text.push_str("=")?;
+            show_assignment(text, *op)?;
             show_expr(text, from)?;
             text.push_str(")")
         }
         RawNode::Call { callee, args, .. } => {
-            text.push_str(callee.as_str())?;
-            text.push_str("(")?;
+            push_two(text, callee.as_str(), "(")?;
             show_row(text, args.as_slice())?;
             text.push_str(")")
         }

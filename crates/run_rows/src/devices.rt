@@ -11,7 +11,7 @@ enum Failing {
 }
 
 /// The device that a row names, and the number of the call.
-fn failing(row: &Row) -> Result<Failing, NotTried> {
+fn call_of(row: &Row) -> Result<Failing, NotTried> {
     let Some((device, number)) = row.wanted_text("fails")?.split_once(' ') else {
         return Err(NotTried::Lacks("a device and the number of its call"));
     };
@@ -30,7 +30,7 @@ pub fn told(files: &Files<'_>, row: &Row) -> Result<String, NotTried> {
     let alloc = files.alloc();
     let mut shelf = shelf(files, row)?;
     let mut out = sink(alloc)?;
-    match failing(row)? {
+    match call_of(row)? {
         Failing::Shelf(call) => shelf.fail_at(call)?,
         Failing::Write(call) => out.fail_at(call)?,
     }
