@@ -32,7 +32,7 @@ use Rattle.sym_state.proofs.Nets.{unchanged, longer_by}
 use Rattle.sym_values.specs.Valuing.{Decided}
 use Rattle.sym_weight.specs.Table.{conversion_to, chosen, element, tested}
 use Rattle.sym_invariants.specs.Valued.{Perhaps, IsSeen, Sees, then_value, then_both, logic_in, choice_in, side_type, element_cost, one_weight, both_weight, logic_weight, weight_of, value_in, Ready, SeesExpression, ReadyToTest, Holds}
-use Rattle.sym_invariants.proofs.Costs.{conversion_costs, test_costs, operator_costs, unary_costs}
+use Rattle.sym_exprs.proofs.Costs.{conversion_costs, test_costs, operator_costs, unary_costs}
 use Rattle.sym_invariants.proofs.Deciding.{truth_decides}
 use Rattle.sym_invariants.proofs.Sides.{then_itself}
 use Rattle.sym_invariants.proofs.Seeing.{void_some, seen_as, seen_typed, seen_added, turned_after, turned_within, same_cells}

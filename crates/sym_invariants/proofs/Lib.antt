@@ -2,7 +2,6 @@ pub mod Seeing
 pub mod Cells
 pub mod Answering
 pub mod Deciding
-pub mod Costs
 pub mod Found
 pub mod Sides
 pub mod Forms

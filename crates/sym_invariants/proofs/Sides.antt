@@ -14,7 +14,7 @@ use Rattle.sym_state.specs.Following.{AreOf}
 use Rattle.sym_state.proofs.Nets.{unchanged}
 use Rattle.sym_weight.specs.Table.{conversion, conversion_to}
 use Rattle.sym_invariants.specs.Valued.{Perhaps, IsSeen, Sees, then_value, side_type}
-use Rattle.sym_invariants.proofs.Costs.{conversion_costs}
+use Rattle.sym_exprs.proofs.Costs.{conversion_costs}
 use Rattle.sym_invariants.proofs.Seeing.{seen_as, sees_within}
 
 pub then_itself : (o : Option ℤ) → o ≡ and_then o (λ z. Some z)
