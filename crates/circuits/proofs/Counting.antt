@@ -17,7 +17,7 @@ use Rattle.circuits.proofs.Nets.{stays, longer, grown_then, grown_not, holds-opp
 
 -- n digits of a sum, and the carry
 pub record Added (old new : List NetNode) (xs ys : List Bit) (c : Bit) (out : List Bit) (carry : Bit) (n : ℕ) : Type 0 where
-  pub grown : Grown (9 * n) old new
+  pub grown : Grown (7 * n) old new
   pub carry_in : IsIn new carry
   pub inside : AreIn new out
   pub wide : length out ≡ n
@@ -55,13 +55,13 @@ unfolding number
 added_none net c h = record { grown = grown_not _ net; carry_in = h; inside = in_none (λ b. IsIn net b); wide = refl; is = λ v. omega arith }
 
 pub added_more : (old mid new : List NetNode) (xs ys out : List Bit) (c carry s k x y : Bit) (n : ℕ)
-    → Added old mid xs ys c out carry n → Grown 9 mid new → IsSumOf mid new s k x y carry
+    → Added old mid xs ys c out carry n → Grown 7 mid new → IsSumOf mid new s k x y carry
     → IsIn old x → IsIn old y → length xs ≡ n → length ys ≡ n
     → Added old new (xs ++ x ∷ []) (ys ++ y ∷ []) c (out ++ s ∷ []) k (n + 1)
 added_more old mid new xs ys out c carry s k x y n a g e hx hy lx ly = record {
-  grown = grown_then (9 * n) 9 (9 * (n + 1)) old mid new a.grown g (omega arith);
+  grown = grown_then (7 * n) 7 (7 * (n + 1)) old mid new a.grown g (omega arith);
   carry_in = e.high_in;
-  inside = All-append (λ b. IsIn new b) out (s ∷ []) (are_in_later 9 mid new out g a.inside) (All-cons (λ b. IsIn new b) s [] e.low_in (in_none (λ b. IsIn new b)));
+  inside = All-append (λ b. IsIn new b) out (s ∷ []) (are_in_later 7 mid new out g a.inside) (All-cons (λ b. IsIn new b) s [] e.low_in (in_none (λ b. IsIn new b)));
   wide = omega (arith, a.wide, length-append out (s ∷ []));
   is = λ v. omega (
     arith,
@@ -75,9 +75,9 @@ added_more old mid new xs ys out c carry s k x y n a g e hx hy lx ly = record {
     ap (λ d. 2 ^ n * d) (number-one v new s),
     ap (λ d. 2 ^ n * d) (number-one v old x),
     ap (λ d. 2 ^ n * d) (number-one v old y),
-    number_stays v 9 mid new out g a.inside,
-    ap (λ b. 2 ^ n * digit b) (stays v (9 * n) old mid x a.grown hx),
-    ap (λ b. 2 ^ n * digit b) (stays v (9 * n) old mid y a.grown hy),
+    number_stays v 7 mid new out g a.inside,
+    ap (λ b. 2 ^ n * digit b) (stays v (7 * n) old mid x a.grown hx),
+    ap (λ b. 2 ^ n * digit b) (stays v (7 * n) old mid y a.grown hy),
     ap (λ d. 2 ^ n * d) (e.is v),
     ap (λ p. p * digit (holds v new k)) (ap (λ i. 2 ^ i) (add-one n) ∙ pow-suc 2 n),
   );
@@ -85,7 +85,7 @@ added_more old mid new xs ys out c carry s k x y n a g e hx hy lx ly = record {
 
 -- the loop's step
 pub added_next : {old mid new : List NetNode} {out : List Bit} {c carry s k : Bit} {i : ℕ} (xs ys : List Bit) (d e : Bit)
-    → Added old mid (take i xs) (take i ys) c out carry i → Grown 9 mid new → IsSumOf mid new s k (get_or xs i d) (get_or ys i e) carry
+    → Added old mid (take i xs) (take i ys) c out carry i → Grown 7 mid new → IsSumOf mid new s k (get_or xs i d) (get_or ys i e) carry
     → AreIn old xs → AreIn old ys → i < length xs → length ys ≡ length xs
     → Added old new (take (i + 1) xs) (take (i + 1) ys) c (out ++ s ∷ []) k (i + 1)
 added_next {old} {mid} {new} {out} {c} {carry} {s} {k} {i} xs ys d e a g t hx hy lt same =

@@ -121,8 +121,8 @@ pub fn sum(
     requires a_in { AreIn net.old a.now }
     requires b_in { AreIn net.old b.now }
     requires c_in { IsIn net.old c }
-    requires room { length net.old + 9 * length a.now ≤ 2 ^ 31 }
-    ensures grown { Grown (9 * length a.now) net.old net.new }
+    requires room { length net.old + 7 * length a.now ≤ 2 ^ 31 }
+    ensures grown { Grown (7 * length a.now) net.old net.new }
     ensures value { IfOk result (λ r. Counts net.new r.items (length a.now + 1) (λ v. number v net.old a.now + number v net.old b.now + digit (holds v net.old c))) }
 {
     let mut carry = c;
@@ -146,8 +146,8 @@ pub fn difference(
     requires same { length b.now ≡ length a.now }
     requires a_in { AreIn net.old a.now }
     requires b_in { AreIn net.old b.now }
-    requires room { length net.old + 9 * length a.now ≤ 2 ^ 31 }
-    ensures grown { Grown (9 * length a.now) net.old net.new }
+    requires room { length net.old + 7 * length a.now ≤ 2 ^ 31 }
+    ensures grown { Grown (7 * length a.now) net.old net.new }
     ensures value { IfOk result (λ r. Counts net.new r.items (length a.now + 1) (λ v. number v net.old a.now + (2 ^ length a.now - number v net.old b.now))) }
 {
     let other = flipped(alloc, b)?;
