@@ -1,11 +1,12 @@
 -- Numbers read in two's complement.
-use Rattle.std.proofs.Common.{◌≡◌, ℕ, suc, ◌+◌, ◌-◌, ◌*◌, ◌%◌, ◌^◌, ◌<◌, ◌≤◌, Bool, true, false, cond, not, ◌&&◌, nat_lt, nat_eq, ℤ, pos, negsuc, ◌+ℤ◌, ◌-ℤ◌, ◌≤ℤ◌, ◌<ℤ◌, neg_ℤ, int_lt, unsigned_abs, refl, sym, ◌∙◌, ap, arith}
+use Rattle.std.proofs.Common.{◌≡◌, ℕ, suc, ◌+◌, ◌-◌, ◌*◌, ◌%◌, ◌^◌, ◌<◌, ◌≤◌, Bool, true, false, cond, not, ◌&&◌, nat_lt, nat_eq, ℤ, pos, negsuc, ◌+ℤ◌, ◌-ℤ◌, ◌≤ℤ◌, ◌<ℤ◌, neg_ℤ, int_lt, unsigned_abs, bit_xor, refl, sym, ◌∙◌, ap, arith}
 use Rattle.std.proofs.lemmas.Int.{ints, int_rem_euclid_is}
-use Rattle.std.proofs.lemmas.Nat.{pow_pos}
+use Rattle.std.proofs.lemmas.Nat.{pow_pos, and_le_l, and_le_r}
 use Rattle.std.proofs.Math.Nat.{mod-eq_of_lt, add-mul-mod_self_left, pow-succ'}
 use Rattle.std.proofs.lemmas.Bool.{le-ltb, lt-ltb, ltb-true, ltb-false, eqb-true, eq-eqb}
 use Rattle.std.proofs.lemmas.Bool.Decides.{same_from_decides, Decides-int_eq}
 use Rattle.std.specs.Ordering.{int_eq}
+use Rattle.std.specs.Int.Bits.{xor_self, xor_add_and}
 use Rattle.c_core.specs.Types.{residue, signed_of, fits_signed, fits_unsigned}
 use Rattle.circuits.specs.Net.{xor}
 use Rattle.circuits.specs.Numbers.{digit, read}
@@ -185,18 +186,12 @@ read_below w true m n t c hw hm hn ht e =
     two_below P m n (negative w true m) (negative w true n) c (negative_top w m hw hm) (negative_top w n hw hn) (is_carry (2 ^ w) t m n c ht (omega arith) hm e)
     ∙ sym (ap (λ x. int_lt x (read w true n)) (signed_is w m hw) ∙ ap (int_lt (two P m)) (signed_is w n hw))
 
-zero_apart : (M t m n : ℕ) (c : Bool) → t < M → n < M → t + M * digit c ≡ m + (M - n) → t ≡ 0 → m ≡ n
-zero_apart M t m n true a b e z = omega (arith, e)
-zero_apart M t m n false a b e z = omega (arith, e)
+xor_apart : (m n : ℕ) → bit_xor m n ≡ 0 → m ≡ n
+xor_apart m n e = omega (arith, xor_add_and m n, and_le_l m n, and_le_r m n)
 
-zero_same : (M t m n : ℕ) (c : Bool) → t < M → n < M → t + M * digit c ≡ m + (M - n) → m ≡ n → t ≡ 0
-zero_same M t m n true a b e z = omega (arith, e)
-zero_same M t m n false a b e z = omega (arith, e)
-
-pub read_equal : (w : ℕ) (s : Bool) (m n t : ℕ) (c : Bool) → m < 2 ^ w → n < 2 ^ w → t < 2 ^ w → t + 2 ^ w * digit c ≡ m + (2 ^ w - n)
-    → nat_eq t 0 ≡ int_eq (read w s m) (read w s n)
-read_equal w s m n t c hm hn ht e = same_from_decides (nat_eq t 0) (int_eq (read w s m) (read w s n)) (
-  (λ z. ap (read w s) (zero_apart (2 ^ w) t m n c ht hn e (eqb-true t 0 z))),
-  (λ z. eq-eqb t 0 (zero_same (2 ^ w) t m n c ht hn e (sym (residue_read w s m hm) ∙ ap (residue w) z ∙ residue_read w s n hn))),
+pub read_equal : (w : ℕ) (s : Bool) (m n : ℕ) → m < 2 ^ w → n < 2 ^ w → nat_eq (bit_xor m n) 0 ≡ int_eq (read w s m) (read w s n)
+read_equal w s m n hm hn = same_from_decides (nat_eq (bit_xor m n) 0) (int_eq (read w s m) (read w s n)) (
+  (λ z. ap (read w s) (xor_apart m n (eqb-true (bit_xor m n) 0 z))),
+  (λ z. eq-eqb (bit_xor m n) 0 (ap (bit_xor m) (sym (sym (residue_read w s m hm) ∙ ap (residue w) z ∙ residue_read w s n hn)) ∙ xor_self m)),
 )
     (Decides-int_eq (read w s m) (read w s n))

@@ -8,8 +8,8 @@ ghost use Rattle.circuits.specs.Net.{holds, xor, Grown, Means, IsIn};
 ghost use Rattle.circuits.specs.Numbers.{typed, AreTyped};
 ghost use Rattle.circuits.specs.Outcome.{Gives};
 
-use crate::gates::{pick, xor};
-use crate::lists::{any, difference, sum};
+use crate::gates::{Gate, pick, xor};
+use crate::lists::{any, bitwise, difference, sum};
 use crate::signs::sign;
 use crate::{Bit, Bits, Net, Outcome, not};
 use c_core::{DataModel, IntType};
@@ -131,8 +131,7 @@ pub fn differ(
     ensures grown { Grown (16 * width_of model ty) net.old net.new }
     ensures value { IfOk result (λ r. Means net.new r (λ v. not (int_eq (typed model ty v net.old a.now) (typed model ty v net.old b.now)))) }
 {
-    let mut rest = difference(alloc, net, a, b)?;
-    rest.truncate(a.len());
-    let differ = any(net, &rest)?;
+    let apart = bitwise(alloc, net, Gate::Xor, a, b)?;
+    let differ = any(net, &apart)?;
     Ok(differ)
 }
