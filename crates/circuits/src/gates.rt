@@ -92,6 +92,22 @@ pub fn full(net: &mut Net, a: Bit, b: Bit, c: Bit) -> Result<Sum, OutOfMemory>
     })
 }
 
+/// Whether a number is below another, by their highest digits: `b` where these differ, else `lower`, the answer of the rest.
+pub fn compared(net: &mut Net, a: Bit, b: Bit, lower: Bit) -> Result<Bit, OutOfMemory>
+    requires a_in { IsIn net.old a }
+    requires b_in { IsIn net.old b }
+    requires lower_in { IsIn net.old lower }
+    requires room { length net.old + 4 ≤ 2 ^ 31 }
+    ensures grown { Grown 4 net.old net.new }
+    ensures value { IfOk result (λ r. Means net.new r (λ v. cond (xor (holds v net.old a) (holds v net.old b)) (holds v net.old b) (holds v net.old lower))) }
+{
+    let less = net.and(not(a), b)?;
+    let more = net.and(a, not(b))?;
+    let rest = net.and(not(more), lower)?;
+    let compared = or(net, less, rest)?;
+    Ok(compared)
+}
+
 pub fn apply_gate(net: &mut Net, kind: Gate, a: Bit, b: Bit) -> Result<Bit, OutOfMemory>
     requires a_in { IsIn net.old a }
     requires b_in { IsIn net.old b }

@@ -119,8 +119,8 @@ fn judge_quotient(
     requires b_in { AreIn net.old b.now }
     requires test_in { IsIn net.old test }
     requires quotient_in { AreIn net.old quotient.now }
-    requires room { length net.old + (8 * length b.now + 2) ≤ 2 ^ 31 }
-    ensures grown { Grown (8 * length b.now + 2) net.old net.new }
+    requires room { length net.old + (5 * length b.now + 2) ≤ 2 ^ 31 }
+    ensures grown { Grown (5 * length b.now + 2) net.old net.new }
     ensures value { IfOk result (λ r. IsJudged net.old net.new (is_signed ty) b.now quotient.now test r.some r.overflow) }
 {
     let some = any(net, b)?;
