@@ -120,6 +120,3 @@ turned_of {old} {new} {r} {a} {b} {t} {f} {g} {h} m p q o = record {
 
 pub at_means : {net : List NetNode} {xs : List Bit} {x : Bit} {n : ℕ} {f : (ℕ → Bool) → ℕ} (k : ℕ) (d : Bit) → Counts net xs n f → k < n → x ≡ get_or xs k d → Means net x (λ v. holds v net x)
 at_means {net} {xs} {x} {n} {f} k d c h e = record { inside = rw e (All-get_or (λ b. IsIn net b) xs k d (omega (arith, c.wide)) c.inside); is = λ v. refl }
-
-pub at_index : (xs : List Bit) {x : Bit} {j k : ℕ} (d : Bit) → x ≡ get_or xs j d → j ≡ k → x ≡ get_or xs k d
-at_index xs {x} {j} {k} d e h = e ∙ ap (λ i. get_or xs i d) h

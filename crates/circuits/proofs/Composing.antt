@@ -23,6 +23,12 @@ pick_gates true true n = refl
 pick_gates true false n = refl
 pick_gates false y n = refl
 
+compared_gates : (a b l : Bool) → (not a && b || not (a && not b) && l) ≡ cond (xor a b) b l
+compared_gates true true l = refl
+compared_gates true false l = refl
+compared_gates false true l = refl
+compared_gates false false l = refl
+
 full_gates : (a b c : Bool) → digit (xor (xor a b) c) + 2 * digit (a && b || xor a b && c) ≡ digit a + digit b + digit c
 full_gates true true true = refl
 full_gates true true false = refl
@@ -54,6 +60,11 @@ pub pick_made : (old new : List NetNode) (r t y n : Bit)
     → Means new r (λ v. holds v old t && holds v old y || not (holds v old t) && holds v old n)
     → Means new r (λ v. cond (holds v old t) (holds v old y) (holds v old n))
 pick_made old new r t y n p = means_by _ _ _ _ p (λ v. pick_gates (holds v old t) (holds v old y) (holds v old n))
+
+pub compared_made : (old new : List NetNode) (r a b l : Bit)
+    → Means new r (λ v. not (holds v old a) && holds v old b || not (holds v old a && not (holds v old b)) && holds v old l)
+    → Means new r (λ v. cond (xor (holds v old a) (holds v old b)) (holds v old b) (holds v old l))
+compared_made old new r a b l p = means_by _ _ _ _ p (λ v. compared_gates (holds v old a) (holds v old b) (holds v old l))
 
 pub sum_made : {old new : List NetNode} {s c x y z : Bit}
     → Means new s (λ v. xor (xor (holds v old x) (holds v old y)) (holds v old z))

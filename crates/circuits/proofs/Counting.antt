@@ -1,23 +1,24 @@
 -- Lists of bits as numbers, and the loops over them.
-use Rattle.std.proofs.Common.{◌&&◌, not, nat_eq, cond, ◌≡◌, ℕ, ◌+◌, ◌-◌, ◌*◌, ◌^◌, ◌<◌, ◌≤◌, Bool, true, false, List, [], ◌∷◌, ◌++◌, length, get_or, take, drop, map, refl, sym, ◌∙◌, ap, subst, arith, length-append, add-one}
+use Rattle.std.proofs.Common.{◌&&◌, not, nat_eq, nat_lt, cond, ◌≡◌, ℕ, ◌+◌, ◌-◌, ◌*◌, ◌^◌, ◌<◌, ◌≤◌, Bool, true, false, List, [], ◌∷◌, ◌++◌, length, get_or, take, drop, map, refl, sym, ◌∙◌, ap, subst, arith, length-append, add-one}
 use Rattle.std.proofs.Math.Nat.{pow-suc}
 use Rattle.std.proofs.lemmas.Nat.{pow_pos, and_block, or_block, xor_block}
-use Rattle.std.proofs.lemmas.Bool.{ne_eqb}
+use Rattle.std.proofs.lemmas.Bool.{ne_eqb, le-ltb, lt-ltb}
 use Rattle.std.specs.List.{All}
 use Rattle.std.proofs.lemmas.List.Elements.{All-append, All-head, All-tail, All-cons, All-get_or}
 use Rattle.std.proofs.lemmas.List.{take_more, take_all, length-take-le, take-append-drop}
 use Rattle.circuits.specs.declared.net.Bit.{Bit}
 use Rattle.circuits.specs.declared.net.NetNode.{NetNode}
-use Rattle.circuits.specs.Net.{holds, Grown, IsIn, Means, opposite}
+use Rattle.circuits.specs.Net.{holds, xor, Grown, IsIn, Means, opposite}
 use Rattle.circuits.specs.Numbers.{number, digit, AreIn, Counts}
 use Rattle.circuits.specs.Gates.{IsSumOf, gate_of, digits_of}
 use Rattle.circuits.specs.declared.gates.Gate.{Gate}
 use Rattle.circuits.specs.declared.gates.Gate.TheVariants.{And, Xor, Or}
 use Rattle.circuits.proofs.Nets.{stays, longer, grown_then, grown_not, holds-opposite, opp}
+use Rattle.circuits.proofs.Reading.{lt_same}
 
 -- n digits of a sum, and the carry
 pub record Added (old new : List NetNode) (xs ys : List Bit) (c : Bit) (out : List Bit) (carry : Bit) (n : ℕ) : Type 0 where
-  pub grown : Grown (9 * n) old new
+  pub grown : Grown (7 * n) old new
   pub carry_in : IsIn new carry
   pub inside : AreIn new out
   pub wide : length out ≡ n
@@ -55,13 +56,13 @@ unfolding number
 added_none net c h = record { grown = grown_not _ net; carry_in = h; inside = in_none (λ b. IsIn net b); wide = refl; is = λ v. omega arith }
 
 pub added_more : (old mid new : List NetNode) (xs ys out : List Bit) (c carry s k x y : Bit) (n : ℕ)
-    → Added old mid xs ys c out carry n → Grown 9 mid new → IsSumOf mid new s k x y carry
+    → Added old mid xs ys c out carry n → Grown 7 mid new → IsSumOf mid new s k x y carry
     → IsIn old x → IsIn old y → length xs ≡ n → length ys ≡ n
     → Added old new (xs ++ x ∷ []) (ys ++ y ∷ []) c (out ++ s ∷ []) k (n + 1)
 added_more old mid new xs ys out c carry s k x y n a g e hx hy lx ly = record {
-  grown = grown_then (9 * n) 9 (9 * (n + 1)) old mid new a.grown g (omega arith);
+  grown = grown_then (7 * n) 7 (7 * (n + 1)) old mid new a.grown g (omega arith);
   carry_in = e.high_in;
-  inside = All-append (λ b. IsIn new b) out (s ∷ []) (are_in_later 9 mid new out g a.inside) (All-cons (λ b. IsIn new b) s [] e.low_in (in_none (λ b. IsIn new b)));
+  inside = All-append (λ b. IsIn new b) out (s ∷ []) (are_in_later 7 mid new out g a.inside) (All-cons (λ b. IsIn new b) s [] e.low_in (in_none (λ b. IsIn new b)));
   wide = omega (arith, a.wide, length-append out (s ∷ []));
   is = λ v. omega (
     arith,
@@ -75,9 +76,9 @@ added_more old mid new xs ys out c carry s k x y n a g e hx hy lx ly = record {
     ap (λ d. 2 ^ n * d) (number-one v new s),
     ap (λ d. 2 ^ n * d) (number-one v old x),
     ap (λ d. 2 ^ n * d) (number-one v old y),
-    number_stays v 9 mid new out g a.inside,
-    ap (λ b. 2 ^ n * digit b) (stays v (9 * n) old mid x a.grown hx),
-    ap (λ b. 2 ^ n * digit b) (stays v (9 * n) old mid y a.grown hy),
+    number_stays v 7 mid new out g a.inside,
+    ap (λ b. 2 ^ n * digit b) (stays v (7 * n) old mid x a.grown hx),
+    ap (λ b. 2 ^ n * digit b) (stays v (7 * n) old mid y a.grown hy),
     ap (λ d. 2 ^ n * d) (e.is v),
     ap (λ p. p * digit (holds v new k)) (ap (λ i. 2 ^ i) (add-one n) ∙ pow-suc 2 n),
   );
@@ -85,7 +86,7 @@ added_more old mid new xs ys out c carry s k x y n a g e hx hy lx ly = record {
 
 -- the loop's step
 pub added_next : {old mid new : List NetNode} {out : List Bit} {c carry s k : Bit} {i : ℕ} (xs ys : List Bit) (d e : Bit)
-    → Added old mid (take i xs) (take i ys) c out carry i → Grown 9 mid new → IsSumOf mid new s k (get_or xs i d) (get_or ys i e) carry
+    → Added old mid (take i xs) (take i ys) c out carry i → Grown 7 mid new → IsSumOf mid new s k (get_or xs i d) (get_or ys i e) carry
     → AreIn old xs → AreIn old ys → i < length xs → length ys ≡ length xs
     → Added old new (take (i + 1) xs) (take (i + 1) ys) c (out ++ s ∷ []) k (i + 1)
 added_next {old} {mid} {new} {out} {c} {carry} {s} {k} {i} xs ys d e a g t hx hy lt same =
@@ -240,6 +241,57 @@ noted_end {old} {new} {none} {r} xs n a l e =
     let m : Means new none (λ v. nat_eq (number v old xs) 0) = subst (λ (z : List Bit). Means new none (λ v. nat_eq (number v old z) 0)) ex a.means in
     opp e m
 
+below_take : (v : ℕ → Bool) (net : List NetNode) (xs : List Bit) (i : ℕ) → i ≤ length xs → number v net (take i xs) < 2 ^ i
+below_take v net xs i h = subst (λ (j : ℕ). number v net (take i xs) < 2 ^ j) (length-take-le i xs h) (number_lt v net (take i xs))
+
+-- whether a number of n digits is below another
+pub record Ranked (old new : List NetNode) (xs ys : List Bit) (less : Bit) (n : ℕ) : Type 0 where
+  pub grown : Grown (4 * n) old new
+  pub means : Means new less (λ v. nat_lt (number v old xs) (number v old ys))
+
+pub ranked_none : (net : List NetNode) (never : Bit) → Means net never (λ v. false) → Ranked net net [] [] never 0
+unfolding number
+ranked_none net never m = record { grown = grown_not _ net; means = record { inside = m.inside; is = m.is } }
+
+lt_digit : (x y : Bool) (p a b : ℕ) → a < p → b < p → cond (xor x y) y (nat_lt a b) ≡ nat_lt (a + p * digit x) (b + p * digit y)
+lt_digit true true p a b h k = lt_same a b (a + p * 1) (b + p * 1) (λ e. omega arith) (λ e. omega arith)
+lt_digit true false p a b h k = sym (le-ltb (a + p * 1) (b + p * 0) (omega arith))
+lt_digit false true p a b h k = sym (lt-ltb (a + p * 0) (b + p * 1) (omega arith))
+lt_digit false false p a b h k = lt_same a b (a + p * 0) (b + p * 0) (λ e. omega arith) (λ e. omega arith)
+
+pub ranked_next : {old mid new : List NetNode} {less next : Bit} {i : ℕ} (xs ys : List Bit) (d e : Bit)
+    → Ranked old mid (take i xs) (take i ys) less i → Grown 4 mid new
+    → Means new next (λ v. cond (xor (holds v mid (get_or xs i d)) (holds v mid (get_or ys i e))) (holds v mid (get_or ys i e)) (holds v mid less))
+    → AreIn old xs → AreIn old ys → i < length xs → length ys ≡ length xs → Ranked old new (take (i + 1) xs) (take (i + 1) ys) next (i + 1)
+ranked_next {old} {mid} {new} {less} {next} {i} xs ys d e a g m hx hy lt same =
+    let lt' : i < length ys = omega arith in
+    let x = get_or xs i d in
+    let y = get_or ys i e in
+    let ix : IsIn old x = All-get_or (λ b. IsIn old b) xs i d lt hx in
+    let iy : IsIn old y = All-get_or (λ b. IsIn old b) ys i e lt' hy in
+    rw (take_more xs i d lt, take_more ys i e lt') (record {
+      grown = grown_then (4 * i) 4 (4 * (i + 1)) old mid new a.grown g (omega arith);
+      means = record {
+        inside = m.inside;
+        is = λ v.
+            m.is v
+            ∙ ap (λ b. cond (xor b (holds v mid y)) (holds v mid y) (holds v mid less)) (stays v (4 * i) old mid x a.grown ix)
+            ∙ ap (λ b. cond (xor (holds v old x) b) b (holds v mid less)) (stays v (4 * i) old mid y a.grown iy)
+            ∙ ap (λ b. cond (xor (holds v old x) (holds v old y)) (holds v old y) b) (a.means.is v)
+            ∙ lt_digit (holds v old x) (holds v old y) (2 ^ i) (number v old (take i xs)) (number v old (take i ys)) (below_take v old xs i (omega arith)) (below_take v old ys i (omega arith))
+            ∙ ap (λ n. nat_lt n (number v old (take i ys) + 2 ^ i * digit (holds v old y))) (sym (snoc v old (take i xs) x i (length-take-le i xs (omega arith))))
+            ∙ ap (λ n. nat_lt (number v old (take i xs ++ x ∷ [])) n) (sym (snoc v old (take i ys) y i (length-take-le i ys (omega arith))));
+      };
+    })
+
+pub ranked_end : {old new : List NetNode} {less : Bit} (xs ys : List Bit) (n : ℕ)
+    → Ranked old new (take n xs) (take n ys) less n → n ≡ length xs → length ys ≡ length xs → Means new less (λ v. nat_lt (number v old xs) (number v old ys))
+ranked_end {old} {new} {less} xs ys n a l m =
+    let ex : take n xs ≡ xs = take_all n xs (omega arith) in
+    let ey : take n ys ≡ ys = take_all n ys (omega arith) in
+    let t : Ranked old new xs ys less n = subst (λ (z : List Bit). Ranked old new z ys less n) ex (subst (λ (z : List Bit). Ranked old new (take n xs) z less n) ey a) in
+    t.means
+
 -- all bits negated
 pub flipped_in : (net : List NetNode) (xs : List Bit) → AreIn net xs → AreIn net (map opposite xs)
 flipped_in net [] h = in_none (λ b. IsIn net b)
@@ -291,9 +343,6 @@ digits_more kind x y i a b p q =
     let eb : digit y * 2 ^ i + b ≡ b + 2 ^ i * digit y = omega arith in
     let e : digits_of kind a b + 2 ^ i * digit (gate_of kind x y) ≡ digits_of kind (digit x) (digit y) * 2 ^ i + digits_of kind a b = omega (arith, ap (λ d. 2 ^ i * d) (one_digit kind x y)) in
     e ∙ sym (digits_block kind i (digit x) (digit y) a b p q) ∙ ap (λ z. digits_of kind z (digit y * 2 ^ i + b)) ea ∙ ap (λ z. digits_of kind (a + 2 ^ i * digit x) z) eb
-
-below_take : (v : ℕ → Bool) (net : List NetNode) (xs : List Bit) (i : ℕ) → i ≤ length xs → number v net (take i xs) < 2 ^ i
-below_take v net xs i h = subst (λ (j : ℕ). number v net (take i xs) < 2 ^ j) (length-take-le i xs h) (number_lt v net (take i xs))
 
 pub paired_next : {old mid new : List NetNode} {kind : Gate} {s : Bit} {out : List Bit} {i : ℕ} (xs ys : List Bit) (d e : Bit)
     → Paired old mid kind (take i xs) (take i ys) out i → Grown 3 mid new → Means new s (λ v. gate_of kind (holds v mid (get_or xs i d)) (holds v mid (get_or ys i e)))

@@ -1,6 +1,5 @@
 -- Circuits on signs and distances from 0.
-use Rattle.std.proofs.Common.{◌≡◌, ℕ, ◌+◌, ◌-◌, ◌*◌, ◌%◌, ◌^◌, ◌<◌, ◌≤◌, Bool, true, false, cond, not, ◌&&◌, nat_lt, List, [], ◌∷◌, ◌++◌, length, get_or, refl, sym, ◌∙◌, ap, arith}
-use Rattle.std.proofs.lemmas.Nat.{pow_pos, mod_below}
+use Rattle.std.proofs.Common.{◌≡◌, ℕ, ◌+◌, ◌-◌, ◌*◌, ◌%◌, ◌^◌, ◌<◌, ◌≤◌, Bool, true, cond, not, ◌&&◌, nat_lt, List, [], ◌∷◌, ◌++◌, length, refl, ◌∙◌, ap, arith}
 use Rattle.std.proofs.lemmas.List.Elements.{All-cons}
 use Rattle.circuits.specs.declared.net.Bit.{Bit}
 use Rattle.circuits.specs.declared.net.NetNode.{NetNode}
@@ -8,8 +7,7 @@ use Rattle.circuits.specs.Net.{holds, Means, IsIn, Grown}
 use Rattle.circuits.specs.Numbers.{number, digit, AreIn, Counts}
 use Rattle.circuits.specs.Gates.{negative, size}
 use Rattle.circuits.proofs.Counting.{in_none, number-one, number_lt, number_stays}
-use Rattle.circuits.proofs.Carrying.{counts_by, counts_wide, counts_lt, top_counts, joined_counts}
-use Rattle.circuits.proofs.Reading.{is_carry, lt_is}
+use Rattle.circuits.proofs.Carrying.{counts_by, counts_wide, joined_counts}
 use Rattle.circuits.proofs.Sizes.{size_mod}
 
 pub one_counts : {net : List NetNode} {b : Bit} {f : (ℕ → Bool) → Bool} → Means net b f → Counts net (b ∷ []) 1 (λ v. digit (f v))
@@ -36,27 +34,9 @@ limit_made {net} {low} {full} {out} {gap} {rest} {t} {y} w n some within mt cg m
     (counts_wide (let e : 1 + (w - 2) + 1 + (n - w) ≡ n = omega arith in e) (joined_counts (joined_counts (joined_counts (one_counts mt) cg) (one_counts my)) cr))
     (λ v. limit_value w (digit (holds v net t)) (2 ^ (1 + (w - 2))) (2 ^ (1 + (w - 2) + 1)) (ap (λ k. 2 ^ k) (let e : 1 + (w - 2) ≡ w - 1 = omega arith in e))))
 
-same_and : (a b c d : Bool) → a ≡ c → b ≡ d → (a && b) ≡ (c && d)
-same_and a b c d e f = rw (e, f) refl
-
-not_not : (b : Bool) → b ≡ not (not b)
-not_not true = refl
-not_not false = refl
-
--- the carry of a difference compares
-pub exceeds_made : {old mid new : List NetNode} {least rest : List Bit} {r : Bit} {f : (ℕ → Bool) → ℕ} {x : Bit} (xs : List Bit) (s : Bool) (d : Bit) → AreIn old xs → Counts old least (length xs) f
-    → Counts mid rest (length xs + 1) (λ v. number v old xs + (2 ^ length xs - f v)) → x ≡ get_or rest (length xs) d
-    → Means new r (λ v. s && holds v mid x) → Means new r (λ v. s && not (nat_lt (number v old xs) (f v)))
-exceeds_made {old} {mid} {new} {least} {rest} {r} {f} {x} xs s d h cl cr e m = record {
-  inside = m.inside;
-  is = λ v.
-      let lm : number v old xs < 2 ^ length xs = number_lt v old xs in
-      let lf : f v < 2 ^ length xs = counts_lt cl v in
-      let g = (number v old xs + (2 ^ length xs - f v)) in
-      let c = holds v mid (get_or rest (length xs) d) in
-      let carry = is_carry (2 ^ length xs) (g % 2 ^ length xs) (number v old xs) (f v) c (mod_below g (2 ^ length xs) (pow_pos (length xs))) (omega arith) lm (top_counts (length xs) d cr v) in
-      m.is v ∙ ap (λ b. s && holds v mid b) e ∙ ap (λ b. s && b) (not_not c ∙ ap not (sym (lt_is c (number v old xs) (f v) carry)));
-}
+pub exceeds_made : {old new : List NetNode} {least : List Bit} {r : Bit} {n : ℕ} {f : (ℕ → Bool) → ℕ} (xs : List Bit) (s : Bool) → Counts old least n f
+    → Means new r (λ v. s && not (nat_lt (number v old xs) (number v old least))) → Means new r (λ v. s && not (nat_lt (number v old xs) (f v)))
+exceeds_made {old} {new} {least} {r} {n} {f} xs s c m = record { inside = m.inside; is = λ v. m.is v ∙ ap (λ k. s && not (nat_lt (number v old xs) k)) (c.is v) }
 
 pub signed_means : {net : List NetNode} {r : Bit} {b s : Bool} → Means net r (λ v. b) → b ≡ s → Means net r (λ v. s)
 signed_means {net} {r} {b} {s} m e = record { inside = m.inside; is = λ v. m.is v ∙ e }

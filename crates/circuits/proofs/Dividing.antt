@@ -66,7 +66,7 @@ row_made {old} {mid} {new} {full} {chosen} {out} {rest} {b} {next} {x} {k} d sam
 
 -- ---- the loop over rows
 pub record Dividing (old new : List NetNode) (xs ys quotient rest : List Bit) (n : ℕ) : Type 0 where
-  pub grown : Grown (n * (12 * (length ys + 1))) old new
+  pub grown : Grown (n * (10 * (length ys + 1))) old new
   pub quotient_in : AreIn new quotient
   pub rest_in : AreIn new rest
   pub quotient_wide : length quotient ≡ n
@@ -77,7 +77,7 @@ pub record Dividing (old new : List NetNode) (xs ys quotient rest : List Bit) (n
 pub dividing_none : {net : List NetNode} {quotient rest : List Bit} (xs ys : List Bit) → quotient ≡ [] → Counts net rest (length ys) (λ v. 0) → Dividing net net xs ys quotient rest 0
 unfolding number
 dividing_none {net} {quotient} {rest} xs ys e c = rw e (record {
-  grown = grown_not (0 * (12 * (length ys + 1))) net;
+  grown = grown_not (0 * (10 * (length ys + 1))) net;
   quotient_in = in_none (λ b. IsIn net b);
   rest_in = c.inside;
   quotient_wide = refl;
@@ -92,11 +92,11 @@ next_is Q Y R S g n X e f = omega (arith, e, f)
 next_grown : (i s : ℕ) → i * s + s ≤ (i + 1) * s
 next_grown i s = omega arith
 
-pub dividing_next : {old mid new : List NetNode} {quotient after rest out : List Bit} {next q : Bit} {n : ℕ} (xs ys : List Bit) (d : Bit) → Dividing old mid xs ys quotient rest n → Grown (12 * (length ys + 1)) mid new → n < length xs → AreIn old xs → AreIn old ys
+pub dividing_next : {old mid new : List NetNode} {quotient after rest out : List Bit} {next q : Bit} {n : ℕ} (xs ys : List Bit) (d : Bit) → Dividing old mid xs ys quotient rest n → Grown (10 * (length ys + 1)) mid new → n < length xs → AreIn old xs → AreIn old ys
     → next ≡ get_or xs (length xs - 1 - n) d → IsRow mid new next rest ys q out → after ≡ (q ∷ []) ++ quotient → Dividing old new xs ys after out (n + 1)
 unfolding number
 dividing_next {old} {mid} {new} {quotient} {after} {rest} {out} {next} {q} {n} xs ys d a g lt hx hy en row ea =
-    let s = 12 * (length ys + 1) in
+    let s = 10 * (length ys + 1) in
     let at : length xs - 1 - n ≡ length xs - (n + 1) = omega arith in
     let x = get_or xs (length xs - (n + 1)) d in
     let ix : IsIn old x = All-get_or (λ b. IsIn old b) xs (length xs - (n + 1)) d (omega arith) hx in

@@ -56,7 +56,7 @@ scaled_next {old} {mid} {new} {b} {s} {out} {i} xs d a g m hx hb lt =
 
 -- the total after n digits of the second factor
 pub record Multiplied (old new : List NetNode) (xs ys : List Bit) (out : List Bit) (n : ℕ) : Type 0 where
-  pub grown : Grown (n * (10 * length xs)) old new
+  pub grown : Grown (n * (8 * length xs)) old new
   pub inside : AreIn new out
   pub wide : length out ≡ length xs + n
   pub is : (v : ℕ → Bool) → number v new out ≡ number v old xs * number v old ys
@@ -97,15 +97,15 @@ unfolding number
 multiplied_none {net} {out} xs c = record { grown = grown_not _ net; inside = c.inside; wide = omega (arith, c.wide); is = λ v. omega (arith, c.is v) }
 
 pub multiplied_next : {old mid new : List NetNode} {total out : List Bit} {i : ℕ} (xs ys : List Bit) (d : Bit)
-    → Multiplied old mid xs (take i ys) total i → Grown (10 * length xs) mid new → i < length ys → AreIn old xs → AreIn old ys
+    → Multiplied old mid xs (take i ys) total i → Grown (8 * length xs) mid new → i < length ys → AreIn old xs → AreIn old ys
     → Counts new out (length xs + i + 1) (λ v. number v mid total + 2 ^ i * (digit (holds v mid (get_or ys i d)) * number v mid xs))
     → Multiplied old new xs (take (i + 1) ys) out (i + 1)
 multiplied_next {old} {mid} {new} {total} {out} {i} xs ys d m g lt hx hy c =
     let y = get_or ys i d in
     let iy : IsIn old y = All-get_or (λ b. IsIn old b) ys i d lt hy in
-    let most = i * (10 * length xs) in
+    let most = i * (8 * length xs) in
     rw (take_more ys i d lt) (record {
-      grown = grown_then most (10 * length xs) ((i + 1) * (10 * length xs)) old mid new m.grown g (omega arith);
+      grown = grown_then most (8 * length xs) ((i + 1) * (8 * length xs)) old mid new m.grown g (omega arith);
       inside = c.inside;
       wide = omega (arith, c.wide);
       is = λ v. omega (

@@ -1,11 +1,12 @@
 -- Numbers read in two's complement.
-use Rattle.std.proofs.Common.{◌≡◌, ℕ, suc, ◌+◌, ◌-◌, ◌*◌, ◌%◌, ◌^◌, ◌<◌, ◌≤◌, Bool, true, false, cond, not, ◌&&◌, nat_lt, nat_eq, ℤ, pos, negsuc, ◌+ℤ◌, ◌-ℤ◌, ◌≤ℤ◌, ◌<ℤ◌, neg_ℤ, int_lt, unsigned_abs, refl, sym, ◌∙◌, ap, arith}
+use Rattle.std.proofs.Common.{◌≡◌, ℕ, suc, ◌+◌, ◌-◌, ◌*◌, ◌%◌, ◌^◌, ◌<◌, ◌≤◌, Bool, true, false, cond, not, ◌&&◌, nat_lt, nat_eq, ℤ, pos, negsuc, ◌+ℤ◌, ◌-ℤ◌, ◌≤ℤ◌, ◌<ℤ◌, neg_ℤ, int_lt, unsigned_abs, bit_xor, inl, inr, refl, sym, ◌∙◌, ap, arith}
 use Rattle.std.proofs.lemmas.Int.{ints, int_rem_euclid_is}
-use Rattle.std.proofs.lemmas.Nat.{pow_pos}
+use Rattle.std.proofs.lemmas.Nat.{pow_pos, and_le_l, and_le_r}
 use Rattle.std.proofs.Math.Nat.{mod-eq_of_lt, add-mul-mod_self_left, pow-succ'}
 use Rattle.std.proofs.lemmas.Bool.{le-ltb, lt-ltb, ltb-true, ltb-false, eqb-true, eq-eqb}
-use Rattle.std.proofs.lemmas.Bool.Decides.{same_from_decides, Decides-int_eq}
+use Rattle.std.proofs.lemmas.Bool.Decides.{leb_tells, same_from_decides, Decides-int_eq}
 use Rattle.std.specs.Ordering.{int_eq}
+use Rattle.std.specs.Int.Bits.{xor_self, xor_add_and}
 use Rattle.c_core.specs.Types.{residue, signed_of, fits_signed, fits_unsigned}
 use Rattle.circuits.specs.Net.{xor}
 use Rattle.circuits.specs.Numbers.{digit, read}
@@ -155,48 +156,33 @@ residue_difference w s m n hm hn = residue_is w (read w s m -ℤ read w s n) (di
     ∙ add-mul-mod_self_left (m + (2 ^ w - n)) (2 ^ w) (digit (negative w s n))
 
 -- ---- comparisons
-abbrev pub IsCarry : Bool → ℕ → ℕ → Type 0
-IsCarry true m n = n ≤ m
-IsCarry false m n = m < n
+pub lt_same : (a b c d : ℕ) → (b ≤ a → d ≤ c) → (a < b → c < d) → nat_lt a b ≡ nat_lt c d
+lt_same a b c d f g = elim (leb_tells b a) as (λ _. nat_lt a b ≡ nat_lt c d) [
+  | inl t ↦ le-ltb a b t.1 ∙ sym (le-ltb c d (f t.1))
+  | inr t ↦ lt-ltb a b t.1 ∙ sym (lt-ltb c d (g t.1))
+]
 
-pub is_carry : (M t m n : ℕ) (c : Bool) → t < M → n ≤ M → m < M → t + M * digit c ≡ m + (M - n) → IsCarry c m n
-is_carry M t m n true a b h e = omega (arith, e)
-is_carry M t m n false a b h e = omega (arith, e)
+lt_back : (M m n : ℕ) → m < M → n < M → nat_lt m n ≡ nat_lt (M - suc n) (M - suc m)
+lt_back M m n p q = lt_same m n (M - suc n) (M - suc m) (λ e. omega arith) (λ e. omega arith)
 
-pub lt_is : (c : Bool) (m n : ℕ) → IsCarry c m n → nat_lt m n ≡ not c
-lt_is true m n h = le-ltb m n h
-lt_is false m n h = lt-ltb m n h
+two_below : (P m n : ℕ) (da db : Bool) → IsTop P m da → IsTop P n db → cond (xor da db) da (nat_lt m n) ≡ int_lt (two P m) (two P n)
+two_below P m n false false a b = sym (ap (λ x. int_lt x (two P n)) (two_low P m a) ∙ ap (int_lt (pos m)) (two_low P n b))
+two_below P m n false true a b = sym (ap (λ x. int_lt x (two P n)) (two_low P m a) ∙ ap (int_lt (pos m)) (two_top P n b.0))
+two_below P m n true false a b = sym (ap (λ x. int_lt x (two P n)) (two_top P m a.0) ∙ ap (int_lt (negsuc (2 * P - suc m))) (two_low P n b))
+two_below P m n true true a b = lt_back (2 * P) m n a.1 b.1 ∙ sym (ap (λ x. int_lt x (two P n)) (two_top P m a.0) ∙ ap (int_lt (negsuc (2 * P - suc m))) (two_top P n b.0))
 
-lt_back : (c : Bool) (M m n : ℕ) → IsCarry c m n → m < M → n < M → nat_lt (M - suc n) (M - suc m) ≡ not c
-lt_back true M m n h p q = le-ltb (M - suc n) (M - suc m) (omega arith)
-lt_back false M m n h p q = lt-ltb (M - suc n) (M - suc m) (omega arith)
+pub read_below : (w : ℕ) (s : Bool) (m n : ℕ) → 0 < w → m < 2 ^ w → n < 2 ^ w → cond (xor (negative w s m) (negative w s n)) (negative w s m) (nat_lt m n) ≡ int_lt (read w s m) (read w s n)
+read_below w false m n hw hm hn = refl
+read_below w true m n hw hm hn =
+    two_below (2 ^ (w - 1)) m n (negative w true m) (negative w true n) (negative_top w m hw hm) (negative_top w n hw hn)
+    ∙ sym (ap (λ x. int_lt x (read w true n)) (signed_is w m hw) ∙ ap (int_lt (two (2 ^ (w - 1)) m)) (signed_is w n hw))
 
-two_below : (P m n : ℕ) (da db c : Bool) → IsTop P m da → IsTop P n db → IsCarry c m n → cond (xor da db) da (not c) ≡ int_lt (two P m) (two P n)
-two_below P m n false false c a b h = sym (ap (λ x. int_lt x (two P n)) (two_low P m a) ∙ ap (int_lt (pos m)) (two_low P n b) ∙ lt_is c m n h)
-two_below P m n false true c a b h = sym (ap (λ x. int_lt x (two P n)) (two_low P m a) ∙ ap (int_lt (pos m)) (two_top P n b.0))
-two_below P m n true false c a b h = sym (ap (λ x. int_lt x (two P n)) (two_top P m a.0) ∙ ap (int_lt (negsuc (2 * P - suc m))) (two_low P n b))
-two_below P m n true true c a b h = sym (ap (λ x. int_lt x (two P n)) (two_top P m a.0) ∙ ap (int_lt (negsuc (2 * P - suc m))) (two_top P n b.0) ∙ lt_back c (2 * P) m n h a.1 b.1)
+xor_apart : (m n : ℕ) → bit_xor m n ≡ 0 → m ≡ n
+xor_apart m n e = omega (arith, xor_add_and m n, and_le_l m n, and_le_r m n)
 
-pub read_below : (w : ℕ) (s : Bool) (m n t : ℕ) (c : Bool) → 0 < w → m < 2 ^ w → n < 2 ^ w → t < 2 ^ w → t + 2 ^ w * digit c ≡ m + (2 ^ w - n)
-    → cond (xor (negative w s m) (negative w s n)) (negative w s m) (not c) ≡ int_lt (read w s m) (read w s n)
-read_below w false m n t c hw hm hn ht e = sym (lt_is c m n (is_carry (2 ^ w) t m n c ht (omega arith) hm e))
-read_below w true m n t c hw hm hn ht e =
-    let P = 2 ^ (w - 1) in
-    two_below P m n (negative w true m) (negative w true n) c (negative_top w m hw hm) (negative_top w n hw hn) (is_carry (2 ^ w) t m n c ht (omega arith) hm e)
-    ∙ sym (ap (λ x. int_lt x (read w true n)) (signed_is w m hw) ∙ ap (int_lt (two P m)) (signed_is w n hw))
-
-zero_apart : (M t m n : ℕ) (c : Bool) → t < M → n < M → t + M * digit c ≡ m + (M - n) → t ≡ 0 → m ≡ n
-zero_apart M t m n true a b e z = omega (arith, e)
-zero_apart M t m n false a b e z = omega (arith, e)
-
-zero_same : (M t m n : ℕ) (c : Bool) → t < M → n < M → t + M * digit c ≡ m + (M - n) → m ≡ n → t ≡ 0
-zero_same M t m n true a b e z = omega (arith, e)
-zero_same M t m n false a b e z = omega (arith, e)
-
-pub read_equal : (w : ℕ) (s : Bool) (m n t : ℕ) (c : Bool) → m < 2 ^ w → n < 2 ^ w → t < 2 ^ w → t + 2 ^ w * digit c ≡ m + (2 ^ w - n)
-    → nat_eq t 0 ≡ int_eq (read w s m) (read w s n)
-read_equal w s m n t c hm hn ht e = same_from_decides (nat_eq t 0) (int_eq (read w s m) (read w s n)) (
-  (λ z. ap (read w s) (zero_apart (2 ^ w) t m n c ht hn e (eqb-true t 0 z))),
-  (λ z. eq-eqb t 0 (zero_same (2 ^ w) t m n c ht hn e (sym (residue_read w s m hm) ∙ ap (residue w) z ∙ residue_read w s n hn))),
+pub read_equal : (w : ℕ) (s : Bool) (m n : ℕ) → m < 2 ^ w → n < 2 ^ w → nat_eq (bit_xor m n) 0 ≡ int_eq (read w s m) (read w s n)
+read_equal w s m n hm hn = same_from_decides (nat_eq (bit_xor m n) 0) (int_eq (read w s m) (read w s n)) (
+  (λ z. ap (read w s) (xor_apart m n (eqb-true (bit_xor m n) 0 z))),
+  (λ z. eq-eqb (bit_xor m n) 0 (ap (bit_xor m) (sym (sym (residue_read w s m hm) ∙ ap (residue w) z ∙ residue_read w s n hn)) ∙ xor_self m)),
 )
     (Decides-int_eq (read w s m) (read w s n))

@@ -1,5 +1,5 @@
 -- Sums, differences and comparisons in a type, from what the circuits on lists count.
-use Rattle.std.proofs.Common.{◌≡◌, ℕ, ◌+◌, ◌-◌, ◌*◌, ◌%◌, ◌^◌, ◌<◌, Bool, false, cond, not, ◌&&◌, nat_eq, ◌+ℤ◌, ◌-ℤ◌, int_lt, List, take, get_or, refl, sym, ◌∙◌, ap, arith, lit<}
+use Rattle.std.proofs.Common.{◌≡◌, ℕ, ◌+◌, ◌-◌, ◌%◌, ◌^◌, ◌<◌, Bool, false, cond, not, ◌&&◌, nat_eq, nat_lt, bit_xor, ◌+ℤ◌, ◌-ℤ◌, int_lt, List, take, get_or, refl, sym, ◌∙◌, ap, arith, lit<}
 use Rattle.std.specs.Ordering.{int_eq}
 use Rattle.c_core.specs.Types.{width_of, width_of_long, is_signed, promote_of, in_range}
 use Rattle.c_core.specs.Operators.{apply_of}
@@ -12,7 +12,7 @@ use Rattle.circuits.specs.declared.net.Bit.{Bit}
 use Rattle.circuits.specs.declared.net.NetNode.{NetNode}
 use Rattle.circuits.specs.declared.bits.Outcome.{Outcome}
 use Rattle.circuits.specs.Net.{holds, xor, Means, Grown}
-use Rattle.circuits.specs.Numbers.{number, digit, typed, AreTyped, Counts}
+use Rattle.circuits.specs.Numbers.{number, typed, AreTyped, Counts}
 use Rattle.circuits.specs.Outcome.{Gives}
 use Rattle.circuits.specs.Gates.{negative}
 use Rattle.circuits.proofs.Nets.{means_by}
@@ -80,26 +80,16 @@ difference_gives {m} {ty} {old} {mid} {new} {k} {full} {o} a b p ha hb g c turne
     (means_by _ _ _ _ turned (λ v. difference_turned w (is_signed ty) (number v old a) (number v old b) ((number v old a + (2 ^ w - number v old b)) % 2 ^ w) (holds v mid (get_or full w zeroth)) (width_pos m ty) (la v) (lb v) (mod_below _ _ (pow_pos w)) (top_counts w zeroth c v)))
     never
 
-pub below_means : {m : DataModel} {ty : IntType} {old mid new : List NetNode} {full : List Bit} {r carry : Bit} (a b : List Bit) (d : Bit)
+pub below_means : {m : DataModel} {ty : IntType} {old new : List NetNode} {r : Bit} (a b : List Bit)
     → AreTyped m ty old a → AreTyped m ty old b
-    → Counts mid full (width_of m ty + 1) (λ v. number v old a + (2 ^ width_of m ty - number v old b))
-    → carry ≡ get_or full (width_of m ty) d
-    → Means new r (λ v. cond (xor (negative (width_of m ty) (is_signed ty) (number v old a)) (negative (width_of m ty) (is_signed ty) (number v old b))) (negative (width_of m ty) (is_signed ty) (number v old a)) (not (holds v mid carry)))
+    → Means new r (λ v. cond (xor (negative (width_of m ty) (is_signed ty) (number v old a)) (negative (width_of m ty) (is_signed ty) (number v old b))) (negative (width_of m ty) (is_signed ty) (number v old a)) (nat_lt (number v old a) (number v old b)))
     → Means new r (λ v. int_lt (typed m ty v old a) (typed m ty v old b))
-below_means {m} {ty} {old} {mid} {new} {full} {r} {carry} a b d ha hb c e means =
-    let w = width_of m ty in
-    let la : (v : ℕ → Bool) → number v old a < 2 ^ w = counts_lt (typed_counts ha) in
-    let lb : (v : ℕ → Bool) → number v old b < 2 ^ w = counts_lt (typed_counts hb) in
-    means_by _ _ _ _ means (λ v. read_below w (is_signed ty) (number v old a) (number v old b) ((number v old a + (2 ^ w - number v old b)) % 2 ^ w) (holds v mid carry) (width_pos m ty) (la v) (lb v) (mod_below _ _ (pow_pos w))
-    (ap (λ x. (number v old a + (2 ^ w - number v old b)) % 2 ^ w + 2 ^ w * digit (holds v mid x)) e ∙ top_counts w d c v))
+below_means {m} {ty} {old} {new} {r} a b ha hb means =
+    means_by _ _ _ _ means (λ v. read_below (width_of m ty) (is_signed ty) (number v old a) (number v old b) (width_pos m ty) (counts_lt (typed_counts ha) v) (counts_lt (typed_counts hb) v))
 
-pub differ_means : {m : DataModel} {ty : IntType} {old mid new : List NetNode} {full : List Bit} {r : Bit} (a b : List Bit)
+pub differ_means : {m : DataModel} {ty : IntType} {old new : List NetNode} {r : Bit} (a b : List Bit)
     → AreTyped m ty old a → AreTyped m ty old b
-    → Counts mid full (width_of m ty + 1) (λ v. number v old a + (2 ^ width_of m ty - number v old b))
-    → Means new r (λ v. not (nat_eq ((number v old a + (2 ^ width_of m ty - number v old b)) % 2 ^ width_of m ty) 0))
+    → Means new r (λ v. not (nat_eq (bit_xor (number v old a) (number v old b)) 0))
     → Means new r (λ v. not (int_eq (typed m ty v old a) (typed m ty v old b)))
-differ_means {m} {ty} {old} {mid} {new} {full} {r} a b ha hb c means =
-    let w = width_of m ty in
-    let la : (v : ℕ → Bool) → number v old a < 2 ^ w = counts_lt (typed_counts ha) in
-    let lb : (v : ℕ → Bool) → number v old b < 2 ^ w = counts_lt (typed_counts hb) in
-    means_by _ _ _ _ means (λ v. ap not (read_equal w (is_signed ty) (number v old a) (number v old b) ((number v old a + (2 ^ w - number v old b)) % 2 ^ w) (holds v mid (get_or full w zeroth)) (la v) (lb v) (mod_below _ _ (pow_pos w)) (top_counts w zeroth c v)))
+differ_means {m} {ty} {old} {new} {r} a b ha hb means =
+    means_by _ _ _ _ means (λ v. ap not (read_equal (width_of m ty) (is_signed ty) (number v old a) (number v old b) (counts_lt (typed_counts ha) v) (counts_lt (typed_counts hb) v)))

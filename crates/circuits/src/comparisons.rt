@@ -30,7 +30,7 @@ pub fn less(
     ensures grown { Grown (16 * width_of model ty) net.old net.new }
     ensures value { IfOk result (λ r. Gives model Int net.new r (λ v. apply_of model Lt ty (typed model ty v net.old a.now) (typed model ty v net.old b.now))) }
 {
-    let less = below(alloc, net, model, ty, a, b)?;
+    let less = below(net, model, ty, a, b)?;
     let out = truth_bits(alloc, net, model, less)?;
     Ok(out)
 }
@@ -50,7 +50,7 @@ pub fn at_most(
     ensures grown { Grown (16 * width_of model ty) net.old net.new }
     ensures value { IfOk result (λ r. Gives model Int net.new r (λ v. apply_of model Le ty (typed model ty v net.old a.now) (typed model ty v net.old b.now))) }
 {
-    let more = below(alloc, net, model, ty, b, a)?;
+    let more = below(net, model, ty, b, a)?;
     let out = truth_bits(alloc, net, model, not(more))?;
     Ok(out)
 }

@@ -1,5 +1,5 @@
 // Gates of two and three bits.
-ghost use Rattle.std.specs.Prelude.{◌≡◌, ℕ, ◌+◌, ◌≤◌, ◌^◌, IfOk, cond, ◌||◌, length};
+ghost use Rattle.std.specs.Prelude.{◌≡◌, ℕ, ◌+◌, ◌≤◌, ◌^◌, IfOk, cond, ◌&&◌, ◌||◌, length};
 ghost use Rattle.circuits.specs.Net.{holds, xor, Grown, Means, IsIn};
 ghost use Rattle.circuits.specs.Gates.{IsSumOf, gate_of};
 
@@ -14,7 +14,7 @@ pub enum Gate {
     Or,
 }
 
-/// The digits of a sum of three bits.
+/// The two digits of a sum of bits.
 #[derive(Clone, Copy)]
 pub struct Sum {
     pub low: Bit,
@@ -32,6 +32,21 @@ pub fn or(net: &mut Net, a: Bit, b: Bit) -> Result<Bit, OutOfMemory>
     Ok(not(neither))
 }
 
+// the sum of two bits: its low digit is their exclusive or
+fn half(net: &mut Net, a: Bit, b: Bit) -> Result<Sum, OutOfMemory>
+    requires a_in { IsIn net.old a }
+    requires b_in { IsIn net.old b }
+    requires room { length net.old + 3 ≤ 2 ^ 31 }
+    ensures grown { Grown 3 net.old net.new }
+    ensures low { IfOk result (λ r. Means net.new r.low (λ v. xor (holds v net.old a) (holds v net.old b))) }
+    ensures high { IfOk result (λ r. Means net.new r.high (λ v. holds v net.old a && holds v net.old b)) }
+{
+    let both = net.and(a, b)?;
+    let neither = net.and(not(a), not(b))?;
+    let low = net.and(not(both), not(neither))?;
+    Ok(Sum { low, high: both })
+}
+
 pub fn xor(net: &mut Net, a: Bit, b: Bit) -> Result<Bit, OutOfMemory>
     requires a_in { IsIn net.old a }
     requires b_in { IsIn net.old b }
@@ -39,10 +54,8 @@ pub fn xor(net: &mut Net, a: Bit, b: Bit) -> Result<Bit, OutOfMemory>
     ensures grown { Grown 3 net.old net.new }
     ensures value { IfOk result (λ r. Means net.new r (λ v. xor (holds v net.old a) (holds v net.old b))) }
 {
-    let both = net.and(a, b)?;
-    let neither = net.and(not(a), not(b))?;
-    let one = net.and(not(both), not(neither))?;
-    Ok(one)
+    let digits = half(net, a, b)?;
+    Ok(digits.low)
 }
 
 /// `yes` where the test is true, else `other`.
@@ -60,21 +73,39 @@ pub fn pick(net: &mut Net, test: Bit, yes: Bit, other: Bit) -> Result<Bit, OutOf
     Ok(picked)
 }
 
+/// The sum of three bits, as two of two bits: at most one of these has a high digit.
 #[tactic(auto, using(crate::proofs::Nets::grown_then))]
 pub fn full(net: &mut Net, a: Bit, b: Bit, c: Bit) -> Result<Sum, OutOfMemory>
     requires a_in { IsIn net.old a }
     requires b_in { IsIn net.old b }
     requires c_in { IsIn net.old c }
-    requires room { length net.old + 9 ≤ 2 ^ 31 }
-    ensures grown { Grown 9 net.old net.new }
+    requires room { length net.old + 7 ≤ 2 ^ 31 }
+    ensures grown { Grown 7 net.old net.new }
     ensures value { IfOk result (λ r. IsSumOf net.old net.new r.low r.high a b c) }
 {
-    let half = xor(net, a, b)?;
-    let low = xor(net, half, c)?;
-    let both = net.and(a, b)?;
-    let carried = net.and(half, c)?;
-    let high = or(net, both, carried)?;
-    Ok(Sum { low, high })
+    let first = half(net, a, b)?;
+    let second = half(net, first.low, c)?;
+    let high = or(net, first.high, second.high)?;
+    Ok(Sum {
+        low: second.low,
+        high,
+    })
+}
+
+/// Whether a number is below another, by their highest digits: `b` where these differ, else `lower`, the answer of the rest.
+pub fn compared(net: &mut Net, a: Bit, b: Bit, lower: Bit) -> Result<Bit, OutOfMemory>
+    requires a_in { IsIn net.old a }
+    requires b_in { IsIn net.old b }
+    requires lower_in { IsIn net.old lower }
+    requires room { length net.old + 4 ≤ 2 ^ 31 }
+    ensures grown { Grown 4 net.old net.new }
+    ensures value { IfOk result (λ r. Means net.new r (λ v. cond (xor (holds v net.old a) (holds v net.old b)) (holds v net.old b) (holds v net.old lower))) }
+{
+    let less = net.and(not(a), b)?;
+    let more = net.and(a, not(b))?;
+    let rest = net.and(not(more), lower)?;
+    let compared = or(net, less, rest)?;
+    Ok(compared)
 }
 
 pub fn apply_gate(net: &mut Net, kind: Gate, a: Bit, b: Bit) -> Result<Bit, OutOfMemory>

@@ -1,10 +1,10 @@
 // Circuits on lists of bits, lowest digit first.
-ghost use Rattle.std.specs.Prelude.{◌≡◌, ℕ, ◌+◌, ◌-◌, ◌*◌, ◌≤◌, ◌<◌, ◌^◌, IfOk, cond, not, nat_eq, map, ◌++◌, length};
+ghost use Rattle.std.specs.Prelude.{◌≡◌, ℕ, ◌+◌, ◌-◌, ◌*◌, ◌≤◌, ◌<◌, ◌^◌, IfOk, cond, not, nat_eq, nat_lt, map, ◌++◌, length};
 ghost use Rattle.circuits.specs.Net.{holds, opposite, Grown, Means, IsIn};
 ghost use Rattle.circuits.specs.Numbers.{number, digit, AreIn, Counts};
 ghost use Rattle.circuits.specs.Gates.{digits_of};
 
-use crate::gates::{Gate, apply_gate, full, pick};
+use crate::gates::{Gate, apply_gate, compared, full, pick};
 use crate::{Bit, Net, not};
 use std::alloc::Global;
 use wv_base::OutOfMemory;
@@ -121,8 +121,8 @@ pub fn sum(
     requires a_in { AreIn net.old a.now }
     requires b_in { AreIn net.old b.now }
     requires c_in { IsIn net.old c }
-    requires room { length net.old + 9 * length a.now ≤ 2 ^ 31 }
-    ensures grown { Grown (9 * length a.now) net.old net.new }
+    requires room { length net.old + 7 * length a.now ≤ 2 ^ 31 }
+    ensures grown { Grown (7 * length a.now) net.old net.new }
     ensures value { IfOk result (λ r. Counts net.new r.items (length a.now + 1) (λ v. number v net.old a.now + number v net.old b.now + digit (holds v net.old c))) }
 {
     let mut carry = c;
@@ -146,12 +146,28 @@ pub fn difference(
     requires same { length b.now ≡ length a.now }
     requires a_in { AreIn net.old a.now }
     requires b_in { AreIn net.old b.now }
-    requires room { length net.old + 9 * length a.now ≤ 2 ^ 31 }
-    ensures grown { Grown (9 * length a.now) net.old net.new }
+    requires room { length net.old + 7 * length a.now ≤ 2 ^ 31 }
+    ensures grown { Grown (7 * length a.now) net.old net.new }
     ensures value { IfOk result (λ r. Counts net.new r.items (length a.now + 1) (λ v. number v net.old a.now + (2 ^ length a.now - number v net.old b.now))) }
 {
     let other = flipped(alloc, b)?;
     let yes = net.yes();
     let out = sum(alloc, net, a, &other, yes)?;
     Ok(out)
+}
+
+/// Whether a is below b, from the lowest digit up.
+pub fn smaller(net: &mut Net, a: &[Bit], b: &[Bit]) -> Result<Bit, OutOfMemory>
+    requires same { length b.now ≡ length a.now }
+    requires a_in { AreIn net.old a.now }
+    requires b_in { AreIn net.old b.now }
+    requires room { length net.old + 4 * length a.now ≤ 2 ^ 31 }
+    ensures grown { Grown (4 * length a.now) net.old net.new }
+    ensures value { IfOk result (λ r. Means net.new r (λ v. nat_lt (number v net.old a.now) (number v net.old b.now))) }
+{
+    let mut less = not(net.yes());
+    for i in 0..a.len() {
+        less = compared(net, a[i], b[i], less)?;
+    }
+    Ok(less)
 }

@@ -45,8 +45,8 @@ fn add_row(
     requires b_in { IsIn net.old b }
     requires total_in { AreIn net.old total.items }
     requires wide { length total.items ≡ length a.now + i }
-    requires room { length net.old + 10 * length a.now ≤ 2 ^ 31 }
-    ensures grown { Grown (10 * length a.now) net.old net.new }
+    requires room { length net.old + 8 * length a.now ≤ 2 ^ 31 }
+    ensures grown { Grown (8 * length a.now) net.old net.new }
     ensures value { IfOk result (λ r. Counts net.new r.items (length a.now + i + 1) (λ v. number v net.old total.items + 2 ^ i * (digit (holds v net.old b) * number v net.old a.now))) }
 {
     let row = scaled(alloc, net, a, b)?;
@@ -61,8 +61,8 @@ fn add_row(
 fn product(alloc: Global, net: &mut Net, a: &[Bit], b: &[Bit]) -> Result<Vec<Bit>, OutOfMemory>
     requires a_in { AreIn net.old a.now }
     requires b_in { AreIn net.old b.now }
-    requires room { length net.old + length b.now * (10 * length a.now) ≤ 2 ^ 31 }
-    ensures grown { Grown (length b.now * (10 * length a.now)) net.old net.new }
+    requires room { length net.old + length b.now * (8 * length a.now) ≤ 2 ^ 31 }
+    ensures grown { Grown (length b.now * (8 * length a.now)) net.old net.new }
     ensures value { IfOk result (λ r. Counts net.new r.items (length a.now + length b.now) (λ v. number v net.old a.now * number v net.old b.now)) }
 {
     let mut total = zeros(alloc, net, a.len())?;
@@ -85,8 +85,8 @@ fn size_of_product(
     requires few { length a.now ≤ 64 }
     requires a_in { AreIn net.old a.now }
     requires b_in { AreIn net.old b.now }
-    requires room { length net.old + (24 * length a.now + length a.now * (10 * length a.now)) ≤ 2 ^ 31 }
-    ensures grown { Grown (24 * length a.now + length a.now * (10 * length a.now)) net.old net.new }
+    requires room { length net.old + (20 * length a.now + length a.now * (8 * length a.now)) ≤ 2 ^ 31 }
+    ensures grown { Grown (20 * length a.now + length a.now * (8 * length a.now)) net.old net.new }
     ensures value { IfOk result (λ r. Counts net.new r.items (length a.now + length a.now) (λ v. size (length a.now) (is_signed ty) (number v net.old a.now) * size (length a.now) (is_signed ty) (number v net.old b.now))) }
 {
     let x = magnitude(alloc, net, ty, a)?;

@@ -43,8 +43,8 @@ fn divide_row(
     requires same { length rest.now ≡ length b.now }
     requires rest_in { AreIn net.old rest.now }
     requires b_in { AreIn net.old b.now }
-    requires room { length net.old + 12 * (length b.now + 1) ≤ 2 ^ 31 }
-    ensures grown { Grown (12 * (length b.now + 1)) net.old net.new }
+    requires room { length net.old + 10 * (length b.now + 1) ≤ 2 ^ 31 }
+    ensures grown { Grown (10 * (length b.now + 1)) net.old net.new }
     ensures value { IfOk result (λ r. IsRow net.old net.new next rest.now b.now r.digit r.rest.items) }
 {
     let n = b.len();
@@ -62,8 +62,8 @@ fn divide_row(
 fn divide_sizes(alloc: Global, net: &mut Net, a: &[Bit], b: &[Bit]) -> Result<Divided, OutOfMemory>
     requires a_in { AreIn net.old a.now }
     requires b_in { AreIn net.old b.now }
-    requires room { length net.old + length a.now * (12 * (length b.now + 1)) ≤ 2 ^ 31 }
-    ensures grown { Grown (length a.now * (12 * (length b.now + 1))) net.old net.new }
+    requires room { length net.old + length a.now * (10 * (length b.now + 1)) ≤ 2 ^ 31 }
+    ensures grown { Grown (length a.now * (10 * (length b.now + 1))) net.old net.new }
     ensures value { IfOk result (λ r. Divides net.new (length a.now) (length b.now) (λ v. number v net.old a.now) (λ v. number v net.old b.now) r.quotient.items r.rest.items) }
 {
     let mut rest = zeros(alloc, net, b.len())?;
@@ -89,8 +89,8 @@ fn divide_magnitudes(
     requires same { length b.now ≡ length a.now }
     requires a_in { AreIn net.old a.now }
     requires b_in { AreIn net.old b.now }
-    requires room { length net.old + (24 * length a.now + length a.now * (12 * (length a.now + 1))) ≤ 2 ^ 31 }
-    ensures grown { Grown (24 * length a.now + length a.now * (12 * (length a.now + 1))) net.old net.new }
+    requires room { length net.old + (20 * length a.now + length a.now * (10 * (length a.now + 1))) ≤ 2 ^ 31 }
+    ensures grown { Grown (20 * length a.now + length a.now * (10 * (length a.now + 1))) net.old net.new }
     ensures value { IfOk result (λ r. Divides net.new (length a.now) (length a.now) (λ v. size (length a.now) (is_signed ty) (number v net.old a.now)) (λ v. size (length a.now) (is_signed ty) (number v net.old b.now)) r.quotient.items r.rest.items) }
 {
     let x = magnitude(alloc, net, ty, a)?;
@@ -119,8 +119,8 @@ fn judge_quotient(
     requires b_in { AreIn net.old b.now }
     requires test_in { IsIn net.old test }
     requires quotient_in { AreIn net.old quotient.now }
-    requires room { length net.old + (10 * length b.now + 2) ≤ 2 ^ 31 }
-    ensures grown { Grown (10 * length b.now + 2) net.old net.new }
+    requires room { length net.old + (5 * length b.now + 2) ≤ 2 ^ 31 }
+    ensures grown { Grown (5 * length b.now + 2) net.old net.new }
     ensures value { IfOk result (λ r. IsJudged net.old net.new (is_signed ty) b.now quotient.now test r.some r.overflow) }
 {
     let some = any(net, b)?;

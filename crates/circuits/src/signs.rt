@@ -6,7 +6,7 @@ ghost use Rattle.circuits.specs.Numbers.{number, digit, AreIn, Counts};
 ghost use Rattle.circuits.specs.Gates.{negative, size};
 
 use crate::conversions::constant;
-use crate::lists::{choose, difference, flipped, joined, zeros};
+use crate::lists::{choose, difference, flipped, joined, smaller, zeros};
 use crate::{Bit, Net, not};
 use c_core::{IntType, signed};
 use std::alloc::Global;
@@ -33,8 +33,8 @@ pub fn with_sign(
 ) -> Result<Vec<Bit>, OutOfMemory>
     requires test_in { IsIn net.old test }
     requires a_in { AreIn net.old a.now }
-    requires room { length net.old + 12 * length a.now ≤ 2 ^ 31 }
-    ensures grown { Grown (12 * length a.now) net.old net.new }
+    requires room { length net.old + 10 * length a.now ≤ 2 ^ 31 }
+    ensures grown { Grown (10 * length a.now) net.old net.new }
     ensures value { IfOk result (λ r. Counts net.new r.items (length a.now) (λ v. cond (holds v net.old test) ((2 ^ length a.now - number v net.old a.now) % 2 ^ length a.now) (number v net.old a.now))) }
 {
     let zero = zeros(alloc, net, a.len())?;
@@ -71,8 +71,8 @@ pub fn magnitude(
 ) -> Result<Vec<Bit>, OutOfMemory>
     requires some { 0 < length a.now }
     requires a_in { AreIn net.old a.now }
-    requires room { length net.old + 12 * length a.now ≤ 2 ^ 31 }
-    ensures grown { Grown (12 * length a.now) net.old net.new }
+    requires room { length net.old + 10 * length a.now ≤ 2 ^ 31 }
+    ensures grown { Grown (10 * length a.now) net.old net.new }
     ensures value { IfOk result (λ r. Counts net.new r.items (length a.now) (λ v. size (length a.now) (is_signed ty) (number v net.old a.now))) }
 {
     let test = sign(net, ty, a);
@@ -108,13 +108,13 @@ pub fn exceeds(
     requires within { w ≤ length distance.now }
     requires test_in { IsIn net.old test }
     requires distance_in { AreIn net.old distance.now }
-    requires room { length net.old + (9 * length distance.now + 1) ≤ 2 ^ 31 }
-    ensures grown { Grown (9 * length distance.now + 1) net.old net.new }
+    requires room { length net.old + (4 * length distance.now + 1) ≤ 2 ^ 31 }
+    ensures grown { Grown (4 * length distance.now + 1) net.old net.new }
     ensures value { IfOk result (λ r. Means net.new r (λ v. is_signed ty && not (nat_lt (number v net.old distance.now) (2 ^ (w - 1) + digit (holds v net.old test))))) }
 {
     let least = limit(alloc, net, test, w, distance.len())?;
-    let rest = difference(alloc, net, distance, &least)?;
+    let less = smaller(net, distance, &least)?;
     let kind = constant(net, signed(ty));
-    let exceeds = net.and(kind, rest[distance.len()])?;
+    let exceeds = net.and(kind, not(less))?;
     Ok(exceeds)
 }

@@ -8,8 +8,8 @@ ghost use Rattle.circuits.specs.Net.{holds, xor, Grown, Means, IsIn};
 ghost use Rattle.circuits.specs.Numbers.{typed, AreTyped};
 ghost use Rattle.circuits.specs.Outcome.{Gives};
 
-use crate::gates::{pick, xor};
-use crate::lists::{any, difference, sum};
+use crate::gates::{Gate, pick, xor};
+use crate::lists::{any, bitwise, difference, smaller, sum};
 use crate::signs::sign;
 use crate::{Bit, Bits, Net, Outcome, not};
 use c_core::{DataModel, IntType};
@@ -93,7 +93,6 @@ pub fn subtract(
 
 /// Whether a is below b.
 pub fn below(
-    alloc: Global,
     net: &mut Net,
     model: DataModel,
     ty: IntType,
@@ -107,12 +106,11 @@ pub fn below(
     ensures grown { Grown (16 * width_of model ty) net.old net.new }
     ensures value { IfOk result (λ r. Means net.new r (λ v. int_lt (typed model ty v net.old a.now) (typed model ty v net.old b.now))) }
 {
-    let rest = difference(alloc, net, a, b)?;
-    let carry = rest[a.len()];
+    let less = smaller(net, a, b)?;
     let left = sign(net, ty, a);
     let right = sign(net, ty, b);
     let apart = xor(net, left, right)?;
-    let below = pick(net, apart, left, not(carry))?;
+    let below = pick(net, apart, left, less)?;
     Ok(below)
 }
 
@@ -131,8 +129,7 @@ pub fn differ(
     ensures grown { Grown (16 * width_of model ty) net.old net.new }
     ensures value { IfOk result (λ r. Means net.new r (λ v. not (int_eq (typed model ty v net.old a.now) (typed model ty v net.old b.now)))) }
 {
-    let mut rest = difference(alloc, net, a, b)?;
-    rest.truncate(a.len());
-    let differ = any(net, &rest)?;
+    let apart = bitwise(alloc, net, Gate::Xor, a, b)?;
+    let differ = any(net, &apart)?;
     Ok(differ)
 }

@@ -34,14 +34,14 @@ pub returns-in_err-test-clause-grown : goal.returns-in_err-test-clause-grown
 returns-in_err-test-clause-grown c =
     let ha = c.requires.a_in in
     let w = width_of c.args.model c.args.ty in
-    grown_then _ _ _ _ _ _ c.in_ok-size.ensures.grown c.in_err-test.ensures.grown (enough w _ (width_large _ _ c.requires.promoted) (omega (arith, ha.wide, ap (λ k. k * (10 * k)) ha.wide)))
+    grown_then _ _ _ _ _ _ c.in_ok-size.ensures.grown c.in_err-test.ensures.grown (enough w _ (width_large _ _ c.requires.promoted) (omega (arith, ha.wide, ap (λ k. k * (8 * k)) ha.wide)))
 
 pub returns-in_err-overflow-clause-grown : goal.returns-in_err-overflow-clause-grown
 returns-in_err-overflow-clause-grown c =
     let ha = c.requires.a_in in
     let w = width_of c.args.model c.args.ty in
     three _ c.in_ok-size.ensures.grown c.in_ok-test.ensures.grown c.in_err-overflow.ensures.grown
-    (enough w _ (width_large _ _ c.requires.promoted) (omega (arith, ha.wide, ap (λ k. k * (10 * k)) ha.wide, ap length c.deref.ensures.value, c.in_ok-size.ensures.value.wide)))
+    (enough w _ (width_large _ _ c.requires.promoted) (omega (arith, ha.wide, ap (λ k. k * (8 * k)) ha.wide, ap length c.deref.ensures.value, c.in_ok-size.ensures.value.wide)))
 
 pub returns-in_err-value-clause-grown : goal.returns-in_err-value-clause-grown
 returns-in_err-value-clause-grown c =
@@ -49,7 +49,7 @@ returns-in_err-value-clause-grown c =
     let w = width_of c.args.model c.args.ty in
     let items = ap length (c.deref-2.ensures.value ∙ c.truncate.ensures.items) in
     four _ c.in_ok-size.ensures.grown c.in_ok-test.ensures.grown c.in_ok-overflow.ensures.grown c.in_err-value.ensures.grown
-    (enough w _ (width_large _ _ c.requires.promoted) (omega (arith, ha.wide, ap (λ k. k * (10 * k)) ha.wide, ap length c.deref.ensures.value, c.in_ok-size.ensures.value.wide, items, length-take-le (length c.args.a.now) c.in_ok-size.size.items (omega (arith, c.in_ok-size.ensures.value.wide)))))
+    (enough w _ (width_large _ _ c.requires.promoted) (omega (arith, ha.wide, ap (λ k. k * (8 * k)) ha.wide, ap length c.deref.ensures.value, c.in_ok-size.ensures.value.wide, items, length-take-le (length c.args.a.now) c.in_ok-size.size.items (omega (arith, c.in_ok-size.ensures.value.wide)))))
 
 pub returns-clause-grown : goal.returns-clause-grown
 returns-clause-grown c =
@@ -57,4 +57,4 @@ returns-clause-grown c =
     let w = width_of c.args.model c.args.ty in
     let items = ap length (c.deref-2.ensures.value ∙ c.truncate.ensures.items) in
     four _ c.in_ok-size.ensures.grown c.in_ok-test.ensures.grown c.in_ok-overflow.ensures.grown c.in_ok-value.ensures.grown
-    (enough w _ (width_large _ _ c.requires.promoted) (omega (arith, ha.wide, ap (λ k. k * (10 * k)) ha.wide, ap length c.deref.ensures.value, c.in_ok-size.ensures.value.wide, items, length-take-le (length c.args.a.now) c.in_ok-size.size.items (omega (arith, c.in_ok-size.ensures.value.wide)))))
+    (enough w _ (width_large _ _ c.requires.promoted) (omega (arith, ha.wide, ap (λ k. k * (8 * k)) ha.wide, ap length c.deref.ensures.value, c.in_ok-size.ensures.value.wide, items, length-take-le (length c.args.a.now) c.in_ok-size.size.items (omega (arith, c.in_ok-size.ensures.value.wide)))))

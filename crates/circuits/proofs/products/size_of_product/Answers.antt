@@ -23,7 +23,7 @@ returns-in_err-out-clause-grown c =
     let ly = ap length c.deref-2.ensures.value in
     let wx : length c.deref.result.now ≡ n = omega (arith, c.in_ok-x.ensures.value.wide) in
     let wy : length c.deref-2.result.now ≡ n = omega (arith, c.in_ok-y.ensures.value.wide, c.requires.same) in
-    three _ c.in_ok-x.ensures.grown c.in_ok-y.ensures.grown c.in_err-out.ensures.grown (omega (arith, c.requires.same, ap (λ k. k * (10 * length c.deref.result.now)) wy, ap (λ k. n * (10 * k)) wx))
+    three _ c.in_ok-x.ensures.grown c.in_ok-y.ensures.grown c.in_err-out.ensures.grown (omega (arith, c.requires.same, ap (λ k. k * (8 * length c.deref.result.now)) wy, ap (λ k. n * (8 * k)) wx))
 
 pub returns-clause-grown : goal.returns-clause-grown
 returns-clause-grown c =
@@ -32,4 +32,4 @@ returns-clause-grown c =
     let ly = ap length c.deref-2.ensures.value in
     let wx : length c.deref.result.now ≡ n = omega (arith, c.in_ok-x.ensures.value.wide) in
     let wy : length c.deref-2.result.now ≡ n = omega (arith, c.in_ok-y.ensures.value.wide, c.requires.same) in
-    three _ c.in_ok-x.ensures.grown c.in_ok-y.ensures.grown c.in_ok-out.ensures.grown (omega (arith, c.requires.same, ap (λ k. k * (10 * length c.deref.result.now)) wy, ap (λ k. n * (10 * k)) wx))
+    three _ c.in_ok-x.ensures.grown c.in_ok-y.ensures.grown c.in_ok-out.ensures.grown (omega (arith, c.requires.same, ap (λ k. k * (8 * length c.deref.result.now)) wy, ap (λ k. n * (8 * k)) wx))

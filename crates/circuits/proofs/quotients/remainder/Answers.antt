@@ -35,14 +35,14 @@ pub returns-in_err-test-clause-grown : goal.returns-in_err-test-clause-grown
 returns-in_err-test-clause-grown c =
     let ha = c.requires.a_in in
     let w = width_of c.args.model c.args.ty in
-    grown_then _ _ _ _ _ _ c.in_ok-sizes.ensures.grown c.in_err-test.ensures.grown (enough w _ (width_large _ _ c.requires.promoted) (omega (arith, ha.wide, ap (λ k. k * (12 * (k + 1))) ha.wide)))
+    grown_then _ _ _ _ _ _ c.in_ok-sizes.ensures.grown c.in_err-test.ensures.grown (enough w _ (width_large _ _ c.requires.promoted) (omega (arith, ha.wide, ap (λ k. k * (10 * (k + 1))) ha.wide)))
 
 pub returns-in_err-judged-clause-grown : goal.returns-in_err-judged-clause-grown
 returns-in_err-judged-clause-grown c =
     let ha = c.requires.a_in in
     let hb = c.requires.b_in in
     let w = width_of c.args.model c.args.ty in
-    three _ c.in_ok-sizes.ensures.grown c.in_ok-test.ensures.grown c.in_err-judged.ensures.grown (enough w _ (width_large _ _ c.requires.promoted) (omega (arith, ha.wide, hb.wide, ap (λ k. k * (12 * (k + 1))) ha.wide)))
+    three _ c.in_ok-sizes.ensures.grown c.in_ok-test.ensures.grown c.in_err-judged.ensures.grown (enough w _ (width_large _ _ c.requires.promoted) (omega (arith, ha.wide, hb.wide, ap (λ k. k * (10 * (k + 1))) ha.wide)))
 
 pub returns-in_err-value-clause-grown : goal.returns-in_err-value-clause-grown
 returns-in_err-value-clause-grown c =
@@ -50,7 +50,7 @@ returns-in_err-value-clause-grown c =
     let hb = c.requires.b_in in
     let w = width_of c.args.model c.args.ty in
     four _ c.in_ok-sizes.ensures.grown c.in_ok-test.ensures.grown c.in_ok-judged.ensures.grown c.in_err-value.ensures.grown
-    (enough w _ (width_large _ _ c.requires.promoted) (omega (arith, ha.wide, hb.wide, ap (λ k. k * (12 * (k + 1))) ha.wide, ap length c.deref-2.ensures.value, c.in_ok-sizes.ensures.value.rest_wide)))
+    (enough w _ (width_large _ _ c.requires.promoted) (omega (arith, ha.wide, hb.wide, ap (λ k. k * (10 * (k + 1))) ha.wide, ap length c.deref-2.ensures.value, c.in_ok-sizes.ensures.value.rest_wide)))
 
 pub returns-clause-grown : goal.returns-clause-grown
 returns-clause-grown c =
@@ -58,4 +58,4 @@ returns-clause-grown c =
     let hb = c.requires.b_in in
     let w = width_of c.args.model c.args.ty in
     four _ c.in_ok-sizes.ensures.grown c.in_ok-test.ensures.grown c.in_ok-judged.ensures.grown c.in_ok-value.ensures.grown
-    (enough w _ (width_large _ _ c.requires.promoted) (omega (arith, ha.wide, hb.wide, ap (λ k. k * (12 * (k + 1))) ha.wide, ap length c.deref-2.ensures.value, c.in_ok-sizes.ensures.value.rest_wide)))
+    (enough w _ (width_large _ _ c.requires.promoted) (omega (arith, ha.wide, hb.wide, ap (λ k. k * (10 * (k + 1))) ha.wide, ap length c.deref-2.ensures.value, c.in_ok-sizes.ensures.value.rest_wide)))
