@@ -27,8 +27,8 @@ fn numbers(digits: usize) -> u32
     u32::MAX
 }
 
-// The element at `low` and the number of the digits, where the number is below `count`: a tree of choices by the digits, highest first.
-fn read_among(
+/// The element at `low` and the number of the digits, where the number is below `count`: a tree of choices by the digits, highest first.
+pub fn read_among(
     alloc: Global,
     program: &Program,
     sym: &mut Sym,
