@@ -17,13 +17,14 @@ use Rattle.circuits.proofs.Nets.{grown_then, means_by}
 use Rattle.sym_state.specs.declared.state.Sym.{Sym}
 use Rattle.sym_state.specs.Standing.{Stand, stand, IsState, Turned, IsHere, marks, stopped}
 use Rattle.sym_state.specs.Following.{left_of, Came}
-use Rattle.sym_state.proofs.Nets.{added_of, added_then, all_added, stand_grown}
+use Rattle.sym_state.proofs.Nets.{added_of, added_then, all_added, number_added, stand_grown}
 use Rattle.sym_state.proofs.Composed.{turned_follows}
+use Rattle.sym_elements.specs.declared.finding.Places.{Places}
 use Rattle.sym_elements.specs.Marks.{IsDecoded, IsNone, none_true, HasOne}
 use Rattle.sym_elements.specs.Elements.{key_at, ArePlaces, found_cost, Finds}
 use Rattle.sym_elements.proofs.Marking.{none_of_none, none_inside, none_outside}
 use Rattle.sym_elements.proofs.Decoding.{bools_added}
-use Rattle.sym_elements.proofs.Kept.{place_is}
+use Rattle.sym_elements.proofs.Kept.{first_is, place_is}
 
 -- an index of a type, read from its digits, is below a number
 below_by_sign : (n m : ℕ) (k : ℕ) (t : Bool) → index_below n (cond t (pos m) (negsuc k)) ≡ cond (not (not t) && nat_lt m n) (Some m) None
@@ -96,11 +97,19 @@ module _ (p : Program) (I : List Placed) (o : ℕ) (ty : IntType) (index : List 
     abbrev one_place : (v : ℕ → Bool) → inside v ≡ true → HasOne (size_of_object p o) (map (holds v n.net) places)
     one_place v h = (value v, below v h, only_place v h)
 
-    found_places : ArePlaces p n o places
+    is_inside : (v : ℕ → Bool) → holds v n.net n.live ≡ true → inside v ≡ true
+    is_inside v live = ends_not (stand p v s).live (inside v) (sym (ap (λ z. z.live) (whole.is v)) ∙ live)
+
+    abbrev found : Places
+    found = record { bits = places; digits = index }
+
+    found_places : ArePlaces p n o found
     found_places = record {
       inside = all_added (added_then (length places + 1) 0 (added_of none.grown) x.added (omega arith) (omega arith)) places made.marks_of.inside;
       wide = made.marks_of.wide;
-      one = λ v live. one_place v (ends_not (stand p v s).live (inside v) (sym (ap (λ z. z.live) (whole.is v)) ∙ live));
+      one = λ v live. one_place v (is_inside v live);
+      digits_in = all_added whole.added index index_in.inside;
+      told = λ v live. number_added whole.added v index index_in.inside ∙ sym (first_is (one_place v (is_inside v live)));
     }
 
     dead : (v : ℕ → Bool) (a : Stand) (t : Bool) → a.live ≡ false → stopped t a ≡ a
@@ -124,7 +133,7 @@ module _ (p : Program) (I : List Placed) (o : ℕ) (ty : IntType) (index : List 
         and_never true = refl
         and_never false = refl
 
-    pub finds : Finds p I o ty index s n places
+    pub finds : Finds p I o ty index s n found
     finds = record {
       places_of = found_places;
       follows = turned_follows p (Duties p I) (λ v. stopped (not (inside v))) whole (λ v. refl) (λ v d. dead v (stand p v s) (not (inside v)) d)

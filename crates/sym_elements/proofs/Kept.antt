@@ -11,7 +11,8 @@ use Rattle.sym_state.specs.declared.state.Sym.{Sym}
 use Rattle.sym_state.specs.Places.{key}
 use Rattle.sym_state.specs.Standing.{Stand, stand, Added, Moves}
 use Rattle.sym_state.specs.Following.{Deed, Follows}
-use Rattle.sym_state.proofs.Nets.{all_added}
+use Rattle.sym_state.proofs.Nets.{all_added, number_added}
+use Rattle.sym_elements.specs.declared.finding.Places.{Places}
 use Rattle.sym_elements.specs.Marks.{HasOne, first_true}
 use Rattle.sym_elements.specs.Elements.{key_at, ArePlaces}
 use Rattle.sym_elements.proofs.Marking.{first_of_marks}
@@ -29,12 +30,14 @@ live_before {a} {b} x h = by_case a.live refl
     by_case true e = refl
     by_case false e = absurd (true≢false (sym h ∙ (x.still e).live ∙ e))
 
-module _ (p : Program) (o : ℕ) (places : List Bit) where
+module _ (p : Program) (o : ℕ) (places : Places) where
   pub places_moved : {i j : ℕ} {s t : Sym} → ArePlaces p s o places → Added i j s.net t.net → ((v : ℕ → Bool) → (stand p v t).live ≡ true → (stand p v s).live ≡ true) → ArePlaces p t o places
   places_moved {s = s} {t = t} x g m = record {
-    inside = all_added g places x.inside;
+    inside = all_added g places.bits x.inside;
     wide = x.wide;
-    one = λ v live. subst (λ bs. HasOne (size_of_object p o) bs) (sym (bools_added v places g x.inside)) (x.one v (m v live));
+    one = λ v live. subst (λ bs. HasOne (size_of_object p o) bs) (sym (bools_added v places.bits g x.inside)) (x.one v (m v live));
+    digits_in = all_added g places.digits x.digits_in;
+    told = λ v live. number_added g v places.digits x.digits_in ∙ x.told v (m v live) ∙ ap first_true (sym (bools_added v places.bits g x.inside));
   }
 
   -- across any part of a program, as the right side of an assignment
@@ -42,9 +45,13 @@ module _ (p : Program) (o : ℕ) (places : List Bit) where
   places_follow x f = places_moved x f.added (λ v live. live_before (f.moves v) live)
 
   pub key_follows : {A : Type 0} {ds : List Duty} {i j : ℕ} {s t : Sym} {S : (ℕ → Bool) → A → Type 0} {deed : Deed A} → ArePlaces p s o places → Follows ds p i j s t S deed → (v : ℕ → Bool)
-      → key_at o v t.net places ≡ key_at o v s.net places
-  key_follows x f v = key_kept places o v f.added x.inside
+      → key_at o v t.net places.bits ≡ key_at o v s.net places.bits
+  key_follows x f v = key_kept places.bits o v f.added x.inside
 
-  -- the place of a run that is here
-  pub place_is : (s : Sym) (v : ℕ → Bool) (one : HasOne (size_of_object p o) (map (holds v s.net) places)) → key_at o v s.net places ≡ key o one.0
-  place_is s v one = ap (key o) (ap first_true one.2 ∙ first_of_marks one.0 (size_of_object p o) one.1)
+-- of the places exactly one is true: its number
+pub first_is : {n : ℕ} {bs : List Bool} (one : HasOne n bs) → first_true bs ≡ one.0
+first_is {n} one = ap first_true one.2 ∙ first_of_marks one.0 n one.1
+
+-- the place of a run that is here
+pub place_is : (p : Program) (o : ℕ) (places : List Bit) (s : Sym) (v : ℕ → Bool) (one : HasOne (size_of_object p o) (map (holds v s.net) places)) → key_at o v s.net places ≡ key o one.0
+place_is p o places s v one = ap (key o) (first_is one)

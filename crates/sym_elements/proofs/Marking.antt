@@ -1,7 +1,6 @@
 -- Laws of lists of truth values of which one is true.
-use Rattle.std.proofs.Common.{◌≡◌, ℕ, zero, suc, ◌+◌, ◌*◌, ◌<◌, ◌≤◌, Bool, true, false, cond, not, ◌&&◌, nat_eq, eqb-true, ℤ, pos, List, [], ◌∷◌, ◌++◌, length, get_or, take, refl, sym, ◌∙◌, ap, arith}
+use Rattle.std.proofs.Common.{◌≡◌, ℕ, zero, suc, ◌+◌, ◌*◌, ◌<◌, ◌≤◌, Bool, true, false, not, ◌&&◌, nat_eq, List, [], ◌∷◌, ◌++◌, length, get_or, take, refl, sym, ◌∙◌, ap, arith}
 use Rattle.std.proofs.Math.Dec.{eqb-suc-suc, eqb-suc-zero, eqb-zero-suc}
-use Rattle.std.proofs.lemmas.Bool.{eqb-false}
 use Rattle.circuits.specs.Numbers.{digit}
 use Rattle.sym_state.specs.Standing.{marks}
 use Rattle.sym_elements.specs.Marks.{pairs, none_true, first_true}
@@ -93,19 +92,3 @@ length_marks k zero = refl
 length_marks zero (suc n) = ap suc (length_marks zero n)
 length_marks (suc zero) (suc n) = ap suc (length_marks zero n)
 length_marks (suc (suc k)) (suc n) = ap suc (length_marks (suc k) n)
-
--- the last of the first i that are chosen
-abbrev pub picked : ℕ → (ℕ → Bool) → (ℕ → ℤ) → ℤ
-picked zero b f = pos 0
-picked (suc i) b f = cond (b i) (f i) (picked i b f)
-
-pub picked_one : (b : ℕ → Bool) (f : ℕ → ℤ) (k : ℕ) → ((i : ℕ) → b i ≡ nat_eq k i) → (i : ℕ) → k < i → picked i b f ≡ f k
-picked_one b f k e zero h = absurd (omega (arith, h))
-picked_one b f k e (suc i) h = by_case (nat_eq k i) refl (λ lt. picked_one b f k e i lt)
-  where
-    by_case : (t : Bool) → nat_eq k i ≡ t → (k < i → picked i b f ≡ f k) → cond (b i) (f i) (picked i b f) ≡ f k
-    by_case true q g = ap (λ t. cond t (f i) (picked i b f)) (e i ∙ q) ∙ ap f (sym (eqb-true k i q))
-    by_case false q g = ap (λ t. cond t (f i) (picked i b f)) (e i ∙ q) ∙ g (less (eqb-false k i q))
-      where
-        less : (k ≡ i → ⊥) → k < i
-        less d = omega (arith, h, d)

@@ -1,6 +1,7 @@
 -- Elements are written: of all cells that of the place that is true.
 use Rattle.std.proofs.Common.{◌≡◌, ℕ, zero, suc, ◌+◌, ◌*◌, ◌<◌, ◌≤◌, Bool, true, false, cond, ◌&&◌, nat_eq, eqb-true, ℤ, List, length, get_or, map, refl, sym, ◌∙◌, ap, ap₂, arith, Some}
 use Rattle.std.proofs.lemmas.Bool.{eqb-false, eq-eqb, ne_eqb}
+use Rattle.std.proofs.lemmas.List.{get_or-map}
 use Rattle.std.proofs.lemmas.List.Elements.{All-get_or}
 use Rattle.c_core.specs.Tree.{Program}
 use Rattle.c_core.specs.Types.{width_of, fit}
@@ -19,11 +20,18 @@ use Rattle.sym_state.specs.Standing.{Stand, stand, IsState, Turned, stored}
 use Rattle.sym_state.proofs.Nets.{added_of, added_then, unchanged, holds_added, typed_added, are_typed_added, stand_grown}
 use Rattle.sym_state.proofs.Composed.{turned_follows}
 use Rattle.sym_values.specs.Valuing.{Reckoned, Gives}
+use Rattle.sym_elements.specs.declared.finding.Places.{Places}
 use Rattle.sym_elements.specs.Marks.{HasOne}
 use Rattle.sym_elements.specs.Elements.{key_at, ArePlaces, width_of_element, written_cost, stored_cost, stored_in}
 use Rattle.sym_elements.proofs.Marking.{mark_at}
 use Rattle.sym_elements.proofs.Kept.{place_is, places_moved, key_kept}
-use Rattle.sym_elements.proofs.Picked.{place_at, bit_at}
+
+-- is the place of this number true
+abbrev pub place_at : (ℕ → Bool) → List NetNode → List Bit → ℕ → Bool
+place_at v net places i = get_or (map (holds v net) places) i false
+
+bit_at : (v : ℕ → Bool) (net : List NetNode) (bits : List Bit) (i : ℕ) (d b : Bit) → b ≡ get_or bits i d → i < length bits → holds v net b ≡ get_or (map (holds v net) bits) i false
+bit_at v net bits i d b e h = ap (holds v net) e ∙ sym (get_or-map (holds v net) bits i d false h)
 
 -- the first i cells are written, each where its place is true
 abbrev pub writes : ℕ → (ℕ → Bool) → ℕ → ℤ → Stand → Stand
@@ -108,8 +116,8 @@ module _ (p : Program) (o : ℕ) where
             ∙ ap (λ k. writes k (place_at v s.net places) o z (stand p v s)) j;
       }
 
-  pub writes_all : {s n : Sym} {i : ℕ} (places value : List Bit) → ArePlaces p s o places → Writes places value s n i → i ≡ size_of_object p o
-      → Turned p (written_cost p o) 0 s n (λ v. stored (holds v s.net s.live) (key_at o v s.net places) (typed p.model (type_of_object p o) v s.net value))
+  pub writes_all : {s n : Sym} {i : ℕ} (places : Places) (value : List Bit) → ArePlaces p s o places → Writes places.bits value s n i → i ≡ size_of_object p o
+      → Turned p (written_cost p o) 0 s n (λ v. stored (holds v s.net s.live) (key_at o v s.net places.bits) (typed p.model (type_of_object p o) v s.net value))
   writes_all {s} {n} {i} places value x w e = record {
     fits = w.fits;
     added = added_then (written_cost p o) 0 (unchanged 0 s.net) w.added (omega (arith, ap (λ k. k * (4 * width_of_element p o + 1)) e)) (omega arith);
@@ -122,20 +130,20 @@ module _ (p : Program) (o : ℕ) where
       z v = typed p.model (type_of_object p o) v s.net value
 
       all_of : (v : ℕ → Bool) (l : Bool) → holds v s.net s.live ≡ l
-          → writes i (place_at v s.net places) o (z v) (stand p v s) ≡ stored (holds v s.net s.live) (key_at o v s.net places) (z v) (stand p v s)
+          → writes i (place_at v s.net places.bits) o (z v) (stand p v s) ≡ stored (holds v s.net s.live) (key_at o v s.net places.bits) (z v) (stand p v s)
       all_of v false h =
-          writes_dead (place_at v s.net places) o (z v) (stand p v s) h i
-          ∙ (λ j. record (stand p v s) { cells = cond (sym h j) (put (key_at o v s.net places) (z v) (stand p v s).cells) (stand p v s).cells })
+          writes_dead (place_at v s.net places.bits) o (z v) (stand p v s) h i
+          ∙ (λ j. record (stand p v s) { cells = cond (sym h j) (put (key_at o v s.net places.bits) (z v) (stand p v s).cells) (stand p v s).cells })
       all_of v true h =
-          let one : HasOne (size_of_object p o) (map (holds v s.net) places) = x.one v h in
-          writes_one (place_at v s.net places) o (z v) (stand p v s) one.0 (λ k. ap (λ bs. get_or bs k false) one.2 ∙ mark_at one.0 (size_of_object p o) k one.1) h i (omega (arith, e, one.1))
-          ∙ ap₂ (λ t k. stored t k (z v) (stand p v s)) (sym h) (sym (place_is p o places s v one))
+          let one : HasOne (size_of_object p o) (map (holds v s.net) places.bits) = x.one v h in
+          writes_one (place_at v s.net places.bits) o (z v) (stand p v s) one.0 (λ k. ap (λ bs. get_or bs k false) one.2 ∙ mark_at one.0 (size_of_object p o) k one.1) h i (omega (arith, e, one.1))
+          ∙ ap₂ (λ t k. stored t k (z v) (stand p v s)) (sym h) (sym (place_is p o places.bits s v one))
 
   dead_store : (k : Key) (z : ℤ) (a : Stand) → a.live ≡ false → stored a.live k z a ≡ a
   dead_store k z a h = λ i. record a { cells = cond (h i) (put k z a.cells) a.cells }
 
   -- where nothing but the net changes the places stay
-  pub places_reckoned : {i : ℕ} {s n : Sym} {ty : IntType} {bits places : List Bit} {f : (ℕ → Bool) → ℤ} → ArePlaces p s o places → Reckoned p i s n ty bits f → ArePlaces p n o places
+  pub places_reckoned : {i : ℕ} {s n : Sym} {ty : IntType} {bits : List Bit} {places : Places} {f : (ℕ → Bool) → ℤ} → ArePlaces p s o places → Reckoned p i s n ty bits f → ArePlaces p n o places
   places_reckoned {places = places} x r = places_moved p o places x r.turned.added (λ v live. ap (λ a. a.live) (sym (r.turned.is v)) ∙ live)
 
   -- a value is converted, and stored

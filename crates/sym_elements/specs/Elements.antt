@@ -2,12 +2,12 @@
 --
 -- Where a run is in an array depends on the inputs. So each cell of the array has a bit, its place, that is true in the runs whose index is
 -- the cell's. The places are found once for a target; a run whose index lies outside ends there (C11 6.5.6p8). Then the target
--- is read and written by them.
-use Rattle.std.specs.Prelude.{◌≡◌, ℕ, ◌+◌, ◌*◌, Bool, true, ℤ, List, length, map}
+-- is written by them, and read by the index's binary digits, which tell of the same cell.
+use Rattle.std.specs.Prelude.{◌≡◌, ℕ, ◌+◌, ◌-◌, ◌*◌, ◌<◌, Bool, true, ℤ, List, length, map}
 use Rattle.c_core.specs.Tree.{Program}
 use Rattle.c_core.specs.Types.{width_of}
 use Rattle.c_core.specs.declared.number.IntType.{IntType}
-use Rattle.c_meaning.specs.Cells.{Key}
+use Rattle.c_meaning.specs.Cells.{Key, read}
 use Rattle.c_meaning.specs.Duties.{Placed, Duties}
 use Rattle.c_meaning.specs.Eval.{store}
 use Rattle.c_meaning.specs.Havoc as definition
@@ -17,22 +17,26 @@ use Rattle.c_meaning.specs.Run.{index_below}
 use Rattle.circuits.specs.declared.net.Bit.{Bit}
 use Rattle.circuits.specs.declared.net.NetNode.{NetNode}
 use Rattle.circuits.specs.Net.{holds}
-use Rattle.circuits.specs.Numbers.{typed, AreIn}
+use Rattle.circuits.specs.Numbers.{number, typed, AreIn, AreTyped}
 use Rattle.circuits.specs.Outcome.{conversion_cost}
 use Rattle.sym_state.specs.declared.state.Sym.{Sym}
 use Rattle.sym_state.specs.Places.{key}
+use Rattle.sym_state.specs.Standing.{stand, Turned}
 use Rattle.sym_state.specs.Following.{Deed, Follows}
+use Rattle.sym_elements.specs.declared.finding.Places.{Places}
 use Rattle.sym_elements.specs.Marks.{HasOne, first_true}
 
 -- the cell of the first place that is true
 abbrev pub key_at : ℕ → (ℕ → Bool) → List NetNode → List Bit → Key
 key_at o v net places = key o (first_true (map (holds v net) places))
 
--- a place for each cell of an object; of a run that is here exactly one is true
-pub record ArePlaces (p : Program) (s : Sym) (o : ℕ) (places : List Bit) : Type 0 where
-  pub inside : AreIn s.net places
-  pub wide : length places ≡ size_of_object p o
-  pub one : (v : ℕ → Bool) → holds v s.net s.live ≡ true → HasOne (size_of_object p o) (map (holds v s.net) places)
+-- a place for each cell of an object; of a run that is here exactly one is true, and the digits are its number
+pub record ArePlaces (p : Program) (s : Sym) (o : ℕ) (places : Places) : Type 0 where
+  pub inside : AreIn s.net places.bits
+  pub wide : length places.bits ≡ size_of_object p o
+  pub one : (v : ℕ → Bool) → holds v s.net s.live ≡ true → HasOne (size_of_object p o) (map (holds v s.net) places.bits)
+  pub digits_in : AreIn s.net places.digits
+  pub told : (v : ℕ → Bool) → holds v s.net s.live ≡ true → number v s.net places.digits ≡ first_true (map (holds v s.net) places.bits)
 
 module _ (p : Program) where
   -- bits of each cell of an object
@@ -42,6 +46,10 @@ module _ (p : Program) where
   -- and-nodes of the places, by an index of a type
   abbrev pub found_cost : IntType → ℕ → ℕ
   found_cost ty o = 3 * size_of_object p o + (2 * width_of p.model ty + 1)
+
+  -- of a tree of choices among so many elements
+  abbrev pub picked_cost : ℕ → ℕ → ℕ
+  picked_cost o count = (count - 1) * (4 * width_of_element o)
 
   -- of an element that is read
   abbrev pub read_cost : ℕ → ℕ
@@ -54,6 +62,12 @@ module _ (p : Program) where
   -- of a value of a type that is stored in an element
   abbrev pub stored_cost : IntType → ℕ → ℕ
   stored_cost from o = conversion_cost p.model from (type_of_object p o) + written_cost o
+
+  -- bits of the state that are the element at low and the number of the digits, wherever the number is below the count; nothing changes but the net
+  pub record IsPicked (o low count : ℕ) (digits : List Bit) (old new : Sym) (bits : List Bit) : Type 0 where
+    pub turned : Turned p (picked_cost o count) 0 old new (λ v s. s)
+    pub bits_in : AreTyped p.model (type_of_object p o) new.net bits
+    pub is : (v : ℕ → Bool) → number v old.net digits < count → typed p.model (type_of_object p o) v new.net bits ≡ read (key o (low + number v old.net digits)) (stand p v old).cells
 
   -- I: the invariants in witness order
   module _ (I : List Placed) where
@@ -70,6 +84,6 @@ module _ (p : Program) where
     stored_in o places from value old v s = store p (havoc p I) (key_at o v old.net places) from (type_of_object p o) (typed p.model from v old.net value) s
 
     -- a run that is here goes on at the cell that its place tells of, or ends
-    pub record Finds (o : ℕ) (ty : IntType) (index : List Bit) (old new : Sym) (places : List Bit) : Type 0 where
+    pub record Finds (o : ℕ) (ty : IntType) (index : List Bit) (old new : Sym) (places : Places) : Type 0 where
       pub places_of : ArePlaces p new o places
-      pub follows : Follows (Duties p I) p (found_cost ty o) 0 old new (λ v k. k ≡ key_at o v new.net places) (found_in o ty index old)
+      pub follows : Follows (Duties p I) p (found_cost ty o) 0 old new (λ v k. k ≡ key_at o v new.net places.bits) (found_in o ty index old)

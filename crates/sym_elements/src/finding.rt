@@ -17,10 +17,11 @@ use std::alloc::Global;
 use sym_state::{Sym, stop};
 use wv_base::{OutOfMemory, Seq};
 
-/// A bit for each cell of an object, in order: is a run's index the cell's?
+/// A bit for each cell of an object, in order: is a run's index the cell's? And the binary digits of the index, lowest first.
 #[derive(Debug, Drop)]
 pub struct Places {
     pub bits: Seq<Bit>,
+    pub digits: Seq<Bit>,
 }
 
 /// Is the number of the digits at least 0 in its type?
@@ -47,7 +48,7 @@ pub fn find(
     requires fits { IsState (program_view program.now) sym.old }
     requires index_in { AreTyped program.now.model ty sym.old.net index.now.bits }
     requires room { length sym.old.net + found_cost (program_view program.now) ty object < 2 ^ 28 }
-    ensures { IfOk result (λ r. (I : List Placed) → Finds (program_view program.now) I object ty index.now.bits sym.old sym.new r.bits) }
+    ensures { IfOk result (λ r. (I : List Placed) → Finds (program_view program.now) I object ty index.now.bits sym.old sym.new r) }
 {
     let count = size_of_object(program, object) as usize;
     let digits = index.bits.as_slice();
@@ -55,6 +56,8 @@ pub fn find(
     let places = decoded(alloc, &mut sym.net, here, digits, count)?;
     let outside = none_of(&mut sym.net, &places)?;
     stop(sym, program, outside)?;
+    let copy = digits.to_vec(alloc)?;
     let bits = Seq::from_vec(places);
-    Ok(Places { bits })
+    let digits = Seq::from_vec(copy);
+    Ok(Places { bits, digits })
 }

@@ -9,5 +9,5 @@ mod writing;
 
 pub use finding::{Places, find, not_negative};
 pub use marks::decoded;
-pub use reading::read_element;
+pub use reading::{read_among, read_element};
 pub use writing::{store_element, write_element};

@@ -50,7 +50,7 @@ pub fn write_element(
     value: &Bits,
 ) -> Result<(), OutOfMemory>
     requires fits { IsState (program_view program.now) sym.old }
-    requires places_of { ArePlaces (program_view program.now) sym.old object places.now.bits }
+    requires places_of { ArePlaces (program_view program.now) sym.old object places.now }
     requires value_in { AreTyped program.now.model (type_of_object (program_view program.now) object) sym.old.net value.now.bits }
     requires room { length sym.old.net + written_cost (program_view program.now) object < 2 ^ 28 }
     ensures { IfOk result (λ r. Turned (program_view program.now) (written_cost (program_view program.now) object) 0 sym.old sym.new (λ v. stored (holds v sym.old.net sym.old.live) (key_at object v sym.old.net places.now.bits) (typed program.now.model (type_of_object (program_view program.now) object) v sym.old.net value.now.bits))) }
@@ -76,7 +76,7 @@ pub fn store_element(
 ) -> Result<Bits, OutOfMemory>
     requires fits { IsState (program_view program.now) sym.old }
     requires typed { to ≡ type_of_object (program_view program.now) object }
-    requires places_of { ArePlaces (program_view program.now) sym.old object places.now.bits }
+    requires places_of { ArePlaces (program_view program.now) sym.old object places.now }
     requires value_in { AreTyped program.now.model from sym.old.net value.now.bits }
     requires room { length sym.old.net + stored_cost (program_view program.now) from object < 2 ^ 28 }
     ensures { IfOk result (λ r. (I : List Placed) → Gives (program_view program.now) I (stored_cost (program_view program.now) from object) 0 sym.old sym.new (Some to) r.bits (stored_in (program_view program.now) I object places.now.bits from value.now.bits sym.old)) }

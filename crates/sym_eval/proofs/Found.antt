@@ -96,11 +96,11 @@ module _ (p : Program) (I : List Placed) where
   -- ---- a target stays what it is while other parts are done
   pub target_kept : {A : Type 0} {j k : ℕ} {s m : Sym} {S : (ℕ → Bool) → A → Type 0} {deed : Deed A} (t : Target) → IsTarget p s t → Follows (Duties p I) p j k s m S deed → IsTarget p m t
   target_kept (Scalar o) h f = tt
-  target_kept (Element o places) h f = places_follow p o places.bits h f
+  target_kept (Element o places) h f = places_follow p o places h f
 
   pub keys_kept : {A : Type 0} {j k : ℕ} {s m : Sym} {S : (ℕ → Bool) → A → Type 0} {deed : Deed A} (t : Target) → IsTarget p s t → Follows (Duties p I) p j k s m S deed → (v : ℕ → Bool) → keys_of t m.net v ≡ keys_of t s.net v
   keys_kept (Scalar o) h f v = refl
-  keys_kept (Element o places) h f v = key_follows p o places.bits h f v
+  keys_kept (Element o places) h f v = key_follows p o places h f v
 
   pub kept_twice : {A B : Type 0} {i j k l : ℕ} {a b c : Sym} {S : (ℕ → Bool) → A → Type 0} {T : (ℕ → Bool) → B → Type 0} {one : Deed A} {two : Deed B} (t : Target) → IsTarget p a t → Follows (Duties p I) p i j a b S one → Follows (Duties p I) p k l b c T two
       → IsTarget p c t × ((v : ℕ → Bool) → keys_of t c.net v ≡ keys_of t a.net v)
@@ -138,8 +138,8 @@ module _ (p : Program) (I : List Placed) (n : ℕ) (at : Around) where
   pub index_in : {s x : Sym} {is : List Bit} (spot : Spot) (ty : Option IntType) (o : ℕ) (i : Exp) (ti : IntType) → ti ≡ type_of i → IsTrue (is_typed p (Expr spot ty (Index o i))) → Values p I n at Used i s x is → AreTyped p.model ti x.net is
   index_in spot ty o i ti e h gi = rw e (value_in p I n at i (type_of i) (has_one i (index_parts p spot ty o i h).1) gi)
 
-  pub index_targets : {s x y : Sym} {is places : List Bit} {keys : Keys} (spot : Spot) (ty : Option IntType) (o : ℕ) (i : Exp) (ti : IntType) → ti ≡ type_of i → IsTrue (is_typed p (Expr spot ty (Index o i)))
-      → Values p I n at Used i s x is → Finds p I o ti is x y places → ((v : ℕ → Bool) → keys v ≡ key_at o v y.net places) → Targets p I n at (found_cost p (type_of i) o) (Expr spot ty (Index o i)) keys s y
+  pub index_targets : {s x y : Sym} {is : List Bit} {places : Places} {keys : Keys} (spot : Spot) (ty : Option IntType) (o : ℕ) (i : Exp) (ti : IntType) → ti ≡ type_of i → IsTrue (is_typed p (Expr spot ty (Index o i)))
+      → Values p I n at Used i s x is → Finds p I o ti is x y places → ((v : ℕ → Bool) → keys v ≡ key_at o v y.net places.bits) → Targets p I n at (found_cost p (type_of i) o) (Expr spot ty (Index o i)) keys s y
   index_targets {s} {x} {y} {is} {places} {keys} spot ty o i ti e h gi gf same =
       let a = Expr spot ty (Index o i) in
       let xi = value_as p I n at i (type_of i) (has_one i (index_parts p spot ty o i h).1) gi in
@@ -152,12 +152,12 @@ module _ (p : Program) (I : List Placed) (n : ℕ) (at : Around) where
       }
 
   -- an element that is read
-  pub index_values : {s x y m : Sym} {is rs places : List Bit} (spot : Spot) (ty : Option IntType) (o : ℕ) (i : Exp) (t ti : IntType) → t ≡ type_or_int ty → ti ≡ type_of i → Ready p I n at s (Expr spot ty (Index o i))
-      → Values p I n at Used i s x is → Finds p I o ti is x y places → Gives p I (read_cost p o) 0 y m (Some t) rs (read_in p I o places y) → Values p I n at Used (Expr spot ty (Index o i)) s m rs
+  pub index_values : {s x y m : Sym} {is rs : List Bit} {places : Places} (spot : Spot) (ty : Option IntType) (o : ℕ) (i : Exp) (t ti : IntType) → t ≡ type_or_int ty → ti ≡ type_of i → Ready p I n at s (Expr spot ty (Index o i))
+      → Values p I n at Used i s x is → Finds p I o ti is x y places → Gives p I (read_cost p o) 0 y m (Some t) rs (read_in p I o places.bits y) → Values p I n at Used (Expr spot ty (Index o i)) s m rs
   index_values {s} {x} {y} {m} {is} {rs} {places} spot ty o i t ti et ei h gi gf gr =
       let e = Expr spot ty (Index o i) in
       let q = index_parts p spot ty o i h.types in
-      let found = index_targets {keys = λ v. key_at o v y.net places} spot ty o i ti ei h.types gi gf (λ v. refl) in
+      let found = index_targets {keys = λ v. key_at o v y.net places.bits} spot ty o i ti ei h.types gi gf (λ v. refl) in
       as_values p I n at e (ap Some et ∙ ap (λ z. Some (type_or_int z)) (sym q.0) ∙ q.0)
       record {
         bits_in = gr.bits_in;
@@ -171,7 +171,7 @@ module _ (p : Program) (I : List Placed) (n : ℕ) (at : Around) where
   pub index_room : {s x : Sym} {is : List Bit} (spot : Spot) (ty : Option IntType) (o : ℕ) (i : Exp) (ti : IntType) → ti ≡ type_of i → Ready p I n at s (Expr spot ty (Index o i)) → Values p I n at Used i s x is → length x.net + found_cost p ti o < 2 ^ 28
   index_room spot ty o i ti e h gi = omega (arith, found_and_read p ti o, (longer_by gi.follows.added).1, h.room)
 
-  pub element_room : {s x y : Sym} {is places : List Bit} (spot : Spot) (ty : Option IntType) (o : ℕ) (i : Exp) (ti : IntType) → Ready p I n at s (Expr spot ty (Index o i)) → Values p I n at Used i s x is → Finds p I o ti is x y places → length y.net + read_cost p o < 2 ^ 28
+  pub element_room : {s x y : Sym} {is : List Bit} {places : Places} (spot : Spot) (ty : Option IntType) (o : ℕ) (i : Exp) (ti : IntType) → Ready p I n at s (Expr spot ty (Index o i)) → Values p I n at Used i s x is → Finds p I o ti is x y places → length y.net + read_cost p o < 2 ^ 28
   element_room spot ty o i ti h gi gf = omega (arith, found_and_read p ti o, (longer_by gi.follows.added).1, (longer_by gf.follows.added).1, h.room)
 
   pub target_room : {s x : Sym} {is : List Bit} (spot : Spot) (ty : Option IntType) (o : ℕ) (i : Exp) (ti : IntType) → ti ≡ type_of i → TargetReady p I n at (finding p (Expr spot ty (Index o i))) s (Expr spot ty (Index o i)) → Values p I n at Used i s x is
@@ -189,7 +189,7 @@ module _ (p : Program) (I : List Placed) (n : ℕ) (at : Around) where
   }
 
   pub found_element : {s x y : Sym} {is : List Bit} (spot : Spot) (ty : Option IntType) (node : Node) (o : ℕ) (i : Exp) (ti : IntType) (places : Places) → node ≡ Index o i → ti ≡ type_of i → IsTrue (is_typed p (Expr spot ty node))
-      → Values p I n at Used i s x is → Finds p I o ti is x y places.bits → Found p I n at (Expr spot ty node) s y (Element o places)
+      → Values p I n at Used i s x is → Finds p I o ti is x y places → Found p I n at (Expr spot ty node) s y (Element o places)
   found_element {s} {x} {y} spot ty node o i ti places e ei h gi gf = record {
     meant = (i, e);
     is = gf.places_of;

@@ -36,7 +36,7 @@ module _ (p : Program) where
   -- its places are the state's
   abbrev pub IsTarget : Sym → Target → Type 0
   IsTarget s (Scalar o) = Unit {0}
-  IsTarget s (Element o places) = ArePlaces p s o places.bits
+  IsTarget s (Element o places) = ArePlaces p s o places
 
   -- and-nodes of the places of an element
   abbrev pub finding_in : Node → ℕ

@@ -1,5 +1,5 @@
 -- A cell is read: it is live, or there is no value. What it holds is a number of its type.
-use Rattle.std.proofs.Common.{◌≡◌, ℕ, zero, suc, ◌^◌, ◌<◌, Bool, true, false, cond, ◌||◌, ℤ, pos, List, [], ◌∷◌, map, refl, sym, ◌∙◌, ap, subst, arith, Some, None}
+use Rattle.std.proofs.Common.{◌≡◌, ℕ, zero, suc, ◌^◌, ◌<◌, Bool, true, false, cond, ◌||◌, ℤ, pos, List, [], ◌∷◌, map, refl, sym, ◌∙◌, ap, subst, arith, Some, None, is_some}
 use Rattle.std.proofs.Math.Nat.{mod-eq_of_lt}
 use Rattle.std.proofs.lemmas.Bool.{lt-ltb}
 use Rattle.c_core.specs.Tree.{Program}
@@ -69,7 +69,13 @@ module _ (val : SymCell → ℤ) (o i : ℕ) where
   live_at (c ∷ cs) zero h = ap (λ x. x || live_in o i cs) (h.is c)
   live_at (c ∷ cs) (suc n) h = ap (λ x. is_of o i c || x) (live_at cs n (behind h)) ∙ or_true (is_of o i c)
 
+pub innermost_live : (o i n : ℕ) (cs : List SymCell) → IsInnermost o i cs n → live_in o i cs ≡ true
+innermost_live o i n cs h = live_at (λ c. pos 0) o i cs n h
+
 module _ (p : Program) (s : Sym) (o i : ℕ) where
+  pub same_live : (v : ℕ → Bool) → live (key o i) (stand p v s).cells ≡ live_in o i s.cells.items
+  same_live v = let val : SymCell → ℤ = λ x. typed p.model (type_of_object p x.object) v s.net x.bits.bits in live_map val o i s.cells.items
+
   pub cell_live : (n : ℕ) → IsInnermost o i s.cells.items n → (v : ℕ → Bool) → live (key o i) (stand p v s).cells ≡ true
   cell_live n h v = let val : SymCell → ℤ = λ x. typed p.model (type_of_object p x.object) v s.net x.bits.bits in live_map val o i s.cells.items ∙ live_at val o i s.cells.items n h
 
@@ -82,6 +88,13 @@ module _ (p : Program) (s : Sym) (o i : ℕ) where
 
   pub seen_dead : (cs : List Cell) → live (key o i) cs ≡ false → None ≡ seen_at p (key o i) cs
   seen_dead cs h = ap (λ b. and_then (cond b (Some (read (key o i) cs)) None) (λ z. Some (fit p.model (type_of_object p o) z))) (sym h)
+
+  pub there_is_live : (cs : List Cell) → is_some (seen_at p (key o i) cs) ≡ live (key o i) cs
+  there_is_live cs = by_case (live (key o i) cs)
+    where
+      by_case : (b : Bool) → is_some (and_then (cond b (Some (read (key o i) cs)) None) (λ z. Some (fit p.model (type_of_object p o) z))) ≡ b
+      by_case true = refl
+      by_case false = refl
 
   -- it is of the type already
   pub read_kept : (ty : IntType) (bits : List Bit) → ty ≡ type_of_object p o → Reads p.model ty s.net bits (λ v. read (key o i) (stand p v s).cells) → (v : ℕ → Bool)

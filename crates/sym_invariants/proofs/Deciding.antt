@@ -14,7 +14,7 @@ use Rattle.circuits.proofs.Nets.{means_by, opp, and_of, grown_then}
 use Rattle.sym_state.specs.declared.state.Sym.{Sym}
 use Rattle.sym_state.specs.Standing.{IsState, Turned}
 use Rattle.sym_state.specs.Following.{IsNumber}
-use Rattle.sym_state.proofs.Nets.{added_of, holds_added, typed_added}
+use Rattle.sym_state.proofs.Nets.{added_of, typed_added}
 use Rattle.sym_values.specs.Valuing.{Reckoned, Decided}
 use Rattle.sym_values.proofs.Reckoning.{net_turned}
 use Rattle.sym_weight.specs.Table.{chosen}
@@ -73,13 +73,9 @@ choice_value : (o q r : Option ℤ) (s t u : ℤ) → IfSome o (λ w. w ≡ s) �
 choice_value None q r s t u d e h = tt
 choice_value (Some z) q r s t u d e h = subst (λ y. IfSome (cond (is_zero z) r q) (λ w. w ≡ cond (not (is_zero y)) t u)) d (choice_number (is_zero z) q r t u e h)
 
-either_there : (b : Bool) (o q : Option ℤ) → cond b (is_some o) (is_some q) ≡ is_some (cond b o q)
+pub either_there : (b : Bool) (o q : Option ℤ) → cond b (is_some o) (is_some q) ≡ is_some (cond b o q)
 either_there true o q = refl
 either_there false o q = refl
-
-either_value : (b : Bool) (o q : Option ℤ) (t u : ℤ) → IfSome o (λ w. w ≡ t) → IfSome q (λ w. w ≡ u) → IfSome (cond b o q) (λ w. w ≡ cond b t u)
-either_value true o q t u e h = e
-either_value false o q t u e h = h
 
 second_there : (o q : Option ℤ) → is_some o && is_some q ≡ is_some (and_then o (λ z. and_then q (λ w. Some w)))
 second_there None q = refl
@@ -207,23 +203,6 @@ module _ (p : Program) where
                 (choice_value (h v) (f v) (g v) (typed p.model of v s.net es) (typed p.model to v s.net xs) (typed p.model to v s.net ys) (e.is v) (x.is v) (y.is v));
           };
         }
-
-  -- one or the other, by a bit
-  pub picked_sees : (ty : IntType) (s m n : Sym) (xs ys rs : List Bit) (dx dy here r : Bit) (f g : Perhaps) → IsIn s.net here → IsSeen p.model (Some ty) s.net xs dx f → IsSeen p.model (Some ty) s.net ys dy g
-      → Decided p 3 s m r (λ v. cond (holds v s.net here) (holds v s.net dx) (holds v s.net dy))
-      → Reckoned p (4 * width_of p.model ty) m n ty rs (λ v. cond (holds v m.net here) (typed p.model ty v m.net xs) (typed p.model ty v m.net ys))
-      → Sees p (4 * width_of p.model ty + 3) s n (Some ty) rs r (λ v. cond (holds v s.net here) (f v) (g v))
-  picked_sees ty s m n xs ys rs dx dy here r f g i x y d c = record {
-    turned = turned_after p (4 * width_of p.model ty + 3) d.turned c.turned (omega arith);
-    seen = record {
-      bits_in = c.bits_in;
-      defined = means_by n.net r _ (λ v. is_some (cond (holds v s.net here) (f v) (g v))) (means_added c.turned.added d.means)
-          (λ v. (λ j. cond (holds v s.net here) (x.defined.is v j) (y.defined.is v j)) ∙ either_there (holds v s.net here) (f v) (g v));
-      is = λ v. some_map (cond (holds v s.net here) (f v) (g v))
-          (λ z q. q ∙ (λ j. cond (sym (holds_added d.turned.added v here i) j) (sym (typed_added d.turned.added p.model ty v xs x.bits_in) j) (sym (typed_added d.turned.added p.model ty v ys y.bits_in) j)) ∙ sym (c.is v))
-          (either_value (holds v s.net here) (f v) (g v) (typed p.model ty v s.net xs) (typed p.model ty v s.net ys) (x.is v) (y.is v));
-    };
-  }
 
   -- the comma operator
   pub second_sees : (s t : Option IntType) (a : Sym) (net : List NetNode) (xs ys : List Bit) (dx dy r : Bit) (f g : Perhaps) → IsState p a → IsSeen p.model s a.net xs dx f → IsSeen p.model t a.net ys dy g → Grown 1 a.net net

@@ -1,6 +1,6 @@
 // Values as bits, with a bit that is true where there is a value: what operators make of them.
-ghost use Rattle.std.specs.Prelude.{◌≡◌, ◌+◌, ◌*◌, ◌<◌, ◌^◌, IfOk, IsFalse, IsTrue, Option, Some, None, cond, length};
-ghost use Rattle.c_core.specs.Types.{width_of, fit, in_range, promote_of, IsPromoted};
+ghost use Rattle.std.specs.Prelude.{◌≡◌, ◌+◌, ◌<◌, ◌^◌, IfOk, IsFalse, IsTrue, Option, Some, None, cond, length};
+ghost use Rattle.c_core.specs.Types.{fit, in_range, promote_of, IsPromoted};
 ghost use Rattle.c_core.specs.Operators as operators;
 ghost use Rattle.c_core.specs.View.{program_view};
 ghost use Rattle.c_core.specs.declared.number.IntType.{IntType};
@@ -215,8 +215,14 @@ pub fn decided(
     Ok(Seen { bits, defined })
 }
 
-// `yes` where the test is true, else `no`.
-fn pick(program: &Program, sym: &mut Sym, go: Bit, yes: Bit, no: Bit) -> Result<Bit, OutOfMemory>
+/// `yes` where the test is true, else `no`.
+pub fn pick(
+    program: &Program,
+    sym: &mut Sym,
+    go: Bit,
+    yes: Bit,
+    no: Bit,
+) -> Result<Bit, OutOfMemory>
     requires fits { IsState (program_view program.now) sym.old }
     requires go_in { IsIn sym.old.net go }
     requires yes_in { IsIn sym.old.net yes }
@@ -228,30 +234,6 @@ fn pick(program: &Program, sym: &mut Sym, go: Bit, yes: Bit, no: Bit) -> Result<
     let left = sym.net.and(not(go), no)?;
     let neither = sym.net.and(not(taken), not(left))?;
     Ok(not(neither))
-}
-
-/// One value or another of a type, by a bit.
-pub fn picked(
-    alloc: Global,
-    program: &Program,
-    sym: &mut Sym,
-    ty: IntType,
-    here: Bit,
-    x: &Seen,
-    y: &Seen,
-) -> Result<Seen, OutOfMemory>
-    requires fits { IsState (program_view program.now) sym.old }
-    requires here_in { IsIn sym.old.net here }
-    requires x_in { AreTyped program.now.model ty sym.old.net x.now.bits.bits }
-    requires x_defined { IsIn sym.old.net x.now.defined }
-    requires y_in { AreTyped program.now.model ty sym.old.net y.now.bits.bits }
-    requires y_defined { IsIn sym.old.net y.now.defined }
-    requires room { length sym.old.net + 3 < 2 ^ 28 }
-    ensures { IfOk result (λ r. (f g : Perhaps) → IsSeen program.now.model (Some ty) sym.old.net x.now.bits.bits x.now.defined f → IsSeen program.now.model (Some ty) sym.old.net y.now.bits.bits y.now.defined g → Sees (program_view program.now) (4 * width_of program.now.model ty + 3) sym.old sym.new (Some ty) r.bits.bits r.defined (λ v. cond (holds v sym.old.net here) (f v) (g v))) }
-{
-    let defined = pick(program, sym, here, x.defined, y.defined)?;
-    let bits = choose(alloc, program, sym, ty, here, &x.bits, &y.bits)?;
-    Ok(Seen { bits, defined })
 }
 
 /// A side of `?:`, converted to the type of the whole; that of a void one is left as it is.

@@ -13,6 +13,6 @@ loop-i-preserved c =
 
 pub returns : goal.returns
 returns c =
-    writes_all (program_view c.args.program.now) c.args.object c.args.places.now.bits c.args.value.now.bits c.requires.places_of
+    writes_all (program_view c.args.program.now) c.args.object c.args.places.now c.args.value.now.bits c.requires.places_of
     (subst (λ z. Writes (program_view c.args.program.now) c.args.object z c.args.value.now.bits c.args.sym.now c.loop-i.sym c.loop-i.i) c.as_slice-bits.ensures c.loop-i.invariant)
     (omega (arith, c.size_of_object-i-end.ensures))
