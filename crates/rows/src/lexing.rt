@@ -5,13 +5,14 @@ use std::alloc::{AllocError, Global};
 use wv_base::Seq;
 
 fn suffix(unsigned: bool, longs: u8) -> &'static str {
-    match (unsigned, longs) {
-        (false, 0) => "",
-        (false, 1) => "l",
-        (false, _) => "ll",
-        (true, 0) => "u",
-        (true, 1) => "ul",
-        (true, _) => "ull",
+    let texts = if unsigned {
+        ["u", "ul", "ull"]
+    } else {
+        ["", "l", "ll"]
+    };
+    match texts.get(usize::from(longs)) {
+        Some(text) => text,
+        None => texts[2],
     }
 }
 

@@ -63,16 +63,13 @@ fn sign_text(op: UnOp) -> &'static str {
     }
 }
 
+const SMALL: [&str; 6] = ["0", "1", "2", "3", "4", "5"];
+
 // Small numbers as they are, all others alike.
 fn number_text(value: u64) -> &'static str {
-    match value {
-        0 => "0",
-        1 => "1",
-        2 => "2",
-        3 => "3",
-        4 => "4",
-        5 => "5",
-        _ => "9",
+    match SMALL.get(value as usize) {
+        Some(text) => text,
+        None => "9",
     }
 }
 
