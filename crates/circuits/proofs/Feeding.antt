@@ -1,5 +1,5 @@
 -- Inputs added to a net.
-use Rattle.std.proofs.Common.{◌≡◌, ℕ, ◌+◌, ◌*◌, ◌^◌, ◌≤◌, Bool, List, [], ◌∷◌, ◌++◌, length, refl, sym, ◌∙◌, ap, arith, append_assoc, append-nil, length-append, add-one}
+use Rattle.std.proofs.Common.{◌≡◌, ℕ, ◌+◌, ◌*◌, ◌^◌, ◌≤◌, Bool, List, [], ◌∷◌, ◌++◌, refl, sym, ◌∙◌, ap, arith, append_assoc, append-nil, length-append, add-one}
 use Rattle.std.proofs.lemmas.List.Elements.{All-append, All-head, All-tail, All-cons}
 use Rattle.c_core.specs.declared.number.DataModel.{DataModel}
 use Rattle.c_core.specs.declared.number.IntType.{IntType}
@@ -19,9 +19,6 @@ fed_not most net = record { more = []; is = sym (append-nil net); inputs = refl;
 
 pub fed_wider : {j n : ℕ} {old new : List NetNode} → Fed j old new → j ≤ n → Fed n old new
 fed_wider {j} {n} {old} {new} f h = record { more = f.more; is = f.is; inputs = f.inputs; few = omega (arith, f.few) }
-
-pub fed_longer : {most : ℕ} {old new : List NetNode} → Fed most old new → (length old ≤ length new) × (length new ≤ length old + most)
-fed_longer {most} {old} {new} f = (omega (arith, ap length f.is, length-append old f.more), omega (arith, ap length f.is, length-append old f.more, f.few))
 
 pub fed_more : {n : ℕ} {old mid new : List NetNode} (k : ℕ) → Fed n old mid → new ≡ mid ++ Input k ∷ [] → Fed (n + 1) old new
 unfolding count_inputs

@@ -1,11 +1,11 @@
 -- Numbers as a sign and a distance from 0.
-use Rattle.std.proofs.Common.{◌≡◌, ℕ, zero, suc, ◌+◌, ◌-◌, ◌*◌, ◌/◌, ◌%◌, ◌^◌, ◌<◌, inl, inr, Bool, true, false, cond, not, ◌&&◌, nat_lt, nat_eq, ℤ, pos, negsuc, neg_ℤ, ◌+ℤ◌, ◌*ℤ◌, int_div, int_rem, unsigned_abs, refl, sym, ◌∙◌, ap, arith}
+use Rattle.std.proofs.Common.{◌≡◌, ℕ, zero, suc, ◌+◌, ◌-◌, ◌*◌, ◌/◌, ◌%◌, ◌^◌, ◌<◌, inl, inr, Bool, true, false, cond, not, ◌&&◌, nat_lt, ℤ, pos, negsuc, neg_ℤ, ◌+ℤ◌, ◌*ℤ◌, int_div, int_rem, unsigned_abs, refl, sym, ◌∙◌, ap, arith}
 use Rattle.std.proofs.lemmas.Int.{ints}
 use Rattle.std.proofs.Math.IntN.{negsuc-*ℤ-negsuc, negsuc-*ℤ-pos, pos-*ℤ-negsuc, pos-*ℤ-pos, *ℤ-zero, zero-*ℤ}
 use Rattle.std.proofs.lemmas.Nat.{pow_pos, mod_below}
 use Rattle.std.proofs.Math.Nat.{mod-eq_of_lt, div-eq_of_lt}
-use Rattle.std.proofs.lemmas.Bool.{cases_lt, lt-ltb, le-ltb, ltb-false, ne_eqb}
-use Rattle.c_core.specs.Types.{residue, signed_of, is_zero}
+use Rattle.std.proofs.lemmas.Bool.{cases_lt, lt-ltb, le-ltb, ltb-false}
+use Rattle.c_core.specs.Types.{residue, signed_of}
 use Rattle.circuits.specs.Net.{xor}
 use Rattle.circuits.specs.Numbers.{digit, read}
 use Rattle.circuits.specs.Gates.{negative, size}
@@ -98,9 +98,3 @@ unfolding signed_number
 signed_rem false t m n h = ap (λ k. pos (m % k)) (size_is t n)
 signed_rem true t zero n h = ap (λ k. pos (0 % k)) (size_is t n) ∙ sym (no_number (0 % n) (mod-eq_of_lt h))
 signed_rem true t (suc m) n h = ap (λ k. neg_ℤ (pos (suc m % k))) (size_is t n)
-
-pub nonzero_size : (s : Bool) (n : ℕ) → is_zero (signed_number s n) ≡ nat_eq n 0
-unfolding signed_number
-nonzero_size false n = refl
-nonzero_size true zero = refl
-nonzero_size true (suc n) = sym (ne_eqb (suc n) 0 (λ e. absurd (omega arith)))

@@ -73,7 +73,7 @@ pub fn pick(net: &mut Net, test: Bit, yes: Bit, other: Bit) -> Result<Bit, OutOf
     Ok(picked)
 }
 
-/// The sum of three bits, as two of two bits: at most one of these has a high digit.
+/// The sum of three bits, made of two sums of two bits: at most one of these has a high digit of 1.
 #[tactic(auto, using(crate::proofs::Nets::grown_then))]
 pub fn full(net: &mut Net, a: Bit, b: Bit, c: Bit) -> Result<Sum, OutOfMemory>
     requires a_in { IsIn net.old a }
@@ -92,7 +92,7 @@ pub fn full(net: &mut Net, a: Bit, b: Bit, c: Bit) -> Result<Sum, OutOfMemory>
     })
 }
 
-/// Whether a number is below another, by their highest digits: `b` where these differ, else `lower`, the answer of the rest.
+/// Whether a number is below another, `a` and `b` being their highest digits: `b` where these differ, else `lower`, the answer for the digits below.
 pub fn compared(net: &mut Net, a: Bit, b: Bit, lower: Bit) -> Result<Bit, OutOfMemory>
     requires a_in { IsIn net.old a }
     requires b_in { IsIn net.old b }

@@ -14,7 +14,7 @@
 //! occurrence of each), `segments` are put behind them, and `yaml` is a witness's text. Segments stand between the words `then`, the
 //! waypoints of one between semicolons, and a waypoint is its action, its type, its line or `line:column`, and its constraint.
 //! `property` is a property, `words` is a command line over the files `p`, `q` and `w`, `model` is a data model or `both`, `text` is a
-//! list, and `fails` is the call of a device that fails.
+//! list, and `fails` is the device of which a call fails, `shelf` or `sink`, and the number of that call.
 //!
 //! `escapes.rt` says how control characters, bytes and repeated texts are written.
 #![tactic(auto)]

@@ -5,7 +5,7 @@ use std::alloc::Global;
 use std::process::ExitCode;
 use std::{env, fs, io};
 
-/// The files of `data/`, in which a program that tries rows runs.
+/// The files of `data/`, in which a program that tries rows runs, and its output.
 #[derive(Drop)]
 pub struct Files<'a> {
     rt: &'a HostRuntime,

@@ -3,11 +3,11 @@ use crate::command_lines::shelf;
 use crate::commands::{sink, told_over};
 use row_files::{Files, NotTried, Row};
 
-/// The call that fails, counted from 1: one of the shelf, which begins files and reads them, or a write.
+/// The call that fails, counted from 1: one of the shelf, which begins files and reads them, or a write to the sink.
 #[derive(Clone, Copy)]
 enum Failing {
     Shelf(u64),
-    Write(u64),
+    Sink(u64),
 }
 
 /// The device that a row names, and the number of the call.
@@ -20,7 +20,7 @@ fn call_of(row: &Row) -> Result<Failing, NotTried> {
     };
     match device {
         "shelf" => Ok(Failing::Shelf(call)),
-        "write" => Ok(Failing::Write(call)),
+        "sink" => Ok(Failing::Sink(call)),
         _ => Err(NotTried::Lacks("a device that is known")),
     }
 }
@@ -32,7 +32,7 @@ pub fn told(files: &Files<'_>, row: &Row) -> Result<String, NotTried> {
     let mut out = sink(alloc)?;
     match call_of(row)? {
         Failing::Shelf(call) => shelf.fail_at(call)?,
-        Failing::Write(call) => out.fail_at(call)?,
+        Failing::Sink(call) => out.fail_at(call)?,
     }
     told_over(alloc, row, &mut shelf, &mut out)
 }

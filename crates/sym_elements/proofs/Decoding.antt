@@ -32,9 +32,6 @@ pub at_in : (net : List NetNode) (bs : List Bit) (i : ℕ) (d : Bit) → AreIn n
 at_in net bs i d h lt = All-get_or (λ b. IsIn net b) bs i d lt h
 
 -- ---- marks of the number 0
-pub zero_none : {net : List NetNode} {out : List Bit} {n : ℕ} (k : (ℕ → Bool) → ℕ) → out ≡ [] → n ≡ 0 → AreMarks net out n k
-zero_none {net} {out} {n} k e h = rw (e, h) (record { inside = All-nil (λ b. IsIn net b); wide = refl; is = λ v. refl })
-
 first_mark : (b : Bool) → (b ∷ []) ≡ marks (cond b 1 0) 1
 first_mark true = refl
 first_mark false = refl

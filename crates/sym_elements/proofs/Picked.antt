@@ -25,16 +25,16 @@ use Rattle.sym_elements.specs.Elements.{ArePlaces, width_of_element, picked_cost
 use Rattle.sym_elements.proofs.Kept.{first_is}
 
 -- the number of k + 1 digits, the highest apart
-pub highest_apart : (v : ℕ → Bool) (net : List NetNode) (ds : List Bit) (k : ℕ) (d : Bit) → length ds ≡ k + 1 → number v net ds ≡ number v net (take k ds) + 2 ^ k * digit (holds v net (get_or ds k d))
+highest_apart : (v : ℕ → Bool) (net : List NetNode) (ds : List Bit) (k : ℕ) (d : Bit) → length ds ≡ k + 1 → number v net ds ≡ number v net (take k ds) + 2 ^ k * digit (holds v net (get_or ds k d))
 highest_apart v net ds k d e =
     ap (number v net) (sym (take_all (k + 1) ds (omega (arith, e))) ∙ take_more ds k d (omega (arith, e))) ∙ snoc v net (take k ds) (get_or ds k d) k (length-take-le k ds (omega (arith, e)))
 
 -- where the highest digit isn't needed it is 0
-pub not_needed : (m n k count : ℕ) (t : Bool) → m ≡ n + 2 ^ k * digit t → m < count → count ≤ 2 ^ k → n ≡ m
+not_needed : (m n k count : ℕ) (t : Bool) → m ≡ n + 2 ^ k * digit t → m < count → count ≤ 2 ^ k → n ≡ m
 not_needed m n k count true e h few = absurd (omega (arith, e, h, few))
 not_needed m n k count false e h few = omega (arith, e)
 
--- a number that is above the largest of so many digits, or that has no more digits
+-- half is 2^k where more cells than it are left; else the cells left are at most 2^k
 pub more_numbers : (k half count : ℕ) → half ≡ min (2 ^ k) (2 ^ 32 - 1) → half < count → count < 2 ^ 32 → half ≡ 2 ^ k
 more_numbers k half count e h few = omega (arith, e, h, few)
 
@@ -44,8 +44,8 @@ no_more_numbers k half count e h = omega (arith, e, h)
 suc_less : (n : ℕ) → suc n - 1 ≡ n
 suc_less n = omega arith
 
--- a choice more than two trees have
-pub choices : (h m w : ℕ) → 0 < h → 0 < m → (m - 1) * w + ((h - 1) * w + w) ≤ (h + m - 1) * w
+-- trees of h and of m cells, with the choice between them, take no more than a tree of h + m
+choices : (h m w : ℕ) → 0 < h → 0 < m → (m - 1) * w + ((h - 1) * w + w) ≤ (h + m - 1) * w
 choices zero m w a b = absurd (omega (arith, a))
 choices (suc h) zero w a b = absurd (omega (arith, b))
 choices (suc h) (suc m) w a b =

@@ -30,7 +30,7 @@ use Rattle.sym_elements.specs.Marks.{HasOne, first_true}
 abbrev pub key_at : ℕ → (ℕ → Bool) → List NetNode → List Bit → Key
 key_at o v net places = key o (first_true (map (holds v net) places))
 
--- a place for each cell of an object; of a run that is here exactly one is true, and the digits are its number
+-- a place for each cell of an object; of a run that is here exactly one is true, and the digits spell that one's number
 pub record ArePlaces (p : Program) (s : Sym) (o : ℕ) (places : Places) : Type 0 where
   pub inside : AreIn s.net places.bits
   pub wide : length places.bits ≡ size_of_object p o
@@ -51,7 +51,7 @@ module _ (p : Program) where
   abbrev pub picked_cost : ℕ → ℕ → ℕ
   picked_cost o count = (count - 1) * (4 * width_of_element o)
 
-  -- of an element that is read
+  -- of an element that is read: a choice for each cell at most
   abbrev pub read_cost : ℕ → ℕ
   read_cost o = size_of_object p o * (4 * width_of_element o)
 
@@ -63,7 +63,7 @@ module _ (p : Program) where
   abbrev pub stored_cost : IntType → ℕ → ℕ
   stored_cost from o = conversion_cost p.model from (type_of_object p o) + written_cost o
 
-  -- bits of the state that are the element at low and the number of the digits, wherever the number is below the count; nothing changes but the net
+  -- wherever the number n that the digits spell is below the count, the bits are the element at low + n; nothing changes but the net
   pub record IsPicked (o low count : ℕ) (digits : List Bit) (old new : Sym) (bits : List Bit) : Type 0 where
     pub turned : Turned p (picked_cost o count) 0 old new (λ v s. s)
     pub bits_in : AreTyped p.model (type_of_object p o) new.net bits

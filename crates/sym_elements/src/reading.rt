@@ -17,7 +17,7 @@ use sym_state::{Sym, look};
 use sym_values::choose;
 use wv_base::OutOfMemory;
 
-// How many numbers have so many digits, or the largest number that a size can be.
+// How many numbers have so many binary digits; at most the largest u32.
 fn numbers(digits: usize) -> u32
     ensures { result ≡ min (2 ^ digits) (2 ^ 32 - 1) }
 {
@@ -27,7 +27,7 @@ fn numbers(digits: usize) -> u32
     u32::MAX
 }
 
-/// The element at `low` and the number of the digits, where the number is below `count`: a tree of choices by the digits, highest first.
+/// The element at `low` + n, n being the number that the digits spell, wherever n is below `count`: a tree of choices by the digits, the highest first.
 pub fn read_among(
     alloc: Global,
     program: &Program,

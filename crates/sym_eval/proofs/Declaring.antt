@@ -1,7 +1,7 @@
 -- Declared names: their cells, and what these hold.
-use Rattle.std.proofs.Common.{◌≡◌, ℕ, ◌+◌, ◌*◌, ◌≤◌, ◌<◌, ◌^◌, true, not, ◌&&◌, ℤ, List, [], ◌∷◌, ◌++◌, append-nil, length, take, get_or, refl, sym, ◌∙◌, ap, subst, arith, Option, Some, None, IsTrue, slice_get, nat_le}
+use Rattle.std.proofs.Common.{◌≡◌, ℕ, ◌+◌, ◌*◌, ◌≤◌, ◌<◌, ◌^◌, true, not, ◌&&◌, List, [], ◌∷◌, ◌++◌, append-nil, length, take, get_or, refl, sym, ◌∙◌, ap, subst, arith, Option, Some, None, IsTrue, slice_get, nat_le}
 use Rattle.std.specs.List.{list_all}
-use Rattle.c_core.specs.Tree.{Program, Exp, Exps, NoExp, MoreExp, Init, Absent, One, Many, Names, NoName, MoreName, First, NoFirst, FirstExp, FirstNames}
+use Rattle.c_core.specs.Tree.{Program, Exp, Exps, NoExp, MoreExp, Init, Absent, One, Many, Names, NoName, MoreName, NoFirst, FirstExp, FirstNames}
 use Rattle.c_core.specs.Parts.{type_of as type_if, exps_in, fulls_of_init, fulls_of_names}
 use Rattle.c_core.specs.Types.{fit, width_of}
 use Rattle.c_core.specs.Typing.{is_typed, has_value, init_fits, declarators_fit}
@@ -12,10 +12,10 @@ use Rattle.c_core.specs.declared.tree.Declared.{Declared}
 use Rattle.c_core.specs.declared.tree.Expr as rust
 use Rattle.c_core.specs.declared.tree.Object.{Object}
 use Rattle.c_meaning.specs.declared.run.DrawKind.TheVariants.{Cell}
-use Rattle.c_meaning.specs.Acts.{Res, Go, Stop, Flow, Next, bind, go_on}
+use Rattle.c_meaning.specs.Acts.{Go, Next, bind, go_on}
 use Rattle.c_meaning.specs.Duties.{Placed, Duties}
-use Rattle.c_meaning.specs.Exec.{full, declare, initials, first}
-use Rattle.c_meaning.specs.Havoc.{Stopped, Left, havoc}
+use Rattle.c_meaning.specs.Exec.{declare, initials}
+use Rattle.c_meaning.specs.Havoc.{havoc}
 use Rattle.c_meaning.specs.Meaning.{Used, Unused}
 use Rattle.c_meaning.specs.Objects.{type_of, type_of_object, size_of_object}
 use Rattle.c_meaning.proofs.TypeFacts.{both, neither}
@@ -32,7 +32,6 @@ use Rattle.sym_state.proofs.Composed.{follows_then, follows_as}
 use Rattle.sym_state.proofs.Turning.{turned_as, turned_then}
 use Rattle.sym_values.specs.Valuing.{Reckoned}
 use Rattle.sym_flow.specs.Drawing.{cells_drawn, bits_of_cells}
-use Rattle.sym_flow.specs.Leaving.{Runs}
 use Rattle.sym_flow.specs.Ways.{Became, declaring}
 use Rattle.sym_flow.proofs.Declares.{names_run, initials_next}
 use Rattle.sym_flow.proofs.Draws.{nothing_follows, stored_follows, declared_drawn}
@@ -44,7 +43,7 @@ use Rattle.sym_weight.specs.Weight.{weight_in, bits_in}
 use Rattle.sym_eval.specs.Control.{FullReady, FullGives}
 use Rattle.sym_eval.specs.Doing.{calls, weight_of_initials, bits_of_initials, InitialsReady, InitialsDo, InitialReady, InitialDoes, weight_of_names, bits_of_names, NamesReady, NamesDo, weight_of_first, bits_of_first, FirstReady, FirstDoes}
 use Rattle.sym_eval.proofs.Fulls.{only_one, full_in, number_as}
-use Rattle.sym_eval.proofs.Sequences.{names_more, names_within, initials_more, initials_within, yes_and, go_both, name_typed, value_typed, declare_more, values_more}
+use Rattle.sym_eval.proofs.Sequences.{names_more, names_within, initials_more, initials_within, yes_and, name_typed, value_typed, declare_more, values_more}
 
 module _ (p : Program) (I : List Placed) (n : ℕ) where
   -- ---- one value of an initializer
@@ -230,18 +229,3 @@ module _ (p : Program) (I : List Placed) (n : ℕ) where
   pub first_names_do : (at : Spot) (ns : Names) {s t : Sym} → NamesDo p I n at ns s t → FirstDoes p I n at (FirstNames ns) s t
   first_names_do at ns {t = t} x gives =
       first_names_run p I (Duties p I) gives (calls p I n) (weight_of_first p I n (FirstNames ns)) (bits_of_first p I n (FirstNames ns)) at ns (λ s. Go Next s) (x gives) (skip_runs p (Duties p I) gives t (x gives).fits) (omega arith) (omega arith)
-
-  joined : (r : Res Stopped Left ℤ) (done : Left → Res Stopped Left Flow) → bind (bind r (λ z s. Go Next s)) (go_on done) ≡ bind r (λ z. done)
-  joined (Go z s) done = refl
-  joined (Stop e s) done = refl
-
-  behind_first : (at : Spot) (i : First) (done : Left → Res Stopped Left Flow) (s : Left) → bind (first p (havoc p I) (calls p I n) at i (λ s. Go Next s) s) (go_on done) ≡ first p (havoc p I) (calls p I n) at i done s
-  behind_first at NoFirst done s = refl
-  behind_first at (FirstExp e) done s = joined (full p (havoc p I) (calls p I n) at Unused e s) done
-  behind_first at (FirstNames ns) done s = sym (go_both (declare p (havoc p I) (calls p I n) at ns s) (λ s. Go Next s) done)
-
-  -- the first part, and then what is behind it
-  pub first_then : {k l : ℕ} {a b c : Sym} (gives : Option IntType) (g m : ℕ) (at : Spot) (i : First) (done : Left → Res Stopped Left Flow) → FirstDoes p I n at i a b → Runs (Duties p I) p gives k l b c (λ v. done)
-      → weight_of_first p I n i + k ≤ g → bits_of_first p I n i + l ≤ m → Runs (Duties p I) p gives g m a c (λ v. first p (havoc p I) (calls p I n) at i done)
-  first_then gives g m at i done x y h q =
-      runs_as p (Duties p I) gives (runs_then p (Duties p I) gives g m (x gives) y h q) (λ v s. behind_first at i done s) (omega arith) (omega arith)

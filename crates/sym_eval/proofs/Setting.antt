@@ -28,7 +28,6 @@ use Rattle.sym_values.specs.Storing.{stored_cost, stored_in}
 use Rattle.sym_flow.specs.Ways.{Became, declaring}
 use Rattle.sym_flow.proofs.Statements.{follows_runs, runs_then, runs_as, skip_runs}
 use Rattle.sym_flow.proofs.Declares.{declare_runs, params_lack}
-use Rattle.sym_weight.specs.Table.{stored}
 use Rattle.sym_exprs.proofs.Costs.{conversion_costs}
 use Rattle.sym_eval.specs.Calling.{value_at, values_at, IsArgument, AreArguments, set_cost, Sets}
 use Rattle.sym_eval.specs.declared.parameters.Argument.{Argument}
@@ -155,12 +154,3 @@ module _ (p : Program) where
       subst (λ z. Sets p (o ∷ []) z a c) (sym (dropped_some xs i x q))
       (given_set o x (drop (suc i) xs) (argument_at p a.net xs i x q h) y
       (subst (λ t. (I : List Placed) → Gives p I (stored_cost p.model x.ty t) 0 b c (Some t) bits (stored_in p I (key o 0) x.ty t x.bits.bits b)) e g))
-
-  -- room to store it
-  pub room_to_store : {a b : Sym} (o i : ℕ) (to : IntType) (x : Argument) (xs : List Argument) → to ≡ type_of_object p o → slice_get xs i ≡ Some x → Became p 0 a b (λ v. declaring o 1) → length a.net + set_cost p (o ∷ []) (drop i xs) < 2 ^ 28
-      → length b.net + stored_cost p.model x.ty to < 2 ^ 28
-  room_to_store {a} {b} o i to x xs e q y r =
-      let cost : set_cost p (o ∷ []) (drop i xs) ≡ stored p.model x.ty (type_of_object p o) + 0 = ap (set_cost p (o ∷ [])) (dropped_some xs i x q) in
-      let k = conversion_costs p.model x.ty (type_of_object p o) in
-      let room : length b.net + stored_cost p.model x.ty (type_of_object p o) < 2 ^ 28 = omega (arith, cost, k, r, (longer_by y.added).1) in
-      subst (λ t. length b.net + stored_cost p.model x.ty t < 2 ^ 28) (sym e) room

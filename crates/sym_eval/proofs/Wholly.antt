@@ -1,20 +1,18 @@
 -- Main's body, from the first state.
-use Rattle.std.proofs.Common.{◌≡◌, ℕ, zero, suc, ◌+◌, ◌≤◌, ◌<◌, ◌^◌, IsTrue, List, [], ◌∷◌, length, length-append, refl, sym, ◌∙◌, ap, subst, arith, Option, Some, None, slice_get, get_or, unwrap_or, inl, inr, true≢false}
+use Rattle.std.proofs.Common.{◌≡◌, ℕ, zero, suc, ◌+◌, ◌<◌, ◌^◌, IsTrue, List, [], ◌∷◌, length, length-append, refl, sym, ◌∙◌, ap, subst, arith, Option, Some, None, slice_get, get_or, unwrap_or, true≢false}
 use Rattle.std.specs.Option.{option_map}
-use Rattle.std.proofs.lemmas.Bool.{cases_lt}
 use Rattle.std.proofs.lemmas.Option.{slice_get_read, slice_get_within, slice_get-map}
 use Rattle.c_calls.specs.Calling.{IsCalledFrom, directly, further, IsFirstRecursion}
-use Rattle.c_core.specs.Parts.{every_statement}
 use Rattle.c_core.specs.Program.{IsProgram, is_main}
 use Rattle.c_core.specs.Tree.{Exp, Program, Function, Stmt, Form}
 use Rattle.c_core.specs.TreeView.{function_view, functions_view}
 use Rattle.c_core.specs.declared.tree.Function as rust
-use Rattle.c_core.specs.Typing.{statement_fits, function_fits}
+use Rattle.c_core.specs.Typing.{function_fits}
 use Rattle.c_core.specs.declared.number.IntType.{IntType}
 use Rattle.c_core.specs.declared.number.Spot.{Spot}
 use Rattle.c_meaning.specs.declared.run.Duty.{Duty}
 use Rattle.c_meaning.specs.Duties.{Placed, Duties}
-use Rattle.c_meaning.specs.Exec.{run_if, run_main}
+use Rattle.c_meaning.specs.Exec.{run_if}
 use Rattle.c_meaning.specs.Havoc.{havoc}
 use Rattle.c_meaning.specs.Objects.{type_or_int}
 use Rattle.c_meaning.specs.Run.{first_cells}
@@ -22,18 +20,16 @@ use Rattle.c_meaning.proofs.TypeFacts.{at_every}
 use Rattle.circuits.specs.declared.net.Bit.{Bit}
 use Rattle.circuits.specs.Net.{IsNet, count_ands, count_inputs}
 use Rattle.circuits.proofs.Nets.{count_ands-append, inputs-append}
-use Rattle.sym_eval.specs.Doing.{form_glue, weight_of_form, bits_of_form, FormReady, FormDoes}
+use Rattle.sym_eval.specs.Doing.{weight_of_form, bits_of_form, FormReady, FormDoes}
 use Rattle.sym_eval.specs.Whole.{IsLight, IsWhole, AreMade}
 use Rattle.sym_duties.specs.Answers.{names_of}
 use Rattle.sym_flow.specs.Calling.{Enters}
 use Rattle.sym_state.specs.declared.state.DrawSite.{DrawSite}
 use Rattle.sym_state.specs.declared.state.Sym.{Sym}
 use Rattle.sym_weight.specs.Sum.{function_of}
-use Rattle.sym_weight.specs.Weight.{Weight, Bits, weighing, drawing, weight_in, bits_in, placed_weight, nowhere, most_active, most_weight, IsTooBig}
-use Rattle.sym_weight.specs.Weighed.{IsWeighed}
-use Rattle.sym_weight.specs.declared.totals.Total.{Total}
+use Rattle.sym_weight.specs.Weight.{Weight, Bits, weighing, drawing, weight_in, bits_in, placed_weight, nowhere, most_active}
 use Rattle.sym_weight.proofs.Light.{bits_are_light}
-use Rattle.sym_whole.specs.Deciding.{IsStart, Decides, IsLarger}
+use Rattle.sym_whole.specs.Deciding.{IsStart, Decides}
 use Rattle.sym_whole.specs.Starting.{IsFirst}
 use Rattle.sym_whole.proofs.Wholes.{decides, larger}
 
@@ -100,16 +96,6 @@ are_made p I s list failing sites h light a b c = rw (a, b, c) (record {
   drawn = bits_are_light p I (most_active p) p.main;
   light = light;
 })
-
-not_too_big : (p : Program) (I : List Placed) → (IsTooBig p I → ⊥) → IsLight p I
-not_too_big p I h = elim (cases_lt most_weight (Weight p I)) as (λ _. IsLight p I) [
-  | inl lt ↦ absurd (h (inr lt))
-  | inr le ↦ le
-]
-
--- within the limits
-pub weighed : {p : Program} {I : List Placed} {t : Total} → IsWeighed p I t → IsLight p I
-weighed {p} {I} x = not_too_big p I x.fits
 
 -- ---- functions
 called_within : {p : Program} {es : List Exp} (f : ℕ) → IsCalledFrom p es f → f < length p.functions

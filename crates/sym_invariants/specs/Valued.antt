@@ -90,13 +90,9 @@ module _ (p : Program) where
   abbrev pub held_in : ℕ → Sym → List Bit → ℕ → Perhaps
   held_in o s places n v = seen_last (λ i. get_or (map (net_of.holds v s.net) places) i false) (λ i. seen_at p (key o i) (stand p v s).cells) n
 
-  -- and-nodes of choosing among all cells
-  abbrev pub places_cost : ℕ → ℕ
-  places_cost o = size_of_object p o * (4 * width_of p.model (type_of_object p o) + 3)
-
-  -- of an element at an index of a type
+  -- and-nodes of an element at an index of a type: its places, the tree of choices, and 3 for each cell that tell whether it is live
   abbrev pub element_cost : IntType → ℕ → ℕ
-  element_cost from o = 1 + (2 * (size_of_object p o + width_of p.model from) + places_cost o)
+  element_cost from o = 1 + (2 * (size_of_object p o + width_of p.model from) + size_of_object p o * (4 * width_of p.model (type_of_object p o) + 3))
 
   -- ---- expressions
 

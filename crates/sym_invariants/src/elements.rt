@@ -29,7 +29,7 @@ fn is_live(sym: &Sym, object: u32, index: u32) -> Bit
     }
 }
 
-// Is the cell of an object live whose place is true? No, where no place is.
+// Is the cell of an object live whose place is true? No, where none is true.
 fn live_at(
     program: &Program,
     sym: &mut Sym,

@@ -1,4 +1,4 @@
-//! Values as bits: operators, conversions, tests and elements of arrays over a symbolic state. Its one promise: each call does to
+//! Values as bits: operators, conversions, tests, stores and input calls over a symbolic state. Its one promise: each call does to
 //! every run that is here what the definition of runs does, and lets all others be.
 #![tactic(auto)]
 
