@@ -3,12 +3,12 @@ use Rattle.std.proofs.Common.{◌≡◌, ◌⊎◌, ℕ, zero, suc, ◌+◌, ◌
 use Rattle.std.specs.Prelude.{IsTrue}
 use Rattle.std.proofs.lemmas.Bool.{cases_Bool, eqb-false, or_parts, not_from_true}
 use Rattle.std.proofs.lemmas.Option.{slice_get_within}
-use Rattle.c_core.specs.Tree.{Exp, Function, Program}
+use Rattle.c_core.specs.Tree.{Function, Program}
 use Rattle.c_core.specs.declared.number.IntType.{IntType}
 use Rattle.c_meaning.specs.Meaning.{Meaning, Site}
 use Rattle.c_meaning.specs.Exec.{call_of, run_in, run_if, run_main}
 use Rattle.c_meaning.specs.Parts.{some_of, some_node, those, is_in, calls, fulls_of_function, fulls_if}
-use Rattle.c_calls.specs.Calling.{IsCalledIn, IsCalledFrom, directly, further, Reaches, IsReached, IsFirstRecursion}
+use Rattle.c_calls.specs.Calling.{IsCalledIn, directly, further, Reaches, IsReached, IsFirstRecursion}
 use Rattle.c_calls.specs.Depth.{IsChainFrom}
 use Rattle.c_calls.proofs.Listing.{not_both, in_head, in_cons, those_in}
 use Rattle.c_calls.proofs.Agreeing.{same_body}
@@ -59,10 +59,6 @@ few (suc n) xs d w =
     below x r = ⊎_elim (λ t. absurd (true≢false (sym r.1 ∙ not_from_true _ t))) (λ f. let h = w x r.0 in let ne = eqb-false x n f in omega arith) (cases_Bool (nat_eq x n))
 
 module _ (p : Program) where
-  -- one call more
-  next_called : (es : List Exp) (f g : ℕ) → (IsCalledFrom p es f) → IsCalledIn p (fulls_of_function p f) g → IsCalledFrom p es g
-  next_called es f g r h = further f g r h
-
   next_reached : (f g : ℕ) → IsReached p f → IsCalledIn p (fulls_of_function p f) g → IsReached p g
   next_reached f g r h = inr (⊎_elim (λ e. directly g (subst (λ x. IsCalledIn p (fulls_of_function p x) g) e h)) (λ c. further f g c h) r)
 

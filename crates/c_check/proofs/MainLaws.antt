@@ -1,34 +1,12 @@
 -- The function `main` among items, and among the names of functions.
-use Rattle.std.proofs.Common.{arith, ◌≡◌, ◌<◌, ◌+◌, ℕ, Bool, true, false, cond, not, ◌&&◌, List, ◌∷◌, length, map, drop, get_or, Option, codes, refl, ap, sym, ◌∙◌}
+use Rattle.std.proofs.Common.{arith, ◌≡◌, ◌<◌, ◌+◌, ℕ, Bool, true, false, cond, not, List, ◌∷◌, length, drop, get_or, codes, refl, ap, sym, ◌∙◌}
 use Rattle.std.proofs.lemmas.List.{drop_more}
 use Rattle.std.proofs.lemmas.Slice.Eq.{bytes_eq-Decides}
 use Rattle.std.proofs.lemmas.Bool.{false≢true}
 use Rattle.std.specs.List.{position_or_len}
 use Rattle.std.specs.Str.{bytes_eq}
-use Rattle.c_core.specs.declared.number.IntType.{IntType}
-use Rattle.c_core.specs.declared.number.Spot.{Spot}
 use Rattle.c_core.specs.declared.tree.Function.{Function as TypedFunction}
-use Rattle.c_parser.specs.SourceView.{item_view}
-use Rattle.c_parser.specs.Tree.{Item, Function, Param, Stm}
-use Rattle.c_parser.specs.declared.item.Item.{Item as RawItem}
-use Rattle.check_rules.specs.First.{has_none, is_result_of_main, unless_fit, wrong_main}
 use Rattle.c_check.specs.Checking.{names_of}
-
-pub main_here : (p : Spot) (name : List ℕ) (result : Option IntType) (xs : List Param) (body : Stm) (items : List Item) → bytes_eq name (codes "main") ≡ true
-    → wrong_main (Function p name result xs body ∷ items) ≡ unless_fit p (has_none xs && is_result_of_main result)
-main_here p name result xs body items h =
-    ap (λ (b : Bool). elim b as (λ _. Option Spot) [ true ↦ unless_fit p (has_none xs && is_result_of_main result) | false ↦ wrong_main items ]) h
-
-pub main_behind : (p : Spot) (name : List ℕ) (result : Option IntType) (xs : List Param) (body : Stm) (items : List Item) → bytes_eq name (codes "main") ≡ false
-    → wrong_main (Function p name result xs body ∷ items) ≡ wrong_main items
-main_behind p name result xs body items h =
-    ap (λ (b : Bool). elim b as (λ _. Option Spot) [ true ↦ unless_fit p (has_none xs && is_result_of_main result) | false ↦ wrong_main items ]) h
-
--- the items that are left, one after another
-pub items-next : (items : List RawItem) (i : ℕ) (x : RawItem) → i < length items → x ≡ get_or items i x
-    → wrong_main (map item_view (drop i items)) ≡ wrong_main (item_view x ∷ map item_view (drop (i + 1) items))
-items-next items i x h e =
-    ap (λ xs. wrong_main (map item_view xs)) (drop_more items i x h) ∙ ap (λ (y : RawItem). wrong_main (item_view y ∷ map item_view (drop (i + 1) items))) (sym e)
 
 same_both_ways : (s t : List ℕ) (b : Bool) → bytes_eq s t ≡ b → bytes_eq t s ≡ b
 same_both_ways s t true e = (bytes_eq-Decides t s).1 (sym ((bytes_eq-Decides s t).0 e))

@@ -4,7 +4,7 @@ use Rattle.std.proofs.lemmas.Bool.{false≢true}
 use Rattle.std.proofs.Math.Bool.{or-true}
 use Rattle.std.specs.List.{list_all}
 use Rattle.c_core.specs.Parts.{same_spot}
-use Rattle.c_core.specs.TextOrder.{is_before, is_before_first, rises, whole}
+use Rattle.c_core.specs.TextOrder.{is_before, is_before_first, rises}
 use Rattle.c_core.specs.declared.number.Spot.{Spot}
 
 pub left : (a b : Bool) → (a && b) ≡ true → a ≡ true
@@ -21,10 +21,6 @@ either false b h = inr h
 
 pub same_spot-self : (a : Spot) → same_spot a a ≡ true
 same_spot-self a = rw (eq-eqb a.line a.line refl) (eq-eqb a.column a.column refl)
-
--- a whole at the place of its first part
-pub whole-same : (a : Spot) (spots : List Spot) → whole a (a ∷ spots) ≡ a ∷ spots
-whole-same a spots = rw (same_spot-self a) refl
 
 Before : Spot → Spot → Type 0
 Before a b = (a.line < b.line) ⊎ ((a.line ≡ b.line) × (a.column < b.column))

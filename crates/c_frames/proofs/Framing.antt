@@ -149,10 +149,6 @@ module _ (p : Program) where
       keeps_stop : {X Y : Type 0} (L : List ℕ) (R : X → Y → Type 0) (e : End) → Keeps L R (run.stop p S see {A = X} e)
       keeps_stop L R e = record { at = λ base s o. tt }
 
-      -- what leaves the cells as they are
-      keeps_same : (L : List ℕ) (m : Act (Unit {0})) (f : State S → State S) → ((s : State S) → m s ≡ Go tt (f s)) → ((s : State S) → (f s).cells ≡ s.cells) → Keeps L Units m
-      keeps_same L m f e c = record { at = λ base s o. subst (λ r. Kept base L Units r) (sym (e s)) (subst (λ cs. In base L cs) (sym (c s)) o, (tt, tt)) }
-
       keeps_then : {X Y Z W : Type 0} (L : List ℕ) (R : X → Y → Type 0) (Q : Z → W → Type 0) (m : Act X) (k : X → Act Z) → Keeps L R m → ((a : X) (b : Y) → R a b → Keeps L Q (k a)) → Keeps L Q (λ s. bind (m s) k)
       keeps_then L R Q m k g f = record { at = λ base s o. by base (m s) (g.at base s o) }
         where

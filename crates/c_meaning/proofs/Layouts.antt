@@ -1,9 +1,9 @@
 -- Names of a layout: their numbers differ, and each number holds the place of its name's innermost cell.
-use Rattle.std.proofs.Common.{◌≡◌, ℕ, suc, ◌+◌, ◌-◌, ◌<◌, ◌≤◌, ◌⊎◌, inl, inr, List, [], ◌∷◌, ◌++◌, length, Bool, true, false, ◌&&◌, cond, nat_lt, ltb-true, Option, Some, None, is_none, replicate, refl, sym, ap, subst, ◌∙◌, arith, slice_set, get_or-set_same, get_or-set_other, length-set, length-append}
+use Rattle.std.proofs.Common.{◌≡◌, ℕ, suc, ◌+◌, ◌-◌, ◌<◌, ◌≤◌, ◌⊎◌, inl, inr, List, [], ◌∷◌, length, Bool, true, false, ◌&&◌, cond, nat_lt, ltb-true, Option, Some, None, is_none, replicate, refl, sym, ap, subst, ◌∙◌, arith, slice_set, get_or-set_same, get_or-set_other, length-set}
 use Rattle.std.specs.Prelude.{slice_index_or}
-use Rattle.std.proofs.lemmas.Bool.{true≢false, lt-ltb, le-ltb, cases_order, cases_eq}
+use Rattle.std.proofs.lemmas.Bool.{true≢false, lt-ltb, le-ltb, cases_order}
 use Rattle.std.proofs.lemmas.Option.{none-some, same_Some}
-use Rattle.std.proofs.lemmas.List.{get_or_push, get_or_append_left, get_or-replicate, length-replicate}
+use Rattle.std.proofs.lemmas.List.{get_or-replicate, length-replicate}
 use Rattle.c_meaning.specs.Cells.{Key, same_key}
 use Rattle.c_meaning.specs.Layout.{start, size_in, Rising, count_of, number_of}
 use Rattle.c_meaning.specs.Slots.{Named, place_of, entry_of, place_among, outside, IsPlaced}
@@ -62,41 +62,6 @@ number_below : (starts : List ℕ) → Rising starts → (k : Key) (n : ℕ) →
 number_below starts rising k n a =
     let r = rising (k.object + 1) (length starts - 1) (omega (arith, a.object)) (omega (arith, a.object)) in
     omega (arith, r, a.below)
-
--- one object more, whose names begin where all before it ended
-pub rising_more : (starts : List ℕ) (n : ℕ) → Rising starts → ((i : ℕ) → i < length starts → start starts i ≤ n) → Rising (starts ++ n ∷ [])
-rising_more starts n rising below i j h within = by_place (cases_eq j (length starts))
-  where
-    size : length (starts ++ n ∷ []) ≡ length starts + 1
-    size = length-append starts (n ∷ [])
-
-    last : start (starts ++ n ∷ []) (length starts) ≡ n
-    last = get_or_push starts n 0 (length starts) refl
-
-    before : (m : ℕ) → m < length starts → start (starts ++ n ∷ []) m ≡ start starts m
-    before m q = get_or_append_left starts (n ∷ []) 0 m q
-
-    by_first : (i ≡ length starts) ⊎ (i ≡ length starts → ⊥) → i ≤ length starts → start (starts ++ n ∷ []) i ≤ n
-    by_first (inl e) q = rw (e, last) (omega arith)
-    by_first (inr d) q = let m : i < length starts = omega arith in rw (before i m) (below i m)
-
-    by_place : (j ≡ length starts) ⊎ (j ≡ length starts → ⊥) → start (starts ++ n ∷ []) i ≤ start (starts ++ n ∷ []) j
-    by_place (inl e) = let q : i ≤ length starts = omega arith in rw (e, last) (by_first (cases_eq i (length starts)) q)
-    by_place (inr d) =
-        let m : j < length starts = omega (arith, size) in
-        let q : i < length starts = omega arith in
-        rw (before i q, before j m) (rising i j h m)
-
--- and none begin behind where those of the next one will
-pub below_more : (starts : List ℕ) (n m : ℕ) → n ≤ m → ((i : ℕ) → i < length starts → start starts i ≤ n) → (i : ℕ) → i < length (starts ++ m ∷ []) → start (starts ++ m ∷ []) i ≤ m
-below_more starts n m h below i within = by_place (cases_eq i (length starts))
-  where
-    by_place : (i ≡ length starts) ⊎ (i ≡ length starts → ⊥) → start (starts ++ m ∷ []) i ≤ m
-    by_place (inl e) = rw (e, get_or_push starts m 0 (length starts) refl) (omega arith)
-    by_place (inr d) =
-        let q : i < length starts = omega (arith, length-append starts (m ∷ [])) in
-        let b = below i q in
-        rw (get_or_append_left starts (m ∷ []) 0 i q) (omega (arith, b))
 
 -- no place at all while no cell lives
 pub placed_none : (starts : List ℕ) (names : ℕ) → Rising starts → names ≡ count_of starts → IsPlaced starts [] (replicate names None)

@@ -26,7 +26,7 @@ use Rattle.c_meaning.specs.Meaning.{Where, Site, Loop}
 use Rattle.c_meaning.specs.Acts.{Res, Go, Stop, Flow, Next, Broken, Again, Gave, bind, go_on, turned, continuing, given}
 use Rattle.c_meaning.specs.Acts as acts
 use Rattle.c_meaning.specs.Run as run
-use Rattle.c_meaning.specs.Run.{State, Moment, Told, Here, Head, real, index_below, cells_of, with_cells, state_of, chosen, after_draw, or_zero}
+use Rattle.c_meaning.specs.Run.{State, Moment, Here, Head, real, index_below, cells_of, with_cells, state_of, chosen, or_zero}
 use Rattle.c_meaning.specs.Exec.{run_in, run_if, call_of}
 use Rattle.c_meaning.specs.Related.{Units, Relation, Preserves}
 use Rattle.c_meaning.specs.Replay.{values_of, drawn_by, IsReplayed}
@@ -108,9 +108,6 @@ module _ (p : Program) (S : Type 0) (see : Moment → S → S) where
     adds = λ s. let x = g.adds s in adds_up R Q k l f s.draws (m s) (n (with_values (values_of x.0 ++ []) s)) (g.at s x.0 [] x.1) x.0 x.1;
     at = λ s new vs e. let x = g.adds s in same_up R Q k l f s.draws (λ ws. n (with_values ws s)) (m s) x.0 x.1 (λ ws. g.at s x.0 ws x.1) new vs e;
   }
-
-  replays_note : (x : Moment) → Replays Units (run.note p S see x) (run.note p S see x)
-  replays_note x = still Units _ _ (λ s. refl) (λ s vs. (tt, refl))
 
   replays_ret : {A B : Type 0} (R : A → B → Type 0) (a : A) (b : B) → R a b → Replays R (run.ret p S see a) (run.ret p S see b)
   replays_ret R a b q = still R _ _ (λ s. refl) (λ s vs. (q, refl))

@@ -16,7 +16,7 @@ use Rattle.c_meaning.specs.declared.run.DrawKind.{DrawKind}
 use Rattle.c_meaning.specs.Cells.{Key, Cell, same_key, live, read, put, cells_from}
 use Rattle.c_meaning.specs.Objects.{type_of_object, size_of_object}
 use Rattle.c_meaning.specs.Meaning.{Tick, Use, Where, Site, Loop, Meaning}
-use Rattle.c_meaning.specs.Acts.{Res, Go, Stop, Flow, Next, Broken, Again, Gave, bind, go_on, turned, continuing, given}
+use Rattle.c_meaning.specs.Acts.{Res, Go, Stop, Flow, Next, Broken, Again, Gave, bind, go_on, turned, continuing}
 use Rattle.c_meaning.specs.Acts as acts
 use Rattle.c_meaning.specs.Run.{index_below, state_of}
 use Rattle.c_meaning.specs.Eval.{eval}
@@ -30,9 +30,6 @@ grows_same cs ds e = ([], e ∙ sym (append-nil (keys cs)))
 
 pub grows_on : (cs ds es : List Cell) → Grows cs ds → Grows ds es → Grows cs es
 grows_on cs ds es g h = (g.0 ++ h.0, h.1 ∙ ap (λ ks. ks ++ h.0) g.1 ∙ append_assoc (keys cs) g.0 h.0)
-
-grows_from : (cs ds es : List Cell) → keys ds ≡ keys cs → Grows ds es → Grows cs es
-grows_from cs ds es e h = (h.0, h.1 ∙ ap (λ ks. ks ++ h.0) e)
 
 abbrev first_key : Key → List Key → Key
 first_key k [] = k

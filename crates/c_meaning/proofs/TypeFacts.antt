@@ -115,10 +115,6 @@ choice_types m (Some ty) None b h = neither h
 choice_types m (Some ty) (Some a) None h = neither h
 choice_types m (Some ty) (Some a) (Some b) h = (refl, refl)
 
-pub cast_types : (ty a : Option IntType) → (b : Bool) → b ≡ is_some a → IsTrue (cond (is_some ty) b true) → HasValueFor ty a
-cast_types None a b e h = tt
-cast_types (Some ty) a b e h = some_type a (sym e ∙ h)
-
 computed : (b : Bool) (t : IntType) → IsTrue (not b) → cond b Int t ≡ t
 computed true t h = neither h
 computed false t h = refl

@@ -40,9 +40,6 @@ record Taken (b : ℕ) (c : Punct) (stack : List Punct) (ts mid : List Token) : 
   scanned : (us : List Token) → to_semicolon b (c ∷ stack) (taken ++ us) ≡ put taken (to_semicolon b (c ∷ stack) us)
   inside : (us : List Token) → outside (suc (length stack)) (taken ++ us) ≡ outside (suc (length stack)) us
 
-closing_bracket : (d : Punct) (q : Spot) → bracket_of (Some d) ≡ Closing d → bracket (sign_token d q) ≡ Closing d
-closing_bracket d q e = e
-
 module _ (b r : ℕ) (Inner : List Token → List Token → Type 0)
     (room : (ts rest : List Token) → Inner ts rest → 1 ≤ r)
     (nested : (ts rest : List Token) → Inner ts rest → (c : Punct) (stack : List Punct) → length stack + r ≤ b → Taken b c stack ts rest) where

@@ -7,7 +7,7 @@ use Rattle.c_tokens.specs.declared.token.TokenKind.TheVariants as kind
 use Rattle.c_tokens.specs.declared.token.Punct.{Punct}
 use Rattle.c_tokens.specs.declared.token.Punct.TheVariants as sign
 use Rattle.c_parser.specs.Signs.{◌>>=◌, is_sign, sign_at, word_at, sign_of, word_of, place}
-use Rattle.c_parser.specs.Brackets.{NoBracket, Opening, Closing, bracket, bracket_of, stacked, skipped, behind}
+use Rattle.c_parser.specs.Brackets.{NoBracket, Opening, bracket, bracket_of, stacked, skipped, behind}
 use Rattle.c_parser.specs.ReadExpressions.{Read}
 use Rattle.c_parser.specs.Items.{depth_behind, outside, closed_word, or_later, closed_name}
 use Rattle.c_parser.specs.ReadItems.{to_semicolon}
@@ -24,10 +24,6 @@ ahead_more front mid (Some r) = ap (λ (ts : List Token). Some (ts, r.1)) (sym (
 ahead_none : (o : Read (List Token)) → o ≡ ahead [] o
 ahead_none None = refl
 ahead_none (Some r) = refl
-
-pub semicolon_here : (b : ℕ) (ts : List Token) → is_sign sign.Semicolon ts ≡ true → to_semicolon b [] ts ≡ Some ([], drop 1 ts)
-semicolon_here b [] e = absurd (cc)
-semicolon_here b (t ∷ ts) e = rw (to_semicolon, e) refl
 
 pub plain_here : (b : ℕ) (t : Token) (ts : List Token) → is_sign sign.Semicolon (t ∷ ts) ≡ false → bracket_of (sign_of t.kind) ≡ NoBracket → to_semicolon b [] (t ∷ ts) ≡ ahead (t ∷ []) (to_semicolon b [] ts)
 plain_here b t ts e f = rw (to_semicolon, e, f) refl
@@ -78,9 +74,6 @@ pair_none b c t ts e f g =
       | true ↦ (λ l h. rw (to_semicolon, e, f, l, stopping b c [] ts h) refl)
       | false ↦ (λ l h. rw (to_semicolon, e, f, l) refl)
     ] refl g
-
-pub closing_none : (b : ℕ) (c : Punct) (t : Token) (ts : List Token) → is_sign sign.Semicolon (t ∷ ts) ≡ false → bracket_of (sign_of t.kind) ≡ Closing c → to_semicolon b [] (t ∷ ts) ≡ None
-closing_none b c t ts e f = rw (to_semicolon, e, f) refl
 
 pub front_is : (front rest : List Token) → take (length (front ++ rest) - length rest) (front ++ rest) ≡ front
 front_is front rest = ap (λ (n : ℕ). take n (front ++ rest)) (omega (arith, length-append front rest)) ∙ taken front rest

@@ -114,9 +114,6 @@ module _ (b : ℕ) (whole inner : ℕ → List Token → Read Exp) (n m : ℕ) (
 
 -- what stands in a block
 module _ (one : List Token → Read Stm) (n m : ℕ) (ts : List Token) (e : n ≡ suc m) where
-  pub elements_close : (xs : List Stm) → is_sign sign.BraceClose ts ≡ true → following xs (elements one n ts) ≡ Some (xs ++ [], ts)
-  elements_close xs brace = rw e (ap (following xs) (when (is_sign sign.BraceClose ts) _ _ brace))
-
   elements_turn : is_sign sign.BraceClose ts ≡ false → elements one n ts ≡ (one ts >>= λ s. elements one m s.1 >>= λ r. Some (s.0 ∷ r.0, r.1))
   elements_turn brace = rw e (unless (is_sign sign.BraceClose ts) _ _ brace)
 

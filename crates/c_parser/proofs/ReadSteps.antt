@@ -1,5 +1,5 @@
 -- Steps of the parser, as equations of the function that reads by strength.
-use Rattle.std.proofs.Common.{◌≡◌, ◌+◌, ℕ, zero, suc, List, [], ◌∷◌, ◌++◌, drop, Bool, true, false, refl, sym, ap, ◌∙◌, arith, Option, Some, None, Result, Err, subst, max}
+use Rattle.std.proofs.Common.{◌≡◌, ◌+◌, ℕ, suc, List, [], ◌∷◌, ◌++◌, drop, Bool, true, false, refl, sym, ap, ◌∙◌, arith, Option, Some, None, Result, Err, subst, max}
 use Rattle.std.specs.Borrow.{Bor}
 use Rattle.c_core.specs.declared.number.Spot.{Spot}
 use Rattle.c_core.specs.declared.number.StepOp.{StepOp}
@@ -9,13 +9,12 @@ use Rattle.c_tokens.specs.declared.token.Token.{Token}
 use Rattle.c_parser.specs.declared.fault.Unread.{Unread}
 use Rattle.c_parser.specs.declared.fault.Unread.TheVariants.{Unspelled, OutOfMemory}
 use Rattle.c_parser.specs.declared.measured.Measured.{Measured}
-use Rattle.c_parser.specs.declared.measured.MeasuredRow.{MeasuredRow}
 use Rattle.c_parser.specs.Tree.{Exp, exps, moved, Step}
 use Rattle.c_parser.specs.Heights.{height, heights}
 use Rattle.c_parser.specs.Signs.{◌>>=◌, is_sign, Joint, joined, assignment, expr}
 use Rattle.c_parser.specs.ReadExpressions.{Read, closing, grown, stepped, tail, joint_at, listed, grouped, full, level, within, read}
 use Rattle.c_parser.specs.Expressions.{has_room}
-use Rattle.c_parser.specs.Gives.{Fails, Gives, GivesAll, Closes, step_at}
+use Rattle.c_parser.specs.Gives.{Fails, Gives, Closes, step_at}
 
 fails_whole : {A B : Type 0} (e : Unread) (o : Option A) (w : Option B) → Fails e o → (o ≡ None → w ≡ None) → Fails e w
 fails_whole Unspelled o w f g = g f
@@ -26,48 +25,13 @@ pub passed_on : {A : Type 0} (n : ℕ) (result : Result (Measured × Bor (List T
     result ≡ Err e → Fails e o → (o ≡ None → w ≡ None) → Gives n result w
 passed_on n result e o w r f g = subst (λ x. Gives n x w) (sym r) (fails_whole e o w f g)
 
-pub passed_on_all : {A : Type 0} (n : ℕ) (result : Result (MeasuredRow × Bor (List Token)) Unread) (e : Unread) (o : Option A) (w : Read (List Exp)) →
-    result ≡ Err e → Fails e o → (o ≡ None → w ≡ None) → GivesAll n result w
-passed_on_all n result e o w r f g = subst (λ x. GivesAll n x w) (sym r) (fails_whole e o w f g)
-
 pub same_read : (n : ℕ) (result : Result (Measured × Bor (List Token)) Unread) (o w : Read Exp) → w ≡ o → Gives n result o → Gives n result w
 same_read n result o w e g = subst (λ x. Gives n result x) (sym e) g
 
 module _ (room : Bool) (paren : ℕ → ℕ → List Token → Read Exp) (below : ℕ → List Token → Read Exp) (h : ℕ) where
-  pub stepped_done : (n : ℕ) (p : Spot) (e : Exp) (ts : List Token) → step_at ts ≡ None → stepped room paren below h n p e ts ≡ Some (e, ts)
-  stepped_done zero p e ts none = rw none refl
-  stepped_done (suc n) p e ts none = rw none refl
-
-  pub stepped_high : (n : ℕ) (p : Spot) (e : Exp) (ts : List Token) (op : StepOp) → step_at ts ≡ Some op → grown h p (Step op e) (drop 1 ts) ≡ None →
-      stepped room paren below h n p e ts ≡ None
-  stepped_high zero p e ts op here high = rw (here, high) refl
-  stepped_high (suc n) p e ts op here high = rw (here, high) refl
-
-  pub stepped_spent : (p : Spot) (e : Exp) (ts : List Token) (op : StepOp) (q : Exp × List Token) → step_at ts ≡ Some op → grown h p (Step op e) (drop 1 ts) ≡ Some q →
-      stepped room paren below h 0 p e ts ≡ None
-  stepped_spent p e ts op q here low = rw (here, low) refl
-
   pub stepped_more : (m n : ℕ) (p : Spot) (e : Exp) (ts : List Token) (op : StepOp) (q : Exp × List Token) → m ≡ suc n → step_at ts ≡ Some op → grown h p (Step op e) (drop 1 ts) ≡ Some q →
       stepped room paren below h m p e ts ≡ stepped room paren below h n p q.0 q.1
   stepped_more m n p e ts op q one here low = rw (one, here, low) refl
-
-  pub tail_done : (n : ℕ) (p : Spot) (k : ℕ) (e : Exp) (ts : List Token) → joint_at k ts ≡ None → tail room paren below h n p k e ts ≡ Some (e, ts)
-  tail_done zero p k e ts none = rw none refl
-  tail_done (suc n) p k e ts none = rw none refl
-
-  pub tail_none : (n : ℕ) (p : Spot) (k : ℕ) (e : Exp) (ts : List Token) (j : ℕ × Joint) → joint_at k ts ≡ Some j → below (suc j.0) (drop 1 ts) ≡ None →
-      tail room paren below h n p k e ts ≡ None
-  tail_none zero p k e ts j here none = rw (here, none) refl
-  tail_none (suc n) p k e ts j here none = rw (here, none) refl
-
-  pub tail_high : (n : ℕ) (p : Spot) (k : ℕ) (e : Exp) (ts : List Token) (j : ℕ × Joint) (r : Exp × List Token) → joint_at k ts ≡ Some j → below (suc j.0) (drop 1 ts) ≡ Some r →
-      grown h p (joined j.1 e r.0) r.1 ≡ None → tail room paren below h n p k e ts ≡ None
-  tail_high zero p k e ts j r here right high = rw (here, right, high) refl
-  tail_high (suc n) p k e ts j r here right high = rw (here, right, high) refl
-
-  pub tail_spent : (p : Spot) (k : ℕ) (e : Exp) (ts : List Token) (j : ℕ × Joint) (r q : Exp × List Token) → joint_at k ts ≡ Some j → below (suc j.0) (drop 1 ts) ≡ Some r →
-      grown h p (joined j.1 e r.0) r.1 ≡ Some q → tail room paren below h 0 p k e ts ≡ None
-  tail_spent p k e ts j r q here right low = rw (here, right, low) refl
 
   pub tail_more : (m n : ℕ) (p : Spot) (k : ℕ) (e : Exp) (ts : List Token) (j : ℕ × Joint) (r q : Exp × List Token) → m ≡ suc n → joint_at k ts ≡ Some j → below (suc j.0) (drop 1 ts) ≡ Some r →
       grown h p (joined j.1 e r.0) r.1 ≡ Some q → tail room paren below h m p k e ts ≡ tail room paren below h n p k q.0 q.1

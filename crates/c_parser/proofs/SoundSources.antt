@@ -1,5 +1,5 @@
 -- Each list of tokens is read as the source that it spells, or as stopping where it stops.
-use Rattle.std.proofs.Common.{◌≡◌, ℕ, zero, suc, ◌≤◌, List, [], ◌∷◌, length, refl, sym, ap, ◌∙◌, subst, inl, inr, ◌⊎◌, Option, Some, None, arith}
+use Rattle.std.proofs.Common.{◌≡◌, ℕ, zero, suc, ◌≤◌, List, [], ◌∷◌, length, refl, sym, ◌∙◌, subst, inl, inr, ◌⊎◌, Option, Some, None, arith}
 use Rattle.c_core.specs.declared.number.Spot.{Spot}
 use Rattle.c_tokens.specs.declared.token.Token.{Token}
 use Rattle.c_parser.specs.Tree.{Item}
@@ -13,7 +13,6 @@ use Rattle.c_parser.proofs.ClosedLaws.{closed_read}
 use Rattle.c_parser.proofs.ItemLengths.{takes_shorter}
 use Rattle.c_parser.proofs.SoundItems.{reach_sound, function_sound, prototype_sound, global_sound, nothing_sound}
 use Rattle.c_parser.proofs.SoundClosed.{closed_sound}
-use Rattle.c_parser.proofs.SourceLaws.{one_source, one_syntax, source_or_syntax}
 
 abbrev Reader : Type 0
 Reader = List Token → Read (Option Item)
@@ -137,20 +136,6 @@ source_sound ts xs e = outcome_judged ts (Source xs) e
 
 pub syntax_sound : (ts : List Token) (p : Spot) → read_items max_height max_brackets (length ts) ts ≡ Syntax p → IsSyntax ts p
 syntax_sound ts p e = outcome_judged ts (Syntax p) e
-
-source_by : (ts : List Token) (xs : List Item) → IsSource ts xs → (o : Outcome) → read_items max_height max_brackets (length ts) ts ≡ o → o ≡ Source xs
-source_by ts xs d (Source ys) e = ap Source (one_source ts ys xs (source_sound ts ys e) d)
-source_by ts xs d (Syntax p) e = absurd (source_or_syntax ts xs p d (syntax_sound ts p e))
-
-pub source_read : (ts : List Token) (xs : List Item) → IsSource ts xs → read_items max_height max_brackets (length ts) ts ≡ Source xs
-source_read ts xs d = source_by ts xs d (read_items max_height max_brackets (length ts) ts) refl
-
-syntax_by : (ts : List Token) (p : Spot) → IsSyntax ts p → (o : Outcome) → read_items max_height max_brackets (length ts) ts ≡ o → o ≡ Syntax p
-syntax_by ts p d (Source xs) e = absurd (source_or_syntax ts xs p (source_sound ts xs e) d)
-syntax_by ts p d (Syntax q) e = ap Syntax (one_syntax ts q p (syntax_sound ts q e) d)
-
-pub syntax_read : (ts : List Token) (p : Spot) → IsSyntax ts p → read_items max_height max_brackets (length ts) ts ≡ Syntax p
-syntax_read ts p d = syntax_by ts p d (read_items max_height max_brackets (length ts) ts) refl
 
 outcome_by : (ts : List Token) (o : Outcome) → Judged max_height max_brackets ts o → ((xs : List Item) × IsSource ts xs) ⊎ ((p : Spot) × IsSyntax ts p)
 outcome_by ts (Source xs) d = inl (xs, d)

@@ -1,5 +1,5 @@
 -- What is read up to the end of the tokens, or up to closing parentheses, is what they spell.
-use Rattle.std.proofs.Common.{◌≡◌, ℕ, ◌≤◌, List, [], ◌∷◌, true, refl, sym, ap, ◌∙◌, Some, None, arith}
+use Rattle.std.proofs.Common.{◌≡◌, ℕ, ◌≤◌, List, [], ◌∷◌, true, refl, ap, Some, arith}
 use Rattle.c_tokens.specs.declared.token.Token.{Token}
 use Rattle.c_tokens.specs.declared.token.Punct.TheVariants as sign
 use Rattle.c_parser.specs.Tree.{Exp}
@@ -11,8 +11,6 @@ use Rattle.c_parser.specs.Witness.{are_all}
 use Rattle.c_parser.proofs.SignLaws.{grip, taken}
 use Rattle.c_parser.proofs.WordLaws.{both_true}
 use Rattle.c_parser.proofs.Complete.{read_complete}
-use Rattle.c_parser.proofs.StatementKnot.{once}
-use Rattle.c_parser.proofs.ReadLaws.{none_some}
 use Rattle.c_parser.proofs.SoundExpressions.{read_sound}
 
 -- nothing holds to what stands before a closing parenthesis
@@ -26,24 +24,8 @@ constant_sound b h k ts e rest lo up f = let x = read_sound b h k ts (e, rest) l
 pub constant_read : (b h k : ℕ) (ts : List Token) (e : Exp) (rest : List Token) → 1 ≤ k → k ≤ 15 → are_all sign.ParenClose rest ≡ true → Spells b k ts e rest → height e ≤ h → read b h k ts ≡ Some (e, rest)
 constant_read b h k ts e rest lo up all s low = let g : grip rest ≡ 0 = closing_grip rest all in read_complete b h k ts e rest lo up s low (omega (arith, g, lo))
 
--- where nothing is read, nothing is spelled
-pub constant_unread : (b h k : ℕ) (ts : List Token) (e : Exp) (rest : List Token) → 1 ≤ k → k ≤ 15 → read b h k ts ≡ None → are_all sign.ParenClose rest ≡ true → Spells b k ts e rest → height e ≤ h → ⊥
-constant_unread b h k ts e rest lo up f all s low = none_some (e, rest) (sym f ∙ constant_read b h k ts e rest lo up all s low)
-
--- where something is read, nothing else is spelled
-pub constant_only : (b h k : ℕ) (ts : List Token) (e u : Exp) (rest last : List Token) → 1 ≤ k → k ≤ 15 → read b h k ts ≡ Some (u, last) → are_all sign.ParenClose rest ≡ true → Spells b k ts e rest → height e ≤ h → (e ≡ u) × (rest ≡ last)
-constant_only b h k ts e u rest last lo up f all s low =
-    let g = once (constant_read b h k ts e rest lo up all s low) f in (ap (λ (x : Exp × List Token). x.0) g, ap (λ (x : Exp × List Token). x.1) g)
-
 pub whole_sound : (b h k : ℕ) (ts : List Token) (e : Exp) → 1 ≤ k → k ≤ 15 → read b h k ts ≡ Some (e, []) → Spells b k ts e [] × (height e ≤ h)
 whole_sound b h k ts e lo up f = constant_sound b h k ts e [] lo up f
 
 pub whole_read : (b h k : ℕ) (ts : List Token) (e : Exp) → 1 ≤ k → k ≤ 15 → Spells b k ts e [] → height e ≤ h → read b h k ts ≡ Some (e, [])
 whole_read b h k ts e lo up s low = constant_read b h k ts e [] lo up refl s low
-
-pub whole_unread : (b h k : ℕ) (ts : List Token) (e : Exp) → 1 ≤ k → k ≤ 15 → read b h k ts ≡ None → Spells b k ts e [] → height e ≤ h → ⊥
-whole_unread b h k ts e lo up f s low = constant_unread b h k ts e [] lo up f refl s low
-
--- nor where something is left
-pub whole_unfinished : (b h k : ℕ) (ts : List Token) (e u : Exp) (t : Token) (rest : List Token) → 1 ≤ k → k ≤ 15 → read b h k ts ≡ Some (u, t ∷ rest) → Spells b k ts e [] → height e ≤ h → ⊥
-whole_unfinished b h k ts e u t rest lo up f s low = let g : [] ≡ t ∷ rest = (constant_only b h k ts e u [] (t ∷ rest) lo up f refl s low).1 in absurd (cc)

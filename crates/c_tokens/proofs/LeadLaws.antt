@@ -1,11 +1,9 @@
 -- What leads a text.
 use Rattle.std.proofs.lemmas.List.{length-drop}
 use Rattle.c_tokens.proofs.Closes.{rest_whole}
-use Rattle.std.proofs.Common.{◌≡◌, ◌≤◌, ◌+◌, ◌-◌, ℕ, zero, suc, List, [], ◌∷◌, length, take, drop, false, Some, None, refl, sym, ap, ◌∙◌, subst, arith}
+use Rattle.std.proofs.Common.{◌≡◌, ◌≤◌, ◌+◌, ◌-◌, ℕ, zero, suc, List, [], ◌∷◌, length, take, drop, Some, sym, ap, subst, arith}
 use Rattle.c_tokens.specs.declared.place.Place.{Place}
-use Rattle.c_tokens.specs.declared.gap.Gap.TheVariants.{Space}
-use Rattle.c_tokens.specs.Gaps.{gap}
-use Rattle.c_tokens.specs.Reading.{past, paren_open, Leads, NoLead, GapLeads, ParenLeads, LeadEnds}
+use Rattle.c_tokens.specs.Reading.{past, paren_open, Leads, GapLeads, ParenLeads}
 use Rattle.c_tokens.specs.Scan.{LeadSteps}
 
 front_same : (b c : ℕ) (s t : List ℕ) → b ∷ s ≡ c ∷ t → b ≡ c
@@ -38,10 +36,6 @@ step_takes [] n (suc m) h = absurd (no_front h.2)
     no_front : [] ≡ paren_open ∷ drop 1 [] → ⊥
     no_front e = cc
 step_takes (b ∷ text) n (suc m) h = let one = h.0 in let none = h.1 in (omega (arith, one), omega (arith, one), omega (arith, none))
-
-pub nothing_leads : (text : List ℕ) → length text ≡ 0 → LeadEnds text
-nothing_leads [] e = record { no_gap = λ n f. cc; no_paren = λ rest f. cc }
-nothing_leads (b ∷ text) e = absurd (omega arith)
 
 -- what is left behind a step
 pub left_behind : (rest : List ℕ) (n passed total : ℕ) → 1 ≤ n → n ≤ length rest → length rest + passed ≤ total → length (take (length rest - n) (drop n rest)) + (passed + 1) ≤ total

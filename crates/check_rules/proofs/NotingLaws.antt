@@ -107,9 +107,6 @@ module _ (m : DataModel) (items : List raw.Item) where
       note (bodiless m items part) (refusal code.Body (place_of part)) ∷
       note (crowded m items part) (refusal code.Cells (place_of part)) ∷ []
 
-  by_notes : (b : Option Refusal) (p : Part) → noted_part m items b p ≡ all_noted b (notes p)
-  by_notes b p = refl
-
   pub noted_part-in_any_order : (b : Option Refusal) (p q : Part) → noted_part m items (noted_part m items b p) q ≡ noted_part m items (noted_part m items b q) p
   noted_part-in_any_order b p q = all_then_all b (notes p) (notes q)
 

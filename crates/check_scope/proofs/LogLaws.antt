@@ -1,13 +1,13 @@
 -- What is made of a name, after one declaration more and after one less.
-use Rattle.std.proofs.Common.{arith, ◌≡◌, ◌+◌, ◌-◌, ◌≤◌, ◌<◌, ◌++◌, ℕ, suc, Bool, true, false, cond, List, [], ◌∷◌, length, take, drop, get_or, refl, ap, sym, subst, ◌∙◌, Option, Some, None}
+use Rattle.std.proofs.Common.{arith, ◌≡◌, ◌+◌, ◌-◌, ◌≤◌, ◌++◌, ℕ, suc, Bool, true, false, cond, List, [], ◌∷◌, length, take, get_or, refl, ap, sym, subst, ◌∙◌, Option, Some, None}
 use Rattle.std.specs.Str.{bytes_eq}
-use Rattle.std.proofs.lemmas.List.{append-nil, append_assoc, drop_all, length-take-le, take-append-drop, take-append-le}
+use Rattle.std.proofs.lemmas.List.{append-nil, append_assoc, drop_all, take-append-drop}
 use Rattle.std.proofs.Math.Seq.{take-append_seam, get_or-append_seam}
 use Rattle.std.proofs.lemmas.Slice.Eq.{bytes_eq-Decides}
 use Rattle.check_scope.specs.declared.line.Line.{Line}
 use Rattle.check_scope.specs.declared.past.Past.{Past}
 use Rattle.check_scope.specs.Pasts.{with_known}
-use Rattle.check_scope.specs.Lines.{entry_of, entries_of, past_after, past_from, past_of, befores, hidden}
+use Rattle.check_scope.specs.Lines.{past_after, past_from, past_of, befores, hidden}
 
 past_push : (n : ℕ) (before : Option Past) (ls : List Line) (l : Line) (x : List ℕ)
     → past_from n before (ls ++ l ∷ []) x ≡ past_after (n + length ls) (past_from n before ls x) l x
@@ -95,18 +95,6 @@ pub is_there : (ls : List Line) (l : Line) → past_of (ls ++ l ∷ []) l.name.n
 is_there ls l h =
     let x = l.name.now in
     subst IsAbsent (sym h ∙ past_more ls l x ∙ ap (λ b. cond b (Some (with_known (length ls) (past_of ls x) l.known)) (past_of ls x)) ((bytes_eq-Decides x x).1 refl)) tt
-
-pub entries_push : (ls : List Line) (l : Line) → entries_of (ls ++ l ∷ []) ≡ entries_of ls ++ entry_of l ∷ []
-entries_push [] l = refl
-entries_push (m ∷ ls) l = ap (λ r. entry_of m ∷ r) (entries_push ls l)
-
--- the front of a list, after its last is taken back, and when nothing stands behind it
-pub take_shorter : {X : Type 0} (n : ℕ) (xs : List X) → n < length xs → take n (take (length xs - 1) xs) ≡ take n xs
-take_shorter n xs h =
-    let m = length xs - 1 in
-    let len : length (take m xs) ≡ m = length-take-le m xs (omega arith) in
-    let p : n ≤ length (take m xs) = omega (arith, h, len) in
-    sym (take-append-le n (take m xs) (drop m xs) p) ∙ ap (take n) (take-append-drop m xs)
 
 pub all_taken : {X : Type 0} (n : ℕ) (xs : List X) → length xs ≤ n → take n xs ≡ xs
 all_taken n xs h = sym (append-nil (take n xs)) ∙ ap (λ d. take n xs ++ d) (sym (drop_all n xs h)) ∙ take-append-drop n xs

@@ -1,14 +1,14 @@
 -- Marks that only grow, until nothing more is to be marked.
-use Rattle.std.proofs.Common.{◌≡◌, ◌⊎◌, inl, inr, ℕ, zero, suc, ◌+◌, ◌<◌, ◌≤◌, Bool, true, false, ◌||◌, List, [], ◌∷◌, length, take, drop, ◌++◌, Some, refl, sym, ap, subst, ◌∙◌, arith}
+use Rattle.std.proofs.Common.{◌≡◌, ◌⊎◌, inl, inr, ℕ, zero, suc, ◌+◌, ◌<◌, Bool, true, false, ◌||◌, List, [], ◌∷◌, length, take, drop, ◌++◌, refl, sym, ap, subst, ◌∙◌, arith}
 pub use Rattle.std.proofs.lemmas.Bool.{or_left, or_right}
-use Rattle.std.specs.Prelude.{slice_get, slice_set, slice_index_or, get_or, nat_eq, replicate}
+use Rattle.std.specs.Prelude.{slice_set, get_or, nat_eq, replicate}
 use Rattle.std.specs.List.{list_any}
 use Rattle.std.proofs.lemmas.Bool.{false≢true, cases_eq, cases_lt, eqb-true, eq-eqb}
-use Rattle.std.proofs.lemmas.Option.{slice_get-get_or, slice_get_within, get_or_from_slice_get}
-use Rattle.std.proofs.lemmas.List.{get_or-set_same, get_or-set_other, get_or_past, get_or-replicate, length-replicate, drop_all, take_all, append-nil}
+use Rattle.std.proofs.lemmas.Option.{get_or_from_slice_get}
+use Rattle.std.proofs.lemmas.List.{get_or-set_other, get_or_past, get_or-replicate, length-replicate, drop_all, take_all, append-nil}
 use Rattle.check_sequencing.specs.declared.effect.Effect.{Effect}
 use Rattle.check_sequencing.specs.declared.effect.Effect.TheVariants as does
-use Rattle.check_sequencing.specs.Effects.{AreMarks, AreSound, AreClosed, IsClosedAt, Does, Itself, ByCall, IsBody, calls, calls_marked, does_by, is_marked, unmarked}
+use Rattle.check_sequencing.specs.Effects.{AreSound, AreClosed, Does, Itself, ByCall, IsBody, calls, calls_marked, does_by, is_marked, unmarked}
 
 pub unmarked_set : (marks : List Bool) (k : ℕ) → k < length marks → get_or marks k false ≡ false → suc (unmarked (slice_set marks k true)) ≡ unmarked marks
 unmarked_set [] k l h = absurd (omega (arith, l))
@@ -88,10 +88,6 @@ none_marked bodies test n k h = elim (cases_lt k n) as (λ _. Does bodies test k
   | inl l ↦ absurd (false≢true (sym (get_or-replicate n k false false l) ∙ h))
   | inr g ↦ absurd (false≢true (sym (get_or_past (replicate n false) k false (rw (length-replicate n false) g)) ∙ h))
 ]
-
--- beyond the last body nothing is done
-pub closed_beyond : (bodies : List (List Effect)) (test : Effect → Bool) (marks : List Bool) (k : ℕ) → length bodies ≤ k → IsClosedAt bodies test marks k
-closed_beyond bodies test marks k g h = absurd (false≢true (sym (ap (does_by marks test) (get_or_past bodies k [] g)) ∙ h))
 
 -- a vector whose slice was written to
 pub written_back : (n : ℕ) (new old : List Bool) → length new ≡ length old → length old ≡ n → take n (new ++ drop (length new) old) ≡ new

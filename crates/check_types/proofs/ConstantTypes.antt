@@ -1,15 +1,13 @@
 -- Values of types, and the lists of types of constants.
-use Rattle.std.proofs.Common.{◌≡◌, ◌<◌, ℕ, Bool, true, false, nat_eq, ℤ, refl, sym, ap, ◌∙◌, None}
+use Rattle.std.proofs.Common.{◌≡◌, Bool, true, false, nat_eq, ℤ, refl, sym, ap, ◌∙◌}
 use Rattle.std.proofs.lemmas.Bool.{eqb-true, eq-eqb, false≢true, false_from_ne_true}
 use Rattle.std.proofs.lemmas.Int.{to_z-of_z}
-use Rattle.std.proofs.lemmas.List.{drop_all}
 use mir.Val.{SFits, of_z, to_z}
 use mir.Syntax.{w128}
 use Rattle.c_core.specs.Types.{fit, in_range}
 use Rattle.c_core.specs.declared.number.IntType.{IntType}
 use Rattle.c_core.specs.declared.number.DataModel.{DataModel}
 use Rattle.c_core.proofs.Fits.{fit_kept, fit_in_range}
-use Rattle.check_rules.specs.Constants.{ranks, constant_type}
 
 pub same_number : (a b : ℤ) → SFits w128 a → SFits w128 b → of_z w128 a ≡ of_z w128 b → a ≡ b
 same_number a b f g e = sym (to_z-of_z w128 a f) ∙ ap (to_z w128) e ∙ to_z-of_z w128 b g
@@ -24,6 +22,3 @@ kept_by_value m ty k v f g e = by_range (in_range m ty v) refl
         let differ : nat_eq (of_z w128 k) (of_z w128 v) ≡ true → ⊥ = λ q.
         false≢true (sym h ∙ ap (in_range m ty) (sym (same_number k v f g (eqb-true _ _ q))) ∙ ap (in_range m ty) e ∙ fit_in_range m ty v) in
         false_from_ne_true _ differ ∙ sym h
-
-pub no_rank : (m : DataModel) (v : ℕ) (decimal unsigned : Bool) (longs : ℕ) → 2 < longs → constant_type m v decimal unsigned longs ≡ None
-no_rank m v decimal unsigned longs h = rw (drop_all longs ranks h) refl

@@ -12,12 +12,12 @@ use Rattle.c_core.specs.declared.number.Spot.{Spot}
 use Rattle.c_core.specs.declared.tree.Callee.{Callee}
 use Rattle.c_core.specs.declared.tree.Callee.TheVariants as callee
 use Rattle.c_parser.specs.Tree as raw
-use Rattle.c_parser.specs.Tree.{Exp, Expr, Node, Number, Char, Var, Index, Unary, Cast, Step, Binary, Logic, Choose, Comma, Assign, Call, Exps, NoExp, MoreExp}
+use Rattle.c_parser.specs.Tree.{Exp, Expr, Node, Number, Char, Var, Index, Unary, Cast, Step, Binary, Logic, Choose, Comma, Assign, Call}
 use Rattle.c_parser.specs.Formed.{constant_fits, assignment_fits}
 use Rattle.check_rules.specs.Names as kind
-use Rattle.check_rules.specs.Names.{Kind, Entry, entry, BuiltIn, later, declared_as, or_built_in, kind_of_callee, callee_among, built_ins, built_in, named}
+use Rattle.check_rules.specs.Names.{Kind, Entry, entry, BuiltIn, later, declared_as, or_built_in, callee_among, built_ins, built_in, named}
 use Rattle.check_rules.specs.Typed.{typed}
-use Rattle.check_rules.specs.Parts.{Role, Value, Target, Part, Expression, parts, bodies_of}
+use Rattle.check_rules.specs.Parts.{Value, Target, Part, parts, bodies_of}
 use Rattle.check_rules.specs.Codes.{closed_names, count_defined, is_place}
 use Rattle.check_wellformed.proofs.Lists.{AllOf, second_fails, not_false}
 use Rattle.check_wellformed.proofs.Fair.{IsFair}
@@ -121,9 +121,6 @@ module _ (p : t.Program) (items : List raw.Item) (entries : List Entry) where
   named_object x es h = object_or_built_in x (declared_as es x) (built_in x) (declared_stands x es h)
 
   -- ---- the head of an expression
-
-  pub head_good : (es : List Entry) (r : Role) (e : Exp) → AllOf IsGood (parts es r e) → IsGood (Expression es r e)
-  head_good es r (Expr q n) h = h.0
 
   pub value_of_part : (es : List Entry) (e : Exp) → AllOf IsGood (parts es Value e) → has_value (typed p.model (bodies_of items) es e) ≡ true
   value_of_part es (Expr q n) h = not_none (type_of (typed p.model (bodies_of items) es (Expr q n))) (second_fails _ _ h.0.fair.typed)

@@ -37,11 +37,6 @@ pub derives_same : (clauses : List (List ℤ)) (a b : List ℤ) (steps : List Re
 derives_same clauses a b [] last same d = λ y. (λ i. (d y).0 ((same y).1 i), λ i. (same y).0 ((d y).1 i))
 derives_same clauses a b (s ∷ ss) last same d = (d.0, d.1, d.2, resolvent_same a b d.0 d.1 s.on same d.3, d.4)
 
--- one more step at the end
-pub derives_then : (clauses : List (List ℤ)) (a : List ℤ) (steps : List Resolve) (m : List ℤ) (s : Resolve) (c r : List ℤ) → Derives clauses a steps m → IsClauseAt clauses s.with c → Resolvent m c s.on r → Derives clauses a (steps ++ s ∷ []) r
-derives_then clauses a [] m s c r d at p = (c, r, at, resolvent_same m a c r s.on (λ y. ((d y).1, (d y).0)) p, λ y. (λ i. i, λ i. i))
-derives_then clauses a (t ∷ ts) m s c r d at p = (d.0, d.1, d.2, d.3, derives_then clauses d.1 ts m s c r d.4 at p)
-
 same_clause : (clauses : List (List ℤ)) (n : ℕ) (a b : List ℤ) → IsClauseAt clauses n a → IsClauseAt clauses n b → a ≡ b
 same_clause clauses n a b h g = let e : Some a ≡ Some b = sym h.1 ∙ g.1 in cc
 

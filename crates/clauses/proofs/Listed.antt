@@ -40,14 +40,6 @@ apart_by (x ∷ xs) d z (zero, lt, e) (suc j, lu, f) = All-contains (λ y. unsig
 apart_by (x ∷ xs) d z (suc k, lt, e) (zero, lu, f) = All-contains (λ y. unsigned_abs y ≢ unsigned_abs x) xs z d.1 (k, omega arith, e) (sym (size_neg z) ∙ ap unsigned_abs (sym f))
 apart_by (x ∷ xs) d z (suc k, lt, e) (suc j, lu, f) = apart_by xs d.2 z (k, omega arith, e) (j, omega arith, f)
 
-pub one_clause : (x : ℤ) → IsNumber x → IsClause (x ∷ [])
-unfolding Differ
-one_clause x h = record {
-  rising = tt;
-  real = All-cons (λ y. IsNumber y) x [] h (All-nil (λ y. IsNumber y));
-  apart = apart_by (x ∷ []) (h.0, All-nil (λ y. unsigned_abs y ≢ unsigned_abs x), tt);
-}
-
 pub two_clause : (x y : ℤ) → IsNumber x → IsNumber y → (unsigned_abs x ≡ unsigned_abs y → ⊥) → x <ℤ y → IsClause (x ∷ y ∷ [])
 unfolding Differ
 two_clause x y hx hy d lt = record {

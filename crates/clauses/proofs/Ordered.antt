@@ -45,9 +45,6 @@ pub record ApartOutside (xs : List ℤ) (low high : ℕ) : Type 0 where
   pub below : (k m : ℕ) → k < low → m < length xs → get_or xs k (pos 0) ≢ neg_ℤ (get_or xs m (pos 0))
   pub above : (k m : ℕ) → k < length xs → high ≤ m → m < length xs → get_or xs k (pos 0) ≢ neg_ℤ (get_or xs m (pos 0))
 
-pub outside_first : (xs : List ℤ) → ApartOutside xs 0 (length xs)
-outside_first xs = record { within = omega arith; below = λ k m lt less. absurd (omega arith); above = λ k m lt ge less. absurd (omega arith) }
-
 pub outside_low : (xs : List ℤ) (low high : ℕ) → Rises xs → low < high → get_or xs low (pos 0) <ℤ neg_ℤ (get_or xs (high - 1) (pos 0)) → ApartOutside xs low high → ApartOutside xs (low + 1) high
 outside_low xs low high rises lt less h = record {
   within = h.within;

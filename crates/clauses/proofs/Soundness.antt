@@ -1,5 +1,5 @@
 -- Where a log ends with the empty clause, no assignment satisfies its clauses.
-use Rattle.std.proofs.Common.{◌≡◌, ◌≢◌, ◌∙◌, ℕ, zero, suc, ◌+◌, ◌-◌, inl, inr, Bool, true, false, not, ◌&&◌, ◌||◌, List, [], ◌∷◌, ◌++◌, length, ℤ, pos, negsuc, neg_ℤ, ap, refl, subst, arith}
+use Rattle.std.proofs.Common.{◌≡◌, ◌∙◌, ℕ, zero, suc, ◌+◌, ◌-◌, inl, inr, Bool, true, false, not, ◌&&◌, ◌||◌, List, [], ◌∷◌, ◌++◌, length, ℤ, pos, negsuc, neg_ℤ, ap, refl, subst, arith}
 use Rattle.std.proofs.lemmas.List.Elements.{All-cons, All-nil, All-push, All-contains}
 use Rattle.std.specs.List.{All, Contains}
 use Rattle.clauses.specs.declared.log.Resolve.{Resolve}
@@ -36,9 +36,6 @@ never_both v (negsuc n) real h g = flipped (v (n + 1)) (ap v (suc_is n) ∙ g) h
 
     suc_is : (n : ℕ) → n + 1 ≡ suc n
     suc_is n = omega arith
-
-from_left : (v : ℕ → Bool) (a b r : List ℤ) (on : ℕ) (y : ℤ) → (p : Resolvent a b on r) → Contains a y → y ≢ p.number → Contains r y
-from_left v a b r on y p i d = (p.members y).1 (inl (i, d))
 
 resolvent_true : (v : ℕ → Bool) (a b r : List ℤ) (on : ℕ) → Resolvent a b on r → IsTrueOf v a → IsTrueOf v b → IsTrueOf v r
 resolvent_true v a b r on p ha hb =

@@ -1,12 +1,11 @@
 -- The functions of a demo's programs call none with a body, so main reaches no cycle of calls.
-use Rattle.std.proofs.Common.{◌≡◌, ℕ, zero, suc, ◌+◌, false, List, [], ◌∷◌, length, None, refl}
+use Rattle.std.proofs.Common.{◌≡◌, ℕ, zero, suc, ◌+◌, false, List, [], ◌∷◌, None, refl}
 use Rattle.c_calls.specs.Calling.{IsCalledFrom, IsFirstRecursion, directly, further}
 use Rattle.c_core.specs.Tree.{Exp, Program, Stms}
 use Rattle.c_core.specs.declared.tree.Object.{Object}
 use Rattle.c_meaning.specs.Parts.{calls, fulls_of_block, fulls_of_function, some_node, some_of}
 use Rattle.demo_checks.proofs.Quiet.{never}
-use Rattle.demo_laws.specs.Source.{line_behind}
-use Rattle.demo_run.specs.Typed.{correct_typed, faulty_rest, faulty_typed, loops, main_alone}
+use Rattle.demo_run.specs.Typed.{correct_typed, loops, main_alone}
 use Rattle.demo_binding.proofs.Suffixes.{last}
 
 -- loops call none
@@ -31,8 +30,3 @@ module _ (objects : List Object) (body : Stms) (none : (f : ℕ) → some_of (so
 
 pub correct_is_straight : (bs : List ℕ) → IsFirstRecursion (correct_typed bs) None
 correct_is_straight bs = no_cycle (correct_typed bs).objects (loops 4 1 0 bs (last bs)) (λ f. no_calls f 4 1 0 bs (last bs) refl)
-
-pub faulty_is_straight : (n : ℕ) (bs : List ℕ) → IsFirstRecursion (faulty_typed n bs) None
-faulty_is_straight n bs =
-    let rest = faulty_rest (line_behind 4 bs) (length bs) n in
-    no_cycle (faulty_typed n bs).objects (loops 4 1 0 bs rest) (λ f. no_calls f 4 1 0 bs rest refl)

@@ -77,15 +77,6 @@ module _ (c : Code) (S : Type 0) (after : Event → List Cell → S → S) where
   pub fewer : (m y : Machine S) → Reaches c S after m y → y.run.steps ≤ m.run.steps
   fewer m y r = fewer_steps r.count m y r.is
 
-  -- behind an operation that takes a step it has fewer
-  pub fewer_behind : (m y : Machine S) (o : Op) → slice_get c.ops m.control.at ≡ Some o → m.control.paid < o.steps → step c S after m ≡ On y → y.run.steps < m.run.steps
-  fewer_behind m y o h p e =
-      let t = step_takes m y (slice_get c.ops m.control.at) e in
-      let same : t.0 ≡ o = cc in
-      let within = leb-true (due m t.0) m.run.steps t.2 in
-      let q = ap (λ x. x.steps) same in
-      omega (arith, t.3, within, q, p)
-
   moved_more : (y : Machine S) (r : Res End (State S) Control) (n q d : ℕ) → Leaves q r → n ≡ q + d → moved r ≡ On y → moved (as_steps n r) ≡ On (with_steps (y.run.steps + d) y)
   moved_more y (Go k s) n q d l h e =
       let g : record { control = k; run = s } ≡ y = cc in

@@ -1,6 +1,6 @@
 -- Behind an expression, a call or a statement that declares no names in its scope there are the cells that were before it, whatever they
 -- hold; behind every statement there are these and perhaps more.
-use Rattle.std.proofs.Common.{◌≡◌, ◌≤◌, ℕ, zero, suc, ◌+◌, ℤ, pos, Bool, true, false, cond, not, ◌||◌, ◌&&◌, is_some, nat_le, List, [], ◌∷◌, ◌++◌, length, take, Option, Some, None, slice_get, refl, sym, ap, ◌∙◌, subst, arith, length-append}
+use Rattle.std.proofs.Common.{◌≡◌, ℕ, zero, suc, ◌+◌, ℤ, pos, Bool, true, false, cond, not, ◌||◌, ◌&&◌, is_some, nat_le, List, [], ◌∷◌, ◌++◌, length, take, Option, Some, None, slice_get, refl, sym, ap, ◌∙◌, subst}
 use Rattle.std.proofs.lemmas.List.{length-map, map-append}
 use Rattle.std.proofs.Math.Seq.{take-length}
 use Rattle.c_core.specs.Tree.{Exp, Expr, Node, Const, Var, Index, Unary, Cast, Step, Binary, Logic, Choose, Comma, Assign, Call, Exps, NoExp, MoreExp, Init, Absent, One, Many, Names, NoName, MoreName, First, NoFirst, FirstExp, FirstNames, Stm, Stmt, Form, Empty, Do, Declare, Block, If, While, DoWhile, For, Break, Continue, Return, Label, Else, NoElse, OrElse, Stms, NoStm, MoreStm, Function, Program}
@@ -31,7 +31,7 @@ use Rattle.c_meaning.specs.Fitting.{keys, Grows, calls_in}
 use Rattle.c_meaning.specs.Meaning.{Tick, AStatement, ANode, ACell, AParameter, Use, Used, Unused, Where, Site, Loop, WhileLoop, DoLoop, ForLoop, Meaning, Calls}
 use Rattle.c_meaning.specs.Objects.{type_of, spot_of, type_of_object, size_of_object}
 use Rattle.c_meaning.specs.Run as run
-use Rattle.c_meaning.specs.Run.{State, Moment, Told, Here, Head, cells_of, with_cells, index_below}
+use Rattle.c_meaning.specs.Run.{State, Moment, Head, cells_of, with_cells, index_below}
 use Rattle.c_meaning.proofs.Stateful.{grows_same, grows_on, keys_put}
 use Rattle.flow_code.specs.Sizes.{leaks, leaks_by, any_leaks, first_leaks}
 
@@ -52,13 +52,6 @@ keys_cut (c ∷ cs) (d ∷ ds) more e = ap (λ k. k ∷ keys (take (length cs) d
 -- cells under the same keys are as many
 pub as_many : (cs ds : List Cell) → keys ds ≡ keys cs → length ds ≡ length cs
 as_many cs ds e = sym (length-map ds (λ c. c.key)) ∙ ap length e ∙ length-map cs (λ c. c.key)
-
-at_least_as_many : (cs ds : List Cell) (more : List Key) → keys ds ≡ keys cs ++ more → length cs ≤ length ds
-at_least_as_many cs ds more e =
-    let n = length-map ds (λ c. c.key) in
-    let m = length-map cs (λ c. c.key) in
-    let k = ap length e ∙ length-append (keys cs) more in
-    omega (arith, n, m, k)
 
 either_false : (a b : Bool) → (a || b) ≡ false → (a ≡ false) × (b ≡ false)
 either_false true b e = cc
@@ -176,17 +169,6 @@ module _ (S : Type 0) where
 
   counted : {A : Type 0} (cs : List Cell) (a : A) (t : State S) (r : Res End (State S) A) → r ≡ Go a t → Same cs r → length t.cells ≡ length cs
   counted {A} cs a t r e h = as_many cs t.cells (subst (λ (x : Res End (State S) A). Same cs x) e h)
-
-  -- behind a part that leaves the cells that it finds there are as many
-  pub neutral_count : {A : Type 0} (m : Act A) (s t : State S) (a : A) → Neutral m → m s ≡ Go a t → length t.cells ≡ length s.cells
-  neutral_count m s t a g e = counted s.cells a t (m s) e (g.at s)
-
-  cells_kept : {A : Type 0} (cs : List Cell) (a : A) (t : State S) (r : Res End (State S) A) → r ≡ Go a t → More cs r → Grows cs t.cells
-  cells_kept {A} cs a t r e h = subst (λ (x : Res End (State S) A). More cs x) e h
-
-  -- behind a part that grows there are the cells that were before it and perhaps more
-  pub growing_cells : {A : Type 0} (m : Act A) (s t : State S) (a : A) → Growing m → m s ≡ Go a t → Grows s.cells t.cells
-  growing_cells m s t a g e = cells_kept s.cells a t (m s) e (g.at s)
 
 module _ (p : Program) (S : Type 0) (see : Moment → S → S) where
   abbrev M : Meaning
@@ -568,17 +550,3 @@ module _ (p : Program) (S : Type 0) (see : Moment → S → S) where
   -- calls at most n deep leave the cells that they find
   pub calls_neutral : (n : ℕ) → NeutralCalls (calls_in p M n)
   calls_neutral n site g vs = call_of_neutral (run_in p M n) (run_grows n) site (slice_get p.functions g) vs
-
-  -- behind an expression there are as many cells as before it
-  pub evaluated_count : (n : ℕ) (at : Where) (want : Use) (e : Exp) (s u : State S) (v : ℤ) → eval p M (calls_in p M n) at want e s ≡ Go v u → length u.cells ≡ length s.cells
-  evaluated_count n at want e s u v h = neutral_count S (eval p M (calls_in p M n) at want e) s u v (eval_neutral (calls_in p M n) (calls_neutral n) at want e) h
-
-  -- behind a statement there are at least as many
-  pub executed_more : (n : ℕ) (result : Option IntType) (st : Stm) (s u : State S) (f : Flow) → exec p M (calls_in p M n) result st s ≡ Go f u → length s.cells ≤ length u.cells
-  executed_more n result st s u f h =
-      let g = growing_cells S (exec p M (calls_in p M n) result st) s u f (exec_grows (calls_in p M n) (calls_neutral n) result st) h in
-      at_least_as_many s.cells u.cells g.0 g.1
-
-  -- and as many where it declares no names in its scope
-  pub executed_count : (n : ℕ) (result : Option IntType) (st : Stm) (s u : State S) (f : Flow) → exec p M (calls_in p M n) result st s ≡ Go f u → leaks st ≡ false → length u.cells ≡ length s.cells
-  executed_count n result st s u f h l = neutral_count S (exec p M (calls_in p M n) result st) s u f (exec_neutral (calls_in p M n) (calls_neutral n) result st l) h

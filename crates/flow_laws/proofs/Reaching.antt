@@ -64,12 +64,6 @@ module _ (c : Code) (S : Type 0) (after : Event → List Cell → S → S) where
   does_then x (Go a s) k K L d f = does_from x d.0 (k a s) L d.1 (f a s d.0 d.2)
   does_then x (Stop e s) k K L d f = d
 
-  -- what stands behind a part also stands as something else says
-  pub does_as : {A : Type 0} (x : Machine S) (r : Res End (State S) A) (K L : A → State S → Machine S → Type 0)
-      → ((a : A) (s : State S) (y : Machine S) → K a s y → L a s y) → Does c S after x r K → Does c S after x r L
-  does_as x (Go a s) K L f d = (d.0, d.1, f a s d.0 d.2)
-  does_as x (Stop e s) K L f d = d
-
   -- nothing is left to do
   pub does_nothing : {A : Type 0} (x : Machine S) (a : A) (K : A → State S → Machine S → Type 0) → K a x.run x → Does c S after x (Go a x.run) K
   does_nothing x a K h = (x, reaches_itself x, h)

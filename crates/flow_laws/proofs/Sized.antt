@@ -13,7 +13,7 @@ use Rattle.flow_code.specs.declared.statements.Inside.{Inside}
 use Rattle.flow_code.specs.Expressions.{code}
 use Rattle.flow_code.specs.Preparing.{followed, op, stored_in, scope, all_closed}
 use Rattle.flow_code.specs.Sizes.{size, size_if, size_stored, size_of_values, size_of_init, size_of_names, size_of_first, size_of_test, size_of_arm, size_of_statement, size_of_form, size_of_else, size_of_block, with_scope, leaks, any_leaks, first_leaks}
-use Rattle.flow_code.specs.Statements.{full_of, deeper, in_loop, draws, else_jump, initial_code, initials_code, init_code, name_code, names_code, first_code, only_if, test_code, return_code, turns, statement_code, form_code, else_code, block_code, scoped_block, arm_code, turns_code}
+use Rattle.flow_code.specs.Statements.{full_of, deeper, in_loop, draws, else_jump, initial_code, initials_code, init_code, name_code, names_code, first_code, only_if, test_code, return_code, turns, statement_code, form_code, else_code, block_code, arm_code, turns_code}
 use Rattle.flow_code.specs.Words.{native}
 use Rattle.flow_code.proofs.Lengths.{code_size, stored_code_size, followed_size}
 
@@ -192,9 +192,3 @@ module _ (p : Program) where
   arm_size i w s =
       let v = deeper (leaks s) w in
       scope_size (leaks s) i (λ l. statement_code p l v s) (size_of_statement v.inner v.scopes s) (λ l. statement_size l v s)
-
-  -- a block, which is a scope if it declares names
-  pub scoped_block_size : (i : ℕ) (w : Inside) (b : Stms) → let v = deeper (any_leaks b) w in length (scoped_block p i w b) ≡ with_scope (any_leaks b) (size_of_block v.inner v.scopes b)
-  scoped_block_size i w b =
-      let v = deeper (any_leaks b) w in
-      scope_size (any_leaks b) i (λ j. block_code p j v b) (size_of_block v.inner v.scopes b) (λ j. block_size j v b)

@@ -1,5 +1,5 @@
 -- Cells that draw in turn.
-use Rattle.std.proofs.Common.{◌≡◌, ℕ, suc, ◌+◌, ◌-◌, ◌<◌, ◌≤◌, ℤ, Bool, true, false, List, [], ◌++◌, Result, Err, subst, refl, ap, sym, ◌∙◌, arith}
+use Rattle.std.proofs.Common.{◌≡◌, ℕ, suc, ◌+◌, ◌-◌, ◌<◌, ◌≤◌, ℤ, Bool, true, false, List, [], ◌++◌, Result, subst, refl, ap, sym, ◌∙◌, arith}
 use Rattle.c_core.specs.declared.number.IntType.{IntType}
 use Rattle.c_core.specs.declared.number.Spot.{Spot}
 use Rattle.c_meaning.specs.declared.run.DrawKind.TheVariants.{Cell as CellDraw}
@@ -13,7 +13,6 @@ use Rattle.c_meaning.specs.Watching.{seen_by}
 use Rattle.flow_code.specs.declared.code.Code.{Code}
 use Rattle.flow_laws.specs.Acting.{program_in, cell, cells_drawn, declared}
 use Rattle.flow_machine.specs.Views.{Gives}
-use Rattle.flow_machine.proofs.Giving.{halts}
 use Rattle.run_state.specs.Interpreting.{same}
 use Rattle.run_state.specs.declared.machine.Halt.{Halt}
 
@@ -29,12 +28,6 @@ module _ (c : Code) (S : Type 0) (after : Event → List Cell → S → S) (spot
   -- the next cell
   pub next_drawn : (i n : ℕ) → i < n → (s : State S) → cells_drawn c S after spot o ty i (n - i) s ≡ bind (drawing s) (others i (n - suc i))
   next_drawn i n h s = let e : n - i ≡ suc (n - suc i) = omega arith in rw e refl
-
-  -- where a cell can't draw, the run ends there
-  pub draw_halts : (i n : ℕ) → i < n → (s u : State S) (h : Halt) (q : Result (Unit {0}) Halt) (whole : Res End (State S) (Unit {0})) → q ≡ Err h
-      → cells_drawn c S after spot o ty i (n - i) s ≡ whole → Gives same (Err h) u (drawing s) → Gives same q u whole
-  draw_halts i n l s u h q whole e w g =
-      subst (λ (r : Res End (State S) (Unit {0})). Gives same q u r) (sym (next_drawn i n l s) ∙ w) (halts same same h u (drawing s) (others i (n - suc i)) q e g)
 
   -- what is left behind a cell that drew
   pub drawn_on : (i n : ℕ) → i < n → (s u : State S) (v : ℤ) (cs : List Cell) (whole : Res End (State S) (Unit {0})) → cells_drawn c S after spot o ty i (n - i) s ≡ whole

@@ -150,13 +150,3 @@ relabeled labels others i os x y g a = record {
   kept = λ ts l. a.kept ts (g ts l);
   low = a.low;
 }
-
--- a part that may lead back to its own start
-pub knot : (labels others : List Shape → Type 0) (i : ℕ) (os : List Op) (x y : Shape) → ((ts : List Shape) → others ts → Has ts i x → Has ts (i + length os) y → labels ts) → Fits labels i os x y → Fits others i os x y
-knot labels others i os x y g a = record {
-  shapes = a.shapes;
-  same = a.same;
-  enters = a.enters;
-  kept = λ ts l s e. a.kept ts (g ts l (a.enters ts s e) e) s e;
-  low = a.low;
-}

@@ -1,29 +1,17 @@
 -- Machines stay in order when they are short of steps and when they get more; a machine in order does only so many operations.
-use Rattle.std.proofs.Common.{◌≡◌, ◌≤◌, ◌<◌, ◌⊎◌, inl, inr, ℕ, zero, suc, ◌+◌, ◌*◌, ◌-◌, ◌^◌, nat_le, Bool, true, false, cond, List, length, Option, Some, None, slice_get, leb-false, refl, ap, subst, arith}
-use Rattle.std.proofs.Math.Nat.{mul-le-mul_left}
+use Rattle.std.proofs.Common.{◌≡◌, ◌<◌, ◌⊎◌, inl, inr, ℕ, zero, suc, ◌-◌, nat_le, Bool, true, false, cond, List, Option, Some, None, slice_get, leb-false, refl, ap, subst, arith}
 use Rattle.c_meaning.specs.declared.run.End.{End}
 use Rattle.c_meaning.specs.declared.run.Event.{Event}
 use Rattle.c_meaning.specs.Acts.{Res, Go, Stop}
 use Rattle.c_meaning.specs.Cells.{Cell}
-use Rattle.c_meaning.specs.Run.{State, most_cells}
+use Rattle.c_meaning.specs.Run.{State}
 use Rattle.flow_code.specs.declared.code.Code.{Code}
 use Rattle.flow_code.specs.declared.code.Op.{Op}
-use Rattle.flow_laws.specs.Machines.{Control, Machine, with_steps}
+use Rattle.flow_laws.specs.Machines.{Control, Machine}
 use Rattle.flow_laws.specs.Acting.{acted}
 use Rattle.flow_laws.specs.Stepping.{Turn, On, Short, Over, onward, moved, due, paid_all, behind, done_if, step, steps}
-use Rattle.flow_rooms.specs.Paces.{IsPaced, ahead, pace, still, IsInOrder}
-use Rattle.flow_rooms.proofs.Falls.{ahead_below, step_falls, steps_fall, total}
-
--- code whose addresses have 32 bits has a pace that is far from 64
-pub pace_small : (c : Code) → length c.ops < 2 ^ 32 → pace c < 2 ^ 53
-pace_small c h =
-    let few : length c.ops + 3 ≤ 4294967298 = omega (arith, h) in
-    let less = mul-le-mul_left {m = length c.ops + 3} {n = 4294967298} (most_cells + 1) few in
-    omega (arith, less)
-
--- with other steps a machine is in order as before
-pub with_steps_in_order : {S : Type 0} (c : Code) (n : ℕ) (m : Machine S) → IsInOrder c m → IsInOrder c (with_steps n m)
-with_steps_in_order c n m order = record { unpaid = order.unpaid; noted = order.noted; few = order.few }
+use Rattle.flow_rooms.specs.Paces.{IsPaced, IsInOrder}
+use Rattle.flow_rooms.proofs.Falls.{step_falls}
 
 module _ (c : Code) (S : Type 0) (after : Event → List Cell → S → S) where
   moved_not_short : (r : Res End (State S) Control) (y : Machine S) → moved r ≡ Short y → ⊥
@@ -64,14 +52,3 @@ module _ (c : Code) (S : Type 0) (after : Event → List Cell → S → S) where
       | inl t ↦ shorts_in_order k t.0 y (step_falls c paced S after m t.0 order t.1).0 t.2
       | inr t ↦ short_in_order m y order t
     ]
-
-    -- a machine in order does at most so many operations as its steps pay
-    pub within_pace_from : (k : ℕ) (m y : Machine S) → IsInOrder c m → steps c S after k m ≡ On y → k ≤ (m.run.steps + 1) * pace c
-    within_pace_from k m y order e =
-        let fall = (steps_fall c paced S after k m y order e).1 in
-        let below = ahead_below c paced m.control.at (length m.control.frames) (subst (λ n. n ≤ most_cells) order.noted order.few) in
-        total c paced S after m.run.steps (pace c) (ahead c m.control) k (still c y) below fall
-
-    -- behind more operations it doesn't go on
-    pub comes_off : (k : ℕ) (m y : Machine S) → IsInOrder c m → still c m < k → steps c S after k m ≡ On y → ⊥
-    comes_off k m y order l e = let fall = (steps_fall c paced S after k m y order e).1 in omega (arith, fall, l)

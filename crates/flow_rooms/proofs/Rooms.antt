@@ -2,7 +2,6 @@
 use Rattle.std.proofs.Common.{◌≡◌, ◌⊎◌, ◌≤◌, ◌<◌, IsTrue, ℕ, zero, suc, ◌+◌, ◌-◌, Bool, true, false, cond, nat_le, List, [], ◌∷◌, ◌++◌, length, Option, Some, None, slice_get, refl, sym, ap, ◌∙◌, subst, inl, inr, arith, length-append}
 use Rattle.c_core.specs.Program.{is_main, has_main}
 use Rattle.c_core.specs.Tree.{Function, Program}
-use Rattle.c_meaning.specs.declared.run.Choices.{Choices}
 use Rattle.c_meaning.specs.declared.run.End.{End}
 use Rattle.c_meaning.specs.declared.run.Event.{Event}
 use Rattle.c_meaning.specs.Acts.{Res, Go, Stop}
@@ -16,9 +15,9 @@ use Rattle.flow_code.specs.declared.code.Op.{Op}
 use Rattle.flow_code.specs.Preparing.{op}
 use Rattle.flow_code.specs.Programs.{function_code, functions_code, bodies, entry_of, IsCodeOf}
 use Rattle.flow_laws.specs.declared.frame.Frame.{Frame}
-use Rattle.flow_laws.specs.Machines.{Control, Machine, first_control, first_machine}
+use Rattle.flow_laws.specs.Machines.{Control, Machine, first_control}
 use Rattle.flow_laws.specs.Acting.{acted}
-use Rattle.flow_laws.specs.Stepping.{Turn, On, Short, Over, onward, moved, due, paid_all, behind, done_if, step, steps, Reaches}
+use Rattle.flow_laws.specs.Stepping.{Turn, On, Short, Over, onward, moved, due, paid_all, behind, done_if, step, steps}
 use Rattle.flow_rooms.specs.Shapes.{Shape, flat, pushed, Has, HasAll, Keeps, Kept}
 use Rattle.flow_rooms.specs.Rooms.{length_of_code, length_of_codes, IsCalledIn, CallsOn, IsChain, HasRoom, ComesTo, unseen, HasRooms, IsBounded, HoldsAtMost}
 use Rattle.flow_rooms.proofs.Functions.{all_shapes, functions_same, functions_kept, functions_enter, IsOwned, functions_own, function_long, shown_behind, kept_at}
@@ -213,15 +212,6 @@ module _ (p : Program) (c : Code) (is : IsCodeOf p c) where
     step_fine : (m : Machine S) → G m.control → Fine (step c S after m)
     step_fine m g = done_fine m (slice_get c.ops m.control.at) refl g
 
-    onward_fine : (t : Turn S) (f : Machine S → Turn S) → Fine t → ((z : Machine S) → G z.control → Fine (f z)) → Fine (onward t f)
-    onward_fine (On z) f h g = g z h
-    onward_fine (Short z) f h g = h
-    onward_fine (Over x s) f h g = tt
-
-    steps_fine : (n : ℕ) (m : Machine S) → G m.control → Fine (steps c S after n m)
-    steps_fine zero m g = g
-    steps_fine (suc n) m g = onward_fine (step c S after m) (steps c S after n) (step_fine m g) (λ z h. steps_fine n z h)
-
     turned_good : (t : Turn S) (y : Machine S) → Fine t → (t ≡ On y) ⊎ (t ≡ Short y) → G y.control
     turned_good t y h (inl e) = subst Fine e h
     turned_good t y h (inr e) = subst Fine e h
@@ -233,10 +223,6 @@ module _ (p : Program) (c : Code) (is : IsCodeOf p c) where
     -- whoever watches, each control that machines come to
     pub come_room : (n : ℕ) (k : Control) → ComesTo c S after n k → HasRoom p k
     come_room n k q = good_room p is.checked.main k (come_good n k q)
-
-    -- each machine that the first one leads to
-    pub reached_room : (x : S) (choices : Choices) (n : ℕ) (m : Machine S) → Reaches c S after (first_machine c S x choices n) m → HasRoom p m.control
-    reached_room x choices n m r = good_room p is.checked.main m.control (subst Fine r.is (steps_fine r.count (first_machine c S x choices n) first_good))
 
 module _ (c : Code) (S : Type 0) (after : Event → List Cell → S → S) where
   onward_on : (n : ℕ) (t : Turn S) (y : Machine S) → (onward t (steps c S after n) ≡ On y) ⊎ (onward t (steps c S after n) ≡ Short y)

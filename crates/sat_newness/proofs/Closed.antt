@@ -1,8 +1,7 @@
 -- What unit propagation comes to stays within a table that settles the clauses.
-use Rattle.std.proofs.Common.{◌≡◌, ◌≢◌, ℕ, zero, suc, ◌+◌, ◌<◌, ◌≤◌, ◌⊎◌, inl, inr, Bool, true, false, not, List, ℤ, pos, neg_ℤ, refl, sym, ◌∙◌, subst, arith}
+use Rattle.std.proofs.Common.{◌≡◌, ◌≢◌, ℕ, zero, suc, ◌+◌, ◌≤◌, ◌⊎◌, inl, inr, Bool, true, false, not, List, ℤ, pos, neg_ℤ, refl, sym, ◌∙◌, subst, arith}
 use Rattle.std.specs.Ordering.{int_eq}
 use Rattle.std.specs.List.{Contains}
-use Rattle.std.proofs.lemmas.Bool.{cases_lt}
 use Rattle.std.proofs.lemmas.Bool.Decides.{Decides-int_eq}
 use Rattle.clauses.specs.Tseitin.{number_of, input_numbers}
 use Rattle.clauses.specs.Units.{Units, given_one, forced, Fails}
@@ -57,8 +56,6 @@ new_by clauses c x table t s l =
     }
 
 -- ---- what the first variables don't decide
-two_or_less : (n : ℕ) → (2 ≤ n) ⊎ (n < 2)
-two_or_less n = elim (cases_lt n 2) as (λ _. (2 ≤ n) ⊎ (n < 2)) [ inl l ↦ inr l | inr g ↦ inl g ]
 
 -- whether a number weighs 2
 abbrev is_true : ℕ → Bool

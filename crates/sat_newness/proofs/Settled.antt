@@ -1,10 +1,9 @@
 -- Pairs of numbers, and the clauses that they settle.
 use Rattle.std.proofs.Common.{◌≡◌, ◌≢◌, ℕ, zero, suc, ◌+◌, ◌-◌, ◌^◌, ◌<◌, ◌≤◌, ◌⊎◌, inl, inr, Some, List, [], ◌∷◌, ◌++◌, length, take, ℤ, sym, ◌∙◌, ap, subst, arith}
-use Rattle.std.specs.Prelude.{slice_get, slice_set, slice_index, replicate}
+use Rattle.std.specs.Prelude.{slice_get, slice_set, slice_index}
 use Rattle.std.specs.List.{Contains}
 use Rattle.std.proofs.lemmas.Bool.{cases_lt}
 use Rattle.std.proofs.lemmas.Option.{none-some, same_Some, slice_get_within, get_or_from_slice_get}
-use Rattle.std.proofs.lemmas.List.{take_all}
 use Rattle.std.proofs.lemmas.List.Elements.{Contains-append_cases}
 use Rattle.std.proofs.Math.Seq.{take-suc}
 use Rattle.std.proofs.Math.Nat.{pow-le-pow_right}
@@ -45,17 +44,6 @@ found_one table c pair a e h = record {
 }
 
 -- ---- pairs of all clauses
-replicate_at : (many : ℕ) (p : Pair) (k : ℕ) (q : Pair) → slice_get (replicate many p) k ≡ Some q → p ≡ q
-replicate_at zero p k q e = absurd (none-some q e)
-replicate_at (suc many) p zero q e = same_Some p q e
-replicate_at (suc many) p (suc k) q e = replicate_at many p k q e
-
-pub no_pairs_held : (clauses : List (List ℤ)) (pairs : List Pair) (many : ℕ) → pairs ≡ replicate many (record { one = 0; other = 0 }) → ArePairs clauses pairs
-no_pairs_held clauses pairs many e = record {
-  each = λ k c pair i j.
-      let q = replicate_at many (record { one = 0; other = 0 }) k pair (ap (λ (l : List Pair). slice_get l k) (sym e) ∙ j) in
-      no_pair c pair (sym (ap (λ (p : Pair). p.one) q) ∙ ap (λ (p : Pair). p.other) q);
-}
 
 pub pairs_more : (clauses : List (List ℤ)) (pairs : List Pair) (pair : Pair) → pair.one ≡ pair.other → ArePairs clauses pairs → ArePairs clauses (pairs ++ pair ∷ [])
 pairs_more clauses pairs pair e h = record {
@@ -83,8 +71,6 @@ pairs_set clauses pairs n c pair lt at p h = record {
     ]
 
 -- ---- settled clauses
-pub settled_none : (table : List ℕ) (clauses : List (List ℤ)) → AreSettledTo table clauses 0
-settled_none table clauses = record { each = λ k c lt i. absurd (omega arith) }
 
 pub settled_next : (table : List ℕ) (clauses : List (List ℤ)) (n : ℕ) (c : List ℤ) → slice_get clauses n ≡ Some c → IsSettled table c → AreSettledTo table clauses n → AreSettledTo table clauses (n + 1)
 settled_next table clauses n c at s h = record {
@@ -140,9 +126,6 @@ new_next table clauses chains n chain x at t l s a =
     let one : n + 1 ≡ suc n = omega arith in
     let whole : take (n + 1) chains ≡ take n chains ++ chain ∷ [] = ap (λ k. take k chains) one ∙ take-suc chains n chain (slice_get_within chains n chain at) ∙ ap (λ x. take n chains ++ x ∷ []) (get_or_from_slice_get chains n chain chain at) in
     subst (λ (cs : List Chain). AreNew clauses (given cs)) (sym whole) more
-
-pub new_all : (clauses : List (List ℤ)) (chains : List Chain) (n : ℕ) → length chains ≤ n → AreNew clauses (given (take n chains)) → AreNew clauses (given chains)
-new_all clauses chains n le a = subst (λ (cs : List Chain). AreNew clauses (given cs)) (take_all n chains le) a
 
 -- ---- a spent log
 pub earned_by : (variables : ℕ) (clauses : List (List ℤ)) (budget k : ℕ) → budget + 2 ≤ 2 ^ (k + 2) → ((j : ℕ) → j ≤ k → Decides j variables clauses → ⊥) → (j : ℕ) → Decides j variables clauses → budget ≤ 2 ^ (j + 1) - 2

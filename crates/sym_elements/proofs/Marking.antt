@@ -1,5 +1,5 @@
 -- Laws of lists of truth values of which one is true.
-use Rattle.std.proofs.Common.{◌≡◌, ℕ, zero, suc, ◌+◌, ◌*◌, ◌<◌, ◌≤◌, Bool, true, false, not, ◌&&◌, nat_eq, List, [], ◌∷◌, ◌++◌, length, get_or, take, refl, sym, ◌∙◌, ap, arith}
+use Rattle.std.proofs.Common.{◌≡◌, ℕ, zero, suc, ◌+◌, ◌*◌, ◌<◌, ◌≤◌, Bool, true, false, not, ◌&&◌, nat_eq, List, [], ◌∷◌, ◌++◌, get_or, take, refl, sym, ◌∙◌, ap, arith}
 use Rattle.std.proofs.Math.Dec.{eqb-suc-suc, eqb-suc-zero, eqb-zero-suc}
 use Rattle.circuits.specs.Numbers.{digit}
 use Rattle.sym_state.specs.Standing.{marks}
@@ -86,9 +86,3 @@ mark_at zero (suc n) zero h = refl
 mark_at zero (suc n) (suc i) h = none_at n i ∙ sym (eqb-zero-suc i)
 mark_at (suc k) (suc n) zero h = sym (eqb-suc-zero k)
 mark_at (suc k) (suc n) (suc i) h = mark_at k n i (omega (arith, h)) ∙ sym (eqb-suc-suc k i)
-
-pub length_marks : (k n : ℕ) → length (marks k n) ≡ n
-length_marks k zero = refl
-length_marks zero (suc n) = ap suc (length_marks zero n)
-length_marks (suc zero) (suc n) = ap suc (length_marks zero n)
-length_marks (suc (suc k)) (suc n) = ap suc (length_marks (suc k) n)

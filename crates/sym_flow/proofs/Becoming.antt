@@ -179,6 +179,3 @@ module _ (p : Program) where
   -- the bit that was kept keeps its value while the part inside is done
   pub kept_body : {i j k : ℕ} {a c d : Sym} (kept : Bit) (n : ℕ) → IsState p a → kept ≡ a.again → Added i j a.net c.net → Became p k c d (λ v. behind_body (holds v c.net kept) n) → Became p k c d (λ v. behind_body (stand p v a).again n)
   kept_body {a = a} {c = c} kept n h e g x = became_as (λ v. behind_body (stand p v a).again n) x (λ v. ap (λ b. behind_body b n (stand p v c)) (ap (holds v c.net) e ∙ holds_added g v a.again h.again))
-
-  pub kept_loop : {i j k : ℕ} {a c d : Sym} (kept : Bit) (n : ℕ) → IsState p a → kept ≡ a.broken → Added i j a.net c.net → Became p k c d (λ v. behind_loop (holds v c.net kept) n) → Became p k c d (λ v. behind_loop (stand p v a).broken n)
-  kept_loop {a = a} {c = c} kept n h e g x = became_as (λ v. behind_loop (stand p v a).broken n) x (λ v. ap (λ b. behind_loop b n (stand p v c)) (ap (holds v c.net) e ∙ holds_added g v a.broken h.broken))

@@ -1,27 +1,22 @@
 -- Both arms of a branch, one after the other.
 use Rattle.std.proofs.Common.{◌≡◌, ℕ, ◌+◌, ◌≤◌, Bool, true, false, cond, not, ◌&&◌, ◌||◌, ℤ, List, [], ◌++◌, length, refl, sym, ◌∙◌, ap, subst, arith, append_assoc, append-nil, Option}
-use Rattle.c_core.specs.Tree.{Program, Exp}
-use Rattle.c_core.specs.Types.{is_zero}
+use Rattle.c_core.specs.Tree.{Program}
 use Rattle.c_core.specs.declared.number.IntType.{IntType}
 use Rattle.c_core.specs.declared.number.DataModel.{DataModel}
-use Rattle.c_core.specs.declared.number.Spot.{Spot}
 use Rattle.c_meaning.specs.declared.run.Duty.{Duty}
-use Rattle.c_meaning.specs.Meaning.{Used, Calls}
 use Rattle.c_meaning.specs.Acts.{Res, Flow}
-use Rattle.c_meaning.specs.Duties.{Placed}
-use Rattle.c_meaning.specs.Exec.{full, control}
-use Rattle.c_meaning.specs.Havoc.{Stopped, Left, havoc}
+use Rattle.c_meaning.specs.Havoc.{Stopped, Left}
 use Rattle.circuits.specs.declared.net.Bit.{Bit}
 use Rattle.circuits.specs.Net.{holds, IsIn, opposite}
 use Rattle.circuits.proofs.Nets.{holds-opposite}
 use Rattle.sym_state.specs.declared.state.Sym.{Sym}
 use Rattle.sym_state.specs.Standing.{Stand, stand, IsState, Kept, Moves, IsHere, Turned, with_live}
-use Rattle.sym_state.specs.Following.{left_of, Taken, Deed, Follows}
+use Rattle.sym_state.specs.Following.{left_of, Taken, Deed}
 use Rattle.sym_state.proofs.Nets.{added_then, holds_added}
 use Rattle.sym_state.proofs.Composed.{same_kept, kept_same, none_drawn}
 use Rattle.sym_flow.specs.Leaving.{Went, Runs}
 use Rattle.sym_flow.proofs.Bools.{and_no, and_yes, or_no, count_cells}
-use Rattle.sym_flow.proofs.Statements.{went_of, follows_runs}
+use Rattle.sym_flow.proofs.Statements.{went_of}
 
 -- from a, by the first arm from b to c, and by the second from d to e, to f
 pub record Arms (t : Bool) (a b c d e f : Stand) : Type 0 where
@@ -147,13 +142,3 @@ module _ (p : Program) (ds : List Duty) (result : Option IntType) where
             subst (λ s. Went ds result (length a.cells.items) (stand p v c) rest (m v (left_of s vs))) (x.is v)
             (went_of ds result (length a.cells.items) (length b.cells.items) (stand p v c) rest (omega (arith, x.level)) _ (y.does v (subst (IsHere (length ds)) (sym (x.is v)) here) vs rest t));
       }
-
-  module _ (I : List Placed) (call : Calls (havoc p I)) where
-    -- C11 6.8.4p2, 6.8.5p4: the test, its truth as a bit, and what comes by it
-    pub control_runs : {i j k l x : ℕ} {o s a f : Sym} {S : (ℕ → Bool) → ℤ → Type 0} (n m : ℕ) (at : Spot) (e : Exp) (test : Bit) (A B : Left → Res Stopped Left Flow)
-        → Follows ds p i j o s S (λ v. full p (havoc p I) call at Used e) → Turned p k 0 s a (λ v z. z)
-        → ((v : ℕ → Bool) (z : ℤ) → S v z → not (is_zero z) ≡ holds v a.net test) → Runs ds p result l x a f (λ v c. cond (holds v a.net test) (A c) (B c)) → i + (k + l) ≤ n → j + x ≤ m
-        → Runs ds p result n m o f (λ v. control p (havoc p I) call at e A B)
-    control_runs {k = k} {l = l} {a = a} n m at e test A B fe t tests ra g1 g2 =
-        follows_runs p ds result n m (λ v z c. (cond (not (is_zero z)) A B) c) fe (quiet_runs (k + l) t ra (omega arith))
-        (λ v z q c. at_once (not (is_zero z)) A B c ∙ ap (λ u. cond u (A c) (B c)) (tests v z q)) g1 g2

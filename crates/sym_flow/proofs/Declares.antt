@@ -10,7 +10,7 @@ use Rattle.c_core.specs.Types.{fit}
 use Rattle.c_core.specs.declared.number.IntType.{IntType}
 use Rattle.c_core.specs.declared.number.Spot.{Spot}
 use Rattle.c_meaning.specs.declared.run.Duty.{Duty}
-use Rattle.c_meaning.specs.Acts.{Res, Go, Stop, Flow, Next, Broken, Again, Gave, bind, go_on, write}
+use Rattle.c_meaning.specs.Acts.{Res, Go, Flow, bind, go_on, write}
 use Rattle.c_meaning.specs.Acts as acts
 use Rattle.c_meaning.specs.Cells.{cells_from}
 use Rattle.c_meaning.specs.Duties.{Placed}
@@ -116,14 +116,6 @@ module _ (p : Program) (I : List Placed) where
 
   -- ---- parameters (C11 6.5.2.2p4, p7)
   module _ (ds : List Duty) (result : Option IntType) where
-    -- with an argument
-    pub params_next : {i j k l : ℕ} {a b c d : Sym} (n m : ℕ) (o : ℕ) (os : List ℕ) (x : (ℕ → Bool) → ℤ × IntType) (xs : (ℕ → Bool) → List (ℤ × IntType)) (body : Left → Res Stopped Left Flow)
-        → Became p 0 a b (λ v. declaring o 1) → Follows ds p i j b c (λ v u. Unit {0}) (λ v. write Stopped Left cells_left with_cells_left (key o 0) (fit p.model (type_of_object p o) (x v).0))
-        → Runs ds p result k l c d (λ v. with_params p (havoc p I) os (xs v) body) → i + k ≤ n → j + l ≤ m → Runs ds p result n m a d (λ v. with_params p (havoc p I) (o ∷ os) (x v ∷ xs v) body)
-    params_next {i} {j} {k} {l} n m o os x xs body y f r h q =
-        let rest = follows_runs p ds result (i + k) (j + l) (λ v u. with_params p (havoc p I) os (xs v) body) f r (λ v u w s. refl) (omega arith) (omega arith) in
-        runs_as p ds result (runs_then p ds result n m (declare_runs p ds result o 1 y) rest (omega (arith, h)) (omega (arith, q))) (λ v s. refl) (omega arith) (omega arith)
-
     -- without one it is 0
     pub params_lack : {k l : ℕ} {a b d : Sym} (o : ℕ) (os : List ℕ) (body : Left → Res Stopped Left Flow) → Became p 0 a b (λ v. declaring o 1) → Runs ds p result k l b d (λ v. with_params p (havoc p I) os [] body)
         → Runs ds p result k l a d (λ v. with_params p (havoc p I) (o ∷ os) [] body)

@@ -1,6 +1,6 @@
 -- Each form of statement, against the definition: from what its parts do, what it does.
-use Rattle.std.proofs.Common.{◌≡◌, ℕ, ◌+◌, ◌≤◌, Bool, false, ℤ, List, length, refl, sym, ◌∙◌, ap, arith, Option, Some, None}
-use Rattle.c_core.specs.Tree.{Program, Exp, FirstExp, FirstNames, Stm, Stmt, Form, Empty, Do, Return, Stms, NoStm, MoreStm, Function, Names}
+use Rattle.std.proofs.Common.{◌≡◌, ℕ, ◌+◌, ◌≤◌, Bool, false, ℤ, List, length, refl, sym, ◌∙◌, ap, arith, Option, Some}
+use Rattle.c_core.specs.Tree.{Program, Exp, FirstExp, FirstNames, Stmt, Form, Empty, Do, Return, NoStm, Function, Names}
 use Rattle.c_core.specs.Types.{fit}
 use Rattle.c_core.specs.declared.number.IntType.{IntType}
 use Rattle.c_core.specs.declared.number.Spot.{Spot}
@@ -9,7 +9,7 @@ use Rattle.c_meaning.specs.declared.run.DutyKind.TheVariants.{Location}
 use Rattle.c_meaning.specs.Acts.{Res, Go, Flow, Next, Broken, Gave, bind, scoped, continued, given}
 use Rattle.c_meaning.specs.Duties.{Placed}
 use Rattle.c_meaning.specs.Eval.{convert_to}
-use Rattle.c_meaning.specs.Exec.{full, full_if, control, while_turn, do_turn, for_turn, first, declare, exec, form, execs, body, with_params, call_of}
+use Rattle.c_meaning.specs.Exec.{full, full_if, control, while_turn, first, declare, exec, form, execs, body, with_params, call_of}
 use Rattle.c_meaning.specs.Havoc.{Stopped, Left, cells_left, with_cells_left, havoc, test_from, returned}
 use Rattle.c_meaning.specs.Meaning.{AParameter, Used, Unused, Site, Calls}
 use Rattle.c_meaning.specs.Objects.{type_of}
@@ -46,24 +46,10 @@ module _ (p : Program) (I : List Placed) (ds : List Duty) (result : Option IntTy
   pub none_run : (a : Sym) → IsState p a → Done 0 0 a a (execs p (havoc p I) call result NoStm)
   none_run a h = skip_runs p ds result a h
 
-  pub more_run : {i j k l : ℕ} {a b c : Sym} (n m : ℕ) (s : Stm) (more : Stms) → Done i j a b (exec p (havoc p I) call result s) → Done k l b c (execs p (havoc p I) call result more) → i + k ≤ n → j + l ≤ m
-      → Done n m a c (execs p (havoc p I) call result (MoreStm s more))
-  more_run n m s more x y h q = runs_then p ds result n m x y h q
-
   -- C11 6.8.5.1: the body's end is the way back to the head
   pub while_runs : {n m : ℕ} {a b : Sym} (at : Spot) (e : Exp) (done : Left → Res Stopped Left Flow) → Done n m a b (control p (havoc p I) call at e (continued Stopped Left cells_left with_cells_left done) (λ s. Go Broken s))
       → Done n m a b (while_turn p (havoc p I) call at e done)
   while_runs at e done x = x
-
-  -- C11 6.8.5.2
-  pub do_turn_runs : {i j k l : ℕ} {a b c : Sym} (n m : ℕ) (at : Spot) (e : Exp) (done : Left → Res Stopped Left Flow) → Done i j a b (continued Stopped Left cells_left with_cells_left done)
-      → Done k l b c (control p (havoc p I) call at e (λ s. Go Next s) (λ s. Go Broken s)) → i + k ≤ n → j + l ≤ m → Done n m a c (do_turn p (havoc p I) call at done e)
-  do_turn_runs n m at e done x y h q = runs_then p ds result n m x y h q
-
-  -- C11 6.8.5.3: the body, and the step
-  pub step_runs : {i j k l : ℕ} {a b c : Sym} (n m : ℕ) (at : Spot) (step : Option Exp) (done : Left → Res Stopped Left Flow) → Done i j a b (continued Stopped Left cells_left with_cells_left done)
-      → Done k l b c (full_if p (havoc p I) call at step (λ s. Go Next s)) → i + k ≤ n → j + l ≤ m → Done n m a c (for_turn p (havoc p I) call at None step done)
-  step_runs n m at step done x y h q = runs_then p ds result n m x y h q
 
   -- before the loop of a `for`
   pub first_expression_runs : {S : (ℕ → Bool) → ℤ → Type 0} {i j k l : ℕ} {a b c : Sym} (n m : ℕ) (at : Spot) (e : Exp) (done : Left → Res Stopped Left Flow) → Follows ds p i j a b S (λ v. full p (havoc p I) call at Unused e)

@@ -1,5 +1,5 @@
 -- Tests of invariants: each in turn fails its obligation, or dismisses the run.
-use Rattle.std.proofs.Common.{◌≡◌, ℕ, zero, suc, ◌+◌, ◌≤◌, Bool, true, false, cond, not, ◌&&◌, ℤ, List, [], ◌∷◌, ◌++◌, length, refl, sym, ◌∙◌, ap, ap₂, subst, arith, Some}
+use Rattle.std.proofs.Common.{◌≡◌, ℕ, zero, suc, ◌+◌, Bool, true, false, cond, not, ◌&&◌, ℤ, List, [], ◌∷◌, ◌++◌, length, refl, sym, ◌∙◌, ap, ap₂, subst, arith, Some}
 use Rattle.c_core.specs.Tree.{Program}
 use Rattle.c_core.specs.declared.number.Spot.{Spot}
 use Rattle.c_meaning.specs.declared.run.Duty.{Duty}
@@ -14,7 +14,7 @@ use Rattle.circuits.proofs.Nets.{holds-opposite}
 use Rattle.sym_state.specs.declared.state.Sym.{Sym}
 use Rattle.sym_state.specs.Standing.{Stand, stand, IsHere, Turned, marks, marked, stopped, failed}
 use Rattle.sym_state.specs.Following.{left_of, Came, Follows}
-use Rattle.sym_state.proofs.Composed.{turned_follows, follows_then, follows_as}
+use Rattle.sym_state.proofs.Composed.{turned_follows}
 use Rattle.sym_flow.specs.Testing.{going_if, tested, invariant_tested}
 use Rattle.sym_flow.proofs.Bools.{and_no, and_yes, or_no}
 
@@ -142,40 +142,3 @@ module _ (p : Program) (I : List Placed) where
   alone : (r : Res Stopped Left (Unit {0})) → bind r (λ u s. Go tt s) ≡ r
   alone (Go tt s) = refl
   alone (Stop e s) = refl
-
-  module _ (ds : List Duty) where
-    -- the next invariant stands there: it is tested
-    pub tests_more : {i j k l : ℕ} {a b c : Sym} (n m : ℕ) (xs : List Placed) (x : Placed) (at_loop : Bool) (spot : Spot) (kind : DutyKind) → stands p I at_loop spot x ≡ true
-        → Follows ds p i j a b (λ v u. Unit {0}) (λ v. test_from p I 0 xs at_loop spot kind) → Follows ds p k l b c (λ v u. Unit {0}) (λ v. invariant_tested p x (Fails (duty spot kind (Some (length xs))))) → i + k ≤ n → j + l ≤ m
-        → Follows ds p n m a c (λ v u. Unit {0}) (λ v. test_from p I 0 (xs ++ x ∷ []) at_loop spot kind)
-    tests_more n m xs x at_loop spot kind h y z g q =
-        let e : 0 + length xs ≡ length xs = omega arith in
-        follows_as p ds (follows_then p ds n m (λ v u. invariant_tested p x (Fails (duty spot kind (Some (length xs))))) y z (λ v u t s. refl) g q) (λ v u t. t)
-        (λ v s.
-        (λ i. bind (test_from p I 0 xs at_loop spot kind s) (λ u t. (sym (alone (invariant_tested p x (Fails (duty spot kind (Some (length xs)))) t)) ∙ test_next (length xs) x [] at_loop spot kind t h) i))
-        ∙ ap (λ j. bind (test_from p I 0 xs at_loop spot kind s) (λ u. test_from p I j (x ∷ []) at_loop spot kind)) (sym e) ∙ sym (tests_snoc xs 0 x at_loop spot kind s))
-        (omega arith) (omega arith)
-
-    -- it stands elsewhere
-    pub tests_passed : {i j : ℕ} {a b : Sym} (xs : List Placed) (x : Placed) (at_loop : Bool) (spot : Spot) (kind : DutyKind) → stands p I at_loop spot x ≡ false
-        → Follows ds p i j a b (λ v u. Unit {0}) (λ v. test_from p I 0 xs at_loop spot kind) → Follows ds p i j a b (λ v u. Unit {0}) (λ v. test_from p I 0 (xs ++ x ∷ []) at_loop spot kind)
-    tests_passed xs x at_loop spot kind h y =
-        follows_as p ds y (λ v u t. t)
-        (λ v s.
-        sym (alone (test_from p I 0 xs at_loop spot kind s)) ∙ (λ i. bind (test_from p I 0 xs at_loop spot kind s) (λ u t. test_passed (0 + length xs) x [] at_loop spot kind t h i)) ∙ sym (tests_snoc xs 0 x at_loop spot kind s))
-        (omega arith) (omega arith)
-
-    pub assumes_more : {i j k l : ℕ} {a b c : Sym} (n m : ℕ) (xs : List Placed) (x : Placed) (spot : Spot) → stands p I true spot x ≡ true
-        → Follows ds p i j a b (λ v u. Unit {0}) (λ v. assume_all p I xs spot) → Follows ds p k l b c (λ v u. Unit {0}) (λ v. invariant_tested p x Dismisses) → i + k ≤ n → j + l ≤ m
-        → Follows ds p n m a c (λ v u. Unit {0}) (λ v. assume_all p I (xs ++ x ∷ []) spot)
-    assumes_more n m xs x spot h y z g q =
-        follows_as p ds (follows_then p ds n m (λ v u. invariant_tested p x Dismisses) y z (λ v u t s. refl) g q) (λ v u t. t)
-        (λ v s.
-        (λ i. bind (assume_all p I xs spot s) (λ u t. (sym (alone (invariant_tested p x Dismisses t)) ∙ assume_next x [] spot t h) i)) ∙ sym (assumes_snoc xs x spot s))
-        (omega arith) (omega arith)
-
-    pub assumes_passed : {i j : ℕ} {a b : Sym} (xs : List Placed) (x : Placed) (spot : Spot) → stands p I true spot x ≡ false
-        → Follows ds p i j a b (λ v u. Unit {0}) (λ v. assume_all p I xs spot) → Follows ds p i j a b (λ v u. Unit {0}) (λ v. assume_all p I (xs ++ x ∷ []) spot)
-    assumes_passed xs x spot h y =
-        follows_as p ds y (λ v u t. t)
-        (λ v s. sym (alone (assume_all p I xs spot s)) ∙ (λ i. bind (assume_all p I xs spot s) (λ u t. assume_passed x [] spot t h i)) ∙ sym (assumes_snoc xs x spot s)) (omega arith) (omega arith)

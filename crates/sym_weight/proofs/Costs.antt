@@ -1,10 +1,10 @@
 -- Sums that stop at the end of a type.
-use Rattle.std.proofs.Common.{◌≡◌, ℕ, ◌+◌, ◌*◌, refl, ap, sym, ◌∙◌, Bool, Option, arith}
+use Rattle.std.proofs.Common.{◌≡◌, ℕ, ◌+◌, refl, ap, sym, ◌∙◌, Bool, Option, arith}
 use Rattle.c_core.specs.Tree.{Exps, NoExp, MoreExp, Names, NoName, MoreName, Stms, NoStm, MoreStm, Program}
 use Rattle.c_core.specs.declared.number.IntType.{IntType}
 use Rattle.c_core.specs.declared.number.Spot.{Spot}
 use Rattle.sym_weight.specs.declared.cost.Cost.{Cost}
-use Rattle.sym_weight.specs.Sum.{arguments, initials, declared, statements}
+use Rattle.sym_weight.specs.Sum.{initials, declared, statements}
 use Rattle.sym_weight.specs.Tally.{capped, cost, plus, tallying}
 
 pub capped_twice : (a : ℕ) → capped (capped a) ≡ capped a
@@ -12,10 +12,6 @@ capped_twice a = omega arith
 
 pub capped_sum : (a b c : ℕ) → capped (capped (a + b) + c) ≡ capped (a + (b + c))
 capped_sum a b c = omega arith
-
--- three times one sum and four times another
-pub capped_head : (a b : ℕ) → capped (capped (3 * a) + capped (4 * capped b)) ≡ capped (3 * a + 4 * b)
-capped_head a b = omega arith
 
 capped_after_zero : (a : ℕ) → capped (0 + capped a) ≡ capped a
 capped_after_zero a = omega arith
@@ -25,10 +21,6 @@ nothing_before : (a b : Cost) → plus (cost 0 0) (plus a b) ≡ plus a b
 nothing_before a b =
     ap (λ w. record { weight = w; bits = capped (0 + capped (a.bits + b.bits)) }) (capped_after_zero (a.weight + b.weight))
     ∙ ap (λ w. record { weight = capped (a.weight + b.weight); bits = w }) (capped_after_zero (a.bits + b.bits))
-
-pub arguments_alone : (p : Program) (es : Exps) → plus (cost 0 0) (arguments p tallying es).cost ≡ (arguments p tallying es).cost
-arguments_alone p NoExp = refl
-arguments_alone p (MoreExp e es) = nothing_before _ _
 
 pub initials_alone : (p : Program) (o : ℕ) (es : Exps) → plus (cost 0 0) (initials p tallying o es).cost ≡ (initials p tallying o es).cost
 initials_alone p o NoExp = refl

@@ -66,14 +66,6 @@ settled p I (suc k) n f l =
     let s = stable p I (deeper k n) f (still_below (chain_in p (deeper k n) f) (chain_in p n f) n k (deeper k n) h.chain l (deeper_is_more k n)) in
     record { weight = s.weight ∙ h.weight; bits = s.bits ∙ h.bits; chain = s.chain ∙ h.chain }
 
-longest_at_most : (chain : ℕ → ℕ) (n : ℕ) (fs : List ℕ) → ((g : ℕ) → chain g ≤ n) → longest_over chain fs ≤ suc n
-longest_at_most chain n [] h = omega arith
-longest_at_most chain n (f ∷ fs) h = let a = h f in let b = longest_at_most chain n fs h in omega arith
-
-pub chain_at_most : (p : Program) (n f : ℕ) → chain_in p n f ≤ n
-chain_at_most p zero f = omega arith
-chain_at_most p (suc n) f = subst (λ x. x ≤ suc n) (sym (chain_step p [] n f)) (longest_at_most (chain_in p n) n (own_of p [] f).calls (chain_at_most p n))
-
 longest_grows : (old new : ℕ → ℕ) (fs : List ℕ) → ((g : ℕ) → old g ≤ new g) → longest_over old fs ≤ longest_over new fs
 longest_grows old new [] h = omega arith
 longest_grows old new (f ∷ fs) h = let a = h f in let b = longest_grows old new fs h in omega arith

@@ -1,10 +1,10 @@
 -- Lists that loops go through.
-use Rattle.std.proofs.Common.{◌≡◌, ◌<◌, ◌≤◌, ◌+◌, ◌++◌, ◌&&◌, ℕ, Bool, true, List, [], ◌∷◌, length, take, drop, get_or, slice_get, append_assoc, Option, Some, None, ap, sym, ◌∙◌}
+use Rattle.std.proofs.Common.{◌≡◌, ◌<◌, ◌+◌, ◌++◌, ◌&&◌, ℕ, Bool, List, [], ◌∷◌, length, take, drop, get_or, slice_get, append_assoc, Option, Some, None, ap, sym, ◌∙◌}
 use Rattle.std.proofs.lemmas.Grind.{flat_map-append}
-use Rattle.std.proofs.lemmas.List.{take_more, drop_more, drop_all, append-nil}
+use Rattle.std.proofs.lemmas.List.{take_more, drop_more, append-nil}
 use Rattle.c_core.specs.declared.tree.Object.{Object}
 use Rattle.check_rules.specs.Names as kind
-use Rattle.check_rules.specs.Names.{Entry, entry}
+use Rattle.check_rules.specs.Names.{entry}
 use Rattle.check_scope.specs.InScope.{InScope, all_of, with_name}
 use Rattle.c_parser.specs.Formed.{every_node, every_argument}
 use Rattle.c_parser.specs.Tree as raw
@@ -41,6 +41,3 @@ module _ (q : raw.Node → Bool) (es : List RawExpr) (i : ℕ) where
   pub every-next : (e : RawExpr) (b : Bool) → i < length es → e ≡ get_or es i e → b ≡ every_node q (expr_view e)
       → every_argument q (exps (exprs_view (drop i es))) ≡ (b && every_argument q (exps (exprs_view (drop (i + 1) es))))
   every-next e b h k t = ap (every_argument q) (views-next es i e h k) ∙ ap (λ x. x && every_argument q (exps (exprs_view (drop (i + 1) es)))) (sym t)
-
-  pub every-last : length es ≤ i → true ≡ every_argument q (exps (exprs_view (drop i es)))
-  every-last h = ap (λ xs. every_argument q (exps (exprs_view xs))) (sym (drop_all i es h))

@@ -1,6 +1,5 @@
 -- A matcher before all events.
-use Rattle.std.proofs.Common.{◌≡◌, ℕ, zero, suc, ◌+◌, ◌≤◌, List, [], ◌∷◌, ◌++◌, length, get_or, replicate, Option, Some, None, refl, sym, ◌∙◌, ap, subst, arith, add-one}
-use Rattle.std.proofs.lemmas.List.{length-replicate, replicate_more}
+use Rattle.std.proofs.Common.{◌≡◌, ℕ, zero, suc, ◌≤◌, List, [], ◌∷◌, get_or, replicate, Option, Some, None, refl, sym, ◌∙◌, ap, subst, arith}
 use Rattle.way_match.specs.declared.states.Node.{Node}
 use Rattle.way_match.specs.inside.Arena.{ways_of, AreHeld, IsBlank}
 
@@ -11,12 +10,6 @@ nones_held ns k (suc n) = (tt, nones_held ns (suc k) n)
 nones_ways : (ns : List Node) (k n : ℕ) → ways_of ns k (replicate n None) ≡ replicate n None
 nones_ways ns k zero = refl
 nones_ways ns k (suc n) = ap (λ (t : List (Option (List ℕ))). None ∷ t) (nones_ways ns (suc k) n)
-
-pub begins_more : (live more : List (Option ℕ)) (n : ℕ) → live ≡ Some 0 ∷ replicate n None → more ≡ live ++ None ∷ [] → more ≡ Some 0 ∷ replicate (n + 1) None
-begins_more live more n e f = f ∙ ap (λ (t : List (Option ℕ)). t ++ None ∷ []) e ∙ ap (λ (t : List (Option ℕ)). Some 0 ∷ t) (replicate_more n None)
-
-pub length_begun : (live : List (Option ℕ)) (n : ℕ) → live ≡ Some 0 ∷ replicate n None → length live ≡ n + 1
-length_begun live n e = ap length e ∙ ap suc (length-replicate n None) ∙ sym (add-one n)
 
 nones_at : (n k : ℕ) → ◌≡◌ {A = Option ℕ} (get_or (replicate n None) k None) None
 nones_at zero k = refl

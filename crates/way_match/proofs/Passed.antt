@@ -57,9 +57,6 @@ pub passed_within : (ss : List BoundSegment) (live : List (Option ℕ)) (low : �
 passed_within ss live zero h = omega arith
 passed_within ss live (suc low) h = let l = within_of ss low (h low (omega arith)).0 in omega (arith, l)
 
-pub none_passed : (ss : List BoundSegment) (live : List (Option ℕ)) (low : ℕ) → low ≡ 0 → ArePassed ss live low
-none_passed ss live low z k h = absurd (omega (arith, z, h))
-
 pub one_passed : (ss : List BoundSegment) (live : List (Option ℕ)) (low : ℕ) → ArePassed ss live low → IsPassed ss live low → ArePassed ss live (low + 1)
 one_passed ss live low h g k l = by_last (order k low (omega (arith, l)))
   where

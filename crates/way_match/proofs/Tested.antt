@@ -69,9 +69,6 @@ avoids_of p avoids from to k (x ∷ es) h =
     (clear_first (passes_any p avoids x.event x.cells) from to k (λ f t. h 0 (omega arith) (omega arith)))
     (avoids_of p avoids from to (suc k) es (λ j f t. h (suc j) (omega arith) (omega arith)))
 
-from_start : (n : ℕ) → 0 + n ≡ n
-from_start n = omega arith
-
 avoids_all : (p : Program) (es : List Seen) (avoids : List Point) (from to : ℕ) → Clear p avoids from to 0 es → Avoids p es avoids from to
 avoids_all p es avoids from to h n f t = h n (omega arith) (omega arith)
 

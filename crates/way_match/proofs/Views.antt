@@ -1,12 +1,7 @@
 -- Items of lists of waypoints, as pure ones and prepared.
-use Rattle.std.proofs.Common.{◌≡◌, ℕ, zero, suc, ◌<◌, List, [], ◌∷◌, ◌++◌, length, get_or, slice_get, drop, Bool, true, false, ◌||◌, Option, refl, sym, ◌∙◌, ap, arith}
-use Rattle.std.proofs.lemmas.Bool.{or_left as or_true}
-use Rattle.std.proofs.Math.Seq.{drop-cons}
-use Rattle.std.proofs.lemmas.List.{append_assoc}
+use Rattle.std.proofs.Common.{◌≡◌, ℕ, zero, suc, ◌<◌, List, [], ◌∷◌, length, get_or, slice_get, Bool, false, ◌||◌, Option, refl, sym, ◌∙◌, ap, arith}
 use Rattle.c_core.specs.Tree.{Program}
-use Rattle.c_meaning.specs.declared.run.Event.{Event}
-use Rattle.c_meaning.specs.Cells.{Cell}
-use Rattle.way_match.specs.Passing.{passes, passes_any, is_assumption}
+use Rattle.way_match.specs.Passing.{is_assumption}
 use Rattle.way_match.specs.inside.Turning.{assumes_in, avoids_none}
 use Rattle.way_match.specs.inside.Prepared.{comparison_of, comparisons_of, prepared_of, all_prepared}
 use Rattle.way_match.specs.View.{point_view, points_view, segment_view, each_segment_view}
@@ -65,33 +60,5 @@ comparison_at p [] i x d h e = absurd (omega arith)
 comparison_at p (y ∷ xs) zero x d h e = ap (λ (z : Point). comparison_of p (point_view z)) (sym e)
 comparison_at p (y ∷ xs) (suc i) x d h e = comparison_at p xs i x d (omega arith) e
 
--- the test of the waypoints from number i on
-from_here : (p : Program) (e : Event) (cells : List Cell) (xs : List Point) (i : ℕ) (x : Point) → i < length xs → x ≡ get_or xs i x →
-    passes_any p (points_view (drop i xs)) e cells ≡ (passes p (point_view x) e cells || passes_any p (points_view (drop (suc i) xs)) e cells)
-from_here p e cells xs i x h q =
-    ap (λ (ys : List Point). passes_any p (points_view ys) e cells) (drop-cons xs i x h) ∙
-    ap (λ (y : Point). passes p (point_view y) e cells || passes_any p (points_view (drop (suc i) xs)) e cells) (sym q)
-
 or_false : (a b : Bool) → a ≡ false → (a || b) ≡ b
 or_false a b e = ap (λ (x : Bool). x || b) e
-
-pub passed_here : (p : Program) (e : Event) (cells : List Cell) (xs : List Point) (i : ℕ) (x : Point) (whole : Bool) → i < length xs → x ≡ get_or xs i x →
-    passes_any p (points_view (drop i xs)) e cells ≡ whole → passes p (point_view x) e cells ≡ true → true ≡ whole
-passed_here p e cells xs i x whole h q w t = sym (or_true _ _ t) ∙ sym (from_here p e cells xs i x h q) ∙ w
-
-pub passed_later : (p : Program) (e : Event) (cells : List Cell) (xs : List Point) (i : ℕ) (x : Point) (whole : Bool) → i < length xs → x ≡ get_or xs i x →
-    passes_any p (points_view (drop i xs)) e cells ≡ whole → passes p (point_view x) e cells ≡ false → passes_any p (points_view (drop (suc i) xs)) e cells ≡ whole
-passed_later p e cells xs i x whole h q w f = sym (or_false _ _ f) ∙ sym (from_here p e cells xs i x h q) ∙ w
-
--- what is prepared of the first waypoints, and one more
-pub more_comparisons : (p : Program) (xs : List Point) (i : ℕ) (x : Point) (done more whole : List (Option Comparison)) → i < length xs → x ≡ get_or xs i x →
-    more ≡ done ++ comparison_of p (point_view x) ∷ [] → done ++ comparisons_of p (points_view (drop i xs)) ≡ whole → more ++ comparisons_of p (points_view (drop (suc i) xs)) ≡ whole
-more_comparisons p xs i x done more whole h q m e =
-    let here : drop i xs ≡ x ∷ drop (suc i) xs = drop-cons xs i x h ∙ ap (λ (y : Point). y ∷ drop (suc i) xs) (sym q) in
-    rw (m, append_assoc) (rw here at e)
-
-pub more_prepared : (p : Program) (ss : List BoundSegment) (i : ℕ) (s : BoundSegment) (done more whole : List Prepared) → i < length ss → s ≡ get_or ss i s →
-    more ≡ done ++ prepared_of p (segment_view s) ∷ [] → done ++ all_prepared p (each_segment_view (drop i ss)) ≡ whole → more ++ all_prepared p (each_segment_view (drop (suc i) ss)) ≡ whole
-more_prepared p ss i s done more whole h q m e =
-    let here : drop i ss ≡ s ∷ drop (suc i) ss = drop-cons ss i s h ∙ ap (λ (y : BoundSegment). y ∷ drop (suc i) ss) (sym q) in
-    rw (m, append_assoc) (rw here at e)
