@@ -44,7 +44,7 @@ sys.path.insert(0, str(HERE))
 import witval  # noqa: E402
 from benchexec.tools.template import UnsupportedFeatureException  # noqa: E402
 
-Task = collections.namedtuple("Task", "input_files_or_identifier property_file")
+Task = collections.namedtuple("Task", "input_files_or_identifier property_file options", defaults=(None,))
 Run = collections.namedtuple("Run", "output exit_code was_timeout")
 ExitCode = collections.namedtuple("ExitCode", "value signal")
 TOOL = witval.Tool()
@@ -94,6 +94,7 @@ REPLIES += [(f"refused {it}", 3, f"ERROR (invalid witness: {it})") for it in "fi
 REPLIES += [(f"refused {it} [0]", 3, f"ERROR (invalid witness: {it})") for it in "schema-missing schema-value".split()]
 REPLIES += [(f"refused {it} 3:1", 3, f"ERROR (unsupported: {it})") for it in "token syntax".split()]
 REPLIES += [("refused directive 1", 3, "ERROR (unsupported: directive)")]
+REPLIES += [(f'refused {it} "LP64"', 3, f"ERROR (invalid witness: {it})") for it in "task-model task-language".split()]
 REPLIES += [(f"refused check-{it} 3:1", 3, f"ERROR (unsupported: check-{it})") for it in "name again typing size order body main cells".split()]
 
 failed = []
@@ -131,9 +132,15 @@ for folder in sorted(it.parent for it in HERE.parent.glob("examples/*/words")):
     more = [word for name, value in given.items() if name not in ("--program", "--property", "--witness") for word in (name, value)]
     by_option = TOOL.cmdline(WITVAL, ["--witness", given["--witness"], *more], Task([given["--program"]], given["--property"]), None)
     by_file = TOOL.cmdline(WITVAL, more, Task([given["--program"], given["--witness"]], given["--property"]), None)
-    for words in (by_option, by_file):
+    # all examples are of ILP32
+    task = {"data_model": "ILP32", "language": "C"}
+    by_task = TOOL.cmdline(WITVAL, ["--witness", given["--witness"], *more], Task([given["--program"]], given["--property"], task), None)
+    for words in (by_option, by_file, by_task):
         hold(f"{folder.name}: {words}", run(folder, words), WANTED.get(folder.name))
         tried += 1
+    other = TOOL.cmdline(WITVAL, ["--witness", given["--witness"], *more], Task([given["--program"]], given["--property"], {"data_model": "LP64"}), None)
+    hold(f"{folder.name}: {other}", run(folder, other), "ERROR (invalid witness: task-model)")
+    tried += 1
 for line, status, wanted in REPLIES:
     hold(repr(line), TOOL.determine_result(Run([line + "\n"] if line else [], ExitCode(status, None), False)), wanted)
 hold("a timeout", TOOL.determine_result(Run([], ExitCode(None, 9), True)), "TIMEOUT")
@@ -144,8 +151,11 @@ refused("no witness", [], Task(["p.c"], "u.prp"))
 refused("two witnesses", ["--witness=w.yml"], Task(["p.c", "v.yml"], "u.prp"))
 refused("two programs", ["--witness=w.yml"], Task(["p.c", "q.c"], "u.prp"))
 refused("no property", ["--witness=w.yml"], Task(["p.c"], None))
+refused("another data model", ["--witness=w.yml"], Task(["p.c"], "u.prp", {"data_model": "LP32"}))
+refused("another language", ["--witness=w.yml"], Task(["p.c"], "u.prp", {"language": "Java"}))
+hold("a task without options", TOOL.cmdline("/x/witval", ["--witness=w.yml"], Task(["p.c"], "u.prp", {}), None)[0], "/x/witval")
 hold("the version", TOOL.version(str(HERE.parent / "witval")), (HERE.parent / "release/VERSION").read_text().strip())
 for it in failed:
     print(it)
-print(f"{tried} runs and {len(REPLIES) + 7} replies and misuses tried, {len(failed)} failed")
+print(f"{tried} runs and {len(REPLIES) + 10} replies and misuses tried, {len(failed)} failed")
 sys.exit(bool(failed))

@@ -4,6 +4,8 @@
 
 """BenchExec tool-info module of witval: stands as benchexec/tools/witval.py, or in a folder that --tool-directory names."""
 
+import os
+
 import benchexec.result as result
 import benchexec.tools.template
 from benchexec.tools.template import UnsupportedFeatureException
@@ -11,7 +13,7 @@ from benchexec.tools.template import UnsupportedFeatureException
 # The codes of `refused CODE` by what has to be changed (docs/FORMATS.md has the table); `too-long` goes by its detail.
 OF_WITNESS = (
     "yaml-bytes yaml-grammar yaml-duplicate schema-missing schema-kind schema-value schema-version schema-shape schema-entries"
-    " files hash specification language model uuid place expression scope"
+    " files hash specification language model uuid place expression scope task-model task-language"
 ).split()
 OF_PROGRAM = (
     "token directive syntax check-name check-again check-typing check-size check-order check-body check-main check-cells property"
@@ -31,7 +33,7 @@ FIRST_LINES = {
 class Tool(benchexec.tools.template.BaseTool2):
     """Tool info for witval, which judges witnesses of format 2.0 about integer C programs."""
 
-    REQUIRED_PATHS = ["witval", "release"]
+    REQUIRED_PATHS = ["witval", "witval-task", "release"]
 
     def executable(self, tool_locator):
         return tool_locator.find_executable("witval")
@@ -43,7 +45,8 @@ class Tool(benchexec.tools.template.BaseTool2):
         return "witval"
 
     def cmdline(self, executable, options, task, rlimits):
-        """The witness is an option (--witness FILE) or an input file. The data model isn't handed in: the witness has it."""
+        """The witness is an option (--witness FILE) or an input file. Where the task has a data model or a language, witval-task is
+        called: a witness that states another gets no verdict."""
         files = list(task.input_files_or_identifier)
         witnesses = [it for it in files if it.endswith((".yml", ".yaml", ".graphml"))]
         programs = [it for it in files if it not in witnesses]
@@ -54,9 +57,20 @@ class Tool(benchexec.tools.template.BaseTool2):
             raise UnsupportedFeatureException("witval needs a property file")
         if len(witnesses) + is_option != 1:
             raise UnsupportedFeatureException("witval needs one witness, as an option or as an input file")
-        words = [executable, "validate", "--program", programs[0], "--property", task.property_file]
+        words = self._start(executable, task) + ["validate", "--program", programs[0], "--property", task.property_file]
         words += [word for it in witnesses for word in ("--witness", it)]
         return words + list(options)
+
+    def _start(self, executable, task):
+        """The executable for a task, with the options of the task that it compares with those of the witness."""
+        given = task.options if isinstance(getattr(task, "options", None), dict) else {}
+        model, language = given.get("data_model"), given.get("language")
+        if model not in (None, "ILP32", "LP64"):
+            raise UnsupportedFeatureException(f"witval has no data model {model!r}")
+        if language not in (None, "C"):
+            raise UnsupportedFeatureException(f"witval judges no programs in {language!r}")
+        words = [word for name, value in (("--data-model", model), ("--language", language)) if value for word in (name, value)]
+        return [os.path.join(os.path.dirname(executable), "witval-task"), *words] if words else [executable]
 
     def determine_result(self, run):
         if run.was_timeout:
