@@ -1,0 +1,18 @@
+# Completion for bash of witval, witval-view and witval-task: modes, options, files.
+_witval() {
+  local word=${COMP_WORDS[COMP_CWORD]} before=${COMP_WORDS[COMP_CWORD - 1]} command=${COMP_WORDS[0]##*/} words
+  case $before in
+    --program | --property | --witness | --list) COMPREPLY=($(compgen -f -- "$word")); return ;;
+    --data-model) COMPREPLY=($(compgen -W 'ILP32 LP64' -- "$word")); return ;;
+    --language) COMPREPLY=($(compgen -W 'C' -- "$word")); return ;;
+    --steps | --conflicts | --number) return ;;
+  esac
+  words='--program --property --witness --steps --conflicts'
+  case $command in
+    witval-view) words+=' --list --sarif --html --help --version validate' ;;
+    witval-task) words+=' --data-model --language --json validate' ;;
+    *) words+=' --number --json --help --version validate show normalise demo view' ;;
+  esac
+  COMPREPLY=($(compgen -W "$words" -- "$word"))
+}
+complete -o filenames -F _witval witval witval-view witval-task
