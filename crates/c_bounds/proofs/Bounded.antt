@@ -12,18 +12,19 @@ use Rattle.c_core.specs.declared.number.Property.TheVariants.{UnreachCall, NoOve
 use Rattle.c_meaning.specs.declared.run.End.{End}
 use Rattle.c_meaning.specs.declared.run.End.TheVariants.{Undefined, Violated, Spent, Deep}
 use Rattle.c_meaning.specs.declared.run.Event.TheVariants.{At, Branch, Enter, Return, Fail}
+use Rattle.c_meaning.specs.declared.run.Way.TheVariants.{Truth}
 use Rattle.c_meaning.specs.declared.run.DrawKind.{DrawKind}
 use Rattle.c_meaning.specs.Cells.{Cell}
-use Rattle.c_meaning.specs.Objects.{size_of_object}
+use Rattle.c_meaning.specs.Objects.{size_of_object, columns_of_object}
 use Rattle.c_meaning.specs.Meaning.{Where, Site, Loop, WhileLoop, DoLoop, ForLoop, Calls}
-use Rattle.c_meaning.specs.Acts.{Res, Go, Stop, Flow, Next, Broken, Again, Gave, bind, go_on, turned, continuing, given}
+use Rattle.c_meaning.specs.Acts.{Res, Go, Stop, Flow, Next, Broken, Again, Gave, bind, go_on, turned, continuing, held, given}
 use Rattle.c_meaning.specs.Acts as acts
 use Rattle.c_meaning.specs.Run as run
-use Rattle.c_meaning.specs.Run.{State, Moment, Told, Here, Head, real, index_below, cells_of, with_cells, first_state, Whole}
+use Rattle.c_meaning.specs.Run.{State, Moment, Told, Here, Head, real, cell_among, arm_for, way_for, cells_of, with_cells, first_state, Whole}
 use Rattle.c_meaning.specs.Exec.{body, turn, run_in, run_if}
 use Rattle.c_meaning.specs.Fitting.{calls_in}
-use Rattle.c_meaning.specs.Related.{Units, Relation, Preserves, CallsPreserve}
-use Rattle.c_meaning.proofs.Fundamental.{related_form, related_call, Free, all_fit_params, all_fit}
+use Rattle.c_meaning.specs.Related.{Units, Same, Relation, Preserves, CallsPreserve}
+use Rattle.c_meaning.proofs.Fundamental.{same_values, related_form, related_call, Free, all_fit_params, all_fit}
 use Rattle.c_bounds.specs.Bounds.{Seen, keep, Act, Bounds, turns_to, bounded, AreNeverMet}
 
 abbrev Result : Type 0 → Type 0
@@ -159,7 +160,7 @@ module _ (p : Program) (b : Bounds) (w : ℕ) where
   longer_reached NoOverflow at site = longer_stop _ _
 
   longer_branched : {A B : Type 0} (R : A → B → Type 0) (spot : Spot) (t : Bool) (x y : Act A) (x' y' : Act B) → Longer w R x x' → Longer w R y y' → Longer w R (run.branched p Seen keep spot t x y) (run.branched p Seen keep spot t x' y')
-  longer_branched R spot t x y x' y' g h = longer_noted R (Told (Branch spot t)) (λ s. cond t x y s) (λ s. cond t x' y' s) (longer_cond R t x y x' y' g h)
+  longer_branched R spot t x y x' y' g h = longer_noted R (Told (Branch spot (Truth t))) (λ s. cond t x y s) (λ s. cond t x' y' s) (longer_cond R t x y x' y' g h)
 
   longer_returned : (site : Site) (v : Option ℤ) → Longer w Equal (run.returned p Seen keep site v) (run.returned p Seen keep site v)
   longer_returned site (Some v) = longer_noted Equal (Told (Return site.close (Some v))) (run.ret p Seen keep v) (run.ret p Seen keep v) (longer_ret Equal v v refl)
@@ -282,7 +283,7 @@ module _ (p : Program) (b : Bounds) (w : ℕ) where
     truth = λ t u q. ap number_of q;
     draw = λ L kind spot ty. longer_draw kind spot ty;
     cell = λ o i _. refl;
-    element = λ L spot o ty v u q. rw q (longer_key spot o (index_below (size_of_object p o) u));
+    element = λ L spot o vs us q. rw (same_values vs us q) (longer_key spot o (cell_among (size_of_object p o) (columns_of_object p o) us));
     look = λ L o x y _ q. rw q (record { at = λ d s e. goes _ _ _ refl (le_refl s.steps) });
     write = λ L o x y v u m t q. rw (t, q) (record { at = λ d s e. goes _ _ _ tt (le_refl s.steps) });
     answer = λ L at spot op ty x x' right y y' q r. rw (q, r) (longer_answered at spot (apply_of p.model op ty x' y'));
@@ -299,6 +300,7 @@ module _ (p : Program) (b : Bounds) (w : ℕ) where
     declare = λ ty L o n _. record { at = λ d s e. goes _ _ _ refl (le_refl s.steps) };
     own = λ L o. tt;
     branch = λ ty L M at t u x x' y y' q g h. rw q (longer_branched Equal at u x y x' y' g h);
+    select = λ L at ty v w ls q. rw q (longer_noted Same (Told (Branch at (way_for w ls))) (run.ret p Seen keep (arm_for w ls)) (run.ret p Seen keep (arm_for w ls)) (longer_ret Same (arm_for w ls) (arm_for w ls) refl));
     next = λ ty L. longer_ret _ _ _ refl;
     leave = λ ty L. longer_ret _ _ _ refl;
     again = λ ty L. longer_ret _ _ _ refl;
@@ -307,6 +309,7 @@ module _ (p : Program) (b : Bounds) (w : ℕ) where
     seq = λ ty L M N x x' y y' g h. longer_then Equal Equal _ _ _ _ g (λ f f' e. rw e (longer_go_on y y' h f'));
     scoped = λ ty L M x y g. longer_scoped Equal x y g;
     continued = λ ty L M x y g. longer_then Equal Equal _ _ _ _ (longer_scoped Equal x y g) (λ f f' e. longer_ret Equal _ _ (ap continuing e));
+    breaks = λ ty L M x y g. longer_then Equal Equal _ _ _ _ (longer_scoped Equal x y g) (λ f f' e. longer_ret Equal _ _ (ap held e));
   }
 
   free : Free same_bounds

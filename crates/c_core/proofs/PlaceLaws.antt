@@ -1,7 +1,7 @@
 -- Two places of one kind differ: those of a kind are part of the places of all parts, in the order of the text.
 use Rattle.std.proofs.Common.{◌≡◌, eqb-true, Bool, true, false, cond, List, [], ◌∷◌, ◌++◌, refl, sym, ap, ◌∙◌, subst, Option, Some, None, nat_eq}
 use Rattle.std.specs.List.{flat_map}
-use Rattle.c_core.specs.Tree.{Exp, Expr, Node, Const, Var, Index, Unary, Cast, Step, Binary, Logic, Choose, Comma, Assign, Call, Exps, NoExp, MoreExp, Init, Absent, One, Many, Names, NoName, MoreName, First, NoFirst, FirstExp, FirstNames, Stm, Stmt, Form, Empty, Do, Declare, Block, If, While, DoWhile, For, Break, Continue, Return, Label, Else, NoElse, OrElse, Stms, NoStm, MoreStm, Function, Program}
+use Rattle.c_core.specs.Tree.{Exp, Expr, Node, Const, Var, Index, Unary, Cast, Step, Binary, Logic, Choose, Comma, Assign, Call, Exps, NoExp, MoreExp, Init, Absent, One, Many, Rows, Names, NoName, MoreName, First, NoFirst, FirstExp, FirstNames, Stm, Stmt, Form, Empty, Do, Declare, Block, If, While, DoWhile, For, Break, Continue, Return, Label, Switch, Else, NoElse, OrElse, Stms, NoStm, MoreStm, MoreCase, Function, Program}
 use Rattle.c_core.specs.Operators.{is_prefix}
 use Rattle.c_core.specs.Parts.{same_spot}
 use Rattle.c_core.specs.TextOrder.{rises, whole, spots_of, spots_of_node, spots_of_arguments, spots_if, spots_of_init, spots_of_declarators, spots_of_first, spots_of_statement, spots_of_form, spots_of_else, spots_of_block, spots_of_functions}
@@ -68,7 +68,7 @@ mutual
   node_in : (k : PlaceKind) (spot : Spot) (n : Node) → InOrder k (places_in_node n) (spots_of_node spot n)
   node_in k spot (Const v) = part_none _
   node_in k spot (Var o) = part_none _
-  node_in k spot (Index o i) = skips spot _ _ (exp_in k i)
+  node_in k spot (Index o is) = skips spot _ _ (arguments_in k is)
   node_in k spot (Unary op a) = skips spot _ _ (exp_in k a)
   node_in k spot (Cast a) = skips spot _ _ (exp_in k a)
   node_in k spot (Step op a) = step_part (is_prefix op) spot _ (spots_of a) (exp_in k a)
@@ -99,7 +99,7 @@ mutual
   none_in_node : (n : Node) → of_kind Statement (places_in_node n) ≡ []
   none_in_node (Const v) = refl
   none_in_node (Var o) = refl
-  none_in_node (Index o i) = none_in i
+  none_in_node (Index o is) = none_in_arguments is
   none_in_node (Unary op a) = none_in a
   none_in_node (Cast a) = none_in a
   none_in_node (Step op a) = none_in a
@@ -143,10 +143,15 @@ if_in : (k : PlaceKind) (e : Option Exp) → InOrder k (places_if e) (spots_if e
 if_in k None = ends
 if_in k (Some e) = exp_in k e
 
+rows_in : (k : PlaceKind) (rows : List Exps) → InOrder k (flat_map places_in_arguments rows) (flat_map spots_of_arguments rows)
+rows_in k [] = ends
+rows_in k (es ∷ rows) = append_in k (places_in_arguments es) (flat_map places_in_arguments rows) _ _ (arguments_in k es) (rows_in k rows)
+
 init_in : (k : PlaceKind) (i : Init) → InOrder k (places_in_init i) (spots_of_init i)
 init_in k Absent = ends
 init_in k (One e) = exp_in k e
 init_in k (Many es) = arguments_in k es
+init_in k (Rows rows) = rows_in k rows
 
 names_in : (k : PlaceKind) (ns : Names) → InOrder k (places_in_names ns) (spots_of_declarators ns)
 names_in k NoName = ends
@@ -189,6 +194,8 @@ mutual
   form_in k at Continue = head_in k Statement at [] [] ends
   form_in k at (Return e) = head_in k Statement at (places_if e) _ (if_in k e)
   form_in k at (Label b) = head_in k Statement at (places_of_statement b) _ (statement_in k b)
+  form_in k at (Switch e b) =
+      append_in k (place Statement at ∷ place Branch at ∷ places_in e) (places_of_block b) (at ∷ spots_of e) _ (two_in k at (places_in e) _ (exp_in k e)) (block_in k b)
 
   else_in : (k : PlaceKind) (b : Else) → InOrder k (places_of_else b) (spots_of_else b)
   else_in k NoElse = ends
@@ -197,6 +204,7 @@ mutual
   block_in : (k : PlaceKind) (b : Stms) → InOrder k (places_of_block b) (spots_of_block b)
   block_in k NoStm = ends
   block_in k (MoreStm s b) = append_in k (places_of_statement s) (places_of_block b) _ _ (statement_in k s) (block_in k b)
+  block_in k (MoreCase spot l b) = skips spot _ _ (block_in k b)
 
 part_tail : (a : Spot) (xs ss : List Spot) → IsPart (a ∷ xs) ss → IsPart xs ss
 part_tail a xs _ (skips b _ ss p) = skips b xs ss (part_tail a xs ss p)

@@ -1,7 +1,7 @@
 -- The places of a program, and what witnesses name by them.
 use Rattle.std.specs.Prelude.{ℕ, nat_eq, nat_lt, Bool, true, false, cond, ◌&&◌, List, [], ◌∷◌, ◌++◌, Option, Some, None, map}
 use Rattle.std.specs.List.{list_any, filter, find, flat_map}
-use Rattle.c_core.specs.Tree.{Exp, Expr, Node, Const, Var, Index, Unary, Cast, Step, Binary, Logic, Choose, Comma, Assign, Call, Exps, NoExp, MoreExp, Init, Absent, One, Many, Names, NoName, MoreName, First, NoFirst, FirstExp, FirstNames, Stm, Stmt, Form, Empty, Do, Declare, Block, If, While, DoWhile, For, Break, Continue, Return, Label, Else, NoElse, OrElse, Stms, NoStm, MoreStm, Program}
+use Rattle.c_core.specs.Tree.{Exp, Expr, Node, Const, Var, Index, Unary, Cast, Step, Binary, Logic, Choose, Comma, Assign, Call, Exps, NoExp, MoreExp, Init, Absent, One, Many, Rows, Names, NoName, MoreName, First, NoFirst, FirstExp, FirstNames, Stm, Stmt, Form, Empty, Do, Declare, Block, If, While, DoWhile, For, Break, Continue, Return, Label, Switch, Else, NoElse, OrElse, Stms, NoStm, MoreStm, MoreCase, Program}
 use Rattle.c_core.specs.Parts.{same_spot, spot_of, spot_of_statement, fulls_of_program, exps_of_program, statements_of_program}
 use Rattle.c_core.specs.declared.number.IntType.{IntType}
 use Rattle.c_core.specs.declared.number.Property.{Property}
@@ -36,7 +36,7 @@ abbrev mutual
   pub places_in_node : Node → List Place
   places_in_node (Const v) = []
   places_in_node (Var o) = []
-  places_in_node (Index o i) = places_in i
+  places_in_node (Index o is) = places_in_arguments is
   places_in_node (Unary op a) = places_in a
   places_in_node (Cast a) = places_in a
   places_in_node (Step op a) = places_in a
@@ -61,6 +61,7 @@ abbrev pub places_in_init : Init → List Place
 places_in_init Absent = []
 places_in_init (One e) = places_in e
 places_in_init (Many es) = places_in_arguments es
+places_in_init (Rows rows) = flat_map places_in_arguments rows
 
 -- the places in the initializers of declared names
 abbrev pub places_in_names : Names → List Place
@@ -92,6 +93,7 @@ abbrev mutual
   places_of_form at Continue = []
   places_of_form at (Return e) = places_if e
   places_of_form at (Label b) = places_of_statement b
+  places_of_form at (Switch e b) = place Branch at ∷ places_in e ++ places_of_block b
 
   pub places_of_else : Else → List Place
   places_of_else NoElse = []
@@ -100,6 +102,7 @@ abbrev mutual
   pub places_of_block : Stms → List Place
   places_of_block NoStm = []
   places_of_block (MoreStm s b) = places_of_statement s ++ places_of_block b
+  places_of_block (MoreCase spot l b) = places_of_block b
 
 -- a function's body is no place, what stands in it is
 abbrev pub places_of_body : Stm → List Place
@@ -209,19 +212,22 @@ input_if (Some e) = input_of e
 abbrev pub input_at : Program → Spot → Option InputCall
 input_at p close = input_if (call_at p close)
 
--- a block's rest begins with the statement at this place
+-- a block's rest begins with the statement at this place; an arm's body is a block of its own
 abbrev pub begins_at : Spot → Stms → Bool
 begins_at spot NoStm = false
 begins_at spot (MoreStm s b) = same_spot (spot_of_statement s) spot
+begins_at spot (MoreCase at l b) = false
 
 -- the statement directly before the one at a place, in these statements
 abbrev pub before_in : Spot → Stms → Option Stm
 before_in spot NoStm = None
 before_in spot (MoreStm s b) = cond (begins_at spot b) (Some s) (before_in spot b)
+before_in spot (MoreCase at l b) = before_in spot b
 
 -- the statement before the one at this place, in the form's own block
 abbrev pub before_in_form : Spot → Form → Option Stm
 before_in_form spot (Block b) = before_in spot b
+before_in_form spot (Switch e b) = before_in spot b
 before_in_form spot _ = None
 
 -- the statement before the one at this place, in the statement's own block

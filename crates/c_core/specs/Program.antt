@@ -1,10 +1,10 @@
 -- The invariant of a checked program.
-use Rattle.std.specs.Prelude.{ℕ, nat_eq, nat_le, Bool, true, false, cond, not, ◌&&◌, List, [], ◌∷◌, length, Option, Some, None, slice_get, map, IsTrue}
+use Rattle.std.specs.Prelude.{ℕ, zero, suc, nat_eq, nat_le, ◌%◌, Bool, true, false, not, ◌&&◌, List, [], ◌∷◌, length, Option, Some, None, slice_get, map, IsTrue}
 use Rattle.std.specs.List.{list_all, range_with_len, sum_by}
 use Rattle.c_core.specs.Types.{in_range}
 use Rattle.c_core.specs.Parts.{is_empty, same_spot, names_of_program}
 use Rattle.c_core.specs.Tree.{Function, Program}
-use Rattle.c_core.specs.Typing.{function_fits}
+use Rattle.c_core.specs.Typing.{is_array, function_fits}
 use Rattle.c_core.specs.Scope.{is_in, owned_by, is_owned_once, is_object, function_reaches, function_nests, function_jumps}
 use Rattle.c_core.specs.TextOrder.{rises, spots_of_functions, spots_of_objects}
 use Rattle.c_core.specs.declared.number.DataModel.{DataModel}
@@ -12,9 +12,16 @@ use Rattle.c_core.specs.declared.number.Spot.{Spot}
 use Rattle.c_core.specs.declared.tree.Object.{Object}
 use Rattle.c_core.specs.declared.tree.Start.{Start}
 
--- a scalar has one cell, an array at least one
+-- at most two dimensions, and one column unless there are two
+abbrev pub shape_fits : ℕ → ℕ → ℕ → Bool
+shape_fits zero cells columns = nat_eq cells 1 && nat_eq columns 1
+shape_fits (suc zero) cells columns = nat_le 1 cells && nat_eq columns 1
+shape_fits (suc (suc zero)) cells columns = nat_le 1 cells && (nat_le 1 columns && nat_eq (cells % columns) 0)
+shape_fits (suc (suc (suc n))) cells columns = false
+
+-- a scalar has one cell, an array at least one, and whole rows
 abbrev pub object_fits : Object → Bool
-object_fits o = cond o.array (nat_le 1 o.cells) (nat_eq o.cells 1)
+object_fits o = shape_fits o.dims o.cells o.columns
 
 -- each object has the cells that its kind wants
 abbrev pub objects_fit : Program → Bool
@@ -41,10 +48,10 @@ stands_at spot (Some o) = same_spot o.spot spot
 abbrev pub names_in_place : Program → Bool
 names_in_place p = list_all (λ name. stands_at name.spot (slice_get p.objects name.object)) (names_of_program p)
 
--- of static storage, with no more values than cells, each of the object's type (C11 6.7.9p4)
+-- of static storage, with a value for each cell, each of the object's type (C11 6.7.9p4, p10)
 abbrev pub start_fits : DataModel → Start → Option Object → Bool
 start_fits m s None = false
-start_fits m s (Some o) = o.fixed && (nat_le (length s.values) o.cells && list_all (in_range m o.ty) s.values)
+start_fits m s (Some o) = o.fixed && (nat_eq (length s.values) o.cells && list_all (in_range m o.ty) s.values)
 
 -- each value of a static initializer is one of its object's cells and type (C11 6.7.9)
 abbrev pub starts_fit : Program → Bool
@@ -75,7 +82,7 @@ has_main p = is_main (slice_get p.functions p.main)
 -- a parameter is a scalar
 abbrev pub is_param : Option Object → Bool
 is_param None = false
-is_param (Some o) = not o.array
+is_param (Some o) = not (is_array o)
 
 -- the parameters of each function are scalars (C11 6.9.1)
 abbrev pub params_fit : Program → Bool
@@ -101,7 +108,7 @@ names_in_reach p = list_all (function_reaches p) p.functions
 abbrev pub blocks_fit : Program → Bool
 blocks_fit p = list_all function_nests p.functions
 
--- `break` and `continue` stand in loops alone (C11 6.8.6)
+-- `continue` stands in loops alone, `break` in loops and switches (C11 6.8.6)
 abbrev pub jumps_fit : Program → Bool
 jumps_fit p = list_all function_jumps p.functions
 

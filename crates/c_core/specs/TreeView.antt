@@ -9,13 +9,15 @@ use Rattle.c_core.specs.declared.tree.Expr.{Expr}
 use Rattle.c_core.specs.declared.tree.Node.{Node, Row_of-Expr, end_of-Expr, more_of-Expr}
 use Rattle.c_core.specs.declared.tree.Node.TheVariants.{Const, Var, Index', Unary', Cast', Step', Logic', Comma', Binary', Choose', Assign', Call'}
 use Rattle.c_core.specs.declared.tree.Init.{Init}
-use Rattle.c_core.specs.declared.tree.Init.TheVariants.{Absent, One, Many}
+use Rattle.c_core.specs.declared.tree.Init.TheVariants.{Absent, One, Many, Rows}
+use Rattle.c_core.specs.declared.tree.Row.{Row}
 use Rattle.c_core.specs.declared.tree.First.{First}
 use Rattle.c_core.specs.declared.tree.First.TheVariants.{Absent as NoFirst, Expr as FirstExpr, Declare as FirstDeclare}
 use Rattle.c_core.specs.declared.tree.Declared.{Declared}
 use Rattle.c_core.specs.declared.tree.Stmt.{Stmt}
-use Rattle.c_core.specs.declared.tree.Form.{Form, Row_of-Stmt, end_of-Stmt, more_of-Stmt, Held-Form-If-2, None', Some'}
-use Rattle.c_core.specs.declared.tree.Form.TheVariants.{Empty, Expr as Only, Declare, Block', If', While', Do', For', Break, Continue, Return, Label'}
+use Rattle.c_core.specs.declared.tree.Arm.{Arm, Arm'}
+use Rattle.c_core.specs.declared.tree.Form.{Form, Row_of-Stmt, end_of-Stmt, more_of-Stmt, Row_of-Arm, end_of-Arm, more_of-Arm, Held-Form-If-2, None', Some'}
+use Rattle.c_core.specs.declared.tree.Form.TheVariants.{Empty, Expr as Only, Declare, Block', If', While', Do', For', Break, Continue, Return, Label', Switch'}
 use Rattle.c_core.specs.declared.tree.Function.{Function}
 
 abbrev mutual
@@ -23,7 +25,7 @@ abbrev mutual
   pub node_view : Node → t.Node
   node_view (Const v) = t.Const v
   node_view (Var o) = t.Var o
-  node_view (Index' o b s ty n) = t.Index o (t.Expr s ty (node_view n))
+  node_view (Index' o shape row) = t.Index o (row_view row)
   node_view (Unary' op b s ty n) = t.Unary op (t.Expr s ty (node_view n))
   node_view (Cast' b s ty n) = t.Cast (t.Expr s ty (node_view n))
   node_view (Step' op b s ty n) = t.Step op (t.Expr s ty (node_view n))
@@ -35,7 +37,7 @@ abbrev mutual
   node_view (Assign' op b s ty n b' s' ty' n') = t.Assign op (t.Expr s ty (node_view n)) (t.Expr s' ty' (node_view n'))
   node_view (Call' callee shape row close) = t.Call callee (row_view row) close
 
-  -- the arguments of a call in their order
+  -- the arguments of a call, or the indexes of an element, in their order
   pub row_view : {m : _} → Row_of-Expr m → t.Exps
   row_view end_of-Expr = t.NoExp
   row_view (more_of-Expr s ty n row) = t.MoreExp (t.Expr s ty (node_view n)) (row_view row)
@@ -54,11 +56,17 @@ abbrev pub expr_view_if : Option Expr → Option t.Exp
 expr_view_if None = None
 expr_view_if (Some e) = Some (expr_view e)
 
+-- rows in their order
+abbrev pub rows_view : List Row → List t.Exps
+rows_view [] = []
+rows_view (row ∷ rows) = exprs_view row.values ∷ rows_view rows
+
 -- an initializer as the tree of definitions
 abbrev pub init_view : Init → t.Init
 init_view Absent = t.Absent
 init_view (One e) = t.One (expr_view e)
 init_view (Many es) = t.Many (exprs_view es)
+init_view (Rows rows) = t.Rows (rows_view rows)
 
 -- declared names in their order
 abbrev pub names_view : List Declared → t.Names
@@ -70,6 +78,12 @@ abbrev pub first_view : First → t.First
 first_view NoFirst = t.NoFirst
 first_view (FirstExpr e) = t.FirstExp (expr_view e)
 first_view (FirstDeclare ds) = t.FirstNames (names_view ds)
+
+-- statements, and then others
+abbrev pub joined : t.Stms → t.Stms → t.Stms
+joined t.NoStm c = c
+joined (t.MoreStm s b) c = t.MoreStm s (joined b c)
+joined (t.MoreCase spot l b) c = t.MoreCase spot l (joined b c)
 
 abbrev mutual
   -- a form of statement as the tree of definitions
@@ -86,11 +100,21 @@ abbrev mutual
   form_view Continue = t.Continue
   form_view (Return e) = t.Return (expr_view_if e)
   form_view (Label' b s f) = t.Label (t.Stmt s (form_view f))
+  form_view (Switch' test shape row) = t.Switch (expr_view test) (arms_view row)
 
   -- the statements of a block in their order
   pub block_view : {m : _} → Row_of-Stmt m → t.Stms
   block_view end_of-Stmt = t.NoStm
   block_view (more_of-Stmt s f row) = t.MoreStm (t.Stmt s (form_view f)) (block_view row)
+
+  -- the arms of a `switch` in their order
+  pub arms_view : {m : _} → Row_of-Arm m → t.Stms
+  arms_view end_of-Arm = t.NoStm
+  arms_view (more_of-Arm a row) = arm_view a (arms_view row)
+
+  -- an arm's label and its statements, and then others
+  pub arm_view : Arm → t.Stms → t.Stms
+  arm_view (Arm' s label shape body) rest = t.MoreCase s label (joined (block_view body) rest)
 
   -- the second arm, where there is one
   pub else_view : Held-Form-If-2 → t.Else
@@ -104,6 +128,11 @@ stmt_view s = t.Stmt s.spot (form_view s.form)
 abbrev pub stmts_view : List Stmt → t.Stms
 stmts_view [] = t.NoStm
 stmts_view (s ∷ ss) = t.MoreStm (stmt_view s) (stmts_view ss)
+
+-- arms in their order
+abbrev pub switch_view : List Arm → t.Stms
+switch_view [] = t.NoStm
+switch_view (a ∷ rest) = arm_view a (switch_view rest)
 
 -- a function as the one of definitions
 abbrev pub function_view : Function → t.Function

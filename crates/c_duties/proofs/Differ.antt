@@ -1,6 +1,6 @@
 -- No two obligations of a checked program are the same.
 use Rattle.std.proofs.Common.{◌≡◌, ◌≤◌, ◌⊎◌, inl, inr, ℕ, zero, suc, Bool, true, false, cond, ◌&&◌, ◌||◌, nat_eq, nat_lt, List, [], ◌∷◌, ◌++◌, map, Option, Some, None, slice_get, refl, sym, ap, ◌∙◌, subst, arith}
-use Rattle.std.specs.List.{Contains, list_all}
+use Rattle.std.specs.List.{Contains, flat_map, list_all}
 use Rattle.std.proofs.lemmas.Bool.Decides.{nat_tests}
 use Rattle.std.proofs.lemmas.List.{map-append}
 use Rattle.std.proofs.lemmas.List.Elements.{Contains-append_cases, Contains-append_right}
@@ -9,7 +9,7 @@ use Rattle.c_core.specs.Operators.{is_prefix}
 use Rattle.c_core.specs.Parts.{same_spot}
 use Rattle.c_core.specs.Program.{IsProgram}
 use Rattle.c_core.specs.TextOrder.{is_before, is_before_first, rises, whole, spots_of, spots_of_arguments, spots_if, spots_of_init, spots_of_declarators, spots_of_first, spots_of_statement, spots_of_form, spots_of_else, spots_of_block, spots_of_functions}
-use Rattle.c_core.specs.Tree.{Exp, Expr, Const, Var, Index, Unary, Cast, Step, Binary, Logic, Choose, Comma, Assign, Call, Exps, NoExp, MoreExp, Init, Absent, One, Many, Names, NoName, MoreName, First, NoFirst, FirstExp, FirstNames, Stm, Stmt, Form, Empty, Do, Declare, Block, If, While, DoWhile, For, Break, Continue, Return, Label, Else, NoElse, OrElse, Stms, NoStm, MoreStm, Function, Program}
+use Rattle.c_core.specs.Tree.{Exp, Expr, Const, Var, Index, Unary, Cast, Step, Binary, Logic, Choose, Comma, Assign, Call, Exps, NoExp, MoreExp, Init, Absent, One, Many, Rows, Names, NoName, MoreName, First, NoFirst, FirstExp, FirstNames, Stm, Stmt, Form, Empty, Do, Declare, Block, If, While, DoWhile, For, Break, Continue, Return, Label, Switch, Else, NoElse, OrElse, Stms, NoStm, MoreStm, MoreCase, Function, Program}
 use Rattle.c_core.specs.declared.number.Spot.{Spot}
 use Rattle.c_core.proofs.TextOrderLaws.{left, right, IsPart, ends, skips, takes, part_none, part_append, part_front, before_all, rises-part}
 use Rattle.c_meaning.specs.declared.run.DutyKind.TheVariants.{Location, Entry, Kept, Property}
@@ -162,7 +162,7 @@ head_of_step false a ss = head_of_whole a ss
 start_in : (e : Exp) → IsPart (spot_of e ∷ []) (spots_of e)
 start_in (Expr spot ty (Const v)) = takes spot [] [] ends
 start_in (Expr spot ty (Var o)) = takes spot [] [] ends
-start_in (Expr spot ty (Index o i)) = takes spot [] _ (part_none _)
+start_in (Expr spot ty (Index o is)) = takes spot [] _ (part_none _)
 start_in (Expr spot ty (Unary op a)) = takes spot [] _ (part_none _)
 start_in (Expr spot ty (Cast a)) = takes spot [] _ (part_none _)
 start_in (Expr spot ty (Step op a)) = head_of_step (is_prefix op) spot (spots_of a)
@@ -200,10 +200,15 @@ module _ (p : Program) where
   list_in NoExp = ends
   list_in (MoreExp e es) = both_in (e ∷ []) (exps_in es) _ _ (one_in e) (list_in es)
 
+  rows_in : (rows : List Exps) → InOrder (flat_map exps_in rows) (flat_map spots_of_arguments rows)
+  rows_in [] = ends
+  rows_in (es ∷ rows) = both_in (exps_in es) (flat_map exps_in rows) _ _ (list_in es) (rows_in rows)
+
   init_in : (i : Init) → InOrder (fulls_of_init i) (spots_of_init i)
   init_in Absent = ends
   init_in (One e) = one_in e
   init_in (Many es) = list_in es
+  init_in (Rows rows) = rows_in rows
 
   names_in : (ns : Names) → InOrder (fulls_of_names ns) (spots_of_declarators ns)
   names_in NoName = ends
@@ -236,6 +241,7 @@ module _ (p : Program) where
     form_in spot Continue = part_none _
     form_in spot (Return e) = skips spot _ _ (if_in e)
     form_in spot (Label b) = skips spot _ _ (statement_in b)
+    form_in spot (Switch e b) = both_in (e ∷ []) (fulls_of_block b) (spot ∷ spots_of e) _ (skips spot _ _ (one_in e)) (block_in b)
 
     else_in : (b : Else) → InOrder (fulls_of_else b) (spots_of_else b)
     else_in NoElse = ends
@@ -244,6 +250,7 @@ module _ (p : Program) where
     block_in : (b : Stms) → InOrder (fulls_of_block b) (spots_of_block b)
     block_in NoStm = ends
     block_in (MoreStm s b) = both_in (fulls_of s) (fulls_of_block b) _ _ (statement_in s) (block_in b)
+    block_in (MoreCase spot l b) = skips spot _ _ (block_in b)
 
   functions_in : (fs : List Function) → IsPart (spots (function_duties p fs)) (spots_of_functions fs)
   functions_in [] = ends

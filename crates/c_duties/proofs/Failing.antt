@@ -12,12 +12,12 @@ use Rattle.c_meaning.specs.Acts.{Res, Go, Stop, Flow, Next, Broken, Again, Gave}
 use Rattle.c_meaning.specs.Acts as acts
 use Rattle.c_meaning.specs.Objects.{spot_of}
 use Rattle.c_meaning.specs.Parts.{some_node, fulls_of}
-use Rattle.c_meaning.specs.Run.{first_cells, index_below}
+use Rattle.c_meaning.specs.Run.{first_cells, cell_among, arm_for}
 use Rattle.c_meaning.specs.Duties.{Placed, duty, may_violate, property_duties, function_duties, invariant_duties}
 use Rattle.c_meaning.specs.Havoc as havoc
 use Rattle.c_meaning.specs.Havoc.{Stopped, Fails, Left, cells_left, with_cells_left, havoc_in}
 use Rattle.c_duties.specs.Ordered.{unsorted}
-use Rattle.c_duties.proofs.Safe.{Safe, EndsSafe, over, over_one, safe_ret, safe_then, safe_draw, safe_key, safe_look, safe_write, safe_declare, safe_answered, safe_reached, safe_returned, safe_cond, safe_pass, safe_scoped, safe_continued, safe_seq, safe_here, safe_loop}
+use Rattle.c_duties.proofs.Safe.{Safe, EndsSafe, over, over_one, safe_ret, safe_then, safe_draw, safe_key, safe_look, safe_write, safe_declare, safe_answered, safe_reached, safe_returned, safe_cond, safe_pass, safe_scoped, safe_continued, safe_breaks, safe_seq, safe_here, safe_loop}
 use Rattle.c_duties.proofs.Traversed.{Kept, EachFails, kept_main}
 
 module _ (p : Program) (I : List Placed) where
@@ -45,7 +45,7 @@ module _ (p : Program) (I : List Placed) where
     convert = λ from to v. safe_ret p I IsDuty _;
     test = λ ty v. safe_ret p I IsDuty _;
     draw = λ kind spot ty. safe_draw p I IsDuty kind spot ty;
-    element = λ spot o n ty v. safe_key p I IsDuty o (index_below n v);
+    element = λ spot o n c js. safe_key p I IsDuty o (cell_among n c js);
     look = λ x. safe_look p I IsDuty x;
     write = λ x v. safe_write p I IsDuty x v;
     answer = λ at spot op ty x right y f. safe_answered p I IsDuty at (overflows op && is_signed ty) (apply_of p.model op ty x y) (over p.model op ty x y) f;
@@ -61,6 +61,7 @@ module _ (p : Program) (I : List Placed) where
     here = λ at. safe_here p I IsDuty of_invariants at;
     declare = λ o n. safe_declare p I IsDuty o n;
     branch = λ at t a b f g. safe_cond p I IsDuty t a b f g;
+    select = λ at ty v ls. safe_ret p I IsDuty (arm_for v ls);
     next = safe_ret p I IsDuty Next;
     leave = safe_ret p I IsDuty Broken;
     again = safe_ret p I IsDuty Again;
@@ -68,6 +69,7 @@ module _ (p : Program) (I : List Placed) where
     seq = λ a b f g. safe_seq p I IsDuty a b f g;
     scoped = λ a f. safe_scoped p I IsDuty a f;
     continued = λ a f. safe_continued p I IsDuty a f;
+    breaks = λ a f. safe_breaks p I IsDuty a f;
     loop = λ at l a f. safe_loop p I IsDuty of_invariants at l a f;
     deep = safe_pass p I IsDuty;
   }

@@ -24,7 +24,7 @@ use Rattle.c_meaning.specs.declared.run.Duty.{Duty}
 use Rattle.c_meaning.specs.Cells.{Key}
 use Rattle.c_meaning.specs.Meaning.{Where, Site, Loop}
 use Rattle.c_meaning.specs.Objects.{same_spot, type_of_object, size_of_object}
-use Rattle.c_meaning.specs.Acts.{Res, Go, Stop, Flow, Next, Broken, Again, Gave, bind, go_on, continuing, given}
+use Rattle.c_meaning.specs.Acts.{Res, Go, Stop, Flow, Next, Broken, Again, Gave, bind, go_on, continuing, held, given}
 use Rattle.c_meaning.specs.Acts as acts
 use Rattle.c_meaning.specs.Value.{holds}
 use Rattle.c_meaning.specs.Changed.{changed_by}
@@ -151,6 +151,9 @@ module _ (p : Program) (I : List Placed) (D : Duty → Type 0) where
 
   pub safe_continued : (m : Act Flow) → Safe m → Safe (acts.continued Stopped Left cells_left with_cells_left m)
   safe_continued m f = safe_then (acts.scoped Stopped Left cells_left with_cells_left m) (λ g u. Go (continuing g) u) (safe_scoped m f) (λ g. record { at = λ s. tt })
+
+  pub safe_breaks : (m : Act Flow) → Safe m → Safe (acts.breaks Stopped Left cells_left with_cells_left m)
+  safe_breaks m f = safe_then (acts.scoped Stopped Left cells_left with_cells_left m) (λ g u. Go (held g) u) (safe_scoped m f) (λ g. record { at = λ s. tt })
 
   pub safe_seq : (a b : Act Flow) → Safe a → Safe b → Safe (λ s. bind (a s) (go_on b))
   safe_seq a b f g = safe_then a (go_on b) f on

@@ -1,8 +1,10 @@
 -- What the parts of a meaning keep, where each knows the full expression that it is of, the meaning of every tree keeps.
-use Rattle.std.proofs.Common.{◌≡◌, ℕ, zero, suc, Bool, true, false, ◌&&◌, ◌||◌, List, [], ◌∷◌, ◌++◌, length, Option, Some, None, slice_get, refl}
+use Rattle.std.proofs.Common.{◌≡◌, ℕ, zero, suc, ◌+◌, Bool, true, false, ◌&&◌, ◌||◌, List, [], ◌∷◌, ◌++◌, length, Option, Some, None, slice_get, refl}
 use Rattle.c_core.specs.Operators.{overflows, overflows_one, type_for}
-use Rattle.c_core.specs.Types.{is_signed}
-use Rattle.c_core.specs.Tree.{Exp, Expr, Node, Const, Var, Index, Unary, Cast, Step, Binary, Logic, Choose, Comma, Assign, Call, Exps, NoExp, MoreExp, Init, Absent, One, Many, Names, NoName, MoreName, First, NoFirst, FirstExp, FirstNames, Stm, Stmt, Form, Empty, Do, Declare, Block, If, While, DoWhile, For, Break, Continue, Return, Label, Else, NoElse, OrElse, Stms, NoStm, MoreStm, Function, Program}
+use Rattle.std.specs.List.{flat_map}
+use Rattle.c_core.specs.Types.{is_signed, promote_of}
+use Rattle.c_core.specs.Typing.{labels_in}
+use Rattle.c_core.specs.Tree.{Exp, Expr, Node, Const, Var, Index, Unary, Cast, Step, Binary, Logic, Choose, Comma, Assign, Call, Exps, NoExp, MoreExp, Init, Absent, One, Many, Rows, Names, NoName, MoreName, First, NoFirst, FirstExp, FirstNames, Stm, Stmt, Form, Empty, Do, Declare, Block, If, While, DoWhile, For, Break, Continue, Return, Label, Switch, Else, NoElse, OrElse, Stms, NoStm, MoreStm, MoreCase, Function, Program}
 use Rattle.c_core.specs.declared.number.IntType.{IntType}
 use Rattle.c_core.specs.declared.number.IntType.TheVariants.{Int}
 use Rattle.c_core.specs.declared.number.Spot.{Spot}
@@ -11,15 +13,16 @@ use Rattle.c_core.specs.declared.number.UnOp.{UnOp}
 use Rattle.c_core.specs.declared.number.Property.{Property}
 use Rattle.c_core.specs.declared.number.Property.TheVariants.{UnreachCall, NoOverflow}
 use Rattle.c_core.specs.declared.tree.Callee.{Callee}
+use Rattle.c_core.specs.declared.tree.Label.{Label as ArmLabel}
 use Rattle.c_core.specs.declared.tree.Callee.TheVariants.{Defined, Input as InputOf, ReachError, Abort, Exit}
 use Rattle.c_meaning.specs.declared.run.DrawKind.{DrawKind}
 use Rattle.c_meaning.specs.declared.run.DrawKind.TheVariants.{Input, Cell}
 use Rattle.c_meaning.specs.Meaning.{Tick, AStatement, ANode, ACell, AParameter, Use, Used, Unused, Where, Site, Loop, WhileLoop, DoLoop, ForLoop, Meaning, Calls}
-use Rattle.c_meaning.specs.Objects.{spot_of, type_of}
+use Rattle.c_meaning.specs.Objects.{spot_of, type_of, columns_of_object}
 use Rattle.c_meaning.specs.Parts.{some_node, some_part, some_argument, exps_in, exp_if, fulls_of, fulls_of_form, fulls_of_else, fulls_of_block, fulls_of_init, fulls_of_names, fulls_of_first}
 use Rattle.c_meaning.specs.Duties.{may_violate, node_may_overflow}
 use Rattle.c_meaning.specs.Eval.{convert_to, operate, store, assign, tested, called, eval, node, target, place, evals}
-use Rattle.c_meaning.specs.Exec.{ticks, full, full_if, control, going, while_turn, do_turn, for_turn, draw_cells, initials, initial, declare, first, exec, form, otherwise, execs, body, with_params, call_of, run_in, run_if, run_main}
+use Rattle.c_meaning.specs.Exec.{ticks, full, full_if, control, going, while_turn, do_turn, for_turn, draw_cells, initials, row_initials, initial, declare, first, exec, form, otherwise, execs, from_arm, body, with_params, call_of, run_in, run_if, run_main}
 
 -- what is kept by the parts of a meaning; a violation may show only where the full expression fails
 pub record Kept (p : Program) (M : Meaning) (MayFail : Spot → Type 0) : Type 1 where
@@ -33,7 +36,7 @@ pub record Kept (p : Program) (M : Meaning) (MayFail : Spot → Type 0) : Type 1
   pub convert : (from to : IntType) (v : M.Value) → Acts M.Value (M.convert from to v)
   pub test : (ty : IntType) (v : M.Value) → Acts M.Truth (M.test ty v)
   pub draw : (kind : DrawKind) (spot : Spot) (ty : IntType) → Acts M.Value (M.draw kind spot ty)
-  pub element : (spot : Spot) (o n : ℕ) (ty : IntType) (v : M.Value) → Acts M.Target (M.element spot o n ty v)
+  pub element : (spot : Spot) (o n c : ℕ) (vs : List (M.Value × IntType)) → Acts M.Target (M.element spot o n c vs)
   pub look : (x : M.Target) → Acts M.Value (M.look x)
   pub write : (x : M.Target) (v : M.Value) → Acts (Unit {0}) (M.write x v)
   pub answer : (at : Where) (spot : Spot) (op : BinOp) (ty : IntType) (x : M.Value) (right : IntType) (y : M.Value) → (p.property ≡ NoOverflow → overflows op && is_signed ty ≡ true → MayFail at.full) → Acts M.Value (M.answer at spot op ty x right y)
@@ -49,6 +52,7 @@ pub record Kept (p : Program) (M : Meaning) (MayFail : Spot → Type 0) : Type 1
   pub here : (at : Spot) → Acts (Unit {0}) (M.here at)
   pub declare : (o n : ℕ) → Dones (M.declare o n)
   pub branch : (at : Spot) (t : M.Truth) (a b : M.Done) → Dones a → Dones b → Dones (M.branch at t a b)
+  pub select : (at : Spot) (ty : IntType) (v : M.Value) (ls : List ArmLabel) → Acts ℕ (M.select at ty v ls)
   pub next : Dones M.next
   pub leave : Dones M.leave
   pub again : Dones M.again
@@ -56,6 +60,7 @@ pub record Kept (p : Program) (M : Meaning) (MayFail : Spot → Type 0) : Type 1
   pub seq : (a b : M.Done) → Dones a → Dones b → Dones (M.seq a b)
   pub scoped : (a : M.Done) → Dones a → Dones (M.scoped a)
   pub continued : (a : M.Done) → Dones a → Dones (M.continued a)
+  pub breaks : (a : M.Done) → Dones a → Dones (M.breaks a)
   pub loop : (at : Spot) (l : Loop) (a : M.Done) → Dones a → Dones (M.loop at l a)
   pub deep : Dones M.deep
 
@@ -141,7 +146,7 @@ module _ (p : Program) (M : Meaning) (MayFail : Spot → Type 0) (k : Kept p M M
         kept_node : (want : Use) (spot : Spot) (ty : Option IntType) (n : Node) → Fails (violates n) → Fails (some_part violates n) → k.Acts M.Value (node p M c at want spot ty n)
         kept_node want spot ty (Const v) h g = k.ret _ _
         kept_node want spot ty (Var o) h g = k.look _
-        kept_node want spot ty (Index o i) h g = k.bind _ _ _ _ (kept_eval Used i g) (λ v. k.bind _ _ _ _ (k.element spot o _ _ v) (λ x. k.look x))
+        kept_node want spot ty (Index o is) h g = k.bind _ _ _ _ (kept_evals is g) (λ vs. k.bind _ _ _ _ (k.element spot o _ _ vs) (λ x. k.look x))
         kept_node want spot ty (Unary op a) h g = k.bind _ _ _ _ (kept_eval Used a g) (λ v. k.bind _ _ _ _ (k.convert _ _ v) (λ w. k.answer_one at spot op _ w (λ q o. h (overflow_violates p.property (Unary op a) q o))))
         kept_node want spot None (Cast a) h g = kept_eval Unused a g
         kept_node want spot (Some ty) (Cast a) h g = k.bind _ _ _ _ (kept_eval Used a g) (λ v. k.convert _ ty v)
@@ -171,7 +176,7 @@ module _ (p : Program) (M : Meaning) (MayFail : Spot → Type 0) (k : Kept p M M
         kept_target (Expr spot ty n) h = ticked _ ANode _ (kept_place spot n (of_right at.full (violates n) (some_part violates n) h))
 
         kept_place : (spot : Spot) (n : Node) → Fails (some_part violates n) → k.Acts M.Target (place p M c at spot n)
-        kept_place spot (Index o i) g = k.bind _ _ _ _ (kept_eval Used i g) (λ v. k.element spot o _ _ v)
+        kept_place spot (Index o is) g = k.bind _ _ _ _ (kept_evals is g) (λ vs. k.element spot o _ _ vs)
         kept_place spot (Var o) g = k.ret _ _
         kept_place spot (Const v) g = k.ret _ _
         kept_place spot (Unary op a) g = k.ret _ _
@@ -221,10 +226,16 @@ module _ (p : Program) (M : Meaning) (MayFail : Spot → Type 0) (k : Kept p M M
     kept_initials at o i (MoreExp e es) h =
         k.bind _ _ _ _ (kept_full at Used e h.0) (λ v. k.bind _ _ _ _ (k.convert _ _ v) (λ w. k.bind _ _ _ _ (k.write _ w) (λ _. kept_initials at o (suc i) es h.1)))
 
+    kept_rows : (at : Spot) (o i : ℕ) (rows : List Exps) → EachFails (flat_map exps_in rows) → k.Acts (Unit {0}) (row_initials p M c at o i rows)
+    kept_rows at o i [] h = k.ret _ _
+    kept_rows at o i (es ∷ rows) h =
+        k.bind _ _ _ _ (kept_initials at o i es (each_front (exps_in es) (flat_map exps_in rows) h)) (λ _. kept_rows at o (i + columns_of_object p o) rows (each_back (exps_in es) (flat_map exps_in rows) h))
+
     kept_initial : (at spot : Spot) (o : ℕ) (i : Init) → EachFails (fulls_of_init i) → k.Acts (Unit {0}) (initial p M c at spot o i)
     kept_initial at spot o Absent h = kept_draws spot o 0 _
     kept_initial at spot o (One e) h = kept_initials at o 0 (MoreExp e NoExp) h
     kept_initial at spot o (Many es) h = kept_initials at o 0 es h
+    kept_initial at spot o (Rows rows) h = kept_rows at o 0 rows h
 
     kept_ticks : (t : Tick) (n : ℕ) → k.Acts (Unit {0}) (ticks p M t n)
     kept_ticks t zero = k.ret _ _
@@ -265,6 +276,8 @@ module _ (p : Program) (M : Meaning) (MayFail : Spot → Type 0) (k : Kept p M M
         kept_form at (Return None) h = k.give None
         kept_form at (Return (Some e)) h = k.using _ _ _ (kept_full at Used e h.0) (λ v. k.using _ _ _ (kept_as result _ v) (λ w. k.give (Some w)))
         kept_form at (Label b) h = kept_exec b h
+        kept_form at (Switch e b) h =
+            k.using _ _ _ (kept_full at Used e h.0) (λ v. k.using _ _ _ (k.convert _ _ v) (λ w. k.using _ _ _ (k.select at (promote_of (type_of e)) w (labels_in b)) (λ n. kept_arms n b h.1)))
 
         kept_otherwise : (b : Else) → EachFails (fulls_of_else b) → k.Dones (otherwise p M c result b)
         kept_otherwise NoElse h = k.next
@@ -273,6 +286,13 @@ module _ (p : Program) (M : Meaning) (MayFail : Spot → Type 0) (k : Kept p M M
         kept_execs : (b : Stms) → EachFails (fulls_of_block b) → k.Dones (execs p M c result b)
         kept_execs NoStm h = k.next
         kept_execs (MoreStm s b) h = k.seq _ _ (kept_exec s (each_front (fulls_of s) (fulls_of_block b) h)) (kept_execs b (each_back (fulls_of s) (fulls_of_block b) h))
+        kept_execs (MoreCase spot l b) h = kept_execs b h
+
+        kept_arms : (n : ℕ) (b : Stms) → EachFails (fulls_of_block b) → k.Dones (from_arm p M c result n b)
+        kept_arms n NoStm h = k.next
+        kept_arms n (MoreStm s b) h = kept_arms n b (each_back (fulls_of s) (fulls_of_block b) h)
+        kept_arms zero (MoreCase spot l b) h = k.breaks _ (kept_execs b h)
+        kept_arms (suc n) (MoreCase spot l b) h = kept_arms n b h
 
       pub kept_body : (s : Stm) → EachFails (fulls_of s) → k.Dones (body p M c result s)
       kept_body (Stmt at f) h = k.using _ _ _ (k.tick AStatement) (λ _. kept_form at f h)

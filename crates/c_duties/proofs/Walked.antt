@@ -1,11 +1,14 @@
 -- Duties of full expressions of several parts, one behind the other.
-use Rattle.std.proofs.Common.{◌≡◌, ℕ, suc, ◌+◌, ◌<◌, refl, sym, ap, ◌∙◌, cond, List, [], ◌∷◌, ◌++◌, append_assoc, get_or, length, drop, drop-cons, add-one, None}
+use Rattle.std.proofs.Common.{◌≡◌, ℕ, ◌+◌, ◌<◌, refl, sym, ap, ◌∙◌, cond, List, [], ◌∷◌, ◌++◌, append_assoc, get_or, length, drop, None}
 use Rattle.c_core.specs.Tree.{Exp, Program}
+use Rattle.c_core.specs.View.{stmts_view, switch_view}
+use Rattle.c_core.specs.declared.tree.Arm.{Arm, out-Arm}
+use Rattle.c_core.proofs.ArmLaws.{all_from}
 use Rattle.c_meaning.specs.declared.run.DutyKind.TheVariants.{Property}
 use Rattle.c_meaning.specs.declared.run.Duty.{Duty}
 use Rattle.c_meaning.specs.Duties.{duty, may_violate, property_duties}
 use Rattle.c_meaning.specs.Objects.{spot_of}
-use Rattle.c_meaning.specs.Parts.{some_node}
+use Rattle.c_meaning.specs.Parts.{some_node, fulls_of, fulls_of_block}
 
 pub property_duties_both : (p : Program) (xs ys : List Exp) → property_duties p (xs ++ ys) ≡ property_duties p xs ++ property_duties p ys
 property_duties_both p [] ys = refl
@@ -23,6 +26,7 @@ pub with_the_rest : (p : Program) (now next : List Duty) (xs ys all : List Exp) 
 with_the_rest p now next xs ys all whole split was step =
     then_more p now next (next ++ property_duties p ys) xs ys step refl ∙ ap (λ es. now ++ property_duties p es) (sym split) ∙ was
 
--- the item at an index, and those behind it
-pub item_first : {A : Type 0} (xs : List A) (i : ℕ) (x : A) → i < length xs → x ≡ get_or xs i x → drop i xs ≡ x ∷ drop (i + 1) xs
-item_first xs i x inside is = drop-cons xs i x inside ∙ ap (λ y. y ∷ drop (suc i) xs) (sym is) ∙ ap (λ n. x ∷ drop n xs) (sym (add-one i))
+-- the arms from one on: the full expressions of its statements, then those of the later arms
+pub fulls_from : (arms : List Arm) (i : ℕ) (a : Arm) → i < length arms → a ≡ get_or arms i a
+    → fulls_of_block (switch_view (drop i arms)) ≡ fulls_of_block (stmts_view (out-Arm a).body) ++ fulls_of_block (switch_view (drop (i + 1) arms))
+fulls_from arms i a l e = all_from fulls_of fulls_of_block refl (λ s b. refl) (λ b spot l. refl) arms i a l e

@@ -89,7 +89,7 @@ fn part_violates(property: Property, model: DataModel, node: &Node) -> bool
     match node {
         Node::Const(_) => false,
         Node::Var(_) => false,
-        Node::Index { at, .. } => violates(property, model, at),
+        Node::Index { at, .. } => argument_violates(property, model, at.as_slice()),
         Node::Unary { of, .. } => violates(property, model, of),
         Node::Cast(of) => violates(property, model, of),
         Node::Step { target, .. } => violates(property, model, target),

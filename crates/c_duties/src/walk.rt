@@ -1,11 +1,12 @@
 // The duties of full expressions, in the order of the text.
 ghost use Rattle.std.specs.Prelude.{◌≡◌, [], ◌∷◌, ◌++◌, OnOk};
-ghost use Rattle.c_core.specs.View.{expr_view, expr_view_if, exprs_view, first_view, form_view, functions_view, init_view, names_view, program_view, stmt_view, stmts_view};
+ghost use Rattle.std.specs.List.{flat_map};
+ghost use Rattle.c_core.specs.View.{expr_view, expr_view_if, exprs_view, first_view, form_view, functions_view, init_view, names_view, program_view, rows_view, stmt_view, stmts_view, switch_view};
 ghost use Rattle.c_meaning.specs.Duties.{function_duties, property_duties};
 ghost use Rattle.c_meaning.specs.Parts.{exp_if, exps_in, fulls_of, fulls_of_block, fulls_of_first, fulls_of_form, fulls_of_init, fulls_of_names};
 
 use crate::violating::violates;
-use c_core::{Declared, Expr, First, Form, Function, Init, Program, Stmt};
+use c_core::{Arm, Declared, Expr, First, Form, Function, Init, Program, Row, Stmt};
 use c_meaning::{Duty, DutyKind};
 use wv_base::OutOfMemory;
 
@@ -47,7 +48,17 @@ fn push_init(list: &mut Vec<Duty>, program: &Program, init: &Init) -> Result<(),
         Init::Absent => Ok(()),
         Init::One(e) => push(list, program, e),
         Init::Many(es) => push_list(list, program, es.as_slice()),
+        Init::Rows(rows) => push_rows(list, program, rows.as_slice()),
     }
+}
+
+fn push_rows(list: &mut Vec<Duty>, program: &Program, rows: &[Row]) -> Result<(), OutOfMemory>
+    ensures { OnOk result (list.new.items ≡ list.old.items ++ property_duties (program_view program.now) (flat_map exps_in (rows_view rows.now))) }
+{
+    for row in rows {
+        push_list(list, program, row.values.as_slice())?;
+    }
+    Ok(())
 }
 
 fn push_names(
@@ -120,6 +131,10 @@ fn push_form(list: &mut Vec<Duty>, program: &Program, form: &Form) -> Result<(),
         Form::Continue => {}
         Form::Return(e) => push_if(list, program, e)?,
         Form::Label(of) => push_statement(list, program, of)?,
+        Form::Switch { test, arms } => {
+            push(list, program, test)?;
+            push_arms(list, program, arms.as_slice())?;
+        }
     }
     Ok(())
 }
@@ -130,6 +145,16 @@ fn push_block(list: &mut Vec<Duty>, program: &Program, body: &[Stmt]) -> Result<
 {
     for s in body {
         push_statement(list, program, s)?;
+    }
+    Ok(())
+}
+
+#[cycle(statement)]
+fn push_arms(list: &mut Vec<Duty>, program: &Program, arms: &[Arm]) -> Result<(), OutOfMemory>
+    ensures { OnOk result (list.new.items ≡ list.old.items ++ property_duties (program_view program.now) (fulls_of_block (switch_view arms.now))) }
+{
+    for arm in arms {
+        push_block(list, program, arm.body.as_slice())?;
     }
     Ok(())
 }

@@ -1,6 +1,6 @@
 -- What a checked program's functions meet: targets are assigned, names are in reach, each object is declared once.
 use Rattle.std.proofs.Common.{◌≡◌, ◌<◌, ◌≤◌, ◌+◌, ℕ, zero, suc, Bool, true, false, cond, not, ◌&&◌, ◌||◌, nat_eq, IsTrue, List, [], ◌∷◌, ◌++◌, length, Option, Some, None, is_some, slice_get, refl, sym, ap, ap₂, ◌∙◌, subst, ⊎_elim, arith, true≢false}
-use Rattle.std.specs.List.{list_all, range_with_len}
+use Rattle.std.specs.List.{flat_map, list_all, range_with_len}
 use Rattle.std.proofs.lemmas.Bool.{or_from, or_left, or_right, or_cases, cases_Bool}
 use Rattle.std.proofs.lemmas.Bool.Decides.{nat_tests}
 use Rattle.std.proofs.lemmas.List.Folds.{list_any-append}
@@ -9,7 +9,7 @@ use Rattle.c_core.specs.Parts.{every_exp, every_part, every_argument, every_stat
 use Rattle.c_core.specs.Program.{IsProgram}
 use Rattle.c_core.specs.Scope.{is_in, times_in, is_fixed, is_object, is_owned_once, owned_by}
 use Rattle.c_core.specs.Typing.{is_target, has_value, is_assignment, same_types, exp_fits, node_fits, is_typed, form_fits, statement_fits, function_fits}
-use Rattle.c_core.specs.Tree.{Exp, Expr, Node, Const, Var, Index, Unary, Cast, Step, Binary, Logic, Choose, Comma, Assign, Call, Exps, NoExp, MoreExp, Init, Absent, One, Many, Names, NoName, MoreName, First, NoFirst, FirstExp, FirstNames, Stm, Stmt, Form, Empty, Do, Declare, Block, If, While, DoWhile, For, Break, Continue, Return, Label, Else, NoElse, OrElse, Stms, NoStm, MoreStm, Function, Program}
+use Rattle.c_core.specs.Tree.{Exp, Expr, Node, Const, Var, Index, Unary, Cast, Step, Binary, Logic, Choose, Comma, Assign, Call, Exps, NoExp, MoreExp, Init, Absent, One, Many, Rows, Names, NoName, MoreName, First, NoFirst, FirstExp, FirstNames, Stm, Stmt, Form, Empty, Do, Declare, Block, If, While, DoWhile, For, Break, Continue, Return, Label, Switch, Else, NoElse, OrElse, Stms, NoStm, MoreStm, MoreCase, Function, Program}
 use Rattle.c_core.specs.declared.number.IntType.{IntType}
 use Rattle.c_core.specs.declared.tree.Object.{Object}
 use Rattle.c_meaning.specs.Parts as own
@@ -43,7 +43,7 @@ module _ (p : Program) where
   targets_node ty (Assign op a b) t = ap not (both (is_target a) (has_value b && (is_assignment op && same_types (parts.type_of a) ty)) t).0
   targets_node ty (Const v) t = refl
   targets_node ty (Var o) t = refl
-  targets_node ty (Index o i) t = refl
+  targets_node ty (Index o is) t = refl
   targets_node ty (Unary op a) t = refl
   targets_node ty (Cast a) t = refl
   targets_node ty (Binary op a b) t = refl
@@ -62,7 +62,7 @@ module _ (p : Program) where
     targets_p : (n : Node) → IsTrue (every_part (exp_fits p) n) → some_part assigns_no_target n ≡ false
     targets_p (Const v) t = refl
     targets_p (Var o) t = refl
-    targets_p (Index o i) t = targets_e i t
+    targets_p (Index o is) t = targets_es is t
     targets_p (Unary op a) t = targets_e a t
     targets_p (Cast a) t = targets_e a t
     targets_p (Step op a) t = targets_e a t
@@ -91,10 +91,15 @@ module _ (p : Program) where
   same_exps NoExp = refl
   same_exps (MoreExp e es) = ap (λ xs. e ∷ xs) (same_exps es)
 
+  same_rows : (rows : List Exps) → flat_map own.exps_in rows ≡ flat_map parts.exps_in rows
+  same_rows [] = refl
+  same_rows (es ∷ rows) = ap₂ (λ a b. a ++ b) (same_exps es) (same_rows rows)
+
   same_init : (i : Init) → own.fulls_of_init i ≡ parts.fulls_of_init i
   same_init Absent = refl
   same_init (One e) = refl
   same_init (Many es) = same_exps es
+  same_init (Rows rows) = same_rows rows
 
   same_fulls : (ns : Names) → own.fulls_of_names ns ≡ parts.fulls_of_names ns
   same_fulls NoName = refl
@@ -117,7 +122,7 @@ module _ (p : Program) where
     test s = statement_fits p result s
 
     mutual
-      targets_s : (s : Stm) → IsTrue (every_statement test s) → some_of astray (fulls_of s) ≡ false
+      pub targets_s : (s : Stm) → IsTrue (every_statement test s) → some_of astray (fulls_of s) ≡ false
       targets_s (Stmt at f) t =
           let a = both (test (Stmt at f)) (every_statement_in test f) t in
           targets_f f (both (form_fits p result f) (list_all (is_typed p) (own_fulls f)) a.0).1 a.1
@@ -141,6 +146,7 @@ module _ (p : Program) where
       targets_f Continue t u = refl
       targets_f (Return e) t u = targets_if e t
       targets_f (Label b) t u = targets_s b u
+      targets_f (Switch e b) t u = or_from _ _ (targets_e e (both (is_typed p e) true t).0) (targets_b b u)
 
       targets_else : (b : Else) → IsTrue (every_statement_else test b) → some_of astray (fulls_of_else b) ≡ false
       targets_else NoElse t = refl
@@ -151,6 +157,7 @@ module _ (p : Program) where
       targets_b (MoreStm s b) t =
           let g = both (every_statement test s) (every_statement_of test b) t in
           none_append (fulls_of s) (fulls_of_block b) (targets_s s g.0) (targets_b b g.1)
+      targets_b (MoreCase spot l b) t = targets_b b t
 
 -- ---- declared names
 
@@ -187,6 +194,7 @@ mutual
   declared_same_form Continue = refl
   declared_same_form (Return e) = refl
   declared_same_form (Label b) = declared_same b
+  declared_same_form (Switch e b) = declared_same_block b
 
   declared_same_else : (b : Else) → objects_of (names_in_else b) ≡ declared_in_else b
   declared_same_else NoElse = refl
@@ -195,6 +203,7 @@ mutual
   declared_same_block : (b : Stms) → objects_of (names_in_block b) ≡ declared_in_block b
   declared_same_block NoStm = refl
   declared_same_block (MoreStm s b) = joined (names_in s) (names_in_block b) (declared_in s) (declared_in_block b) (declared_same s) (declared_same_block b)
+  declared_same_block (MoreCase spot l b) = declared_same_block b
 
 in_range_of : (q : ℕ → Bool) (a n x : ℕ) → IsTrue (list_all q (range_with_len a n)) → a ≤ x → x < a + n → IsTrue (q x)
 in_range_of q a zero x h l u = absurd (omega (arith, l, u))
@@ -249,7 +258,7 @@ module _ (p : Program) (h : IsProgram p) where
           omega (arith, s)
 
   -- a function's parameters, and what its body declares
-  with_params : (L os : List ℕ) (x : ℕ) → times_in x (with_names p (named p) L os) ≡ times_in x L + times_in x os
+  pub with_params : (L os : List ℕ) (x : ℕ) → times_in x (with_names p (named p) L os) ≡ times_in x L + times_in x os
   with_params L [] x = omega arith
   with_params L (o ∷ os) x = omega (arith, with_params (L ++ o ∷ []) os x, times-append x L (o ∷ []), times-append x (o ∷ []) os)
 
@@ -293,6 +302,11 @@ module _ (p : Program) (h : IsProgram p) where
     call = λ f fn e. (fn, e);
     loop = λ L at l. tt;
   }
+
+  -- what is in reach is in the scope that it is itself
+  pub sees_itself : (L : List ℕ) → asks.Sees L L
+  unfolding asks
+  sees_itself L o q = q
 
   none_seen : (L : List ℕ) → Sees L []
   none_seen L o q = neither q

@@ -1,5 +1,5 @@
 -- What a part of a real run changes: cells of some objects, and those declared in it.
-use Rattle.std.proofs.Common.{◌≡◌, ◌⊎◌, ◌<◌, ◌≤◌, ◌+◌, ℕ, zero, suc, ℤ, pos, negsuc, Bool, true, false, cond, nat_eq, nat_le, IsTrue, List, [], ◌∷◌, ◌++◌, length, take, Option, Some, None, refl, sym, ap, ap₂, ◌∙◌, subst, inl, inr, ⊎_elim, arith, append_assoc, append-nil, true≢false, length-append}
+use Rattle.std.proofs.Common.{◌≡◌, ◌⊎◌, ◌<◌, ◌≤◌, ◌+◌, ℕ, zero, suc, ℤ, pos, Bool, true, false, cond, nat_eq, nat_le, IsTrue, List, [], ◌∷◌, ◌++◌, length, take, Option, Some, None, refl, sym, ap, ap₂, ◌∙◌, subst, inl, inr, ⊎_elim, arith, append_assoc, append-nil, true≢false, length-append}
 use Rattle.std.proofs.lemmas.Bool.{cases_Bool, or_left, or_right, or_cases}
 use Rattle.std.proofs.lemmas.Bool.Decides.{nat_tests}
 use Rattle.c_core.specs.Types.{fit}
@@ -13,16 +13,18 @@ use Rattle.c_core.specs.declared.number.Property.TheVariants.{UnreachCall, NoOve
 use Rattle.c_meaning.specs.declared.run.End.{End}
 use Rattle.c_meaning.specs.declared.run.End.TheVariants.{Undefined, Violated, Deep}
 use Rattle.c_meaning.specs.declared.run.Event.{Event}
+use Rattle.c_meaning.specs.declared.run.Way.TheVariants.{Truth}
 use Rattle.c_meaning.specs.declared.run.Event.TheVariants.{At, Branch, Enter, Return, Fail}
 use Rattle.c_meaning.specs.Cells.{Key, Cell, live, put, cells_from}
-use Rattle.c_meaning.specs.Objects.{size_of_object}
+use Rattle.c_meaning.specs.Objects.{size_of_object, columns_of_object}
 use Rattle.c_meaning.specs.Parts.{is_in}
 use Rattle.c_meaning.specs.Meaning.{Where, Site, Loop}
-use Rattle.c_meaning.specs.Acts.{Res, Go, Stop, Flow, Next, Broken, Again, Gave, bind, go_on, turned, continuing, given}
+use Rattle.c_meaning.specs.Acts.{Res, Go, Stop, Flow, Next, Broken, Again, Gave, bind, go_on, turned, continuing, held, given}
 use Rattle.c_meaning.specs.Acts as acts
 use Rattle.c_meaning.specs.Run as run
-use Rattle.c_meaning.specs.Run.{State, Moment, Here, Head, cells_of, with_cells, index_below, real}
-use Rattle.c_meaning.specs.Related.{Units, Relation, Preserves}
+use Rattle.c_meaning.specs.Run.{State, Moment, Here, Head, cells_of, with_cells, cell_among, arm_for, way_for, real}
+use Rattle.c_meaning.specs.Related.{Units, Same, Relation, Preserves}
+use Rattle.c_meaning.proofs.Indexes.{among_is}
 use Rattle.c_meaning.specs.Fitting.{keys}
 use Rattle.c_frames.specs.Frames.{IsCellOf, SameBut}
 use Rattle.c_frames.proofs.CellLaws.{among, live_among, among-append, put_high, put_low, keys_put, keys-append, take_over, keys_length, names_take, same_refl, same_trans, same_put, same_length, Split, same_split, name_same, same_itself}
@@ -221,6 +223,13 @@ module _ (p : Program) where
           by base s o (Go f t) l = flow_lands base L (continuing f) _ (cut_past base L s.cells t.cells o (past_all base L M f t l))
           by base s o (Stop e t) l = tt
 
+      moves_breaks : (L M : List ℕ) (a : Act Flow) → Moves L M a → Moves L L (acts.breaks End (State S) cells_of with_cells a)
+      moves_breaks L M a h = record { at = λ base s o. by base s o (a s) (h.at base s o) }
+        where
+          by : (base : List Cell) (s : State S) → In base L s.cells → (r : Res End (State S) Flow) → Lands base L M r → Lands base L L (bind (acts.cut End (State S) cells_of with_cells (length s.cells) r) (λ g u. Go (held g) u))
+          by base s o (Go f t) l = flow_lands base L (held f) _ (cut_past base L s.cells t.cells o (past_all base L M f t l))
+          by base s o (Stop e t) l = tt
+
       -- a loop: each turn, and what it is left with
       abbrev Ahead : List Cell → List ℕ → Res End (State S) Flow → Type 0
       Ahead base L (Go f s) = Past base L s.cells
@@ -278,10 +287,6 @@ module _ (p : Program) where
       key_kept : (L : List ℕ) (spot : Spot) (o : ℕ) (i : Option ℕ) → ((j : ℕ) → i ≡ Some j → j < size_of_object p o) → Keeps L (Of o) (run.key_of p S see spot o i)
       key_kept L spot o None h = keeps_stop L _ _
       key_kept L spot o (Some i) h = let k : Key = record { object = o; index = i } in keeps_ret L _ k k (refl, h i refl)
-
-      below_is : (n : ℕ) (i : ℤ) (j : ℕ) → index_below n i ≡ Some j → j < n
-      below_is n (pos i) j e = grind (arith, nat_tests)
-      below_is n (negsuc i) j e = absurd (cc)
 
       keeps_violated : {X Y : Type 0} (L : List ℕ) (R : X → Y → Type 0) (at : Where) (spot : Spot) (call : Option Spot) → Keeps L R (run.violated p S see {A = X} at spot call)
       keeps_violated L R at spot call = keeps_after L R (Fail at.statement at.full call) (run.stop p S see (Violated spot)) (keeps_stop L R (Violated spot))
@@ -385,13 +390,13 @@ module _ (p : Program) where
           truth = λ t u q. tt;
           draw = λ L kind spot ty. record { at = λ base s o. (o, (pos 0, tt)) };
           cell = λ o i q. (refl, q);
-          element = λ L spot o ty v w q. key_kept L spot o (index_below (size_of_object p o) v) (λ j e. below_is (size_of_object p o) v j e);
+          element = λ L spot o vs ws q. key_kept L spot o (cell_among (size_of_object p o) (columns_of_object p o) vs) (λ j e. among_is (size_of_object p o) (columns_of_object p o) vs j e);
           look = λ L o x y m q. record { at = λ base s c. (c, (pos 0, tt)) };
           write = λ L o x y v w m t q. keeps_write L o x v m t;
           answer = λ L at spot op ty x x' right y y' q r. keeps_answered L at spot (apply_of p.model op ty x y);
           answer_one = λ L at spot op ty x x' q. keeps_answered L at spot (apply_one_of p.model op ty x);
           choose = λ ty L t u a a' b b' q f g. keeps_cond L Any t a b f g;
-          pick = λ ty L mark t u a a' b b' q f g. keeps_after L Any (Branch mark t) (λ s. cond t a b s) (keeps_cond L Any t a b f g);
+          pick = λ ty L mark t u a a' b b' q f g. keeps_after L Any (Branch mark (Truth t)) (λ s. cond t a b s) (keeps_cond L Any t a b f g);
           enter = λ L site. keeps_tell L (Enter site.close);
           came_back = λ L site ty v w q. keeps_tell L (Return site.close (Some v));
           reach = λ L at site. keeps_reached L p.property at site;
@@ -401,7 +406,8 @@ module _ (p : Program) where
           here = λ L at. keeps_then {Y = Unit {0}} L Units Units (λ s. run.note p S see (Here at s.cells) s) _ (record { at = λ base s o. (o, (tt, tt)) }) (λ _ _ _. keeps_tell L (At at));
           declare = λ ty L o n q. moves_declare L o n q;
           own = λ L o s. inl (is_last o L);
-          branch = λ ty L M at t u a a' b b' q f g. moves_using {Y = Unit {0}} L M Units (run.tell p S see (Branch at t)) _ (keeps_tell L (Branch at t)) (λ _ _ _. moves_cond L M t a b f g);
+          branch = λ ty L M at t u a a' b b' q f g. moves_using {Y = Unit {0}} L M Units (run.tell p S see (Branch at (Truth t))) _ (keeps_tell L (Branch at (Truth t))) (λ _ _ _. moves_cond L M t a b f g);
+          select = λ L at ty v w ls q. keeps_after L Same (Branch at (way_for v ls)) (run.ret p S see (arm_for v ls)) (keeps_ret L Same (arm_for v ls) (arm_for v ls) refl);
           next = λ ty L. moves_ret L Next;
           leave = λ ty L. moves_ret L Broken;
           again = λ ty L. moves_ret L Again;
@@ -410,4 +416,5 @@ module _ (p : Program) where
           seq = λ ty L M N a a' b b' f g. moves_seq L M N a b f g;
           scoped = λ ty L M a b f. moves_scoped L M a f;
           continued = λ ty L M a b f. moves_continued L M a f;
+          breaks = λ ty L M a b f. moves_breaks L M a f;
         }

@@ -164,6 +164,7 @@ module _ (p : Program) where
     declare = K.declare;
     own = K.own;
     branch = K.branch;
+    select = K.select;
     next = K.next;
     leave = K.leave;
     again = K.again;
@@ -172,6 +173,7 @@ module _ (p : Program) where
     seq = K.seq;
     scoped = K.scoped;
     continued = K.continued;
+    breaks = K.breaks;
   }
 
   module _ (ty : Option IntType) (L : List ℕ) (at : Spot) (l : Loop) (m : State Seen → Res End (State Seen) Flow) (keeps : KeepsDone ty L L m) (framed : (s t : State Seen) → m s ≡ Go Next t → SameBut p (changed_by p l) s.cells t.cells) where

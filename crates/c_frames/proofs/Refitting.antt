@@ -1,11 +1,12 @@
 -- What a checked program's types and names give, for each other relation that asks of a region's nodes no more.
 use Rattle.std.proofs.Common.{◌≡◌, ◌<◌, ◌≤◌, ◌+◌, ℕ, zero, suc, ℤ, Bool, true, false, cond, not, ◌||◌, nat_eq, IsTrue, List, [], ◌∷◌, ◌++◌, length, Option, Some, None, slice_get, refl, ap, ◌∙◌, subst, arith, append_assoc}
+use Rattle.std.specs.List.{flat_map}
 use Rattle.std.proofs.lemmas.Bool.{or_left, or_right}
 use Rattle.c_core.specs.Operators.{op_of_step}
 use Rattle.c_core.specs.Parts.{exps_in}
 use Rattle.c_core.specs.Scope.{is_reached, is_fixed, times_in}
 use Rattle.c_core.specs.Typing.{is_constant, is_target}
-use Rattle.c_core.specs.Tree.{Exp, Expr, Node, Const, Var, Index, Unary, Cast, Step, Binary, Logic, Choose, Comma, Assign, Call, Exps, NoExp, MoreExp, Init, Absent, One, Many, Names, NoName, MoreName, First, NoFirst, FirstExp, FirstNames, Stm, Stmt, Form, Empty, Do, Declare, Block, If, While, DoWhile, For, Break, Continue, Return, Label, Else, NoElse, OrElse, Stms, NoStm, MoreStm, Function, Program}
+use Rattle.c_core.specs.Tree.{Exp, Expr, Node, Const, Var, Index, Unary, Cast, Step, Binary, Logic, Choose, Comma, Assign, Call, Exps, NoExp, MoreExp, Init, Absent, One, Many, Rows, Names, NoName, MoreName, First, NoFirst, FirstExp, FirstNames, Stm, Stmt, Form, Empty, Do, Declare, Block, If, While, DoWhile, For, Break, Continue, Return, Label, Switch, Else, NoElse, OrElse, Stms, NoStm, MoreStm, MoreCase, Function, Program}
 use Rattle.c_core.specs.declared.number.IntType.{IntType}
 use Rattle.c_core.specs.declared.number.IntType.TheVariants.{Int}
 use Rattle.c_core.specs.declared.number.Spot.{Spot}
@@ -13,12 +14,12 @@ use Rattle.c_core.specs.declared.number.BinOp.{BinOp}
 use Rattle.c_core.specs.declared.tree.Callee.{Callee}
 use Rattle.c_core.specs.declared.tree.Callee.TheVariants.{Defined, Input, ReachError, Abort, Exit}
 use Rattle.c_meaning.specs.Meaning.{Loop, WhileLoop, DoLoop, ForLoop, Meaning}
-use Rattle.c_meaning.specs.Objects.{object_of, type_of, type_or_int, size_of_object}
+use Rattle.c_meaning.specs.Objects.{object_of, type_of, type_or_int, size_of_object, columns_of_object}
 use Rattle.c_meaning.specs.Parts.{some_of, some_node, some_part, some_argument, exp_if, fulls_of, fulls_of_form, fulls_of_else, fulls_of_block, fulls_of_init, fulls_of_names, fulls_of_first, objects_of_names, objects_of_first, declared_in, declared_in_form, declared_in_else, declared_in_block, names_object, changes, calls}
 use Rattle.c_meaning.specs.Parts as own
 use Rattle.c_meaning.specs.Changed.{fulls_of_loop, body_of}
 use Rattle.c_meaning.specs.Value.{in_memory}
-use Rattle.c_meaning.specs.Related.{Relation, FitsCallee, FitsCompound, FitsE, FitsV, FitsAs, FitsN, FitsT, FitsP, FitsEs, FitsIf, FitsTest, HasCells, FitsInit, after_names, FitsNames, after_first, FitsFirst, after, after_form, FitsReturn, FitsS, FitsF, FitsElse, FitsB, FitsLoop}
+use Rattle.c_meaning.specs.Related.{Relation, FitsCallee, FitsCompound, FitsE, FitsV, FitsAs, FitsN, FitsT, FitsP, FitsEs, FitsIf, FitsTest, HasCells, FitsRows, FitsInit, after_names, FitsNames, after_first, FitsFirst, after, after_form, FitsReturn, FitsS, FitsF, FitsElse, FitsB, FitsArms, FitsLoop}
 use Rattle.c_meaning.proofs.Checked.{Agreeing}
 use Rattle.c_frames.proofs.CellLaws.{same_itself}
 
@@ -78,10 +79,10 @@ module _ (p : Program) where
   abbrev pub Fresh : List ℕ → List ℕ → Type 0
   Fresh L ds = (x : ℕ) → times_in x L + times_in x ds ≤ most x
 
-  fresh_left : (L ds es : List ℕ) → Fresh L (ds ++ es) → Fresh L ds
+  pub fresh_left : (L ds es : List ℕ) → Fresh L (ds ++ es) → Fresh L ds
   fresh_left L ds es f x = omega (arith, f x, times-append x ds es)
 
-  fresh_right : (L ds es : List ℕ) → Fresh L (ds ++ es) → Fresh L es
+  pub fresh_right : (L ds es : List ℕ) → Fresh L (ds ++ es) → Fresh L es
   fresh_right L ds es f x = omega (arith, f x, times-append x ds es)
 
   times_names : (x : ℕ) (L : List ℕ) (ns : Names) → times_in x (after_names p named L ns) ≡ times_in x L + times_in x (objects_of_names ns)
@@ -113,11 +114,12 @@ module _ (p : Program) where
     times_after_form x L Break = more_times _ _
     times_after_form x L Continue = more_times _ _
     times_after_form x L (Return e) = more_times _ _
+    times_after_form x L (Switch e b) = more_times _ _
 
   fresh_behind : (L : List ℕ) (s : Stm) (es : List ℕ) → Fresh L (declared_in s ++ es) → Fresh (after p named L s) es
   fresh_behind L s es f x = omega (arith, f x, times-append x (declared_in s) es, times_after x L s)
 
-  fresh_first : (L : List ℕ) (i : First) (es : List ℕ) → Fresh L (objects_of_first i ++ es) → Fresh (after_first p named L i) es
+  pub fresh_first : (L : List ℕ) (i : First) (es : List ℕ) → Fresh L (objects_of_first i ++ es) → Fresh (after_first p named L i) es
   fresh_first L i es f x = omega (arith, f x, times-append x (objects_of_first i) es, times_first x L i)
 
   -- a test of nodes holds of one of these
@@ -186,7 +188,7 @@ module _ (p : Program) where
         -- what is assigned or stepped is a target
         target_seen : (a : Exp) → (IsTrue (names_object (object_of a) a) → Seen (changes (object_of a))) → (IsTrue (not (is_target a)) → Seen assigns_no_target) → Seen (changes (object_of a))
         target_seen (Expr spot ty (Var x)) h b = h (same_itself x)
-        target_seen (Expr spot ty (Index x i)) h b = h (same_itself x)
+        target_seen (Expr spot ty (Index x is)) h b = h (same_itself x)
         target_seen (Expr spot ty (Const v)) h b = absurd (c.sound (b refl))
         target_seen (Expr spot ty (Unary op a)) h b = absurd (c.sound (b refl))
         target_seen (Expr spot ty (Cast a)) h b = absurd (c.sound (b refl))
@@ -224,7 +226,7 @@ module _ (p : Program) where
             refit_n : (ty : Option IntType) (n : Node) → FitsN p named L ty n → Within (λ q. q n || some_part q n) → FitsN p R K ty n
             refit_n ty (Const v) f w = c.const ty v f
             refit_n ty (Var o) f w = (c.read L K o z f.0, c.cell o 0 f.1, c.agree _ ty f.2)
-            refit_n ty (Index o i) f w = (c.read L K o z f.0, refit_v i f.1 (inner (Index o i) w), c.agree _ ty f.2)
+            refit_n ty (Index o is) f w = (c.read L K o z f.0, refit_es is f.1 (inner (Index o is) w), c.agree _ ty f.2)
             refit_n ty (Unary op a) f w = (refit_v a f.0 (inner (Unary op a) w), c.agree _ ty f.1)
             refit_n ty (Cast a) f w = refit_as ty a f (inner (Cast a) w)
             refit_n ty (Step op a) f w =
@@ -251,7 +253,7 @@ module _ (p : Program) where
             refit_t (Expr spot ty n) f w = (refit_p n f.0 (inner n w), c.agree _ _ f.1, c.agree _ _ f.2)
 
             refit_p : (n : Node) → FitsP p named L n → Within (λ q. some_part q n) → FitsP p R K n
-            refit_p (Index o i) f w = refit_v i f w
+            refit_p (Index o is) f w = refit_es is f w
             refit_p (Var o) f w = c.cell o 0 f
             refit_p (Const v) f w = c.cell 0 0 f
             refit_p (Unary op a) f w = c.cell 0 0 f
@@ -280,10 +282,17 @@ module _ (p : Program) where
           refit_cells o i zero f = tt
           refit_cells o i (suc n) f = (c.cell o i f.0, refit_cells o (suc i) n f.1)
 
+          refit_rows : (o i : ℕ) (rows : List Exps) → FitsRows p named L o i rows → Fulls (flat_map own.exps_in rows) → FitsRows p R K o i rows
+          refit_rows o i [] f w = tt
+          refit_rows o i (es ∷ rows) f w =
+              let front_seen = front (own.exps_in es) (flat_map own.exps_in rows) w in
+              (refit_cells o i (length (exps_in es)) f.0, refit_es es f.1 (λ q h. front_seen q (some_exps q es ∙ h)), refit_rows o (i + columns_of_object p o) rows f.2 (back (own.exps_in es) (flat_map own.exps_in rows) w))
+
           refit_init : (o : ℕ) (i : Init) → FitsInit p named L o i → Fulls (fulls_of_init i) → FitsInit p R K o i
           refit_init o Absent f w = refit_cells o 0 (size_of_object p o) f
           refit_init o (One e) f w = (refit_cells o 0 1 f.0, refit_v e f.1 (head e [] w))
           refit_init o (Many es) f w = (refit_cells o 0 (length (exps_in es)) f.0, refit_es es f.1 (λ q h. w q (some_exps q es ∙ h)))
+          refit_init o (Rows rows) f w = refit_rows o 0 rows f w
 
           refit_return : (e : Option Exp) → FitsReturn p named r1 L e → Fulls (exp_if e) → FitsReturn p R r2 K e
           refit_return None f w = c.returned_none f
@@ -334,6 +343,7 @@ module _ (p : Program) where
           sees_after_form L K z Break = z
           sees_after_form L K z Continue = z
           sees_after_form L K z (Return e) = z
+          sees_after_form L K z (Switch e b) = z
 
         mutual
           pub refit_s : (L : List ℕ) (K : R.Scope) → c.Sees L K → (s : Stm) → FitsS p named r1 L s → Fresh L (declared_in s) → Fulls (fulls_of s) → FitsS p R r2 K s
@@ -372,6 +382,7 @@ module _ (p : Program) where
           refit_f L K z at Continue h d w = tt
           refit_f L K z at (Return e) h d w = refit_return L K z e h w
           refit_f L K z at (Label b) h d w = refit_s L K z b h d w
+          refit_f L K z at (Switch e b) h d w = (refit_v L K z e h.0 (head e (fulls_of_block b) w), refit_arms L K z b h.1 d (tail e (fulls_of_block b) w))
 
           refit_else : (L : List ℕ) (K : R.Scope) → c.Sees L K → (b : Else) → FitsElse p named r1 L b → Fresh L (declared_in_else b) → Fulls (fulls_of_else b) → FitsElse p R r2 K b
           refit_else L K z NoElse h d w = tt
@@ -381,6 +392,12 @@ module _ (p : Program) where
           refit_b L K z NoStm h d w = tt
           refit_b L K z (MoreStm s b) h d w =
               (refit_s L K z s h.0 (fresh_left L (declared_in s) (declared_in_block b) d) (front (fulls_of s) (fulls_of_block b) w), refit_b (after p named L s) (after p R K s) (sees_after L K z s) b h.1 (fresh_behind L s (declared_in_block b) d) (back (fulls_of s) (fulls_of_block b) w))
+          refit_b L K z (MoreCase spot l b) h d w = refit_b L K z b h d w
+
+          refit_arms : (L : List ℕ) (K : R.Scope) → c.Sees L K → (b : Stms) → FitsArms p named r1 L b → Fresh L (declared_in_block b) → Fulls (fulls_of_block b) → FitsArms p R r2 K b
+          refit_arms L K z NoStm h d w = tt
+          refit_arms L K z (MoreStm s b) h d w = refit_arms L K z b h (fresh_right L (declared_in s) (declared_in_block b) d) (back (fulls_of s) (fulls_of_block b) w)
+          refit_arms L K z (MoreCase spot l b) h d w = (refit_b L K z b h.0 d w, refit_arms L K z b h.1 d w)
 
         pub refit_loop : (L : List ℕ) (K : R.Scope) → c.Sees L K → (l : Loop) → FitsLoop p named r1 L l → Fresh L (declared_in (body_of l)) → Fulls (fulls_of_loop l) → FitsLoop p R r2 K l
         refit_loop L K z (WhileLoop e b) h d w = (refit_v L K z e h.0 (head e (fulls_of b) w), refit_s L K z b h.1 d (tail e (fulls_of b) w))

@@ -1,20 +1,21 @@
 -- Statements, part by part.
-use Rattle.std.proofs.Common.{◌≡◌, ℕ, suc, ℤ, Bool, true, cond, not, List, [], ◌∷◌, ◌++◌, drop, Option, Some, None, Err, refl, sym, ap, subst, ◌∙◌}
+use Rattle.std.proofs.Common.{◌≡◌, ℕ, suc, ◌+◌, ℤ, Bool, true, cond, not, List, [], ◌∷◌, ◌++◌, drop, Option, Some, None, Err, refl, sym, ap, subst, ◌∙◌}
 use Rattle.std.specs.declared.boxed.Box.{Box}
 use Rattle.std.specs.declared.alloc.Global.{Global}
 use Rattle.c_core.specs.Tree as t
 use Rattle.c_core.specs.Tree.{Program, Exp}
-use Rattle.c_core.specs.View.{expr_view, exprs_view, stmt_view, stmts_view, names_view, init_view, form_view}
+use Rattle.c_core.specs.View.{expr_view, exprs_view, rows_view, stmt_view, stmts_view, names_view, init_view, form_view}
 use Rattle.c_core.specs.declared.number.IntType.{IntType}
 use Rattle.c_core.specs.declared.number.Spot.{Spot}
 use Rattle.c_core.specs.declared.tree.Expr.{Expr}
 use Rattle.c_core.specs.declared.tree.Declared.{Declared}
 use Rattle.c_core.specs.declared.tree.Stmt.{Stmt}
+use Rattle.c_core.specs.declared.tree.Row.{Row}
 use Rattle.c_core.specs.declared.tree.Form.TheVariants.{If}
 use Rattle.c_core.specs.Types.{fit, is_zero}
 use Rattle.c_meaning.specs.Cells.{cells_from}
 use Rattle.c_meaning.specs.Meaning.{Tick, Used, ACell}
-use Rattle.c_meaning.specs.Objects.{size_of_object, type_of_object}
+use Rattle.c_meaning.specs.Objects.{size_of_object, columns_of_object, type_of_object}
 use Rattle.c_meaning.specs.Acts as acts
 use Rattle.c_meaning.specs.Acts.{Res, Go, Stop, bind, go_on}
 use Rattle.c_meaning.specs.Duties.{Placed}
@@ -25,7 +26,7 @@ use Rattle.run_state.specs.Interpreting.{same, flow_of, else_part}
 use Rattle.run_state.specs.declared.machine.Flow.{Flow}
 use Rattle.run_state.specs.declared.machine.Flow.TheVariants.{Next, Broken, Again, Gave}
 use Rattle.run_state.proofs.Giving.{bind_on}
-use Rattle.havoc_state.specs.Havocking.{Gives, havocked, fulled, decided, executed, formed, sequenced, armed, otherwised, declaring, introduced, initialised, initialised_one, initialised_by, goes_on}
+use Rattle.havoc_state.specs.Havocking.{Gives, havocked, fulled, decided, executed, formed, sequenced, armed, otherwised, declaring, introduced, initialised, initialised_one, initialised_by, initialised_rows, goes_on}
 use Rattle.havoc_state.specs.declared.machine.Halt.{Halt}
 use Rattle.havoc_state.specs.declared.machine.Halt.TheVariants.{Ends, NoMemory}
 use Rattle.havoc_state.proofs.Declaring.{writing}
@@ -48,6 +49,13 @@ abbrev state_in : {E T A : Type 0} → T → Res E T A → T
 state_in d (Go a s) = s
 state_in d (Stop e s) = d
 
+-- a statement that a jump leaves: what stands behind it isn't done
+pub left_by : (k : Left → Res Stopped Left acts.Flow) (f : Flow) (u : Left) → (f ≡ Next → ⊥) → go_on k (flow_of f) u ≡ Go (flow_of f) u
+left_by k Next u h = absurd (h refl)
+left_by k Broken u h = refl
+left_by k Again u h = refl
+left_by k (Gave v) u h = refl
+
 module _ (p : Program) (I : List Placed) (n : ℕ) where
   -- statements in turn
   module _ (w : Option IntType) (body : List Stmt) (i : ℕ) (x : Stmt) (s u : Left) (whole : Res Stopped Left acts.Flow) where
@@ -68,14 +76,8 @@ module _ (p : Program) (I : List Placed) (n : ℕ) where
     pub sequence_on : behind → left_to_do → executed p I n w (stmt_view x) s ≡ Go acts.Next u → sequenced p I n w (stmts_view (drop (suc i) body)) u ≡ whole
     sequence_on d l g = ap (λ q. bind q (go_on (sequenced p I n w (stmts_view (drop (suc i) body))))) (sym g) ∙ next_part d l
 
-    left_by : (f : Flow) → (f ≡ Next → ⊥) → go_on (sequenced p I n w (stmts_view (drop (suc i) body))) (flow_of f) u ≡ Go (flow_of f) u
-    left_by Next k = absurd (k refl)
-    left_by Broken k = refl
-    left_by Again k = refl
-    left_by (Gave v) k = refl
-
     pub sequence_left : (f : Flow) → behind → left_to_do → executed p I n w (stmt_view x) s ≡ Go (flow_of f) u → (f ≡ Next → ⊥) → whole ≡ Go (flow_of f) u
-    sequence_left f d l g k = sym (next_part d l) ∙ ap (λ q. bind q (go_on (sequenced p I n w (stmts_view (drop (suc i) body))))) g ∙ left_by f k
+    sequence_left f d l g k = sym (next_part d l) ∙ ap (λ q. bind q (go_on (sequenced p I n w (stmts_view (drop (suc i) body))))) g ∙ left_by (sequenced p I n w (stmts_view (drop (suc i) body))) f u k
 
   -- a test, and what it chooses
   outcome : Bool → Left → Res Stopped Left Bool
@@ -122,19 +124,37 @@ module _ (p : Program) (I : List Placed) (n : ℕ) where
       ap (λ q. bind q (λ y z. bind (store p (havocked p I) (record { object = o; index = i }) from (type_of_object p o) y z) (λ _ a. Go tt a))) f
       ∙ ap (λ q. bind q (λ _ a. Go tt a)) (ap (λ k. store p (havocked p I) (record { object = o; index = i }) from k v u) (sym g) ∙ h)
 
-  -- values of an initializer in turn
-  module _ (at : Spot) (o : ℕ) (es : List Expr) (i : ℕ) (e : Expr) (behind : drop i es ≡ e ∷ drop (suc i) es) (s u : Left) (whole : Res Stopped Left (Unit {0}))
-      (rest : initialised_by p I n at o i (exprs_view (drop i es)) s ≡ whole) where
-    next_value : bind (initialised_one p I n at o i (expr_view e) s) (λ _. initialised_by p I n at o (suc i) (exprs_view (drop (suc i) es))) ≡ whole
+  -- values of an initializer in turn, from a cell on
+  module _ (at : Spot) (o j : ℕ) (es : List Expr) (i : ℕ) (e : Expr) (behind : drop i es ≡ e ∷ drop (suc i) es) (s u : Left) (whole : Res Stopped Left (Unit {0}))
+      (rest : initialised_by p I n at o j (exprs_view (drop i es)) s ≡ whole) where
+    abbrev values_left : Left → Res Stopped Left (Unit {0})
+    values_left = initialised_by p I n at o (suc j) (exprs_view (drop (suc i) es))
+
+    next_value : bind (initialised_one p I n at o j (expr_view e) s) (λ _. values_left) ≡ whole
     next_value =
-        bind_on (fulled p I n at Used (expr_view e) s) (λ v x. writing p I o i (fit p.model (type_of_object p o) v) x) (λ _. initialised_by p I n at o (suc i) (exprs_view (drop (suc i) es)))
-        ∙ ap (λ b. initialised_by p I n at o i (exprs_view b) s) (sym behind) ∙ rest
+        bind_on (fulled p I n at Used (expr_view e) s) (λ v x. writing p I o j (fit p.model (type_of_object p o) v) x) (λ _. values_left)
+        ∙ ap (λ b. initialised_by p I n at o j (exprs_view b) s) (sym behind) ∙ rest
 
-    pub values_halted : (h : Halt) → Gives same (Err h) u (initialised_one p I n at o i (expr_view e) s) → Gives same (Err h) u whole
-    values_halted h g = subst (Gives same (Err h) u) next_value (halted same same h u (initialised_one p I n at o i (expr_view e) s) (λ _. initialised_by p I n at o (suc i) (exprs_view (drop (suc i) es))) g)
+    pub values_halted : (h : Halt) → Gives same (Err h) u (initialised_one p I n at o j (expr_view e) s) → Gives same (Err h) u whole
+    values_halted h g = subst (Gives same (Err h) u) next_value (halted same same h u (initialised_one p I n at o j (expr_view e) s) (λ _. values_left) g)
 
-    pub values_on : initialised_one p I n at o i (expr_view e) s ≡ Go tt u → initialised_by p I n at o (suc i) (exprs_view (drop (suc i) es)) u ≡ whole
-    values_on g = ap (λ q. bind q (λ _. initialised_by p I n at o (suc i) (exprs_view (drop (suc i) es)))) (sym g) ∙ next_value
+    pub values_on : initialised_one p I n at o j (expr_view e) s ≡ Go tt u → values_left u ≡ whole
+    values_on g = ap (λ q. bind q (λ _. values_left)) (sym g) ∙ next_value
+
+  -- rows of values in turn, from a cell on
+  module _ (at : Spot) (o j : ℕ) (rows : List Row) (i : ℕ) (row : Row) (behind : drop i rows ≡ row ∷ drop (suc i) rows) (s u : Left) (whole : Res Stopped Left (Unit {0}))
+      (rest : initialised_rows p I n at o j (rows_view (drop i rows)) s ≡ whole) where
+    abbrev rows_left : Left → Res Stopped Left (Unit {0})
+    rows_left = initialised_rows p I n at o (j + columns_of_object p o) (rows_view (drop (suc i) rows))
+
+    next_row : bind (initialised_by p I n at o j (exprs_view row.values) s) (λ _. rows_left) ≡ whole
+    next_row = ap (λ b. initialised_rows p I n at o j (rows_view b) s) (sym behind) ∙ rest
+
+    pub rows_halted : (h : Halt) → Gives same (Err h) u (initialised_by p I n at o j (exprs_view row.values) s) → Gives same (Err h) u whole
+    rows_halted h g = subst (Gives same (Err h) u) next_row (halted same same h u (initialised_by p I n at o j (exprs_view row.values) s) (λ _. rows_left) g)
+
+    pub rows_on : initialised_by p I n at o j (exprs_view row.values) s ≡ Go tt u → rows_left u ≡ whole
+    rows_on g = ap (λ q. bind q (λ _. rows_left)) (sym g) ∙ next_row
 
   -- declared names in turn
   module _ (at : Spot) (names : List Declared) (i : ℕ) (x : Declared) (s u : Left) (whole : Res Stopped Left acts.Flow) (behind : drop i names ≡ x ∷ drop (suc i) names)

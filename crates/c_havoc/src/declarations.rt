@@ -1,14 +1,15 @@
 // Declared names and their initializers.
-ghost use Rattle.c_core.specs.View.{program_view, expr_view, exprs_view, names_view, first_view, init_view};
+ghost use Rattle.std.specs.Prelude.{◌≡◌, ◌≤◌, ◌+◌, ◌^◌, MatchOption};
+ghost use Rattle.c_core.specs.View.{program_view, expr_view, exprs_view, rows_view, names_view, first_view, init_view};
 ghost use Rattle.run_state.specs.Interpreting.{same, flow_of};
 ghost use Rattle.c_meaning.specs.Placing.{placed_view};
-ghost use Rattle.havoc_state.specs.Havocking.{Gives, left_of, declaring, introduced, initialised, initialised_one, initialised_by, begun};
+ghost use Rattle.havoc_state.specs.Havocking.{Gives, left_of, declaring, introduced, initialised, initialised_one, initialised_by, initialised_rows, begun};
 
 use crate::full_expressions::{full, only};
-use c_core::{Declared, Expr, First, Init, Program, Spot};
+use c_core::{Declared, Expr, First, Init, Program, Row, Spot};
 use c_meaning::{PlacedInvariant, size_of_object, type_of_object};
 use havoc_state::{Halt, Machine, draw_cells, store};
-use run_state::{Element, Flow, add_started};
+use run_state::{Element, Flow, add_started, columns_of_object};
 
 // One value of an initializer.
 #[cycle(run)]
@@ -30,7 +31,17 @@ fn initial_value(
     Ok(())
 }
 
-// The values of an initializer, one after another.
+// The number of a cell, where 32 bits hold it.
+fn cell_number(first: u128, index: usize) -> Option<u32>
+    ensures { MatchOption result (2 ^ 32 ≤ first + index) (λ number. number ≡ first + index) }
+{
+    match first.checked_add(index as u128) {
+        Some(number) if number <= u32::MAX as u128 => Some(number as u32),
+        _ => None,
+    }
+}
+
+// The values of an initializer, one after another, from a cell on.
 #[cycle(run)]
 fn initial_values(
     program: &Program,
@@ -39,24 +50,39 @@ fn initial_values(
     depth: u64,
     at: Spot,
     object: u32,
+    first: u128,
     es: &[Expr],
 ) -> Result<(), Halt>
-    ensures { Gives same result (left_of machine.new) (initialised_by (program_view program.now) (placed_view invariants.now) depth at object 0 (exprs_view es.now) (left_of machine.old)) }
+    ensures { Gives same result (left_of machine.new) (initialised_by (program_view program.now) (placed_view invariants.now) depth at object first (exprs_view es.now) (left_of machine.old)) }
 {
     for (index, e) in es.iter().enumerate() {
-        // cells are numbered by 32 bits
-        if index > u32::MAX as usize {
+        let Some(cell) = cell_number(first, index) else {
             return Err(Halt::NoMemory);
-        }
-        initial_value(
-            program,
-            invariants,
-            machine,
-            depth,
-            at,
-            object,
-            index as u32,
-            e,
+        };
+        initial_value(program, invariants, machine, depth, at, object, cell, e)?;
+    }
+    Ok(())
+}
+
+// Rows of values, each from its own first cell on.
+#[cycle(run)]
+fn initial_rows(
+    program: &Program,
+    invariants: &[PlacedInvariant],
+    machine: &mut Machine,
+    depth: u64,
+    at: Spot,
+    object: u32,
+    rows: &[Row],
+) -> Result<(), Halt>
+    ensures { Gives same result (left_of machine.new) (initialised_rows (program_view program.now) (placed_view invariants.now) depth at object 0 (rows_view rows.now) (left_of machine.old)) }
+{
+    let columns = columns_of_object(program, object);
+    for (index, row) in rows.iter().enumerate() {
+        let first = index as u128 * columns as u128;
+        let values = row.values.as_slice();
+        initial_values(
+            program, invariants, machine, depth, at, object, first, values,
         )?;
     }
     Ok(())
@@ -86,7 +112,17 @@ fn initial(
             depth,
             at,
             object,
+            0,
             es.as_slice(),
+        ),
+        Init::Rows(rows) => initial_rows(
+            program,
+            invariants,
+            machine,
+            depth,
+            at,
+            object,
+            rows.as_slice(),
         ),
     }
 }

@@ -5,14 +5,14 @@ ghost use Rattle.c_core.specs.View.{program_view, expr_view, exprs_view};
 ghost use Rattle.c_meaning.specs.Meaning.{Used};
 ghost use Rattle.run_state.specs.Interpreting.{same, where_of, use_of, key_of, pairs_of, site_of};
 ghost use Rattle.c_meaning.specs.Placing.{placed_view};
-ghost use Rattle.havoc_state.specs.Havocking.{Gives, left_of, evaluated, noded, targeted, placed_at, truthed, convertible, listed, callee_gives};
+ghost use Rattle.havoc_state.specs.Havocking.{Gives, left_of, evaluated, evaluated_all, noded, targeted, placed_at, truthed, convertible, listed, callee_gives};
 
 use crate::calls::call_number;
 use c_core::{BinOp, Callee, Expr, IntType, Node, Program, Spot, StepOp, UnOp, convert};
 use c_meaning::{DrawKind, PlacedInvariant, holds, truth, type_of};
 use havoc_state::{
-    Ending, Halt, Machine, bump, change, convert_to, draw, element, look, operate, operate_one,
-    reach, store,
+    Ending, Halt, Machine, bump, change, convert_to, draw, element, element_in_row, look, operate,
+    operate_one, reach, store,
 };
 use run_state::{Around, CallSite, Element, Typed, is_needed};
 use wv_base::Seq;
@@ -43,7 +43,13 @@ pub fn eval(
             program, invariants, machine, depth, at, *op, left, right,
         ),
         Node::Index { object, at: place } => index(
-            program, invariants, machine, depth, at, *object, place,
+            program,
+            invariants,
+            machine,
+            depth,
+            at,
+            *object,
+            place.as_slice(),
         ),
         Node::Unary { op, of } => unary(program, invariants, machine, depth, at, *op, of),
         Node::Cast(of) => cast(program, invariants, machine, depth, at, e.ty, of),
@@ -124,7 +130,13 @@ fn target(
 {
     match &e.node {
         Node::Index { object, at: place } => element_at(
-            program, invariants, machine, depth, at, *object, place,
+            program,
+            invariants,
+            machine,
+            depth,
+            at,
+            *object,
+            place.as_slice(),
         ),
         Node::Var(object) => Ok(Element {
             object: *object,
@@ -138,6 +150,7 @@ fn target(
     }
 }
 
+// The element at its indexes, which are evaluated from left to right before the first is tested.
 #[cycle(run)]
 fn element_at(
     program: &Program,
@@ -146,12 +159,44 @@ fn element_at(
     depth: u64,
     at: Around,
     object: u32,
-    place: &Expr,
+    indexes: &[Expr],
 ) -> Result<Element, Halt>
-    ensures { Gives key_of result (left_of machine.new) (placed_at (program_view program.now) (placed_view invariants.now) depth (where_of at) at.full (t.Index object (expr_view place.now)) (left_of machine.old)) }
+    ensures { Gives key_of result (left_of machine.new) (placed_at (program_view program.now) (placed_view invariants.now) depth (where_of at) at.full (t.Index object (exprs_view indexes.now)) (left_of machine.old)) }
 {
-    let j = eval(program, invariants, machine, depth, at, true, place)?;
-    element(program, object, j)
+    match indexes {
+        [index] => {
+            let j = eval(program, invariants, machine, depth, at, true, index)?;
+            element(program, object, j)
+        }
+        [row, column] => {
+            let i = eval(program, invariants, machine, depth, at, true, row)?;
+            let j = eval(program, invariants, machine, depth, at, true, column)?;
+            element_in_row(program, object, i, j)
+        }
+        // no element of a checked program
+        [] => Err(Halt::Ends(Ending::Passes)),
+        _ => {
+            evaluate_all(program, invariants, machine, depth, at, indexes)?;
+            Err(Halt::Ends(Ending::Passes))
+        }
+    }
+}
+
+#[cycle(run)]
+fn evaluate_all(
+    program: &Program,
+    invariants: &[PlacedInvariant],
+    machine: &mut Machine,
+    depth: u64,
+    at: Around,
+    es: &[Expr],
+) -> Result<(), Halt>
+    ensures { Gives same result (left_of machine.new) (evaluated_all (program_view program.now) (placed_view invariants.now) depth (where_of at) (exprs_view es.now) (left_of machine.old)) }
+{
+    for e in es {
+        eval(program, invariants, machine, depth, at, true, e)?;
+    }
+    Ok(())
 }
 
 #[cycle(run)]
@@ -162,12 +207,11 @@ fn index(
     depth: u64,
     at: Around,
     object: u32,
-    place: &Expr,
+    indexes: &[Expr],
 ) -> Result<i128, Halt>
-    ensures { Gives same result (left_of machine.new) (noded (program_view program.now) (placed_view invariants.now) depth (where_of at) Used at.full None (t.Index object (expr_view place.now)) (left_of machine.old)) }
+    ensures { Gives same result (left_of machine.new) (noded (program_view program.now) (placed_view invariants.now) depth (where_of at) Used at.full None (t.Index object (exprs_view indexes.now)) (left_of machine.old)) }
 {
-    let j = eval(program, invariants, machine, depth, at, true, place)?;
-    let found = element(program, object, j)?;
+    let found = element_at(program, invariants, machine, depth, at, object, indexes)?;
     Ok(look(machine, found))
 }
 

@@ -1,20 +1,20 @@
 // Statements: one function for each form.
 ghost use Rattle.std.specs.Prelude.{◌≡◌};
 ghost use Rattle.c_core.specs.Tree as t;
-ghost use Rattle.c_core.specs.View.{program_view, expr_view, expr_view_if, stmt_view, stmts_view, first_view, form_view};
+ghost use Rattle.c_core.specs.View.{program_view, expr_view, expr_view_if, stmt_view, stmts_view, switch_view, first_view, form_view};
 ghost use Rattle.c_meaning.specs.Acts as acts;
 ghost use Rattle.run_state.specs.Interpreting.{flow_of, else_part};
 ghost use Rattle.c_calls.specs.Loops.{loop_of};
 ghost use Rattle.c_meaning.specs.Placing.{placed_view};
-ghost use Rattle.havoc_state.specs.Havocking.{Gives, left_of, executed, formed, sequenced, blocked, armed, otherwised, bodied, for_rest, while_turned, do_turned, for_turned, turning, turned_once, looped, for_parts as for_parts_of, for_looped};
+ghost use Rattle.havoc_state.specs.Havocking.{Gives, left_of, executed, formed, sequenced, blocked, arms_done, held_arms, armed, otherwised, bodied, for_rest, while_turned, do_turned, for_turned, turning, turned_once, looped, for_parts as for_parts_of, for_looped};
 
 use crate::declarations::{begin, declare};
-use crate::full_expressions::{decide, for_goes_on, give, only, step_on, test_turn};
+use crate::full_expressions::{decide, for_goes_on, full, give, only, step_on, test_turn};
 use crate::loops::open_loop;
-use c_core::{Expr, First, Form, IntType, Program, Spot, Stmt};
-use c_meaning::PlacedInvariant;
+use c_core::{Arm, Expr, First, Form, IntType, Program, Spot, Stmt, convert, promote};
+use c_meaning::{PlacedInvariant, type_of};
 use havoc_state::{Halt, Machine, arrive, close};
-use run_state::Flow;
+use run_state::{Flow, arm_for};
 
 #[cycle(run)]
 fn exec(
@@ -57,6 +57,16 @@ pub fn form(
         Form::Continue => Ok(Flow::Again),
         Form::Return(e) => give(program, invariants, machine, depth, wanted, at, e),
         Form::Label(s) => exec(program, invariants, machine, depth, wanted, s),
+        Form::Switch { test, arms } => switch(
+            program,
+            invariants,
+            machine,
+            depth,
+            wanted,
+            at,
+            test,
+            arms.as_slice(),
+        ),
         Form::While { .. } => loop_scope(program, invariants, machine, depth, wanted, at, f),
         Form::Do { .. } => loop_scope(program, invariants, machine, depth, wanted, at, f),
         Form::For { first, .. } => for_scope(
@@ -157,6 +167,112 @@ fn choose(
         arm(program, invariants, machine, depth, wanted, yes)
     } else {
         otherwise(program, invariants, machine, depth, wanted, no)
+    }
+}
+
+// A `switch`: its labels are looked at once, then the arms are done from the chosen one on.
+#[cycle(run)]
+fn switch(
+    program: &Program,
+    invariants: &[PlacedInvariant],
+    machine: &mut Machine,
+    depth: u64,
+    wanted: Option<IntType>,
+    at: Spot,
+    test: &Expr,
+    arms: &[Arm],
+) -> Result<Flow, Halt>
+    ensures { Gives flow_of result (left_of machine.new) (formed (program_view program.now) (placed_view invariants.now) depth wanted at (t.Switch (expr_view test.now) (switch_view arms.now)) (left_of machine.old)) }
+{
+    let value = full(program, invariants, machine, depth, at, true, test)?;
+    let ty = promote(program.model, type_of(test));
+    let first = arm_for(convert(program.model, ty, value), arms);
+    arms_from(program, invariants, machine, depth, wanted, first, arms)
+}
+
+// The arms of a `switch` from one by its number on, each running into the next.
+#[cycle(run)]
+fn arms_from(
+    program: &Program,
+    invariants: &[PlacedInvariant],
+    machine: &mut Machine,
+    depth: u64,
+    wanted: Option<IntType>,
+    first: usize,
+    arms: &[Arm],
+) -> Result<Flow, Halt>
+    ensures { Gives flow_of result (left_of machine.new) (arms_done (program_view program.now) (placed_view invariants.now) depth wanted first (switch_view arms.now) (left_of machine.old)) }
+{
+    if first < arms.len() {
+        hold_arms(program, invariants, machine, depth, wanted, &arms[first..])
+    } else {
+        Ok(Flow::Next)
+    }
+}
+
+// Statements of arms in turn, until one is left by a jump.
+#[cycle(run)]
+fn sequence_arms(
+    program: &Program,
+    invariants: &[PlacedInvariant],
+    machine: &mut Machine,
+    depth: u64,
+    wanted: Option<IntType>,
+    arms: &[Arm],
+) -> Result<Flow, Halt>
+    ensures { Gives flow_of result (left_of machine.new) (sequenced (program_view program.now) (placed_view invariants.now) depth wanted (switch_view arms.now) (left_of machine.old)) }
+{
+    for arm in arms {
+        let body = arm.body.as_slice();
+        match sequence(program, invariants, machine, depth, wanted, body)? {
+            Flow::Next => {}
+            flow => return Ok(flow),
+        }
+    }
+    Ok(Flow::Next)
+}
+
+// What is declared in arms ends with the last of them.
+#[cycle(run)]
+fn scope_arms(
+    program: &Program,
+    invariants: &[PlacedInvariant],
+    machine: &mut Machine,
+    depth: u64,
+    wanted: Option<IntType>,
+    arms: &[Arm],
+) -> Result<Flow, Halt>
+    ensures { Gives flow_of result (left_of machine.new) (blocked (program_view program.now) (placed_view invariants.now) depth wanted (switch_view arms.now) (left_of machine.old)) }
+{
+    let cells = machine.memory.count();
+    let flow = sequence_arms(program, invariants, machine, depth, wanted, arms)?;
+    machine.memory.cut(cells);
+    Ok(flow)
+}
+
+// A `break` in arms is their end.
+#[cycle(run)]
+fn hold_arms(
+    program: &Program,
+    invariants: &[PlacedInvariant],
+    machine: &mut Machine,
+    depth: u64,
+    wanted: Option<IntType>,
+    arms: &[Arm],
+) -> Result<Flow, Halt>
+    ensures { Gives flow_of result (left_of machine.new) (held_arms (program_view program.now) (placed_view invariants.now) depth wanted (switch_view arms.now) (left_of machine.old)) }
+{
+    let flow = scope_arms(program, invariants, machine, depth, wanted, arms)?;
+    Ok(after_arms(flow))
+}
+
+// After arms that came to their end or were left by `break`, the run goes on after the `switch`.
+fn after_arms(flow: Flow) -> Flow
+    ensures { flow_of result ≡ acts.held (flow_of flow) }
+{
+    match flow {
+        Flow::Broken => Flow::Next,
+        other => other,
     }
 }
 

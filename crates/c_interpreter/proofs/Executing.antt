@@ -19,6 +19,7 @@ use Rattle.c_meaning.specs.Meaning.{Used, ACell}
 use Rattle.c_meaning.specs.Objects.{size_of_object, type_of_object}
 use Rattle.c_meaning.specs.Acts as acts
 use Rattle.c_meaning.specs.declared.run.Event.TheVariants.{Branch}
+use Rattle.c_meaning.specs.declared.run.Way.TheVariants.{Truth}
 use Rattle.c_meaning.specs.Acts.{Res, Go, Stop, bind}
 use Rattle.std.proofs.lemmas.List.{append_assoc}
 use Rattle.c_meaning.specs.Eval.{store}
@@ -50,6 +51,14 @@ bound_twice : {S A B C D : Type 0} (r : Ran S A) (q : State S → Ran S B) (k : 
     → bound (bound r (λ _ u. bound (q u) (λ _ v. k v))) l ≡ bound r (λ _ u. bound (q u) (λ _ v. bound (k v) l))
 bound_twice r q k l = bound_on r (λ _ u. bound (q u) (λ _ v. k v)) l ∙ bound_alike r _ _ (λ _ u. bound_on (q u) (λ _ v. k v) l)
 
+-- a statement that a jump leaves: what stands behind it isn't done
+pub left_by : (p : Program) (S : Type 0) (after : Event → List Cell → S → S) (k : State S → Ran S acts.Flow) (f : Flow) (u : State S) → (f ≡ Next → ⊥)
+    → (wy.go_on p S (seen_by after) k (flow_of f) u).result ≡ Go (flow_of f) u
+left_by p S after k Next u h = absurd (h refl)
+left_by p S after k Broken u h = refl
+left_by p S after k Again u h = refl
+left_by p S after k (Gave v) u h = refl
+
 module _ (p : Program) (S : Type 0) (after : Event → List Cell → S → S) (n : ℕ) where
   -- a statement, after its step and its event
   pub stepped : (w : Option IntType) (spot : Spot) (f : t.Form) (s u v x : State S) (r : Result Flow Halt)
@@ -79,14 +88,8 @@ module _ (p : Program) (S : Type 0) (after : Event → List Cell → S → S) (n
     pub sequence_on : behind → left_to_do → Gives flow_of (Ok Next) u (executed p S after n w (stmt_view x) s) → Behind (sequenced p S after n w (stmts_view (drop (suc i) body)) u) whole
     sequence_on d l g = left_behind flow_of Next u (executed p S after n w (stmt_view x) s) behind_it whole g (next_part d l)
 
-    left_by : (f : Flow) → (f ≡ Next → ⊥) → (behind_it (flow_of f) u).result ≡ Go (flow_of f) u
-    left_by Next k = absurd (k refl)
-    left_by Broken k = refl
-    left_by Again k = refl
-    left_by (Gave v) k = refl
-
     pub sequence_left : (f : Flow) → behind → left_to_do → Gives flow_of (Ok f) u (executed p S after n w (stmt_view x) s) → (f ≡ Next → ⊥) → Gives flow_of (Ok f) u whole
-    sequence_left f d l g k = sym (left_behind flow_of f u (executed p S after n w (stmt_view x) s) behind_it whole g (next_part d l)).result ∙ left_by f k
+    sequence_left f d l g k = sym (left_behind flow_of f u (executed p S after n w (stmt_view x) s) behind_it whole g (next_part d l)).result ∙ left_by p S after (sequenced p S after n w (stmts_view (drop (suc i) body))) f u k
 
   -- a test, and the statement that it chooses
   outcome : Bool → State S → Res End (State S) Bool
@@ -98,7 +101,7 @@ module _ (p : Program) (S : Type 0) (after : Event → List Cell → S → S) (n
 
   -- what was told, in this state
   abbrev told_in : Spot → ℤ → State S → State S
-  told_in spot v s = record s { seen = after (Branch spot (not (is_zero v))) s.cells s.seen }
+  told_in spot v s = record s { seen = after (Branch spot (Truth (not (is_zero v)))) s.cells s.seen }
 
   abbrev chooses : Spot → (State S → Ran S acts.Flow) → (State S → Ran S acts.Flow) → ℤ → State S → Ran S acts.Flow
   chooses spot a b v = wy.branched p S (seen_by after) spot (not (is_zero v)) a b
@@ -109,7 +112,7 @@ module _ (p : Program) (S : Type 0) (after : Event → List Cell → S → S) (n
   unfolding outcome
   goes_by spot (Go m s) way a b c u q v e g =
       passed same flow_of m s v (record { result = Go m s; way = way }) (chooses spot a b) q refl
-      (passed same flow_of tt (told_in spot m s) v (telling p S after (Branch spot (not (is_zero m))) s) (λ _. wy.either p S (seen_by after) (not (is_zero m)) a b) q refl
+      (passed same flow_of tt (told_in spot m s) v (telling p S after (Branch spot (Truth (not (is_zero m)))) s) (λ _. wy.either p S (seen_by after) (not (is_zero m)) a b) q refl
       (subst (Gives flow_of q v) (sym (taken (not (is_zero m)) c (told_in spot m s) u (λ x y. cond x a b y) e)) g))
   goes_by spot (Stop d s) way a b c u q v h g = absurd (cc)
 

@@ -47,15 +47,6 @@ module _ (p : Program) (S : Type 0) (after : Event → List Cell → S → S) (n
         passed same same x t u (evaluated p S after n at Used a s) second (Err h) first
         (halted same same h u (evaluated p S after n at Used b t) (operate p (watched p S after) at spot op (type_of a) x (type_of b)) g)
 
-  pub element_goes : (at : Where) (spot : Spot) (o : ℕ) (i : Exp) (j : ℤ) (s t u : State S) (r : Result Element Halt) → Gives same (Ok j) t (evaluated p S after n at Used i s)
-      → Gives key_of r u (keyed p S after spot o (run.index_below (size_of_object p o) j) t) → Gives key_of r u (placed p S after n at spot (Index o i) s)
-  element_goes at spot o i j s t u r e g = passed same key_of j t u (evaluated p S after n at Used i s) _ r e g
-
-  pub index_halts : (at : Where) (spot : Spot) (o : ℕ) (i : Exp) (j : ℤ) (s t u : State S) (h : Halt) → Gives same (Ok j) t (evaluated p S after n at Used i s)
-      → Gives key_of (Err h) u (keyed p S after spot o (run.index_below (size_of_object p o) j) t) → Gives same (Err h) u (noded p S after n at Used spot None (Index o i) s)
-  index_halts at spot o i j s t u h e g =
-      passed same same j t u (evaluated p S after n at Used i s) _ (Err h) e (halted key_of same h u (keyed p S after spot o (run.index_below (size_of_object p o) j) t) (watched p S after).look g)
-
   pub unary_goes : (at : Where) (spot : Spot) (op : UnOp) (a : Exp) (x : ℤ) (s t u : State S) (r : Result ℤ Halt) → Gives same (Ok x) t (evaluated p S after n at Used a s)
       → Gives same r u (answering p S after at spot (computed_one p.model op (type_of a) x) t) → Gives same r u (noded p S after n at Used spot None (Unary op a) s)
   unary_goes at spot op a x s t u r e g = passed same same x t u (evaluated p S after n at Used a s) _ r e g

@@ -1,12 +1,14 @@
 // Declared names and their initializers.
-ghost use Rattle.std.specs.Prelude.{◌≤◌};
-ghost use Rattle.c_core.specs.View.{program_view, expr_view, exprs_view, names_view, first_view, init_view};
-ghost use Rattle.run_state.specs.Interpreting.{Gives, same, state_of, flow_of, declaring, introduced, initialised, initialised_one, initialised_by, begun};
+ghost use Rattle.std.specs.Prelude.{◌≡◌, ◌≤◌, ◌+◌, ◌^◌, MatchOption};
+ghost use Rattle.c_core.specs.View.{program_view, expr_view, exprs_view, rows_view, names_view, first_view, init_view};
+ghost use Rattle.run_state.specs.Interpreting.{Gives, same, state_of, flow_of, declaring, introduced, initialised, initialised_one, initialised_by, initialised_rows, begun};
 
 use crate::full_expressions::{full, only};
-use c_core::{Declared, Expr, First, Init, Program, Spot};
+use c_core::{Declared, Expr, First, Init, Program, Row, Spot};
 use c_meaning::{Watcher, size_of_object, type_of_object};
-use run_state::{Element, Flow, Halt, Machine, add_cells, draw_cells, room, store, ticks};
+use run_state::{
+    Element, Flow, Halt, Machine, add_cells, columns_of_object, draw_cells, room, store, ticks,
+};
 
 // One value of an initializer.
 #[cycle(run)]
@@ -30,7 +32,17 @@ fn initial_value<W: Watcher>(
     Ok(())
 }
 
-// The values of an initializer, one after another.
+// The number of a cell, where 32 bits hold it.
+fn cell_number(first: u128, index: usize) -> Option<u32>
+    ensures { MatchOption result (2 ^ 32 ≤ first + index) (λ number. number ≡ first + index) }
+{
+    match first.checked_add(index as u128) {
+        Some(number) if number <= u32::MAX as u128 => Some(number as u32),
+        _ => None,
+    }
+}
+
+// The values of an initializer, one after another, from a cell on.
 #[cycle(run)]
 fn initial_values<W: Watcher>(
     program: &Program,
@@ -39,27 +51,42 @@ fn initial_values<W: Watcher>(
     depth: u64,
     at: Spot,
     object: u32,
+    first: u128,
     es: &[Expr],
 ) -> Result<(), Halt>
     requires bound { machine.old.steps ≤ depth }
-    ensures gives { Gives same result (state_of machine.new (W.seen watcher.new)) (initialised_by (program_view program.now) W.Seen W.after depth at object 0 (exprs_view es.now) (state_of machine.old (W.seen watcher.old))) }
+    ensures gives { Gives same result (state_of machine.new (W.seen watcher.new)) (initialised_by (program_view program.now) W.Seen W.after depth at object first (exprs_view es.now) (state_of machine.old (W.seen watcher.old))) }
     ensures spends { machine.new.steps ≤ machine.old.steps }
 {
     for (index, e) in es.iter().enumerate() {
-        // cells are numbered by 32 bits
-        if index > u32::MAX as usize {
+        let Some(cell) = cell_number(first, index) else {
             return Err(Halt::NoMemory);
-        }
-        initial_value(
-            program,
-            machine,
-            watcher,
-            depth,
-            at,
-            object,
-            index as u32,
-            e,
-        )?;
+        };
+        initial_value(program, machine, watcher, depth, at, object, cell, e)?;
+    }
+    Ok(())
+}
+
+// Rows of values, each from its own first cell on.
+#[cycle(run)]
+fn initial_rows<W: Watcher>(
+    program: &Program,
+    machine: &mut Machine,
+    watcher: &mut W,
+    depth: u64,
+    at: Spot,
+    object: u32,
+    rows: &[Row],
+) -> Result<(), Halt>
+    requires bound { machine.old.steps ≤ depth }
+    ensures gives { Gives same result (state_of machine.new (W.seen watcher.new)) (initialised_rows (program_view program.now) W.Seen W.after depth at object 0 (rows_view rows.now) (state_of machine.old (W.seen watcher.old))) }
+    ensures spends { machine.new.steps ≤ machine.old.steps }
+{
+    let columns = columns_of_object(program, object);
+    for (index, row) in rows.iter().enumerate() {
+        let first = index as u128 * columns as u128;
+        let values = row.values.as_slice();
+        initial_values(program, machine, watcher, depth, at, object, first, values)?;
     }
     Ok(())
 }
@@ -90,7 +117,17 @@ fn initial<W: Watcher>(
             depth,
             at,
             object,
+            0,
             es.as_slice(),
+        ),
+        Init::Rows(rows) => initial_rows(
+            program,
+            machine,
+            watcher,
+            depth,
+            at,
+            object,
+            rows.as_slice(),
         ),
     }
 }

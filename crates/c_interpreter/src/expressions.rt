@@ -4,14 +4,14 @@ ghost use Rattle.std.specs.Option.{option_copied};
 ghost use Rattle.c_core.specs.Tree as t;
 ghost use Rattle.c_core.specs.View.{program_view, expr_view, exprs_view, node_view};
 ghost use Rattle.c_meaning.specs.Meaning.{Used};
-ghost use Rattle.run_state.specs.Interpreting.{Gives, same, state_of, where_of, use_of, key_of, evaluated, noded, targeted, placed, truthed, convertible, listed, callee_gives, pairs_of, site_of};
+ghost use Rattle.run_state.specs.Interpreting.{Gives, same, state_of, where_of, use_of, key_of, evaluated, evaluated_all, noded, targeted, placed, truthed, convertible, listed, callee_gives, pairs_of, site_of};
 
 use crate::calls::call_number;
 use c_core::{BinOp, Callee, Expr, IntType, Node, Program, Spot, StepOp, UnOp, convert};
-use c_meaning::{End, Event, Watcher, holds, truth, type_of};
+use c_meaning::{End, Event, Watcher, Way, holds, truth, type_of};
 use run_state::{
-    Around, CallSite, Element, Halt, Machine, Typed, bump, change, convert_to, element, input,
-    is_needed, look, operate, operate_one, reach, store, tell, tick,
+    Around, CallSite, Element, Halt, Machine, Typed, bump, change, convert_to, element,
+    element_in_row, input, is_needed, look, operate, operate_one, reach, store, tell, tick,
 };
 use wv_base::Seq;
 
@@ -60,7 +60,14 @@ fn node<W: Watcher>(
             program, machine, watcher, depth, at, e.spot, *op, left, right,
         ),
         Node::Index { object, at: place } => index(
-            program, machine, watcher, depth, at, e.spot, *object, place,
+            program,
+            machine,
+            watcher,
+            depth,
+            at,
+            e.spot,
+            *object,
+            place.as_slice(),
         ),
         Node::Unary { op, of } => unary(program, machine, watcher, depth, at, e.spot, *op, of),
         Node::Cast(of) => cast(program, machine, watcher, depth, at, e.ty, of),
@@ -172,7 +179,14 @@ fn place<W: Watcher>(
 {
     match &e.node {
         Node::Index { object, at: place } => element_at(
-            program, machine, watcher, depth, at, e.spot, *object, place,
+            program,
+            machine,
+            watcher,
+            depth,
+            at,
+            e.spot,
+            *object,
+            place.as_slice(),
         ),
         Node::Var(object) => Ok(Element {
             object: *object,
@@ -186,6 +200,7 @@ fn place<W: Watcher>(
     }
 }
 
+// The element at its indexes, which are evaluated from left to right before the first is tested.
 #[cycle(run)]
 fn element_at<W: Watcher>(
     program: &Program,
@@ -195,14 +210,48 @@ fn element_at<W: Watcher>(
     at: Around,
     spot: Spot,
     object: u32,
-    place: &Expr,
+    indexes: &[Expr],
 ) -> Result<Element, Halt>
     requires bound { machine.old.steps ≤ depth }
-    ensures gives { Gives key_of result (state_of machine.new (W.seen watcher.new)) (placed (program_view program.now) W.Seen W.after depth (where_of at) spot (t.Index object (expr_view place.now)) (state_of machine.old (W.seen watcher.old))) }
+    ensures gives { Gives key_of result (state_of machine.new (W.seen watcher.new)) (placed (program_view program.now) W.Seen W.after depth (where_of at) spot (t.Index object (exprs_view indexes.now)) (state_of machine.old (W.seen watcher.old))) }
     ensures spends { machine.new.steps ≤ machine.old.steps }
 {
-    let j = eval(program, machine, watcher, depth, at, true, place)?;
-    element::<W>(program, spot, object, j)
+    match indexes {
+        [index] => {
+            let j = eval(program, machine, watcher, depth, at, true, index)?;
+            element::<W>(program, spot, object, j)
+        }
+        [row, column] => {
+            let i = eval(program, machine, watcher, depth, at, true, row)?;
+            let j = eval(program, machine, watcher, depth, at, true, column)?;
+            element_in_row::<W>(program, spot, object, i, j)
+        }
+        // no element of a checked program
+        [] => Err(Halt::Ends(End::Undefined(spot))),
+        _ => {
+            evaluate_all(program, machine, watcher, depth, at, indexes)?;
+            Err(Halt::Ends(End::Undefined(spot)))
+        }
+    }
+}
+
+#[cycle(run)]
+fn evaluate_all<W: Watcher>(
+    program: &Program,
+    machine: &mut Machine,
+    watcher: &mut W,
+    depth: u64,
+    at: Around,
+    es: &[Expr],
+) -> Result<(), Halt>
+    requires bound { machine.old.steps ≤ depth }
+    ensures gives { Gives same result (state_of machine.new (W.seen watcher.new)) (evaluated_all (program_view program.now) W.Seen W.after depth (where_of at) (exprs_view es.now) (state_of machine.old (W.seen watcher.old))) }
+    ensures spends { machine.new.steps ≤ machine.old.steps }
+{
+    for e in es {
+        eval(program, machine, watcher, depth, at, true, e)?;
+    }
+    Ok(())
 }
 
 #[cycle(run)]
@@ -214,14 +263,13 @@ fn index<W: Watcher>(
     at: Around,
     spot: Spot,
     object: u32,
-    place: &Expr,
+    indexes: &[Expr],
 ) -> Result<i128, Halt>
     requires bound { machine.old.steps ≤ depth }
-    ensures gives { Gives same result (state_of machine.new (W.seen watcher.new)) (noded (program_view program.now) W.Seen W.after depth (where_of at) Used spot None (t.Index object (expr_view place.now)) (state_of machine.old (W.seen watcher.old))) }
+    ensures gives { Gives same result (state_of machine.new (W.seen watcher.new)) (noded (program_view program.now) W.Seen W.after depth (where_of at) Used spot None (t.Index object (exprs_view indexes.now)) (state_of machine.old (W.seen watcher.old))) }
     ensures spends { machine.new.steps ≤ machine.old.steps }
 {
-    let j = eval(program, machine, watcher, depth, at, true, place)?;
-    let found = element::<W>(program, spot, object, j)?;
+    let found = element_at(program, machine, watcher, depth, at, spot, object, indexes)?;
     Ok(look(machine, found))
 }
 
@@ -468,7 +516,7 @@ fn choose<W: Watcher>(
 {
     let value = eval(program, machine, watcher, depth, at, true, test)?;
     let taken = holds(value);
-    tell(machine, watcher, Event::Branch(mark, taken))?;
+    tell(machine, watcher, Event::Branch(mark, Way::Truth(taken)))?;
     if taken {
         converted(program, machine, watcher, depth, at, ty, yes)
     } else {

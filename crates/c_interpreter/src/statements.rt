@@ -1,15 +1,15 @@
 // Statements: one function for each form.
 ghost use Rattle.std.specs.Prelude.{◌≤◌, ◌<◌, ◌≡◌, OnOk};
 ghost use Rattle.c_core.specs.Tree as t;
-ghost use Rattle.c_core.specs.View.{program_view, expr_view, expr_view_if, stmt_view, stmts_view, first_view, form_view};
+ghost use Rattle.c_core.specs.View.{program_view, expr_view, expr_view_if, stmt_view, stmts_view, switch_view, first_view, form_view};
 ghost use Rattle.c_meaning.specs.Acts as acts;
-ghost use Rattle.run_state.specs.Interpreting.{Gives, StepsIfNext, state_of, flow_of, else_part, executed, formed, sequenced, blocked, armed, otherwised, loop_in, bodied, for_rest, while_turned, do_turned, for_turned, turning, all_rounds, looped, for_parts as for_parts_of, for_looped};
+ghost use Rattle.run_state.specs.Interpreting.{Gives, StepsIfNext, state_of, flow_of, else_part, executed, formed, sequenced, blocked, arms_done, held_arms, armed, otherwised, loop_in, bodied, for_rest, while_turned, do_turned, for_turned, turning, all_rounds, looped, for_parts as for_parts_of, for_looped};
 
 use crate::declarations::{begin, declare};
-use crate::full_expressions::{decide, for_goes_on, give, only, step_on, test_turn};
-use c_core::{Expr, First, Form, IntType, Program, Spot, Stmt};
-use c_meaning::Watcher;
-use run_state::{Flow, Halt, Machine, arrive, tick};
+use crate::full_expressions::{decide, for_goes_on, full, give, only, step_on, test_turn};
+use c_core::{Arm, Expr, First, Form, IntType, Program, Spot, Stmt, convert, promote};
+use c_meaning::{Watcher, type_of};
+use run_state::{Flow, Halt, Machine, arrive, select, tick};
 
 #[cycle(run)]
 fn exec<W: Watcher>(
@@ -56,6 +56,16 @@ pub fn form<W: Watcher>(
         Form::Continue => Ok(Flow::Again),
         Form::Return(e) => give(program, machine, watcher, depth, wanted, at, e),
         Form::Label(s) => exec(program, machine, watcher, depth, wanted, s),
+        Form::Switch { test, arms } => switch(
+            program,
+            machine,
+            watcher,
+            depth,
+            wanted,
+            at,
+            test,
+            arms.as_slice(),
+        ),
         Form::While { .. } => loop_scope(program, machine, watcher, depth, wanted, at, f),
         Form::Do { .. } => loop_scope(program, machine, watcher, depth, wanted, at, f),
         Form::For { first, .. } => for_scope(
@@ -167,6 +177,129 @@ fn choose<W: Watcher>(
         arm(program, machine, watcher, depth, wanted, yes)
     } else {
         otherwise(program, machine, watcher, depth, wanted, no)
+    }
+}
+
+// A `switch`: its labels are looked at once, then the arms are done from the chosen one on.
+#[cycle(run)]
+fn switch<W: Watcher>(
+    program: &Program,
+    machine: &mut Machine,
+    watcher: &mut W,
+    depth: u64,
+    wanted: Option<IntType>,
+    at: Spot,
+    test: &Expr,
+    arms: &[Arm],
+) -> Result<Flow, Halt>
+    requires bound { machine.old.steps ≤ depth }
+    ensures gives { Gives flow_of result (state_of machine.new (W.seen watcher.new)) (formed (program_view program.now) W.Seen W.after depth wanted at (t.Switch (expr_view test.now) (switch_view arms.now)) (state_of machine.old (W.seen watcher.old))) }
+    ensures spends { machine.new.steps ≤ machine.old.steps }
+{
+    let value = full(program, machine, watcher, depth, at, true, test)?;
+    let ty = promote(program.model, type_of(test));
+    let promoted = convert(program.model, ty, value);
+    let first = select(program, machine, watcher, at, promoted, arms)?;
+    arms_from(program, machine, watcher, depth, wanted, first, arms)
+}
+
+// The arms of a `switch` from one by its number on, each running into the next.
+#[cycle(run)]
+fn arms_from<W: Watcher>(
+    program: &Program,
+    machine: &mut Machine,
+    watcher: &mut W,
+    depth: u64,
+    wanted: Option<IntType>,
+    first: usize,
+    arms: &[Arm],
+) -> Result<Flow, Halt>
+    requires bound { machine.old.steps ≤ depth }
+    ensures gives { Gives flow_of result (state_of machine.new (W.seen watcher.new)) (arms_done (program_view program.now) W.Seen W.after depth wanted first (switch_view arms.now) (state_of machine.old (W.seen watcher.old))) }
+    ensures spends { machine.new.steps ≤ machine.old.steps }
+{
+    if first < arms.len() {
+        hold_arms(program, machine, watcher, depth, wanted, &arms[first..])
+    } else {
+        Ok(Flow::Next)
+    }
+}
+
+// Statements of arms in turn, until one is left by a jump.
+#[cycle(run)]
+fn sequence_arms<W: Watcher>(
+    program: &Program,
+    machine: &mut Machine,
+    watcher: &mut W,
+    depth: u64,
+    wanted: Option<IntType>,
+    arms: &[Arm],
+) -> Result<Flow, Halt>
+    requires bound { machine.old.steps ≤ depth }
+    ensures gives { Gives flow_of result (state_of machine.new (W.seen watcher.new)) (sequenced (program_view program.now) W.Seen W.after depth wanted (switch_view arms.now) (state_of machine.old (W.seen watcher.old))) }
+    ensures spends { machine.new.steps ≤ machine.old.steps }
+{
+    for arm in arms {
+        match sequence(
+            program,
+            machine,
+            watcher,
+            depth,
+            wanted,
+            arm.body.as_slice(),
+        )? {
+            Flow::Next => {}
+            flow => return Ok(flow),
+        }
+    }
+    Ok(Flow::Next)
+}
+
+// What is declared in arms ends with the last of them.
+#[cycle(run)]
+fn scope_arms<W: Watcher>(
+    program: &Program,
+    machine: &mut Machine,
+    watcher: &mut W,
+    depth: u64,
+    wanted: Option<IntType>,
+    arms: &[Arm],
+) -> Result<Flow, Halt>
+    requires bound { machine.old.steps ≤ depth }
+    ensures gives { Gives flow_of result (state_of machine.new (W.seen watcher.new)) (blocked (program_view program.now) W.Seen W.after depth wanted (switch_view arms.now) (state_of machine.old (W.seen watcher.old))) }
+    ensures spends { machine.new.steps ≤ machine.old.steps }
+{
+    let cells = machine.memory.count();
+    let flow = sequence_arms(program, machine, watcher, depth, wanted, arms)?;
+    machine.memory.cut(cells);
+    Ok(flow)
+}
+
+// A `break` in arms is their end.
+#[cycle(run)]
+fn hold_arms<W: Watcher>(
+    program: &Program,
+    machine: &mut Machine,
+    watcher: &mut W,
+    depth: u64,
+    wanted: Option<IntType>,
+    arms: &[Arm],
+) -> Result<Flow, Halt>
+    requires bound { machine.old.steps ≤ depth }
+    ensures gives { Gives flow_of result (state_of machine.new (W.seen watcher.new)) (held_arms (program_view program.now) W.Seen W.after depth wanted (switch_view arms.now) (state_of machine.old (W.seen watcher.old))) }
+    ensures spends { machine.new.steps ≤ machine.old.steps }
+{
+    let flow = scope_arms(program, machine, watcher, depth, wanted, arms)?;
+    Ok(after_arms(flow))
+}
+
+// After arms that came to their end or were left by `break`, the run goes on after the `switch`.
+fn after_arms(flow: Flow) -> Flow
+    ensures { flow_of result ≡ acts.held (flow_of flow) }
+{
+    match flow {
+        Flow::Broken => Flow::Next,
+        other => other,
     }
 }
 

@@ -23,7 +23,7 @@ use Rattle.c_meaning.specs.declared.run.DutyKind.TheVariants.{Location, Entry, K
 use Rattle.c_meaning.specs.Cells.{Key, Cell, read, put}
 use Rattle.c_meaning.specs.Objects.{type_of_object}
 use Rattle.c_meaning.specs.Meaning.{Where, Site, Loop}
-use Rattle.c_meaning.specs.Acts.{Res, Go, Stop, Flow, Next, Broken, Again, Gave, bind, go_on, turned, continuing, given}
+use Rattle.c_meaning.specs.Acts.{Res, Go, Stop, Flow, Next, Broken, Again, Gave, bind, go_on, turned, continuing, held, given}
 use Rattle.c_meaning.specs.Acts as acts
 use Rattle.c_meaning.specs.Changed.{changed_by}
 use Rattle.c_meaning.specs.Duties.{Placed, duty}
@@ -277,6 +277,18 @@ module _ (p : Program) (I : List Placed) where
 
   pub lifts_continued : (ty : Option IntType) (K : Tries Flow) (k : Does Flow) → Lifts (SameFlow ty) K k → Lifts (SameFlow ty) (acts.continued Stopped Left cells_left with_cells_left K) (acts.continued End (State Seen) cells_of with_cells k)
   lifts_continued ty K k h = lifts_then (SameFlow ty) (SameFlow ty) _ _ _ _ (lifts_scoped (SameFlow ty) K k h) (λ f g q. lifts_ret (SameFlow ty) (continuing f) (continuing g) (continued_same ty f g q))
+
+  held_same : (ty : Option IntType) (f g : Flow) → SameFlow ty f g → SameFlow ty (held f) (held g)
+  held_same ty f g q = (ap held q.0, by g q.1)
+    where
+      by : (g : Flow) → IsFlow ty g → IsFlow ty (held g)
+      by Next i = tt
+      by Broken i = tt
+      by Again i = tt
+      by (Gave v) i = i
+
+  pub lifts_breaks : (ty : Option IntType) (K : Tries Flow) (k : Does Flow) → Lifts (SameFlow ty) K k → Lifts (SameFlow ty) (acts.breaks Stopped Left cells_left with_cells_left K) (acts.breaks End (State Seen) cells_of with_cells k)
+  lifts_breaks ty K k h = lifts_then (SameFlow ty) (SameFlow ty) _ _ _ _ (lifts_scoped (SameFlow ty) K k h) (λ f g q. lifts_ret (SameFlow ty) (held f) (held g) (held_same ty f g q))
 
   -- ---- invariants
 

@@ -1,31 +1,32 @@
 -- Every tree's real meaning follows its havoc meaning.
-use Rattle.std.proofs.Common.{◌≡◌, ℕ, ℤ, Bool, true, false, cond, not, IsTrue, List, Option, Some, None, refl, sym, ap, subst}
+use Rattle.std.proofs.Common.{◌≡◌, ℕ, ℤ, Bool, true, false, cond, not, IsTrue, List, [], ◌∷◌, Option, Some, None, refl, sym, ap, ap₂, subst}
 use Rattle.c_core.specs.Types.{fit, is_zero, number_of}
 use Rattle.c_core.specs.Operators.{apply_of, apply_one_of}
 use Rattle.c_core.specs.Tree.{Program}
 use Rattle.c_core.specs.Typing.{is_constant}
 use Rattle.c_core.specs.declared.number.IntType.{IntType}
-use Rattle.c_core.specs.declared.number.IntType.TheVariants.{Int}
 use Rattle.c_core.specs.declared.number.Spot.{Spot}
 use Rattle.c_core.specs.declared.number.BinOp.{BinOp}
 use Rattle.c_core.specs.declared.number.UnOp.{UnOp}
 use Rattle.c_core.proofs.Fits.{fit_in_range}
 use Rattle.c_meaning.specs.declared.run.End.{End}
 use Rattle.c_meaning.specs.declared.run.End.TheVariants.{Ended}
+use Rattle.c_meaning.specs.declared.run.Way.TheVariants.{Truth}
 use Rattle.c_meaning.specs.declared.run.Event.TheVariants.{Branch, Enter, Return}
 use Rattle.c_meaning.specs.Cells.{Cell}
-use Rattle.c_meaning.specs.Objects.{size_of_object}
+use Rattle.c_meaning.specs.Objects.{size_of_object, columns_of_object}
 use Rattle.c_meaning.specs.Meaning.{Where, Meaning}
 use Rattle.c_meaning.specs.Acts.{Res, Go, Stop, Flow, Next, Broken, Again, Gave, go_on}
 use Rattle.c_meaning.specs.Duties.{Placed}
-use Rattle.c_meaning.specs.Havoc as meaning
 use Rattle.c_meaning.specs.Havoc.{havoc}
-use Rattle.c_meaning.specs.Related.{given_by, given_by_one, Relation, Preserves}
-use Rattle.c_meaning.specs.Run.{State, index_below, real}
+use Rattle.c_meaning.specs.Related as related
+use Rattle.c_meaning.specs.Related.{Both, Typed, given_by, given_by_one, Relation, Preserves}
+use Rattle.c_meaning.specs.Run as run
+use Rattle.c_meaning.specs.Run.{State, cell_among, arm_for, way_for, real}
 use Rattle.c_meaning.proofs.Checked.{Agreeing}
 use Rattle.c_meaning.proofs.FittingCells.{retyped_value, constant_value, digit_value, answered_value, answered_one_value}
 use Rattle.c_frames.proofs.Heads.{Seen, keep, FramedTurn}
-use Rattle.c_lifting.proofs.Lifts.{Follows, Lifts, Same, OneOf, SameFlow, lifts_ret, lifts_stop, lifts_then, lifts_told, lifts_tell, lifts_tick, lifts_room, lifts_draw, lifts_look, lifts_write, lifts_declare, lifts_scoped, lifts_key, lifts_answered, lifts_reached, lifts_called, lifts_go_on, lifts_continued, lifts_here}
+use Rattle.c_lifting.proofs.Lifts.{Follows, Lifts, Same, OneOf, SameFlow, lifts_ret, lifts_stop, lifts_then, lifts_told, lifts_tell, lifts_tick, lifts_room, lifts_draw, lifts_look, lifts_write, lifts_declare, lifts_scoped, lifts_key, lifts_answered, lifts_reached, lifts_called, lifts_go_on, lifts_continued, lifts_breaks, lifts_here}
 
 module _ (p : Program) (I : List Placed) where
   abbrev pub H : Meaning
@@ -89,8 +90,18 @@ module _ (p : Program) (I : List Placed) where
         subst (λ z. Lifts p I (Of (Some (given_by_one op ty))) (H.answer_one at spot op ty z) (N.answer_one at spot op ty x')) (sym q.0)
         (lifts_answered p I at spot (given_by_one op ty) (apply_one_of p.model op ty x') (answered_one_value p.model op ty x' q.1))
 
-    element_lifts : (spot : Spot) (o : ℕ) (v w : ℤ) → v ≡ w → Lifts p I (OneOf p I o) (meaning.key_of p I o (index_below (size_of_object p o) v)) (N.element spot o (size_of_object p o) Int w)
-    element_lifts spot o v w e = subst (λ x. Lifts p I (OneOf p I o) (meaning.key_of p I o (index_below (size_of_object p o) x)) (N.element spot o (size_of_object p o) Int w)) (sym e) (lifts_key p I spot o (index_below (size_of_object p o) w))
+    -- equal values of equal types
+    same_list : (vs ws : List (ℤ × IntType)) → Both (Typed (Same p I)) vs ws → vs ≡ ws
+    same_list [] [] q = refl
+    same_list [] (w ∷ ws) q = absurd q
+    same_list (v ∷ vs) [] q = absurd q
+    same_list (v ∷ vs) (w ∷ ws) q = ap₂ (λ x xs. x ∷ xs) (ap₂ (λ x t. (x, t)) q.0.0.0 q.0.1) (same_list vs ws q.1)
+
+    element_lifts : (spot : Spot) (o : ℕ) (vs ws : List (ℤ × IntType)) → vs ≡ ws
+        → Lifts p I (OneOf p I o) (H.element spot o (size_of_object p o) (columns_of_object p o) vs) (N.element spot o (size_of_object p o) (columns_of_object p o) ws)
+    element_lifts spot o vs ws e =
+        subst (λ xs. Lifts p I (OneOf p I o) (H.element spot o (size_of_object p o) (columns_of_object p o) xs) (N.element spot o (size_of_object p o) (columns_of_object p o) ws)) (sym e)
+        (lifts_key p I spot o (cell_among (size_of_object p o) (columns_of_object p o) ws))
 
     pub lifting_keeps : Preserves p lifting
     lifting_keeps = record {
@@ -108,13 +119,13 @@ module _ (p : Program) (I : List Placed) where
       truth = λ t u q. (ap number_of q, digit_value p.model u);
       draw = λ L kind spot ty. lifts_draw p I kind spot ty;
       cell = λ o i q. (refl, refl);
-      element = λ L spot o ty v w q. element_lifts spot o v w q.0;
+      element = λ L spot o vs ws q. element_lifts spot o vs ws (same_list vs ws q);
       look = λ L o x y m q. lifts_look p I o x y q;
       write = λ L o x y v w m t q. lifts_write p I o x y v w t q;
       answer = λ L at spot op ty x x' right y y' q r. answered at spot op ty x x' right y y' q r;
       answer_one = λ L at spot op ty x x' q. answered_one at spot op ty x x' q;
       choose = λ ty L t u a a' b b' q g h. chosen (Of ty) t u a a' b b' q g h;
-      pick = λ ty L mark t u a a' b b' q g h. lifts_tell p I (Of ty) _ (Branch mark u) (λ s. cond u a' b' s) (chosen (Of ty) t u a a' b b' q g h);
+      pick = λ ty L mark t u a a' b b' q g h. lifts_tell p I (Of ty) _ (Branch mark (Truth u)) (λ s. cond u a' b' s) (chosen (Of ty) t u a a' b b' q g h);
       enter = λ L site. lifts_told p I (Enter site.close);
       came_back = λ L site ty v w q. lifts_told p I (Return site.close (Some w));
       reach = λ L at site. lifts_reached p I p.property at site;
@@ -124,7 +135,8 @@ module _ (p : Program) (I : List Placed) where
       here = λ L at. lifts_here p I at;
       declare = λ ty L o n q. lifts_declare p I ty o n;
       own = λ L o. tt;
-      branch = λ ty L M at t u a a' b b' q g h. lifts_tell p I (Flows ty) _ (Branch at u) (λ s. cond u a' b' s) (chosen (Flows ty) t u a a' b b' q g h);
+      branch = λ ty L M at t u a a' b b' q g h. lifts_tell p I (Flows ty) _ (Branch at (Truth u)) (λ s. cond u a' b' s) (chosen (Flows ty) t u a a' b b' q g h);
+      select = λ L at ty v w ls q. lifts_tell p I related.Same _ (Branch at (way_for w ls)) (run.ret p Seen keep (arm_for w ls)) (lifts_ret p I related.Same (arm_for v ls) (arm_for w ls) (ap (λ x. arm_for x ls) q.0));
       next = λ ty L. lifts_ret p I (Flows ty) Next Next (refl, tt);
       leave = λ ty L. lifts_ret p I (Flows ty) Broken Broken (refl, tt);
       again = λ ty L. lifts_ret p I (Flows ty) Again Again (refl, tt);
@@ -133,4 +145,5 @@ module _ (p : Program) (I : List Placed) where
       seq = λ ty L M M' a a' b b' g h. lifts_then p I (Flows ty) (Flows ty) a a' (go_on b) (go_on b') g (λ f f' q. lifts_go_on p I ty b b' h f f' q);
       scoped = λ ty L M a b h. lifts_scoped p I (Flows ty) a b h;
       continued = λ ty L M a b h. lifts_continued p I ty a b h;
+      breaks = λ ty L M a b h. lifts_breaks p I ty a b h;
     }

@@ -1,5 +1,5 @@
 -- What cells of checked programs hold is kept by what is done to them.
-use Rattle.std.proofs.Common.{◌≡◌, ◌<◌, ◌≤◌, ◌+◌, ◌-◌, ◌^◌, ℕ, zero, suc, ℤ, pos, Bool as Test, true, false, cond, ◌&&◌, ◌||◌, nat_eq, nat_le, IsTrue, List, [], ◌∷◌, ◌++◌, length, take, Option, Some, None, slice_get, refl, sym, ap, ◌∙◌, subst, arith}
+use Rattle.std.proofs.Common.{◌≡◌, ◌<◌, ◌≤◌, ◌+◌, ◌-◌, ◌^◌, ℕ, zero, suc, ℤ, pos, Bool as Test, true, false, cond, ◌&&◌, ◌||◌, nat_eq, IsTrue, List, [], ◌∷◌, ◌++◌, length, take, Option, Some, None, slice_get, refl, sym, ap, ◌∙◌, subst, arith}
 use Rattle.std.proofs.lemmas.Bool.{lt-ltb}
 use Rattle.std.proofs.lemmas.Bool.Decides.{nat_tests}
 use Rattle.std.proofs.lemmas.Nat.{pow_pos}
@@ -232,8 +232,8 @@ module _ (p : Program) where
   start_fits_all : (o : ℕ) (x : Start) (ob : Option Object) → IsTrue (start_fits p.model x ob) → slice_get p.objects o ≡ ob → IsTrue (list_all (in_range p.model (type_of_object p o)) x.values)
   start_fits_all o x None h e = neither h
   start_fits_all o x (Some ob) h e =
-      let a = both ob.fixed (nat_le (length x.values) ob.cells && list_all (in_range p.model ob.ty) x.values) h in
-      let b = both (nat_le (length x.values) ob.cells) (list_all (in_range p.model ob.ty) x.values) a.1 in
+      let a = both ob.fixed (nat_eq (length x.values) ob.cells && list_all (in_range p.model ob.ty) x.values) h in
+      let b = both (nat_eq (length x.values) ob.cells) (list_all (in_range p.model ob.ty) x.values) a.1 in
       subst (λ ty. IsTrue (list_all (in_range p.model ty) x.values)) (sym (ap type_in e)) b.1
 
   start_values_fit : (o : ℕ) (xs : List Start) → IsTrue (list_all (λ s. start_fits p.model s (slice_get p.objects s.object)) xs) → IsTrue (list_all (in_range p.model (type_of_object p o)) (start_values o xs))

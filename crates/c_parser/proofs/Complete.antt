@@ -13,8 +13,8 @@ use Rattle.c_parser.specs.Tree as node
 use Rattle.c_parser.specs.Heights.{height, height_in, heights}
 use Rattle.c_parser.specs.Signs.{◌>>=◌, sign_token, place, sign_at, is_sign, expr, assignment, conditional, cast, unary, postfix, Joint, Sequence, Both, Either, Plain, joined, joins, assigns, signs, steps_before, steps_behind, same_sign}
 use Rattle.c_parser.specs.Words.{TypeWord, type_of}
-use Rattle.c_parser.specs.Expressions.{NameWords, NoMoreWords, AConst, ATypeWord, Arguments, LastArgument, MoreArguments, Expression, Stronger, Joined, Assigned, Chosen, SteppedBefore, Signed, Converted, SteppedBehind, AName, AnElement, ABareCall, ACall, ANumber, ACharacter, AGroup, Within, has_room, Spells}
-use Rattle.c_parser.specs.ReadExpressions.{Read, grown, begins_type, name_words, is_cast, joint_at, listed, arguments, called, named, stepped, with_steps, grouped, converted, in_parens, prefixed, opened, operand, tail, choice, stored, assign_at, full, level, within, read}
+use Rattle.c_parser.specs.Expressions.{NameWords, NoMoreWords, AConst, ATypeWord, Bracketed, InBrackets, Dimensions, OneDimension, TwoDimensions, Arguments, LastArgument, MoreArguments, Expression, Stronger, Joined, Assigned, Chosen, SteppedBefore, Signed, Converted, SteppedBehind, AName, AnElement, ABareCall, ACall, ANumber, ACharacter, AGroup, Within, has_room, Spells}
+use Rattle.c_parser.specs.ReadExpressions.{Read, grown, begins_type, name_words, is_cast, joint_at, bracketed, dimensions, listed, arguments, called, named, stepped, with_steps, grouped, converted, in_parens, prefixed, opened, operand, tail, choice, stored, assign_at, full, level, within, read}
 use Rattle.c_parser.proofs.SignLaws.{grip, grip_of, join_facts, step_grip, assign_grip, step_before_facts, signed_facts, no_step, no_assign, no_joint, loose, grip_gap}
 use Rattle.c_parser.proofs.WordLaws.{no_part_of_name, type_part}
 
@@ -44,6 +44,32 @@ words_shorter ts words rest NoMoreWords = omega arith
 words_shorter ts words rest (AConst h) = let x = words_shorter _ _ _ h in omega arith
 words_shorter ts words rest (ATypeWord t h) = let x = words_shorter _ _ _ h in omega arith
 
+-- what stands in square brackets
+module _ (Inside : List Token → Exp → List Token → Type 0) (inside_shorter : (ts : List Token) (e : Exp) (rest : List Token) → Inside ts e rest → length rest < length ts) where
+  bracketed_shorter : (ts : List Token) (e : Exp) (rest : List Token) → Bracketed Inside ts e rest → length rest < length ts
+  bracketed_shorter ts e rest (InBrackets a) = let x = inside_shorter _ _ _ a in omega arith
+
+  pub dimensions_shorter : (ts : List Token) (es : List Exp) (rest : List Token) → Dimensions Inside ts es rest → length rest < length ts
+  dimensions_shorter ts es rest (OneDimension a) = bracketed_shorter _ _ _ a
+  dimensions_shorter ts es rest (TwoDimensions a b) = let x = bracketed_shorter _ _ _ a in let y = bracketed_shorter _ _ _ b in omega arith
+
+pub dimensions_begin : (Inside : List Token → Exp → List Token → Type 0) (ts : List Token) (es : List Exp) (rest : List Token) → Dimensions Inside ts es rest →
+    (is_sign sign.ParenOpen ts ≡ false) × (is_sign sign.BracketOpen ts ≡ true)
+dimensions_begin Inside ts es rest (OneDimension (InBrackets a)) = (refl, refl)
+dimensions_begin Inside ts es rest (TwoDimensions (InBrackets a) b) = (refl, refl)
+
+module _ (Inside : List Token → Exp → List Token → Type 0) (inside : List Token → Read Exp) (h : ℕ)
+    (inside_read : (ts : List Token) (e : Exp) (q : Spot) (rest : List Token) → Inside ts e (sign_token sign.BracketClose q ∷ rest) → height e ≤ h → inside ts ≡ Some (e, sign_token sign.BracketClose q ∷ rest)) where
+  bracketed_read : (ts : List Token) (e : Exp) (rest : List Token) → Bracketed Inside ts e rest → height e ≤ h → bracketed inside ts ≡ Some (e, rest)
+  bracketed_read ts e rest (InBrackets a) hi = rw (inside_read _ _ _ _ a hi) refl
+
+  bracket_first : (ts : List Token) (e : Exp) (rest : List Token) → Bracketed Inside ts e rest → is_sign sign.BracketOpen ts ≡ true
+  bracket_first ts e rest (InBrackets a) = refl
+
+  pub dimensions_read : (ts : List Token) (es : List Exp) (rest : List Token) → Dimensions Inside ts es rest → heights (exps es) ≤ h → is_sign sign.BracketOpen rest ≡ false → dimensions inside ts ≡ Some (es, rest)
+  dimensions_read ts es rest (OneDimension a) hi f = rw (bracketed_read _ _ _ a (omega arith), ◌>>=◌, f) refl
+  dimensions_read ts es rest (TwoDimensions a b) hi f = rw (bracketed_read _ _ _ a (omega arith), ◌>>=◌, bracket_first _ _ _ b, bracketed_read _ _ _ b (omega arith)) refl
+
 module _ (room : Bool) (Inner : ℕ → List Token → Exp → List Token → Type 0)
     (inner_front : (k : ℕ) (ts : List Token) (e : Exp) (rest : List Token) → Inner k ts e rest → Front ts rest) where
   arguments_front : (ts : List Token) (es : List Exp) (rest : List Token) → Arguments room Inner ts es rest → Front ts rest
@@ -62,7 +88,8 @@ module _ (room : Bool) (Inner : ℕ → List Token → Exp → List Token → Ty
   expression_front k ts e rest (Converted r n t a) = let f = expression_front _ _ _ _ a in let w = words_shorter _ _ _ n in let v = f.some in front _ _ refl refl (omega arith)
   expression_front k ts e rest (SteppedBehind x a) = let f = expression_front _ _ _ _ a in let v = f.some in front _ _ f.no_close f.no_type (omega arith)
   expression_front k ts e rest (AName {w = w} n) = front _ _ refl (no_part_of_name w n) (omega arith)
-  expression_front k ts e rest (AnElement {w = w} n a) = let f = inner_front _ _ _ _ a in let v = f.some in front _ _ refl (no_part_of_name w n) (omega arith)
+  expression_front k ts e rest (AnElement {w = w} n a) =
+      let v = dimensions_shorter (Inner expr) (λ us u last i. (inner_front expr us u last i).some) _ _ _ a in front _ _ refl (no_part_of_name w n) (omega arith)
   expression_front k ts e rest (ABareCall {w = w} n r) = front _ _ refl (no_part_of_name w n) (omega arith)
   expression_front k ts e rest (ACall {w = w} n a) = let f = arguments_front _ _ _ a in let v = f.some in front _ _ refl (no_part_of_name w n) (omega arith)
   expression_front k ts e rest ANumber = front _ _ refl refl (omega arith)
@@ -128,13 +155,20 @@ module _ (room : Bool) (Inner : ℕ → List Token → Exp → List Token → Ty
   name_read : (p : Spot) (w : List ℕ) (rest : List Token) → grip rest < 18 → named room paren below h p w rest ≡ Some (Expr p (node.Var w p), rest)
   name_read p w rest g = rw (named, loose sign.ParenOpen rest 18 g (omega arith), loose sign.BracketOpen rest 18 g (omega arith)) refl
 
+  element_read : (p : Spot) (w : List ℕ) (ts : List Token) (es : List Exp) (rest : List Token) → is_sign sign.ParenOpen ts ≡ false → is_sign sign.BracketOpen ts ≡ true → dimensions (paren h expr) ts ≡ Some (es, rest) →
+      named room paren below h p w ts ≡ Some (Expr p (node.Index w p (exps es)), rest)
+  element_read p w ts es rest a b e = rw (named, a, b, e) refl
+
   -- a primary expression, and what still has to be read behind it
   primary_complete : (j k : ℕ) (ts : List Token) (e : Exp) (rest : List Token) → 17 ≤ k → Expression room Inner k ts e rest → height e ≤ suc h → grip rest < 18 →
       operand room paren below h j ts ≡ stepped room paren below h h (place ts) e rest
   primary_complete j k ts e rest lo (Stronger a) hi g = primary_complete j (suc k) ts e rest (omega arith) a hi g
   primary_complete j k ts e rest lo (Joined {s = s} x a b) hi g = let f = (join_facts s _ x).greatest in absurd (omega (arith, f))
   primary_complete j k ts e rest lo (AName {w = w} {p = p} n) hi g = rw (n, name_read p w rest g) refl
-  primary_complete j k ts e rest lo (AnElement n a) hi g = rw (n, paren_complete h 1 _ _ _ (omega arith) (omega arith) a (omega arith) (omega arith)) refl
+  primary_complete j k ts e rest lo (AnElement {ts = m} {w = w} {es = es} {p = p} n a) hi g =
+      let f = dimensions_begin (Inner expr) m es rest a in
+      let d = dimensions_read (Inner expr) (paren h expr) h (λ us u q last i low. paren_complete h 1 us u _ (omega arith) (omega arith) i low (omega arith)) m es rest a (omega arith) (loose sign.BracketOpen rest 18 g (omega arith)) in
+      rw (n, element_read p w m es rest f.0 f.1 d) refl
   primary_complete j k ts e rest lo (ABareCall n r) hi g = rw (n, r) refl
   primary_complete j k ts e rest lo (ACall {ts = m} {w = w} {es = es} {p = p} {q = q} {r = r} n a) hi g =
       rw (n, called_read p w m es r rest (arguments_read m es r rest a (omega arith))) refl

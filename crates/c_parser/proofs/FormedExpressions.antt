@@ -9,8 +9,8 @@ use Rattle.c_tokens.specs.declared.token.Punct.{Punct}
 use Rattle.c_parser.specs.Tree.{Exp, Expr, Node, exps, moved}
 use Rattle.c_parser.specs.Tree as node
 use Rattle.c_parser.specs.Formed.{every_node, every_part, every_argument}
-use Rattle.c_parser.specs.Signs.{token, Joint, Sequence, Both, Either, Plain, joined, assigns}
-use Rattle.c_parser.specs.Expressions.{Arguments, LastArgument, MoreArguments, Expression, Stronger, Joined, Assigned, Chosen, SteppedBefore, Signed, Converted, SteppedBehind, AName, AnElement, ABareCall, ACall, ANumber, ACharacter, AGroup, Within, has_room, Spells}
+use Rattle.c_parser.specs.Signs.{expr, token, Joint, Sequence, Both, Either, Plain, joined, assigns}
+use Rattle.c_parser.specs.Expressions.{Bracketed, InBrackets, Dimensions, OneDimension, TwoDimensions, Arguments, LastArgument, MoreArguments, Expression, Stronger, Joined, Assigned, Chosen, SteppedBefore, Signed, Converted, SteppedBehind, AName, AnElement, ABareCall, ACall, ANumber, ACharacter, AGroup, Within, has_room, Spells}
 use Rattle.c_parser.proofs.OrderedExpressions.{names_passed}
 use Rattle.c_parser.proofs.Passing.{Passing, and_true, nothing_passed, past, both, up_to, from, alone, along_passing}
 
@@ -47,6 +47,15 @@ module _ (q : Node → Bool) (passes : (n : Node) → IsSpelled n → q n ≡ tr
   of_moved : {ts rest : List Token} (p : Spot) (e : Exp) → Passing (every_node q e) ts rest → Passing (every_node q (moved p e)) ts rest
   of_moved p (Expr r n) x = x
 
+  -- what stands in square brackets
+  module _ (Inside : List Token → Exp → List Token → Type 0) (inside : (ts : List Token) (e : Exp) (rest : List Token) → Inside ts e rest → Passing (every_node q e) ts rest) where
+    bracketed_pass : (ts : List Token) (e : Exp) (rest : List Token) → Bracketed Inside ts e rest → Passing (every_node q e) ts rest
+    bracketed_pass ts e rest (InBrackets d) = past (up_to (inside _ _ _ d) (past nothing_passed))
+
+    pub dimensions_pass : (ts : List Token) (es : List Exp) (rest : List Token) → Dimensions Inside ts es rest → Passing (every_argument q (exps es)) ts rest
+    dimensions_pass ts es rest (OneDimension d) = alone (bracketed_pass _ _ _ d)
+    dimensions_pass ts es rest (TwoDimensions d u) = both (bracketed_pass _ _ _ d) (alone (bracketed_pass _ _ _ u))
+
   module _ (room : Bool) (Inner : ℕ → List Token → Exp → List Token → Type 0)
       (inner : (k : ℕ) (ts : List Token) (e : Exp) (rest : List Token) → Inner k ts e rest → Passing (every_node q e) ts rest) where
     arguments_pass : (ts : List Token) (es : List Exp) (rest : List Token) → Arguments room Inner ts es rest → Passing (every_argument q (exps es)) ts rest
@@ -64,7 +73,7 @@ module _ (q : Node → Bool) (passes : (n : Node) → IsSpelled n → q n ≡ tr
     expression_pass k ts e rest (Converted {to = to} {e = a} r w t x) = of_node (node.Cast to a) tt (past (from (along_passing (names_passed _ _ _ w)) (past (expression_pass _ _ _ _ x))))
     expression_pass k ts e rest (SteppedBehind {e = a} {op = op} s x) = of_node (node.Step op a) tt (up_to (expression_pass _ _ _ _ x) (past nothing_passed))
     expression_pass k ts e rest (AName {w = w} {p} n) = of_node (node.Var w p) tt (past nothing_passed)
-    expression_pass k ts e rest (AnElement {w = w} {e = a} {p} n x) = of_node (node.Index w p a) tt (past (past (up_to (inner _ _ _ _ x) (past nothing_passed))))
+    expression_pass k ts e rest (AnElement {w = w} {es} {p} n x) = of_node (node.Index w p (exps es)) tt (past (dimensions_pass (Inner expr) (inner expr) _ _ _ x))
     expression_pass k ts e rest (ABareCall {w = w} {p} {r = z} n f) = of_node (node.Call w p (exps []) z) tt (past (past (past nothing_passed)))
     expression_pass k ts e rest (ACall {w = w} {es} {p} {r = z} n x) = of_node (node.Call w p (exps es) z) tt (past (past (up_to (arguments_pass _ _ _ x) (past nothing_passed))))
     expression_pass k ts e rest (ANumber {v = v} {decimal} {unsigned} {longs} {p}) = of_number v decimal unsigned longs p _

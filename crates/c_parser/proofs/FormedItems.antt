@@ -9,7 +9,7 @@ use Rattle.c_tokens.specs.declared.token.Punct.{Punct}
 use Rattle.c_tokens.specs.declared.token.Punct.TheVariants as sign
 use Rattle.c_parser.specs.Tree.{Node, Item}
 use Rattle.c_parser.specs.Tree as item
-use Rattle.c_parser.specs.Formed.{every_in_item, has_block, item_nests, constant_fits, assignment_fits, IsFormed, AreOrderly, constants_fit}
+use Rattle.c_parser.specs.Formed.{every_in_item, every_declared_item, sizes_fit, has_block, item_nests, constant_fits, assignment_fits, IsFormed, AreOrderly, constants_fit}
 use Rattle.c_parser.specs.Signs.{assigns}
 use Rattle.c_parser.specs.Items.{Reach, AReach, Function, AFunction, Prototype, APrototype, Global, AGlobal, Closed, AClosed, Nothing, ASemicolon, reach_error}
 use Rattle.c_parser.specs.Sources.{Takes, TakesReach, TakesFunction, TakesPrototype, TakesGlobal, TakesClosed, TakesNothing, with_item, Items, NoMoreItems, MoreItems, IsSource, max_height, max_brackets}
@@ -20,6 +20,7 @@ use Rattle.c_parser.proofs.OrderedItems.{parameters_within_along, takes_along, s
 use Rattle.c_parser.proofs.FormedExpressions.{IsSpelled}
 use Rattle.c_parser.proofs.FormedStatements.{declares_pass, braced_pass}
 use Rattle.c_parser.proofs.NestedStatements.{braced_nests}
+use Rattle.c_parser.proofs.SizedStatements.{declares_sized, braced_sized}
 
 -- a test of an item, where a form gives a tree
 abbrev if_item : (Item → Bool) → Option Item → Bool
@@ -60,6 +61,18 @@ module _ (h b : ℕ) where
   items_nest : (ts : List Token) (xs : List Item) → Items h b ts xs → list_all item_nests xs ≡ true
   items_nest ts xs NoMoreItems = refl
   items_nest ts xs (MoreItems {x = x} {xs = others} d ds) = and_others item_nests x others (takes_nests _ _ _ d) (items_nest _ _ ds)
+
+  takes_sized : (ts : List Token) (x : Option Item) (rest : List Token) → Takes h b ts x rest → if_item (every_declared_item sizes_fit) x ≡ true
+  takes_sized ts x rest (TakesReach (AReach r z t p a q)) = refl
+  takes_sized ts x rest (TakesFunction n (AFunction ss r z t w xs a s low)) = braced_sized b _ _ _ s
+  takes_sized ts x rest (TakesPrototype n m (APrototype {result = result} {w} {p} tys r t d a e)) = unless_passes (every_declared_item sizes_fit) (is_spelled reach_error w) (item.Prototype p w result tys) refl
+  takes_sized ts x rest (TakesGlobal n m o (AGlobal d low)) = declares_sized b _ _ _ _ d
+  takes_sized ts x rest (TakesClosed n m o p (AClosed us q d s t k e)) = refl
+  takes_sized ts x rest (TakesNothing n m o p r ASemicolon) = refl
+
+  items_sized : (ts : List Token) (xs : List Item) → Items h b ts xs → list_all (every_declared_item sizes_fit) xs ≡ true
+  items_sized ts xs NoMoreItems = refl
+  items_sized ts xs (MoreItems {x = x} {xs = others} d ds) = and_others (every_declared_item sizes_fit) x others (takes_sized _ _ _ d) (items_sized _ _ ds)
 
 -- ---- nodes
 
@@ -151,6 +164,7 @@ pub source_formed : (ts : List Token) (xs : List Item) → AreOrderly ts → IsS
 source_formed ts xs o d = record {
   bodies = items_blocks max_height max_brackets ts xs d;
   nested = items_nest max_height max_brackets ts xs d;
+  sizes = items_sized max_height max_brackets ts xs d;
   constants = items_pass constant_fits constant_passes max_height max_brackets ts xs d o.constants;
   assignments = items_pass assignment_fits assignment_passes max_height max_brackets ts xs d o.constants;
   in_order = source_rises ts xs d o.rise;

@@ -7,8 +7,8 @@ use Rattle.c_core.specs.declared.number.Spot.{Spot}
 use Rattle.c_tokens.specs.declared.token.Token.{Token}
 use Rattle.c_tokens.specs.declared.token.Punct.{Punct}
 use Rattle.c_tokens.specs.declared.token.Punct.TheVariants as sign
-use Rattle.c_parser.specs.Tree.{Declared, Stm, Stmt, Block, stms, Param, Item}
-use Rattle.c_parser.specs.Heights.{height_of_block, height_of_declared, height_if, height_of_init}
+use Rattle.c_parser.specs.Tree.{exps, Declared, Stm, Stmt, Block, stms, Param, Item}
+use Rattle.c_parser.specs.Heights.{height_of_block, height_of_declared, heights, height_of_init}
 use Rattle.c_parser.specs.Signs.{sign_token, word_token, is_sign, is_word}
 use Rattle.c_parser.specs.Brackets.{PassedWithin}
 use Rattle.c_parser.specs.ReadExpressions.{Read}
@@ -124,7 +124,7 @@ low_height h (d ∷ ds) l = let x = l.0 in let y = l.1.0 in let z = low_height h
 
 low_true : (h : ℕ) (ds : List Declared) → AreLow h ds → is_low h ds ≡ true
 low_true h [] l = refl
-low_true h (d ∷ ds) l = and_from _ _ (le-leb (height_if d.size) h l.0) (and_from _ _ (le-leb (height_of_init d.init) h l.1.0) (low_true h ds l.1.1))
+low_true h (d ∷ ds) l = and_from _ _ (le-leb (heights (exps d.sizes)) h l.0) (and_from _ _ (le-leb (height_of_init d.init) h l.1.0) (low_true h ds l.1.1))
 
 module _ (h b : ℕ) where
   pub reach_read : (ts : List Token) (x : Option Item) (rest : List Token) → Reach h b ts x rest → read_reach h b ts ≡ Some (x, rest)

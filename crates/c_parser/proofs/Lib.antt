@@ -13,6 +13,7 @@ mod ReadLaws
 mod SoundOperands
 mod SoundExpressions
 mod WitnessLaws
+mod SizedStatements
 mod SoundBrackets
 mod SoundDeclarations
 mod SoundStatements

@@ -4,11 +4,11 @@ use Rattle.c_tokens.specs.declared.token.Token.{Token}
 use Rattle.c_tokens.specs.declared.token.Punct.TheVariants as sign
 use Rattle.c_core.specs.declared.number.IntType.{IntType}
 use Rattle.std.proofs.lemmas.Bool.{cond-true, cond-false}
-use Rattle.c_parser.specs.Tree.{Param, Exp, Declared, Stm}
-use Rattle.c_parser.specs.Signs.{◌>>=◌, is_sign, assignment}
+use Rattle.c_parser.specs.Tree.{Param, Exp, Exps, Declared}
+use Rattle.c_parser.specs.Signs.{◌>>=◌, is_sign}
 use Rattle.c_parser.specs.ReadExpressions.{Read, closing}
-use Rattle.c_parser.specs.Declarations.{read_values, read_declarator, read_declarators}
-use Rattle.c_parser.specs.ReadStatements.{elements}
+use Rattle.c_parser.specs.Declarations.{up_to_brace, read_declarator, read_declarators}
+use Rattle.c_parser.specs.ReadStatements.{until}
 use Rattle.c_parser.specs.View.{expr_view, exprs_view}
 use Rattle.c_parser.specs.declared.tree.RawExpr.{RawExpr}
 use Rattle.c_parser.specs.ReadItems.{read_parameter, read_parameter_list, read_parameter_type, read_type_list}
@@ -69,56 +69,61 @@ module _ (b n m : ℕ) (ts : List Token) (e : n ≡ suc m) where
   pub types_none : (xs : List IntType) → read_parameter_type b ts ≡ None → following xs (read_type_list b n ts) ≡ None
   types_none xs none = rw (e, none) refl
 
--- the values of a list, the declarators of a declaration
-module _ (b : ℕ) (whole inner : ℕ → List Token → Read Exp) (n m : ℕ) (ts : List Token) (e : n ≡ suc m) where
-  values_turn : (x : Exp) (end : List Token) → inner assignment ts ≡ Some (x, end) → read_values b whole inner n ts ≡
+-- values or rows up to a brace
+module _ (X : Type 0) (one : List Token → Read X) (n m : ℕ) (ts : List Token) (e : n ≡ suc m) where
+  brace_turn : (x : X) (end : List Token) → one ts ≡ Some (x, end) → up_to_brace one n ts ≡
       elim (is_sign sign.Comma end) [
-        | true ↦ elim (is_sign sign.BraceClose (drop 1 end)) [ true ↦ Some (x ∷ [], drop 1 end) | false ↦ (read_values b whole inner m (drop 1 end) >>= λ r. Some (x ∷ r.0, r.1)) ]
+        | true ↦ elim (is_sign sign.BraceClose (drop 1 end)) [ true ↦ Some (x ∷ [], drop 1 end) | false ↦ (up_to_brace one m (drop 1 end) >>= λ r. Some (x ∷ r.0, r.1)) ]
         | false ↦ Some (x ∷ [], end)
       ]
-  values_turn x end here = rw (e, here) refl
+  brace_turn x end here = rw (e, here) refl
 
-  pub values_last : (xs : List Exp) (x : Exp) (end : List Token) → inner assignment ts ≡ Some (x, end) → is_sign sign.Comma end ≡ false → following xs (read_values b whole inner n ts) ≡ Some (xs ++ x ∷ [], end)
-  values_last xs x end here comma = ap (following xs) (values_turn x end here ∙ unless (is_sign sign.Comma end) _ _ comma)
+  pub brace_last : (xs : List X) (x : X) (end : List Token) → one ts ≡ Some (x, end) → is_sign sign.Comma end ≡ false → following xs (up_to_brace one n ts) ≡ Some (xs ++ x ∷ [], end)
+  brace_last xs x end here comma = ap (following xs) (brace_turn x end here ∙ unless (is_sign sign.Comma end) _ _ comma)
 
-  pub values_close : (xs : List Exp) (x : Exp) (end : List Token) → inner assignment ts ≡ Some (x, end) → is_sign sign.Comma end ≡ true → is_sign sign.BraceClose (drop 1 end) ≡ true →
-      following xs (read_values b whole inner n ts) ≡ Some (xs ++ x ∷ [], drop 1 end)
-  values_close xs x end here comma brace = ap (following xs) (values_turn x end here ∙ when (is_sign sign.Comma end) _ _ comma ∙ when (is_sign sign.BraceClose (drop 1 end)) _ _ brace)
+  pub brace_close : (xs : List X) (x : X) (end : List Token) → one ts ≡ Some (x, end) → is_sign sign.Comma end ≡ true → is_sign sign.BraceClose (drop 1 end) ≡ true →
+      following xs (up_to_brace one n ts) ≡ Some (xs ++ x ∷ [], drop 1 end)
+  brace_close xs x end here comma brace = ap (following xs) (brace_turn x end here ∙ when (is_sign sign.Comma end) _ _ comma ∙ when (is_sign sign.BraceClose (drop 1 end)) _ _ brace)
 
-  pub values_more : (xs : List Exp) (x : Exp) (end : List Token) → inner assignment ts ≡ Some (x, end) → is_sign sign.Comma end ≡ true → is_sign sign.BraceClose (drop 1 end) ≡ false →
-      following xs (read_values b whole inner n ts) ≡ following (xs ++ x ∷ []) (read_values b whole inner m (drop 1 end))
-  values_more xs x end here comma brace =
-      ap (following xs) (values_turn x end here ∙ when (is_sign sign.Comma end) _ _ comma ∙ unless (is_sign sign.BraceClose (drop 1 end)) _ _ brace)
-      ∙ following_one xs x (read_values b whole inner m (drop 1 end))
+  pub brace_more : (xs : List X) (x : X) (end : List Token) → one ts ≡ Some (x, end) → is_sign sign.Comma end ≡ true → is_sign sign.BraceClose (drop 1 end) ≡ false →
+      following xs (up_to_brace one n ts) ≡ following (xs ++ x ∷ []) (up_to_brace one m (drop 1 end))
+  brace_more xs x end here comma brace =
+      ap (following xs) (brace_turn x end here ∙ when (is_sign sign.Comma end) _ _ comma ∙ unless (is_sign sign.BraceClose (drop 1 end)) _ _ brace)
+      ∙ following_one xs x (up_to_brace one m (drop 1 end))
 
+  pub brace_none : (xs : List X) → one ts ≡ None → following xs (up_to_brace one n ts) ≡ None
+  brace_none xs none = rw (e, none) refl
+
+-- the declarators of a declaration
+module _ (b : ℕ) (whole inner : ℕ → List Token → Read Exp) (rows : List Token → Read (List Exps)) (n m : ℕ) (ts : List Token) (e : n ≡ suc m) where
   module _ (ty : IntType) where
-    declarators_turn : (x : Declared) (end : List Token) → read_declarator b whole inner ty ts ≡ Some (x, end) → read_declarators b whole inner n ty ts ≡
-        elim (is_sign sign.Comma end) [ true ↦ (read_declarators b whole inner m ty (drop 1 end) >>= λ r. Some (x ∷ r.0, r.1)) | false ↦ closing sign.Semicolon (x ∷ []) end ]
+    declarators_turn : (x : Declared) (end : List Token) → read_declarator b whole inner rows ty ts ≡ Some (x, end) → read_declarators b whole inner rows n ty ts ≡
+        elim (is_sign sign.Comma end) [ true ↦ (read_declarators b whole inner rows m ty (drop 1 end) >>= λ r. Some (x ∷ r.0, r.1)) | false ↦ closing sign.Semicolon (x ∷ []) end ]
     declarators_turn x end here = rw (e, here) refl
 
-    pub declarators_last : (xs : List Declared) (x : Declared) (end : List Token) → read_declarator b whole inner ty ts ≡ Some (x, end) → is_sign sign.Comma end ≡ false → is_sign sign.Semicolon end ≡ true →
-        following xs (read_declarators b whole inner n ty ts) ≡ Some (xs ++ x ∷ [], drop 1 end)
+    pub declarators_last : (xs : List Declared) (x : Declared) (end : List Token) → read_declarator b whole inner rows ty ts ≡ Some (x, end) → is_sign sign.Comma end ≡ false → is_sign sign.Semicolon end ≡ true →
+        following xs (read_declarators b whole inner rows n ty ts) ≡ Some (xs ++ x ∷ [], drop 1 end)
     declarators_last xs x end here comma last = ap (following xs) (declarators_turn x end here ∙ unless (is_sign sign.Comma end) _ _ comma ∙ cond-true _ _ _ last)
 
-    pub declarators_open : (xs : List Declared) (x : Declared) (end : List Token) → read_declarator b whole inner ty ts ≡ Some (x, end) → is_sign sign.Comma end ≡ false → is_sign sign.Semicolon end ≡ false →
-        following xs (read_declarators b whole inner n ty ts) ≡ None
+    pub declarators_open : (xs : List Declared) (x : Declared) (end : List Token) → read_declarator b whole inner rows ty ts ≡ Some (x, end) → is_sign sign.Comma end ≡ false → is_sign sign.Semicolon end ≡ false →
+        following xs (read_declarators b whole inner rows n ty ts) ≡ None
     declarators_open xs x end here comma last = ap (following xs) (declarators_turn x end here ∙ unless (is_sign sign.Comma end) _ _ comma ∙ cond-false _ _ _ last)
 
-    pub declarators_more : (xs : List Declared) (x : Declared) (end : List Token) → read_declarator b whole inner ty ts ≡ Some (x, end) → is_sign sign.Comma end ≡ true →
-        following xs (read_declarators b whole inner n ty ts) ≡ following (xs ++ x ∷ []) (read_declarators b whole inner m ty (drop 1 end))
+    pub declarators_more : (xs : List Declared) (x : Declared) (end : List Token) → read_declarator b whole inner rows ty ts ≡ Some (x, end) → is_sign sign.Comma end ≡ true →
+        following xs (read_declarators b whole inner rows n ty ts) ≡ following (xs ++ x ∷ []) (read_declarators b whole inner rows m ty (drop 1 end))
     declarators_more xs x end here comma =
-        ap (following xs) (declarators_turn x end here ∙ when (is_sign sign.Comma end) _ _ comma) ∙ following_one xs x (read_declarators b whole inner m ty (drop 1 end))
+        ap (following xs) (declarators_turn x end here ∙ when (is_sign sign.Comma end) _ _ comma) ∙ following_one xs x (read_declarators b whole inner rows m ty (drop 1 end))
 
-    pub declarators_none : (xs : List Declared) → read_declarator b whole inner ty ts ≡ None → following xs (read_declarators b whole inner n ty ts) ≡ None
+    pub declarators_none : (xs : List Declared) → read_declarator b whole inner rows ty ts ≡ None → following xs (read_declarators b whole inner rows n ty ts) ≡ None
     declarators_none xs none = rw (e, none) refl
 
--- what stands in a block
-module _ (one : List Token → Read Stm) (n m : ℕ) (ts : List Token) (e : n ≡ suc m) where
-  elements_turn : is_sign sign.BraceClose ts ≡ false → elements one n ts ≡ (one ts >>= λ s. elements one m s.1 >>= λ r. Some (s.0 ∷ r.0, r.1))
-  elements_turn brace = rw e (unless (is_sign sign.BraceClose ts) _ _ brace)
+-- what stands up to a stop
+module _ (X : Type 0) (stops : List Token → Bool) (one : List Token → Read X) (n m : ℕ) (ts : List Token) (e : n ≡ suc m) where
+  until_turn : stops ts ≡ false → until stops one n ts ≡ (one ts >>= λ x. until stops one m x.1 >>= λ r. Some (x.0 ∷ r.0, r.1))
+  until_turn on = rw e (unless (stops ts) _ _ on)
 
-  pub elements_more : (xs : List Stm) (x : Stm) (end : List Token) → is_sign sign.BraceClose ts ≡ false → one ts ≡ Some (x, end) → following xs (elements one n ts) ≡ following (xs ++ x ∷ []) (elements one m end)
-  elements_more xs x end brace here = ap (following xs) (elements_turn brace ∙ rw here refl) ∙ following_one xs x (elements one m end)
+  pub until_more : (xs : List X) (x : X) (end : List Token) → stops ts ≡ false → one ts ≡ Some (x, end) → following xs (until stops one n ts) ≡ following (xs ++ x ∷ []) (until stops one m end)
+  until_more xs x end on here = ap (following xs) (until_turn on ∙ rw here refl) ∙ following_one xs x (until stops one m end)
 
 pub exprs_push : (es : List RawExpr) (e : RawExpr) → exprs_view (es ++ e ∷ []) ≡ exprs_view es ++ expr_view e ∷ []
 exprs_push [] e = refl

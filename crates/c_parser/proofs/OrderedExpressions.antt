@@ -11,9 +11,9 @@ use Rattle.c_tokens.specs.declared.token.Punct.TheVariants as sign
 use Rattle.c_parser.specs.Tree.{Exp, Expr, Node, Exps, exps, moved}
 use Rattle.c_parser.specs.Tree as node
 use Rattle.c_parser.specs.TextOrder.{spots_of, spots_of_all}
-use Rattle.c_parser.specs.Signs.{token, word_token, sign_token, place, Joint, Sequence, Both, Either, Plain, joined, steps_before, steps_behind}
+use Rattle.c_parser.specs.Signs.{expr, token, word_token, sign_token, place, Joint, Sequence, Both, Either, Plain, joined, steps_before, steps_behind}
 use Rattle.c_parser.specs.Words.{TypeWord}
-use Rattle.c_parser.specs.Expressions.{NameWords, NoMoreWords, AConst, ATypeWord, Arguments, LastArgument, MoreArguments, Expression, Stronger, Joined, Assigned, Chosen, SteppedBefore, Signed, Converted, SteppedBehind, AName, AnElement, ABareCall, ACall, ANumber, ACharacter, AGroup, Within, has_room, Spells}
+use Rattle.c_parser.specs.Expressions.{NameWords, NoMoreWords, AConst, ATypeWord, Bracketed, InBrackets, Dimensions, OneDimension, TwoDimensions, Arguments, LastArgument, MoreArguments, Expression, Stronger, Joined, Assigned, Chosen, SteppedBefore, Signed, Converted, SteppedBehind, AName, AnElement, ABareCall, ACall, ANumber, ACharacter, AGroup, Within, has_room, Spells}
 use Rattle.c_parser.proofs.SignLaws.{some_same}
 use Rattle.c_parser.proofs.Along.{Along, AtEnd, Past, Met, then, nothing_more, Begins, begins, to_along, begins_then, begins_alone, whole_here, whole_before, one_more}
 
@@ -65,6 +65,18 @@ stepped : (op : StepOp) (a : Exp) (ts mid rest : List Token) → is_prefix op �
 stepped op a ts mid rest later o q =
     led (node.Step op a) a [] ts mid rest (λ p. ap (λ (x : Bool). cond x (p ∷ spots_of a) (whole p (spots_of a))) later ∙ sym (append-nil (whole p (spots_of a)))) o q
 
+-- what stands in square brackets
+module _ (Inside : List Token → Exp → List Token → Type 0) (inside : (ts : List Token) (e : Exp) (rest : List Token) → Inside ts e rest → Along (spots_of e) ts rest) where
+  bracketed_along : (ts : List Token) (e : Exp) (rest : List Token) → Bracketed Inside ts e rest → Along (spots_of e) ts rest
+  bracketed_along ts e rest (InBrackets d) = Past (nothing_more (inside _ _ _ d) (Past AtEnd))
+
+  last_along : (ts : List Token) (e : Exp) (rest : List Token) → Bracketed Inside ts e rest → Along (spots_of_all (exps (e ∷ []))) ts rest
+  last_along ts e rest d = subst (λ (x : List Spot). Along x ts rest) (sym (append-nil (spots_of e))) (bracketed_along _ _ _ d)
+
+  pub dimensions_along : (ts : List Token) (es : List Exp) (rest : List Token) → Dimensions Inside ts es rest → Along (spots_of_all (exps es)) ts rest
+  dimensions_along ts es rest (OneDimension d) = last_along _ _ _ d
+  dimensions_along ts es rest (TwoDimensions d u) = then (bracketed_along _ _ _ d) (last_along _ _ _ u)
+
 module _ (room : Bool) (Inner : ℕ → List Token → Exp → List Token → Type 0)
     (inner : (k : ℕ) (ts : List Token) (e : Exp) (rest : List Token) → Inner k ts e rest → Ordered e ts rest) where
   arguments_along : (ts : List Token) (es : List Exp) (rest : List Token) → Arguments room Inner ts es rest → Along (spots_of_all (exps es)) ts rest
@@ -87,8 +99,8 @@ module _ (room : Bool) (Inner : ℕ → List Token → Exp → List Token → Ty
       signed (node.Cast to a) (spots_of a) (sign_token sign.ParenOpen p) _ rest (λ q. refl) (then (names_passed _ _ _ w) (Past (to_along (expression_ordered _ _ _ _ x).here)))
   expression_ordered k ts e rest (SteppedBehind {e = a} {s} {op} f x) = stepped op a ts _ rest (postfix_step s op f) (expression_ordered _ _ _ _ x) (Past AtEnd)
   expression_ordered k ts e rest (AName {w = w} {p} n) = signed (node.Var w p) [] (word_token w p) _ rest (λ r. refl) AtEnd
-  expression_ordered k ts e rest (AnElement {w = w} {e = a} {p} n x) =
-      signed (node.Index w p a) (spots_of a) (word_token w p) _ rest (λ r. refl) (Past (nothing_more (to_along (inner _ _ _ _ x).here) (Past AtEnd)))
+  expression_ordered k ts e rest (AnElement {w = w} {es} {p} n x) =
+      signed (node.Index w p (exps es)) (spots_of_all (exps es)) (word_token w p) _ rest (λ r. refl) (dimensions_along (Inner expr) (λ us u last i. to_along (inner expr us u last i).here) _ _ _ x)
   expression_ordered k ts e rest (ABareCall {w = w} {p} {r = z} n f) = signed (node.Call w p (exps []) z) (z ∷ []) (word_token w p) _ rest (λ r. refl) (Past (Met AtEnd))
   expression_ordered k ts e rest (ACall {w = w} {es} {p} {r = z} n x) =
       signed (node.Call w p (exps es) z) (spots_of_all (exps es) ++ z ∷ []) (word_token w p) _ rest (λ r. refl) (Past (then (arguments_along _ _ _ x) (Met AtEnd)))

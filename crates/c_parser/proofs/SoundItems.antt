@@ -8,9 +8,9 @@ use Rattle.c_tokens.specs.Numbers.{is_spelled}
 use Rattle.c_tokens.specs.declared.token.Token.{Token}
 use Rattle.c_tokens.specs.declared.token.Punct.{Punct}
 use Rattle.c_tokens.specs.declared.token.Punct.TheVariants as sign
-use Rattle.c_parser.specs.Tree.{Declared, Stm, Stmt, Block, stms, Param, Item}
+use Rattle.c_parser.specs.Tree.{exps, Declared, Stm, Stmt, Block, stms, Param, Item}
 use Rattle.c_parser.specs.Tree as item
-use Rattle.c_parser.specs.Heights.{height_of, height_of_block, height_if, height_of_init}
+use Rattle.c_parser.specs.Heights.{height_of, height_of_block, heights, height_of_init}
 use Rattle.c_parser.specs.Signs.{◌>>=◌, sign_token, word_token, place, is_sign, is_word}
 use Rattle.c_parser.specs.Words.{is_name}
 use Rattle.c_parser.specs.Brackets.{PassedWithin, behind}
@@ -124,9 +124,9 @@ types_within_sound (suc b) ts r e = types_sound b ts r e
 low_sound : (h : ℕ) (ds : List Declared) → is_low h ds ≡ true → AreLow h ds
 low_sound h [] e = tt
 low_sound h (d ∷ ds) e =
-    let a = both_true (nat_le (height_if d.size) h) (nat_le (height_of_init d.init) h && is_low h ds) e in
+    let a = both_true (nat_le (heights (exps d.sizes)) h) (nat_le (height_of_init d.init) h && is_low h ds) e in
     let c = both_true (nat_le (height_of_init d.init) h) (is_low h ds) a.1 in
-    (leb-true (height_if d.size) h a.0, (leb-true (height_of_init d.init) h c.0, low_sound h ds c.1))
+    (leb-true (heights (exps d.sizes)) h a.0, (leb-true (height_of_init d.init) h c.0, low_sound h ds c.1))
 
 -- a declared word, and the parenthesis behind it
 record Headed (b : ℕ) (ts : List Token) (result : Option IntType) (w : List ℕ) (p : Spot) (first : List Token) : Type 0 where

@@ -16,8 +16,8 @@ use Rattle.c_parser.specs.Tree as node
 use Rattle.c_parser.specs.Heights.{height, heights}
 use Rattle.c_parser.specs.Signs.{◌>>=◌, token, sign_token, word_token, place, sign_at, word_at, is_sign, same_sign, expr, assignment, cast, unary, postfix, primary, signs, steps_before, steps_behind}
 use Rattle.c_parser.specs.Words.{is_name, TypeWord, type_word, type_of}
-use Rattle.c_parser.specs.Expressions.{NameWords, NoMoreWords, AConst, ATypeWord, Arguments, LastArgument, MoreArguments, Expression, Stronger, SteppedBefore, Signed, Converted, SteppedBehind, AName, AnElement, ABareCall, ACall, ANumber, ACharacter, AGroup}
-use Rattle.c_parser.specs.ReadExpressions.{Read, closing, grown, part_of_name, begins_type, onto_name, name_words, is_cast, listed, arguments, called, named, stepped, stepped_by, with_steps, grouped, converted, in_parens, signed, prefixed, opened, operand, operand_at}
+use Rattle.c_parser.specs.Expressions.{NameWords, NoMoreWords, AConst, ATypeWord, Bracketed, InBrackets, Dimensions, OneDimension, TwoDimensions, Arguments, LastArgument, MoreArguments, Expression, Stronger, SteppedBefore, Signed, Converted, SteppedBehind, AName, AnElement, ABareCall, ACall, ANumber, ACharacter, AGroup}
+use Rattle.c_parser.specs.ReadExpressions.{Read, closing, grown, part_of_name, begins_type, onto_name, name_words, is_cast, bracketed, dimensions, listed, arguments, called, named, stepped, stepped_by, with_steps, grouped, converted, in_parens, signed, prefixed, opened, operand, operand_at}
 use Rattle.c_parser.proofs.SignLaws.{some_same, same_signs, taken}
 use Rattle.c_parser.proofs.WordLaws.{both_true, spelled_same}
 use Rattle.c_parser.proofs.Complete.{moved_height}
@@ -51,6 +51,37 @@ kind_named (kind.Punct s) p ts words rest n = NoMoreWords
 name_words_sound : (ts : List Token) → NameWords ts (name_words ts).0 (name_words ts).1
 name_words_sound [] = NoMoreWords
 name_words_sound (t ∷ ts) = kind_named t.kind t.spot ts (name_words ts).0 (name_words ts).1 (name_words_sound ts)
+
+-- what stands in square brackets
+module _ (Inside : List Token → Exp → List Token → Type 0) (inside : List Token → Read Exp) (h : ℕ)
+    (inside_sound : (ts : List Token) (r : Exp × List Token) → inside ts ≡ Some r → Inside ts r.0 r.1 × (height r.0 ≤ h)) where
+  abbrev OneBracketed : List Token → Exp × List Token → Type 0
+  OneBracketed ts r = Bracketed Inside ts r.0 r.1 × (height r.0 ≤ h)
+
+  bracketed_sound : (ts : List Token) (r : Exp × List Token) → is_sign sign.BracketOpen ts ≡ true → bracketed inside ts ≡ Some r → OneBracketed ts r
+  bracketed_sound ts r f e =
+      let t = taken sign.BracketOpen ts f in
+      let o = bind_some (inside (drop 1 ts)) _ r e in
+      let i = inside_sound (drop 1 ts) o.0 o.1 in
+      let c = closed sign.BracketClose o.0.0 o.0.1 r o.2 in
+      subst (λ (x : List Token). OneBracketed x r) (sym t.1)
+      (subst (λ (x : Exp). OneBracketed (sign_token sign.BracketOpen t.0 ∷ drop 1 ts) (x, r.1)) c.2 (InBrackets (subst (λ (x : List Token). Inside (drop 1 ts) o.0.0 x) c.1 i.0), i.1))
+
+  abbrev AllBracketed : List Token → List Exp × List Token → Type 0
+  AllBracketed ts r = Dimensions Inside ts r.0 r.1 × (heights (exps r.0) ≤ h)
+
+  pub dimensions_sound : (ts : List Token) (r : List Exp × List Token) → is_sign sign.BracketOpen ts ≡ true → dimensions inside ts ≡ Some r → AllBracketed ts r
+  dimensions_sound ts r f e =
+      let a = bind_some (bracketed inside ts) _ r e in
+      let first = bracketed_sound ts a.0 f a.1 in
+      let low : height a.0.0 ≤ h = first.1 in
+      parted (is_sign sign.BracketOpen a.0.1) _ _ (Some r) a.2
+      (λ x y.
+      let b = bind_some (bracketed inside a.0.1) _ r y in
+      let second = bracketed_sound a.0.1 b.0 x b.1 in
+      let other : height b.0.0 ≤ h = second.1 in
+      subst (AllBracketed ts) (some_same b.2) (TwoDimensions first.0 second.0, omega (arith, low, other)))
+      (λ x y. subst (AllBracketed ts) (some_same y) (OneDimension first.0, omega (arith, low)))
 
 module _ (room : Bool) (Inner : ℕ → List Token → Exp → List Token → Type 0) (paren : ℕ → ℕ → List Token → Read Exp) (below : ℕ → List Token → Read Exp) (h : ℕ)
     (paren_sound : (g k : ℕ) (ts : List Token) (r : Exp × List Token) → 1 ≤ k → k ≤ 15 → paren g k ts ≡ Some r → Inner k ts r.0 r.1 × (height r.0 ≤ g))
@@ -107,14 +138,10 @@ module _ (room : Bool) (Inner : ℕ → List Token → Exp → List Token → Ty
       (λ f g.
       parted (is_sign sign.BracketOpen ts) _ _ (Some r) g
       (λ x y.
-      let t = taken sign.BracketOpen ts x in
-      let o = bind_some (paren h expr (drop 1 ts)) _ r y in
-      let i = paren_sound h expr (drop 1 ts) o.0 (omega arith) (omega arith) o.1 in
-      let low : height o.0.0 ≤ h = i.1 in
-      let c = closed sign.BracketClose (Expr p (node.Index w p o.0.0)) o.0.1 r o.2 in
-      subst (λ (y : List Token). Good primary (word_token w p ∷ y) r) (sym t.1)
-      (subst (λ (y : Exp). Good primary (word_token w p ∷ sign_token sign.BracketOpen t.0 ∷ drop 1 ts) (y, r.1)) c.2
-      (AnElement n (subst (λ (y : List Token). Inner expr (drop 1 ts) o.0.0 y) c.1 i.0), omega (arith, low))))
+      let o = bind_some (dimensions (paren h expr) ts) _ r y in
+      let i = dimensions_sound (Inner expr) (paren h expr) h (λ us q z. paren_sound h expr us q (omega arith) (omega arith) z) ts o.0 x o.1 in
+      let low : heights (exps o.0.0) ≤ h = i.1 in
+      subst (Good primary (word_token w p ∷ ts)) (some_same o.2) (AnElement n i.0, omega (arith, low)))
       (λ x y. subst (Good primary (word_token w p ∷ ts)) (some_same y) (AName n, omega arith)))
 
   step_sound : (ts : List Token) (again : Exp → List Token → Read Exp) →

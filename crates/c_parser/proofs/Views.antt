@@ -6,7 +6,7 @@ use Rattle.c_parser.specs.Tree as t
 use Rattle.c_parser.specs.View.{node_view, row_view, expr_view, exprs_view}
 use Rattle.c_parser.specs.declared.tree.RawExpr.{RawExpr}
 use Rattle.c_parser.specs.declared.tree.RawNode.{RawNode, out-RawNode, Row_of-RawExpr, end_of-RawExpr, more_of-RawExpr, items-the_row-RawExpr, items_shown-the_row-RawExpr-0}
-use Rattle.c_parser.specs.declared.tree.RawNode.TheVariants.{Number, Char, Var, Index', Unary', Cast', Step', Binary', Logic', Choose', Comma', Assign', Call', Call, outs-Call}
+use Rattle.c_parser.specs.declared.tree.RawNode.TheVariants.{Number, Char, Var, Index', Unary', Cast', Step', Binary', Logic', Choose', Comma', Assign', Call', Index, outs-Index, Call, outs-Call}
 use Rattle.c_parser.specs.declared.tree.RawNode.TheOpen.{RawNode-F, Number as NumberF, Char as CharF, Var as VarF, Index as IndexF, Unary as UnaryF, Cast as CastF, Step as StepF, Binary as BinaryF, Logic as LogicF, Choose as ChooseF, Comma as CommaF, Assign as AssignF, Call as CallF}
 
 -- one level of a node
@@ -14,7 +14,7 @@ abbrev pub node_of : RawNode-F RawNode RawExpr → t.Node
 node_of (NumberF v decimal unsigned longs) = t.Number v decimal unsigned longs
 node_of (CharF v) = t.Char v
 node_of (VarF x p) = t.Var x p
-node_of (IndexF x p a) = t.Index x p (expr_view a.value)
+node_of (IndexF x p es) = t.Index x p (t.exps (exprs_view es))
 node_of (UnaryF op a) = t.Unary op (expr_view a.value)
 node_of (CastF to a) = t.Cast to (expr_view a.value)
 node_of (StepF op a) = t.Step op (expr_view a.value)
@@ -34,7 +34,7 @@ unfolding out-RawNode out
 node_views (Number v decimal unsigned longs) = refl
 node_views (Char v) = refl
 node_views (Var x p) = refl
-node_views (Index' x p b s n) = refl
+node_views (Index' x p shape row) = ap (λ es. t.Index x p es) (row_views row ∙ ap (λ es. t.exps (exprs_view es)) (sym (items_shown-the_row-RawExpr-0 shape row)))
 node_views (Unary' op b s n) = refl
 node_views (Cast' to b s n) = refl
 node_views (Step' op b s n) = refl
@@ -44,6 +44,9 @@ node_views (Choose' mark b s n b' s' n' b'' s'' n'') = refl
 node_views (Comma' b s n b' s' n') = refl
 node_views (Assign' op b s n b' s' n') = refl
 node_views (Call' f p shape row close) = ap (λ es. t.Call f p es close) (row_views row ∙ ap (λ es. t.exps (exprs_view es)) (sym (items_shown-the_row-RawExpr-0 shape row)))
+
+pub view_of_index : (x : List ℕ) (p : Spot) (es : List RawExpr) → node_view (Index x p es) ≡ t.Index x p (t.exps (exprs_view es))
+view_of_index x p es = node_views (Index x p es) ∙ ap node_of (outs-Index x p es)
 
 pub view_of_call : (f : List ℕ) (p : Spot) (es : List RawExpr) (close : Spot) → node_view (Call f p es close) ≡ t.Call f p (t.exps (exprs_view es)) close
 view_of_call f p es close = node_views (Call f p es close) ∙ ap node_of (outs-Call f p es close)

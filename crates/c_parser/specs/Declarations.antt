@@ -4,11 +4,12 @@ use Rattle.c_core.specs.declared.number.IntType.{IntType}
 use Rattle.c_core.specs.declared.number.Spot.{Spot}
 use Rattle.c_tokens.specs.declared.token.Token.{Token}
 use Rattle.c_tokens.specs.declared.token.Punct.TheVariants as sign
-use Rattle.c_parser.specs.Tree.{Exp, exps, Init, Absent, One, Many, Declared}
+use Rattle.c_parser.specs.Tree.{Exp, Exps, exps, Init, Absent, One, Many, Rows, Declared}
 use Rattle.c_parser.specs.Signs.{◌>>=◌, sign_token, word_token, place, word_at, is_sign, assignment, conditional}
 use Rattle.c_parser.specs.Words.{is_name, is_attribute, may_specify, TypeWord, type_word, type_of}
 use Rattle.c_parser.specs.Brackets.{behind}
-use Rattle.c_parser.specs.ReadExpressions.{Read, closing}
+use Rattle.c_parser.specs.Expressions.{Dimensions}
+use Rattle.c_parser.specs.ReadExpressions.{Read, closing, dimensions}
 
 -- `Pair` is what is passed in one more pair of brackets
 module _ (Pair : List Token → List Token → Type 0) where
@@ -36,39 +37,55 @@ module _ (Pair : List Token → List Token → Type 0) where
     pub specifiers : Specifiers outside ts words rest
     pub spelled : type_of words ≡ Some ty
 
--- a declared name with its type, its size and its initializer
-abbrev pub declared : Spot → List ℕ → IntType → Option Exp → Init → Declared
-declared p w ty size init = record { spot = p; name = w; ty = ty; size = size; init = init }
+-- a declared name with its type, its sizes and its initializer
+abbrev pub declared : Spot → List ℕ → IntType → List Exp → Init → Declared
+declared p w ty sizes init = record { spot = p; name = w; ty = ty; sizes = sizes; init = init }
 
--- `Whole k` is what is spelled with the strength k, `Inner k` the same in one more pair of brackets
-module _ (Pair : List Token → List Token → Type 0) (Whole Inner : ℕ → List Token → Exp → List Token → Type 0) where
-  -- the size of an array in its brackets, or none (C11 6.7.6.2)
-  pub data Size : List Token → Option Exp → List Token → Type 0 where
-    NoSize : {rest : List Token} → Size rest None rest
-    ASize : {ts rest : List Token} {e : Exp} {p q : Spot} →
-        Inner conditional ts e (sign_token sign.BracketClose q ∷ rest) → Size (sign_token sign.BracketOpen p ∷ ts) (Some e) rest
+-- values or rows parted by commas, up to the brace that closes them; a comma may stand before it
+module _ (X : Type 0) (One : List Token → X → List Token → Type 0) where
+  pub data UpToBrace : List Token → List X → List Token → Type 0 where
+    LastOne : {ts rest : List Token} {x : X} {q : Spot} →
+        One ts x (sign_token sign.BraceClose q ∷ rest) → UpToBrace ts (x ∷ []) (sign_token sign.BraceClose q ∷ rest)
+    LastAndComma : {ts rest : List Token} {x : X} {p q : Spot} →
+        One ts x (sign_token sign.Comma p ∷ sign_token sign.BraceClose q ∷ rest) → UpToBrace ts (x ∷ []) (sign_token sign.BraceClose q ∷ rest)
+    MoreOnes : {ts mid rest : List Token} {x : X} {xs : List X} {q : Spot} →
+        One ts x (sign_token sign.Comma q ∷ mid) → UpToBrace mid xs rest → UpToBrace ts (x ∷ xs) rest
 
-  -- the values of a list, up to the brace that closes it
-  pub data Values : List Token → List Exp → List Token → Type 0 where
-    LastValue : {ts rest : List Token} {e : Exp} {q : Spot} →
-        Inner assignment ts e (sign_token sign.BraceClose q ∷ rest) → Values ts (e ∷ []) (sign_token sign.BraceClose q ∷ rest)
-    LastValueAndComma : {ts rest : List Token} {e : Exp} {p q : Spot} →
-        Inner assignment ts e (sign_token sign.Comma p ∷ sign_token sign.BraceClose q ∷ rest) → Values ts (e ∷ []) (sign_token sign.BraceClose q ∷ rest)
-    MoreValues : {ts mid rest : List Token} {e : Exp} {es : List Exp} {q : Spot} →
-        Inner assignment ts e (sign_token sign.Comma q ∷ mid) → Values mid es rest → Values ts (e ∷ es) rest
+-- `Inner k` is what is spelled with the strength k in one more pair of brackets
+module _ (Inner : ℕ → List Token → Exp → List Token → Type 0) where
+  -- the sizes of an array in their brackets, or none (C11 6.7.6.2)
+  pub data Sizes : List Token → List Exp → List Token → Type 0 where
+    NoSizes : {rest : List Token} → Sizes rest [] rest
+    SomeSizes : {ts rest : List Token} {es : List Exp} → Dimensions (Inner conditional) ts es rest → Sizes ts es rest
 
-  -- `=` and a value or a list of values, or nothing (C11 6.7.9)
+  -- the values of a list or row
+  abbrev pub Values : List Token → List Exp → List Token → Type 0
+  Values = UpToBrace Exp (Inner assignment)
+
+  -- a row: values in braces
+  pub data Row : List Token → Exps → List Token → Type 0 where
+    ARow : {ts rest : List Token} {es : List Exp} {p q : Spot} →
+        Values ts es (sign_token sign.BraceClose q ∷ rest) → Row (sign_token sign.BraceOpen p ∷ ts) (exps es) rest
+
+-- `Whole k` is what is spelled with the strength k, `Inner k` the same in one more pair of brackets, `Listed` the rows that
+-- stand there
+module _ (Pair : List Token → List Token → Type 0) (Whole Inner : ℕ → List Token → Exp → List Token → Type 0)
+    (Listed : List Token → List Exps → List Token → Type 0) where
+  -- `=` and a value, a list of values or a list of rows, or nothing (C11 6.7.9)
   pub data Initializer : List Token → Init → List Token → Type 0 where
     NoInitializer : {rest : List Token} → Initializer rest Absent rest
     OneValue : {ts rest : List Token} {e : Exp} {p : Spot} → Whole assignment ts e rest → Initializer (sign_token sign.Assign p ∷ ts) (One e) rest
     AList : {ts rest : List Token} {es : List Exp} {p q r : Spot} →
-        Values ts es (sign_token sign.BraceClose r ∷ rest) →
+        Values Inner ts es (sign_token sign.BraceClose r ∷ rest) →
         Initializer (sign_token sign.Assign p ∷ sign_token sign.BraceOpen q ∷ ts) (Many (exps es)) rest
+    AListOfRows : {ts rest : List Token} {rows : List Exps} {p q r : Spot} →
+        Listed ts rows (sign_token sign.BraceClose r ∷ rest) →
+        Initializer (sign_token sign.Assign p ∷ sign_token sign.BraceOpen q ∷ ts) (Rows rows) rest
 
   -- a declared name of a type (C11 6.7.6)
   pub data Declarator (ty : IntType) : List Token → Declared → List Token → Type 0 where
-    ADeclarator : {ts mid rest : List Token} {w : List ℕ} {size : Option Exp} {init : Init} {p : Spot} →
-        is_name w ≡ true → Size ts size mid → Initializer mid init rest → Declarator ty (word_token w p ∷ ts) (declared p w ty size init) rest
+    ADeclarator : {ts mid rest : List Token} {w : List ℕ} {sizes : List Exp} {init : Init} {p : Spot} →
+        is_name w ≡ true → Sizes Inner ts sizes mid → Initializer mid init rest → Declarator ty (word_token w p ∷ ts) (declared p w ty sizes init) rest
 
   -- parted by commas, up to the semicolon that ends them
   pub data Declarators (ty : IntType) : List Token → List Declared → List Token → Type 0 where
@@ -147,27 +164,45 @@ module _ (b : ℕ) where
   abbrev pub read_type : Bool → List Token → Read (Option IntType)
   read_type outside ts = read_specifiers (length ts) outside ts >>= λ r. type_of r.0 >>= λ ty. Some (ty, r.1)
 
-module _ (b : ℕ) (whole inner : ℕ → List Token → Read Exp) where
-  abbrev pub read_size : List Token → Read (Option Exp)
-  read_size ts = elim (is_sign sign.BracketOpen ts) [
-    | true ↦ (inner conditional (drop 1 ts) >>= λ e. closing sign.BracketClose (Some e.0) e.1)
-    | false ↦ Some (None, ts)
-  ]
+-- values or rows up to a brace; n is at least the number of tokens
+abbrev pub up_to_brace : {X : Type 0} → (List Token → Read X) → ℕ → List Token → Read (List X)
+up_to_brace one zero ts = None
+up_to_brace one (suc n) ts = one ts >>= λ e.
+    elim (is_sign sign.Comma e.1) [
+      | true ↦ elim (is_sign sign.BraceClose (drop 1 e.1)) [
+        | true ↦ Some (e.0 ∷ [], drop 1 e.1)
+        | false ↦ (up_to_brace one n (drop 1 e.1) >>= λ r. Some (e.0 ∷ r.0, r.1))
+      ]
+      | false ↦ Some (e.0 ∷ [], e.1)
+    ]
+
+module _ (inner : ℕ → List Token → Read Exp) where
+  abbrev pub read_sizes : List Token → Read (List Exp)
+  read_sizes ts = elim (is_sign sign.BracketOpen ts) [ true ↦ dimensions (inner conditional) ts | false ↦ Some ([], ts) ]
 
   abbrev pub read_values : ℕ → List Token → Read (List Exp)
-  read_values zero ts = None
-  read_values (suc n) ts = inner assignment ts >>= λ e.
-      elim (is_sign sign.Comma e.1) [
-        | true ↦ elim (is_sign sign.BraceClose (drop 1 e.1)) [
-          | true ↦ Some (e.0 ∷ [], drop 1 e.1)
-          | false ↦ (read_values n (drop 1 e.1) >>= λ r. Some (e.0 ∷ r.0, r.1))
-        ]
-        | false ↦ Some (e.0 ∷ [], e.1)
-      ]
+  read_values n ts = up_to_brace (inner assignment) n ts
+
+  abbrev pub read_row : List Token → Read Exps
+  read_row ts = elim (is_sign sign.BraceOpen ts) [
+    | true ↦ (read_values (length ts) (drop 1 ts) >>= λ r. closing sign.BraceClose (exps r.0) r.1)
+    | false ↦ None
+  ]
+
+  abbrev pub read_rows : ℕ → List Token → Read (List Exps)
+  read_rows n ts = up_to_brace read_row n ts
+
+module _ (b : ℕ) (whole inner : ℕ → List Token → Read Exp) (rows : List Token → Read (List Exps)) where
+  -- behind a brace: rows, where another one follows
+  abbrev pub read_list : List Token → Read Init
+  read_list ts = elim (is_sign sign.BraceOpen ts) [
+    | true ↦ (rows ts >>= λ r. closing sign.BraceClose (Rows r.0) r.1)
+    | false ↦ (read_values inner (length ts) ts >>= λ r. closing sign.BraceClose (Many (exps r.0)) r.1)
+  ]
 
   abbrev pub read_value : List Token → Read Init
   read_value ts = elim (is_sign sign.BraceOpen ts) [
-    | true ↦ (read_values (length ts) (drop 1 ts) >>= λ r. closing sign.BraceClose (Many (exps r.0)) r.1)
+    | true ↦ read_list (drop 1 ts)
     | false ↦ (whole assignment ts >>= λ e. Some (One e.0, e.1))
   ]
 
@@ -175,8 +210,8 @@ module _ (b : ℕ) (whole inner : ℕ → List Token → Read Exp) where
   read_initializer ts = elim (is_sign sign.Assign ts) [ true ↦ read_value (drop 1 ts) | false ↦ Some (Absent, ts) ]
 
   abbrev pub read_declarator : IntType → List Token → Read Declared
-  read_declarator ty ts = name_at ts >>= λ w. read_size (drop 1 ts) >>= λ size. read_initializer size.1 >>= λ init.
-      Some (declared (place ts) w ty size.0 init.0, init.1)
+  read_declarator ty ts = name_at ts >>= λ w. read_sizes inner (drop 1 ts) >>= λ sizes. read_initializer sizes.1 >>= λ init.
+      Some (declared (place ts) w ty sizes.0 init.0, init.1)
 
   abbrev pub read_declarators : ℕ → IntType → List Token → Read (List Declared)
   read_declarators zero ty ts = None

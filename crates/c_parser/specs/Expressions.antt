@@ -22,6 +22,18 @@ pub data NameWords : List Token → List TypeWord → List Token → Type 0 wher
   ATypeWord : {ts rest : List Token} {w : List ℕ} {t : TypeWord} {words : List TypeWord} {p : Spot} →
       type_word w ≡ Some t → NameWords ts words rest → NameWords (word_token w p ∷ ts) (t ∷ words) rest
 
+-- `Inside` is what may stand in square brackets
+module _ (Inside : List Token → Exp → List Token → Type 0) where
+  -- an index of an element, or a size of an array, in its brackets
+  pub data Bracketed : List Token → Exp → List Token → Type 0 where
+    InBrackets : {ts rest : List Token} {e : Exp} {p q : Spot} →
+        Inside ts e (sign_token sign.BracketClose q ∷ rest) → Bracketed (sign_token sign.BracketOpen p ∷ ts) e rest
+
+  -- one for each dimension: one or two
+  pub data Dimensions : List Token → List Exp → List Token → Type 0 where
+    OneDimension : {ts rest : List Token} {e : Exp} → Bracketed ts e rest → Dimensions ts (e ∷ []) rest
+    TwoDimensions : {ts mid rest : List Token} {e u : Exp} → Bracketed ts e mid → Bracketed mid u rest → Dimensions ts (e ∷ u ∷ []) rest
+
 -- `room`: one more pair of brackets may be open; `Inner k` is what may stand in it with the strength k
 module _ (room : Bool) (Inner : ℕ → List Token → Exp → List Token → Type 0) where
   -- arguments parted by commas
@@ -54,9 +66,8 @@ module _ (room : Bool) (Inner : ℕ → List Token → Exp → List Token → Ty
     SteppedBehind : {ts rest : List Token} {e : Exp} {s : Punct} {op : StepOp} {q : Spot} →
         steps_behind s ≡ Some op → Expression postfix ts e (sign_token s q ∷ rest) → Expression postfix ts (Expr (place ts) (node.Step op e)) rest
     AName : {rest : List Token} {w : List ℕ} {p : Spot} → is_name w ≡ true → Expression primary (word_token w p ∷ rest) (Expr p (node.Var w p)) rest
-    AnElement : {ts rest : List Token} {w : List ℕ} {e : Exp} {p q r : Spot} →
-        is_name w ≡ true → Inner expr ts e (sign_token sign.BracketClose r ∷ rest) →
-        Expression primary (word_token w p ∷ sign_token sign.BracketOpen q ∷ ts) (Expr p (node.Index w p e)) rest
+    AnElement : {ts rest : List Token} {w : List ℕ} {es : List Exp} {p : Spot} →
+        is_name w ≡ true → Dimensions (Inner expr) ts es rest → Expression primary (word_token w p ∷ ts) (Expr p (node.Index w p (exps es))) rest
     ABareCall : {rest : List Token} {w : List ℕ} {p q r : Spot} →
         is_name w ≡ true → room ≡ true →
         Expression primary (word_token w p ∷ sign_token sign.ParenOpen q ∷ sign_token sign.ParenClose r ∷ rest) (Expr p (node.Call w p (exps []) r)) rest

@@ -9,9 +9,9 @@ use Rattle.c_tokens.specs.declared.token.TokenKind.{TokenKind}
 use Rattle.c_tokens.specs.declared.token.TokenKind.TheVariants as kind
 use Rattle.c_tokens.specs.declared.token.Punct.{Punct}
 use Rattle.c_tokens.specs.declared.token.Punct.TheVariants as sign
-use Rattle.c_parser.specs.Tree.{Exp, Declared, Init, Stm, Stmt, Block, stms, Param, Item}
+use Rattle.c_parser.specs.Tree.{Exp, exps, Declared, Init, Stm, Stmt, Block, stms, Param, Item}
 use Rattle.c_parser.specs.Tree as item
-use Rattle.c_parser.specs.Heights.{height_if, height_of_init, height_of}
+use Rattle.c_parser.specs.Heights.{heights, height_of_init, height_of}
 use Rattle.c_parser.specs.Signs.{sign_token, word_token, sign_of, word_of, is_this, is_sign, is_word}
 use Rattle.c_parser.specs.Words.{is_name, is_attribute}
 use Rattle.c_parser.specs.Brackets.{Bracket, NoBracket, Opening, Closing, bracket, Passed, PassedWithin}
@@ -131,7 +131,7 @@ closed_name (t ∷ ts) = or_later (closed_word (is_sign sign.ParenOpen ts) (word
 -- each size and initializer has at most this height
 abbrev pub AreLow : ℕ → List Declared → Type 0
 AreLow h [] = Unit {0}
-AreLow h (d ∷ ds) = (height_if d.size ≤ h) × ((height_of_init d.init ≤ h) × AreLow h ds)
+AreLow h (d ∷ ds) = (heights (exps d.sizes) ≤ h) × ((height_of_init d.init ≤ h) × AreLow h ds)
 
 -- With at most b brackets open at one place, and at most the height h: what the front of the tokens spells.
 

@@ -58,6 +58,15 @@ at_least k (Some j) = if nat_lt j.0 k then None else Some j
 abbrev pub joint_at : ℕ → List Token → Option (ℕ × Joint)
 joint_at k ts = at_least k (sign_at ts >>= joins)
 
+-- what stands in square brackets that begin here
+abbrev pub bracketed : (List Token → Read Exp) → List Token → Read Exp
+bracketed inside ts = inside (drop 1 ts) >>= λ e. closing sign.BracketClose e.0 e.1
+
+-- the same, and what stands in a second pair behind it, if there is one
+abbrev pub dimensions : (List Token → Read Exp) → List Token → Read (List Exp)
+dimensions inside ts = bracketed inside ts >>= λ e.
+    elim (is_sign sign.BracketOpen e.1) [ true ↦ (bracketed inside e.1 >>= λ u. Some (e.0 ∷ u.0 ∷ [], u.1)) | false ↦ Some (e.0 ∷ [], e.1) ]
+
 -- `room`: one more pair of brackets may be open; `paren g k` reads in it at the height g and the strength k;
 -- `below k` reads a part of the height h at most
 module _ (room : Bool) (paren : ℕ → ℕ → List Token → Read Exp) (below : ℕ → List Token → Read Exp) (h : ℕ) where
@@ -76,7 +85,7 @@ module _ (room : Bool) (paren : ℕ → ℕ → List Token → Read Exp) (below 
   named p w ts = elim (is_sign sign.ParenOpen ts) [
     | true ↦ called p w (drop 1 ts)
     | false ↦ elim (is_sign sign.BracketOpen ts) [
-      | true ↦ (paren h expr (drop 1 ts) >>= λ r. closing sign.BracketClose (Expr p (node.Index w p r.0)) r.1)
+      | true ↦ (dimensions (paren h expr) ts >>= λ r. Some (Expr p (node.Index w p (exps r.0)), r.1))
       | false ↦ Some (Expr p (node.Var w p), ts)
     ]
   ]

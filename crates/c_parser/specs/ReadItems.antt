@@ -7,9 +7,9 @@ use Rattle.c_tokens.specs.Numbers.{is_spelled}
 use Rattle.c_tokens.specs.declared.token.Token.{Token}
 use Rattle.c_tokens.specs.declared.token.Punct.{Punct}
 use Rattle.c_tokens.specs.declared.token.Punct.TheVariants as sign
-use Rattle.c_parser.specs.Tree.{Declared, Stm, Stmt, Block, stms, Param, Item}
+use Rattle.c_parser.specs.Tree.{exps, Declared, Stm, Stmt, Block, stms, Param, Item}
 use Rattle.c_parser.specs.Tree as item
-use Rattle.c_parser.specs.Heights.{height_if, height_of_init}
+use Rattle.c_parser.specs.Heights.{heights, height_of_init}
 use Rattle.c_parser.specs.Signs.{◌>>=◌, place, is_sign, is_word}
 use Rattle.c_parser.specs.Brackets.{bracket, stacked, behind}
 use Rattle.c_parser.specs.ReadExpressions.{Read, closing}
@@ -74,7 +74,7 @@ types_within (suc b) ts = read_parameter_types b ts
 
 abbrev pub is_low : ℕ → List Declared → Bool
 is_low h [] = true
-is_low h (d ∷ ds) = nat_le (height_if d.size) h && (nat_le (height_of_init d.init) h && is_low h ds)
+is_low h (d ∷ ds) = nat_le (heights (exps d.sizes)) h && (nat_le (height_of_init d.init) h && is_low h ds)
 
 abbrev pub is_end : List Punct → Bool
 is_end [] = true

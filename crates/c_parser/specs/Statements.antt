@@ -3,13 +3,13 @@ use Rattle.std.specs.Prelude.{◌≡◌, ℕ, zero, suc, Bool, true, false, List
 use Rattle.c_core.specs.declared.number.Spot.{Spot}
 use Rattle.c_tokens.specs.declared.token.Token.{Token}
 use Rattle.c_tokens.specs.declared.token.Punct.TheVariants as sign
-use Rattle.c_parser.specs.Tree.{Exp, Declared, First, NoFirst, FirstExp, FirstDeclared, Stm, Stmt, Form, Else, NoElse, OrElse, stms}
+use Rattle.c_parser.specs.Tree.{Exp, Exps, Declared, First, NoFirst, FirstExp, FirstDeclared, Stm, Stmt, Form, Else, NoElse, OrElse, ArmLabel, Case, Default, Arm, stms, arms}
 use Rattle.c_parser.specs.Tree as form
-use Rattle.c_parser.specs.Signs.{sign_token, word_token, place, is_word, expr}
+use Rattle.c_parser.specs.Signs.{sign_token, word_token, place, is_word, conditional, expr}
 use Rattle.c_parser.specs.Words.{is_name}
 use Rattle.c_parser.specs.Brackets.{PassedWithin}
 use Rattle.c_parser.specs.Expressions.{Within, Spells}
-use Rattle.c_parser.specs.Declarations.{Declaration}
+use Rattle.c_parser.specs.Declarations.{UpToBrace, Row, Declaration}
 
 -- what stands first in the parentheses of a `for`, its test and its step
 abbrev pub Parts : Type 0
@@ -34,9 +34,11 @@ module _ (Whole : List Token → Exp → List Token → Type 0) (Declares : List
         FirstPart ts first second → Optional second test (sign_token sign.Semicolon q ∷ third) →
         Optional third step (sign_token sign.ParenClose r ∷ rest) → ForParts ts (first, test, step) (sign_token sign.ParenClose r ∷ rest)
 
--- `Paren` is an expression in one more pair of brackets, `Header` the parts of a `for`, `Braced` what stands in braces
+-- `Paren` is an expression in one more pair of brackets, `Header` the parts of a `for`, `Braced` what stands in the braces of
+-- a block, `Armed` what stands in those of a `switch`
 module _ (Whole Paren : List Token → Exp → List Token → Type 0) (Declares : List Token → List Declared → List Token → Type 0)
-    (Header : List Token → Parts → List Token → Type 0) (Braced : List Token → List Stm → List Token → Type 0) where
+    (Header : List Token → Parts → List Token → Type 0) (Braced : List Token → List Stm → List Token → Type 0)
+    (Armed : List Token → List Arm → List Token → Type 0) where
   -- a statement by its production (C11 6.8)
   pub data Statement : List Token → Stm → List Token → Type 0 where
     AnEmpty : {rest : List Token} {p : Spot} → Statement (sign_token sign.Semicolon p ∷ rest) (Stmt p form.Empty) rest
@@ -68,6 +70,9 @@ module _ (Whole Paren : List Token → Exp → List Token → Type 0) (Declares 
     AFor : {ts mid rest : List Token} {first : First} {test step : Option Exp} {s : Stm} {p q r : Spot} →
         Header ts (first, test, step) (sign_token sign.ParenClose r ∷ mid) → Statement mid s rest →
         Statement (word_token (codes "for") p ∷ sign_token sign.ParenOpen q ∷ ts) (Stmt p (form.For first test step s)) rest
+    ASwitch : {ts mid rest : List Token} {e : Exp} {all : List Arm} {p q r u z : Spot} →
+        Paren ts e (sign_token sign.ParenClose r ∷ sign_token sign.BraceOpen u ∷ mid) → Armed mid all (sign_token sign.BraceClose z ∷ rest) →
+        Statement (word_token (codes "switch") p ∷ sign_token sign.ParenOpen q ∷ ts) (Stmt p (form.Switch e (arms all))) rest
 
   -- what stands in a block
   pub data Element : List Token → Stm → List Token → Type 0 where
@@ -79,18 +84,48 @@ module _ (Whole Paren : List Token → Exp → List Token → Type 0) (Declares 
     NoMoreElements : {rest : List Token} {q : Spot} → Elements (sign_token sign.BraceClose q ∷ rest) [] (sign_token sign.BraceClose q ∷ rest)
     MoreElements : {ts mid rest : List Token} {s : Stm} {ss : List Stm} → Element ts s mid → Elements mid ss rest → Elements ts (s ∷ ss) rest
 
+-- `Constant` is a case constant, `One` a statement
+module _ (Constant : List Token → Exp → List Token → Type 0) (One : List Token → Stm → List Token → Type 0) where
+  -- what chooses an arm, with its colon
+  pub data Labelled : List Token → ArmLabel → List Token → Type 0 where
+    ACase : {ts rest : List Token} {e : Exp} {p q : Spot} → Constant ts e (sign_token sign.Colon q ∷ rest) → Labelled (word_token (codes "case") p ∷ ts) (Case e) rest
+    ADefault : {rest : List Token} {p q : Spot} → Labelled (word_token (codes "default") p ∷ sign_token sign.Colon q ∷ rest) Default rest
+
+  -- the statements of an arm; a declaration is none, and a label of the `switch` begins none
+  pub data Body : List Token → List Stm → List Token → Type 0 where
+    NoMoreStatements : {rest : List Token} → Body rest [] rest
+    MoreStatements : {ts mid rest : List Token} {s : Stm} {ss : List Stm} → One ts s mid → Body mid ss rest → Body ts (s ∷ ss) rest
+
+  -- the arms of a `switch`, up to the brace that closes it
+  pub data Arms : List Token → List Arm → List Token → Type 0 where
+    NoMoreArms : {rest : List Token} {q : Spot} → Arms (sign_token sign.BraceClose q ∷ rest) [] (sign_token sign.BraceClose q ∷ rest)
+    MoreArms : {ts mid last rest : List Token} {l : ArmLabel} {ss : List Stm} {more : List Arm} →
+        Labelled ts l mid → Body mid ss last → Arms last more rest → Arms ts (record { spot = place ts; label = l; body = ss } ∷ more) rest
+
 -- With at most b brackets open at one place.
+
+-- the rows of a list, in one more pair of brackets
+unfoldable pub RowsWithin : ℕ → List Token → List Exps → List Token → Type 0
+RowsWithin zero ts rows rest = ⊥
+RowsWithin (suc b) ts rows rest = UpToBrace Exps (Row (Within b)) ts rows rest
 
 -- a declaration, within so many open brackets more
 abbrev pub Declares : ℕ → Bool → List Token → List Declared → List Token → Type 0
-Declares b outside = Declaration (PassedWithin b) (Spells b) (Within b) outside
+Declares b outside = Declaration (PassedWithin b) (Spells b) (Within b) (RowsWithin b) outside
 
 -- in one more pair of brackets
 unfoldable pub HeaderWithin : ℕ → List Token → Parts → List Token → Type 0
 HeaderWithin zero ts parts rest = ⊥
 HeaderWithin (suc b) ts parts rest = ForParts (Spells b expr) (Declares b false) ts parts rest
 
--- the statements up to a block's `}`, within so many open brackets more
-unfoldable pub BracedWithin : ℕ → List Token → List Stm → List Token → Type 0
-BracedWithin zero ts ss rest = ⊥
-BracedWithin (suc b) ts ss rest = Elements (Spells b expr) (Within b expr) (Declares b false) (HeaderWithin b) (BracedWithin b) ts ss rest
+unfoldable mutual
+  -- the statements up to a block's `}`, within so many open brackets more
+  pub BracedWithin : ℕ → List Token → List Stm → List Token → Type 0
+  BracedWithin zero ts ss rest = ⊥
+  BracedWithin (suc b) ts ss rest = Elements (Spells b expr) (Within b expr) (Declares b false) (HeaderWithin b) (BracedWithin b) (ArmedWithin b) ts ss rest
+
+  -- the arms up to the `}` of a `switch`, within so many open brackets more
+  pub ArmedWithin : ℕ → List Token → List Arm → List Token → Type 0
+  ArmedWithin zero ts more rest = ⊥
+  ArmedWithin (suc b) ts more rest =
+      Arms (Spells b conditional) (Statement (Spells b expr) (Within b expr) (Declares b false) (HeaderWithin b) (BracedWithin b) (ArmedWithin b)) ts more rest

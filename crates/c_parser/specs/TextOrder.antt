@@ -4,7 +4,7 @@ use Rattle.c_core.specs.Operators.{is_prefix}
 use Rattle.c_core.specs.TextOrder.{rises, whole}
 use Rattle.c_core.specs.declared.number.Spot.{Spot}
 use Rattle.c_tokens.specs.declared.token.Token.{Token}
-use Rattle.c_parser.specs.Tree.{Exp, Expr, Node, Number, Char, Var, Index, Unary, Cast, Step, Binary, Logic, Choose, Comma, Assign, Call, Exps, NoExp, MoreExp, Init, Absent, One, Many, Declared, First, NoFirst, FirstExp, FirstDeclared, Stm, Stmt, Form, Empty, Do, Declare, Block, If, While, DoWhile, For, Break, Continue, Return, Label, Else, NoElse, OrElse, Stms, NoStm, MoreStm, Param, Item, Function, Prototype, Global, Closed}
+use Rattle.c_parser.specs.Tree.{Exp, Expr, Node, Number, Char, Var, Index, Unary, Cast, Step, Binary, Logic, Choose, Comma, Assign, Call, Exps, NoExp, MoreExp, exps, Init, Absent, One, Many, Rows, Declared, First, NoFirst, FirstExp, FirstDeclared, Stm, Stmt, Form, Empty, Do, Declare, Block, If, While, DoWhile, For, Break, Continue, Return, Label, Switch, Else, NoElse, OrElse, ArmLabel, Case, Default, Stms, NoStm, MoreStm, MoreCase, Param, Item, Function, Prototype, Global, Closed}
 
 abbrev mutual
   -- the places in an expression, in the order of the text
@@ -16,7 +16,7 @@ abbrev mutual
   spots_of_node p (Number v decimal unsigned longs) = p ∷ []
   spots_of_node p (Char v) = p ∷ []
   spots_of_node p (Var x w) = p ∷ []
-  spots_of_node p (Index x w i) = p ∷ spots_of i
+  spots_of_node p (Index x w es) = p ∷ spots_of_all es
   spots_of_node p (Unary op a) = p ∷ spots_of a
   spots_of_node p (Cast to a) = p ∷ spots_of a
   spots_of_node p (Step op a) = cond (is_prefix op) (p ∷ spots_of a) (whole p (spots_of a))
@@ -37,22 +37,33 @@ abbrev pub spots_if : Option Exp → List Spot
 spots_if None = []
 spots_if (Some e) = spots_of e
 
+-- the places in rows
+abbrev pub spots_of_rows : List Exps → List Spot
+spots_of_rows [] = []
+spots_of_rows (row ∷ rows) = spots_of_all row ++ spots_of_rows rows
+
 -- the places in an initializer
 abbrev pub spots_of_init : Init → List Spot
 spots_of_init Absent = []
 spots_of_init (One e) = spots_of e
 spots_of_init (Many es) = spots_of_all es
+spots_of_init (Rows rows) = spots_of_rows rows
 
 -- the places of declared names, in their sizes and initializers
 abbrev pub spots_of_declared : List Declared → List Spot
 spots_of_declared [] = []
-spots_of_declared (d ∷ ds) = d.spot ∷ spots_if d.size ++ spots_of_init d.init ++ spots_of_declared ds
+spots_of_declared (d ∷ ds) = d.spot ∷ spots_of_all (exps d.sizes) ++ spots_of_init d.init ++ spots_of_declared ds
 
 -- the places in the first part of `for (`
 abbrev pub spots_of_first : First → List Spot
 spots_of_first NoFirst = []
 spots_of_first (FirstExp e) = spots_of e
 spots_of_first (FirstDeclared ds) = spots_of_declared ds
+
+-- the places in a case constant
+abbrev pub spots_of_label : ArmLabel → List Spot
+spots_of_label (Case e) = spots_of e
+spots_of_label Default = []
 
 abbrev mutual
   -- the places in a statement, in the order of the text
@@ -73,16 +84,18 @@ abbrev mutual
   spots_of_form p Continue = p ∷ []
   spots_of_form p (Return e) = p ∷ spots_if e
   spots_of_form p (Label w s) = p ∷ spots_of_statement s
+  spots_of_form p (Switch e b) = p ∷ spots_of e ++ spots_of_block b
 
   -- the places in the second arm
   pub spots_of_else : Else → List Spot
   spots_of_else NoElse = []
   spots_of_else (OrElse s) = spots_of_statement s
 
-  -- the places in the statements of a block
+  -- the places in the statements of a block, or in the arms of a `switch`
   pub spots_of_block : Stms → List Spot
   spots_of_block NoStm = []
   spots_of_block (MoreStm s b) = spots_of_statement s ++ spots_of_block b
+  spots_of_block (MoreCase p l b) = p ∷ spots_of_label l ++ spots_of_block b
 
 -- the places of parameters
 abbrev pub spots_of_params : List Param → List Spot

@@ -17,7 +17,8 @@ mutual
     Number : ℕ → Bool → Bool → ℕ → Node
     Char : ℤ → Node
     Var : List ℕ → Spot → Node
-    Index : List ℕ → Spot → Exp → Node
+    -- with the indexes that are written, one or two
+    Index : List ℕ → Spot → Exps → Node
     Unary : UnOp → Exp → Node
     -- to a type, or to void
     Cast : Option IntType → Exp → Node
@@ -32,23 +33,24 @@ mutual
     -- with its closing parenthesis
     Call : List ℕ → Spot → Exps → Spot → Node
 
-  -- arguments, or the values of a list
+  -- arguments, indexes, or the values of a list or row
   pub data Exps : Type 0 where
     NoExp : Exps
     MoreExp : Exp → Exps → Exps
 
--- no initializer, one value, or a list of values
+-- no initializer, one value, a list of values, or a list of rows
 pub data Init : Type 0 where
   Absent : Init
   One : Exp → Init
   Many : Exps → Init
+  Rows : List Exps → Init
 
--- a declared name at its place, with the size that an array states
+-- a declared name at its place, with the sizes that an array states; a scalar has none
 pub record Declared : Type 0 where
   pub spot : Spot
   pub name : List ℕ
   pub ty : IntType
-  pub size : Option Exp
+  pub sizes : List Exp
   pub init : Init
 
 -- the first part of `for (`
@@ -56,6 +58,11 @@ pub data First : Type 0 where
   NoFirst : First
   FirstExp : Exp → First
   FirstDeclared : List Declared → First
+
+-- what chooses an arm of a `switch`
+pub data ArmLabel : Type 0 where
+  Case : Exp → ArmLabel
+  Default : ArmLabel
 
 mutual
   -- its place, its form
@@ -76,16 +83,25 @@ mutual
     Continue : Form
     Return : Option Exp → Form
     Label : List ℕ → Stm → Form
+    -- the arms one behind the other, each behind its label
+    Switch : Exp → Stms → Form
 
   -- the second arm of `if`
   pub data Else : Type 0 where
     NoElse : Else
     OrElse : Stm → Else
 
-  -- the statements of a block
+  -- the statements of a block, or those of the arms of a `switch`, with its labels at their words
   pub data Stms : Type 0 where
     NoStm : Stms
     MoreStm : Stm → Stms → Stms
+    MoreCase : Spot → ArmLabel → Stms → Stms
+
+-- an arm of a `switch`: its label at its word, its statements
+pub record Arm : Type 0 where
+  pub spot : Spot
+  pub label : ArmLabel
+  pub body : List Stm
 
 -- a parameter with its name
 pub record Param : Type 0 where
@@ -111,6 +127,17 @@ exps (e ∷ es) = MoreExp e (exps es)
 abbrev pub stms : List Stm → Stms
 stms [] = NoStm
 stms (s ∷ ss) = MoreStm s (stms ss)
+
+-- statements, and then others
+abbrev pub joined : Stms → Stms → Stms
+joined NoStm c = c
+joined (MoreStm s b) c = MoreStm s (joined b c)
+joined (MoreCase p l b) c = MoreCase p l (joined b c)
+
+-- the arms of a `switch` in their order
+abbrev pub arms : List Arm → Stms
+arms [] = NoStm
+arms (a ∷ rest) = MoreCase a.spot a.label (joined (stms a.body) (arms rest))
 
 -- the same expression in parentheses that begin here
 abbrev pub moved : Spot → Exp → Exp

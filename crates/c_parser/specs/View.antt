@@ -11,7 +11,7 @@ abbrev mutual
   node_view (Number v decimal unsigned longs) = t.Number v decimal unsigned longs
   node_view (Char v) = t.Char v
   node_view (Var x p) = t.Var x p
-  node_view (Index' x p b s n) = t.Index x p (t.Expr s (node_view n))
+  node_view (Index' x p shape row) = t.Index x p (row_view row)
   node_view (Unary' op b s n) = t.Unary op (t.Expr s (node_view n))
   node_view (Cast' to b s n) = t.Cast to (t.Expr s (node_view n))
   node_view (Step' op b s n) = t.Step op (t.Expr s (node_view n))
@@ -22,7 +22,7 @@ abbrev mutual
   node_view (Assign' op b s n b' s' n') = t.Assign op (t.Expr s (node_view n)) (t.Expr s' (node_view n'))
   node_view (Call' f p shape row close) = t.Call f p (row_view row) close
 
-  -- the arguments of a call in their order
+  -- the arguments of a call, or the indexes of an element, in their order
   pub row_view : {m : _} → Row_of-RawExpr m → t.Exps
   row_view end_of-RawExpr = t.NoExp
   row_view (more_of-RawExpr s n row) = t.MoreExp (t.Expr s (node_view n)) (row_view row)

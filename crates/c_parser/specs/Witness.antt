@@ -11,7 +11,7 @@ use Rattle.c_tokens.specs.declared.token.Punct.TheVariants as sign
 use Rattle.c_tokens.specs.Reading.{PlainTokens, Whole, Reads, Leads, start, past}
 use Rattle.c_tokens.specs.declared.place.Place.{Place}
 use Rattle.c_parser.specs.declared.tree.ResultTest.{ResultTest}
-use Rattle.c_parser.specs.Tree.{Exp, Expr, Node, Number, Char, Var, Index, Unary, Cast, Step, Binary, Logic, Choose, Comma, Assign, Call}
+use Rattle.c_parser.specs.Tree.{Exp, Expr, Node, Number, Char, Var, Index, Unary, Cast, Step, Binary, Logic, Choose, Comma, Assign, Call, Exps, NoExp, MoreExp}
 use Rattle.c_parser.specs.Heights.{height}
 use Rattle.c_parser.specs.Signs.{◌>>=◌, sign_token, sign_at, sign_of, is_this, conditional}
 use Rattle.c_parser.specs.Expressions.{Spells}
@@ -31,7 +31,7 @@ abbrev mutual
   is_effectless_node (Number v decimal unsigned longs) = true
   is_effectless_node (Char v) = true
   is_effectless_node (Var x p) = true
-  is_effectless_node (Index x p e) = is_effectless e
+  is_effectless_node (Index x p es) = are_effectless es
   is_effectless_node (Unary o e) = is_effectless e
   is_effectless_node (Cast to e) = is_some to && is_effectless e
   is_effectless_node (Step o e) = false
@@ -41,6 +41,10 @@ abbrev mutual
   is_effectless_node (Comma a b) = false
   is_effectless_node (Assign o a b) = false
   is_effectless_node (Call f p es close) = false
+
+  pub are_effectless : Exps → Bool
+  are_effectless NoExp = true
+  are_effectless (MoreExp e es) = is_effectless e && are_effectless es
 
 -- the bytes spell this expression of a witness: they are C tokens, comments may stand between them and no line is a directive
 pub record IsWitnessExpression (bytes : List ℕ) (e : Exp) : Type 0 where
@@ -73,7 +77,7 @@ abbrev mutual
   is_nameless_node (Number v decimal unsigned longs) = true
   is_nameless_node (Char v) = true
   is_nameless_node (Var x p) = false
-  is_nameless_node (Index x p e) = false
+  is_nameless_node (Index x p es) = false
   is_nameless_node (Unary o e) = is_nameless e
   is_nameless_node (Cast to e) = is_some to && is_nameless e
   is_nameless_node (Step o e) = false

@@ -1,44 +1,42 @@
 // Declarations (C11 6.7): their declarators, with sizes and initializers.
 ghost use Rattle.std.specs.Prelude.{◌≡◌, ◌≤◌, ◌^◌, map, length};
-ghost use Rattle.std.specs.Option.{option_map};
 ghost use Rattle.c_parser.specs.View.{expr_view, exprs_view};
-ghost use Rattle.c_parser.specs.SourceView.{init_view, declared_view};
+ghost use Rattle.c_parser.specs.SourceView.{values_view, init_view, declared_view};
 ghost use Rattle.c_parser.specs.Gives.{Reads};
 ghost use Rattle.c_parser.specs.ReadExpressions.{read, within};
-ghost use Rattle.c_parser.specs.Declarations.{read_size, read_values, read_value, read_initializer, read_declarator, read_declarators};
-ghost use Rattle.c_parser.specs.ReadStatements.{declares};
+ghost use Rattle.c_parser.specs.Declarations.{read_sizes, read_values, read_row, read_list, read_value, read_initializer, read_declarator, read_declarators};
+ghost use Rattle.c_parser.specs.ReadStatements.{rows_within, declares};
 
 use crate::cursor::Read;
-use crate::expressions::{expression_at, within_at};
+use crate::expressions::{dimensions_at, expression_at, within_at};
 use crate::fault::Unread;
 use crate::look::{behind, closed, is_sign, place_at};
 use crate::specifiers::{name_at, type_at};
 use crate::strength::{ASSIGNMENT, CONDITIONAL};
-use crate::tree::{RawDeclared, RawExpr, RawInit};
+use crate::tree::{RawDeclared, RawExpr, RawInit, RawRow};
 use c_core::IntType;
 use c_tokens::{Punct, Token};
 use std::alloc::Global;
 use wv_base::{Seq, Text};
 
-fn size_at<'a>(
+fn sizes_at<'a>(
     alloc: Global,
     tokens: &'a [Token],
     brackets: usize,
     height: usize,
-) -> Read<'a, Option<RawExpr>>
+) -> Read<'a, Seq<RawExpr>>
     requires brackets { brackets ≤ 2 ^ 15 }
     requires height { height ≤ 2 ^ 15 }
-    ensures { Reads (option_map expr_view) result (read_size brackets (read brackets height) (within brackets height) tokens.now) }
+    ensures { Reads exprs_view result (read_sizes (within brackets height) tokens.now) }
 {
     if !is_sign(tokens, Punct::BracketOpen) {
-        return Ok((None, tokens));
+        return Ok((Seq::new(alloc), tokens));
     }
-    let (size, rest) = within_at(alloc, behind(tokens), brackets, height, CONDITIONAL)?;
-    let rest = closed(rest, Punct::BracketClose)?;
-    Ok((Some(size.expr), rest))
+    let (sizes, rest) = dimensions_at(alloc, tokens, brackets, height, CONDITIONAL)?;
+    Ok((sizes.exprs, rest))
 }
 
-/// The values of a list, up to the brace that closes it; at most so many.
+/// The values of a list or row, up to the brace that closes it; at most so many.
 fn values_at<'a>(
     alloc: Global,
     tokens: &'a [Token],
@@ -48,7 +46,7 @@ fn values_at<'a>(
 ) -> Read<'a, Seq<RawExpr>>
     requires brackets { brackets ≤ 2 ^ 15 }
     requires height { height ≤ 2 ^ 15 }
-    ensures { Reads exprs_view result (read_values brackets (read brackets height) (within brackets height) most tokens.now) }
+    ensures { Reads exprs_view result (read_values (within brackets height) most tokens.now) }
 {
     let mut values = Seq::new(alloc);
     let mut more = most;
@@ -68,6 +66,79 @@ fn values_at<'a>(
     Err(Unread::Unspelled)
 }
 
+/// A row: values in braces.
+fn row_at<'a>(
+    alloc: Global,
+    tokens: &'a [Token],
+    brackets: usize,
+    height: usize,
+) -> Read<'a, RawRow>
+    requires brackets { brackets ≤ 2 ^ 15 }
+    requires height { height ≤ 2 ^ 15 }
+    ensures { Reads values_view result (read_row (within brackets height) tokens.now) }
+{
+    if !is_sign(tokens, Punct::BraceOpen) {
+        return Err(Unread::Unspelled);
+    }
+    let (values, rest) = values_at(alloc, behind(tokens), tokens.len(), brackets, height)?;
+    let rest = closed(rest, Punct::BraceClose)?;
+    Ok((RawRow { values }, rest))
+}
+
+/// Rows in one more pair of brackets, up to the brace that closes their list.
+#[tactic(auto, unfolding(crate::specs::ReadStatements::rows_within))]
+fn rows_at<'a>(
+    alloc: Global,
+    tokens: &'a [Token],
+    brackets: usize,
+    height: usize,
+) -> Read<'a, Seq<RawRow>>
+    requires brackets { brackets ≤ 2 ^ 15 }
+    requires height { height ≤ 2 ^ 15 }
+    ensures { Reads (map values_view) result (rows_within brackets height tokens.now) }
+{
+    if brackets == 0 {
+        return Err(Unread::Unspelled);
+    }
+    let mut rows = Seq::new(alloc);
+    let mut more = tokens.len();
+    let mut rest = tokens;
+    while more > 0 {
+        more -= 1;
+        let (row, end) = row_at(alloc, rest, brackets - 1, height)?;
+        rows.push(row)?;
+        if !is_sign(end, Punct::Comma) {
+            return Ok((rows, end));
+        }
+        rest = behind(end);
+        if is_sign(rest, Punct::BraceClose) {
+            return Ok((rows, rest));
+        }
+    }
+    Err(Unread::Unspelled)
+}
+
+/// What stands behind the brace of a list: rows, where another brace follows.
+fn list_at<'a>(
+    alloc: Global,
+    tokens: &'a [Token],
+    brackets: usize,
+    height: usize,
+) -> Read<'a, RawInit>
+    requires brackets { brackets ≤ 2 ^ 15 }
+    requires height { height ≤ 2 ^ 15 }
+    ensures { Reads init_view result (read_list brackets (read brackets height) (within brackets height) (rows_within brackets height) tokens.now) }
+{
+    if is_sign(tokens, Punct::BraceOpen) {
+        let (rows, rest) = rows_at(alloc, tokens, brackets, height)?;
+        let rest = closed(rest, Punct::BraceClose)?;
+        return Ok((RawInit::Rows(rows), rest));
+    }
+    let (values, rest) = values_at(alloc, tokens, tokens.len(), brackets, height)?;
+    let rest = closed(rest, Punct::BraceClose)?;
+    Ok((RawInit::Many(values), rest))
+}
+
 fn value_at<'a>(
     alloc: Global,
     tokens: &'a [Token],
@@ -76,12 +147,11 @@ fn value_at<'a>(
 ) -> Read<'a, RawInit>
     requires brackets { brackets ≤ 2 ^ 15 }
     requires height { height ≤ 2 ^ 15 }
-    ensures { Reads init_view result (read_value brackets (read brackets height) (within brackets height) tokens.now) }
+    ensures { Reads init_view result (read_value brackets (read brackets height) (within brackets height) (rows_within brackets height) tokens.now) }
 {
     if is_sign(tokens, Punct::BraceOpen) {
-        let (values, rest) = values_at(alloc, behind(tokens), tokens.len(), brackets, height)?;
-        let rest = closed(rest, Punct::BraceClose)?;
-        return Ok((RawInit::Many(values), rest));
+        let (list, rest) = list_at(alloc, behind(tokens), brackets, height)?;
+        return Ok((list, rest));
     }
     let (value, rest) = expression_at(alloc, tokens, brackets, height, ASSIGNMENT)?;
     Ok((RawInit::One(value.expr), rest))
@@ -95,7 +165,7 @@ fn initializer_at<'a>(
 ) -> Read<'a, RawInit>
     requires brackets { brackets ≤ 2 ^ 15 }
     requires height { height ≤ 2 ^ 15 }
-    ensures { Reads init_view result (read_initializer brackets (read brackets height) (within brackets height) tokens.now) }
+    ensures { Reads init_view result (read_initializer brackets (read brackets height) (within brackets height) (rows_within brackets height) tokens.now) }
 {
     if !is_sign(tokens, Punct::Assign) {
         return Ok((RawInit::Absent, tokens));
@@ -113,20 +183,20 @@ fn declarator_at<'a>(
 ) -> Read<'a, RawDeclared>
     requires brackets { brackets ≤ 2 ^ 15 }
     requires height { height ≤ 2 ^ 15 }
-    ensures { Reads declared_view result (read_declarator brackets (read brackets height) (within brackets height) ty tokens.now) }
+    ensures { Reads declared_view result (read_declarator brackets (read brackets height) (within brackets height) (rows_within brackets height) ty tokens.now) }
 {
     let Some(word) = name_at(tokens) else {
         return Err(Unread::Unspelled);
     };
     let spot = place_at(tokens);
-    let (size, rest) = size_at(alloc, behind(tokens), brackets, height)?;
+    let (sizes, rest) = sizes_at(alloc, behind(tokens), brackets, height)?;
     let (init, rest) = initializer_at(alloc, rest, brackets, height)?;
     let name = Text::of(alloc, word)?;
     let declared = RawDeclared {
         spot,
         name,
         ty,
-        size,
+        sizes,
         init,
     };
     Ok((declared, rest))
@@ -143,7 +213,7 @@ fn declarators_at<'a>(
 ) -> Read<'a, Seq<RawDeclared>>
     requires brackets { brackets ≤ 2 ^ 15 }
     requires height { height ≤ 2 ^ 15 }
-    ensures { Reads (map declared_view) result (read_declarators brackets (read brackets height) (within brackets height) most ty tokens.now) }
+    ensures { Reads (map declared_view) result (read_declarators brackets (read brackets height) (within brackets height) (rows_within brackets height) most ty tokens.now) }
 {
     let mut declarators = Seq::new(alloc);
     let mut more = most;

@@ -2,7 +2,7 @@
 ghost use Rattle.std.specs.Prelude.{◌≡◌, ◌≤◌, ◌<◌, ◌+◌, ◌^◌, ℕ, Some, None, length};
 ghost use Rattle.c_tokens.specs.declared.token.TokenKind.TheVariants as kind;
 ghost use Rattle.c_parser.specs.Expressions.{has_room};
-ghost use Rattle.c_parser.specs.ReadExpressions.{read, within, full, stored, tail, choice, operand, operand_at, opened, prefixed, signed, in_parens, grouped, converted, name_words, with_steps, named, called, arguments, listed};
+ghost use Rattle.c_parser.specs.ReadExpressions.{read, within, full, stored, tail, choice, operand, operand_at, opened, prefixed, signed, in_parens, grouped, converted, name_words, with_steps, named, called, arguments, listed, bracketed, dimensions};
 ghost use Rattle.c_parser.specs.View.{expr_view};
 ghost use Rattle.c_parser.specs.Gives.{Gives, Fits, GivesAll, assignment_at, steps};
 
@@ -13,7 +13,7 @@ use crate::look::{
     step_before, step_behind,
 };
 use crate::measured::{
-    Measured, MeasuredRow, assigned, boxed, call_of, chosen, joined, leaf, stepped,
+    Measured, MeasuredRow, assigned, boxed, call_of, chosen, element_of, joined, leaf, stepped,
 };
 use crate::strength::{ASSIGNMENT, BINARY, CAST, CONDITIONAL, EXPR, UNARY};
 use crate::tree::{RawExpr, RawNode};
@@ -484,21 +484,57 @@ fn named_at<'a>(
         let got = called_at(alloc, spot, word, behind(tokens), brackets, height)?;
         return Ok(got);
     }
-    let name = Text::of(alloc, word)?;
     if is_sign(tokens, Punct::BracketOpen) {
-        let (at, rest) = within_at(alloc, behind(tokens), brackets, height, EXPR)?;
-        let end = closed(rest, Punct::BracketClose)?;
-        let height = at.height + 1;
-        let node = RawNode::Index {
-            object: name,
-            word: spot,
-            at: boxed(alloc, at.expr)?,
-        };
-        let expr = RawExpr { spot, node };
-        return Ok((Measured { expr, height }, end));
+        let (indexes, rest) = dimensions_at(alloc, tokens, brackets, height, EXPR)?;
+        let element = element_of(alloc, spot, word, indexes)?;
+        return Ok((element, rest));
     }
+    let name = Text::of(alloc, word)?;
     let node = RawNode::Var { name, word: spot };
     Ok((leaf(spot, node), tokens))
+}
+
+/// What stands in square brackets, and in a second pair behind it, if there is one: the indexes of an element or the sizes of
+/// an array.
+#[cycle(expressions)]
+pub fn dimensions_at<'a>(
+    alloc: Global,
+    tokens: &'a [Token],
+    brackets: usize,
+    height: usize,
+    strength: usize,
+) -> Read<'a, MeasuredRow>
+    requires brackets { brackets ≤ 2 ^ 15 }
+    requires height { height ≤ 2 ^ 15 }
+    ensures { GivesAll height result (dimensions (within brackets height strength) tokens.now) }
+{
+    let mut row = MeasuredRow::new(alloc);
+    let (first, rest) = bracketed_at(alloc, tokens, brackets, height, strength)?;
+    row.push(first)?;
+    if is_sign(rest, Punct::BracketOpen) {
+        let (second, end) = bracketed_at(alloc, rest, brackets, height, strength)?;
+        row.push(second)?;
+        return Ok((row, end));
+    }
+    Ok((row, rest))
+}
+
+/// What stands in square brackets, of which one opens here.
+#[cycle(expressions)]
+fn bracketed_at<'a>(
+    alloc: Global,
+    tokens: &'a [Token],
+    brackets: usize,
+    height: usize,
+    strength: usize,
+) -> Read<'a, Measured>
+    requires brackets { brackets ≤ 2 ^ 15 }
+    requires height { height ≤ 2 ^ 15 }
+    ensures { Gives height result (bracketed (within brackets height strength) tokens.now) }
+{
+    let (inside, rest) = within_at(alloc, behind(tokens), brackets, height, strength)?;
+    let end = closed(rest, Punct::BracketClose)?;
+    Ok((inside, end))
 }
 
 /// A call, from behind its parenthesis on.

@@ -1,13 +1,14 @@
-// What statements hold beside other statements: tests, returned values and the headers of `for` (C11 6.8).
+// What statements hold beside other statements: tests, returned values, the headers of `for` and the labels of `switch`
+// (C11 6.8).
 ghost use Rattle.std.specs.Prelude.{◌≡◌, ◌≤◌, ◌^◌, false};
 ghost use Rattle.std.specs.Option.{option_map};
 ghost use Rattle.c_parser.specs.Signs.{expr};
 ghost use Rattle.c_parser.specs.View.{expr_view};
-ghost use Rattle.c_parser.specs.SourceView.{first_view};
+ghost use Rattle.c_parser.specs.SourceView.{first_view, label_view};
 ghost use Rattle.c_parser.specs.Gives.{Reads};
 ghost use Rattle.c_parser.specs.ReadExpressions.{read};
 ghost use Rattle.c_parser.specs.ReadStatements.{declares, optional, first_part, for_parts, header_within};
-ghost use Rattle.c_parser.specs.StatementParts.{header_view, expression_in_parens, value_of_return, test_of_do, header_of_for};
+ghost use Rattle.c_parser.specs.StatementParts.{header_view, expression_in_parens, value_of_return, test_of_do, header_of_for, label_in};
 
 use crate::cursor::Read;
 use crate::declarations::declaration_at;
@@ -15,8 +16,8 @@ use crate::expressions::{expression_at, within_at};
 use crate::fault::Unread;
 use crate::look::{behind, closed, is_sign};
 use crate::specifiers::{begins_declaration, is_word};
-use crate::strength::EXPR;
-use crate::tree::{RawExpr, RawFirst};
+use crate::strength::{CONDITIONAL, EXPR};
+use crate::tree::{RawExpr, RawFirst, RawLabel};
 use c_tokens::{Punct, Token};
 use std::alloc::Global;
 
@@ -179,4 +180,27 @@ pub fn do_test_at<'a>(
     let (test, rest) = test_in_parens(alloc, behind(tokens), brackets, height)?;
     let rest = closed(rest, Punct::Semicolon)?;
     Ok((test, rest))
+}
+
+/// The label of an arm, with its colon.
+pub fn label_of_arm<'a>(
+    alloc: Global,
+    tokens: &'a [Token],
+    brackets: usize,
+    height: usize,
+) -> Read<'a, RawLabel>
+    requires brackets { brackets ≤ 2 ^ 15 }
+    requires height { height ≤ 2 ^ 15 }
+    ensures { Reads label_view result (label_in brackets height tokens.now) }
+{
+    if is_word(tokens, b"case") {
+        let (constant, rest) = expression_at(alloc, behind(tokens), brackets, height, CONDITIONAL)?;
+        let rest = closed(rest, Punct::Colon)?;
+        return Ok((RawLabel::Case(constant.expr), rest));
+    }
+    if is_word(tokens, b"default") {
+        let rest = closed(behind(tokens), Punct::Colon)?;
+        return Ok((RawLabel::Default, rest));
+    }
+    Err(Unread::Unspelled)
 }

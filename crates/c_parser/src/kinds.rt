@@ -1,11 +1,13 @@
 // Which expressions stand in witnesses and in constraints on results.
 ghost use Rattle.std.specs.Prelude.{◌≡◌};
-ghost use Rattle.c_parser.specs.Witness.{is_effectless, is_nameless};
-ghost use Rattle.c_parser.specs.View.{expr_view};
+ghost use Rattle.c_parser.specs.Tree.{exps};
+ghost use Rattle.c_parser.specs.Witness.{is_effectless, are_effectless, is_nameless};
+ghost use Rattle.c_parser.specs.View.{expr_view, exprs_view};
 
 use crate::tree::{RawExpr, RawNode};
 
 /// Whether no assignment, step, call, comma and cast to void stands in an expression.
+#[cycle(effectless)]
 pub fn is_effectless(expr: &RawExpr) -> bool
     ensures { result ≡ is_effectless (expr_view expr.now) }
 {
@@ -13,7 +15,7 @@ pub fn is_effectless(expr: &RawExpr) -> bool
         RawNode::Number { .. } => true,
         RawNode::Char(_) => true,
         RawNode::Var { .. } => true,
-        RawNode::Index { at, .. } => is_effectless(at),
+        RawNode::Index { at, .. } => are_effectless(at.as_slice()),
         RawNode::Unary { of, .. } => is_effectless(of),
         RawNode::Cast { to, of } => to.is_some() && is_effectless(of),
         RawNode::Step { .. } => false,
@@ -25,6 +27,19 @@ pub fn is_effectless(expr: &RawExpr) -> bool
         RawNode::Assign { .. } => false,
         RawNode::Call { .. } => false,
     }
+}
+
+/// The same of each of these.
+#[cycle(effectless)]
+fn are_effectless(exprs: &[RawExpr]) -> bool
+    ensures { result ≡ are_effectless (exps (exprs_view exprs.now)) }
+{
+    for expr in exprs {
+        if !is_effectless(expr) {
+            return false;
+        }
+    }
+    true
 }
 
 /// Whether no name, call, step and cast to void stands in an expression.

@@ -32,5 +32,8 @@ pub use laws::{
     sources_are_formed, text_order, tokens_are_orderly,
 };
 pub use source::parse;
-pub use tree::{RawDeclared, RawExpr, RawFirst, RawForm, RawInit, RawNode, RawStmt, ResultTest};
+pub use tree::{
+    RawArm, RawDeclared, RawExpr, RawFirst, RawForm, RawInit, RawLabel, RawNode, RawRow, RawStmt,
+    ResultTest,
+};
 pub use witness::{parse_expr, parse_result};

@@ -200,6 +200,27 @@ impl MeasuredRow {
     }
 }
 
+/// An element of an array with its indexes.
+pub fn element_of(
+    alloc: Global,
+    spot: Spot,
+    word: &str,
+    indexes: MeasuredRow,
+) -> Result<Measured, OutOfMemory>
+    requires { indexes.height < 2 ^ 15 }
+    ensures expr { IfOk result (λ e. expr_view e.expr ≡ t.Expr spot (t.Index word.now spot (t.exps (exprs_view indexes.exprs)))) }
+    ensures height { IfOk result (λ e. e.height ≡ indexes.height + 1) }
+{
+    let height = indexes.height + 1;
+    let node = RawNode::Index {
+        object: Text::of(alloc, word)?,
+        word: spot,
+        at: indexes.exprs,
+    };
+    let expr = RawExpr { spot, node };
+    Ok(Measured { expr, height })
+}
+
 /// A call with its arguments and the place of its closing parenthesis.
 pub fn call_of(
     alloc: Global,

@@ -1,4 +1,5 @@
-// Statements (C11 6.8). Only nesting recurs, which the height bounds: the statements of a block are a loop.
+// Statements (C11 6.8). Only nesting recurs, which the height bounds: the statements of a block and the arms of a `switch`
+// are loops.
 ghost use Rattle.std.specs.Prelude.{◌≡◌, ◌≤◌, ◌^◌, ◌&&◌, map, drop, IfOk};
 ghost use Rattle.c_tokens.specs.declared.token.Punct.TheVariants.{Semicolon};
 ghost use Rattle.c_parser.specs.Tree as t;
@@ -7,18 +8,18 @@ ghost use Rattle.c_parser.specs.ReadExpressions.{closing};
 ghost use Rattle.c_parser.specs.SourceView.{form_view, stmt_view, else_if};
 ghost use Rattle.c_parser.specs.Gives.{Reads};
 ghost use Rattle.c_parser.specs.Declarations.{begins_declaration};
-ghost use Rattle.c_parser.specs.ReadStatements.{start, AtBrace, AtReturn, AtIf, AtWhile, AtDo, AtFor, AtLabel, AtExpression, statement_level, braced_within};
-ghost use Rattle.c_parser.specs.StatementParts.{start_view, statement_of, else_of};
+ghost use Rattle.c_parser.specs.ReadStatements.{start, AtBrace, AtReturn, AtIf, AtWhile, AtDo, AtFor, AtSwitch, AtLabel, AtExpression, statement_level, braced_within, armed_within, ends_arm};
+ghost use Rattle.c_parser.specs.StatementParts.{start_view, statement_of, else_of, arms_of_switch, body_in, arm_in, raw_arm_view};
 
 use crate::cursor::Read;
 use crate::declarations::declaration_at;
 use crate::expressions::expression_at;
 use crate::fault::Unread;
-use crate::headers::{do_test_at, header_in_parens, returned_at, test_in_parens};
+use crate::headers::{do_test_at, header_in_parens, label_of_arm, returned_at, test_in_parens};
 use crate::look::{behind, closed, is_sign, place_at};
 use crate::specifiers::{begins_declaration, is_word, name_at};
 use crate::strength::EXPR;
-use crate::tree::{RawForm, RawStmt};
+use crate::tree::{RawArm, RawForm, RawStmt};
 use c_core::Spot;
 use c_tokens::{Punct, Token};
 use std::alloc::Global;
@@ -36,6 +37,7 @@ pub enum Start {
     While,
     Do,
     For,
+    Switch,
     Label,
     Expression,
 }
@@ -61,6 +63,8 @@ fn start_at(tokens: &[Token]) -> Start
         Start::Do
     } else if is_word(tokens, b"for") {
         Start::For
+    } else if is_word(tokens, b"switch") {
+        Start::Switch
     } else if name_at(tokens).is_some() && is_sign(behind(tokens), Punct::Colon) {
         Start::Label
     } else {
@@ -92,7 +96,7 @@ pub fn statement_at<'a>(
 ) -> Read<'a, RawStmt>
     requires brackets { brackets ≤ 2 ^ 15 }
     requires height { height ≤ 2 ^ 15 }
-    ensures { Reads stmt_view result (statement_level brackets (braced_within brackets) height declared tokens.now) }
+    ensures { Reads stmt_view result (statement_level brackets (braced_within brackets) (armed_within brackets) height declared tokens.now) }
 {
     if height == 0 {
         return Err(Unread::Unspelled);
@@ -129,6 +133,7 @@ fn form_at<'a>(
         Start::While => while_at(alloc, tokens, brackets, height),
         Start::Do => do_at(alloc, tokens, brackets, height),
         Start::For => for_at(alloc, tokens, brackets, height),
+        Start::Switch => switch_at(alloc, tokens, brackets, height),
         Start::Label => label_at(alloc, tokens, brackets, height),
         Start::Expression => expression_statement_at(alloc, tokens, brackets, height),
     };
@@ -290,6 +295,127 @@ fn for_at<'a>(
         body,
     };
     Ok((RawStmt { spot, form }, rest))
+}
+
+#[cycle(statements)]
+fn switch_at<'a>(
+    alloc: Global,
+    tokens: &'a [Token],
+    brackets: usize,
+    height: usize,
+) -> Read<'a, RawStmt>
+    requires brackets { brackets ≤ 2 ^ 15 }
+    requires height { height ≤ 2 ^ 15 }
+    ensures { Reads stmt_view result (statement_of brackets height AtSwitch tokens.now) }
+{
+    let spot = place_at(tokens);
+    let (test, rest) = test_in_parens(alloc, behind(tokens), brackets, height)?;
+    let (arms, rest) = arms_in_braces(alloc, rest, brackets, height)?;
+    let form = RawForm::Switch { test, arms };
+    Ok((RawStmt { spot, form }, rest))
+}
+
+/// The arms of a `switch` with their braces.
+#[cycle(statements)]
+fn arms_in_braces<'a>(
+    alloc: Global,
+    tokens: &'a [Token],
+    brackets: usize,
+    height: usize,
+) -> Read<'a, Seq<RawArm>>
+    requires brackets { brackets ≤ 2 ^ 15 }
+    requires height { height ≤ 2 ^ 15 }
+    ensures { Reads (map raw_arm_view) result (arms_of_switch brackets height tokens.now) }
+{
+    if !is_sign(tokens, Punct::BraceOpen) {
+        return Err(Unread::Unspelled);
+    }
+    let (arms, rest) = armed_at(alloc, behind(tokens), brackets, height)?;
+    let rest = closed(rest, Punct::BraceClose)?;
+    Ok((arms, rest))
+}
+
+/// The arms of a `switch`, up to the brace that closes it.
+#[cycle(statements)]
+#[tactic(auto, unfolding(crate::specs::ReadStatements::armed_within))]
+fn armed_at<'a>(
+    alloc: Global,
+    tokens: &'a [Token],
+    brackets: usize,
+    height: usize,
+) -> Read<'a, Seq<RawArm>>
+    requires brackets { brackets ≤ 2 ^ 15 }
+    requires height { height ≤ 2 ^ 15 }
+    ensures { Reads (map raw_arm_view) result (armed_within brackets height tokens.now) }
+{
+    if brackets == 0 {
+        return Err(Unread::Unspelled);
+    }
+    let mut arms = Seq::new(alloc);
+    let mut more = tokens.len();
+    let mut rest = tokens;
+    while more > 0 {
+        more -= 1;
+        if is_sign(rest, Punct::BraceClose) {
+            return Ok((arms, rest));
+        }
+        let (arm, end) = arm_at(alloc, rest, brackets - 1, height)?;
+        arms.push(arm)?;
+        rest = end;
+    }
+    Err(Unread::Unspelled)
+}
+
+/// An arm: its label and its statements.
+#[cycle(statements)]
+fn arm_at<'a>(
+    alloc: Global,
+    tokens: &'a [Token],
+    brackets: usize,
+    height: usize,
+) -> Read<'a, RawArm>
+    requires brackets { brackets ≤ 2 ^ 15 }
+    requires height { height ≤ 2 ^ 15 }
+    ensures { Reads raw_arm_view result (arm_in brackets height tokens.now) }
+{
+    let spot = place_at(tokens);
+    let (label, rest) = label_of_arm(alloc, tokens, brackets, height)?;
+    let (body, rest) = body_of_arm(alloc, rest, brackets, height)?;
+    Ok((RawArm { spot, label, body }, rest))
+}
+
+/// The statements of an arm, up to the next label or the brace that closes the `switch`.
+#[cycle(statements)]
+fn body_of_arm<'a>(
+    alloc: Global,
+    tokens: &'a [Token],
+    brackets: usize,
+    height: usize,
+) -> Read<'a, Seq<RawStmt>>
+    requires brackets { brackets ≤ 2 ^ 15 }
+    requires height { height ≤ 2 ^ 15 }
+    ensures { Reads (map stmt_view) result (body_in brackets height tokens.now) }
+{
+    let mut stmts = Seq::new(alloc);
+    let mut more = tokens.len();
+    let mut rest = tokens;
+    while more > 0 {
+        more -= 1;
+        if ends_arm(rest) {
+            return Ok((stmts, rest));
+        }
+        let (stmt, end) = statement_at(alloc, rest, false, brackets, height)?;
+        stmts.push(stmt)?;
+        rest = end;
+    }
+    Err(Unread::Unspelled)
+}
+
+/// Whether no further statement of an arm stands here.
+fn ends_arm(tokens: &[Token]) -> bool
+    ensures { result ≡ ends_arm tokens.now }
+{
+    is_word(tokens, b"case") || is_word(tokens, b"default") || is_sign(tokens, Punct::BraceClose)
 }
 
 #[cycle(statements)]

@@ -25,10 +25,11 @@ pub enum RawNode {
         name: Text,
         word: Spot,
     },
+    /// With its indexes as they are written, one or two.
     Index {
         object: Text,
         word: Spot,
-        at: Box<RawExpr>,
+        at: Seq<RawExpr>,
     },
     Unary {
         op: UnOp,
@@ -121,6 +122,26 @@ pub enum RawForm {
         name: Text,
         of: Box<RawStmt>,
     },
+    Switch {
+        test: RawExpr,
+        arms: Seq<RawArm>,
+    },
+}
+
+/// An arm of a `switch`, at its word `case` or `default`; two labels in a row are two arms.
+#[cycle(stmt)]
+#[derive(Drop)]
+pub struct RawArm {
+    pub spot: Spot,
+    pub label: RawLabel,
+    pub body: Seq<RawStmt>,
+}
+
+/// What chooses an arm.
+#[derive(Drop)]
+pub enum RawLabel {
+    Case(RawExpr),
+    Default,
 }
 
 /// What stands first in the parentheses of a `for`.
@@ -131,13 +152,13 @@ pub enum RawFirst {
     Declare(Seq<RawDeclared>),
 }
 
-/// A declared name at its place, with the size that an array states.
+/// A declared name at its place, with the one or two sizes that an array states.
 #[derive(Drop)]
 pub struct RawDeclared {
     pub spot: Spot,
     pub name: Text,
     pub ty: IntType,
-    pub size: Option<RawExpr>,
+    pub sizes: Seq<RawExpr>,
     pub init: RawInit,
 }
 
@@ -146,6 +167,13 @@ pub enum RawInit {
     Absent,
     One(RawExpr),
     Many(Seq<RawExpr>),
+    Rows(Seq<RawRow>),
+}
+
+/// The values of a row, which stand in braces of their own.
+#[derive(Drop)]
+pub struct RawRow {
+    pub values: Seq<RawExpr>,
 }
 
 /// A `\result` constraint: the result compared with a constant.

@@ -12,15 +12,16 @@ use Rattle.c_core.specs.declared.number.Property.TheVariants.{UnreachCall, NoOve
 use Rattle.c_meaning.specs.declared.run.End.{End}
 use Rattle.c_meaning.specs.declared.run.End.TheVariants.{Ended, Undefined, Violated, Spent, Deep}
 use Rattle.c_meaning.specs.declared.run.Event.{Event}
+use Rattle.c_meaning.specs.declared.run.Way.TheVariants.{Truth}
 use Rattle.c_meaning.specs.declared.run.Event.TheVariants.{Branch, Enter, Return as Returned, Fail}
 use Rattle.c_meaning.specs.declared.run.DrawKind.{DrawKind}
 use Rattle.c_meaning.specs.Cells.{Key, Cell, put, cells_from}
-use Rattle.c_meaning.specs.Objects.{size_of_object}
+use Rattle.c_meaning.specs.Objects.{size_of_object, columns_of_object}
 use Rattle.c_meaning.specs.Meaning.{Tick, Where, Site, Loop, Meaning}
-use Rattle.c_meaning.specs.Acts.{Res, Go, Stop, Flow, Next, Broken, Again, Gave, bind, go_on, turned, continuing, given}
+use Rattle.c_meaning.specs.Acts.{Res, Go, Stop, Flow, Next, Broken, Again, Gave, bind, go_on, turned, continuing, held, given}
 use Rattle.c_meaning.specs.Acts as acts
 use Rattle.c_meaning.specs.Run as run
-use Rattle.c_meaning.specs.Run.{State, Moment, Here, Head, cells_of, with_cells, most_cells, index_below, real}
+use Rattle.c_meaning.specs.Run.{State, Moment, Here, Head, cells_of, with_cells, most_cells, cell_among, arm_for, way_for, real}
 use Rattle.c_meaning.proofs.Stateful.{keys_put}
 use Rattle.c_room.proofs.Rooms.{Parts}
 use Rattle.c_frames.proofs.CellLaws.{keys_length}
@@ -163,7 +164,7 @@ module _ (p : Program) (S : Type 0) (see : Moment → S → S) (a C : ℕ) (room
   moves_cond c d false m k g f = record { at = λ n s. f.at n s }
 
   pub moves_branch : (c d : ℕ) (spot : Spot) (t : Bool) (m k : Act Flow) → Moves c d m → Moves c d k → Moves c d (M.branch spot t m k)
-  moves_branch c d spot t m k g f = moves_using c d (run.tell p S see (Branch spot t)) _ (keeps_tell (Branch spot t)) (λ _. moves_cond c d t m k g f)
+  moves_branch c d spot t m k g f = moves_using c d (run.tell p S see (Branch spot (Truth t))) _ (keeps_tell (Branch spot (Truth t))) (λ _. moves_cond c d t m k g f)
 
   pub moves_seq : (c d e f : ℕ) (m k : Act Flow) → c ≤ d → Moves c d m → Moves e f k → Moves (c + e) (d + f) (λ s. bind (m s) (go_on k))
   moves_seq c d e f m k w g h = record { at = λ n s l q r. by n l (m s) (g.at n s (omega (arith, l)) q r) }
@@ -208,6 +209,13 @@ module _ (p : Program) (S : Type 0) (see : Moment → S → S) (a C : ℕ) (room
     where
       by : (n : ℕ) (r : Res End (State S) Flow) → Calm n r → Lands (n + 0) (bind r (λ f u. Go (continuing f) u))
       by n (Go f t) o = flow_lands (n + 0) (continuing f) t (omega (arith, o.0)) o.1
+      by n (Stop e t) o = o
+
+  pub moves_breaks : (c d : ℕ) (m : Act Flow) → Moves c d m → Moves 0 d (M.breaks m)
+  moves_breaks c d m g = record { at = λ n s l q r. by n (acts.scoped End (State S) cells_of with_cells m s) (cut_calm n s q (m s) (n + c) (g.at n s l q r)) }
+    where
+      by : (n : ℕ) (r : Res End (State S) Flow) → Calm n r → Lands (n + 0) (bind r (λ f u. Go (held f) u))
+      by n (Go f t) o = flow_lands (n + 0) (held f) t (omega (arith, o.0)) o.1
       by n (Stop e t) o = o
 
   -- each turn leaves no more cells
@@ -267,13 +275,13 @@ module _ (p : Program) (S : Type 0) (see : Moment → S → S) (a C : ℕ) (room
     convert = λ from to v. record { at = λ n s l q r. (q, r) };
     test = λ ty v. record { at = λ n s l q r. (q, r) };
     draw = λ kind spot ty. keeps_draw kind spot ty;
-    element = λ spot o ty v. keeps_key spot o (index_below (size_of_object p o) v);
+    element = λ spot o vs. keeps_key spot o (cell_among (size_of_object p o) (columns_of_object p o) vs);
     look = λ k. keeps_look k;
     write = λ k v. keeps_write k v;
     answer = λ at' spot op ty x right y. keeps_answered at' spot (apply_of p.model op ty x y);
     answer_one = λ at' spot op ty x. keeps_answered at' spot (apply_one_of p.model op ty x);
     choose = λ t x y g f. keeps_choice t x y g f;
-    pick = λ mark t x y g f. keeps_after (Branch mark t) (λ s. cond t x y s) (keeps_cond t x y g f);
+    pick = λ mark t x y g f. keeps_after (Branch mark (Truth t)) (λ s. cond t x y s) (keeps_cond t x y g f);
     enter = λ site. keeps_tell (Enter site.close);
     came_back = λ site v. keeps_tell (Returned site.close (Some v));
     reach = λ at' site. keeps_reached p.property at' site;
@@ -281,6 +289,7 @@ module _ (p : Program) (S : Type 0) (see : Moment → S → S) (a C : ℕ) (room
     here = λ spot. record { at = λ n s l q r. (q, r) };
     declare = λ o c. moves_declare o c;
     branch = λ c d spot t x y g f. moves_branch c d spot t x y g f;
+    select = λ spot ty v ls. keeps_after (Branch spot (way_for v ls)) (run.ret p S see (arm_for v ls)) (keeps_ret (arm_for v ls));
     next = λ d. moves_next d;
     leave = λ c d. moves_leave c d;
     again = λ c d. moves_again c d;
@@ -288,6 +297,7 @@ module _ (p : Program) (S : Type 0) (see : Moment → S → S) (a C : ℕ) (room
     seq = λ c d e f x y w g h. moves_seq c d e f x y w g h;
     scoped = λ c d x g. moves_scoped c d x g;
     continued = λ c d x g. moves_continued c d x g;
+    breaks = λ c d x g. moves_breaks c d x g;
     loop = λ d spot l x g. moves_loop d spot l x g;
     wider = λ c d e x w g. moves_wider c d e x w g;
   }

@@ -1,22 +1,26 @@
 -- Where each part of a meaning stays within its room, the meaning of every tree does: as the lemma on two meanings, but that it knows how many cells are declared where room is asked for.
 use Rattle.std.proofs.Common.{◌≡◌, ◌≤◌, ◌+◌, ℕ, zero, suc, Bool, true, false, ◌||◌, List, [], ◌∷◌, ◌++◌, Option, Some, None, sym, ap, ◌∙◌, subst, arith, append_assoc}
+use Rattle.std.specs.List.{flat_map}
 use Rattle.std.proofs.lemmas.Bool.{or_left, or_right}
+use Rattle.c_core.specs.Types.{promote_of}
+use Rattle.c_core.specs.Typing.{labels_in}
 use Rattle.c_core.specs.Operators.{op_of_step}
-use Rattle.c_core.specs.Tree.{Exp, Expr, Node, Const, Var, Index, Unary, Cast, Step, Binary, Logic, Choose, Comma, Assign, Call, Exps, NoExp, MoreExp, Init, Absent, One, Many, Names, NoName, MoreName, First, NoFirst, FirstExp, FirstNames, Stm, Stmt, Form, Empty, Do, Declare, Block, If, While, DoWhile, For, Break, Continue, Return, Label, Else, NoElse, OrElse, Stms, NoStm, MoreStm, Program}
+use Rattle.c_core.specs.Tree.{Exp, Expr, Node, Const, Var, Index, Unary, Cast, Step, Binary, Logic, Choose, Comma, Assign, Call, Exps, NoExp, MoreExp, Init, Absent, One, Many, Rows, Names, NoName, MoreName, First, NoFirst, FirstExp, FirstNames, Stm, Stmt, Form, Empty, Do, Declare, Block, If, While, DoWhile, For, Break, Continue, Return, Label, Switch, Else, NoElse, OrElse, Stms, NoStm, MoreStm, MoreCase, Program}
 use Rattle.c_core.specs.declared.number.IntType.{IntType}
 use Rattle.c_core.specs.declared.number.IntType.TheVariants.{Int}
 use Rattle.c_core.specs.declared.number.Spot.{Spot}
 use Rattle.c_core.specs.declared.number.BinOp.{BinOp}
 use Rattle.c_core.specs.declared.number.UnOp.{UnOp}
 use Rattle.c_core.specs.declared.tree.Callee.{Callee}
+use Rattle.c_core.specs.declared.tree.Label.{Label as ArmLabel}
 use Rattle.c_core.specs.declared.tree.Callee.TheVariants.{Defined, Input as InputOf, ReachError, Abort, Exit}
 use Rattle.c_meaning.specs.declared.run.DrawKind.{DrawKind}
 use Rattle.c_meaning.specs.declared.run.DrawKind.TheVariants.{Input, Cell as ACellDraw}
-use Rattle.c_meaning.specs.Objects.{type_of, type_of_object, size_of_object}
-use Rattle.c_meaning.specs.Parts.{some_of, some_node, some_part, some_argument, exp_if, fulls_of, fulls_of_form, fulls_of_else, fulls_of_block, fulls_of_init, fulls_of_names, fulls_of_first, objects_of_names, objects_of_first, declared_in, declared_in_form, declared_in_else, declared_in_block, calls}
+use Rattle.c_meaning.specs.Objects.{type_of, type_of_object, size_of_object, columns_of_object}
+use Rattle.c_meaning.specs.Parts.{some_of, some_node, some_part, some_argument, exps_in, exp_if, fulls_of, fulls_of_form, fulls_of_else, fulls_of_block, fulls_of_init, fulls_of_names, fulls_of_first, objects_of_names, objects_of_first, declared_in, declared_in_form, declared_in_else, declared_in_block, calls}
 use Rattle.c_meaning.specs.Meaning.{Tick, AStatement, ANode, ACell, Use, Used, Unused, Where, Site, Loop, Meaning, Calls, ForLoop}
 use Rattle.c_meaning.specs.Eval.{convert_to, operate, store, assign, tested, called, eval, node, target, place, evals}
-use Rattle.c_meaning.specs.Exec.{ticks, full, full_if, control, going, for_turn, draw_cells, initials, initial, declare, first, exec, form, otherwise, execs, body, with_params}
+use Rattle.c_meaning.specs.Exec.{ticks, full, full_if, control, going, for_turn, draw_cells, initials, row_initials, initial, declare, first, exec, form, otherwise, execs, from_arm, body, with_params}
 use Rattle.c_frames.proofs.CellLaws.{same_itself}
 use Rattle.c_frames.proofs.Refitting.{some-append, some_exps}
 
@@ -32,7 +36,7 @@ pub record Parts (p : Program) (M : Meaning) : Type 1 where
   pub convert : (from to : IntType) (v : M.Value) → Keeps (M.convert from to v)
   pub test : (ty : IntType) (v : M.Value) → Keeps (M.test ty v)
   pub draw : (kind : DrawKind) (spot : Spot) (ty : IntType) → Keeps (M.draw kind spot ty)
-  pub element : (spot : Spot) (o : ℕ) (ty : IntType) (v : M.Value) → Keeps (M.element spot o (size_of_object p o) ty v)
+  pub element : (spot : Spot) (o : ℕ) (vs : List (M.Value × IntType)) → Keeps (M.element spot o (size_of_object p o) (columns_of_object p o) vs)
   pub look : (k : M.Target) → Keeps (M.look k)
   pub write : (k : M.Target) (v : M.Value) → Keeps (M.write k v)
   pub answer : (at : Where) (spot : Spot) (op : BinOp) (ty : IntType) (x : M.Value) (right : IntType) (y : M.Value) → Keeps (M.answer at spot op ty x right y)
@@ -46,6 +50,7 @@ pub record Parts (p : Program) (M : Meaning) : Type 1 where
   pub here : (spot : Spot) → Keeps (M.here spot)
   pub declare : (o n : ℕ) → Moves n n (M.declare o n)
   pub branch : (c d : ℕ) (spot : Spot) (t : M.Truth) (a b : M.Done) → Moves c d a → Moves c d b → Moves c d (M.branch spot t a b)
+  pub select : (spot : Spot) (ty : IntType) (v : M.Value) (ls : List ArmLabel) → Keeps (M.select spot ty v ls)
   pub next : (d : ℕ) → Moves 0 d M.next
   pub leave : (c d : ℕ) → Moves c d M.leave
   pub again : (c d : ℕ) → Moves c d M.again
@@ -53,6 +58,7 @@ pub record Parts (p : Program) (M : Meaning) : Type 1 where
   pub seq : (c d e f : ℕ) (a b : M.Done) → c ≤ d → Moves c d a → Moves e f b → Moves (c + e) (d + f) (M.seq a b)
   pub scoped : (c d : ℕ) (a : M.Done) → Moves c d a → Moves 0 d (M.scoped a)
   pub continued : (c d : ℕ) (a : M.Done) → Moves c d a → Moves 0 d (M.continued a)
+  pub breaks : (c d : ℕ) (a : M.Done) → Moves c d a → Moves 0 d (M.breaks a)
   pub loop : (d : ℕ) (spot : Spot) (l : Loop) (turn : M.Done) → Moves 0 d turn → Moves 0 d (M.loop spot l turn)
   pub wider : (c d e : ℕ) (a : M.Done) → d ≤ e → Moves c d a → Moves c e a
 
@@ -89,6 +95,7 @@ module _ (p : Program) where
     own_size_form Break = 0
     own_size_form Continue = 0
     own_size_form (Return e) = 0
+    own_size_form (Switch e b) = 0
 
   mutual
     own_small : (s : Stm) → own_size s ≤ sizes (declared_in s)
@@ -107,10 +114,12 @@ module _ (p : Program) where
     own_small_form Break = omega arith
     own_small_form Continue = omega arith
     own_small_form (Return e) = omega arith
+    own_small_form (Switch e b) = omega arith
 
   abbrev own_sizes : Stms → ℕ
   own_sizes NoStm = 0
   own_sizes (MoreStm s b) = own_size s + own_sizes b
+  own_sizes (MoreCase spot l b) = own_sizes b
 
   module _ {M : Meaning} (parts : Parts p M) (call : Calls M) where
     abbrev pub CallCalm : ℕ → Type 0
@@ -158,7 +167,7 @@ module _ (p : Program) where
         calm_n : (want : Use) (spot : Spot) (ty : Option IntType) (n : Node) → Called (λ q. q n || some_part q n) → parts.Keeps (node p M call at' want spot ty n)
         calm_n want spot ty (Const v) h = parts.ret _
         calm_n want spot ty (Var o) h = parts.look (M.cell o 0)
-        calm_n want spot ty (Index o i) h = parts.bind _ _ (calm_e Used i (right (λ q. q (Index o i)) (λ q. some_node q i) h)) (λ j. parts.bind _ _ (parts.element spot o (type_of i) j) (λ k. parts.look k))
+        calm_n want spot ty (Index o is) h = parts.bind _ _ (calm_es is (right (λ q. q (Index o is)) (λ q. some_argument q is) h)) (λ js. parts.bind _ _ (parts.element spot o js) (λ k. parts.look k))
         calm_n want spot ty (Unary op x) h = parts.bind _ _ (calm_e Used x (right (λ q. q (Unary op x)) (λ q. some_node q x) h)) (λ v. parts.bind _ _ (parts.convert _ _ v) (λ w. parts.answer_one at' spot op _ w))
         calm_n want spot None (Cast x) h = calm_e Unused x (right (λ q. q (Cast x)) (λ q. some_node q x) h)
         calm_n want spot (Some ty) (Cast x) h = parts.bind _ _ (calm_e Used x (right (λ q. q (Cast x)) (λ q. some_node q x) h)) (λ v. parts.convert (type_of x) ty v)
@@ -195,7 +204,7 @@ module _ (p : Program) where
         calm_t (Expr spot ty n) h = parts.bind _ _ (parts.tick ANode) (λ _. calm_p spot n (right (λ q. q n) (λ q. some_part q n) h))
 
         calm_p : (spot : Spot) (n : Node) → Called (λ q. some_part q n) → parts.Keeps (place p M call at' spot n)
-        calm_p spot (Index o i) h = parts.bind _ _ (calm_e Used i h) (λ j. parts.element spot o (type_of i) j)
+        calm_p spot (Index o is) h = parts.bind _ _ (calm_es is h) (λ js. parts.element spot o js)
         calm_p spot (Var o) h = parts.ret _
         calm_p spot (Const v) h = parts.ret _
         calm_p spot (Unary op x) h = parts.ret _
@@ -253,10 +262,17 @@ module _ (p : Program) where
         parts.bind _ _ (calm_full at' Used e (left (λ q. some_node q e) (λ q. some_argument q es) h)) (λ v. parts.bind _ _ (parts.convert _ _ v) (λ w.
         parts.bind _ _ (parts.write _ w) (λ _. calm_initials at' o (suc i) es (right (λ q. some_node q e) (λ q. some_argument q es) h))))
 
+    calm_rows : (at' : Spot) (o i : ℕ) (rows : List Exps) → Fulls (flat_map exps_in rows) → parts.Keeps (row_initials p M call at' o i rows)
+    calm_rows at' o i [] h = parts.ret tt
+    calm_rows at' o i (es ∷ rows) h =
+        let g = front (exps_in es) (flat_map exps_in rows) h in
+        parts.bind _ _ (calm_initials at' o i es (λ f e. g f (some_exps (calls f) es ∙ e))) (λ _. calm_rows at' o (i + columns_of_object p o) rows (back (exps_in es) (flat_map exps_in rows) h))
+
     calm_initial : (at' spot : Spot) (o : ℕ) (i : Init) → Fulls (fulls_of_init i) → parts.Keeps (initial p M call at' spot o i)
     calm_initial at' spot o Absent h = calm_draws spot o 0 (size_of_object p o)
     calm_initial at' spot o (One e) h = calm_initials at' o 0 (MoreExp e NoExp) h
     calm_initial at' spot o (Many es) h = calm_initials at' o 0 es (λ f e. h f (some_exps (calls f) es ∙ e))
+    calm_initial at' spot o (Rows rows) h = calm_rows at' o 0 rows h
 
     pub keeps_ticks : (t : Tick) (n : ℕ) → parts.Keeps (ticks p M t n)
     keeps_ticks t zero = parts.ret tt
@@ -317,6 +333,10 @@ module _ (p : Program) where
         calm_f at' Continue h = parts.again 0 0
         calm_f at' (Return e) h = calm_return result 0 0 at' e h
         calm_f at' (Label b) h = calm_s b h
+        calm_f at' (Switch e b) h =
+            let d = sizes (declared_in_block b) in
+            parts.using 0 d _ _ (calm_full at' Used e (head e (fulls_of_block b) h)) (λ v. parts.using 0 d _ _ (parts.convert _ _ v) (λ w.
+            parts.using 0 d _ _ (parts.select at' (promote_of (type_of e)) w (labels_in b)) (λ n. calm_arms n b (tail e (fulls_of_block b) h))))
 
         calm_else : (b : Else) → Fulls (fulls_of_else b) → parts.Moves 0 (sizes (declared_in_else b)) (otherwise p M call result b)
         calm_else NoElse h = parts.next 0
@@ -327,6 +347,15 @@ module _ (p : Program) where
         calm_b (MoreStm s b) h =
             moves_sized _ _ _ _ (sym (sizes-append (declared_in s) (declared_in_block b)))
             (parts.seq (own_size s) (sizes (declared_in s)) (own_sizes b) (sizes (declared_in_block b)) _ _ (own_small s) (calm_s s (front (fulls_of s) (fulls_of_block b) h)) (calm_b b (back (fulls_of s) (fulls_of_block b) h)))
+        calm_b (MoreCase spot l b) h = calm_b b h
+
+        calm_arms : (n : ℕ) (b : Stms) → Fulls (fulls_of_block b) → parts.Moves 0 (sizes (declared_in_block b)) (from_arm p M call result n b)
+        calm_arms n NoStm h = parts.next 0
+        calm_arms n (MoreStm s b) h =
+            let k = sizes-append (declared_in s) (declared_in_block b) in
+            parts.wider 0 (sizes (declared_in_block b)) _ _ (omega (arith, k)) (calm_arms n b (back (fulls_of s) (fulls_of_block b) h))
+        calm_arms zero (MoreCase spot l b) h = parts.breaks (own_sizes b) (sizes (declared_in_block b)) _ (calm_b b h)
+        calm_arms (suc n) (MoreCase spot l b) h = calm_arms n b h
 
       pub calm_body : (s : Stm) → Fulls (fulls_of s) → parts.Moves (own_size s) (sizes (declared_in s)) (body p M call result s)
       calm_body (Stmt at' f) h = parts.using _ _ _ _ (parts.tick AStatement) (λ _. calm_f at' f h)

@@ -22,6 +22,10 @@ pub next_statement : (ss : List RawStmt) (i : ℕ) (s : RawStmt) → i < length 
     → stms (map stmt_view (drop i ss)) ≡ raw.MoreStm (stmt_view s) (stms (map stmt_view (drop (i + 1) ss)))
 next_statement ss i s h q = ap (λ (x : List RawStmt). stms (map stmt_view x)) (drop_more ss i s h ∙ ap (λ (x : RawStmt). x ∷ drop (i + 1) ss) (sym q))
 
+pub next_in_list : (ss : List RawStmt) (i : ℕ) (s : RawStmt) → i < length ss → s ≡ get_or ss i s
+    → map stmt_view (drop i ss) ≡ stmt_view s ∷ map stmt_view (drop (i + 1) ss)
+next_in_list ss i s h q = ap (map stmt_view) (drop_more ss i s h ∙ ap (λ (x : RawStmt). x ∷ drop (i + 1) ss) (sym q))
+
 -- these statements, and then the rest
 abbrev pub statements_before : List Stmt → t.Stms → t.Stms
 statements_before [] rest = rest
@@ -54,3 +58,6 @@ same_do e f a b h k = ap (t.DoWhile a) h ∙ ap (λ x. t.DoWhile x f) k
 
 pub same_for : (i j : t.First) (e f u v : Option t.Exp) (a b : t.Stm) → i ≡ j → e ≡ f → u ≡ v → a ≡ b → t.For i e u a ≡ t.For j f v b
 same_for i j e f u v a b h k l n = ap (λ x. t.For x e u a) h ∙ ap (λ x. t.For j x u a) k ∙ ap (λ x. t.For j f x a) l ∙ ap (t.For j f v) n
+
+pub same_switch : (e f : t.Exp) (a b : t.Stms) → e ≡ f → a ≡ b → t.Switch e a ≡ t.Switch f b
+same_switch e f a b h k = ap (λ x. t.Switch x a) h ∙ ap (t.Switch f) k

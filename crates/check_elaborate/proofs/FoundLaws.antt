@@ -9,7 +9,7 @@ use Rattle.check_rules.specs.Kept.{Kept, kept_of_part, kept_of_parts}
 use Rattle.check_rules.specs.Noting.{noted_part, noted_parts}
 use Rattle.check_rules.specs.Parts.{Part, bodies_of}
 use Rattle.check_rules.specs.Scopes.{Scope}
-use Rattle.check_rules.proofs.NotingLaws.{noted_parts-append}
+use Rattle.check_rules.proofs.NotingLaws.{noted_parts-append, noted_part-last}
 use Rattle.check_elaborate.specs.Walks.{Found, found, with_parts}
 
 pub same_found : (b c : Option Refusal) (ks ls : List Kept) → b ≡ c → ks ≡ ls → found b ks ≡ found c ls
@@ -64,3 +64,12 @@ module _ (m : DataModel) (items : List Item) where
       → d ≡ with_parts m items b (p ∷ qs s)
   before_quiet b c d p qs s t e f g h k =
       found_then b c d (p ∷ []) qs s t (quiet b c (p ∷ []) e f (ap (λ (x : List Kept). x ++ []) g)) h k
+
+  -- a part of which nothing is kept may be looked at behind those that follow it
+  pub before_found : (b c d : Found) (p : Part) (ps : List Part)
+      → c ≡ with_parts m items b ps → d.best ≡ noted_part m items c.best p → d.kept ≡ c.kept → kept_of_part m (bodies_of items) p ≡ []
+      → d ≡ with_parts m items b (p ∷ ps)
+  before_found b c d p ps e f g h =
+      same_found d.best (noted_parts m items b.best (p ∷ ps)) d.kept (b.kept ++ kept_of_parts m (bodies_of items) (p ∷ ps))
+      (f ∙ ap (λ (x : Found). noted_part m items x.best p) e ∙ noted_part-last m items b.best ps p)
+      (g ∙ ap (λ (x : Found). x.kept) e ∙ sym (ap (λ (x : List Kept). b.kept ++ (x ++ kept_of_parts m (bodies_of items) ps)) h))

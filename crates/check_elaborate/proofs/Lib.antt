@@ -9,4 +9,7 @@ mod BlockLaws
 mod LabelLaws
 mod ParameterLaws
 mod StartLaws
+mod SizeLaws
+mod RowLaws
+mod ArmLaws
 mod ItemLaws

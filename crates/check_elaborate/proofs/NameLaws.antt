@@ -1,19 +1,16 @@
 -- Lists of declared names, and their views.
-use Rattle.std.proofs.Common.{◌≡◌, ◌<◌, ◌+◌, ◌++◌, ℕ, List, [], ◌∷◌, drop, get_or, map, refl, ap, sym, ◌∙◌, length, false, Option, Some, None, is_some}
+use Rattle.std.proofs.Common.{◌≡◌, ◌<◌, ◌+◌, ◌++◌, ℕ, List, [], ◌∷◌, drop, get_or, map, refl, ap, sym, ◌∙◌, length, false}
 use Rattle.std.proofs.lemmas.List.{drop_more}
 use Rattle.c_core.specs.Tree as t
 use Rattle.c_core.specs.View.{init_view, names_view}
 use Rattle.c_core.specs.declared.tree.Declared.{Declared}
 use Rattle.c_parser.specs.Tree as raw
 use Rattle.c_parser.specs.SourceView.{declared_view}
-use Rattle.c_parser.specs.View.{expr_view}
 use Rattle.c_parser.specs.declared.tree.RawDeclared.{RawDeclared}
-use Rattle.c_parser.specs.declared.tree.RawExpr.{RawExpr}
 use Rattle.c_core.specs.declared.number.DataModel.{DataModel}
 use Rattle.c_core.specs.declared.number.Spot.{Spot}
 use Rattle.check_rules.specs.Checked.{typed_init, typed_names}
 use Rattle.check_rules.specs.Scopes.{Scope, seen, after_name}
-use Rattle.std.specs.Option.{option_map}
 
 pub next_declared : (ds : List RawDeclared) (i : ℕ) (d : RawDeclared) → i < length ds → d ≡ get_or ds i d
     → map declared_view (drop i ds) ≡ declared_view d ∷ map declared_view (drop (i + 1) ds)
@@ -44,7 +41,3 @@ pub names_typed-next : (m : DataModel) (bodies : List (List ℕ)) (all : List De
 names_typed-next m bodies all x s u d rest p n i e =
     names_before-one_more all x (typed_names m bodies u rest)
     ∙ ap (names_before all) (same_more x.spot d.spot x.object (length s.objects) (init_view x.init) (typed_init m bodies (seen (after_name m bodies false s d)) d.init) (typed_names m bodies u rest) (typed_names m bodies (after_name m bodies false s d) rest) p n i (ap (λ y. typed_names m bodies y rest) e))
-
-pub is_some-viewed : (e : Option RawExpr) → is_some e ≡ is_some (option_map expr_view e)
-is_some-viewed None = refl
-is_some-viewed (Some e) = refl

@@ -5,7 +5,7 @@ use Rattle.c_core.specs.declared.number.DataModel.{DataModel}
 use Rattle.c_core.specs.declared.tree.Object.{Object}
 use Rattle.c_parser.specs.Tree as raw
 use Rattle.check_rules.specs.Names.{Entry}
-use Rattle.check_rules.specs.Scopes.{Scope, scope, seen, opened, closed, after_name, after_names, after_first, after_statement, after_form, after_else, after_block}
+use Rattle.check_rules.specs.Scopes.{Scope, scope, seen, opened, closed, after_name, after_names, after_first, after_statement, after_form, after_else, after_block, after_arms}
 use Rattle.check_elaborate.specs.Walks.{cut}
 
 module _ (m : DataModel) (bodies : List (List ℕ)) where
@@ -22,6 +22,11 @@ module _ (m : DataModel) (bodies : List (List ℕ)) where
   kept_by_else s raw.NoElse = refl
   kept_by_else s (raw.OrElse b) = refl
 
+  pub kept_by_arms : (s : Scope) (b : raw.Stms) → (after_arms m bodies s b).outer ≡ s.outer
+  kept_by_arms s raw.NoStm = refl
+  kept_by_arms s (raw.MoreStm x b) = kept_by_arms (closed s (after_statement m bodies (opened s) x)) b
+  kept_by_arms s (raw.MoreCase p l b) = kept_by_arms s b
+
   kept_by_form : (s : Scope) (f : raw.Form) → (after_form m bodies s f).outer ≡ s.outer
   kept_by_form s (raw.Declare ds) = kept_by_names false s ds
   kept_by_form s (raw.Block b) = refl
@@ -30,6 +35,7 @@ module _ (m : DataModel) (bodies : List (List ℕ)) where
   kept_by_form s (raw.DoWhile a e) = refl
   kept_by_form s (raw.For i e u a) = refl
   kept_by_form s (raw.Label w a) = refl
+  kept_by_form s (raw.Switch e b) = kept_by_arms s b
   kept_by_form s raw.Empty = refl
   kept_by_form s (raw.Do e) = refl
   kept_by_form s raw.Break = refl
@@ -42,6 +48,7 @@ module _ (m : DataModel) (bodies : List (List ℕ)) where
   pub kept_by_block : (s : Scope) (b : raw.Stms) → (after_block m bodies s b).outer ≡ s.outer
   kept_by_block s raw.NoStm = refl
   kept_by_block s (raw.MoreStm x b) = kept_by_block (after_statement m bodies s x) b ∙ kept_by_statement s x
+  kept_by_block s (raw.MoreCase p l b) = kept_by_block s b
 
 -- the scope around is found again: its length was kept when the one in it was opened
 pub closes : (s t u v : Scope) (n : ℕ) → n ≡ length s.outer → u ≡ t → t.outer ≡ seen s → v ≡ cut n u → v ≡ closed s t

@@ -6,13 +6,17 @@ use Rattle.c_core.specs.Tree as t
 use Rattle.c_core.specs.View.{stmt_view}
 use Rattle.c_core.specs.declared.number.DataModel.{DataModel}
 use Rattle.c_core.specs.declared.number.Spot.{Spot}
+use Rattle.c_core.specs.declared.tree.Label.{Label as ArmLabel}
 use Rattle.c_core.specs.declared.tree.Stmt.{Stmt}
 use Rattle.c_parser.specs.Tree as raw
+use Rattle.c_parser.specs.Tree.{exps}
 use Rattle.check_rules.specs.declared.fault.Refusal.{Refusal}
+use Rattle.check_rules.specs.declared.sizes.Sizes.{Sizes}
+use Rattle.check_rules.specs.declared.sizes.Sizes.TheVariants.{Scalar, Array, Table}
 use Rattle.check_rules.specs.Kept.{Kept, kept_of_parts}
 use Rattle.check_rules.specs.Names.{Entry}
 use Rattle.check_rules.specs.Scopes.{Scope, scope, seen, size_of}
-use Rattle.check_rules.specs.Parts.{Part, Value, Declaring, parts_if, bodies_of}
+use Rattle.check_rules.specs.Parts.{Part, Declaring, Choosing, parts_of, parts_of_label, bodies_of}
 use Rattle.check_rules.specs.Noting.{noted_parts}
 use Rattle.check_scope.specs.Sources.{items_of}
 use Rattle.check_rules.specs.Parts as part
@@ -58,14 +62,29 @@ IsJudged context old new ps = (new.best ≡ noted_parts context.model (items_in 
 abbrev pub cut : ℕ → Scope → Scope
 cut outside s = scope (take outside s.outer) (drop outside s.outer) s.objects
 
--- the size of an array, where one is stated and fits
-abbrev pub size_stated : DataModel → List (List ℕ) → List Entry → Option raw.Exp → Option ℕ
-size_stated m bodies es None = None
-size_stated m bodies es (Some e) = size_of m bodies es e
+-- with one size more; a third says nothing
+abbrev pub with_size : Sizes → Option ℕ → Sizes
+with_size Scalar a = Array a
+with_size (Array a) b = Table a b
+with_size (Table a b) c = Table a b
+
+-- these sizes, and then those of more expressions
+abbrev pub sizes_from : DataModel → List (List ℕ) → List Entry → Sizes → List raw.Exp → Sizes
+sizes_from m bodies es stated [] = stated
+sizes_from m bodies es stated (e ∷ sizes) = sizes_from m bodies es (with_size stated (size_of m bodies es e)) sizes
+
+abbrev pub dims_in : Sizes → ℕ
+dims_in Scalar = 0
+dims_in (Array a) = 1
+dims_in (Table a b) = 2
 
 -- the parts of a declared name before its initializer
 abbrev pub declarator : Bool → Scope → raw.Declared → List Part
-declarator fixed s d = parts_if (seen s) Value d.size ++ Declaring fixed s d ∷ []
+declarator fixed s d = parts_of (seen s) (exps d.sizes) ++ Declaring fixed s d ∷ []
+
+-- the parts of the label of an arm: itself, its constant
+abbrev pub labelling : List (Option ArmLabel) → Option ArmLabel → Spot → List Entry → raw.ArmLabel → List Part
+labelling before label spot es l = Choosing before label spot ∷ parts_of_label es l
 
 -- a second arm, where there is one
 abbrev pub else_of : Option (Box Stmt Global) → t.Else

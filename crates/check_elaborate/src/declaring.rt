@@ -1,8 +1,8 @@
 // Declared names: what is refused of them, and their initializers.
-ghost use Rattle.std.specs.Prelude.{◌≡◌, ◌&&◌, false, List, length, map, is_some, IfOk, OnOk};
-ghost use Rattle.std.specs.Option.{option_map};
-ghost use Rattle.c_core.specs.View.{expr_view as typed_view, exprs_view as typed_views, init_view as typed_init_view, names_view};
-ghost use Rattle.c_parser.specs.SourceView.{init_view, declared_view};
+ghost use Rattle.std.specs.Prelude.{◌≡◌, false, List, length, map, IfOk, OnOk};
+ghost use Rattle.std.specs.List.{flat_map};
+ghost use Rattle.c_core.specs.View.{expr_view as typed_view, exprs_view as typed_views, init_view as typed_init_view, names_view, rows_view};
+ghost use Rattle.c_parser.specs.SourceView.{init_view, declared_view, values_view};
 ghost use Rattle.c_parser.specs.Tree.{exps};
 ghost use Rattle.c_parser.specs.View.{expr_view, exprs_view};
 ghost use Rattle.check_rules.specs.Checked as checked;
@@ -13,35 +13,30 @@ ghost use Rattle.check_rules.specs.Parts as part;
 ghost use Rattle.check_rules.specs.Scopes as scopes;
 ghost use Rattle.check_rules.specs.Scopes.{seen};
 ghost use Rattle.check_rules.specs.Typed as typing;
-ghost use Rattle.check_elaborate.specs.Walks.{scope_at, bodies_in, items_in, IsNoted, size_stated, declarator};
+ghost use Rattle.check_elaborate.specs.Walks.{scope_at, bodies_in, items_in, IsNoted, declarator};
 
 use crate::context::Context;
 use crate::full::full;
-use crate::sizes::{cells, is_too_small, size};
+use crate::sizes::{cells, columns, dims, is_wrong_size, sizes};
 use crate::walk::Walk;
-use c_core::{Declared, Expr, Init, Object};
-use c_parser::{RawDeclared, RawExpr, RawInit};
-use check_rules::{CheckCode, Role, noted};
+use c_core::{Declared, Expr, Init, Object, Row};
+use c_parser::{RawDeclared, RawExpr, RawInit, RawRow};
+use check_rules::{CheckCode, Role, Sizes, noted};
 use check_scope::Known;
 use wv_base::{OutOfMemory, Seq, Text};
 
 const MOST_CELLS: u64 = 100_000;
 
-// A list for a scalar, or a single value for an array.
-fn is_wrong_init(d: &RawDeclared) -> bool
-    ensures { result ≡ codes.is_wrong_init (declared_view d.now).size (declared_view d.now).init }
+// A list for a scalar, a single value for an array, or rows for other than two dimensions.
+fn is_wrong_init(dims: u8, init: &RawInit) -> bool
+    ensures { result ≡ codes.is_wrong_init dims (init_view init.now) }
 {
-    match &d.init {
+    match init {
         RawInit::Absent => false,
-        RawInit::One(_) => d.size.is_some(),
-        RawInit::Many(_) => d.size.is_none(),
+        RawInit::One(_) => dims != 0,
+        RawInit::Many(_) => dims == 0,
+        RawInit::Rows(_) => dims != 2,
     }
-}
-
-fn is_wrong_size(d: &RawDeclared, size: Option<u32>) -> bool
-    ensures { result ≡ (is_some (declared_view d.now).size && codes.is_too_small (codes.count_of_init (declared_view d.now).init) size) }
-{
-    d.size.is_some() && is_too_small(&d.init, size)
 }
 
 /// Does this object bring the cells of all over the limit?
@@ -57,42 +52,45 @@ fn note_declared(
     walk: &mut Walk,
     fixed: bool,
     number: u32,
-    size: Option<u32>,
+    sizes: Sizes,
     d: &RawDeclared,
 )
     requires number { number ≡ length walk.old.objects }
-    requires size { size ≡ size_stated context.now.model (bodies_in context.now) (seen (scope_at walk.old)) (option_map expr_view d.now.size) }
+    requires sizes { sizes ≡ scopes.sizes_of context.now.model (bodies_in context.now) (seen (scope_at walk.old)) (exprs_view d.now.sizes) }
     ensures scope { scope_at walk.new ≡ scope_at walk.old }
     ensures noted { walk.new.best ≡ noted_part context.now.model (items_in context.now) walk.old.best (part.Declaring fixed (scope_at walk.old) (declared_view d.now)) }
     ensures kept { walk.new.kept ≡ walk.old.kept }
 {
+    let count = dims(sizes);
     let known = Known::Object {
         number,
         ty: d.ty,
-        array: d.size.is_some(),
+        dims: count,
         fixed,
     };
     let again = walk.table.is_again(d.name.as_str(), known);
     let best = noted(walk.best, again, CheckCode::Again, d.spot);
-    let best = noted(best, is_wrong_init(d), CheckCode::Typing, d.spot);
-    let best = noted(best, is_wrong_size(d, size), CheckCode::Size, d.spot);
-    let crowded = is_crowded(walk, cells(size));
+    let wrong = is_wrong_init(count, &d.init);
+    let best = noted(best, wrong, CheckCode::Typing, d.spot);
+    let best = noted(best, is_wrong_size(sizes, &d.init), CheckCode::Size, d.spot);
+    let crowded = is_crowded(walk, cells(sizes));
     walk.best = noted(best, crowded, CheckCode::Cells, d.spot);
 }
 
 fn object(
     context: &Context,
     fixed: bool,
-    size: Option<u32>,
+    sizes: Sizes,
     d: &RawDeclared,
 ) -> Result<Object, OutOfMemory>
-    ensures { (es : List Entry) → size ≡ size_stated context.now.model (bodies_in context.now) es (option_map expr_view d.now.size) → IfOk result (λ o. o ≡ scopes.object_of context.now.model (bodies_in context.now) fixed es (declared_view d.now)) }
+    ensures { (es : List Entry) → sizes ≡ scopes.sizes_of context.now.model (bodies_in context.now) es (exprs_view d.now.sizes) → IfOk result (λ o. o ≡ scopes.object_of context.now.model (bodies_in context.now) fixed es (declared_view d.now)) }
 {
     Ok(Object {
         name: Text::of(context.alloc, d.name.as_str())?,
         ty: d.ty,
-        cells: cells(size),
-        array: d.size.is_some(),
+        cells: cells(sizes),
+        columns: columns(sizes),
+        dims: dims(sizes),
         fixed,
         spot: d.spot,
     })
@@ -121,6 +119,19 @@ fn values(context: &Context, walk: &mut Walk, es: &[RawExpr]) -> Result<Seq<Expr
     Ok(all)
 }
 
+fn rows(context: &Context, walk: &mut Walk, rows: &[RawRow]) -> Result<Seq<Row>, OutOfMemory>
+    ensures typed { IfOk result (λ r. rows_view r ≡ map (typing.typed_all context.now.model (bodies_in context.now) (seen (scope_at walk.old))) (map values_view rows.now)) }
+    ensures scope { OnOk result (scope_at walk.new ≡ scope_at walk.old) }
+    ensures noted { OnOk result (IsNoted context.now walk.old walk.new (flat_map (part.parts_of_values false (scope_at walk.old)) (map values_view rows.now))) }
+{
+    let mut all = Seq::new(context.alloc);
+    for row in rows {
+        let values = values(context, walk, row.values.as_slice())?;
+        all.push(Row { values })?;
+    }
+    Ok(all)
+}
+
 // The initializer of the last name of the scope.
 fn initializer(context: &Context, walk: &mut Walk, init: &RawInit) -> Result<Init, OutOfMemory>
     ensures typed { IfOk result (λ r. typed_init_view r ≡ checked.typed_init context.now.model (bodies_in context.now) (seen (scope_at walk.old)) (init_view init.now)) }
@@ -137,26 +148,38 @@ fn initializer(context: &Context, walk: &mut Walk, init: &RawInit) -> Result<Ini
             let typed = values(context, walk, es.as_slice())?;
             Ok(Init::Many(typed))
         }
+        RawInit::Rows(all) => {
+            let typed = rows(context, walk, all.as_slice())?;
+            Ok(Init::Rows(typed))
+        }
     }
 }
 
-/// A declared name up to its initializer, and its number.
+/// The number of an object that was declared, and its sizes.
+#[derive(Clone, Copy)]
+pub struct Numbered {
+    pub number: u32,
+    pub sizes: Sizes,
+}
+
+/// A declared name up to its initializer.
 pub fn declare<'a>(
     context: &Context,
     walk: &mut Walk<'a>,
     fixed: bool,
     d: &'a RawDeclared,
-) -> Result<u32, OutOfMemory>
-    ensures number { IfOk result (λ n. n ≡ length walk.old.objects) }
+) -> Result<Numbered, OutOfMemory>
+    ensures number { IfOk result (λ r. r.number ≡ length walk.old.objects) }
+    ensures sizes { IfOk result (λ r. r.sizes ≡ scopes.sizes_of context.now.model (bodies_in context.now) (seen (scope_at walk.old)) (exprs_view d.now.sizes)) }
     ensures scope { OnOk result (scope_at walk.new ≡ scopes.after_name context.now.model (bodies_in context.now) fixed (scope_at walk.old) (declared_view d.now)) }
     ensures noted { OnOk result (IsNoted context.now walk.old walk.new (declarator fixed (scope_at walk.old) (declared_view d.now))) }
 {
-    let size = size(context, walk, &d.size)?;
+    let sizes = sizes(context, walk, d.sizes.as_slice())?;
     let number = walk.next_number()?;
-    note_declared(context, walk, fixed, number, size, d);
-    let object = object(context, fixed, size, d)?;
+    note_declared(context, walk, fixed, number, sizes, d);
+    let object = object(context, fixed, sizes, d)?;
     walk.declare(d.name.as_str(), object)?;
-    Ok(number)
+    Ok(Numbered { number, sizes })
 }
 
 // A name in a function, with its initializer.
@@ -171,11 +194,11 @@ fn name<'a>(
     ensures scope { OnOk result (scope_at walk.new ≡ scopes.after_name context.now.model (bodies_in context.now) false (scope_at walk.old) (declared_view d.now)) }
     ensures noted { OnOk result (IsNoted context.now walk.old walk.new (part.parts_of_name context.now.model (bodies_in context.now) false (scope_at walk.old) (declared_view d.now))) }
 {
-    let object = declare(context, walk, false, d)?;
+    let declared = declare(context, walk, false, d)?;
     let init = initializer(context, walk, &d.init)?;
     Ok(Declared {
         spot: d.spot,
-        object,
+        object: declared.number,
         init,
     })
 }

@@ -1,10 +1,10 @@
 // Forms of statements, made of typed parts.
 ghost use Rattle.std.specs.Prelude.{◌≡◌, IfOk};
 ghost use Rattle.c_core.specs.Tree as t;
-ghost use Rattle.c_core.specs.View.{expr_view, expr_view_if, first_view, form_view, stmt_view, stmts_view};
+ghost use Rattle.c_core.specs.View.{arm_view, joined, expr_view, expr_view_if, first_view, form_view, stmt_view, stmts_view, switch_view};
 ghost use Rattle.check_elaborate.specs.Walks.{else_of};
 
-use c_core::{Expr, First, Form, Stmt};
+use c_core::{Arm, Expr, First, Form, Label, Spot, Stmt};
 use std::alloc::Global;
 use wv_base::{OutOfMemory, Seq};
 
@@ -62,6 +62,18 @@ pub fn for_of(
         step,
         body,
     })
+}
+
+pub fn switch_of(test: Expr, arms: Seq<Arm>) -> Form
+    ensures { form_view result ≡ t.Switch (expr_view test) (switch_view arms) }
+{
+    Form::Switch { test, arms }
+}
+
+pub fn arm_of(spot: Spot, label: Label, body: Seq<Stmt>) -> Arm
+    ensures { (rest : t.Stms) → arm_view result rest ≡ t.MoreCase spot label (joined (stmts_view body) rest) }
+{
+    Arm { spot, label, body }
 }
 
 pub fn label_of(alloc: Global, of: Stmt) -> Result<Form, OutOfMemory>

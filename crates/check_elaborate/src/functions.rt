@@ -20,9 +20,15 @@ use crate::statements::statements;
 use crate::walk::Walk;
 use c_core::{Function, IntType, Spot, Stmt};
 use c_parser::{RawForm, RawParam, RawStmt};
+use check_rules::Within;
 use check_scope::{Known, Stated};
 use check_sequencing::Kept;
 use wv_base::{OutOfMemory, Seq, Text};
+
+const IN_BODY: Within = Within {
+    breaks: false,
+    continues: false,
+};
 
 /// A function, with the full expressions that its tree doesn't hold.
 #[derive(Drop)]
@@ -57,13 +63,13 @@ fn body_of<'a>(
 ) -> Result<Body, OutOfMemory>
     ensures typed { IfOk result (λ r. stmts_view r.statements ≡ checked.typed_block context.now.model (bodies_in context.now) (scope_at walk.old) (scopes.statements_of (stmt_view body.now))) }
     ensures scope { OnOk result (scope_at walk.new ≡ scopes.after_block context.now.model (bodies_in context.now) (scope_at walk.old) (scopes.statements_of (stmt_view body.now))) }
-    ensures noted { OnOk result (IsJudged context.now walk.old walk.new (part.parts_of_block context.now.model (bodies_in context.now) gives false (scope_at walk.old) (scopes.statements_of (stmt_view body.now)))) }
-    ensures kept { IfOk result (λ r. kept_views r.kept ≡ kept_of_parts context.now.model (bodies_in context.now) (part.parts_of_block context.now.model (bodies_in context.now) gives false (scope_at walk.old) (scopes.statements_of (stmt_view body.now)))) }
+    ensures noted { OnOk result (IsJudged context.now walk.old walk.new (part.parts_of_block context.now.model (bodies_in context.now) gives part.in_body (scope_at walk.old) (scopes.statements_of (stmt_view body.now)))) }
+    ensures kept { IfOk result (λ r. kept_views r.kept ≡ kept_of_parts context.now.model (bodies_in context.now) (part.parts_of_block context.now.model (bodies_in context.now) gives part.in_body (scope_at walk.old) (scopes.statements_of (stmt_view body.now)))) }
     ensures outside { OnOk result (walk.new.kept ≡ walk.old.kept) }
 {
     let empty = Seq::new(context.alloc);
     let outside = walk.set_kept(empty);
-    let statements = statements(context, walk, gives, false, statements_in(body))?;
+    let statements = statements(context, walk, gives, IN_BODY, statements_in(body))?;
     let kept = walk.set_kept(outside);
     Ok(Body { statements, kept })
 }

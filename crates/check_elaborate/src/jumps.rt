@@ -15,7 +15,7 @@ use crate::full::full_if;
 use crate::walk::Walk;
 use c_core::{Form, IntType, Spot};
 use c_parser::RawExpr;
-use check_rules::{CheckCode, Role, noted};
+use check_rules::{CheckCode, Role, Within, noted};
 use wv_base::OutOfMemory;
 
 // A value in a void function, or none in another.
@@ -49,25 +49,25 @@ pub fn give(
     context: &Context,
     walk: &mut Walk,
     gives: Option<IntType>,
-    looped: bool,
+    within: Within,
     spot: Spot,
     e: &Option<RawExpr>,
 ) -> Result<Form, OutOfMemory>
     ensures typed { IfOk result (λ r. typed_form_view r ≡ checked.typed_form context.now.model (bodies_in context.now) (scope_at walk.old) (raw.Return (option_map expr_view e.now))) }
     ensures scope { OnOk result (scope_at walk.new ≡ scope_at walk.old) }
-    ensures noted { OnOk result (IsNoted context.now walk.old walk.new (part.parts_of_form context.now.model (bodies_in context.now) gives looped (scope_at walk.old) spot (raw.Return (option_map expr_view e.now)))) }
+    ensures noted { OnOk result (IsNoted context.now walk.old walk.new (part.parts_of_form context.now.model (bodies_in context.now) gives within (scope_at walk.old) spot (raw.Return (option_map expr_view e.now)))) }
 {
     note_return(context, walk, gives, spot, e);
     let e = full_if(context, walk, Role::Value, e)?;
     Ok(Form::Return(e))
 }
 
-/// `break` or `continue`, which stand in a loop.
-pub fn leave(context: &Context, walk: &mut Walk, looped: bool, spot: Spot)
+/// `break` or `continue`, where it may stand or not.
+pub fn leave(context: &Context, walk: &mut Walk, may: bool, spot: Spot)
     ensures scope { scope_at walk.new ≡ scope_at walk.old }
-    ensures noted { walk.new.best ≡ noted_part context.now.model (items_in context.now) walk.old.best (part.Leaving looped spot) }
+    ensures noted { walk.new.best ≡ noted_part context.now.model (items_in context.now) walk.old.best (part.Leaving may spot) }
     ensures kept { walk.new.kept ≡ walk.old.kept }
 {
     let _ = context;
-    walk.best = noted(walk.best, !looped, CheckCode::Typing, spot);
+    walk.best = noted(walk.best, !may, CheckCode::Typing, spot);
 }

@@ -3,7 +3,8 @@ ghost use Rattle.std.specs.Prelude.{◌≡◌, ◌++◌, ◌∷◌, ◌||◌, []
 ghost use Rattle.std.specs.Str.{bytes_eq};
 ghost use Rattle.c_parser.specs.SourceView.{stmt_view, else_if};
 ghost use Rattle.check_scope.specs.Bodies.{has_name};
-ghost use Rattle.c_parser.specs.Tree.{stms};
+ghost use Rattle.c_parser.specs.StatementParts.{raw_arm_view};
+ghost use Rattle.c_parser.specs.Tree.{stms, arms as arms_of};
 ghost use Rattle.check_rules.specs.Noting.{noted_parts};
 ghost use Rattle.check_rules.specs.Parts as part;
 ghost use Rattle.check_elaborate.specs.Walks.{scope_at, items_in, IsJudged, label, labels_seen};
@@ -12,7 +13,7 @@ use crate::context::Context;
 use crate::label::Label;
 use crate::walk::Walk;
 use c_core::Spot;
-use c_parser::{RawForm, RawStmt};
+use c_parser::{RawArm, RawForm, RawStmt};
 use check_rules::{CheckCode, Refusal, noted};
 use std::collections::BTreeMap;
 use wv_base::{OutOfMemory, Text};
@@ -56,6 +57,7 @@ fn gather<'a>(all: &mut Vec<Label<'a>>, s: &'a RawStmt) -> Result<(), OutOfMemor
         RawForm::Do { body, .. } => gather(all, body),
         RawForm::For { body, .. } => gather(all, body),
         RawForm::Label { name, of } => gather_labelled(all, name, s.spot, of),
+        RawForm::Switch { arms, .. } => gather_arms(all, arms.as_slice()),
         RawForm::Empty => Ok(()),
         RawForm::Expr(_) => Ok(()),
         RawForm::Declare(_) => Ok(()),
@@ -95,6 +97,16 @@ fn gather_block<'a>(all: &mut Vec<Label<'a>>, ss: &'a [RawStmt]) -> Result<(), O
 {
     for s in ss {
         gather(all, s)?;
+    }
+    Ok(())
+}
+
+#[cycle(gather)]
+fn gather_arms<'a>(all: &mut Vec<Label<'a>>, arms: &'a [RawArm]) -> Result<(), OutOfMemory>
+    ensures { OnOk result (labels_seen all.new.items ≡ labels_seen all.old.items ++ part.labels_of_block (arms_of (map raw_arm_view arms.now))) }
+{
+    for arm in arms {
+        gather_block(all, arm.body.as_slice())?;
     }
     Ok(())
 }

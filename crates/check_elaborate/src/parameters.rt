@@ -26,7 +26,7 @@ fn note_parameter(context: &Context, walk: &mut Walk, number: u32, x: &RawParam)
     let known = Known::Object {
         number,
         ty: x.ty,
-        array: false,
+        dims: 0,
         fixed: false,
     };
     let again = walk.table.is_again(x.name.as_str(), known);
@@ -42,7 +42,8 @@ fn object(context: &Context, x: &RawParam) -> Result<Object, OutOfMemory>
         name: Text::of(context.alloc, x.name.as_str())?,
         ty: x.ty,
         cells: 1,
-        array: false,
+        columns: 1,
+        dims: 0,
         fixed: false,
         spot: x.spot,
     })

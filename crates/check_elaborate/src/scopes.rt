@@ -56,7 +56,7 @@ impl<'a> Walk<'a> {
         let known = Known::Object {
             number,
             ty: object.ty,
-            array: object.array,
+            dims: object.dims,
             fixed: object.fixed,
         };
         self.add(object)?;

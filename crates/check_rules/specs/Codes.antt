@@ -1,30 +1,35 @@
 -- The refusals of a part, but for the order of operands: when each holds, and where it is told.
-use Rattle.std.specs.Prelude.{ℕ, ◌+◌, nat_eq, nat_lt, nat_le, Bool, true, false, cond, not, ◌&&◌, ◌||◌, List, [], ◌∷◌, length, Option, Some, None, is_some, is_none}
+use Rattle.std.specs.Prelude.{ℕ, ◌+◌, ◌*◌, nat_eq, nat_lt, nat_le, Bool, true, false, cond, not, ◌&&◌, ◌||◌, List, [], ◌∷◌, length, Option, Some, None, is_some, is_none}
 use Rattle.std.specs.List.{list_any, sum_by}
 use Rattle.std.specs.Str.{bytes_eq}
+use Rattle.std.specs.Ordering.{int_eq}
 use Rattle.c_core.specs.Parts.{type_of}
 use Rattle.c_core.specs.Typing.{same_type, same_types}
 use Rattle.c_core.specs.Program.{most_declared_cells}
 use Rattle.c_core.specs.declared.number.IntType.{IntType}
 use Rattle.c_core.specs.declared.number.DataModel.{DataModel}
 use Rattle.c_core.specs.declared.number.Spot.{Spot}
+use Rattle.c_core.specs.declared.tree.Label.{Label as ArmLabel}
+use Rattle.c_core.specs.declared.tree.Label.TheVariants.{Case, Default}
 use Rattle.c_core.specs.declared.tree.Object.{Object}
 use Rattle.c_core.specs.declared.tree.Callee.{Callee}
 use Rattle.c_core.specs.declared.tree.Callee.TheVariants as callee
 use Rattle.c_parser.specs.Tree as raw
 use Rattle.c_parser.specs.Tree.{Exp, Expr, Node, Number, Char, Var, Index, Unary, Cast, Step, Binary, Logic, Choose, Comma, Assign, Call, Exps, NoExp, MoreExp}
+use Rattle.check_rules.specs.declared.sizes.Sizes.{Sizes}
+use Rattle.check_rules.specs.declared.sizes.Sizes.TheVariants.{Scalar, Array, Table}
 use Rattle.check_rules.specs.Names as kind
 use Rattle.check_rules.specs.Names.{Kind, Entry, entry, built_in, named, is_function, result_of_callee, parameters_of_callee}
 use Rattle.check_rules.specs.Constants.{constant, constant_type}
 use Rattle.check_rules.specs.Typed.{typed}
-use Rattle.check_rules.specs.Scopes.{Scope, seen, object_of, size_of}
-use Rattle.check_rules.specs.Parts.{Role, Value, Target, Effect, Part, Expression, Declaring, Naming, Initializing, Returning, Leaving, Labelling, bodies_of}
+use Rattle.check_rules.specs.Scopes.{Scope, seen, most_cells, dims_of, object_of, sizes_of}
+use Rattle.check_rules.specs.Parts.{Role, Value, Target, Effect, Part, Expression, Declaring, Naming, Initializing, Returning, Leaving, Labelling, Choosing, Selecting, bodies_of}
 
 -- one of these names
 abbrev pub is_among : List (List ℕ) → List ℕ → Bool
 is_among names x = list_any (bytes_eq x) names
 
--- how many arguments
+-- how many arguments, indexes or values
 abbrev pub count : Exps → ℕ
 count NoExp = 0
 count (MoreExp e gs) = count gs + 1
@@ -38,14 +43,14 @@ start (Expr p n) = p
 -- the word that an expression uses, and its place
 abbrev pub word_of : Node → Option (List ℕ)
 word_of (Var x w) = Some x
-word_of (Index x w a) = Some x
+word_of (Index x w is) = Some x
 word_of (Call f w gs close) = Some f
 word_of _ = None
 
 -- where the node's own word stands
 abbrev pub place_of_word : Spot → Node → Spot
 place_of_word p (Var x w) = w
-place_of_word p (Index x w a) = w
+place_of_word p (Index x w is) = w
 place_of_word p (Call f w gs close) = w
 place_of_word p _ = p
 
@@ -95,32 +100,46 @@ alters _ _ = false
 
 -- what a declared object is called, and what it is
 abbrev pub entry_of : Bool → Scope → raw.Declared → Entry
-entry_of fixed s d = entry d.name (kind.Object (length s.objects) d.ty (is_some d.size) fixed)
+entry_of fixed s d = entry d.name (kind.Object (length s.objects) d.ty (dims_of d.sizes) fixed)
 
--- refused as `check-again`: declared twice, or a label set twice
+-- they are of one constant, or both `default`; what is no constant is told apart from all
+abbrev pub same_label : ArmLabel → Option ArmLabel → Bool
+same_label l None = false
+same_label (Case c) (Some (Case d)) = int_eq c d
+same_label (Case c) (Some Default) = false
+same_label Default (Some (Case d)) = false
+same_label Default (Some Default) = true
+
+-- one of these labels
+abbrev pub is_chosen : List (Option ArmLabel) → Option ArmLabel → Bool
+is_chosen before None = false
+is_chosen before (Some l) = list_any (same_label l) before
+
+-- refused as `check-again`: declared twice, or a label set twice, also that of an arm
 abbrev pub doubled : Part → Bool
 doubled (Declaring fixed s d) = is_again s (entry_of fixed s d)
 doubled (Naming s e p) = is_again s e || alters (built_in e.name) e.kind
 doubled (Labelling before w p) = is_among before w
+doubled (Choosing before l p) = is_chosen before l
 doubled _ = false
 
 -- an array without index, or a function without a call
 abbrev pub is_no_scalar : Option Kind → Bool
 is_no_scalar None = false
-is_no_scalar (Some (kind.Object n ty array fixed)) = array
+is_no_scalar (Some (kind.Object n ty dims fixed)) = not (nat_eq dims 0)
 is_no_scalar (Some (kind.Function result stated has_body)) = true
 is_no_scalar (Some kind.Closed) = true
 
--- an index on a scalar, or on a function
-abbrev pub is_no_array : Option Kind → Bool
-is_no_array None = false
-is_no_array (Some (kind.Object n ty array fixed)) = not array
-is_no_array (Some (kind.Function result stated has_body)) = true
-is_no_array (Some kind.Closed) = true
+-- an index on a scalar or on a function, or fewer or more indexes than dimensions
+abbrev pub is_no_element : ℕ → Option Kind → Bool
+is_no_element n None = false
+is_no_element n (Some (kind.Object o ty dims fixed)) = nat_eq dims 0 || not (nat_eq dims n)
+is_no_element n (Some (kind.Function result stated has_body)) = true
+is_no_element n (Some kind.Closed) = true
 
 -- how many parameters a declaration states
 abbrev pub count_in : Kind → Option ℕ
-count_in (kind.Object n ty array fixed) = None
+count_in (kind.Object n ty dims fixed) = None
 count_in (kind.Function result None has_body) = None
 count_in (kind.Function result (Some types) has_body) = Some (length types)
 count_in kind.Closed = None
@@ -154,30 +173,52 @@ is_one_void (Some a) b = is_none b
 -- an object or an element (C11 6.3.2.1p1)
 abbrev pub is_place : Node → Bool
 is_place (Var x w) = true
-is_place (Index x w a) = true
+is_place (Index x w is) = true
 is_place _ = false
 
--- a list for a scalar, though C11 6.7.9p11 allows braces there; or a single value for an array (C11 6.7.9p16)
-abbrev pub is_wrong_init : Option Exp → raw.Init → Bool
-is_wrong_init size raw.Absent = false
-is_wrong_init size (raw.One e) = is_some size
-is_wrong_init size (raw.Many gs) = is_none size
+-- a list for a scalar, though C11 6.7.9p11 allows braces there; a single value for an array (C11 6.7.9p16); rows for other than two
+-- dimensions
+abbrev pub is_wrong_init : ℕ → raw.Init → Bool
+is_wrong_init dims raw.Absent = false
+is_wrong_init dims (raw.One e) = not (nat_eq dims 0)
+is_wrong_init dims (raw.Many gs) = nat_eq dims 0
+is_wrong_init dims (raw.Rows rows) = not (nat_eq dims 2)
 
 -- a value in a void function, or none in another (C11 6.8.6.4p1)
 abbrev pub is_wrong_return : Option IntType → Bool → Bool
 is_wrong_return None given = given
 is_wrong_return (Some ty) given = not given
 
--- how many values an initializer has
+-- how many values an initializer has, or rows
 abbrev pub count_of_init : raw.Init → ℕ
 count_of_init raw.Absent = 0
 count_of_init (raw.One e) = 1
 count_of_init (raw.Many gs) = count gs
+count_of_init (raw.Rows rows) = length rows
 
--- no constant from 1 to 256, or fewer elements than initializers
+-- no constant from 1 to 1,024, or fewer elements than initializers
 abbrev pub is_too_small : ℕ → Option ℕ → Bool
 is_too_small n None = true
 is_too_small n (Some size) = nat_lt size n
+
+-- more values than so many rows of so many columns have room for: in a list without rows they fill cell by cell
+abbrev pub overfills : ℕ → ℕ → raw.Init → Bool
+overfills a b raw.Absent = false
+overfills a b (raw.One e) = false
+overfills a b (raw.Many gs) = nat_lt (a * b) (count gs)
+overfills a b (raw.Rows rows) = nat_lt a (length rows) || list_any (λ row. nat_lt b (count row)) rows
+
+-- no two constants from 1 to 1,024, more cells than an array may have, or fewer than initializers
+abbrev pub is_wrong_table : Option ℕ → Option ℕ → raw.Init → Bool
+is_wrong_table None b init = true
+is_wrong_table (Some a) None init = true
+is_wrong_table (Some a) (Some b) init = nat_lt most_cells (a * b) || overfills a b init
+
+-- a size that is none, too many cells, or fewer than initializers
+abbrev pub is_wrong_size : Sizes → raw.Init → Bool
+is_wrong_size Scalar init = false
+is_wrong_size (Array a) init = is_too_small (count_of_init init) a
+is_wrong_size (Table a b) init = is_wrong_table a b init
 
 -- the names of closed items
 abbrev pub closed_names : List raw.Item → List (List ℕ)
@@ -204,7 +245,7 @@ module _ (m : DataModel) (items : List raw.Item) where
   -- an object is called, or a function with another number of arguments
   abbrev pub miscalled : List Entry → List ℕ → ℕ → Option Kind → Bool
   miscalled es f n None = false
-  miscalled es f n (Some (kind.Object o ty array fixed)) = true
+  miscalled es f n (Some (kind.Object o ty dims fixed)) = true
   miscalled es f n (Some k) = is_not n (count_for (built_in f) es f)
 
   -- the type of an expression where these names are seen
@@ -215,7 +256,7 @@ module _ (m : DataModel) (items : List raw.Item) where
   abbrev pub misused : List Entry → Node → Bool
   misused es (Number v decimal unsigned longs) = is_none (constant_type m v decimal unsigned longs)
   misused es (Var x w) = is_no_scalar (named es x)
-  misused es (Index x w a) = is_no_array (named es x)
+  misused es (Index x w is) = is_no_element (count is) (named es x)
   misused es (Choose mark e a b) = is_one_void (type_in es a) (type_in es b)
   misused es (Call f w gs close) = miscalled es f (count gs) (named es f)
   misused es _ = false
@@ -229,22 +270,18 @@ module _ (m : DataModel) (items : List raw.Item) where
   -- refused as `check-typing`
   abbrev pub mistyped : Part → Bool
   mistyped (Expression es r (Expr p n)) = misused es n || unfit r es (Expr p n)
-  mistyped (Declaring fixed s d) = is_wrong_init d.size d.init
+  mistyped (Declaring fixed s d) = is_wrong_init (dims_of d.sizes) d.init
   mistyped (Initializing fixed s e) = fixed && is_none (constant m (typed m (bodies_of items) (seen s) e))
   mistyped (Returning result p given) = is_wrong_return result given
-  mistyped (Leaving looped p) = not looped
+  mistyped (Leaving may p) = not may
+  mistyped (Selecting es e) = is_none (constant m (typed m (bodies_of items) es e))
   mistyped _ = false
 
   -- ---- sizes
 
-  -- a size that is none, or one below the number of values
-  abbrev pub is_wrong_size : List Entry → Option Exp → raw.Init → Bool
-  is_wrong_size es None init = false
-  is_wrong_size es (Some e) init = is_too_small (count_of_init init) (size_of m (bodies_of items) es e)
-
   -- refused as `check-size`
   abbrev pub missized : Part → Bool
-  missized (Declaring fixed s d) = is_wrong_size (seen s) d.size d.init
+  missized (Declaring fixed s d) = is_wrong_size (sizes_of m (bodies_of items) (seen s) d.sizes) d.init
   missized _ = false
 
   -- ---- functions without a body
@@ -272,15 +309,17 @@ module _ (m : DataModel) (items : List raw.Item) where
 
 -- ---- places
 
--- where a part begins: an expression, an initializer, a statement; a declared name or a label
+-- where a part begins: an expression, an initializer, a case constant, a statement; a declared name, a label, the word of an arm
 abbrev pub place_of : Part → Spot
 place_of (Expression es r e) = start e
 place_of (Declaring fixed s d) = d.spot
 place_of (Naming s e p) = p
 place_of (Initializing fixed s e) = start e
 place_of (Returning result p given) = p
-place_of (Leaving looped p) = p
+place_of (Leaving may p) = p
 place_of (Labelling before w p) = p
+place_of (Choosing before l p) = p
+place_of (Selecting es e) = start e
 
 -- that a word names nothing is told at the word
 abbrev pub place_of_name : Part → Spot

@@ -1,4 +1,4 @@
--- Full expressions of a source that its typed program does not hold: sizes of arrays, and initializers of static storage (C11 6.8p4).
+-- Full expressions of a source that its typed program does not hold: sizes of arrays, case constants, and initializers of static storage (C11 6.8p4).
 use Rattle.std.specs.Prelude.{ℕ, ◌-◌, true, List, [], ◌∷◌, ◌++◌, length, map, Option, Some, None}
 use Rattle.std.specs.List.{flat_map}
 use Rattle.c_core.specs.Tree as t
@@ -7,7 +7,7 @@ use Rattle.c_parser.specs.Tree as raw
 use Rattle.check_rules.specs.Names.{Entry}
 use Rattle.check_rules.specs.Typed.{typed}
 use Rattle.check_rules.specs.Scopes.{Scope, seen, after_item, outermost}
-use Rattle.check_rules.specs.Parts.{Part, Declaring, Initializing, parts_of_names, bodies_of}
+use Rattle.check_rules.specs.Parts.{Part, Declaring, Initializing, Selecting, parts_of_names, bodies_of}
 use Rattle.check_rules.specs.Order.{parts_of_bodies}
 
 -- an initializer has its object
@@ -19,12 +19,12 @@ abbrev pub kept : Option ℕ → t.Exp → Kept
 kept object value = record { object = object; value = value }
 
 module _ (m : DataModel) (bodies : List (List ℕ)) where
-  abbrev pub kept_size : List Entry → Option raw.Exp → List Kept
-  kept_size es None = []
-  kept_size es (Some e) = kept None (typed m bodies es e) ∷ []
+  abbrev pub kept_sizes : List Entry → List raw.Exp → List Kept
+  kept_sizes es sizes = map (λ e. kept None (typed m bodies es e)) sizes
 
   abbrev pub kept_of_part : Part → List Kept
-  kept_of_part (Declaring fixed s d) = kept_size (seen s) d.size
+  kept_of_part (Declaring fixed s d) = kept_sizes (seen s) d.sizes
+  kept_of_part (Selecting es e) = kept None (typed m bodies es e) ∷ []
   -- the last object of the scope
   kept_of_part (Initializing true s e) = kept (Some (length s.objects - 1)) (typed m bodies (seen s) e) ∷ []
   kept_of_part _ = []

@@ -2,6 +2,7 @@ pub mod Names
 pub mod Constants
 pub mod Typed
 pub mod Scopes
+pub mod Arms
 pub mod Parts
 pub mod Codes
 pub mod Order

@@ -8,8 +8,8 @@ use Rattle.c_core.specs.declared.tree.Callee.TheVariants.{Input, ReachError, Abo
 
 -- what a declaration makes of its name
 pub data Kind : Type 0 where
-  -- its number, its type, whether it is an array, whether it has static storage
-  Object : ℕ → IntType → Bool → Bool → Kind
+  -- its number, its type, how many dimensions it has, whether it has static storage
+  Object : ℕ → IntType → ℕ → Bool → Kind
   -- its result, the types of its parameters where they are stated, whether it has a body
   Function : Option IntType → Option (List IntType) → Bool → Kind
   -- a declaration of which only the name is known, as those of system headers
@@ -94,7 +94,7 @@ kind_of_callee callee = Function (result_of_callee callee) (Some (parameters_of_
 
 -- a declared object hides a built-in function; a prototype of a built-in function says nothing new of it
 abbrev pub or_built_in : Option Kind → Option Callee → Option Kind
-or_built_in (Some (Object n ty array fixed)) built = Some (Object n ty array fixed)
+or_built_in (Some (Object n ty dims fixed)) built = Some (Object n ty dims fixed)
 or_built_in o (Some callee) = Some (kind_of_callee callee)
 or_built_in o None = o
 
@@ -105,6 +105,6 @@ named es x = or_built_in (declared_as es x) (built_in x)
 -- it may be called
 abbrev pub is_function : Option Kind → Bool
 is_function None = false
-is_function (Some (Object n ty array fixed)) = false
+is_function (Some (Object n ty dims fixed)) = false
 is_function (Some (Function result stated has_body)) = true
 is_function (Some Closed) = true

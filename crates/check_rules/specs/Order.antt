@@ -14,18 +14,18 @@ use Rattle.check_rules.specs.Parts.{Value, Target, Part, Expression, Initializin
 
 -- this object
 abbrev pub is_object : ℕ → Option Kind → Bool
-is_object o (Some (kind.Object n ty array fixed)) = nat_eq n o
+is_object o (Some (kind.Object n ty dims fixed)) = nat_eq n o
 is_object o _ = false
 
 -- this object, if it is of static storage
 abbrev pub is_static : ℕ → Option Kind → Bool
-is_static o (Some (kind.Object n ty array fixed)) = nat_eq n o && fixed
+is_static o (Some (kind.Object n ty dims fixed)) = nat_eq n o && fixed
 is_static o _ = false
 
 -- the declaration of the object or element that an expression names; an array is one object
 abbrev pub object_named : List Entry → Node → Option Kind
 object_named es (Var x w) = named es x
-object_named es (Index x w a) = named es x
+object_named es (Index x w is) = named es x
 object_named es _ = None
 
 -- what a part does by itself, to an object that passes the test; what is stored to isn't read
@@ -56,7 +56,7 @@ parts_of_bodies m bodies s (raw.Function p name result xs body ∷ items) =
     parts_of_body m bodies s name result xs body ∷ parts_of_bodies m bodies (after_item m bodies s (raw.Function p name result xs body)) items
 parts_of_bodies m bodies s (item ∷ items) = parts_of_bodies m bodies (after_item m bodies s item) items
 
--- the parts of each argument apart
+-- the parts of each argument or index apart
 abbrev pub arguments : List Entry → Exps → List (List Part)
 arguments es NoExp = []
 arguments es (MoreExp e gs) = parts es Value e ∷ arguments es gs
@@ -69,6 +69,7 @@ parts_below es (Expr p n) = parts_in es n
 abbrev pub operands : List Entry → Node → List (List Part)
 operands es (Binary op a b) = parts es Value a ∷ parts es Value b ∷ []
 operands es (Assign op a b) = parts_below es a ∷ parts es Value b ∷ []
+operands es (Index x w is) = arguments es is
 operands es (Call f w gs close) = arguments es gs
 operands es _ = []
 
@@ -132,7 +133,7 @@ module _ (m : DataModel) (items : List raw.Item) where
     OfFirst : {ps qs : List Part} {rest : List (List Part)} → Contains rest qs → AreUnsequenced ps qs → SomePair (ps ∷ rest)
     OfOthers : {ps : List Part} {rest : List (List Part)} → SomePair rest → SomePair (ps ∷ rest)
 
-  -- the object of a target is changed in its own index
+  -- the object of a target is changed in its own indexes
   pub record ChangedInIndex (es : List Entry) (target : Exp) : Type 0 where
     pub object : ℕ
     pub its : IsTarget object es target

@@ -1,9 +1,11 @@
 -- Scopes, and what is declared behind each part of a source (C11 6.2.1, 6.8p3).
-use Rattle.std.specs.Prelude.{ℕ, nat_le, Bool, true, false, cond, ◌&&◌, ℤ, pos, negsuc, List, [], ◌∷◌, ◌++◌, length, map, Option, Some, None, is_some}
+use Rattle.std.specs.Prelude.{ℕ, ◌*◌, nat_le, Bool, true, false, cond, ◌&&◌, ℤ, pos, negsuc, List, [], ◌∷◌, ◌++◌, length, map, Option, Some, None}
 use Rattle.c_core.specs.declared.number.IntType.{IntType}
 use Rattle.c_core.specs.declared.number.DataModel.{DataModel}
 use Rattle.c_core.specs.declared.tree.Object.{Object}
 use Rattle.c_parser.specs.Tree as raw
+use Rattle.check_rules.specs.declared.sizes.Sizes.{Sizes}
+use Rattle.check_rules.specs.declared.sizes.Sizes.TheVariants.{Scalar, Array, Table}
 use Rattle.check_rules.specs.Names as kind
 use Rattle.check_rules.specs.Names.{Kind, Entry, entry, built_in, is_input}
 use Rattle.check_rules.specs.Constants.{constant}
@@ -38,11 +40,15 @@ with_entry s e = scope s.outer (s.inner ++ e ∷ []) s.objects
 -- objects are numbered in the order of their declarations
 abbrev pub with_object : Scope → Object → Scope
 with_object s o =
-    scope s.outer (s.inner ++ entry o.name (kind.Object (length s.objects) o.ty o.array o.fixed) ∷ []) (s.objects ++ o ∷ [])
+    scope s.outer (s.inner ++ entry o.name (kind.Object (length s.objects) o.ty o.dims o.fixed) ∷ []) (s.objects ++ o ∷ [])
 
--- an array has 1 to 256 cells
+-- the most cells of an array
+abbrev pub most_cells : ℕ
+most_cells = 1024
+
+-- a size is from 1 to that
 abbrev pub in_bounds : ℕ → Option ℕ
-in_bounds n = cond (nat_le 1 n && nat_le n 256) (Some n) None
+in_bounds n = cond (nat_le 1 n && nat_le n most_cells) (Some n) None
 
 -- a value as a size, if it is one
 abbrev pub as_size : Option ℤ → Option ℕ
@@ -50,24 +56,49 @@ as_size None = None
 as_size (Some (pos n)) = in_bounds n
 as_size (Some (negsuc n)) = None
 
+-- as many dimensions as sizes
+abbrev pub dims_of : List raw.Exp → ℕ
+dims_of [] = 0
+dims_of (e ∷ []) = 1
+dims_of (e ∷ f ∷ more) = 2
+
 -- a size that is refused counts as 1
 abbrev pub cells_or_one : Option ℕ → ℕ
 cells_or_one None = 1
 cells_or_one (Some n) = n
 
+-- all cells: those of all rows
+abbrev pub cells_in : Sizes → ℕ
+cells_in Scalar = 1
+cells_in (Array a) = cells_or_one a
+cells_in (Table a b) = cells_or_one a * cells_or_one b
+
+-- the cells of a row; without rows each cell is one
+abbrev pub columns_in : Sizes → ℕ
+columns_in Scalar = 1
+columns_in (Array a) = 1
+columns_in (Table a b) = cells_or_one b
+
 module _ (m : DataModel) (bodies : List (List ℕ)) where
-  -- the size of an array: a constant from 1 to 256
+  -- the size of an array: a constant from 1 to 1,024
   abbrev pub size_of : List Entry → raw.Exp → Option ℕ
   size_of es e = as_size (constant m (typed m bodies es e))
 
-  -- the cells of an object: 1, or its array's size
-  abbrev pub cells_of : List Entry → Option raw.Exp → ℕ
-  cells_of es None = 1
-  cells_of es (Some e) = cells_or_one (size_of es e)
+  -- the sizes that a declared name states
+  abbrev pub sizes_of : List Entry → List raw.Exp → Sizes
+  sizes_of es [] = Scalar
+  sizes_of es (e ∷ []) = Array (size_of es e)
+  sizes_of es (e ∷ f ∷ more) = Table (size_of es e) (size_of es f)
+
+  abbrev pub cells_of : List Entry → List raw.Exp → ℕ
+  cells_of es sizes = cells_in (sizes_of es sizes)
+
+  abbrev pub columns_of : List Entry → List raw.Exp → ℕ
+  columns_of es sizes = columns_in (sizes_of es sizes)
 
   -- the object of a declared name; `fixed`: outside of functions
   abbrev pub object_of : Bool → List Entry → raw.Declared → Object
-  object_of fixed es d = record { name = d.name; ty = d.ty; cells = cells_of es d.size; array = is_some d.size; fixed = fixed; spot = d.spot }
+  object_of fixed es d = record { name = d.name; ty = d.ty; cells = cells_of es d.sizes; columns = columns_of es d.sizes; dims = dims_of d.sizes; fixed = fixed; spot = d.spot }
 
   -- a name is in scope behind its declarator, its initializer included (C11 6.2.1p7)
   abbrev pub after_name : Bool → Scope → raw.Declared → Scope
@@ -97,6 +128,7 @@ module _ (m : DataModel) (bodies : List (List ℕ)) where
     after_form s (raw.DoWhile a e) = closed s (after_statement (opened s) a)
     after_form s (raw.For i e u a) = closed s (after_statement (opened (after_first (opened s) i)) a)
     after_form s (raw.Label w a) = closed s (after_statement (opened s) a)
+    after_form s (raw.Switch e b) = after_arms s b
     after_form s _ = s
 
     pub after_else : Scope → raw.Else → Scope
@@ -106,10 +138,17 @@ module _ (m : DataModel) (bodies : List (List ℕ)) where
     pub after_block : Scope → raw.Stms → Scope
     after_block s raw.NoStm = s
     after_block s (raw.MoreStm x b) = after_block (after_statement s x) b
+    after_block s (raw.MoreCase p l b) = after_block s b
+
+    -- each statement of an arm is a block
+    pub after_arms : Scope → raw.Stms → Scope
+    after_arms s raw.NoStm = s
+    after_arms s (raw.MoreStm x b) = after_arms (closed s (after_statement (opened s) x)) b
+    after_arms s (raw.MoreCase p l b) = after_arms s b
 
 -- the object of a parameter
 abbrev pub parameter : raw.Param → Object
-parameter x = record { name = x.name; ty = x.ty; cells = 1; array = false; fixed = false; spot = x.spot }
+parameter x = record { name = x.name; ty = x.ty; cells = 1; columns = 1; dims = 0; fixed = false; spot = x.spot }
 
 -- the scope behind parameters
 abbrev pub after_parameters : Scope → List raw.Param → Scope

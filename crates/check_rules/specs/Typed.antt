@@ -26,21 +26,21 @@ no_object = 4294967295
 -- the number of the object that a name means
 abbrev pub number_named : Option Kind → ℕ
 number_named None = no_object
-number_named (Some (Object n ty array fixed)) = n
+number_named (Some (Object n ty dims fixed)) = n
 number_named (Some (Function result stated has_body)) = no_object
 number_named (Some Closed) = no_object
 
 -- the type of an object, or of its elements
 abbrev pub type_named : Option Kind → IntType
 type_named None = Int
-type_named (Some (Object n ty array fixed)) = ty
+type_named (Some (Object n ty dims fixed)) = ty
 type_named (Some (Function result stated has_body)) = Int
 type_named (Some Closed) = Int
 
 -- the result of the function that a name means; of what is none, `int`
 abbrev pub result_named : Option Kind → Option IntType
 result_named None = Some Int
-result_named (Some (Object n ty array fixed)) = Some Int
+result_named (Some (Object n ty dims fixed)) = Some Int
 result_named (Some (Function result stated has_body)) = result
 result_named (Some Closed) = Some Int
 
@@ -84,7 +84,7 @@ module _ (m : DataModel) (bodies : List (List ℕ)) (es : List Entry) where
     typed_node p (Number v decimal unsigned longs) = t.Expr p (Some (valued (constant_type m v decimal unsigned longs))) (t.Const (pos v))
     typed_node p (Char v) = t.Expr p (Some Int) (t.Const v)
     typed_node p (Var x w) = t.Expr p (Some (type_named (named es x))) (t.Var (number_named (named es x)))
-    typed_node p (Index x w a) = t.Expr p (Some (type_named (named es x))) (t.Index (number_named (named es x)) (typed a))
+    typed_node p (Index x w is) = t.Expr p (Some (type_named (named es x))) (t.Index (number_named (named es x)) (typed_all is))
     typed_node p (Unary op a) = t.Expr p (Some (unary_type op (valued (type_of (typed a))))) (t.Unary op (typed a))
     typed_node p (Cast to a) = t.Expr p to (t.Cast (typed a))
     typed_node p (Step op a) = t.Expr p (Some (valued (type_of (typed a)))) (t.Step op (typed a))

@@ -6,11 +6,11 @@ use wv_base::OutOfMemory;
 pub enum CheckCode {
     /// A word names nothing that is in scope.
     Name,
-    /// A name is declared twice in one scope, or a label stands twice in a function.
+    /// A name is declared twice in one scope, or a label stands twice in a function or a `switch`.
     Again,
     /// An expression or a statement breaks a rule on types.
     Typing,
-    /// An array has no constant size from 1 to 256, or more initializers than elements.
+    /// An array has no constant size from 1 to 1,024, more than 1,024 elements, or more initializers than elements.
     Size,
     /// Operands without an order between them touch the same object, or both call functions.
     Order,

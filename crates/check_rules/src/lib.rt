@@ -5,7 +5,11 @@
 mod fault;
 mod noting;
 mod role;
+mod sizes;
+mod within;
 
 pub use fault::{CheckCode, CheckFault, Refusal};
 pub use noting::noted;
 pub use role::Role;
+pub use sizes::Sizes;
+pub use within::Within;

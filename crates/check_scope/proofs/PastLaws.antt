@@ -62,27 +62,27 @@ since_push t es e o h start = by_place (nat_le start (length es)) refl
 -- ---- the tests
 
 abbrev is_object : Kind → Bool
-is_object (kind.Object n ty array fixed) = true
+is_object (kind.Object n ty dims fixed) = true
 is_object (kind.Function result stated has_body) = false
 is_object kind.Closed = false
 
 abbrev is_declared_function : Kind → Bool
-is_declared_function (kind.Object n ty array fixed) = false
+is_declared_function (kind.Object n ty dims fixed) = false
 is_declared_function (kind.Function result stated has_body) = true
 is_declared_function kind.Closed = false
 
 abbrev has_other_result : Option IntType → Kind → Bool
-has_other_result given (kind.Object n ty array fixed) = false
+has_other_result given (kind.Object n ty dims fixed) = false
 has_other_result given (kind.Function result stated has_body) = not (same_types result given)
 has_other_result given kind.Closed = false
 
 abbrev states_others : Option (List IntType) → Kind → Bool
-states_others given (kind.Object n ty array fixed) = false
+states_others given (kind.Object n ty dims fixed) = false
 states_others given (kind.Function result stated has_body) = not (agree stated given)
 states_others given kind.Closed = false
 
 abbrev is_body : Kind → Bool
-is_body (kind.Object n ty array fixed) = false
+is_body (kind.Object n ty dims fixed) = false
 is_body (kind.Function result stated has_body) = has_body
 is_body kind.Closed = false
 
@@ -142,18 +142,18 @@ nothing x = record {
 -- ---- one declaration more of the name
 
 object_with : (n : ℕ) (o : Option Past) (k : Known) → cond (is_object (kind_of k)) (Some n) (object_of o) ≡ object_of (Some (with_known n o k))
-object_with n None (known.Object i ty array fixed) = refl
+object_with n None (known.Object i ty dims fixed) = refl
 object_with n None (known.Function result s has_body) = refl
 object_with n None known.Closed = refl
-object_with n (Some p) (known.Object i ty array fixed) = refl
+object_with n (Some p) (known.Object i ty dims fixed) = refl
 object_with n (Some p) (known.Function result s has_body) = refl
 object_with n (Some p) known.Closed = refl
 
 function_with : (n : ℕ) (o : Option Past) (k : Known) → cond (is_declared_function (kind_of k)) (Some n) (function_of o) ≡ function_of (Some (with_known n o k))
-function_with n None (known.Object i ty array fixed) = refl
+function_with n None (known.Object i ty dims fixed) = refl
 function_with n None (known.Function result s has_body) = refl
 function_with n None known.Closed = refl
-function_with n (Some p) (known.Object i ty array fixed) = refl
+function_with n (Some p) (known.Object i ty dims fixed) = refl
 function_with n (Some p) (known.Function result s has_body) = refl
 function_with n (Some p) known.Closed = refl
 
@@ -168,10 +168,10 @@ result_step n given result f = by_test (same_types result given) refl
 
 result_with : (n : ℕ) (given : Option IntType) (o : Option Past) (k : Known)
     → cond (has_other_result given (kind_of k)) (Some n) (result_of given o) ≡ result_of given (Some (with_known n o k))
-result_with n given None (known.Object i ty array fixed) = refl
+result_with n given None (known.Object i ty dims fixed) = refl
 result_with n given None (known.Function result s has_body) = result_step n given result (λ r. None)
 result_with n given None known.Closed = refl
-result_with n given (Some p) (known.Object i ty array fixed) = refl
+result_with n given (Some p) (known.Object i ty dims fixed) = refl
 result_with n given (Some p) (known.Function result s has_body) = result_step n given result (other_result p.results)
 result_with n given (Some p) known.Closed = refl
 
@@ -189,26 +189,26 @@ list_step n lists s (Some ts) (Some us) e =
 
 list_with : (n : ℕ) (given : Option (List IntType)) (o : Option Past) (k : Known)
     → cond (states_others given (kind_of k)) (Some n) (list_of given o) ≡ list_of given (Some (with_known n o k))
-list_with n given None (known.Object i ty array fixed) = refl
+list_with n given None (known.Object i ty dims fixed) = refl
 list_with n given None (known.Function result s has_body) = list_step n None s (types_stated s) given refl
 list_with n given None known.Closed = refl
-list_with n given (Some p) (known.Object i ty array fixed) = refl
+list_with n given (Some p) (known.Object i ty dims fixed) = refl
 list_with n given (Some p) (known.Function result s has_body) = list_step n p.lists s (types_stated s) given refl
 list_with n given (Some p) known.Closed = refl
 
 body_with : (n : ℕ) (o : Option Past) (k : Known) → cond (is_body (kind_of k)) (Some n) (body_of o) ≡ body_of (Some (with_known n o k))
-body_with n None (known.Object i ty array fixed) = refl
+body_with n None (known.Object i ty dims fixed) = refl
 body_with n None (known.Function result s has_body) = refl
 body_with n None known.Closed = refl
-body_with n (Some p) (known.Object i ty array fixed) = refl
+body_with n (Some p) (known.Object i ty dims fixed) = refl
 body_with n (Some p) (known.Function result s has_body) = refl
 body_with n (Some p) known.Closed = refl
 
 means_with : (n : ℕ) (o : Option Past) (k : Known) → later (means_of o) (Some (kind_of k)) ≡ means_of (Some (with_known n o k))
-means_with n None (known.Object i ty array fixed) = refl
+means_with n None (known.Object i ty dims fixed) = refl
 means_with n None (known.Function result s has_body) = refl
 means_with n None known.Closed = refl
-means_with n (Some p) (known.Object i ty array fixed) = refl
+means_with n (Some p) (known.Object i ty dims fixed) = refl
 means_with n (Some p) (known.Function result s has_body) = refl
 means_with n (Some p) known.Closed = refl
 
@@ -217,14 +217,14 @@ or_none None = refl
 or_none (Some n) = refl
 
 count_with : (n : ℕ) (o : Option Past) (k : Known) → or_else (count_kept o) (count_in (kind_of k)) ≡ count_kept (Some (with_known n o k))
-count_with n None (known.Object i ty array fixed) = refl
+count_with n None (known.Object i ty dims fixed) = refl
 count_with n None (known.Function result s has_body) = stated_count (types_stated s)
   where
     stated_count : (types : Option (List IntType)) → count_in (kind.Function result types has_body) ≡ count_of types
     stated_count None = refl
     stated_count (Some ts) = refl
 count_with n None known.Closed = refl
-count_with n (Some p) (known.Object i ty array fixed) = or_none p.count
+count_with n (Some p) (known.Object i ty dims fixed) = or_none p.count
 count_with n (Some p) (known.Function result s has_body) = ap (or_else p.count) (stated_count (types_stated s))
   where
     stated_count : (types : Option (List IntType)) → count_in (kind.Function result types has_body) ≡ count_of types
@@ -238,17 +238,17 @@ later_assoc : (a d b : Option Kind) → later a (later d b) ≡ later (later a d
 later_assoc a d None = refl
 later_assoc None None (Some b) = refl
 later_assoc None (Some d) (Some kind.Closed) = refl
-later_assoc None (Some d) (Some (kind.Object n ty array fixed)) = refl
+later_assoc None (Some d) (Some (kind.Object n ty dims fixed)) = refl
 later_assoc None (Some d) (Some (kind.Function result stated has_body)) = refl
 later_assoc (Some a) None (Some b) = refl
 later_assoc (Some a) (Some kind.Closed) (Some kind.Closed) = refl
-later_assoc (Some a) (Some (kind.Object n ty array fixed)) (Some kind.Closed) = refl
+later_assoc (Some a) (Some (kind.Object n ty dims fixed)) (Some kind.Closed) = refl
 later_assoc (Some a) (Some (kind.Function result stated has_body)) (Some kind.Closed) = refl
-later_assoc (Some a) (Some kind.Closed) (Some (kind.Object n ty array fixed)) = refl
-later_assoc (Some a) (Some (kind.Object n ty array fixed)) (Some (kind.Object n' ty' array' fixed')) = refl
-later_assoc (Some a) (Some (kind.Function result stated has_body)) (Some (kind.Object n ty array fixed)) = refl
+later_assoc (Some a) (Some kind.Closed) (Some (kind.Object n ty dims fixed)) = refl
+later_assoc (Some a) (Some (kind.Object n ty dims fixed)) (Some (kind.Object n' ty' dims' fixed')) = refl
+later_assoc (Some a) (Some (kind.Function result stated has_body)) (Some (kind.Object n ty dims fixed)) = refl
 later_assoc (Some a) (Some kind.Closed) (Some (kind.Function result stated has_body)) = refl
-later_assoc (Some a) (Some (kind.Object n ty array fixed)) (Some (kind.Function result stated has_body)) = refl
+later_assoc (Some a) (Some (kind.Object n ty dims fixed)) (Some (kind.Function result stated has_body)) = refl
 later_assoc (Some a) (Some (kind.Function result stated has_body)) (Some (kind.Function result' stated' has_body')) = refl
 
 later_none : (b : Option Kind) → later b None ≡ later None b
@@ -356,17 +356,17 @@ clash_closed x e = by_test (bytes_eq e.name x) e.kind
   where
     by_test : (b : Bool) (k : Kind) → (b && clashes k kind.Closed) ≡ false
     by_test false k = refl
-    by_test true (kind.Object n ty array fixed) = refl
+    by_test true (kind.Object n ty dims fixed) = refl
     by_test true (kind.Function result stated has_body) = refl
     by_test true kind.Closed = refl
 
-clash_object : (x : List ℕ) (n : ℕ) (ty : IntType) (array fixed : Bool) (e : Entry)
-    → (bytes_eq e.name x && clashes e.kind (kind.Object n ty array fixed)) ≡ (among x is_object e || among x is_declared_function e)
-clash_object x n ty array fixed e = by_test (bytes_eq e.name x) e.kind
+clash_object : (x : List ℕ) (n : ℕ) (ty : IntType) (dims : ℕ) (fixed : Bool) (e : Entry)
+    → (bytes_eq e.name x && clashes e.kind (kind.Object n ty dims fixed)) ≡ (among x is_object e || among x is_declared_function e)
+clash_object x n ty dims fixed e = by_test (bytes_eq e.name x) e.kind
   where
-    by_test : (b : Bool) (k : Kind) → (b && clashes k (kind.Object n ty array fixed)) ≡ ((b && is_object k) || (b && is_declared_function k))
+    by_test : (b : Bool) (k : Kind) → (b && clashes k (kind.Object n ty dims fixed)) ≡ ((b && is_object k) || (b && is_declared_function k))
     by_test false k = refl
-    by_test true (kind.Object n' ty' array' fixed') = refl
+    by_test true (kind.Object n' ty' dims' fixed') = refl
     by_test true (kind.Function result stated has_body) = refl
     by_test true kind.Closed = refl
 
@@ -378,7 +378,7 @@ clash_function x result types has_body e = by_test (bytes_eq e.name x) e.kind
     by_test : (b : Bool) (k : Kind) → (b && clashes k (kind.Function result types has_body))
         ≡ ((b && is_object k) || ((b && has_other_result result k) || ((b && states_others types k) || ((b && is_body k) && has_body))))
     by_test false k = refl
-    by_test true (kind.Object n ty array fixed) = refl
+    by_test true (kind.Object n ty dims fixed) = refl
     by_test true (kind.Function result' types' has_body') = refl
     by_test true kind.Closed = refl
 
@@ -392,13 +392,13 @@ clash_since x es o start known.Closed a = any_ext (clash_in x kind.Closed) (λ e
     none : (o : Option Past) → false ≡ is_clash start o known.Closed
     none None = refl
     none (Some p) = refl
-clash_since x es o start (known.Object n ty array fixed) a =
+clash_since x es o start (known.Object n ty dims fixed) a =
     let r = drop start es in
-    any_ext (clash_in x (kind.Object n ty array fixed)) (λ e. among x is_object e || among x is_declared_function e) (clash_object x n ty array fixed) r
+    any_ext (clash_in x (kind.Object n ty dims fixed)) (λ e. among x is_object e || among x is_declared_function e) (clash_object x n ty dims fixed) r
     ∙ any_or (among x is_object) (among x is_declared_function) r
     ∙ ap (λ b. b || list_any (among x is_declared_function) r) (a.object start) ∙ ap (λ b. is_since start (object_of o) || b) (a.function start) ∙ kept o
   where
-    kept : (o : Option Past) → (is_since start (object_of o) || is_since start (function_of o)) ≡ is_clash start o (known.Object n ty array fixed)
+    kept : (o : Option Past) → (is_since start (object_of o) || is_since start (function_of o)) ≡ is_clash start o (known.Object n ty dims fixed)
     kept None = refl
     kept (Some p) = refl
 clash_since x es o start (known.Function result stated has_body) a =

@@ -25,12 +25,12 @@ types_in (stated.Types types) = types.now
 types_in (stated.Parameters parameters) = types_of (map param_view parameters.now)
 
 abbrev pub kind_of : Known → Kind
-kind_of (known.Object n ty array fixed) = kind.Object n ty array fixed
+kind_of (known.Object n ty dims fixed) = kind.Object n ty dims fixed
 kind_of (known.Function result stated has_body) = kind.Function result (types_stated stated) has_body
 kind_of known.Closed = kind.Closed
 
 -- without parameters and body
 abbrev pub meaning_of : Kind → Meaning
-meaning_of (kind.Object n ty array fixed) = meaning.Object n ty array fixed
+meaning_of (kind.Object n ty dims fixed) = meaning.Object n ty dims fixed
 meaning_of (kind.Function result stated has_body) = meaning.Function result
 meaning_of kind.Closed = meaning.Closed

@@ -49,8 +49,8 @@ or_blank None k = record { means = k; count = None; object = None; body = None; 
 
 abbrev pub added : ℕ → Past → Known → Past
 added n p known.Closed = p
-added n p (known.Object number ty array fixed) =
-    record { means = known.Object number ty array fixed; count = p.count; object = Some n; body = p.body; results = p.results; lists = p.lists }
+added n p (known.Object number ty dims fixed) =
+    record { means = known.Object number ty dims fixed; count = p.count; object = Some n; body = p.body; results = p.results; lists = p.lists }
 added n p (known.Function result stated has_body) = with_function n p result stated has_body
 
 -- with one declaration more, at a place
@@ -68,7 +68,7 @@ latest_function (Some latest) = Some latest.place
 
 abbrev pub clashes_since : ℕ → Past → Known → Bool
 clashes_since start p known.Closed = false
-clashes_since start p (known.Object number ty array fixed) = is_since start p.object || is_since start (latest_function p.results)
+clashes_since start p (known.Object number ty dims fixed) = is_since start p.object || is_since start (latest_function p.results)
 clashes_since start p (known.Function result stated has_body) =
     is_since start p.object || (is_since start (other_result p.results result) ||
     (is_since start (other_list p.lists (types_stated stated)) || (is_since start p.body && has_body)))

@@ -15,7 +15,7 @@ pub enum Known<'a> {
     Object {
         number: u32,
         ty: IntType,
-        array: bool,
+        dims: u8,
         fixed: bool,
     },
     Function {

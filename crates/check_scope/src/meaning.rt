@@ -12,7 +12,7 @@ pub enum Meaning {
     Object {
         number: u32,
         ty: IntType,
-        array: bool,
+        dims: u8,
         fixed: bool,
     },
     /// With its result.
@@ -37,12 +37,12 @@ fn of_known(known: Known) -> Meaning
         Known::Object {
             number,
             ty,
-            array,
+            dims,
             fixed,
         } => Meaning::Object {
             number,
             ty,
-            array,
+            dims,
             fixed,
         },
         Known::Function { result, .. } => Meaning::Function(result),

@@ -59,7 +59,7 @@ module _ (objects : List Object) (count : ℕ) (bodies : List (List Effect)) whe
       each_quiet (Call callee es close) q = quiet_arguments es q
       each_quiet (Const v) q = refl
       each_quiet (Var o) q = refl
-      each_quiet (Index o i) q = refl
+      each_quiet (Index o is) q = quiet_arguments is q
       each_quiet (Unary op a) q = refl
       each_quiet (Cast a) q = refl
       each_quiet (Step op a) q = refl
@@ -72,7 +72,7 @@ module _ (objects : List Object) (count : ℕ) (bodies : List (List Effect)) whe
       unchanged_beside (target objects count a) a b (quiet_below a true (left_part (effects objects count true a) (effects objects count false b) q)) (right_part (effects objects count true a) (effects objects count false b) q) s
   quiet_node (Const v) q (inr s) = s
   quiet_node (Var o) q (inr s) = s
-  quiet_node (Index o i) q (inr s) = s
+  quiet_node (Index o is) q (inr s) = s
   quiet_node (Unary op a) q (inr s) = s
   quiet_node (Cast a) q (inr s) = s
   quiet_node (Binary op a b) q (inr s) = s
@@ -90,7 +90,7 @@ module _ (objects : List Object) (count : ℕ) (bodies : List (List Effect)) whe
     quiet_in : (n : Node) → is_quiet (inner objects count n) ≡ true → Listed objects count bodies (tested_in n) []
     quiet_in (Const v) q = Nothing
     quiet_in (Var o) q = Nothing
-    quiet_in (Index o i) q = quiet_tested i false q
+    quiet_in (Index o is) q = quiet_all is q
     quiet_in (Unary op a) q = quiet_tested a false q
     quiet_in (Cast a) q = quiet_tested a false q
     quiet_in (Step op a) q = quiet_tested a true q

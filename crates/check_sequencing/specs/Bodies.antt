@@ -2,7 +2,7 @@
 use Rattle.std.specs.Prelude.{ℕ, false, List, [], ◌∷◌, ◌++◌, Option, Some, None, map}
 use Rattle.std.specs.List.{flat_map}
 use Rattle.c_core.specs.Tree as tree
-use Rattle.c_core.specs.Tree.{Exp, Exps, NoExp, MoreExp, Init, Absent, One, Many, Names, NoName, MoreName, First, NoFirst, FirstExp, FirstNames, Stm, Stmt, Form, Empty, Do, Declare, Block, If, While, DoWhile, For, Break, Continue, Return, Label, Else, NoElse, OrElse, Stms, NoStm, MoreStm}
+use Rattle.c_core.specs.Tree.{Exp, Exps, NoExp, MoreExp, Init, Absent, One, Many, Rows, Names, NoName, MoreName, First, NoFirst, FirstExp, FirstNames, Stm, Stmt, Form, Empty, Do, Declare, Block, If, While, DoWhile, For, Break, Continue, Return, Label, Switch, Else, NoElse, OrElse, Stms, NoStm, MoreStm, MoreCase}
 use Rattle.c_core.specs.TreeView.{expr_view}
 use Rattle.c_core.specs.declared.tree.Object.{Object}
 use Rattle.check_sequencing.specs.declared.bodies.FullExpression.{FullExpression}
@@ -29,6 +29,7 @@ abbrev pub fulls_of_init : ℕ → Init → List Full
 fulls_of_init o Absent = []
 fulls_of_init o (One e) = full (Some o) e ∷ []
 fulls_of_init o (Many es) = initializers o es
+fulls_of_init o (Rows rows) = flat_map (initializers o) rows
 
 abbrev pub fulls_of_names : Names → List Full
 fulls_of_names NoName = []
@@ -56,6 +57,7 @@ abbrev mutual
   fulls_in Continue = []
   fulls_in (Return e) = full_if e
   fulls_in (Label b) = fulls b
+  fulls_in (Switch e b) = full None e ∷ fulls_of_block b
 
   pub fulls_of_else : Else → List Full
   fulls_of_else NoElse = []
@@ -64,6 +66,7 @@ abbrev mutual
   pub fulls_of_block : Stms → List Full
   fulls_of_block NoStm = []
   fulls_of_block (MoreStm s b) = fulls s ++ fulls_of_block b
+  fulls_of_block (MoreCase spot l b) = fulls_of_block b
 
 abbrev pub full_view : FullExpression → Full
 full_view f = record { object = f.object; value = expr_view f.value.now }

@@ -37,7 +37,7 @@ module _ (objects : List Object) (count : ℕ) where
   -- what an expression does by itself; is it stored to?
   abbrev pub own : Bool → Node → List Effect
   own stored (Var o) = on_object stored o
-  own stored (Index o i) = on_object stored o
+  own stored (Index o is) = on_object stored o
   own stored (Call callee es close) = on_call callee
   own stored _ = []
 
@@ -49,7 +49,7 @@ module _ (objects : List Object) (count : ℕ) where
     pub inner : Node → List Effect
     inner (Const v) = []
     inner (Var o) = []
-    inner (Index o i) = effects false i
+    inner (Index o is) = effects_all is
     inner (Unary op a) = effects false a
     inner (Cast a) = effects false a
     inner (Step op a) = effects true a
@@ -75,20 +75,21 @@ module _ (objects : List Object) (count : ℕ) where
   abbrev pub operands : Node → List (List Effect)
   operands (Binary op a b) = effects false a ∷ effects false b ∷ []
   operands (Assign op a b) = below a ∷ effects false b ∷ []
+  operands (Index o is) = arguments is
   operands (Call callee es close) = arguments es
   operands _ = []
 
   -- the object that is stored to
   abbrev pub target_in : Node → Option ℕ
   target_in (Var o) = cond (is_some (slice_get objects o)) (Some o) None
-  target_in (Index o i) = cond (is_some (slice_get objects o)) (Some o) None
+  target_in (Index o is) = cond (is_some (slice_get objects o)) (Some o) None
   target_in _ = None
 
   abbrev pub target : Exp → Option ℕ
   target (Expr p ty n) = target_in n
 
   module _ (bodies : List (List Effect)) where
-    -- the object of a target is changed in its own index
+    -- the object of a target is changed in its own indexes
     abbrev pub ChangedInIndex : Option ℕ → Exp → Type 0
     ChangedInIndex None a = ⊥
     ChangedInIndex (Some o) a = Changes bodies objects o (below a)
@@ -131,7 +132,7 @@ abbrev mutual
   pub tested_in : Node → List Test
   tested_in (Const v) = []
   tested_in (Var o) = []
-  tested_in (Index o i) = tested i
+  tested_in (Index o is) = tested_all is
   tested_in (Unary op a) = tested a
   tested_in (Cast a) = tested a
   tested_in (Step op a) = tested a

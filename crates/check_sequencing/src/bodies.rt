@@ -1,9 +1,10 @@
 // The full expressions of a body (C11 6.8p4), in the order of the text.
 ghost use Rattle.std.specs.Prelude.{◌≡◌, [], ◌∷◌, ◌++◌, Some, None, OnOk, IfOk};
-ghost use Rattle.c_core.specs.TreeView.{block_view, expr_view, expr_view_if, exprs_view, first_view, form_view, init_view, names_view, stmt_view, stmts_view};
+ghost use Rattle.std.specs.List.{flat_map};
+ghost use Rattle.c_core.specs.TreeView.{block_view, expr_view, expr_view_if, exprs_view, first_view, form_view, init_view, names_view, rows_view, stmt_view, stmts_view, switch_view};
 ghost use Rattle.check_sequencing.specs.Bodies.{fulls_view, initializers, full, full_if, fulls, fulls_in, fulls_of_block, fulls_of_first, fulls_of_init, fulls_of_names};
 
-use c_core::{Declared, Expr, First, Form, Init, Stmt};
+use c_core::{Arm, Declared, Expr, First, Form, Init, Row, Stmt};
 use std::alloc::Global;
 use wv_base::OutOfMemory;
 
@@ -47,6 +48,19 @@ fn push_initializers<'a>(
     Ok(())
 }
 
+fn push_rows<'a>(
+    list: &mut Vec<FullExpression<'a>>,
+    object: u32,
+    rows: &'a [Row],
+) -> Result<(), OutOfMemory>
+    ensures { OnOk result (fulls_view list.new.items ≡ fulls_view list.old.items ++ flat_map (initializers object) (rows_view rows.now)) }
+{
+    for row in rows {
+        push_initializers(list, object, row.values.as_slice())?;
+    }
+    Ok(())
+}
+
 fn push_init<'a>(
     list: &mut Vec<FullExpression<'a>>,
     object: u32,
@@ -58,6 +72,7 @@ fn push_init<'a>(
         Init::Absent => Ok(()),
         Init::One(e) => push(list, Some(object), e),
         Init::Many(es) => push_initializers(list, object, es.as_slice()),
+        Init::Rows(rows) => push_rows(list, object, rows.as_slice()),
     }
 }
 
@@ -130,6 +145,10 @@ fn push_form<'a>(list: &mut Vec<FullExpression<'a>>, form: &'a Form) -> Result<(
         Form::Continue => {}
         Form::Return(e) => push_if(list, e)?,
         Form::Label(of) => push_statement(list, of)?,
+        Form::Switch { test, arms } => {
+            push(list, None, test)?;
+            push_arms(list, arms.as_slice())?;
+        }
     }
     Ok(())
 }
@@ -140,6 +159,16 @@ fn push_block<'a>(list: &mut Vec<FullExpression<'a>>, body: &'a [Stmt]) -> Resul
 {
     for s in body {
         push_statement(list, s)?;
+    }
+    Ok(())
+}
+
+#[cycle(statement)]
+fn push_arms<'a>(list: &mut Vec<FullExpression<'a>>, arms: &'a [Arm]) -> Result<(), OutOfMemory>
+    ensures { OnOk result (fulls_view list.new.items ≡ fulls_view list.old.items ++ fulls_of_block (switch_view arms.now)) }
+{
+    for arm in arms {
+        push_block(list, arm.body.as_slice())?;
     }
     Ok(())
 }

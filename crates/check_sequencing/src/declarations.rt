@@ -94,7 +94,7 @@ impl<'a> Declarations<'a> {
         match node {
             Node::Const(_) => {}
             Node::Var(_) => {}
-            Node::Index { at, .. } => self.push(list, false, at)?,
+            Node::Index { at, .. } => self.push_all(list, at.as_slice())?,
             Node::Unary { of, .. } => self.push(list, false, of)?,
             Node::Cast(of) => self.push(list, false, of)?,
             Node::Step { target, .. } => self.push(list, true, target)?,

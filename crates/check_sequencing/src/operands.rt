@@ -40,7 +40,7 @@ impl<'a> Source<'a> {
         }
     }
 
-    /// Whether the object of a target is changed in its own index.
+    /// Whether the object of a target is changed in its own indexes.
     fn is_changed_in_index(&mut self, target: &Expr) -> Result<bool, OutOfMemory>
         requires { IsKnown self.old }
         ensures same { IsSameSource self.old self.new }
@@ -114,7 +114,7 @@ impl<'a> Source<'a> {
         Ok(unsequenced || in_index || beside)
     }
 
-    /// Whether an argument has no order with those before it; behind that it counts among them.
+    /// Whether an argument or index has no order with those before it; behind that it counts among them.
     fn joins_unordered(
         &mut self,
         seen: &mut Seen,
@@ -135,7 +135,7 @@ impl<'a> Source<'a> {
         Ok(told)
     }
 
-    /// Each argument is tested against all before it, taken together, and not pair by pair.
+    /// Each argument or index is tested against all before it, taken together, and not pair by pair.
     fn is_call_unordered(&mut self, args: &[Expr]) -> Result<bool, OutOfMemory>
         requires { IsKnown self.old }
         ensures same { IsSameSource self.old self.new }
@@ -168,6 +168,10 @@ impl<'a> Source<'a> {
             }
             Node::Assign { target, from, .. } => {
                 let told = self.is_assignment_unordered(target, from)?;
+                Ok(told)
+            }
+            Node::Index { at, .. } => {
+                let told = self.is_call_unordered(at.as_slice())?;
                 Ok(told)
             }
             Node::Call { args, .. } => {

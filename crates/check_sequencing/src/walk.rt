@@ -76,7 +76,7 @@ impl<'a> Walk<'a> {
         match node {
             Node::Const(_) => {}
             Node::Var(_) => {}
-            Node::Index { at, .. } => self.expression(at)?,
+            Node::Index { at, .. } => self.arguments(at.as_slice())?,
             Node::Unary { of, .. } => self.expression(of)?,
             Node::Cast(of) => self.expression(of)?,
             Node::Step { target, .. } => self.expression(target)?,

@@ -23,13 +23,13 @@ bodiless_if m items (Some f) = is_bodiless m items f
 module _ (m : DataModel) (items : List Item) (es : List Entry) where
   pub called : (f : List ℕ) (n : ℕ) (k : Option Kind) → (word_as k).is_function ≡ true → is_not n (count_for m items (built_in f) es f) ≡ miscalled m items es f n k
   called f n None h = cc
-  called f n (Some (Object o ty array fixed)) h = cc
+  called f n (Some (Object o ty dims fixed)) h = cc
   called f n (Some (Function result stated has_body)) h = refl
   called f n (Some Closed) h = refl
 
   pub not_called : (f : List ℕ) (n : ℕ) (k : Option Kind) → (word_as k).is_function ≡ false → not (word_as k).is_nameless ≡ miscalled m items es f n k
   not_called f n None h = refl
-  not_called f n (Some (Object o ty array fixed)) h = refl
+  not_called f n (Some (Object o ty dims fixed)) h = refl
   not_called f n (Some (Function result stated has_body)) h = cc
   not_called f n (Some Closed) h = cc
 
@@ -39,7 +39,7 @@ module _ (m : DataModel) (items : List Item) (es : List Entry) where
   bodiless_call f (Number v decimal unsigned longs) h = cc
   bodiless_call f (Char v) h = cc
   bodiless_call f (Var x w) h = cc
-  bodiless_call f (Index x w a) h = cc
+  bodiless_call f (Index x w is) h = cc
   bodiless_call f (Unary op a) h = cc
   bodiless_call f (Cast to a) h = cc
   bodiless_call f (Step op a) h = cc
@@ -54,7 +54,7 @@ module _ (m : DataModel) (items : List Item) (es : List Entry) where
   no_call (Number v decimal unsigned longs) h = refl
   no_call (Char v) h = refl
   no_call (Var x w) h = refl
-  no_call (Index x w a) h = refl
+  no_call (Index x w is) h = refl
   no_call (Unary op a) h = refl
   no_call (Cast to a) h = refl
   no_call (Step op a) h = refl

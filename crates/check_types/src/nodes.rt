@@ -54,18 +54,17 @@ pub fn variable(spot: Spot, word: Word) -> Expr
     }
 }
 
-pub fn index(alloc: Global, spot: Spot, word: Word, at: Expr) -> Result<Expr, OutOfMemory>
-    ensures { IfOk result (λ r. expr_view r ≡ t.Expr spot (Some word.ty) (t.Index word.number (expr_view at))) }
+pub fn index(spot: Spot, word: Word, at: Seq<Expr>) -> Expr
+    ensures { expr_view result ≡ t.Expr spot (Some word.ty) (t.Index word.number (exprs_view at)) }
 {
-    let node = Node::Index {
-        object: word.number,
-        at: Box::new(alloc, at)?,
-    };
-    Ok(Expr {
+    Expr {
         spot,
         ty: Some(word.ty),
-        node,
-    })
+        node: Node::Index {
+            object: word.number,
+            at,
+        },
+    }
 }
 
 pub fn unary(

@@ -1,11 +1,12 @@
 // The refusals of an expression itself, whose parts are typed already.
-ghost use Rattle.std.specs.Prelude.{◌≡◌, ◌||◌};
+ghost use Rattle.std.specs.Prelude.{◌≡◌, ◌||◌, Option};
 ghost use Rattle.std.specs.Option.{option_map};
 ghost use Rattle.c_core.specs.View.{expr_view as typed_view};
 ghost use Rattle.c_core.specs.declared.number.DataModel.{DataModel as Model};
 ghost use Rattle.c_parser.specs.View.{expr_view, node_view};
 ghost use Rattle.check_rules.specs.Codes as codes;
 ghost use Rattle.check_rules.specs.Names as names;
+ghost use Rattle.check_rules.specs.Names.{Kind};
 ghost use Rattle.check_rules.specs.Noting.{noted_part};
 ghost use Rattle.check_rules.specs.Parts.{Expression, bodies_of};
 ghost use Rattle.check_rules.specs.Roles.{role_of};
@@ -47,6 +48,13 @@ fn is_miscalled(functions: &Functions, table: &Table, name: &str, count: usize, 
     }
 }
 
+// Is there an index on a scalar or on a function, or are there fewer or more indexes than dimensions?
+fn is_no_element(word: Word, count: usize) -> bool
+    ensures { (k : Option Kind) → word ≡ word_as k → result ≡ codes.is_no_element count k }
+{
+    word.is_no_array || (!word.is_nameless && usize::from(word.dims) != count)
+}
+
 // A constant without type, a word or a call of the wrong kind, a choice with one void arm.
 fn is_misused(
     functions: &Functions,
@@ -68,7 +76,7 @@ fn is_misused(
             longs,
         } => constant_type(model, *value, *decimal, *unsigned, *longs).is_none(),
         RawNode::Var { .. } => word.is_no_scalar,
-        RawNode::Index { .. } => word.is_no_array,
+        RawNode::Index { at, .. } => is_no_element(word, at.len()),
         RawNode::Choose { .. } => has_one_void(typed),
         RawNode::Call { callee, args, .. } => is_miscalled(
             functions,

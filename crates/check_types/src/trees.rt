@@ -80,9 +80,8 @@ fn node(
         RawNode::Char(value) => Ok(nodes::character(spot, *value)),
         RawNode::Var { .. } => Ok(nodes::variable(spot, word)),
         RawNode::Index { at, .. } => {
-            let at = expression(alloc, functions, table, model, best, Role::Value, at)?;
-            let typed = nodes::index(alloc, spot, word, at)?;
-            Ok(typed)
+            let at = expressions(alloc, functions, table, model, best, at.as_slice())?;
+            Ok(nodes::index(spot, word, at))
         }
         RawNode::Unary { op, of } => {
             let of = expression(alloc, functions, table, model, best, Role::Value, of)?;

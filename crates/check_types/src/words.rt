@@ -26,6 +26,7 @@ pub struct Word {
     pub is_nameless: bool,
     pub is_no_scalar: bool,
     pub is_no_array: bool,
+    pub dims: u8,
     pub is_function: bool,
 }
 
@@ -40,6 +41,7 @@ fn no_word() -> Word
         is_nameless: false,
         is_no_scalar: false,
         is_no_array: false,
+        dims: 0,
         is_function: false,
     }
 }
@@ -70,14 +72,15 @@ fn word_of(meaning: Option<Meaning>) -> Word
             Meaning::Object {
                 number,
                 ty,
-                array,
+                dims,
                 ..
             },
         ) => Word {
             number,
             ty,
-            is_no_scalar: array,
-            is_no_array: !array,
+            is_no_scalar: dims != 0,
+            is_no_array: dims == 0,
+            dims,
             ..no_word()
         },
         Some(Meaning::Function(gives)) => of_function(gives),

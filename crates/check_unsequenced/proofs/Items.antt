@@ -1,5 +1,5 @@
 -- The parts of items, and the full expressions of their functions and of what is kept outside.
-use Rattle.std.proofs.Common.{◌≡◌, ◌⊎◌, inl, inr, ℕ, zero, suc, Bool, true, false, List, [], ◌∷◌, ◌++◌, map, length, Option, Some, refl, ap, sym, subst, ◌∙◌}
+use Rattle.std.proofs.Common.{◌≡◌, ◌⊎◌, inl, inr, ℕ, zero, suc, Bool, true, List, [], ◌∷◌, ◌++◌, map, length, Option, Some, refl, ap, sym, subst, ◌∙◌}
 use Rattle.std.specs.Prelude.{slice_get}
 use Rattle.std.specs.List.{list_any}
 use Rattle.std.proofs.lemmas.List.{append-nil}
@@ -9,7 +9,7 @@ use Rattle.c_core.specs.declared.number.Spot.{Spot}
 use Rattle.c_core.specs.declared.tree.Object.{Object}
 use Rattle.c_parser.specs.Tree as raw
 use Rattle.check_rules.specs.Scopes.{Scope, after_item, after_parameters, inside, statements_of, entry_of_function, with_object, parameter}
-use Rattle.check_rules.specs.Parts.{Part, Naming, Label, bodies_of, labels_of, parts_of_body, parts_of_item, parts_of_items, parts_of_labels, parts_of_names, parts_of_parameters}
+use Rattle.check_rules.specs.Parts.{Part, Naming, Label, bodies_of, labels_of, parts_of_body, parts_of_item, parts_of_items, parts_of_labels, parts_of_names, parts_of_parameters, in_body}
 use Rattle.check_rules.specs.Order.{IsUnordered, parts_of_bodies}
 use Rattle.check_rules.specs.Checked.{functions_of, typed_block}
 use Rattle.check_rules.specs.Kept as rules
@@ -85,7 +85,7 @@ module _ (m : DataModel) (items : List raw.Item) (objects : List Object) where
     body_listed h = listed_behind objects head its_parts (listed_front objects (head ++ its_parts) tail h)
 
     body_found : IsObjectList m items objects → AreListedParts objects its_parts → Are its_parts (its_fulls ++ kept_of m items objects its_parts) []
-    body_found list h = merged its_parts its_fulls (kept_of m items objects its_parts) ((block_is m items objects result false behind (statements_of body)).tests list h)
+    body_found list h = merged its_parts its_fulls (kept_of m items objects its_parts) ((block_is m items objects result in_body behind (statements_of body)).tests list h)
 
     function_found : IsObjectList m items objects → AreListedParts objects (parts_of_item m names s (raw.Function p name result xs body))
         → Are (parts_of_item m names s (raw.Function p name result xs body)) (its_fulls ++ kept_of m items objects its_parts) []
@@ -97,7 +97,7 @@ module _ (m : DataModel) (items : List raw.Item) (objects : List Object) where
 
     body_same : (g : Effect → Bool) → list_any g (effs m items objects its_parts) ≡ list_any g (done m items objects its_fulls ++ done m items objects (kept_of m items objects its_parts))
     body_same g =
-        (block_is m items objects result false behind (statements_of body)).effects g ∙ sym (any_append g (done m items objects its_fulls) (done m items objects (kept_of m items objects its_parts)))
+        (block_is m items objects result in_body behind (statements_of body)).effects g ∙ sym (any_append g (done m items objects its_fulls) (done m items objects (kept_of m items objects its_parts)))
 
   -- ---- items
 

@@ -9,7 +9,7 @@ use Rattle.c_parser.specs.Tree as raw
 use Rattle.check_rules.specs.Names as kind
 use Rattle.check_rules.specs.Names.{Kind, Entry, built_in, declared_as, named, or_built_in}
 use Rattle.check_rules.specs.Scopes.{after_items, outermost}
-use Rattle.check_rules.specs.Parts.{Part, Expression, Declaring, Naming, Initializing, Returning, Leaving, Labelling, bodies_of, parts_of_source}
+use Rattle.check_rules.specs.Parts.{Part, Expression, Declaring, Naming, Initializing, Returning, Leaving, Labelling, bodies_of, parts_of_source, Choosing, Selecting}
 use Rattle.check_rules.specs.Codes.{closed_names}
 use Rattle.check_unsequenced.specs.PartEffects.{AreListed, AreListedParts, NoPart, OnePart, HasStorage, IsListed}
 use Rattle.check_wellformed.proofs.Lists.{AllOf}
@@ -23,7 +23,7 @@ module _ (objects : List Object) (entries : List Entry) (hidden : List (List ℕ
   IsListedKind k = IsListed objects (Some k)
 
   listed_kind : (name : List ℕ) (k : Kind) → IsKind objects entries hidden name k → IsListedKind k
-  listed_kind name (kind.Object n ty array fixed) h = subst (HasStorage fixed) (sym h.at) h.fixed
+  listed_kind name (kind.Object n ty dims fixed) h = subst (HasStorage fixed) (sym h.at) h.fixed
   listed_kind name (kind.Function result stated has_body) h = refl
   listed_kind name kind.Closed h = refl
 
@@ -34,7 +34,7 @@ module _ (objects : List Object) (entries : List Entry) (hidden : List (List ℕ
   listed_or : (d : Option Kind) (b : Option Callee) → IsListed objects d → IsListed objects (or_built_in d b)
   listed_or None None h = refl
   listed_or None (Some c) h = refl
-  listed_or (Some (kind.Object n ty array fixed)) b h = h
+  listed_or (Some (kind.Object n ty dims fixed)) b h = h
   listed_or (Some (kind.Function result stated has_body)) None h = refl
   listed_or (Some (kind.Function result stated has_body)) (Some c) h = refl
   listed_or (Some kind.Closed) None h = refl
@@ -54,8 +54,10 @@ module _ (objects : List Object) (entries : List Entry) (hidden : List (List ℕ
   known_listed (Naming s e p ∷ ps) h = OnePart refl (known_listed ps h.1)
   known_listed (Initializing fixed s e ∷ ps) h = OnePart refl (known_listed ps h.1)
   known_listed (Returning result p given ∷ ps) h = OnePart refl (known_listed ps h.1)
-  known_listed (Leaving looped p ∷ ps) h = OnePart refl (known_listed ps h.1)
+  known_listed (Leaving may p ∷ ps) h = OnePart refl (known_listed ps h.1)
   known_listed (Labelling before w p ∷ ps) h = OnePart refl (known_listed ps h.1)
+  known_listed (Choosing before l p ∷ ps) h = OnePart refl (known_listed ps h.1)
+  known_listed (Selecting es e ∷ ps) h = OnePart refl (known_listed ps h.1)
 
 pub source_listed : (m : DataModel) (items : List raw.Item) (objects : List Object) → objects ≡ (after_items m (bodies_of items) outermost items).objects → AreListedParts objects (parts_of_source m items)
 source_listed m items objects same =

@@ -9,24 +9,24 @@ use Rattle.c_core.specs.declared.number.DataModel.{DataModel}
 use Rattle.c_core.specs.declared.number.Spot.{Spot}
 use Rattle.c_core.specs.declared.tree.Object.{Object}
 use Rattle.c_parser.specs.Tree as raw
-use Rattle.c_parser.specs.Tree.{Exp, Expr}
+use Rattle.c_parser.specs.Tree.{Exp, Expr, Exps, NoExp, MoreExp, exps}
 use Rattle.check_rules.specs.Names.{Entry}
 use Rattle.check_rules.specs.Scopes.{Scope, seen}
-use Rattle.check_rules.specs.Typed.{typed}
-use Rattle.check_rules.specs.Parts.{Value, Role, Part, Expression, Declaring, Naming, Initializing, Returning, Leaving, Labelling, bodies_of, parts, parts_if, parts_of_value}
+use Rattle.check_rules.specs.Typed.{typed, typed_all}
+use Rattle.check_rules.specs.Parts.{Value, Role, Part, Expression, Declaring, Naming, Initializing, Returning, Leaving, Labelling, bodies_of, parts, parts_of_value, Choosing, Selecting, parts_of}
 use Rattle.check_rules.specs.Order.{IsUnordered}
 use Rattle.check_rules.specs.Kept as rules
-use Rattle.check_rules.specs.Kept.{kept_of_part, kept_of_parts, kept_size}
+use Rattle.check_rules.specs.Kept.{kept_of_part, kept_of_parts, kept_sizes}
 use Rattle.check_sequencing.specs.declared.effect.Effect.{Effect}
 use Rattle.check_sequencing.specs.Bodies.{Full, full, effects_of_fulls, tested_fulls, tests_of}
-use Rattle.check_sequencing.specs.Typed.{effects, tested}
+use Rattle.check_sequencing.specs.Typed.{effects, effects_all, tested, tested_all}
 use Rattle.check_unsequenced.specs.PartEffects.{AreListed, AreListedParts, NoPart, OnePart, IsListedPart, IsObjectList, count, effects_of_part, effects_of_parts, is_stored}
 use Rattle.check_unsequenced.specs.PartsFound.{AreTestsOf, OneFound, OneUnordered}
 use Rattle.check_unsequenced.proofs.PartTests.{any_append, or_none}
-use Rattle.check_unsequenced.proofs.TypedEffects.{effects_of_expression}
+use Rattle.check_unsequenced.proofs.TypedEffects.{effects_of_all, effects_of_expression}
 use Rattle.check_unsequenced.proofs.SameTests.{found_cases, found_left, found_right, none_in, same_both, same_expression, same_initializer, same_none, same_other, unordered_cases, unordered_left, unordered_right}
 use Rattle.check_wellformed.proofs.Lists.{AllOf}
-use Rattle.check_wellformed.proofs.Threads.{Sees, parts_see}
+use Rattle.check_wellformed.proofs.Threads.{Sees, arguments_see, parts_see}
 use Rattle.check_unsequenced.specs.Bodies.{kept_full, kept_fulls}
 
 crossed : (f k g l : Bool) → ((f || k) || (g || l)) ≡ ((f || g) || (k || l))
@@ -185,8 +185,10 @@ module _ (m : DataModel) (items : List raw.Item) (objects : List Object) where
   none_kept es (Naming s e p ∷ ps) h = absurd h.0
   none_kept es (Initializing fixed s e ∷ ps) h = absurd h.0
   none_kept es (Returning result p given ∷ ps) h = absurd h.0
-  none_kept es (Leaving looped p ∷ ps) h = absurd h.0
+  none_kept es (Leaving may p ∷ ps) h = absurd h.0
   none_kept es (Labelling before w p ∷ ps) h = absurd h.0
+  none_kept es (Choosing before l p ∷ ps) h = absurd h.0
+  none_kept es (Selecting es' e ∷ ps) h = absurd h.0
 
   kept_of_expression : (es : List Entry) (r : Role) (e : Exp) → kept_of_parts m (bodies_of items) (parts es r e) ≡ []
   kept_of_expression es r e = none_kept es (parts es r e) (parts_see es r e)
@@ -231,20 +233,53 @@ module _ (m : DataModel) (items : List raw.Item) (objects : List Object) where
       subst (AreTestsOf m items objects (parts_of_value true s e)) (sym (append-nil (tests_of (start s e))))
       (same_initializer m items objects list true s (scope_listed true s e h) e))
 
-  -- ---- the size of a declared name
+  -- ---- a case constant
 
-  sized_as : (fixed : Bool) (s : Scope) (d : raw.Declared) (size : Option Exp) → d.size ≡ size → Match (parts_if (seen s) Value size ++ Declaring fixed s d ∷ []) []
-  sized_as fixed s d None e = other (Declaring fixed s d) refl (ap (kept_size m (bodies_of items) (seen s)) e) (λ u. u)
-  sized_as fixed s d (Some v) e =
-      let ps = parts (seen s) Value v in
-      let f = full None (tree (seen s) v) in
-      by_tests (ps ++ Declaring fixed s d ∷ []) [] (f ∷ [])
-      (kept_append ps (Declaring fixed s d ∷ []) ∙ ap (λ ks. kept_fulls ks ++ kept_of (Declaring fixed s d ∷ [])) (kept_of_expression (seen s) Value v) ∙ ap (λ o. kept_fulls (kept_size m (bodies_of items) (seen s) o ++ [])) e)
-      (λ g. any_effs g ps (Declaring fixed s d ∷ []) ∙ sym (or_none (list_any g (effs ps))) ∙ any_one g (seen s) Value v None refl)
+  pub constant : (es : List Entry) (e : Exp) → Match (Selecting es e ∷ parts es Value e) []
+  constant es e =
+      let ps = parts es Value e in
+      let f = full None (tree es e) in
+      by_tests (Selecting es e ∷ ps) [] (f ∷ []) (ap (λ ks. f ∷ kept_fulls ks) (kept_of_expression es Value e))
+      (λ g. any_one g es Value e None refl)
       (λ list h.
-      same_both m items objects ps (Declaring fixed s d ∷ []) (tested (tree (seen s) v)) []
-      (same_expression m items objects list (seen s) (names_listed objects (seen s) Value v (listed_front objects ps (Declaring fixed s d ∷ []) h)) Value v)
-      (same_other m items objects (Declaring fixed s d) [] [] (λ u. u) (same_none m items objects)))
+      subst (AreTestsOf m items objects (Selecting es e ∷ ps)) (sym (append-nil (tested (tree es e))))
+      (same_other m items objects (Selecting es e) ps (tested (tree es e)) (λ u. u)
+      (same_expression m items objects list es (names_listed objects es Value e (listed_behind objects (Selecting es e ∷ []) ps h)) Value e)))
 
-  pub sized : (fixed : Bool) (s : Scope) (d : raw.Declared) → Match (parts_if (seen s) Value d.size ++ Declaring fixed s d ∷ []) []
-  sized fixed s d = sized_as fixed s d d.size refl
+  -- ---- the sizes of a declared name
+
+  kept_of_arguments : (es : List Entry) (gs : Exps) → kept_of_parts m (bodies_of items) (parts_of es gs) ≡ []
+  kept_of_arguments es gs = none_kept es (parts_of es gs) (arguments_see es gs)
+
+  abbrev sizes_kept : List Entry → List Exp → List Full
+  sizes_kept es sizes = kept_fulls (kept_sizes m (bodies_of items) es sizes)
+
+  sizes_done : (es : List Entry) (sizes : List Exp) → done (sizes_kept es sizes) ≡ effects_all objects (count m items objects) (typed_all m (bodies_of items) es (exps sizes))
+  sizes_done es [] = refl
+  sizes_done es (e ∷ sizes) = ap (λ xs. effects objects (count m items objects) false (tree es e) ++ xs) (sizes_done es sizes)
+
+  sizes_tested : (es : List Entry) (sizes : List Exp) → tested_fulls (sizes_kept es sizes) ≡ tested_all (typed_all m (bodies_of items) es (exps sizes))
+  sizes_tested es [] = refl
+  sizes_tested es (e ∷ sizes) = ap (λ xs. tested (tree es e) ++ xs) (sizes_tested es sizes)
+
+  -- the names are listed, or there are no parts
+  sizes_same : IsObjectList m items objects → (es : List Entry) (gs : Exps) → AreListedParts objects (parts_of es gs) → AreTestsOf m items objects (parts_of es gs) (tested_all (typed_all m (bodies_of items) es gs))
+  sizes_same list es NoExp h = same_none m items objects
+  sizes_same list es (MoreExp e gs) h =
+      same_both m items objects (parts es Value e) (parts_of es gs) (tested (tree es e)) (tested_all (typed_all m (bodies_of items) es gs))
+      (same_expression m items objects list es (names_listed objects es Value e (listed_front objects (parts es Value e) (parts_of es gs) h)) Value e)
+      (sizes_same list es gs (listed_behind objects (parts es Value e) (parts_of es gs) h))
+
+  pub sized : (fixed : Bool) (s : Scope) (d : raw.Declared) → Match (parts_of (seen s) (exps d.sizes) ++ Declaring fixed s d ∷ []) []
+  sized fixed s d =
+      let ps = parts_of (seen s) (exps d.sizes) in
+      let fs = sizes_kept (seen s) d.sizes in
+      let here = Declaring fixed s d ∷ [] in
+      by_tests (ps ++ here) [] fs
+      (kept_append ps here ∙ ap (λ ks. kept_fulls ks ++ kept_of here) (kept_of_arguments (seen s) (exps d.sizes)) ∙ ap kept_fulls (append-nil (kept_sizes m (bodies_of items) (seen s) d.sizes)))
+      (λ g. any_effs g ps here ∙ sym (or_none (list_any g (effs ps))) ∙ ap (list_any g) (effects_of_all m items objects (seen s) (exps d.sizes) ∙ sym (sizes_done (seen s) d.sizes)))
+      (λ list h.
+      subst (AreTestsOf m items objects (ps ++ here)) (append-nil (tested_all (typed_all m (bodies_of items) (seen s) (exps d.sizes))) ∙ sym (sizes_tested (seen s) d.sizes))
+      (same_both m items objects ps here (tested_all (typed_all m (bodies_of items) (seen s) (exps d.sizes))) []
+      (sizes_same list (seen s) (exps d.sizes) (listed_front objects ps here h))
+      (same_other m items objects (Declaring fixed s d) [] [] (λ u. u) (same_none m items objects))))

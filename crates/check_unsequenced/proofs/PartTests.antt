@@ -13,7 +13,7 @@ use Rattle.c_parser.specs.Tree.{Exp, Expr, Node, Number, Char, Var, Index, Unary
 use Rattle.check_rules.specs.Names as kind
 use Rattle.check_rules.specs.Names.{Kind, Entry, named, is_function}
 use Rattle.check_rules.specs.Typed.{callee_for, callee_of, no_object, number_named, typed}
-use Rattle.check_rules.specs.Parts.{Value, Target, Effect as ForEffect, Part, Expression, Declaring, Naming, Initializing, Returning, Leaving, Labelling, bodies_of}
+use Rattle.check_rules.specs.Parts.{Value, Target, Effect as ForEffect, Part, Expression, Declaring, Naming, Initializing, Returning, Leaving, Labelling, bodies_of, Choosing, Selecting}
 use Rattle.check_rules.specs.Order as order
 use Rattle.check_rules.specs.Order.{SomeOf, This, Other, is_object, is_static, has_number, calls_function}
 use Rattle.check_sequencing.specs.declared.effect.Effect.{Effect}
@@ -99,20 +99,20 @@ module _ (m : DataModel) (items : List raw.Item) (objects : List Object) (absent
 
   changed_object : (k : ℕ) (o : Option Kind) → IsListed objects o → is_object k o ≡ list_any (changes k) (on_object objects bound true (number_named o))
   changed_object k None h = no_object_changed k
-  changed_object k (Some (kind.Object n ty array fixed)) h = changed_there objects n k (slice_get objects n) (there_is fixed (slice_get objects n) h)
+  changed_object k (Some (kind.Object n ty dims fixed)) h = changed_there objects n k (slice_get objects n) (there_is fixed (slice_get objects n) h)
   changed_object k (Some (kind.Function result stated has_body)) h = no_object_changed k
   changed_object k (Some kind.Closed) h = no_object_changed k
 
   read_object : (k : ℕ) (o : Option Kind) → IsListed objects o → is_object k o ≡ list_any (reads k) (on_object objects bound false (number_named o))
   read_object k None h = no_object_read k
-  read_object k (Some (kind.Object n ty array fixed)) h = read_there objects n k (slice_get objects n) (there_is fixed (slice_get objects n) h)
+  read_object k (Some (kind.Object n ty dims fixed)) h = read_there objects n k (slice_get objects n) (there_is fixed (slice_get objects n) h)
   read_object k (Some (kind.Function result stated has_body)) h = no_object_read k
   read_object k (Some kind.Closed) h = no_object_read k
 
   -- what a part changes
   target_changes : (k : ℕ) (es : List Entry) (e : Exp) → AreListed objects es → order.changes (is_object k) (Expression es Target e) ≡ list_any (changes k) (effects_of_part m items objects (Expression es Target e))
   target_changes k es (Expr p (Var x w)) h = changed_object k (named es x) (h x)
-  target_changes k es (Expr p (Index x w a)) h = changed_object k (named es x) (h x)
+  target_changes k es (Expr p (Index x w is)) h = changed_object k (named es x) (h x)
   target_changes k es (Expr p (Call f w gs close)) h = sym (call_changes_nothing objects bound k (callee_for (is_function (named es f)) (bodies_of items) f))
   target_changes k es (Expr p (Number v decimal unsigned longs)) h = refl
   target_changes k es (Expr p (Char v)) h = refl
@@ -127,7 +127,7 @@ module _ (m : DataModel) (items : List raw.Item) (objects : List Object) (absent
 
   value_changes_nothing : (k : ℕ) (es : List Entry) (e : Exp) → false ≡ list_any (changes k) (own objects bound false (node_of (typed m (bodies_of items) es e)))
   value_changes_nothing k es (Expr p (Var x w)) = sym (no_change_by_read (is_some (slice_get objects (number_named (named es x)))) (number_named (named es x)) k)
-  value_changes_nothing k es (Expr p (Index x w a)) = sym (no_change_by_read (is_some (slice_get objects (number_named (named es x)))) (number_named (named es x)) k)
+  value_changes_nothing k es (Expr p (Index x w is)) = sym (no_change_by_read (is_some (slice_get objects (number_named (named es x)))) (number_named (named es x)) k)
   value_changes_nothing k es (Expr p (Call f w gs close)) = sym (call_changes_nothing objects bound k (callee_for (is_function (named es f)) (bodies_of items) f))
   value_changes_nothing k es (Expr p (Number v decimal unsigned longs)) = refl
   value_changes_nothing k es (Expr p (Char v)) = refl
@@ -150,11 +150,13 @@ module _ (m : DataModel) (items : List raw.Item) (objects : List Object) (absent
   part_changes k (Returning ty p b) h = refl
   part_changes k (Leaving b p) h = refl
   part_changes k (Labelling ls l p) h = refl
+  part_changes k (Choosing before l p) h = refl
+  part_changes k (Selecting es e) h = refl
 
   -- what a part reads
   target_reads_nothing : (k : ℕ) (es : List Entry) (e : Exp) → false ≡ list_any (reads k) (own objects bound true (node_of (typed m (bodies_of items) es e)))
   target_reads_nothing k es (Expr p (Var x w)) = sym (no_read_by_change (is_some (slice_get objects (number_named (named es x)))) (number_named (named es x)) k)
-  target_reads_nothing k es (Expr p (Index x w a)) = sym (no_read_by_change (is_some (slice_get objects (number_named (named es x)))) (number_named (named es x)) k)
+  target_reads_nothing k es (Expr p (Index x w is)) = sym (no_read_by_change (is_some (slice_get objects (number_named (named es x)))) (number_named (named es x)) k)
   target_reads_nothing k es (Expr p (Call f w gs close)) = sym (call_reads_nothing objects bound k (callee_for (is_function (named es f)) (bodies_of items) f))
   target_reads_nothing k es (Expr p (Number v decimal unsigned longs)) = refl
   target_reads_nothing k es (Expr p (Char v)) = refl
@@ -169,7 +171,7 @@ module _ (m : DataModel) (items : List raw.Item) (objects : List Object) (absent
 
   value_reads : (k : ℕ) (es : List Entry) (e : Exp) → AreListed objects es → order.reads (is_object k) (Expression es Value e) ≡ list_any (reads k) (effects_of_part m items objects (Expression es Value e))
   value_reads k es (Expr p (Var x w)) h = read_object k (named es x) (h x)
-  value_reads k es (Expr p (Index x w a)) h = read_object k (named es x) (h x)
+  value_reads k es (Expr p (Index x w is)) h = read_object k (named es x) (h x)
   value_reads k es (Expr p (Call f w gs close)) h = sym (call_reads_nothing objects bound k (callee_for (is_function (named es f)) (bodies_of items) f))
   value_reads k es (Expr p (Number v decimal unsigned longs)) h = refl
   value_reads k es (Expr p (Char v)) h = refl
@@ -192,6 +194,8 @@ module _ (m : DataModel) (items : List raw.Item) (objects : List Object) (absent
   part_reads k (Returning ty p b) h = refl
   part_reads k (Leaving b p) h = refl
   part_reads k (Labelling ls l p) h = refl
+  part_reads k (Choosing before l p) h = refl
+  part_reads k (Selecting es e) h = refl
 
 -- ---- objects of static storage
 
@@ -206,14 +210,14 @@ module _ (objects : List Object) where
 
   static_object : (k : ℕ) (o : Option Kind) → IsListed objects o → is_static k o ≡ (is_object k o && is_fixed objects k)
   static_object k None h = refl
-  static_object k (Some (kind.Object n ty array fixed)) h =
+  static_object k (Some (kind.Object n ty dims fixed)) h =
       both_same (nat_eq n k) fixed (is_fixed objects k) (λ e. storage_is fixed (slice_get objects n) h ∙ ap (is_fixed objects) (eqb-true n k e))
   static_object k (Some (kind.Function result stated has_body)) h = refl
   static_object k (Some kind.Closed) h = refl
 
   named_listed : (es : List Entry) (n : Node) → AreListed objects es → IsListed objects (order.object_named es n)
   named_listed es (Var x w) h = h x
-  named_listed es (Index x w a) h = h x
+  named_listed es (Index x w is) h = h x
   named_listed es (Call f w gs close) h = refl
   named_listed es (Number v decimal unsigned longs) h = refl
   named_listed es (Char v) h = refl
@@ -236,6 +240,8 @@ module _ (objects : List Object) where
   static_changes k (Returning ty p b) h = refl
   static_changes k (Leaving b p) h = refl
   static_changes k (Labelling ls l p) h = refl
+  static_changes k (Choosing before l p) h = refl
+  static_changes k (Selecting es e) h = refl
 
   pub static_reads : (k : ℕ) (part : Part) → IsListedPart objects part → order.reads (is_static k) part ≡ (order.reads (is_object k) part && is_fixed objects k)
   static_reads k (Expression es Target e) h = refl
@@ -247,6 +253,8 @@ module _ (objects : List Object) where
   static_reads k (Returning ty p b) h = refl
   static_reads k (Leaving b p) h = refl
   static_reads k (Labelling ls l p) h = refl
+  static_reads k (Choosing before l p) h = refl
+  static_reads k (Selecting es e) h = refl
 
 -- ---- calls
 
@@ -289,7 +297,7 @@ module _ (m : DataModel) (items : List raw.Item) (objects : List Object) where
   pub part_calls : (k : ℕ) → k < many → (part : Part) → calls_function m items k part ≡ list_any (calls k) (effects_of_part m items objects part)
   part_calls k l (Expression es r (Expr p (Call f w gs close))) = call_of_function k f (is_function (named es f)) l
   part_calls k l (Expression es r (Expr p (Var x w))) = sym (no_call_by (is_stored r) (is_some (slice_get objects (number_named (named es x)))) (number_named (named es x)) k)
-  part_calls k l (Expression es r (Expr p (Index x w a))) = sym (no_call_by (is_stored r) (is_some (slice_get objects (number_named (named es x)))) (number_named (named es x)) k)
+  part_calls k l (Expression es r (Expr p (Index x w is))) = sym (no_call_by (is_stored r) (is_some (slice_get objects (number_named (named es x)))) (number_named (named es x)) k)
   part_calls k l (Expression es r (Expr p (Number v decimal unsigned longs))) = refl
   part_calls k l (Expression es r (Expr p (Char v))) = refl
   part_calls k l (Expression es r (Expr p (Unary op a))) = refl
@@ -306,6 +314,8 @@ module _ (m : DataModel) (items : List raw.Item) (objects : List Object) where
   part_calls k l (Returning ty p b) = refl
   part_calls k l (Leaving b p) = refl
   part_calls k l (Labelling ls x p) = refl
+  part_calls k l (Choosing before x p) = refl
+  part_calls k l (Selecting es e) = refl
 
   callee_below : (k : ℕ) (c : Callee) → list_any (calls k) (on_call objects many c) ≡ true → k < many
   callee_below k (callee.Defined j) h = called_below j k many (nat_lt j many) refl h
@@ -321,7 +331,7 @@ module _ (m : DataModel) (items : List raw.Item) (objects : List Object) where
   part_call_below : (k : ℕ) (part : Part) → list_any (calls k) (effects_of_part m items objects part) ≡ true → k < many
   part_call_below k (Expression es r (Expr p (Call f w gs close))) h = callee_below k (callee_for (is_function (named es f)) (bodies_of items) f) h
   part_call_below k (Expression es r (Expr p (Var x w))) h = no_call_by_object k (number_named (named es x)) (is_stored r) h
-  part_call_below k (Expression es r (Expr p (Index x w a))) h = no_call_by_object k (number_named (named es x)) (is_stored r) h
+  part_call_below k (Expression es r (Expr p (Index x w is))) h = no_call_by_object k (number_named (named es x)) (is_stored r) h
   part_call_below k (Expression es r (Expr p (Number v decimal unsigned longs))) h = absurd (false≢true h)
   part_call_below k (Expression es r (Expr p (Char v))) h = absurd (false≢true h)
   part_call_below k (Expression es r (Expr p (Unary op a))) h = absurd (false≢true h)
@@ -338,6 +348,8 @@ module _ (m : DataModel) (items : List raw.Item) (objects : List Object) where
   part_call_below k (Returning ty p b) h = absurd (false≢true h)
   part_call_below k (Leaving b p) h = absurd (false≢true h)
   part_call_below k (Labelling ls l p) h = absurd (false≢true h)
+  part_call_below k (Choosing before l p) h = absurd (false≢true h)
+  part_call_below k (Selecting es e) h = absurd (false≢true h)
 
   -- ---- lists of parts
 

@@ -140,7 +140,7 @@ module _ (m : DataModel) (items : List raw.Item) (objects : List Object) where
     same_spot r (Expr p (Number v decimal unsigned longs)) = refl
     same_spot r (Expr p (Char v)) = refl
     same_spot r (Expr p (Var x w)) = refl
-    same_spot r (Expr p (Index x w a)) = refl
+    same_spot r (Expr p (Index x w is)) = refl
     same_spot r (Expr p (Unary op a)) = refl
     same_spot r (Expr p (Cast to a)) = refl
     same_spot r (Expr p (Step op a)) = refl
@@ -163,7 +163,7 @@ module _ (m : DataModel) (items : List raw.Item) (objects : List Object) where
       same_expression r (Expr p (Number v decimal unsigned longs)) = itself r (Expr p (Number v decimal unsigned longs))
       same_expression r (Expr p (Char v)) = itself r (Expr p (Char v))
       same_expression r (Expr p (Var x w)) = itself r (Expr p (Var x w))
-      same_expression r (Expr p (Index x w a)) = behind r (Expr p (Index x w a)) (parts es Value a) (tested (tree a)) (same_expression Value a)
+      same_expression r (Expr p (Index x w is)) = behind r (Expr p (Index x w is)) (parts_of es is) (tested_all (typed_all m (bodies_of items) es is)) (same_all is)
       same_expression r (Expr p (Unary op a)) = behind r (Expr p (Unary op a)) (parts es Value a) (tested (tree a)) (same_expression Value a)
       same_expression r (Expr p (Cast to a)) = behind r (Expr p (Cast to a)) (parts es (of_cast to) a) (tested (tree a)) (same_expression (of_cast to) a)
       same_expression r (Expr p (Step op a)) = behind r (Expr p (Step op a)) (parts es Target a) (tested (tree a)) (same_expression Target a)

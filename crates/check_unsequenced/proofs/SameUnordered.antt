@@ -42,7 +42,7 @@ module _ (objects : List Object) where
       listed_in (Number v decimal unsigned longs) = NoPart
       listed_in (Char v) = NoPart
       listed_in (Var x w) = NoPart
-      listed_in (Index x w a) = listed_parts Value a
+      listed_in (Index x w is) = listed_of is
       listed_in (Unary op a) = listed_parts Value a
       listed_in (Cast to a) = listed_parts (of_cast to) a
       listed_in (Step op a) = listed_parts Target a
@@ -121,7 +121,7 @@ module _ (m : DataModel) (items : List raw.Item) (objects : List Object) (list :
     effects_below (Expr p (Number v decimal unsigned longs)) = refl
     effects_below (Expr p (Char v)) = refl
     effects_below (Expr p (Var x w)) = refl
-    effects_below (Expr p (Index x w a)) = effects_of_expression m items objects es Value a
+    effects_below (Expr p (Index x w is)) = effects_of_all m items objects es is
     effects_below (Expr p (Unary op a)) = effects_of_expression m items objects es Value a
     effects_below (Expr p (Cast to a)) = effects_of_expression m items objects es Value (Expr p (Cast to a))
     effects_below (Expr p (Step op a)) = effects_of_expression m items objects es Target a
@@ -148,7 +148,7 @@ module _ (m : DataModel) (items : List raw.Item) (objects : List Object) (list :
 
     object_target : (o : ℕ) (k : Option Kind) → IsListed objects k → is_object o k ≡ true → cond (is_some (slice_get objects (number_named k))) (Some (number_named k)) None ≡ Some o
     object_target o None i e = absurd (false≢true e)
-    object_target o (Some (kind.Object n ty array fixed)) i e = there_it_is (slice_get objects n) i
+    object_target o (Some (kind.Object n ty dims fixed)) i e = there_it_is (slice_get objects n) i
       where
         there_it_is : (g : Option Object) → HasStorage fixed g → cond (is_some g) (Some n) None ≡ Some o
         there_it_is None x = absurd x
@@ -161,7 +161,7 @@ module _ (m : DataModel) (items : List raw.Item) (objects : List Object) (list :
 
     target_object : (o : ℕ) (k : Option Kind) → cond (is_some (slice_get objects (number_named k))) (Some (number_named k)) None ≡ Some o → is_object o k ≡ true
     target_object o None e = absurd (no_target o e)
-    target_object o (Some (kind.Object n ty array fixed)) e = found (slice_get objects n) e
+    target_object o (Some (kind.Object n ty dims fixed)) e = found (slice_get objects n) e
       where
         found : (g : Option Object) → cond (is_some g) (Some n) None ≡ Some o → nat_eq n o ≡ true
         found None q = cc
@@ -171,7 +171,7 @@ module _ (m : DataModel) (items : List raw.Item) (objects : List Object) (list :
 
     target_to : (o : ℕ) (e : Exp) → order.IsTarget o es e → target objects many (tree e) ≡ Some o
     target_to o (Expr p (Var x w)) i = object_target o (named es x) (h x) i
-    target_to o (Expr p (Index x w a)) i = object_target o (named es x) (h x) i
+    target_to o (Expr p (Index x w is)) i = object_target o (named es x) (h x) i
     target_to o (Expr p (Number v decimal unsigned longs)) i = absurd (false≢true i)
     target_to o (Expr p (Char v)) i = absurd (false≢true i)
     target_to o (Expr p (Unary op a)) i = absurd (false≢true i)
@@ -186,7 +186,7 @@ module _ (m : DataModel) (items : List raw.Item) (objects : List Object) (list :
 
     target_from : (o : ℕ) (e : Exp) → target objects many (tree e) ≡ Some o → order.IsTarget o es e
     target_from o (Expr p (Var x w)) i = target_object o (named es x) i
-    target_from o (Expr p (Index x w a)) i = target_object o (named es x) i
+    target_from o (Expr p (Index x w is)) i = target_object o (named es x) i
     target_from o (Expr p (Number v decimal unsigned longs)) i = cc
     target_from o (Expr p (Char v)) i = cc
     target_from o (Expr p (Unary op a)) i = cc
@@ -270,7 +270,7 @@ module _ (m : DataModel) (items : List raw.Item) (objects : List Object) (list :
     unordered_to r (Expr p (Number v decimal unsigned longs)) (inl q) = no_operands q
     unordered_to r (Expr p (Char v)) (inl q) = no_operands q
     unordered_to r (Expr p (Var x w)) (inl q) = no_operands q
-    unordered_to r (Expr p (Index x w a)) (inl q) = no_operands q
+    unordered_to r (Expr p (Index x w is)) (inl q) = inl (subst (effect.SomePair done objects) (same_arguments is) (pair_to (order.arguments es is) (listed_arguments is) q))
     unordered_to r (Expr p (Unary op a)) (inl q) = no_operands q
     unordered_to r (Expr p (Cast to a)) (inl q) = no_operands q
     unordered_to r (Expr p (Logic both a b)) (inl q) = no_operands q
@@ -281,7 +281,7 @@ module _ (m : DataModel) (items : List raw.Item) (objects : List Object) (list :
     unordered_to r (Expr p (Number v decimal unsigned longs)) (inr c) = absurd c
     unordered_to r (Expr p (Char v)) (inr c) = absurd c
     unordered_to r (Expr p (Var x w)) (inr c) = absurd c
-    unordered_to r (Expr p (Index x w a)) (inr c) = absurd c
+    unordered_to r (Expr p (Index x w is)) (inr c) = absurd c
     unordered_to r (Expr p (Unary op a)) (inr c) = absurd c
     unordered_to r (Expr p (Cast to a)) (inr c) = absurd c
     unordered_to r (Expr p (Logic both a b)) (inr c) = absurd c
@@ -299,7 +299,7 @@ module _ (m : DataModel) (items : List raw.Item) (objects : List Object) (list :
     unordered_from r (Expr p (Number v decimal unsigned longs)) (inl q) = none_typed q
     unordered_from r (Expr p (Char v)) (inl q) = none_typed q
     unordered_from r (Expr p (Var x w)) (inl q) = none_typed q
-    unordered_from r (Expr p (Index x w a)) (inl q) = none_typed q
+    unordered_from r (Expr p (Index x w is)) (inl q) = inl (pair_from (order.arguments es is) (listed_arguments is) (subst (effect.SomePair done objects) (sym (same_arguments is)) q))
     unordered_from r (Expr p (Unary op a)) (inl q) = none_typed q
     unordered_from r (Expr p (Cast to a)) (inl q) = none_typed q
     unordered_from r (Expr p (Logic both a b)) (inl q) = none_typed q
@@ -310,7 +310,7 @@ module _ (m : DataModel) (items : List raw.Item) (objects : List Object) (list :
     unordered_from r (Expr p (Number v decimal unsigned longs)) (inr c) = absurd c
     unordered_from r (Expr p (Char v)) (inr c) = absurd c
     unordered_from r (Expr p (Var x w)) (inr c) = absurd c
-    unordered_from r (Expr p (Index x w a)) (inr c) = absurd c
+    unordered_from r (Expr p (Index x w is)) (inr c) = absurd c
     unordered_from r (Expr p (Unary op a)) (inr c) = absurd c
     unordered_from r (Expr p (Cast to a)) (inr c) = absurd c
     unordered_from r (Expr p (Logic both a b)) (inr c) = absurd c

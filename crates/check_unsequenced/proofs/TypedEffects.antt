@@ -31,7 +31,7 @@ module _ (m : DataModel) (items : List raw.Item) (objects : List Object) (es : L
     effects_of_expression r (Expr p (Number v decimal unsigned longs)) = refl
     effects_of_expression r (Expr p (Char v)) = refl
     effects_of_expression r (Expr p (Var x w)) = refl
-    effects_of_expression r (Expr p (Index x w a)) = ap (λ zs. mine r (Expr p (Index x w a)) ++ zs) (effects_of_expression Value a)
+    effects_of_expression r (Expr p (Index x w is)) = ap (λ zs. mine r (Expr p (Index x w is)) ++ zs) (effects_of_all is)
     effects_of_expression r (Expr p (Unary op a)) = effects_of_expression Value a
     effects_of_expression r (Expr p (Cast None a)) = effects_of_expression ForEffect a
     effects_of_expression r (Expr p (Cast (Some ty) a)) = effects_of_expression Value a

@@ -88,7 +88,7 @@ module _ (objects : List Object) (count : ℕ) (ours theirs : List (List Effect)
   stored_more (Assign op a b) (inr h) = inr (beside_more (target objects count a) a b h)
   stored_more (Const v) h = absurd h
   stored_more (Var o) h = absurd h
-  stored_more (Index o i) h = absurd h
+  stored_more (Index o is) h = absurd h
   stored_more (Unary op a) h = absurd h
   stored_more (Cast a) h = absurd h
   stored_more (Binary op a b) h = absurd h

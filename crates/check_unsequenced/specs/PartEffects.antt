@@ -21,7 +21,7 @@ HasStorage fixed (Some o) = (o.fixed ≡ fixed)
 
 -- what a word stands for is in the list of objects
 abbrev pub IsListed : List Object → Option Kind → Type 0
-IsListed objects (Some (kind.Object n ty array fixed)) = HasStorage fixed (slice_get objects n)
+IsListed objects (Some (kind.Object n ty dims fixed)) = HasStorage fixed (slice_get objects n)
 IsListed objects _ = (no_object ≡ no_object)
 
 -- so it is for all words

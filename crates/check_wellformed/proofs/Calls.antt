@@ -63,7 +63,7 @@ module _ (p : t.Program) (items : List raw.Item) (entries : List Entry) (agreed 
 
   module _ (f : List ℕ) (c : IsCalled p items entries f) where
     kind_is : (k : Kind) → IsKind p.objects entries (closed_names items) f k → IsOrNone (length c.types) (count_in k)
-    kind_is (kind.Object n ty array fixed) h = tt
+    kind_is (kind.Object n ty dims fixed) h = tt
     kind_is (kind.Function result None has_body) h = tt
     kind_is (kind.Function result (Some types) has_body) h = (agreed _ _ h c.stands refl).1
     kind_is kind.Closed h = tt
@@ -88,12 +88,12 @@ module _ (p : t.Program) (items : List raw.Item) (entries : List Entry) (agreed 
 
   abbrev miscalled_by : Option ℕ → ℕ → Option Kind → Bool
   miscalled_by c n None = false
-  miscalled_by c n (Some (kind.Object o ty array fixed)) = true
+  miscalled_by c n (Some (kind.Object o ty dims fixed)) = true
   miscalled_by c n (Some k) = is_not n c
 
   miscalled_is : (es : List Entry) (f : List ℕ) (n : ℕ) (o : Option Kind) → miscalled p.model items es f n o ≡ miscalled_by (count_for p.model items (built_in f) es f) n o
   miscalled_is es f n None = refl
-  miscalled_is es f n (Some (kind.Object o ty array fixed)) = refl
+  miscalled_is es f n (Some (kind.Object o ty dims fixed)) = refl
   miscalled_is es f n (Some (kind.Function result stated has_body)) = refl
   miscalled_is es f n (Some kind.Closed) = refl
 
@@ -116,8 +116,8 @@ module _ (p : t.Program) (items : List raw.Item) (entries : List Entry) (agreed 
     fits_by : (es : List Entry) (f : List ℕ) (n : ℕ) (vs : t.Exps) (d : Option Kind) (b : Option Callee) → Asks es f n vs d b → Fits f vs d b
     fits_by es f n vs None None a = absurd (false≢true (sym a.named))
     fits_by es f n vs None (Some c) a = record { is_one = refl; fits = built_fits c n vs a.built a.called a.many a.values }
-    fits_by es f n vs (Some (kind.Object o ty array fixed)) None a = absurd (false≢true (sym a.called))
-    fits_by es f n vs (Some (kind.Object o ty array fixed)) (Some c) a = absurd (false≢true (sym a.called))
+    fits_by es f n vs (Some (kind.Object o ty dims fixed)) None a = absurd (false≢true (sym a.called))
+    fits_by es f n vs (Some (kind.Object o ty dims fixed)) (Some c) a = absurd (false≢true (sym a.called))
     fits_by es f n vs (Some (kind.Function result stated has_body)) None a =
         let among : is_among (bodies_of items) f ≡ true = not_false _ (second_fails (is_among (closed_names items) f) _ a.bodied) in
         record { is_one = refl; fits = defined_fits f (functions f among) es result stated has_body n vs a.sound a.stands a.called a.many a.values }
@@ -125,11 +125,11 @@ module _ (p : t.Program) (items : List raw.Item) (entries : List Entry) (agreed 
     fits_by es f n vs (Some kind.Closed) None a = absurd (false≢true (sym (first_fails (is_among (closed_names items) f) _ a.bodied) ∙ a.stands))
     fits_by es f n vs (Some kind.Closed) (Some c) a = record { is_one = refl; fits = built_fits c n vs a.built a.called a.many a.values }
 
-    argument_count : (es : List Entry) (gs : Exps) → length (exps_in (typed_all p.model (bodies_of items) es gs)) ≡ count gs
+    pub argument_count : (es : List Entry) (gs : Exps) → length (exps_in (typed_all p.model (bodies_of items) es gs)) ≡ count gs
     argument_count es NoExp = refl
     argument_count es (MoreExp e gs) = ap (λ n. suc n) (argument_count es gs) ∙ sym (add-one (count gs))
 
-    argument_values : (es : List Entry) (gs : Exps) → AllOf (IsGood p items entries) (parts_of es gs) → list_all has_value (exps_in (typed_all p.model (bodies_of items) es gs)) ≡ true
+    pub argument_values : (es : List Entry) (gs : Exps) → AllOf (IsGood p items entries) (parts_of es gs) → list_all has_value (exps_in (typed_all p.model (bodies_of items) es gs)) ≡ true
     argument_values es NoExp h = refl
     argument_values es (MoreExp e gs) h =
         both (value_of_part p items entries es e (all_front (IsGood p items entries) (parts es Value e) _ h))

@@ -92,19 +92,19 @@ as_many-sym (Some ts) None h = tt
 as_many-sym (Some ts) (Some us) h = sym h
 
 agree-refl : (k : Kind) → AgreeKinds k k
-agree-refl (kind.Object n ty array fixed) = tt
+agree-refl (kind.Object n ty dims fixed) = tt
 agree-refl (kind.Function result stated has_body) = (refl, as_many-refl stated)
 agree-refl kind.Closed = tt
 
 agree-sym : (k l : Kind) → AgreeKinds k l → AgreeKinds l k
 agree-sym (kind.Function r s b) (kind.Function r' s' b') h = (sym h.0, as_many-sym s s' h.1)
-agree-sym (kind.Function r s b) (kind.Object n ty array fixed) h = tt
+agree-sym (kind.Function r s b) (kind.Object n ty dims fixed) h = tt
 agree-sym (kind.Function r s b) kind.Closed h = tt
-agree-sym (kind.Object n ty array fixed) (kind.Function r s b) h = tt
-agree-sym (kind.Object n ty array fixed) (kind.Object n' ty' array' fixed') h = tt
-agree-sym (kind.Object n ty array fixed) kind.Closed h = tt
+agree-sym (kind.Object n ty dims fixed) (kind.Function r s b) h = tt
+agree-sym (kind.Object n ty dims fixed) (kind.Object n' ty' dims' fixed') h = tt
+agree-sym (kind.Object n ty dims fixed) kind.Closed h = tt
 agree-sym kind.Closed (kind.Function r s b) h = tt
-agree-sym kind.Closed (kind.Object n ty array fixed) h = tt
+agree-sym kind.Closed (kind.Object n ty dims fixed) h = tt
 agree-sym kind.Closed kind.Closed h = tt
 
 agree_unless_clashing : (k l : Kind) → clashes k l ≡ false → AgreeKinds k l
@@ -112,13 +112,13 @@ agree_unless_clashing (kind.Function r s b) (kind.Function r' s' b') h = (
   equal_results r r' (not_false _ (first_fails (not (same_types r r')) _ h)),
   as_many s s' (not_false _ (first_fails (not (agree s s')) _ (second_fails (not (same_types r r')) _ h))),
 )
-agree_unless_clashing (kind.Function r s b) (kind.Object n ty array fixed) h = tt
+agree_unless_clashing (kind.Function r s b) (kind.Object n ty dims fixed) h = tt
 agree_unless_clashing (kind.Function r s b) kind.Closed h = tt
-agree_unless_clashing (kind.Object n ty array fixed) (kind.Function r s b) h = tt
-agree_unless_clashing (kind.Object n ty array fixed) (kind.Object n' ty' array' fixed') h = tt
-agree_unless_clashing (kind.Object n ty array fixed) kind.Closed h = tt
+agree_unless_clashing (kind.Object n ty dims fixed) (kind.Function r s b) h = tt
+agree_unless_clashing (kind.Object n ty dims fixed) (kind.Object n' ty' dims' fixed') h = tt
+agree_unless_clashing (kind.Object n ty dims fixed) kind.Closed h = tt
 agree_unless_clashing kind.Closed (kind.Function r s b) h = tt
-agree_unless_clashing kind.Closed (kind.Object n ty array fixed) h = tt
+agree_unless_clashing kind.Closed (kind.Object n ty dims fixed) h = tt
 agree_unless_clashing kind.Closed kind.Closed h = tt
 
 -- ---- all that agree
@@ -157,16 +157,16 @@ one_more : (es : List Entry) (e : Entry) → AreAgreed es → ((x : Entry) → C
 one_more es e old new a b x y = by_cases es e a b old new (Contains-push_cases es e a x) (Contains-push_cases es e b y)
 
 -- an object is no function
-agrees_with_object : (a : Entry) (name : List ℕ) (n : ℕ) (ty : IntType) (array fixed : Bool) → Agree a (entry name (kind.Object n ty array fixed))
-agrees_with_object a name n ty array fixed same = trivial a.kind
+agrees_with_object : (a : Entry) (name : List ℕ) (n : ℕ) (ty : IntType) (dims : ℕ) (fixed : Bool) → Agree a (entry name (kind.Object n ty dims fixed))
+agrees_with_object a name n ty dims fixed same = trivial a.kind
   where
-    trivial : (k : Kind) → AgreeKinds k (kind.Object n ty array fixed)
-    trivial (kind.Object n' ty' array' fixed') = tt
+    trivial : (k : Kind) → AgreeKinds k (kind.Object n ty dims fixed)
+    trivial (kind.Object n' ty' dims' fixed') = tt
     trivial (kind.Function r s b) = tt
     trivial kind.Closed = tt
 
 agrees_with_closed : (k : Kind) → AgreeKinds k kind.Closed
-agrees_with_closed (kind.Object n' ty' array' fixed') = tt
+agrees_with_closed (kind.Object n' ty' dims' fixed') = tt
 agrees_with_closed (kind.Function r s b) = tt
 agrees_with_closed kind.Closed = tt
 
@@ -176,7 +176,7 @@ module _ (m : DataModel) (items : List raw.Item) (bodies : List (List ℕ)) wher
   names_agree fixed s (d ∷ ds) h =
       let o = object_of m bodies fixed (s.outer ++ s.inner) d in
       names_agree fixed (after_name m bodies fixed s d) ds
-      (one_more s.inner (entry o.name (kind.Object (length s.objects) o.ty o.array o.fixed)) h (λ x c. agrees_with_object x o.name (length s.objects) o.ty o.array o.fixed))
+      (one_more s.inner (entry o.name (kind.Object (length s.objects) o.ty o.dims o.fixed)) h (λ x c. agrees_with_object x o.name (length s.objects) o.ty o.dims o.fixed))
 
   named_agree : (s : Scope) (e : Entry) (p : Spot) → IsFair m items (Naming s e p) → AreAgreed s.inner → AreAgreed (s.inner ++ e ∷ [])
   named_agree s e p f h = one_more s.inner e h (λ x c. agrees_with_new s e x (first_fails (is_again s e) _ f.once) c)

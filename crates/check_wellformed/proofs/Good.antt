@@ -61,7 +61,7 @@ module _ (P : Kind → Type 0) where
   later_if : (a b : Option Kind) → If a → If b → If (later a b)
   later_if a None h k = h
   later_if None (Some l) h k = k
-  later_if (Some k') (Some (kind.Object n ty array fixed)) h k = k
+  later_if (Some k') (Some (kind.Object n ty dims fixed)) h k = k
   later_if (Some k') (Some (kind.Function result stated has_body)) h k = k
   later_if (Some k') (Some kind.Closed) h k = h
 
@@ -105,13 +105,13 @@ module _ (p : t.Program) (items : List raw.Item) (entries : List Entry) where
 
   -- what is known of an object
   abbrev pub IsObject : Kind → Type 0
-  IsObject (kind.Object n ty array fixed) = IsThere p.objects n ty array fixed
+  IsObject (kind.Object n ty dims fixed) = IsThere p.objects n ty dims fixed
   IsObject _ = Unit {0}
 
   object_or_built_in : (x : List ℕ) (d : Option Kind) (b : Option Callee) → Stands x d → If IsObject (or_built_in d b)
   object_or_built_in x None None h = tt
   object_or_built_in x None (Some c) h = tt
-  object_or_built_in x (Some (kind.Object n ty array fixed)) b h = h
+  object_or_built_in x (Some (kind.Object n ty dims fixed)) b h = h
   object_or_built_in x (Some (kind.Function result stated has_body)) None h = tt
   object_or_built_in x (Some (kind.Function result stated has_body)) (Some c) h = tt
   object_or_built_in x (Some kind.Closed) None h = tt
@@ -127,7 +127,7 @@ module _ (p : t.Program) (items : List raw.Item) (entries : List Entry) where
 
   placed_target : (es : List Entry) (q : Spot) (n : Node) → is_place n ≡ true → is_target (typed p.model (bodies_of items) es (Expr q n)) ≡ true
   placed_target es q (Var x w) h = refl
-  placed_target es q (Index x w a) h = refl
+  placed_target es q (Index x w is) h = refl
   placed_target es q (Number v decimal unsigned longs) h = absurd (false≢true h)
   placed_target es q (Char v) h = absurd (false≢true h)
   placed_target es q (Unary op a) h = absurd (false≢true h)

@@ -1,4 +1,5 @@
 pub mod Lists
+mod Ranges
 pub mod Fair
 pub mod Threads
 pub mod Objects

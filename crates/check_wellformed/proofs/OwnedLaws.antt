@@ -5,6 +5,7 @@ use Rattle.std.specs.List.{slice_get, list_all, flat_map, range_with_len}
 use Rattle.c_core.specs.Tree as t
 use Rattle.c_core.specs.Parts.{DeclaredName, names_in, names_in_block, objects_of}
 use Rattle.c_core.specs.Scope.{times_in, is_fixed_object}
+use Rattle.c_core.specs.Typing.{is_array}
 use Rattle.c_core.specs.Program.{stands_at, is_param}
 use Rattle.c_core.proofs.TextOrderLaws.{same_spot-self}
 use Rattle.c_core.specs.declared.number.IntType.{IntType}
@@ -12,7 +13,7 @@ use Rattle.c_core.specs.declared.tree.Object.{Object}
 use Rattle.c_parser.specs.Tree as raw
 use Rattle.check_rules.specs.Names.{Entry}
 use Rattle.check_rules.specs.Scopes.{Scope, seen, with_object, object_of, after_item, after_parameters, inside, parameter, statements_of}
-use Rattle.check_rules.specs.Parts.{Part, Expression, Declaring, Naming, Initializing, Returning, Leaving, Labelling, parts_of_block, parts_of_body, parts_of_parameters, parts_of_names, parts_of_item, parts_of_items, bodies_of}
+use Rattle.check_rules.specs.Parts.{Part, Expression, Declaring, Naming, Initializing, Returning, Leaving, Labelling, parts_of_block, parts_of_body, parts_of_parameters, parts_of_names, parts_of_item, parts_of_items, bodies_of, in_body, Choosing, Selecting}
 use Rattle.check_rules.specs.Checked.{typed_block, numbers_from, functions_of}
 use Rattle.check_wellformed.proofs.Lists.{AllOf, both, all_front, all_behind}
 use Rattle.check_wellformed.proofs.Threads.{declared, AreBehind, block_leads}
@@ -118,15 +119,17 @@ module _ (p : t.Program) (items : List raw.Item) (entries : List Entry) where
   stand_all a (Naming s e q ∷ ps) h g = stand_all a ps (subst (λ l. AreBehind p.model (bodies_of items) l ps) (append-nil a) h.1) g.1
   stand_all a (Initializing fixed s e ∷ ps) h g = stand_all a ps (subst (λ l. AreBehind p.model (bodies_of items) l ps) (append-nil a) h.1) g.1
   stand_all a (Returning result q given ∷ ps) h g = stand_all a ps (subst (λ l. AreBehind p.model (bodies_of items) l ps) (append-nil a) h.1) g.1
-  stand_all a (Leaving looped q ∷ ps) h g = stand_all a ps (subst (λ l. AreBehind p.model (bodies_of items) l ps) (append-nil a) h.1) g.1
+  stand_all a (Leaving may q ∷ ps) h g = stand_all a ps (subst (λ l. AreBehind p.model (bodies_of items) l ps) (append-nil a) h.1) g.1
   stand_all a (Labelling before w q ∷ ps) h g = stand_all a ps (subst (λ l. AreBehind p.model (bodies_of items) l ps) (append-nil a) h.1) g.1
+  stand_all a (Choosing before l q ∷ ps) h g = stand_all a ps (subst (λ l. AreBehind p.model (bodies_of items) l ps) (append-nil a) h.1) g.1
+  stand_all a (Selecting es e ∷ ps) h g = stand_all a ps (subst (λ l. AreBehind p.model (bodies_of items) l ps) (append-nil a) h.1) g.1
 
-  body_stands : (result : Option IntType) (s : Scope) (b : raw.Stms) → Goods (parts_of_block p.model (bodies_of items) result false s b) → list_all Stands (names_in_block (typed_block p.model (bodies_of items) s b)) ≡ true
+  body_stands : (result : Option IntType) (s : Scope) (b : raw.Stms) → Goods (parts_of_block p.model (bodies_of items) result in_body s b) → list_all Stands (names_in_block (typed_block p.model (bodies_of items) s b)) ≡ true
   body_stands result s b g =
       subst (λ l. list_all Stands l ≡ true) (sym (body_names p.model (bodies_of items) result s b))
-      (stand_all s.objects (parts_of_block p.model (bodies_of items) result false s b) (block_leads p.model (bodies_of items) result false s b).behind g)
+      (stand_all s.objects (parts_of_block p.model (bodies_of items) result in_body s b) (block_leads p.model (bodies_of items) result in_body s b).behind g)
 
-  parameter_is : (n : ℕ) (o : Object) → slice_get p.objects n ≡ Some o → o.array ≡ false → is_param (slice_get p.objects n) ≡ true
+  parameter_is : (n : ℕ) (o : Object) → slice_get p.objects n ≡ Some o → is_array o ≡ false → is_param (slice_get p.objects n) ≡ true
   parameter_is n o e f = rw e (ap not f)
 
   parameters_are : (s : Scope) (xs : List raw.Param) (n : ℕ) → length s.objects ≡ n → Goods (parts_of_parameters s xs) → list_all (λ o. is_param (slice_get p.objects o)) (numbers_from p.model (bodies_of items) n xs) ≡ true

@@ -13,8 +13,8 @@ use Rattle.c_parser.specs.Tree.{Exp, Expr, Node, Number, Char, Var, Index, Unary
 use Rattle.check_rules.specs.Names as kind
 use Rattle.check_rules.specs.Names.{Kind, Entry, declared_as, or_built_in, built_in, named}
 use Rattle.check_rules.specs.Typed.{typed, typed_node, typed_all, number_named}
-use Rattle.check_rules.specs.Parts.{Role, Value, Target, Effect, Part, Expression, Declaring, Naming, Initializing, Returning, Leaving, Labelling, of_cast, parts, parts_in, parts_of, bodies_of}
-use Rattle.check_rules.specs.Codes.{is_no_scalar, is_no_array}
+use Rattle.check_rules.specs.Parts.{Role, Value, Target, Effect, Part, Expression, Declaring, Naming, Initializing, Returning, Leaving, Labelling, of_cast, parts, parts_in, parts_of, bodies_of, Choosing, Selecting}
+use Rattle.check_rules.specs.Codes.{is_no_scalar, is_no_element, count}
 use Rattle.check_rules.specs.Order.{is_object, object_named, reads, changes, SomeOf, This, Other}
 use Rattle.check_wellformed.proofs.Lists.{AllOf, both, all_front, all_behind, first_fails, or_first, or_also}
 use Rattle.check_wellformed.proofs.Threads.{Sees, parts_see}
@@ -23,7 +23,7 @@ use Rattle.check_wellformed.proofs.Good.{IsGood, If, declared_if}
 -- what holds of the object of each declaration in scope holds of the object that a word names
 module _ (Q : ℕ → Type 0) where
   abbrev pub OfObject : Kind → Type 0
-  OfObject (kind.Object n ty array fixed) = Q n
+  OfObject (kind.Object n ty dims fixed) = Q n
   OfObject _ = Unit {0}
 
   abbrev pub OfEntry : Entry → Type 0
@@ -36,8 +36,8 @@ module _ (Q : ℕ → Type 0) where
   or_built : (d : Option Kind) (b : Option Callee) → If OfObject d → If OfObject (or_built_in d b)
   or_built None None h = tt
   or_built None (Some c) h = tt
-  or_built (Some (kind.Object n ty array fixed)) None h = h
-  or_built (Some (kind.Object n ty array fixed)) (Some c) h = h
+  or_built (Some (kind.Object n ty dims fixed)) None h = h
+  or_built (Some (kind.Object n ty dims fixed)) (Some c) h = h
   or_built (Some (kind.Function result stated has_body)) None h = tt
   or_built (Some (kind.Function result stated has_body)) (Some c) h = tt
   or_built (Some kind.Closed) None h = tt
@@ -48,7 +48,7 @@ module _ (Q : ℕ → Type 0) where
 
   pub of_object_named : (es : List Entry) (n : Node) → AllOf OfEntry es → If OfObject (object_named es n)
   of_object_named es (Var x w) h = of_named x es h
-  of_object_named es (Index x w a) h = of_named x es h
+  of_object_named es (Index x w is) h = of_named x es h
   of_object_named es (Number v decimal unsigned longs) h = tt
   of_object_named es (Char v) h = tt
   of_object_named es (Unary op a) h = tt
@@ -76,8 +76,10 @@ module _ (Q : ℕ → Type 0) where
   of_all es (Naming s e p ∷ ps) k h = absurd k.0
   of_all es (Initializing fixed s e ∷ ps) k h = absurd k.0
   of_all es (Returning result p given ∷ ps) k h = absurd k.0
-  of_all es (Leaving looped p ∷ ps) k h = absurd k.0
+  of_all es (Leaving may p ∷ ps) k h = absurd k.0
   of_all es (Labelling before w p ∷ ps) k h = absurd k.0
+  of_all es (Choosing before l p ∷ ps) k h = absurd k.0
+  of_all es (Selecting es' e ∷ ps) k h = absurd k.0
 
   pub of_parts : (es : List Entry) (r : Role) (e : Exp) → AllOf OfEntry es → AllOf OfPart (parts es r e)
   of_parts es r e h = of_all es (parts es r e) (parts_see es r e) h
@@ -90,8 +92,8 @@ module _ (Q : ℕ → Type 0) (o : ℕ) where
 
   but_one : (x : Option Kind) → If (OfObject Either) x → (is_object o x ≡ true → ⊥) → If (OfObject Q) x
   but_one None h k = tt
-  but_one (Some (kind.Object n ty array fixed)) (inl q) k = q
-  but_one (Some (kind.Object n ty array fixed)) (inr e) k = absurd (k (eq-eqb n o e))
+  but_one (Some (kind.Object n ty dims fixed)) (inl q) k = q
+  but_one (Some (kind.Object n ty dims fixed)) (inr e) k = absurd (k (eq-eqb n o e))
   but_one (Some (kind.Function result stated has_body)) h k = tt
   but_one (Some kind.Closed) h k = tt
 
@@ -107,8 +109,10 @@ module _ (Q : ℕ → Type 0) (o : ℕ) where
   but_untouched (Naming s e p ∷ ps) h k l = (tt, but_untouched ps h.1 (λ x. k (Other x)) (λ x. l (Other x)))
   but_untouched (Initializing fixed s e ∷ ps) h k l = (tt, but_untouched ps h.1 (λ x. k (Other x)) (λ x. l (Other x)))
   but_untouched (Returning result p given ∷ ps) h k l = (tt, but_untouched ps h.1 (λ x. k (Other x)) (λ x. l (Other x)))
-  but_untouched (Leaving looped p ∷ ps) h k l = (tt, but_untouched ps h.1 (λ x. k (Other x)) (λ x. l (Other x)))
+  but_untouched (Leaving may p ∷ ps) h k l = (tt, but_untouched ps h.1 (λ x. k (Other x)) (λ x. l (Other x)))
   but_untouched (Labelling before w p ∷ ps) h k l = (tt, but_untouched ps h.1 (λ x. k (Other x)) (λ x. l (Other x)))
+  but_untouched (Choosing before label p ∷ ps) h k l = (tt, but_untouched ps h.1 (λ x. k (Other x)) (λ x. l (Other x)))
+  but_untouched (Selecting es e ∷ ps) h k l = (tt, but_untouched ps h.1 (λ x. k (Other x)) (λ x. l (Other x)))
 
 -- ---- expressions
 
@@ -129,15 +133,15 @@ module _ (p : t.Program) (items : List raw.Item) (entries : List Entry) where
 
   scalar_reached : (reach : List ℕ) (o : Option Kind) → If (OfObject (Reached reach)) o → is_none o ≡ false → is_no_scalar o ≡ false → Reached reach (number_named o)
   scalar_reached reach None h n s = absurd (false≢true (sym n))
-  scalar_reached reach (Some (kind.Object k ty array fixed)) h n s = h
+  scalar_reached reach (Some (kind.Object k ty dims fixed)) h n s = h
   scalar_reached reach (Some (kind.Function result stated has_body)) h n s = absurd (false≢true (sym s))
   scalar_reached reach (Some kind.Closed) h n s = absurd (false≢true (sym s))
 
-  element_reached : (reach : List ℕ) (o : Option Kind) → If (OfObject (Reached reach)) o → is_none o ≡ false → is_no_array o ≡ false → Reached reach (number_named o)
-  element_reached reach None h n s = absurd (false≢true (sym n))
-  element_reached reach (Some (kind.Object k ty array fixed)) h n s = h
-  element_reached reach (Some (kind.Function result stated has_body)) h n s = absurd (false≢true (sym s))
-  element_reached reach (Some kind.Closed) h n s = absurd (false≢true (sym s))
+  element_reached : (reach : List ℕ) (count : ℕ) (o : Option Kind) → If (OfObject (Reached reach)) o → is_none o ≡ false → is_no_element count o ≡ false → Reached reach (number_named o)
+  element_reached reach count None h n s = absurd (false≢true (sym n))
+  element_reached reach count (Some (kind.Object k ty dims fixed)) h n s = h
+  element_reached reach count (Some (kind.Function result stated has_body)) h n s = absurd (false≢true (sym s))
+  element_reached reach count (Some kind.Closed) h n s = absurd (false≢true (sym s))
 
   -- a part that isn't refused, and names an object in reach if any
   pub record Reaches (reach : List ℕ) (part : Part) : Type 0 where
@@ -157,7 +161,7 @@ module _ (p : t.Program) (items : List raw.Item) (entries : List Entry) where
       node_reaches es r q (Number v decimal unsigned longs) g h = refl
       node_reaches es r q (Char v) g h = refl
       node_reaches es r q (Var x w) g h = both (scalar_reached reach (named es x) g.names g.good.fair.named (first_fails _ _ g.good.fair.typed)) refl
-      node_reaches es r q (Index x w a) g h = both (element_reached reach (named es x) g.names g.good.fair.named (first_fails _ _ g.good.fair.typed)) (expression_reaches es Value a h)
+      node_reaches es r q (Index x w is) g h = both (element_reached reach (count is) (named es x) g.names g.good.fair.named (first_fails _ _ g.good.fair.typed)) (arguments_reach es is h)
       node_reaches es r q (Unary op a) g h = expression_reaches es Value a h
       node_reaches es r q (Cast to a) g h = expression_reaches es (of_cast to) a h
       node_reaches es r q (Step op a) g h = expression_reaches es Target a h

@@ -1,21 +1,24 @@
 -- Statements that aren't refused name objects in reach.
-use Rattle.std.proofs.Common.{◌≡◌, ℕ, ◌+◌, ◌-◌, Bool, true, false, List, [], ◌∷◌, ◌++◌, length, refl, sym, ap, ◌∙◌, subst, Option, Some, None, inl, inr, arith, length-append, append-nil, append_assoc}
-use Rattle.std.specs.List.{slice_get, list_all}
+use Rattle.std.proofs.Common.{◌≡◌, ℕ, ◌+◌, ◌-◌, true, false, List, [], ◌∷◌, ◌++◌, length, map, refl, sym, ap, ◌∙◌, subst, Option, Some, None, inl, inr, arith, length-append, append-nil, append_assoc}
+use Rattle.std.specs.List.{slice_get, list_all, flat_map}
 use Rattle.c_core.specs.Tree as t
-use Rattle.c_core.specs.Parts.{exps_in, exp_if, fulls_of_init, objects_of_names, objects_of_first, declared_by}
+use Rattle.c_core.specs.Parts.{exps_in, exp_if, fulls_of_init, objects_of_names, objects_of_first, declared_by, type_of}
 use Rattle.c_core.specs.Scope.{reaches, declarators_reach, first_reaches, statement_reaches, form_reaches, else_reaches, block_reaches, function_reaches}
 use Rattle.c_core.specs.declared.number.IntType.{IntType}
 use Rattle.c_core.specs.declared.number.Spot.{Spot}
 use Rattle.c_core.specs.declared.tree.Object.{Object}
+use Rattle.c_core.specs.declared.tree.Label.{Label as ArmLabel}
+use Rattle.check_rules.specs.Arms.{switch_type, label_of}
 use Rattle.c_parser.specs.Tree as raw
-use Rattle.c_parser.specs.Tree.{Exp, Expr, Exps, NoExp, MoreExp}
+use Rattle.c_parser.specs.Tree.{Exp, Expr, Exps, NoExp, MoreExp, exps}
 use Rattle.check_rules.specs.Names as kind
 use Rattle.check_rules.specs.Names.{Kind, Entry, entry}
 use Rattle.check_rules.specs.Typed.{typed, typed_all}
-use Rattle.check_rules.specs.Scopes.{Scope, seen, opened, closed, with_object, with_entry, object_of, after_name, after_names, after_first, after_statement, after_form, after_item, after_parameters, inside, parameter, statements_of, entry_of_function, entry_of_prototype}
-use Rattle.check_rules.specs.Parts.{Role, Value, Effect, Part, Initializing, parts, parts_if, parts_of_value, parts_of_values, parts_of_init, parts_of_name, parts_of_names, parts_of_first, parts_of_statement, parts_of_form, parts_of_else, parts_of_block, parts_of_parameters, parts_of_body, parts_of_item, parts_of_items, bodies_of}
+use Rattle.check_rules.specs.Scopes.{Scope, seen, opened, closed, with_object, with_entry, object_of, after_name, after_names, after_first, after_statement, after_form, after_item, after_parameters, inside, parameter, statements_of, entry_of_function, entry_of_prototype, after_arms}
+use Rattle.check_rules.specs.declared.within.Within.{Within}
+use Rattle.check_rules.specs.Parts.{Role, Value, Effect, Part, Initializing, parts, parts_if, parts_of_value, parts_of_values, parts_of_init, parts_of_name, parts_of_names, parts_of_first, parts_of_statement, parts_of_form, parts_of_else, parts_of_block, parts_of_parameters, parts_of_body, parts_of_item, parts_of_items, bodies_of, in_loop, in_body, parts_of, parts_of_label, parts_of_arms, in_switch}
 use Rattle.check_rules.specs.Order.{is_object, reads, changes, SomeOf}
-use Rattle.check_rules.specs.Checked.{typed_if, typed_init, typed_names, typed_first, typed_statement, typed_form, typed_else, typed_block, numbers_from, typed_function, functions_of}
+use Rattle.check_rules.specs.Checked.{typed_if, typed_init, typed_names, typed_first, typed_statement, typed_form, typed_else, typed_block, numbers_from, typed_function, functions_of, typed_arms}
 use Rattle.check_wellformed.proofs.Lists.{AllOf, both, all_then, all_front, all_behind, all_weaker}
 use Rattle.check_wellformed.proofs.Good.{IsGood}
 use Rattle.check_wellformed.proofs.ReachedNames.{OfObject, OfEntry, of_parts, Either, but_untouched, Reached, reached_more, reached_last, with_names, expression_reaches}
@@ -27,7 +30,7 @@ of_push Q outer inner e h k =
     all_then (OfEntry Q) outer _ (all_front (OfEntry Q) outer inner h) (all_then (OfEntry Q) inner (e ∷ []) (all_behind (OfEntry Q) outer inner h) (k, tt))
 
 of_weaker : (Q R : ℕ → Type 0) → ((n : ℕ) → Q n → R n) → (k : Kind) → OfObject Q k → OfObject R k
-of_weaker Q R f (kind.Object n ty array fixed) h = f n h
+of_weaker Q R f (kind.Object n ty dims fixed) h = f n h
 of_weaker Q R f (kind.Function result stated has_body) h = tt
 of_weaker Q R f kind.Closed h = tt
 
@@ -99,10 +102,17 @@ module _ (p : t.Program) (items : List raw.Item) (entries : List Entry) where
     values_are (MoreExp e gs) g =
         both (value_is e (all_front (IsGood p items entries) (parts_of_value false behind e) _ g)) (values_are gs (all_behind (IsGood p items entries) (parts_of_value false behind e) _ g))
 
+    rows_are : (rows : List Exps) → Goods (flat_map (parts_of_values false behind) rows) → list_all (reaches p reach) (flat_map exps_in (map (typed_all p.model (bodies_of items) (seen behind)) rows)) ≡ true
+    rows_are [] g = refl
+    rows_are (row ∷ rows) g =
+        all_pass_then (reaches p reach) (exps_in (typed_all p.model (bodies_of items) (seen behind) row)) _ (values_are row (all_front (IsGood p items entries) (parts_of_values false behind row) _ g))
+        (rows_are rows (all_behind (IsGood p items entries) (parts_of_values false behind row) _ g))
+
     init_is : (i : raw.Init) → Goods (parts_of_init false behind i) → list_all (reaches p reach) (fulls_of_init (typed_init p.model (bodies_of items) (seen behind) i)) ≡ true
     init_is raw.Absent g = refl
     init_is (raw.One e) g = both (value_is e g) refl
     init_is (raw.Many gs) g = values_are gs g
+    init_is (raw.Rows rows) g = rows_are rows g
 
     one_more : AreReached (reach ++ length s.objects ∷ []) (seen behind)
     one_more =
@@ -122,7 +132,7 @@ module _ (p : t.Program) (items : List raw.Item) (entries : List Entry) where
       let pd = parts_of_name p.model (bodies_of items) false s d in
       let one = all_front (IsGood p items entries) pd _ g in
       let rest = names_are (reach ++ length s.objects ∷ []) s' ds (one_more reach s d h) (all_behind (IsGood p items entries) pd _ g) in
-      let here = all_behind (IsGood p items entries) (parts_if (seen s) Value d.size) _ one in
+      let here = all_behind (IsGood p items entries) (parts_of (seen s) (exps d.sizes)) _ one in
       let ns = typed_names p.model (bodies_of items) s' ds in
       record {
         inits = both (init_is reach s d h d.init here.1) rest.inits;
@@ -140,49 +150,56 @@ module _ (p : t.Program) (items : List raw.Item) (entries : List Entry) where
 
   -- ---- statements
 
-  -- what is in reach behind a statement
-  form_then : (result : Option IntType) (reach : List ℕ) (looped : Bool) (s : Scope) (q : Spot) (f : raw.Form) → AreReached reach (seen s) → Goods (parts_of_form p.model (bodies_of items) result looped s q f) → AreReached (reach ++ declared_by (t.Stmt q (typed_form p.model (bodies_of items) s f))) (seen (after_form p.model (bodies_of items) s f))
-  form_then result reach looped s q (raw.Declare ds) h g = (names_are reach s ds h g).then
-  form_then result reach looped s q (raw.If e a raw.NoElse) h g = same_reach reach (seen s) h
-  form_then result reach looped s q (raw.If e a (raw.OrElse b)) h g = same_reach reach (seen s) h
-  form_then result reach looped s q raw.Empty h g = same_reach reach (seen s) h
-  form_then result reach looped s q (raw.Do e) h g = same_reach reach (seen s) h
-  form_then result reach looped s q (raw.Block b) h g = same_reach reach (seen s) h
-  form_then result reach looped s q (raw.While e a) h g = same_reach reach (seen s) h
-  form_then result reach looped s q (raw.DoWhile a e) h g = same_reach reach (seen s) h
-  form_then result reach looped s q (raw.For i e u a) h g = same_reach reach (seen s) h
-  form_then result reach looped s q raw.Break h g = same_reach reach (seen s) h
-  form_then result reach looped s q raw.Continue h g = same_reach reach (seen s) h
-  form_then result reach looped s q (raw.Return e) h g = same_reach reach (seen s) h
-  form_then result reach looped s q (raw.Label w a) h g = same_reach reach (seen s) h
+  -- behind arms the same is in scope
+  arms_see : (s : Scope) (b : raw.Stms) → seen (after_arms p.model (bodies_of items) s b) ≡ seen s
+  arms_see s raw.NoStm = refl
+  arms_see s (raw.MoreStm x b) = arms_see (closed s (after_statement p.model (bodies_of items) (opened s) x)) b
+  arms_see s (raw.MoreCase q l b) = arms_see s b
 
-  statement_then : (result : Option IntType) (reach : List ℕ) (looped : Bool) (s : Scope) (x : raw.Stm) → AreReached reach (seen s) → Goods (parts_of_statement p.model (bodies_of items) result looped s x) → AreReached (reach ++ declared_by (typed_statement p.model (bodies_of items) s x)) (seen (after_statement p.model (bodies_of items) s x))
-  statement_then result reach looped s (raw.Stmt q f) h g = form_then result reach looped s q f h g
+  -- what is in reach behind a statement
+  form_then : (result : Option IntType) (reach : List ℕ) (within : Within) (s : Scope) (q : Spot) (f : raw.Form) → AreReached reach (seen s) → Goods (parts_of_form p.model (bodies_of items) result within s q f) → AreReached (reach ++ declared_by (t.Stmt q (typed_form p.model (bodies_of items) s f))) (seen (after_form p.model (bodies_of items) s f))
+  form_then result reach within s q (raw.Declare ds) h g = (names_are reach s ds h g).then
+  form_then result reach within s q (raw.If e a raw.NoElse) h g = same_reach reach (seen s) h
+  form_then result reach within s q (raw.If e a (raw.OrElse b)) h g = same_reach reach (seen s) h
+  form_then result reach within s q raw.Empty h g = same_reach reach (seen s) h
+  form_then result reach within s q (raw.Do e) h g = same_reach reach (seen s) h
+  form_then result reach within s q (raw.Block b) h g = same_reach reach (seen s) h
+  form_then result reach within s q (raw.While e a) h g = same_reach reach (seen s) h
+  form_then result reach within s q (raw.DoWhile a e) h g = same_reach reach (seen s) h
+  form_then result reach within s q (raw.For i e u a) h g = same_reach reach (seen s) h
+  form_then result reach within s q raw.Break h g = same_reach reach (seen s) h
+  form_then result reach within s q raw.Continue h g = same_reach reach (seen s) h
+  form_then result reach within s q (raw.Return e) h g = same_reach reach (seen s) h
+  form_then result reach within s q (raw.Label w a) h g = same_reach reach (seen s) h
+  form_then result reach within s q (raw.Switch e b) h g = subst (λ l. AreReached (reach ++ []) l) (sym (arms_see s b)) (same_reach reach (seen s) h)
+
+  statement_then : (result : Option IntType) (reach : List ℕ) (within : Within) (s : Scope) (x : raw.Stm) → AreReached reach (seen s) → Goods (parts_of_statement p.model (bodies_of items) result within s x) → AreReached (reach ++ declared_by (typed_statement p.model (bodies_of items) s x)) (seen (after_statement p.model (bodies_of items) s x))
+  statement_then result reach within s (raw.Stmt q f) h g = form_then result reach within s q f h g
 
   module _ (result : Option IntType) where
     mutual
-      statement_is : (reach : List ℕ) (looped : Bool) (s : Scope) (x : raw.Stm) → AreReached reach (seen s) → Goods (parts_of_statement p.model (bodies_of items) result looped s x) → statement_reaches p reach (typed_statement p.model (bodies_of items) s x) ≡ true
-      statement_is reach looped s (raw.Stmt q f) h g = form_is reach looped s q f h g
+      statement_is : (reach : List ℕ) (within : Within) (s : Scope) (x : raw.Stm) → AreReached reach (seen s) → Goods (parts_of_statement p.model (bodies_of items) result within s x) → statement_reaches p reach (typed_statement p.model (bodies_of items) s x) ≡ true
+      statement_is reach within s (raw.Stmt q f) h g = form_is reach within s q f h g
 
-      form_is : (reach : List ℕ) (looped : Bool) (s : Scope) (q : Spot) (f : raw.Form) → AreReached reach (seen s) → Goods (parts_of_form p.model (bodies_of items) result looped s q f) → form_reaches p reach (typed_form p.model (bodies_of items) s f) ≡ true
-      form_is reach looped s q raw.Empty h g = refl
-      form_is reach looped s q (raw.Do e) h g = expression_is reach (seen s) Effect e h g
-      form_is reach looped s q (raw.Declare ds) h g = (names_are reach s ds h g).inits
-      form_is reach looped s q (raw.Block b) h g = block_is reach looped (opened s) b (inside_reached reach s h) g
-      form_is reach looped s q (raw.If e a b) h g =
+      form_is : (reach : List ℕ) (within : Within) (s : Scope) (q : Spot) (f : raw.Form) → AreReached reach (seen s) → Goods (parts_of_form p.model (bodies_of items) result within s q f) → form_reaches p reach (typed_form p.model (bodies_of items) s f) ≡ true
+      form_is reach within s q raw.Empty h g = refl
+      form_is reach within s q (raw.Do e) h g = expression_is reach (seen s) Effect e h g
+      form_is reach within s q (raw.Declare ds) h g = (names_are reach s ds h g).inits
+      form_is reach within s q (raw.Block b) h g = block_is reach within (opened s) b (inside_reached reach s h) g
+      form_is reach within s q (raw.If e a b) h g =
           let pe = parts (seen s) Value e in
-          let pa = parts_of_statement p.model (bodies_of items) result looped (opened s) a in
+          let pa = parts_of_statement p.model (bodies_of items) result within (opened s) a in
           let gea = all_front (IsGood p items entries) (pe ++ pa) _ g in
           both (expression_is reach (seen s) Value e h (all_front (IsGood p items entries) pe _ gea))
-          (both (statement_is reach looped (opened s) a (inside_reached reach s h) (all_behind (IsGood p items entries) pe _ gea))
-          (else_is reach looped (closed s (after_statement p.model (bodies_of items) (opened s) a)) b h (all_behind (IsGood p items entries) (pe ++ pa) _ g)))
-      form_is reach looped s q (raw.While e a) h g =
+          (both (statement_is reach within (opened s) a (inside_reached reach s h) (all_behind (IsGood p items entries) pe _ gea))
+          (else_is reach within (closed s (after_statement p.model (bodies_of items) (opened s) a)) b h (all_behind (IsGood p items entries) (pe ++ pa) _ g)))
+      form_is reach within s q (raw.While e a) h g =
           let pe = parts (seen s) Value e in
-          both (expression_is reach (seen s) Value e h (all_front (IsGood p items entries) pe _ g)) (statement_is reach true (opened s) a (inside_reached reach s h) (all_behind (IsGood p items entries) pe _ g))
-      form_is reach looped s q (raw.DoWhile a e) h g =
-          let pa = parts_of_statement p.model (bodies_of items) result true (opened s) a in
-          both (statement_is reach true (opened s) a (inside_reached reach s h) (all_front (IsGood p items entries) pa _ g)) (expression_is reach (seen s) Value e h (all_behind (IsGood p items entries) pa _ g))
-      form_is reach looped s q (raw.For i e u a) h g =
+          both (expression_is reach (seen s) Value e h (all_front (IsGood p items entries) pe _ g)) (statement_is reach in_loop (opened s) a (inside_reached reach s h) (all_behind (IsGood p items entries) pe _ g))
+      form_is reach within s q (raw.DoWhile a e) h g =
+          let pa = parts_of_statement p.model (bodies_of items) result in_loop (opened s) a in
+          both (statement_is reach in_loop (opened s) a (inside_reached reach s h) (all_front (IsGood p items entries) pa _ g)) (expression_is reach (seen s) Value e h (all_behind (IsGood p items entries) pa _ g))
+      form_is reach within s q (raw.For i e u a) h g =
           let t = after_first p.model (bodies_of items) (opened s) i in
           let pi = parts_of_first p.model (bodies_of items) (opened s) i in
           let pe = parts_if (seen t) Value e in
@@ -194,30 +211,46 @@ module _ (p : t.Program) (items : List raw.Item) (entries : List Entry) where
           both i'.inits
           (both (all_pass_then (reaches p more) (exp_if (typed_if p.model (bodies_of items) (seen t) e)) _
           (if_is more (seen t) Value e i'.then (all_behind (IsGood p items entries) pi _ gie)) (if_is more (seen t) Effect u i'.then (all_behind (IsGood p items entries) (pi ++ pe) _ gieu)))
-          (statement_is more true (opened t) a (inside_reached more t i'.then) (all_behind (IsGood p items entries) (pi ++ pe ++ pu) _ g)))
-      form_is reach looped s q raw.Break h g = refl
-      form_is reach looped s q raw.Continue h g = refl
-      form_is reach looped s q (raw.Return e) h g = if_is reach (seen s) Value e h g.1
-      form_is reach looped s q (raw.Label w a) h g = statement_is reach looped (opened s) a (inside_reached reach s h) g
+          (statement_is more in_loop (opened t) a (inside_reached more t i'.then) (all_behind (IsGood p items entries) (pi ++ pe ++ pu) _ g)))
+      form_is reach within s q raw.Break h g = refl
+      form_is reach within s q raw.Continue h g = refl
+      form_is reach within s q (raw.Return e) h g = if_is reach (seen s) Value e h g.1
+      form_is reach within s q (raw.Label w a) h g = statement_is reach within (opened s) a (inside_reached reach s h) g
+      form_is reach within s q (raw.Switch e b) h g =
+          let pe = parts (seen s) Value e in
+          both (expression_is reach (seen s) Value e h (all_front (IsGood p items entries) pe _ g))
+          (arms_are reach (in_switch within) (switch_type (type_of (typed p.model (bodies_of items) (seen s) e))) [] s b h (all_behind (IsGood p items entries) pe _ g))
 
-      else_is : (reach : List ℕ) (looped : Bool) (s : Scope) (b : raw.Else) → AreReached reach (seen s) → Goods (parts_of_else p.model (bodies_of items) result looped s b) → else_reaches p reach (typed_else p.model (bodies_of items) s b) ≡ true
-      else_is reach looped s raw.NoElse h g = refl
-      else_is reach looped s (raw.OrElse b) h g = statement_is reach looped (opened s) b (inside_reached reach s h) g
+      else_is : (reach : List ℕ) (within : Within) (s : Scope) (b : raw.Else) → AreReached reach (seen s) → Goods (parts_of_else p.model (bodies_of items) result within s b) → else_reaches p reach (typed_else p.model (bodies_of items) s b) ≡ true
+      else_is reach within s raw.NoElse h g = refl
+      else_is reach within s (raw.OrElse b) h g = statement_is reach within (opened s) b (inside_reached reach s h) g
 
-      block_is : (reach : List ℕ) (looped : Bool) (s : Scope) (b : raw.Stms) → AreReached reach (seen s) → Goods (parts_of_block p.model (bodies_of items) result looped s b) → block_reaches p reach (typed_block p.model (bodies_of items) s b) ≡ true
-      block_is reach looped s raw.NoStm h g = refl
-      block_is reach looped s (raw.MoreStm x b) h g =
-          let px = parts_of_statement p.model (bodies_of items) result looped s x in
+      block_is : (reach : List ℕ) (within : Within) (s : Scope) (b : raw.Stms) → AreReached reach (seen s) → Goods (parts_of_block p.model (bodies_of items) result within s b) → block_reaches p reach (typed_block p.model (bodies_of items) s b) ≡ true
+      block_is reach within s raw.NoStm h g = refl
+      block_is reach within s (raw.MoreStm x b) h g =
+          let px = parts_of_statement p.model (bodies_of items) result within s x in
           let gx = all_front (IsGood p items entries) px _ g in
-          both (statement_is reach looped s x h gx)
-          (block_is (reach ++ declared_by (typed_statement p.model (bodies_of items) s x)) looped (after_statement p.model (bodies_of items) s x) b (statement_then result reach looped s x h gx) (all_behind (IsGood p items entries) px _ g))
+          both (statement_is reach within s x h gx)
+          (block_is (reach ++ declared_by (typed_statement p.model (bodies_of items) s x)) within (after_statement p.model (bodies_of items) s x) b (statement_then result reach within s x h gx) (all_behind (IsGood p items entries) px _ g))
+      block_is reach within s (raw.MoreCase q l b) h g = block_is reach within s b h g
+
+      arms_are : (reach : List ℕ) (within : Within) (ty : IntType) (before : List (Option ArmLabel)) (s : Scope) (b : raw.Stms) → AreReached reach (seen s)
+          → Goods (parts_of_arms p.model (bodies_of items) result within ty before s b) → block_reaches p reach (typed_arms p.model (bodies_of items) ty s b) ≡ true
+      arms_are reach within ty before s raw.NoStm h g = refl
+      arms_are reach within ty before s (raw.MoreStm x b) h g =
+          let px = parts_of_statement p.model (bodies_of items) result within (opened s) x in
+          let more = declared_by (typed_statement p.model (bodies_of items) (opened s) x) in
+          both (statement_is reach within (opened s) x (inside_reached reach s h) (all_front (IsGood p items entries) px _ g))
+          (arms_are (reach ++ more) within ty before (closed s (after_statement p.model (bodies_of items) (opened s) x)) b (more_reached reach more (seen s) h) (all_behind (IsGood p items entries) px _ g))
+      arms_are reach within ty before s (raw.MoreCase q l b) h g =
+          arms_are reach within ty (before ++ label_of p.model (bodies_of items) (seen s) ty l ∷ []) s b h (all_behind (IsGood p items entries) (parts_of_label (seen s) l) _ g.1)
 
   -- ---- functions
 
   parameters_then : (reach : List ℕ) (s : Scope) (xs : List raw.Param) (n : ℕ) → length s.objects ≡ n → AreReached reach (seen s) → AreReached (reach ++ numbers_from p.model (bodies_of items) n xs) (seen (after_parameters s xs))
   parameters_then reach s [] n e h = same_reach reach (seen s) h
   parameters_then reach s (x ∷ xs) n e h =
-      let more = of_push (Reached p items entries (reach ++ n ∷ [])) s.outer s.inner (entry x.name (kind.Object (length s.objects) x.ty false false)) (more_reached reach (n ∷ []) (seen s) h)
+      let more = of_push (Reached p items entries (reach ++ n ∷ [])) s.outer s.inner (entry x.name (kind.Object (length s.objects) x.ty 0 false)) (more_reached reach (n ∷ []) (seen s) h)
       (subst (λ k. Reached p items entries (reach ++ n ∷ []) k) (sym e) (reached_last p items entries reach n)) in
       subst (λ l. AreReached l (seen (after_parameters s (x ∷ xs)))) (append_assoc reach (n ∷ []) (numbers_from p.model (bodies_of items) (n + 1) xs))
       (parameters_then (reach ++ n ∷ []) (with_object s (parameter x)) xs (n + 1) (next_number s.objects (parameter x) ∙ ap (λ k. k + 1) e) more)
@@ -227,7 +260,7 @@ module _ (p : t.Program) (items : List raw.Item) (entries : List Entry) where
       let t = inside s name result xs in
       let ps = parts_of_parameters t xs in
       let bs = parts_of_body p.model (bodies_of items) s name result xs body in
-      block_is result (numbers_from p.model (bodies_of items) (length s.objects) xs) false (after_parameters t xs) (statements_of body)
+      block_is result (numbers_from p.model (bodies_of items) (length s.objects) xs) in_body (after_parameters t xs) (statements_of body)
       (parameters_then [] t xs (length s.objects) refl (inside_reached [] (with_entry s (entry_of_function name result xs)) (of_push (Reached p items entries []) s.outer s.inner (entry_of_function name result xs) h tt)))
       (all_behind (IsGood p items entries) ps _ (all_front (IsGood p items entries) (ps ++ bs) _ g.1))
 
@@ -238,7 +271,7 @@ module _ (p : t.Program) (items : List raw.Item) (entries : List Entry) where
   globals_then s [] h g = h
   globals_then s (d ∷ ds) h g =
       let pd = parts_of_name p.model (bodies_of items) true s d in
-      let here = all_behind (IsGood p items entries) (parts_if (seen s) Value d.size) _ (all_front (IsGood p items entries) pd _ g) in
+      let here = all_behind (IsGood p items entries) (parts_of (seen s) (exps d.sizes)) _ (all_front (IsGood p items entries) pd _ g) in
       globals_then (after_name p.model (bodies_of items) true s d) ds
       (of_push (Reached p items entries []) s.outer s.inner _ h (fixed_reached (length s.objects) (object_of p.model (bodies_of items) true (seen s) d) here.0.placed refl))
       (all_behind (IsGood p items entries) pd _ g)

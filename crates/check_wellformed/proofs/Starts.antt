@@ -1,7 +1,9 @@
 -- Initializers of static storage fit their objects, and no object has two.
-use Rattle.std.proofs.Common.{◌≡◌, ℕ, suc, ◌+◌, ◌<◌, ◌≤◌, Bool, true, false, not, List, [], ◌∷◌, ◌++◌, length, refl, sym, ap, ◌∙◌, Option, Some, None, is_some, arith, length-append, nat_eq, nat_le, add-one}
+use Rattle.std.proofs.Common.{◌≡◌, ℕ, zero, suc, ◌+◌, ◌*◌, ◌-◌, ◌<◌, ◌≤◌, Bool, true, false, not, List, [], ◌∷◌, ◌++◌, length, replicate, ℤ, pos, refl, sym, ap, ◌∙◌, Some, arith, length-append, eqb-true, eq-eqb, nat_eq, nat_le, add-one}
 use Rattle.std.proofs.lemmas.Bool.{false≢true}
 use Rattle.std.proofs.lemmas.Bool.Decides.{nat_tests}
+use Rattle.std.proofs.Math.Nat.{suc-mul, zero-mul, add_comm}
+use Rattle.std.proofs.lemmas.List.{length-replicate}
 use Rattle.std.specs.List.{slice_get, list_all}
 use Rattle.c_core.specs.Types.{in_range}
 use Rattle.c_core.specs.Tree as t
@@ -13,16 +15,24 @@ use Rattle.c_core.specs.declared.number.DataModel.{DataModel}
 use Rattle.c_core.specs.declared.tree.Object.{Object}
 use Rattle.c_core.specs.declared.tree.Start.{Start}
 use Rattle.c_parser.specs.Tree as raw
-use Rattle.c_parser.specs.Tree.{Exp, Expr, Exps, NoExp, MoreExp}
+use Rattle.c_parser.specs.Tree.{Exp, Expr, Exps, NoExp, MoreExp, exps}
+use Rattle.check_rules.specs.declared.sizes.Sizes.{Sizes}
 use Rattle.check_rules.specs.Names.{Entry}
-use Rattle.check_rules.specs.Scopes.{Scope, seen, cells_of, object_of, after_name, after_names, after_item, after_items}
-use Rattle.check_rules.specs.Parts.{Value, Part, parts_if, parts_of_name, parts_of_names, parts_of_item, parts_of_items, bodies_of}
+use Rattle.check_rules.specs.Scopes.{Scope, seen, dims_of, sizes_of, cells_of, columns_of, object_of, after_name, after_names, after_item, after_items}
+use Rattle.check_rules.specs.Parts.{Part, parts_of_name, parts_of_names, parts_of_item, parts_of_items, bodies_of, parts_of}
 use Rattle.check_rules.specs.Codes.{count, is_wrong_init, is_wrong_size}
-use Rattle.check_rules.specs.Checked.{start_values, start_of_init, starts_of_names, starts_of}
-use Rattle.check_wellformed.proofs.Lists.{AllOf, both, all_front, all_behind}
+use Rattle.check_rules.specs.Checked.{padded, start_values, row_values, start_of_init, starts_of_names, starts_of}
+use Rattle.check_wellformed.proofs.Lists.{AllOf, both, left, right, all_front, all_behind}
+use Rattle.check_wellformed.proofs.Ranges.{zero_in_range}
 use Rattle.check_wellformed.proofs.Threads.{declared, Leads, item_leads}
 use Rattle.check_wellformed.proofs.Good.{IsGood}
-use Rattle.check_wellformed.proofs.TypedStatements.{all_pass_then, size_right}
+use Rattle.check_wellformed.proofs.TypedStatements.{all_pass_then, list_right, rows_right}
+
+one_row_more : (columns rows : ℕ) → columns + rows * columns ≡ suc rows * columns
+one_row_more columns rows = add_comm columns (rows * columns) ∙ sym (suc-mul rows columns)
+
+filled : (n cells : ℕ) → nat_le n cells ≡ true → n + (cells - n) ≡ cells
+filled n cells h = grind (arith, nat_tests)
 
 module _ (p : t.Program) (items : List raw.Item) (entries : List Entry) where
   abbrev Goods : List Part → Type 0
@@ -30,6 +40,10 @@ module _ (p : t.Program) (items : List raw.Item) (entries : List Entry) where
 
   abbrev Fits : Start → Bool
   Fits s = start_fits p.model s (slice_get p.objects s.object)
+
+  zeros_in_range : (ty : IntType) (n : ℕ) → list_all (in_range p.model ty) (replicate n (pos 0)) ≡ true
+  zeros_in_range ty zero = refl
+  zeros_in_range ty (suc n) = both (zero_in_range p.model ty) (zeros_in_range ty n)
 
   value_count : (es : List Entry) (ty : IntType) (gs : Exps) → length (start_values p.model (bodies_of items) es ty gs) ≡ count gs
   value_count es ty NoExp = refl
@@ -39,24 +53,60 @@ module _ (p : t.Program) (items : List raw.Item) (entries : List Entry) where
   values_in_range es ty NoExp = refl
   values_in_range es ty (MoreExp e gs) = both (fit_in_range p.model ty _) (values_in_range es ty gs)
 
-  a_cell : (es : List Entry) (size : Option Exp) → is_some size ≡ false → nat_le 1 (cells_of p.model (bodies_of items) es size) ≡ true
-  a_cell es None h = refl
-  a_cell es (Some e) h = absurd (false≢true (sym h))
+  -- zeros fill the cells that values leave
+  padded_fills : (cells : ℕ) (values : List ℤ) → nat_le (length values) cells ≡ true → nat_eq (length (padded cells values)) cells ≡ true
+  padded_fills cells values h =
+      let left_over = cells - length values in
+      eq-eqb _ _ (length-append values (replicate left_over (pos 0)) ∙ ap (λ n. length values + n) (length-replicate left_over (pos 0)) ∙ filled (length values) cells h)
 
-  init_fits : (s : Scope) (es : List Entry) (d : raw.Declared) (i : raw.Init) → slice_get p.objects (length s.objects) ≡ Some (object_of p.model (bodies_of items) true (seen s) d) → is_wrong_init d.size i ≡ false → is_wrong_size p.model items (seen s) d.size i ≡ false → list_all Fits (start_of_init p.model (bodies_of items) es (length s.objects) d.ty i) ≡ true
+  padded_in_range : (ty : IntType) (cells : ℕ) (values : List ℤ) → list_all (in_range p.model ty) values ≡ true → list_all (in_range p.model ty) (padded cells values) ≡ true
+  padded_in_range ty cells values h = all_pass_then (in_range p.model ty) values (replicate (cells - length values) (pos 0)) h (zeros_in_range ty (cells - length values))
+
+  one_cell : (es : List Entry) (sizes : List Exp) → not (nat_eq (dims_of sizes) 0) ≡ false → nat_eq 1 (cells_of p.model (bodies_of items) es sizes) ≡ true
+  one_cell es [] h = refl
+  one_cell es (e ∷ []) h = absurd (false≢true (sym h))
+  one_cell es (e ∷ f ∷ more) h = absurd (false≢true (sym h))
+
+  -- so many whole rows
+  rows_fill : (es : List Entry) (ty : IntType) (columns : ℕ) (rows : List Exps) → list_all (λ row. nat_le (count row) columns) rows ≡ true
+      → length (row_values p.model (bodies_of items) es ty columns rows) ≡ length rows * columns
+  rows_fill es ty columns [] h = sym (zero-mul columns)
+  rows_fill es ty columns (row ∷ rows) h =
+      let values = start_values p.model (bodies_of items) es ty row in
+      let room : nat_le (length values) columns ≡ true = rw (value_count es ty row) (left (nat_le (count row) columns) _ h) in
+      length-append (padded columns values) (row_values p.model (bodies_of items) es ty columns rows)
+      ∙ ap (λ n. n + length (row_values p.model (bodies_of items) es ty columns rows)) (eqb-true _ _ (padded_fills columns values room))
+      ∙ ap (λ n. columns + n) (rows_fill es ty columns rows (right (nat_le (count row) columns) _ h)) ∙ one_row_more columns (length rows)
+
+  rows_in_range : (es : List Entry) (ty : IntType) (columns : ℕ) (rows : List Exps) → list_all (in_range p.model ty) (row_values p.model (bodies_of items) es ty columns rows) ≡ true
+  rows_in_range es ty columns [] = refl
+  rows_in_range es ty columns (row ∷ rows) =
+      let values = start_values p.model (bodies_of items) es ty row in
+      all_pass_then (in_range p.model ty) (padded columns values) _ (padded_in_range ty columns values (values_in_range es ty row)) (rows_in_range es ty columns rows)
+
+  init_fits : (s : Scope) (es : List Entry) (d : raw.Declared) (i : raw.Init) → slice_get p.objects (length s.objects) ≡ Some (object_of p.model (bodies_of items) true (seen s) d) → is_wrong_init (dims_of d.sizes) i ≡ false → is_wrong_size (sizes_of p.model (bodies_of items) (seen s) d.sizes) i ≡ false → list_all Fits (start_of_init p.model (bodies_of items) es (length s.objects) d.ty (sizes_of p.model (bodies_of items) (seen s) d.sizes) i) ≡ true
   init_fits s es d raw.Absent e h k = refl
-  init_fits s es d (raw.One v) e h k = rw e (both (both (a_cell (seen s) d.size h) (both (fit_in_range p.model d.ty _) refl)) refl)
+  init_fits s es d (raw.One v) e h k = rw e (both (both (one_cell (seen s) d.sizes h) (both (fit_in_range p.model d.ty _) refl)) refl)
   init_fits s es d (raw.Many gs) e h k =
-      let fits : nat_le (length (start_values p.model (bodies_of items) es d.ty gs)) (cells_of p.model (bodies_of items) (seen s) d.size) ≡ true = rw (value_count es d.ty gs) (size_right p items entries (seen s) d.size gs h k) in
-      rw e (both (both fits (values_in_range es d.ty gs)) refl)
+      let cells = cells_of p.model (bodies_of items) (seen s) d.sizes in
+      let values = start_values p.model (bodies_of items) es d.ty gs in
+      let room : nat_le (length values) cells ≡ true = rw (value_count es d.ty gs) (list_right p items entries (seen s) d.sizes gs h k) in
+      rw e (both (both (padded_fills cells values room) (padded_in_range d.ty cells values (values_in_range es d.ty gs))) refl)
+  init_fits s es d (raw.Rows rows) e h k =
+      let cells = cells_of p.model (bodies_of items) (seen s) d.sizes in
+      let columns = columns_of p.model (bodies_of items) (seen s) d.sizes in
+      let values = row_values p.model (bodies_of items) es d.ty columns rows in
+      let fits = rows_right p items entries (seen s) d.sizes rows h k in
+      let room : nat_le (length values) cells ≡ true = rw (rows_fill es d.ty columns rows fits.each) fits.all in
+      rw e (both (both (padded_fills cells values room) (padded_in_range d.ty cells values (rows_in_range es d.ty columns rows))) refl)
 
   names_fit : (s : Scope) (ds : List raw.Declared) → Goods (parts_of_names p.model (bodies_of items) true s ds) → list_all Fits (starts_of_names p.model (bodies_of items) s ds) ≡ true
   names_fit s [] g = refl
   names_fit s (d ∷ ds) g =
       let s' = after_name p.model (bodies_of items) true s d in
       let pd = parts_of_name p.model (bodies_of items) true s d in
-      let here = all_behind (IsGood p items entries) (parts_if (seen s) Value d.size) _ (all_front (IsGood p items entries) pd _ g) in
-      all_pass_then Fits (start_of_init p.model (bodies_of items) (seen s') (length s.objects) d.ty d.init) _
+      let here = all_behind (IsGood p items entries) (parts_of (seen s) (exps d.sizes)) _ (all_front (IsGood p items entries) pd _ g) in
+      all_pass_then Fits (start_of_init p.model (bodies_of items) (seen s') (length s.objects) d.ty (sizes_of p.model (bodies_of items) (seen s) d.sizes) d.init) _
       (init_fits s (seen s') d d.init here.0.placed here.0.fair.typed here.0.fair.sized) (names_fit s' ds (all_behind (IsGood p items entries) pd _ g))
 
   pub starts_are : (s : Scope) (xs : List raw.Item) → Goods (parts_of_items p.model (bodies_of items) s xs) → list_all Fits (starts_of p.model (bodies_of items) s xs) ≡ true
@@ -101,17 +151,18 @@ module _ (m : DataModel) (bodies : List (List ℕ)) where
   next_number : (os : List Object) (o : Object) → length (os ++ o ∷ []) ≡ length os + 1
   next_number os o = length-append os (o ∷ [])
 
-  init_rises : (es : List Entry) (n k : ℕ) (ty : IntType) (i : raw.Init) → k ≡ n + 1 → IsRising n (start_of_init m bodies es n ty i) k
-  init_rises es n k ty raw.Absent e = omega arith
-  init_rises es n k ty (raw.One v) e = (omega arith, omega arith)
-  init_rises es n k ty (raw.Many gs) e = (omega arith, omega arith)
+  init_rises : (es : List Entry) (n k : ℕ) (ty : IntType) (sizes : Sizes) (i : raw.Init) → k ≡ n + 1 → IsRising n (start_of_init m bodies es n ty sizes i) k
+  init_rises es n k ty sizes raw.Absent e = omega arith
+  init_rises es n k ty sizes (raw.One v) e = (omega arith, omega arith)
+  init_rises es n k ty sizes (raw.Many gs) e = (omega arith, omega arith)
+  init_rises es n k ty sizes (raw.Rows rows) e = (omega arith, omega arith)
 
   names_rise : (s : Scope) (ds : List raw.Declared) → IsRising (length s.objects) (starts_of_names m bodies s ds) (length (after_names m bodies true s ds).objects)
   names_rise s [] = omega arith
   names_rise s (d ∷ ds) =
       let s' = after_name m bodies true s d in
-      rising_then (length s.objects) (length s'.objects) _ (start_of_init m bodies (seen s') (length s.objects) d.ty d.init) _
-      (init_rises (seen s') (length s.objects) (length s'.objects) d.ty d.init (next_number s.objects (object_of m bodies true (seen s) d))) (names_rise s' ds)
+      rising_then (length s.objects) (length s'.objects) _ (start_of_init m bodies (seen s') (length s.objects) d.ty (sizes_of m bodies (seen s) d.sizes) d.init) _
+      (init_rises (seen s') (length s.objects) (length s'.objects) d.ty (sizes_of m bodies (seen s) d.sizes) d.init (next_number s.objects (object_of m bodies true (seen s) d))) (names_rise s' ds)
 
   grown : (a b : List Object) (ps : List Part) → Leads m bodies a b ps → length a ≤ length b
   grown a b ps l = let e = ap length l.are ∙ length-append a (declared m bodies ps) in omega arith

@@ -1,11 +1,12 @@
 -- Expressions that aren't refused are well typed.
-use Rattle.std.proofs.Common.{◌≡◌, ℕ, zero, suc, drop, Bool, true, false, cond, not, pos, List, [], ◌∷◌, ◌++◌, refl, sym, ap, ◌∙◌, subst, Option, Some, None, is_some, is_none}
+use Rattle.std.proofs.Common.{◌≡◌, ℕ, zero, suc, drop, Bool, true, false, cond, not, pos, List, [], ◌∷◌, ◌++◌, length, nat_eq, arith, refl, sym, ap, ◌∙◌, subst, Option, Some, None, is_some, is_none}
 use Rattle.std.proofs.lemmas.Bool.{false≢true}
-use Rattle.std.specs.List.{flat_map, slice_get}
+use Rattle.std.proofs.lemmas.Bool.Decides.{nat_tests}
+use Rattle.std.specs.List.{flat_map, list_all, slice_get}
 use Rattle.c_core.specs.Types.{in_range, promote_of, common_of}
 use Rattle.c_core.specs.Tree as t
-use Rattle.c_core.specs.Parts.{type_of, every_argument}
-use Rattle.c_core.specs.Typing.{same_type, same_types, is_constant, is_scalar, is_element, is_unary, binary_type, is_binary, is_choice, is_cast, is_target, exp_fits, is_typed}
+use Rattle.c_core.specs.Parts.{type_of, exps_in, every_argument}
+use Rattle.c_core.specs.Typing.{same_type, same_types, is_constant, has_value, are_values, is_scalar, is_element, is_unary, binary_type, is_binary, is_choice, is_cast, is_target, exp_fits, is_typed}
 use Rattle.c_core.specs.declared.number.IntType.{IntType}
 use Rattle.c_core.specs.declared.number.DataModel.{DataModel}
 use Rattle.c_core.specs.declared.number.Spot.{Spot}
@@ -19,12 +20,12 @@ use Rattle.check_rules.specs.Names as kind
 use Rattle.check_rules.specs.Names.{Kind, Entry, named}
 use Rattle.check_rules.specs.Typed.{typed, typed_node, typed_all, number_named, type_named, unary_type, choice_type}
 use Rattle.check_rules.specs.Parts.{Role, Value, Target, Effect, Part, Expression, of_cast, parts, parts_in, parts_of, bodies_of}
-use Rattle.check_rules.specs.Codes.{is_among, is_no_scalar, is_no_array, is_one_void}
-use Rattle.check_wellformed.proofs.Lists.{AllOf, both, all_front, all_behind, first_fails, not_false}
+use Rattle.check_rules.specs.Codes.{is_among, count, is_no_scalar, is_no_element, is_one_void}
+use Rattle.check_wellformed.proofs.Lists.{AllOf, both, all_front, all_behind, first_fails, second_fails}
 use Rattle.check_wellformed.proofs.Entries.{AreAgreed, same_type-refl, same_types-refl}
 use Rattle.check_wellformed.proofs.Known.{IsThere}
 use Rattle.check_wellformed.proofs.Good.{IsGood, IsCalled, If, IsObject, named_object, value_of_part, target_of_part}
-use Rattle.check_wellformed.proofs.Calls.{call_fits}
+use Rattle.check_wellformed.proofs.Calls.{argument_count, argument_values, call_fits}
 
 -- ---- constants
 
@@ -96,26 +97,35 @@ valued_is (Some ty) h = same_type-refl ty
 
 -- ---- objects
 
-module _ (p : t.Program) (items : List raw.Item) (entries : List Entry) where
-  scalar_there : (n : ℕ) (ty : IntType) (array fixed : Bool) → IsThere p.objects n ty array fixed → array ≡ false → is_scalar (Some ty) (slice_get p.objects n) ≡ true
-  scalar_there n ty array fixed h e =
-      rw h.at (both (ap not (h.array ∙ e)) (subst (λ x. same_type x ty ≡ true) (sym h.type) (same_type-refl ty)))
+abbrev is_array_of : ℕ → Bool
+is_array_of dims = not (nat_eq dims 0)
 
-  element_there : (n : ℕ) (ty : IntType) (array fixed : Bool) → IsThere p.objects n ty array fixed → array ≡ true → is_element (Some ty) (slice_get p.objects n) ≡ true
-  element_there n ty array fixed h e =
-      rw h.at (both (h.array ∙ e) (subst (λ x. same_type x ty ≡ true) (sym h.type) (same_type-refl ty)))
+-- as many indexes as dimensions
+as_many : (dims m n : ℕ) → m ≡ n → not (nat_eq dims n) ≡ false → nat_eq m dims ≡ true
+as_many dims m n e h = grind (arith, nat_tests)
+
+module _ (p : t.Program) (items : List raw.Item) (entries : List Entry) where
+  scalar_there : (n : ℕ) (ty : IntType) (dims : ℕ) (fixed : Bool) → IsThere p.objects n ty dims fixed → not (nat_eq dims 0) ≡ false → is_scalar (Some ty) (slice_get p.objects n) ≡ true
+  scalar_there n ty dims fixed h e =
+      rw h.at (both (ap not (ap (λ d. not (nat_eq d 0)) h.dims ∙ e)) (subst (λ x. same_type x ty ≡ true) (sym h.type) (same_type-refl ty)))
+
+  element_there : (n : ℕ) (ty : IntType) (dims : ℕ) (fixed : Bool) (is : t.Exps) → IsThere p.objects n ty dims fixed → is_array_of dims ≡ true → are_values dims is ≡ true → is_element (Some ty) is (slice_get p.objects n) ≡ true
+  element_there n ty dims fixed is h e v =
+      rw h.at (both (ap is_array_of h.dims ∙ e) (both (ap (λ d. are_values d is) h.dims ∙ v) (subst (λ x. same_type x ty ≡ true) (sym h.type) (same_type-refl ty))))
 
   scalar_named : (o : Option Kind) → If (IsObject p items entries) o → is_none o ≡ false → is_no_scalar o ≡ false → is_scalar (Some (type_named o)) (slice_get p.objects (number_named o)) ≡ true
   scalar_named None h n s = absurd (false≢true (sym n))
-  scalar_named (Some (kind.Object k ty array fixed)) h n s = scalar_there k ty array fixed h s
+  scalar_named (Some (kind.Object k ty dims fixed)) h n s = scalar_there k ty dims fixed h s
   scalar_named (Some (kind.Function result stated has_body)) h n s = absurd (false≢true (sym s))
   scalar_named (Some kind.Closed) h n s = absurd (false≢true (sym s))
 
-  element_named : (o : Option Kind) → If (IsObject p items entries) o → is_none o ≡ false → is_no_array o ≡ false → is_element (Some (type_named o)) (slice_get p.objects (number_named o)) ≡ true
-  element_named None h n s = absurd (false≢true (sym n))
-  element_named (Some (kind.Object k ty array fixed)) h n s = element_there k ty array fixed h (not_false array s)
-  element_named (Some (kind.Function result stated has_body)) h n s = absurd (false≢true (sym s))
-  element_named (Some kind.Closed) h n s = absurd (false≢true (sym s))
+  element_named : (o : Option Kind) (is : t.Exps) (n : ℕ) → If (IsObject p items entries) o → is_none o ≡ false → is_no_element n o ≡ false → length (exps_in is) ≡ n → list_all has_value (exps_in is) ≡ true
+      → is_element (Some (type_named o)) is (slice_get p.objects (number_named o)) ≡ true
+  element_named None is n h k s e v = absurd (false≢true (sym k))
+  element_named (Some (kind.Object o ty dims fixed)) is n h k s e v =
+      element_there o ty dims fixed is h (ap not (first_fails (nat_eq dims 0) _ s)) (both (as_many dims (length (exps_in is)) n e (second_fails (nat_eq dims 0) _ s)) v)
+  element_named (Some (kind.Function result stated has_body)) is n h k s e v = absurd (false≢true (sym s))
+  element_named (Some kind.Closed) is n h k s e v = absurd (false≢true (sym s))
 
   -- ---- expressions
 
@@ -132,7 +142,7 @@ module _ (p : t.Program) (items : List raw.Item) (entries : List Entry) where
 
     target_type : (es : List Entry) (a : Exp) → is_target (as_typed es a) ≡ true → is_some (type_of (as_typed es a)) ≡ true
     target_type es (Expr q (Var x w)) h = refl
-    target_type es (Expr q (Index x w a)) h = refl
+    target_type es (Expr q (Index x w is)) h = refl
     target_type es (Expr q (Number v decimal unsigned longs)) h = refl
     target_type es (Expr q (Char v)) h = refl
     target_type es (Expr q (Unary op a)) h = refl
@@ -153,8 +163,10 @@ module _ (p : t.Program) (items : List raw.Item) (entries : List Entry) where
       node_fits es r q (Number v decimal unsigned longs) g h = both (number_is p.model v decimal unsigned longs (first_fails _ _ g.fair.typed)) refl
       node_fits es r q (Char v) g h = both g.character refl
       node_fits es r q (Var x w) g h = both (scalar_named (named es x) (named_object p items entries x es g.knows) g.fair.named (first_fails _ _ g.fair.typed)) refl
-      node_fits es r q (Index x w a) g h =
-          both (both (element_named (named es x) (named_object p items entries x es g.knows) g.fair.named (first_fails _ _ g.fair.typed)) (value_of_part p items entries es a h)) (typed_fits es Value a h)
+      node_fits es r q (Index x w is) g h =
+          both (element_named (named es x) (typed_all p.model (bodies_of items) es is) (count is) (named_object p items entries x es g.knows) g.fair.named (first_fails _ _ g.fair.typed)
+          (argument_count p items entries agreed functions es is) (argument_values p items entries agreed functions es is h))
+          (arguments_fit es is h)
       node_fits es r q (Unary op a) g h = both (unary_is op (type_of (as_typed es a)) (value_of_part p items entries es a h)) (typed_fits es Value a h)
       node_fits es r q (Cast to a) g h = both (of_cast_fits es to a h) (typed_fits es (of_cast to) a h)
       node_fits es r q (Step op a) g h =

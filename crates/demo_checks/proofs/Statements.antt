@@ -27,7 +27,7 @@ within_limit c low = grind (arith, nat_tests)
 
 -- the object of a variable declared here
 abbrev pub stored : List ℕ → Spot → Stored
-stored x p = record { name = x; ty = Int; cells = 1; array = false; fixed = false; spot = p }
+stored x p = record { name = x; ty = Int; cells = 1; columns = 1; dims = 0; fixed = false; spot = p }
 
 -- behind its declaration
 abbrev pub with_variable : List Entry → List Stored → List ℕ → Spot → Scope

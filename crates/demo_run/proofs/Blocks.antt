@@ -9,6 +9,7 @@ use Rattle.c_core.specs.declared.number.IntType.TheVariants.{Int}
 use Rattle.c_core.specs.declared.number.Spot.{Spot}
 use Rattle.c_core.specs.declared.tree.Object.{Object}
 use Rattle.c_meaning.specs.declared.run.Event.TheVariants.{Branch}
+use Rattle.c_meaning.specs.declared.run.Way.TheVariants.{Truth}
 use Rattle.c_meaning.specs.Acts.{Go, Flow, Next}
 use Rattle.c_meaning.specs.Cells.{Cell, put}
 use Rattle.c_meaning.specs.Exec.{exec, execs}
@@ -90,7 +91,7 @@ module _ (objects : List Object) (body : Stms) where
     -- `if (x != b) { reach_error(); }` where x is b
     test_passed : (o : ℕ) (w : ℕ → Spot) (b n : ℕ) (cs : List Cell) (xs : Sights) → b < 2 ^ 31 →
         exec P M call result (error_if binary.Ne o b w) (state base (suc (suc (suc (suc n)))) (cs ++ cell o (pos b) ∷ []) xs)
-        ≡ Go Next (state base n (cs ++ cell o (pos b) ∷ []) (Told (Branch (w 0) false) (cs ++ cell o (pos b) ∷ []) ∷ reached (w 0) (cs ++ cell o (pos b) ∷ []) xs))
+        ≡ Go Next (state base n (cs ++ cell o (pos b) ∷ []) (Told (Branch (w 0) (Truth false)) (cs ++ cell o (pos b) ∷ []) ∷ reached (w 0) (cs ++ cell o (pos b) ∷ []) xs))
     test_passed o w b n cs xs few =
         let here : Where = record { statement = w 0; full = w 2 } in
         let live : List Cell = cs ++ cell o (pos b) ∷ [] in
@@ -113,7 +114,7 @@ module _ (objects : List Object) (body : Stms) where
         let size = length-append cs (cell o (pos b) ∷ []) in
         record {
           cells = live;
-          seen = Told (Branch (u 0) false) live ∷ reached (u 0) live looped.seen;
+          seen = Told (Branch (u 0) (Truth false)) live ∷ reached (u 0) live looped.seen;
           few = omega (arith, size);
           is = declaring ∙ looping ∙ testing;
         }

@@ -11,6 +11,7 @@ use Rattle.c_meaning.specs.declared.run.Choices.TheVariants.{Given}
 use Rattle.c_meaning.specs.declared.run.DrawKind.TheVariants.{Input}
 use Rattle.c_meaning.specs.declared.run.End.TheVariants.{Violated}
 use Rattle.c_meaning.specs.declared.run.Event.TheVariants.{Branch, Enter, Return, Fail}
+use Rattle.c_meaning.specs.declared.run.Way.TheVariants.{Truth}
 use Rattle.c_meaning.specs.Acts.{Go, Stop, Next}
 use Rattle.c_meaning.specs.Cells.{Cell, put}
 use Rattle.c_meaning.specs.Eval.{eval}
@@ -62,7 +63,7 @@ input_seen o n w cs xs = Told (Return (w 5) (Some (pos n))) (with_y o 0 cs) ∷ 
 
 -- and from there to the error
 abbrev pub last_seen : ℕ → ℕ → (ℕ → Spot) → (ℕ → Spot) → List Cell → Sights → Sights
-last_seen o n w v cs xs = error_seen v (with_y o n cs) (Told (Branch (v 0) true) (with_y o n cs) ∷ reached (v 0) (with_y o n cs) (input_seen o n w cs xs))
+last_seen o n w v cs xs = error_seen v (with_y o n cs) (Told (Branch (v 0) (Truth true)) (with_y o n cs) ∷ reached (v 0) (with_y o n cs) (input_seen o n w cs xs))
 
 module _ (objects : List Object) (body : Stms) where
   abbrev P : Program
@@ -96,13 +97,13 @@ module _ (objects : List Object) (body : Stms) where
     -- `if (y == n) { reach_error(); }` where y is n
     equal_stops : (base : State Sights) (o n : ℕ) (v : ℕ → Spot) (m : ℕ) (cs : List Cell) (xs : Sights) → n < 2 ^ 31 →
         exec P M call result (error_if binary.Eq o n v) (state base (suc (suc (suc (suc (suc (suc (suc m))))))) (with_y o n cs) xs)
-        ≡ Stop (Violated (v 7)) (state base m (with_y o n cs) (error_seen v (with_y o n cs) (Told (Branch (v 0) true) (with_y o n cs) ∷ reached (v 0) (with_y o n cs) xs)))
+        ≡ Stop (Violated (v 7)) (state base m (with_y o n cs) (error_seen v (with_y o n cs) (Told (Branch (v 0) (Truth true)) (with_y o n cs) ∷ reached (v 0) (with_y o n cs) xs)))
     equal_stops base o n v m cs xs small =
         let here : Where = record { statement = v 0; full = v 2 } in
         let more = suc (suc (suc m)) in
         let test = operated objects body call base here binary.Eq o n n more (v 2) (v 4) (pos 1) cs (reached (v 0) (with_y o n cs) xs) refl small small (equal n) in
         taken_stops objects body call base result (v 0) (operation binary.Eq o n (v 2) (v 4)) (error_block v) (suc (suc (suc more))) (with_y o n cs) xs _ _ (Violated (v 7)) test
-        (error_stops base v m (with_y o n cs) (Told (Branch (v 0) true) (with_y o n cs) ∷ reached (v 0) (with_y o n cs) xs))
+        (error_stops base v m (with_y o n cs) (Told (Branch (v 0) (Truth true)) (with_y o n cs) ∷ reached (v 0) (with_y o n cs) xs))
 
     -- the draw and the error, whatever stands behind
     pub rest_stops : (o n : ℕ) (w v : ℕ → Spot) (rest : Stms) (m : ℕ) (cs : List Cell) (xs : Sights) → n < 2 ^ 31 → size_of_object P o ≡ 1 → type_of_object P o ≡ Int → length cs ≤ 1000 →

@@ -9,6 +9,7 @@ use Rattle.c_core.specs.declared.number.IntType.TheVariants.{Int}
 use Rattle.c_core.specs.declared.number.Spot.{Spot}
 use Rattle.c_core.specs.declared.tree.Object.{Object}
 use Rattle.c_meaning.specs.declared.run.Event.TheVariants.{Branch}
+use Rattle.c_meaning.specs.declared.run.Way.TheVariants.{Truth}
 use Rattle.c_meaning.specs.declared.run.End.{End}
 use Rattle.c_meaning.specs.Acts.{Go, Flow, Next, Broken}
 use Rattle.c_meaning.specs.Acts as acts
@@ -58,7 +59,7 @@ pub record CameTo (base : State Sights) (r : Ran Flow) (n : ℕ) (cs : List Cell
 
 -- what is seen in a turn
 abbrev pub turn_seen : (ℕ → Spot) → List Cell → Sights → Sights
-turn_seen w cs xs = reached (w 7) cs (reached (w 6) cs (Told (Branch (w 0) true) cs ∷ xs))
+turn_seen w cs xs = reached (w 7) cs (reached (w 6) cs (Told (Branch (w 0) (Truth true)) cs ∷ xs))
 
 module _ (objects : List Object) (body : Stms) where
   abbrev P : Program
@@ -109,11 +110,11 @@ module _ (objects : List Object) (body : Stms) where
           let test = operated objects body call base here binary.Lt o x b rest (w 2) (w 4) (pos 1) cs xs refl (omega arith) few (below x b h) in
           decided objects body call base result (w 0) (operation binary.Lt o b (w 2) (w 4)) (acts.continued End (State Sights) cells_of with_cells (exec P M call result (step_block o w))) (λ s. Go Broken s)
           (pos 1) (state base (suc (suc (suc rest))) live xs) _ test
-          ∙ body_done x n cs (Told (Branch (w 0) true) live ∷ xs) (omega arith)
+          ∙ body_done x n cs (Told (Branch (w 0) (Truth true)) live ∷ xs) (omega arith)
 
       turn_off : (x n : ℕ) (cs : List Cell) (xs : Sights) → x ≡ b →
           turn (state base (suc (suc (suc n))) (cs ++ cell o (pos x) ∷ []) xs)
-          ≡ Go Broken (state base n (cs ++ cell o (pos x) ∷ []) (Told (Branch (w 0) false) (cs ++ cell o (pos x) ∷ []) ∷ xs))
+          ≡ Go Broken (state base n (cs ++ cell o (pos x) ∷ []) (Told (Branch (w 0) (Truth false)) (cs ++ cell o (pos x) ∷ []) ∷ xs))
       turn_off x n cs xs h =
           let here : Where = record { statement = w 0; full = w 2 } in
           let live : List Cell = cs ++ cell o (pos x) ∷ [] in
@@ -130,7 +131,7 @@ module _ (objects : List Object) (body : Stms) where
           let start : State Sights = state base (suc (suc (suc n))) live xs in
           subst (λ y. CameTo base (turns P Sights (λ y ys. y ∷ ys) (suc spare) (w 0) loop arrived turn start) n (cs ++ cell o (pos y) ∷ [])) same
           record {
-            seen = Told (Branch (w 0) false) live ∷ (headed (w 0) loop arrived start).seen;
+            seen = Told (Branch (w 0) (Truth false)) live ∷ (headed (w 0) loop arrived start).seen;
             is = turn_leaves objects body call base result spare (w 0) loop arrived turn start _ (turn_off x n cs (headed (w 0) loop arrived start).seen same);
           }
       turns_run (suc r) x spare n arrived cs xs e =

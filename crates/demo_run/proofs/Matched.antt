@@ -6,6 +6,7 @@ use Rattle.c_core.specs.Tree.{Stms, Program}
 use Rattle.c_core.specs.declared.number.Spot.{Spot}
 use Rattle.c_core.specs.declared.tree.Object.{Object}
 use Rattle.c_meaning.specs.declared.run.Event.TheVariants as event
+use Rattle.c_meaning.specs.declared.run.Way.TheVariants.{Truth}
 use Rattle.c_meaning.specs.Acts.{Flow}
 use Rattle.c_meaning.specs.Cells.{Cell}
 use Rattle.c_meaning.specs.Replay.{values_of}
@@ -34,7 +35,7 @@ seen_of-append (Head at l a cs ∷ xs) ys = seen_of-append xs ys
 abbrev pub in_order : ℕ → ℕ → (ℕ → Spot) → (ℕ → Spot) → List Cell → List Moment
 in_order o n w v cs =
     Here (w 0) cs ∷ Told (event.At (w 0)) cs ∷ Told (event.Enter (w 5)) (with_y o 0 cs) ∷ Told (event.Return (w 5) (Some (pos n))) (with_y o 0 cs) ∷
-    Here (v 0) (with_y o n cs) ∷ Told (event.At (v 0)) (with_y o n cs) ∷ Told (event.Branch (v 0) true) (with_y o n cs) ∷
+    Here (v 0) (with_y o n cs) ∷ Told (event.At (v 0)) (with_y o n cs) ∷ Told (event.Branch (v 0) (Truth true)) (with_y o n cs) ∷
     Here (v 6) (with_y o n cs) ∷ Told (event.At (v 6)) (with_y o n cs) ∷ Here (v 7) (with_y o n cs) ∷ Told (event.At (v 7)) (with_y o n cs) ∷
     Told (event.Enter (v 9)) (with_y o n cs) ∷ Told (event.Fail (v 7) (v 7) (Some (v 7))) (with_y o n cs) ∷ []
 

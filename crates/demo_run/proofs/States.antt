@@ -4,6 +4,7 @@ use Rattle.c_core.specs.Tree.{Program}
 use Rattle.c_core.specs.declared.number.Spot.{Spot}
 use Rattle.c_meaning.specs.declared.run.End.{End}
 use Rattle.c_meaning.specs.declared.run.Event.TheVariants.{At, Branch}
+use Rattle.c_meaning.specs.declared.run.Way.TheVariants.{Truth}
 use Rattle.c_meaning.specs.Acts.{Res}
 use Rattle.c_meaning.specs.Cells.{Cell}
 use Rattle.c_meaning.specs.Meaning.{Meaning}
@@ -31,7 +32,7 @@ reached at cs xs = Told (At at) cs ∷ Here at cs ∷ xs
 
 -- a branching is taken this way
 abbrev pub branched : Spot → Bool → State Sights → State Sights
-branched at way s = record s { seen = Told (Branch at way) s.cells ∷ s.seen }
+branched at way s = record s { seen = Told (Branch at (Truth way)) s.cells ∷ s.seen }
 
 -- a loop is at its head
 abbrev pub headed : Spot → Loop → List Cell → State Sights → State Sights

@@ -89,7 +89,7 @@ faulty_rest l o n = last_statements o n (drawn_at l) (chosen_at (l + 1) n) (ende
 
 -- a local object of one cell
 abbrev pub local : List ℕ → Spot → Object
-local name at = record { name = name; ty = Int; cells = 1; array = false; fixed = false; spot = at }
+local name at = record { name = name; ty = Int; cells = 1; columns = 1; dims = 0; fixed = false; spot = at }
 
 -- the objects of loops
 abbrev pub loop_objects : ℕ → ℕ → List ℕ → List Object

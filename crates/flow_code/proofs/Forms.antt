@@ -10,8 +10,8 @@ use Rattle.c_core.specs.declared.number.IntType.{IntType}
 use Rattle.c_core.specs.declared.number.Spot.{Spot}
 use Rattle.c_core.specs.declared.tree.Callee.{Callee}
 use Rattle.c_core.specs.declared.tree.Expr.{Expr as Tree}
-use Rattle.c_core.specs.declared.tree.Node.{Node as Form}
-use Rattle.c_core.specs.declared.tree.Node.TheVariants.{Index as IndexForm, Index', Var as VarForm, Binary as BinaryForm, Binary'}
+use Rattle.c_core.specs.declared.tree.Node.{Node as Form, items-the_row-Expr, items_shown-the_row-Expr-0, roll-Node, roll-out-Node}
+use Rattle.c_core.specs.declared.tree.Node.TheVariants.{Index as IndexForm, Index', outs-Index', rolls-Index, Var as VarForm, Binary as BinaryForm, Binary'}
 use Rattle.c_meaning.specs.Meaning.{Use, Used}
 use Rattle.c_meaning.specs.Objects.{size_of_object}
 use Rattle.run_state.specs.Interpreting.{use_of}
@@ -27,10 +27,10 @@ use Rattle.flow_code.specs.declared.code.Action.TheVariants.{Give, Truth, Aim, J
 use Rattle.flow_code.specs.declared.code.Op.{Op}
 use Rattle.flow_code.specs.declared.operands.Prepared.{Prepared}
 use Rattle.flow_code.specs.Making.{IsReady}
-use Rattle.flow_code.specs.Preparing.{followed, op, only, give, stored_in, with_operand}
+use Rattle.flow_code.specs.Preparing.{followed, op, only, give, stored_in, taken, with_operand}
 use Rattle.flow_code.specs.Sizes.{operand_in, operand_of, with_one, is_binary, size}
 use Rattle.flow_code.specs.Words.{native}
-use Rattle.flow_code.specs.Expressions.{code, node_code, aim_code, place_code, stored_by, stored_code, stored_at, args_code, argument_to, callee_code, count_of, left_by, constant, conditional_arm, site_at}
+use Rattle.flow_code.specs.Expressions.{code, node_code, aim_code, place_code, element_code, stored_by, stored_code, stored_at, args_code, argument_to, callee_code, count_of, left_by, constant, conditional_arm, site_at}
 use Rattle.flow_code.proofs.Gluing.{nothing_more, glued, behind_it, two_behind}
 
 -- another form than a binary operation
@@ -75,13 +75,13 @@ module _ (p : Program) (at : Around) where
       (node_code p at i (k + 1) Used x.spot x.ty (node_view x.node) into)) (sym e) g
 
   -- an element as a target
-  pub aimed_element : (x : Tree) (k l o : ℕ) (e : Exp) (reads : Bool) (old new : List Op) → l ≡ k + 1 → node_view x.node ≡ Index o e
-      → new ≡ old ++ with_operand (operand_of e) l (code p at (length old) l Used e Push) (λ y. Aim o (size_of_object p o) y x.spot reads)
+  pub aimed_element : (x : Tree) (k l o : ℕ) (is : Exps) (reads : Bool) (old new : List Op) → l ≡ k + 1 → node_view x.node ≡ Index o is
+      → new ≡ old ++ taken (element_code p at (length old) l x.spot o is) (λ y. Aim o (size_of_object p o) y x.spot reads)
       → IsReady (record { operand = Top; steps = 0 }) old new (aim_code p at (length old) k (expr_view x) reads)
-  aimed_element x k l o e reads old new s n g =
+  aimed_element x k l o is reads old new s n g =
       subst (λ z. IsReady (record { operand = Top; steps = 0 }) old new (place_code p at (length old) (k + 1) x.spot z reads)) (sym n)
       (record {
-        ops = subst (λ h. new ≡ old ++ with_operand (operand_of e) h (code p at (length old) h Used e Push) (λ y. Aim o (size_of_object p o) y x.spot reads)) s g;
+        ops = subst (λ h. new ≡ old ++ taken (element_code p at (length old) h x.spot o is) (λ y. Aim o (size_of_object p o) y x.spot reads)) s g;
         operand = refl;
         steps = refl;
       })
@@ -93,14 +93,19 @@ module _ (p : Program) (at : Around) where
       subst (λ z. IsReady (record { operand = Cell o; steps = l }) old old (place_code p at (length old) (k + 1) x.spot z reads)) (sym n)
       (record { ops = nothing_more old; operand = refl; steps = s })
 
-  no_place : (n : Form) (i k : ℕ) (spot : Spot) (reads : Bool) → ((o : ℕ) (e : Box Tree Global) → n ≡ IndexForm o e → ⊥) → ((o : ℕ) → n ≡ VarForm o → ⊥)
+  -- an element, with its indexes as a list
+  index_is : (o : ℕ) (shape : _) (row : _) → Index' o shape row ≡ IndexForm o (items-the_row-Expr _ row)
+  index_is o shape row =
+      sym (ap (IndexForm o) (sym (items_shown-the_row-Expr-0 shape row)) ∙ sym (rolls-Index o _) ∙ ap roll-Node (sym (outs-Index' o shape row)) ∙ roll-out-Node (Index' o shape row))
+
+  no_place : (n : Form) (i k : ℕ) (spot : Spot) (reads : Bool) → ((o : ℕ) (is : List Tree) → n ≡ IndexForm o is → ⊥) → ((o : ℕ) → n ≡ VarForm o → ⊥)
       → place_code p at i k spot (node_view n) reads ≡ record { ops = []; operand = Cell 0; steps = k }
-  no_place (Index' o b s ty n) i k spot reads h g = absurd (h o _ refl)
+  no_place (Index' o shape row) i k spot reads h g = absurd (h o _ (index_is o shape row))
   no_place (VarForm o) i k spot reads h g = absurd (g o refl)
   no_place n i k spot reads h g = refl
 
   -- no target of a checked program
-  pub aimed_other : (x : Tree) (k l : ℕ) (reads : Bool) (old : List Op) → l ≡ k + 1 → ((o : ℕ) (e : Box Tree Global) → x.node ≡ IndexForm o e → ⊥) → ((o : ℕ) → x.node ≡ VarForm o → ⊥)
+  pub aimed_other : (x : Tree) (k l : ℕ) (reads : Bool) (old : List Op) → l ≡ k + 1 → ((o : ℕ) (is : List Tree) → x.node ≡ IndexForm o is → ⊥) → ((o : ℕ) → x.node ≡ VarForm o → ⊥)
       → IsReady (record { operand = Cell 0; steps = l }) old old (aim_code p at (length old) k (expr_view x) reads)
   aimed_other x k l reads old s h g =
       subst (λ j. IsReady (record { operand = Cell 0; steps = l }) old old j) (sym (no_place x.node (length old) (k + 1) x.spot reads h g))

@@ -16,11 +16,12 @@ use Rattle.flow_code.specs.declared.code.Then.{Then}
 use Rattle.flow_code.specs.declared.code.Then.TheVariants.{Push, Drop, Skip, Branch}
 use Rattle.flow_code.specs.declared.code.Into.{Into}
 use Rattle.flow_code.specs.declared.code.Op.{Op}
-use Rattle.flow_code.specs.Preparing.{followed, op, only, prepared, with_operand, kept, rest, paired}
-use Rattle.flow_code.specs.Sizes.{operand_in, operand_of, with_one, with_two, with_target, is_binary, as_stored, size, size_of_node, size_of_aim, size_of_place, size_of_all, size_of_callee}
-use Rattle.flow_code.specs.declared.code.Action.TheVariants.{Give, Truth, Jump}
-use Rattle.c_meaning.specs.Objects.{type_of}
-use Rattle.flow_code.specs.Expressions.{code, node_code, aim_code, place_code, args_code, argument_to, callee_code, count_of, stored_by, stored_at, stored_code, site_at, constant, as_type, source, operator}
+use Rattle.flow_code.specs.Preparing.{followed, op, only, prepared, taken, with_operand, kept, rest, paired}
+use Rattle.flow_code.specs.Sizes.{operand_in, operand_of, with_one, with_two, with_target, is_binary, as_stored, size, size_of_node, size_of_aim, size_of_place, size_of_element, size_of_all, size_of_callee}
+use Rattle.flow_code.specs.declared.code.Action.{Action}
+use Rattle.flow_code.specs.declared.code.Action.TheVariants.{Give, Truth, Look, Aim, Jump}
+use Rattle.c_meaning.specs.Objects.{type_of, size_of_object}
+use Rattle.flow_code.specs.Expressions.{code, node_code, aim_code, place_code, element_code, args_code, argument_to, callee_code, count_of, stored_by, stored_at, stored_code, site_at, constant, as_type, source, operator}
 
 -- parts one behind another are as long as both
 pub followed_size : (i : ℕ) (xs : List Op) (f : ℕ → List Op) (n m : ℕ) → length xs ≡ n → ((j : ℕ) → length (f j) ≡ m) → length (followed i xs f) ≡ n + m
@@ -30,7 +31,7 @@ followed_size i xs f n m h g = length-append xs (f (i + length xs)) ∙ ap₂ �
 kept_one : (n : Node) (x : Operand) → operand_in n ≡ Some x → (k : ℕ) → length (kept x k) ≡ 1
 kept_one (Const v) x e k = let h : Number v ≡ x = cc in subst (λ y. length (kept y k) ≡ 1) h refl
 kept_one (Var o) x e k = let h : Cell o ≡ x = cc in subst (λ y. length (kept y k) ≡ 1) h refl
-kept_one (Index o i) x e k = cc
+kept_one (Index o is) x e k = cc
 kept_one (Unary o a) x e k = cc
 kept_one (Cast a) x e k = cc
 kept_one (Step o a) x e k = cc
@@ -104,20 +105,20 @@ one_more xs a n h = length-append xs (a ∷ []) ∙ ap (λ m. m + 1) h
 
 -- what a target's value needs to be put on the stack
 left_of : Node → ℕ
-left_of (Index o i) = 0
+left_of (Index o is) = 0
 left_of _ = 1
 
 with_left : (n : Node) (z : Option Operand) (m : ℕ) → with_kept z m (left_of n) ≡ with_target n z m
 unfolding left_of
-with_left (Index o i) (Some w) m = refl
-with_left (Index o i) None m = omega arith
+with_left (Index o is) (Some w) m = refl
+with_left (Index o is) None m = omega arith
 with_left _ (Some w) m = refl
 with_left _ None m = omega arith
 
 module _ (p : Program) (at : Around) where
   kept_target : (i k : ℕ) (spot : Spot) (n : Node) (reads : Bool) (l : ℕ) → length (kept (place_code p at i k spot n reads).operand l) ≡ left_of n
   unfolding left_of
-  kept_target i k spot (Index o e) reads l = refl
+  kept_target i k spot (Index o is) reads l = refl
   kept_target i k spot _ reads l = refl
 
   mutual
@@ -129,7 +130,7 @@ module _ (p : Program) (at : Around) where
     pub node_size : (i k : ℕ) (want : Use) (spot : Spot) (ty : Option IntType) (n : Node) (x : Into) → length (node_code p at i k want spot ty n x) ≡ size_of_node ty n
     node_size i k want spot ty (Const v) x = refl
     node_size i k want spot ty (Var o) x = refl
-    node_size i k want spot ty (Index o e) x = one_size (operand_of e) k (code p at i k Used e Push) (size e) _ (code_size i k Used e Push)
+    node_size i k want spot ty (Index o is) x = element_size i k spot o is (λ y. Look o (size_of_object p o) y spot x)
     node_size i k want spot ty (Unary o a) x = one_size (operand_of a) k (code p at i k Used a Push) (size a) _ (code_size i k Used a Push)
     node_size i k want spot ty (Cast a) x =
         cast_size ty (code p at i k Unused a x.then) _ (size a) (with_one (operand_of a) (size a)) (code_size i k Unused a x.then)
@@ -187,8 +188,22 @@ module _ (p : Program) (at : Around) where
 
     -- by the target's form
     pub place_size : (i k : ℕ) (spot : Spot) (n : Node) (reads : Bool) → length (place_code p at i k spot n reads).ops ≡ size_of_place n
-    place_size i k spot (Index o e) reads = one_size (operand_of e) k (code p at i k Used e Push) (size e) _ (code_size i k Used e Push)
+    place_size i k spot (Index o is) reads = element_size i k spot o is (λ y. Aim o (size_of_object p o) y spot reads)
     place_size i k spot _ reads = refl
+
+    -- an element's indexes, and an operation that takes the cell
+    pub element_size : (i k : ℕ) (spot : Spot) (o : ℕ) (is : Exps) (f : Operand → Action) → length (taken (element_code p at i k spot o is) f) ≡ size_of_element is
+    element_size i k spot o NoExp f = refl
+    element_size i k spot o (MoreExp a NoExp) f = one_size (operand_of a) k (code p at i k Used a Push) (size a) _ (code_size i k Used a Push)
+    element_size i k spot o (MoreExp a (MoreExp b NoExp)) f =
+        let j = prepared (operand_of a) k (code p at i k Used a Push) in
+        let from = i + length j.ops + length (kept j.operand j.steps) in
+        one_more _ _ _ (two_size (operand_of a) (operand_of b) k (code p at i k Used a Push) (code p at from (rest j.operand j.steps) Used b Push) (size a) (size b) _ (kept_of a)
+        (code_size i k Used a Push) (code_size from (rest j.operand j.steps) Used b Push))
+    element_size i k spot o (MoreExp a (MoreExp b (MoreExp c es))) f =
+        one_more _ _ _ (followed_size i (code p at i k Used a Drop) _ (size a) (size b + (size c + size_of_all es)) (code_size i k Used a Drop)
+        (λ j. followed_size j (code p at j 0 Used b Drop) _ (size b) (size c + size_of_all es) (code_size j 0 Used b Drop)
+        (λ l. followed_size l (code p at l 0 Used c Drop) _ (size c) (size_of_all es) (code_size l 0 Used c Drop) (λ m. args_size m 0 Drop es))))
 
     -- arguments
     pub args_size : (i k : ℕ) (then : Then) (es : Exps) → length (args_code p at i k then es) ≡ size_of_all es

@@ -4,5 +4,7 @@ pub mod Weights
 pub mod Readying
 pub mod Forms
 pub mod Blocks
+pub mod Arms
+pub mod Indexes
 pub mod Lengths
 pub mod Objects

@@ -1,5 +1,5 @@
 -- The code of an expression: operations that begin at an address, the first of which takes some steps besides its own.
-use Rattle.std.specs.Prelude.{ℕ, suc, ◌+◌, pos, Bool, true, false, not, ◌&&◌, is_some, List, [], ◌∷◌, ◌++◌, length, Option, Some, None, slice_get}
+use Rattle.std.specs.Prelude.{ℕ, suc, ◌+◌, pos, Bool, true, false, not, ◌&&◌, is_some, negsuc, List, [], ◌∷◌, ◌++◌, length, Option, Some, None, slice_get, ◌/◌}
 use Rattle.c_core.specs.Types.{number_of, promote_of}
 use Rattle.c_core.specs.Operators.{type_for, right_type_for, op_of_step, is_prefix}
 use Rattle.c_core.specs.Tree.{Exp, Expr, Node, Const, Var, Index, Unary, Cast, Step, Binary, Logic, Choose, Comma, Assign, Call, Exps, NoExp, MoreExp, Program, Function}
@@ -12,7 +12,7 @@ use Rattle.c_core.specs.declared.tree.Callee.{Callee}
 use Rattle.c_core.specs.declared.tree.Callee.TheVariants.{Defined, Input as InputOf, ReachError, Abort, Exit}
 use Rattle.c_meaning.specs.Meaning.{Use, Used, Unused}
 use Rattle.c_meaning.specs.Eval.{is_used}
-use Rattle.c_meaning.specs.Objects.{type_of, size_of_object}
+use Rattle.c_meaning.specs.Objects.{type_of, size_of_object, columns_of_object}
 use Rattle.run_state.specs.declared.machine.Around.{Around}
 use Rattle.run_state.specs.declared.machine.CallSite.{CallSite}
 use Rattle.flow_code.specs.declared.code.Operand.{Operand}
@@ -24,16 +24,16 @@ use Rattle.flow_code.specs.declared.code.Then.TheVariants.{Push, Drop, Skip, Bra
 use Rattle.flow_code.specs.declared.code.Into.{Into}
 use Rattle.flow_code.specs.declared.code.Source.{Source}
 use Rattle.flow_code.specs.declared.code.Action.{Action}
-use Rattle.flow_code.specs.declared.code.Action.TheVariants.{Give, Truth, Convert, Look, Aim, Operate, OperateOne, Jump, Enter, Call as CallOf, Input, Reach, End}
+use Rattle.flow_code.specs.declared.code.Action.TheVariants.{Give, Truth, Convert, Look, Aim, Row, Operate, OperateOne, Jump, Enter, Call as CallOf, Input, Reach, End}
 use Rattle.flow_code.specs.declared.code.Op.{Op}
 use Rattle.flow_code.specs.Choosing.{by_some}
-use Rattle.flow_code.specs.Preparing.{followed, op, only, stored_in, give, Ready, ReadyPair, prepared, taken_both, with_operand, paired_at}
+use Rattle.flow_code.specs.Preparing.{followed, op, only, stored_in, give, Ready, ReadyPair, prepared, taken, taken_both, with_operand, paired_at}
 use Rattle.flow_code.specs.Words.{word_of, native}
 use Rattle.flow_code.specs.Sizes.{operand_in, operand_of, with_one, is_binary, size}
 
 -- the cell of a target; the index of an element is on the stack
 abbrev pub place_of : Node → Place
-place_of (Index o i) = Element o
+place_of (Index o is) = Element o
 place_of (Var o) = Fixed o 0
 -- no target of a checked program
 place_of _ = Fixed 0 0
@@ -81,6 +81,14 @@ abbrev pub site_at : Spot → Spot → Use → Option IntType → CallSite
 site_at spot close want ty = record { spot = spot; close = close; needed = is_used want && is_some ty }
 
 module _ (p : Program) where
+  -- the number of rows of an object
+  abbrev pub rows_of_object : ℕ → ℕ
+  rows_of_object o = size_of_object p o / columns_of_object p o
+
+  -- the cell of an element that has two indexes, which are ready, for the element at a place
+  abbrev pub in_row : ℕ → Spot → ReadyPair → Ready
+  in_row o spot q = record { ops = taken_both q (λ y z. Row (rows_of_object o) (columns_of_object p o) y z spot); operand = Top; steps = 0 }
+
   -- an operator over operands that are ready
   abbrev pub operator : Source → BinOp → IntType → IntType → Into → Operand → Operand → Action
   operator at o a b x left right = Operate o (word_of p.model (type_for p.model o a b)) (word_of p.model (right_type_for o (type_for p.model o a b) b)) left right at x
@@ -112,7 +120,7 @@ module _ (p : Program) where
       pub node_code : ℕ → ℕ → Use → Spot → Option IntType → Node → Into → List Op
       node_code i k want spot ty (Const v) x = op k (Give (Number v) x) ∷ []
       node_code i k want spot ty (Var o) x = op k (Give (Cell o) x) ∷ []
-      node_code i k want spot ty (Index o e) x = with_operand (operand_of e) k (code i k Used e Push) (λ y. Look o (size_of_object p o) y spot x)
+      node_code i k want spot ty (Index o is) x = taken (element_code i k spot o is) (λ y. Look o (size_of_object p o) y spot x)
       node_code i k want spot ty (Unary o a) x = with_operand (operand_of a) k (code i k Used a Push) (λ y. OperateOne o (word_of p.model (promote_of (type_of a))) y (source at spot) x)
       node_code i k want spot ty (Cast a) x =
           by_some ty (code i k Unused a x.then) (λ to. with_operand (operand_of a) k (code i k Used a Push) (λ y. Convert (native p.model to) y x))
@@ -147,10 +155,23 @@ module _ (p : Program) where
 
       -- a target by its form
       pub place_code : ℕ → ℕ → Spot → Node → Bool → Ready
-      place_code i k spot (Index o e) reads = record { ops = with_operand (operand_of e) k (code i k Used e Push) (λ y. Aim o (size_of_object p o) y spot reads); operand = Top; steps = 0 }
+      place_code i k spot (Index o is) reads = record { ops = taken (element_code i k spot o is) (λ y. Aim o (size_of_object p o) y spot reads); operand = Top; steps = 0 }
       place_code i k spot (Var o) reads = record { ops = []; operand = Cell o; steps = k }
       -- no target of a checked program
       place_code i k spot _ reads = record { ops = []; operand = Cell 0; steps = k }
+
+      -- the cell of an element among those of its object, from its indexes
+      pub element_code : ℕ → ℕ → Spot → ℕ → Exps → Ready
+      element_code i k spot o (MoreExp a NoExp) = prepared (operand_of a) k (code i k Used a Push)
+      element_code i k spot o (MoreExp a (MoreExp b NoExp)) =
+          in_row o spot (paired_at i (prepared (operand_of a) k (code i k Used a Push)) (operand_of b) (λ j l. code j l Used b Push))
+      -- no element of a checked program: all are evaluated, and no cell is found
+      element_code i k spot o NoExp = record { ops = []; operand = Number (negsuc 0); steps = k }
+      element_code i k spot o (MoreExp a (MoreExp b (MoreExp c es))) = record {
+        ops = followed i (code i k Used a Drop) (λ j. followed j (code j 0 Used b Drop) (λ l. followed l (code l 0 Used c Drop) (λ m. args_code m 0 Drop es)));
+        operand = Number (negsuc 0);
+        steps = 0;
+      }
 
       -- arguments from left to right
       pub args_code : ℕ → ℕ → Then → Exps → List Op

@@ -16,13 +16,13 @@ use Rattle.flow_code.specs.declared.code.First.{First}
 use Rattle.flow_code.specs.declared.code.Code.{Code}
 use Rattle.flow_code.specs.declared.statements.Inside.{Inside}
 use Rattle.flow_code.specs.Preparing.{followed, op}
-use Rattle.flow_code.specs.Sizes.{size_of_form}
+use Rattle.flow_code.specs.Sizes.{outermost, size_of_form}
 use Rattle.flow_code.specs.Statements.{form_code}
 use Rattle.flow_code.specs.Words.{native, native_if}
 
 -- in a function, whose last operation stands at an address
 abbrev pub in_function : DataModel → ℕ → Function → Inside
-in_function m leave f = record { broken = leave; again = leave; inner = 0; scopes = 0; result = native_if m f.result }
+in_function m leave f = record { broken = leave; again = leave; depth = outermost; result = native_if m f.result }
 
 -- of a cell that lives when a run begins
 abbrev pub cell_of : First → Cell
@@ -46,7 +46,7 @@ entry_of (Some b) = b.entry
 module _ (p : Program) where
   -- a function's body: its step, its statements, and the way back
   abbrev pub body_code : ℕ → Function → Stm → List Op
-  body_code i f (Stmt at x) = followed i (op 1 Rest ∷ []) (λ j. form_code p j (in_function p.model (j + size_of_form 0 0 x) f) at x) ++ op 0 Leave ∷ []
+  body_code i f (Stmt at x) = followed i (op 1 Rest ∷ []) (λ j. form_code p j (in_function p.model (j + size_of_form outermost x) f) at x) ++ op 0 Leave ∷ []
 
   -- a function of the program
   abbrev pub function_code : ℕ → Function → List Op

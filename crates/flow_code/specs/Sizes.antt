@@ -1,12 +1,15 @@
 -- How many operations the code of a part has; where a part's names need a scope.
-use Rattle.std.specs.Prelude.{ℕ, ◌+◌, Bool, true, false, cond, ◌||◌, Option, Some, None}
-use Rattle.c_core.specs.Tree.{Exp, Expr, Node, Const, Var, Index, Unary, Cast, Step, Binary, Logic, Choose, Comma, Assign, Call, Exps, NoExp, MoreExp, Init, Absent, One, Many, Names, NoName, MoreName, First, NoFirst, FirstExp, FirstNames, Stm, Stmt, Form, Empty, Do, Declare, Block, If, While, DoWhile, For, Break, Continue, Return, Label, Else, NoElse, OrElse, Stms, NoStm, MoreStm}
+use Rattle.std.specs.Prelude.{ℕ, ◌+◌, Bool, true, false, cond, ◌||◌, List, [], ◌∷◌, Option, Some, None}
+use Rattle.c_core.specs.Tree.{Exp, Expr, Node, Const, Var, Index, Unary, Cast, Step, Binary, Logic, Choose, Comma, Assign, Call, Exps, NoExp, MoreExp, Init, Absent, One, Many, Rows, Names, NoName, MoreName, First, NoFirst, FirstExp, FirstNames, Stm, Stmt, Form, Empty, Do, Declare, Block, If, While, DoWhile, For, Break, Continue, Return, Label, Switch, Else, NoElse, OrElse, Stms, NoStm, MoreStm, MoreCase}
 use Rattle.c_core.specs.declared.number.IntType.{IntType}
 use Rattle.c_core.specs.declared.tree.Callee.{Callee}
 use Rattle.c_core.specs.declared.tree.Callee.TheVariants.{Defined}
+use Rattle.c_core.specs.declared.tree.Label.{Label as ArmLabel}
+use Rattle.c_core.specs.declared.tree.Label.TheVariants.{Case, Default}
 use Rattle.flow_code.specs.Choosing.{by_some}
 use Rattle.flow_code.specs.declared.code.Operand.{Operand}
 use Rattle.flow_code.specs.declared.code.Operand.TheVariants.{Cell, Number}
+use Rattle.flow_code.specs.declared.sizes.Depth.{Depth}
 
 -- the operand that a node is by itself
 abbrev pub operand_in : Node → Option Operand
@@ -65,7 +68,7 @@ abbrev mutual
   pub size_of_node : Option IntType → Node → ℕ
   size_of_node ty (Const v) = 1
   size_of_node ty (Var o) = 1
-  size_of_node ty (Index o i) = with_one (operand_of i) (size i)
+  size_of_node ty (Index o is) = size_of_element is
   size_of_node ty (Unary op a) = with_one (operand_of a) (size a)
   size_of_node ty (Cast a) = by_some ty (size a) (λ to. with_one (operand_of a) (size a))
   size_of_node ty (Step op t) = size_of_aim t + 1
@@ -82,8 +85,16 @@ abbrev mutual
 
   -- by the target's form
   pub size_of_place : Node → ℕ
-  size_of_place (Index o i) = with_one (operand_of i) (size i)
+  size_of_place (Index o is) = size_of_element is
   size_of_place _ = 0
+
+  -- the code of an element's indexes, and an operation that takes the cell
+  pub size_of_element : Exps → ℕ
+  size_of_element (MoreExp a NoExp) = with_one (operand_of a) (size a)
+  size_of_element (MoreExp a (MoreExp b NoExp)) = with_two (operand_of a) (operand_of b) (size a) (size b) + 1
+  -- no element of a checked program
+  size_of_element NoExp = 1
+  size_of_element (MoreExp a (MoreExp b (MoreExp c es))) = size a + (size b + (size c + size_of_all es)) + 1
 
   -- the code of arguments
   pub size_of_all : Exps → ℕ
@@ -104,11 +115,17 @@ abbrev pub size_of_values : Exps → ℕ
 size_of_values NoExp = 0
 size_of_values (MoreExp e es) = size_stored e + size_of_values es
 
+-- the code of rows of values
+abbrev pub size_of_rows : List Exps → ℕ
+size_of_rows [] = 0
+size_of_rows (es ∷ rows) = size_of_values es + size_of_rows rows
+
 -- the code of an initializer
 abbrev pub size_of_init : Init → ℕ
 size_of_init Absent = 0
 size_of_init (One e) = size_stored e
 size_of_init (Many es) = size_of_values es
+size_of_init (Rows rows) = size_of_rows rows
 
 -- the code of declared names
 abbrev pub size_of_names : Names → ℕ
@@ -137,6 +154,7 @@ abbrev mutual
 abbrev pub any_leaks : Stms → Bool
 any_leaks NoStm = false
 any_leaks (MoreStm s b) = leaks s || any_leaks b
+any_leaks (MoreCase spot l b) = any_leaks b
 
 -- the first part of a `for` does
 abbrev pub first_leaks : First → Bool
@@ -156,40 +174,73 @@ abbrev pub size_of_test : Option Exp → ℕ
 size_of_test None = 1
 size_of_test (Some e) = size e
 
--- where so many scopes are open in the innermost loop and in the function
+-- where nothing is open
+abbrev pub outermost : Depth
+outermost = record { inner = 0; turn = 0; scopes = 0 }
+
+-- inside one scope more, where it is there
+abbrev pub deep : Bool → Depth → Depth
+deep b d = record { inner = d.inner + one_if b; turn = d.turn + one_if b; scopes = d.scopes + one_if b }
+
+-- at the start of a loop's turn
+abbrev pub in_turn : Depth → Depth
+in_turn d = record { inner = 0; turn = 0; scopes = d.scopes }
+
+-- at the arms of a `switch`
+abbrev pub in_arms : Depth → Depth
+in_arms d = record { inner = 0; turn = d.turn; scopes = d.scopes }
+
+-- the operations that compare a value with the constant of an arm, and the one for any other value
+abbrev pub size_of_label : ArmLabel → ℕ
+size_of_label (Case v) = 1
+size_of_label Default = 0
+
+abbrev pub size_of_selection : Stms → ℕ
+size_of_selection NoStm = 1
+size_of_selection (MoreStm s b) = size_of_selection b
+size_of_selection (MoreCase spot l b) = size_of_label l + size_of_selection b
+
+-- where so many scopes are open
 abbrev mutual
   -- a statement's code: its form's, behind its step and its event
-  pub size_of_statement : ℕ → ℕ → Stm → ℕ
-  size_of_statement inner scopes (Stmt at f) = size_of_form inner scopes f + 1
+  pub size_of_statement : Depth → Stm → ℕ
+  size_of_statement d (Stmt at f) = size_of_form d f + 1
 
   -- by its form
-  pub size_of_form : ℕ → ℕ → Form → ℕ
-  size_of_form inner scopes Empty = 0
-  size_of_form inner scopes (Do e) = size e
-  size_of_form inner scopes (Declare ns) = size_of_names ns
-  size_of_form inner scopes (Block b) = with_scope (any_leaks b) (size_of_block (inner + one_if (any_leaks b)) (scopes + one_if (any_leaks b)) b)
-  size_of_form inner scopes (If e a b) = size e + with_scope (leaks a) (size_of_statement (inner + one_if (leaks a)) (scopes + one_if (leaks a)) a) + size_of_else inner scopes b
-  size_of_form inner scopes (While e b) = size e + with_scope (leaks b) (size_of_statement (0 + one_if (leaks b)) (scopes + one_if (leaks b)) b) + 1
-  size_of_form inner scopes (DoWhile b e) = size e + with_scope (leaks b) (size_of_statement (0 + one_if (leaks b)) (scopes + one_if (leaks b)) b)
-  size_of_form inner scopes (For i e s b) =
+  pub size_of_form : Depth → Form → ℕ
+  size_of_form d Empty = 0
+  size_of_form d (Do e) = size e
+  size_of_form d (Declare ns) = size_of_names ns
+  size_of_form d (Block b) = with_scope (any_leaks b) (size_of_block (deep (any_leaks b) d) b)
+  size_of_form d (If e a b) = size e + with_scope (leaks a) (size_of_statement (deep (leaks a) d) a) + size_of_else d b
+  size_of_form d (While e b) = size e + with_scope (leaks b) (size_of_statement (deep (leaks b) (in_turn d)) b) + 1
+  size_of_form d (DoWhile b e) = size e + with_scope (leaks b) (size_of_statement (deep (leaks b) (in_turn d)) b)
+  size_of_form d (For i e s b) =
       with_scope (first_leaks i) (size_of_first i
-      + (with_scope (leaks b) (size_of_statement (0 + one_if (leaks b)) (scopes + one_if (first_leaks i) + one_if (leaks b)) b) + size_if s + size_of_test e) + 1)
-  size_of_form inner scopes Break = inner + 1
-  size_of_form inner scopes Continue = inner + 1
-  size_of_form inner scopes (Return None) = scopes + 1
-  size_of_form inner scopes (Return (Some e)) = size e + scopes + 1
-  size_of_form inner scopes (Label b) = size_of_statement inner scopes b
+      + (with_scope (leaks b) (size_of_statement (deep (leaks b) (in_turn (deep (first_leaks i) d))) b) + size_if s + size_of_test e) + 1)
+  size_of_form d Break = d.inner + 1
+  size_of_form d Continue = d.turn + 1
+  size_of_form d (Return None) = d.scopes + 1
+  size_of_form d (Return (Some e)) = size e + d.scopes + 1
+  size_of_form d (Label b) = size_of_statement d b
+  size_of_form d (Switch e b) =
+      with_one (operand_of e) (size e) + with_scope (any_leaks b) (size_of_selection b + size_of_block (deep (any_leaks b) (in_arms d)) b)
 
   -- the code of the second arm, with the way around it
-  pub size_of_else : ℕ → ℕ → Else → ℕ
-  size_of_else inner scopes NoElse = 0
-  size_of_else inner scopes (OrElse b) = with_scope (leaks b) (size_of_statement (inner + one_if (leaks b)) (scopes + one_if (leaks b)) b) + 1
+  pub size_of_else : Depth → Else → ℕ
+  size_of_else d NoElse = 0
+  size_of_else d (OrElse b) = with_scope (leaks b) (size_of_statement (deep (leaks b) d) b) + 1
 
   -- the code of a block's statements
-  pub size_of_block : ℕ → ℕ → Stms → ℕ
-  size_of_block inner scopes NoStm = 0
-  size_of_block inner scopes (MoreStm s b) = size_of_statement inner scopes s + size_of_block inner scopes b
+  pub size_of_block : Depth → Stms → ℕ
+  size_of_block d NoStm = 0
+  size_of_block d (MoreStm s b) = size_of_statement d s + size_of_block d b
+  size_of_block d (MoreCase spot l b) = size_of_block d b
 
 -- a statement that is a scope of its own, if it declares names
-abbrev pub size_of_arm : ℕ → ℕ → Stm → ℕ
-size_of_arm inner scopes s = with_scope (leaks s) (size_of_statement (inner + one_if (leaks s)) (scopes + one_if (leaks s)) s)
+abbrev pub size_of_arm : Depth → Stm → ℕ
+size_of_arm d s = with_scope (leaks s) (size_of_statement (deep (leaks s) d) s)
+
+-- the arms of a `switch` behind the choice of one
+abbrev pub size_of_arms : Depth → Stms → ℕ
+size_of_arms d b = with_scope (any_leaks b) (size_of_selection b + size_of_block (deep (any_leaks b) (in_arms d)) b)

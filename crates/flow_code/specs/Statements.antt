@@ -1,18 +1,24 @@
 -- The code of a statement.
-use Rattle.std.specs.Prelude.{ℕ, ◌+◌, Bool, true, false, List, [], ◌∷◌, ◌++◌, Option, Some, None}
-use Rattle.c_core.specs.Tree.{Exp, Expr, Exps, NoExp, MoreExp, Init, Absent, One, Many, Names, NoName, MoreName, First, NoFirst, FirstExp, FirstNames, Stm, Stmt, Form, Empty, Do, Declare, Block, If, While, DoWhile, For, Break, Continue, Return, Label, Else, NoElse, OrElse, Stms, NoStm, MoreStm, Program}
+use Rattle.std.specs.Prelude.{ℕ, zero, suc, ◌+◌, Bool, true, false, List, [], ◌∷◌, ◌++◌, Option, Some, None}
+use Rattle.c_core.specs.Tree.{Exp, Expr, Exps, NoExp, MoreExp, Init, Absent, One, Many, Rows, Names, NoName, MoreName, First, NoFirst, FirstExp, FirstNames, Stm, Stmt, Form, Empty, Do, Declare, Block, If, While, DoWhile, For, Break, Continue, Return, Label, Switch, Else, NoElse, OrElse, Stms, NoStm, MoreStm, MoreCase, Program}
+use Rattle.c_core.specs.Types.{promote_of}
+use Rattle.c_core.specs.Typing.{is_default, labels_in}
 use Rattle.c_core.specs.declared.number.IntType.{IntType}
 use Rattle.c_core.specs.declared.number.Spot.{Spot}
+use Rattle.c_core.specs.declared.tree.Label.{Label as ArmLabel}
+use Rattle.c_core.specs.declared.tree.Label.TheVariants.{Case, Default}
 use Rattle.c_meaning.specs.Meaning.{Used, Unused}
-use Rattle.c_meaning.specs.Objects.{spot_of, type_of_object, size_of_object}
+use Rattle.c_meaning.specs.Objects.{spot_of, type_of, type_of_object, size_of_object, columns_of_object}
+use Rattle.c_meaning.specs.Run.{first_label}
 use Rattle.run_state.specs.declared.machine.Around.{Around}
 use Rattle.flow_code.specs.declared.code.Place.TheVariants.{Fixed}
 use Rattle.flow_code.specs.declared.code.Then.TheVariants.{Push, Drop, Branch}
-use Rattle.flow_code.specs.declared.code.Action.TheVariants.{Arrive, Jump, Leave, Declare as DeclareOf, Return as ReturnOf}
+use Rattle.flow_code.specs.declared.code.Action.TheVariants.{Arrive, Convert, Jump, ToCase, ToDefault, Leave, Declare as DeclareOf, Return as ReturnOf}
 use Rattle.flow_code.specs.declared.code.Op.{Op}
+use Rattle.flow_code.specs.declared.sizes.Depth.{Depth}
 use Rattle.flow_code.specs.declared.statements.Inside.{Inside}
-use Rattle.flow_code.specs.Preparing.{followed, op, stored_in, scope, all_closed}
-use Rattle.flow_code.specs.Sizes.{size, size_if, size_of_arm, size_of_test, leaks, any_leaks, first_leaks, one_if}
+use Rattle.flow_code.specs.Preparing.{followed, op, only, stored_in, with_operand, scope, all_closed}
+use Rattle.flow_code.specs.Sizes.{operand_of, size, size_if, size_of_statement, size_of_arm, size_of_selection, size_of_arms, size_of_test, leaks, any_leaks, first_leaks, deep, in_turn, in_arms}
 use Rattle.flow_code.specs.Expressions.{code, stored_code}
 use Rattle.flow_code.specs.Words.{native}
 
@@ -22,11 +28,15 @@ full_of at e = record { statement = at; full = spot_of e }
 
 -- inside one scope more, where it is there
 abbrev pub deeper : Bool → Inside → Inside
-deeper b w = record w { inner = w.inner + one_if b; scopes = w.scopes + one_if b }
+deeper b w = record w { depth = deep b w.depth }
 
 -- in a loop whose body `continue` leads to an address, and `break` to another
 abbrev pub in_loop : ℕ → ℕ → Inside → Inside
-in_loop again broken w = record w { broken = broken; again = again; inner = 0 }
+in_loop again broken w = record w { broken = broken; again = again; depth = in_turn w.depth }
+
+-- among the arms of a `switch`, where `break` leads to an address
+abbrev pub in_switch : ℕ → Inside → Inside
+in_switch broken w = record w { broken = broken; depth = in_arms w.depth }
 
 -- out of so many scopes, to an address
 abbrev pub jump_out : ℕ → ℕ → List Op
@@ -46,7 +56,34 @@ abbrev pub else_jump : Else → ℕ
 else_jump NoElse = 0
 else_jump (OrElse b) = 1
 
+-- where the statements begin behind the label of a number, or end if there are fewer labels, where the first statements begin at an address
+abbrev pub arm_at : Depth → ℕ → ℕ → Stms → ℕ
+arm_at d to n NoStm = to
+arm_at d to n (MoreStm s b) = arm_at d (to + size_of_statement d s) n b
+arm_at d to zero (MoreCase spot l b) = to
+arm_at d to (suc n) (MoreCase spot l b) = arm_at d to n b
+
+-- a value that an arm's constant equals leads to an address
+abbrev pub case_code : Spot → ℕ → ArmLabel → List Op
+case_code at to (Case v) = op 0 (ToCase at v to) ∷ []
+case_code at to Default = []
+
+-- the value on the stack is compared with each constant in turn
+abbrev pub cases_code : Depth → Spot → ℕ → Stms → List Op
+cases_code d at to NoStm = []
+cases_code d at to (MoreStm s b) = cases_code d at (to + size_of_statement d s) b
+cases_code d at to (MoreCase spot l b) = case_code at to l ++ cases_code d at to b
+
+-- the value on the stack chooses one of the arms that begin at an address; any other goes to the `default`, or behind them all
+abbrev pub selection_code : Depth → Spot → ℕ → Stms → List Op
+selection_code d at to b = cases_code d at to b ++ op 0 (ToDefault at (arm_at d to (first_label is_default (labels_in b)) b)) ∷ []
+
 module _ (p : Program) where
+  -- the test of a `switch`, which stays on the stack in its promoted type
+  abbrev pub switch_test_code : ℕ → Spot → Exp → List Op
+  switch_test_code i at e =
+      with_operand (operand_of e) 0 (code p (full_of at e) i 0 Used e Push) (λ y. Convert (native p.model (promote_of (type_of e))) y (only Push))
+
   -- the value of a cell
   abbrev pub initial_code : ℕ → Spot → ℕ → ℕ → Exp → List Op
   initial_code i at o j (Expr s u n) =
@@ -57,11 +94,17 @@ module _ (p : Program) where
   initials_code i at o j NoExp = []
   initials_code i at o j (MoreExp e es) = followed i (initial_code i at o j e) (λ l. initials_code l at o (j + 1) es)
 
+  -- the values of rows, each row from its own cell on
+  abbrev pub rows_code : ℕ → Spot → ℕ → ℕ → List Exps → List Op
+  rows_code i at o j [] = []
+  rows_code i at o j (es ∷ rows) = followed i (initials_code i at o j es) (λ l. rows_code l at o (j + columns_of_object p o) rows)
+
   -- an initializer
   abbrev pub init_code : ℕ → Spot → ℕ → Init → List Op
   init_code i at o Absent = []
   init_code i at o (One e) = initial_code i at o 0 e
   init_code i at o (Many es) = initials_code i at o 0 es
+  init_code i at o (Rows rows) = rows_code i at o 0 rows
 
   -- a declared name: its cells, then its initializer
   abbrev pub name_code : ℕ → Spot → Spot → ℕ → Init → List Op
@@ -109,39 +152,43 @@ module _ (p : Program) where
     form_code i w at (Declare ns) = names_code i at ns
     form_code i w at (Block b) = scope (any_leaks b) i (λ j. block_code j (deeper (any_leaks b) w) b)
     form_code i w at (If e a b) =
-        let to = i + (size e + size_of_arm w.inner w.scopes a + else_jump b) in
+        let to = i + (size e + size_of_arm w.depth a + else_jump b) in
         followed i (followed i (code p (full_of at e) i 0 Used e (Branch at false to)) (λ j. scope (leaks a) j (λ l. statement_code l (deeper (leaks a) w) a))) (λ j. else_code j to w b)
     form_code i w at (While e b) =
-        let again = i + 1 + size_of_arm 0 w.scopes b in
+        let again = i + 1 + size_of_arm (in_turn w.depth) b in
         let v = in_loop again (again + size e) w in
         followed i (followed i (op 0 (Jump again) ∷ []) (λ j. scope (leaks b) j (λ l. statement_code l (deeper (leaks b) v) b))) (λ j. test_code j at (Some e) (i + 1))
     form_code i w at (DoWhile b e) =
-        let again = i + size_of_arm 0 w.scopes b in
+        let again = i + size_of_arm (in_turn w.depth) b in
         let v = in_loop again (again + size e) w in
         followed i (scope (leaks b) i (λ l. statement_code l (deeper (leaks b) v) b)) (λ j. test_code j at (Some e) i)
     form_code i w at (For first e s b) =
         let u = deeper (first_leaks first) w in
         scope (first_leaks first) i (λ l. followed l (first_code l at first) (λ m.
-        let again = m + 1 + size_of_arm 0 u.scopes b in
+        let again = m + 1 + size_of_arm (in_turn u.depth) b in
         let head = again + size_if s in
         let v = in_loop again (head + size_of_test e) u in
         turns m (m + 1) head at e s (λ j. scope (leaks b) j (λ k. statement_code k (deeper (leaks b) v) b))))
-    form_code i w at Break = jump_out w.inner w.broken
-    form_code i w at Continue = jump_out w.inner w.again
-    form_code i w at (Return None) = leaving w.scopes
-    form_code i w at (Return (Some e)) = return_code i at w.result e w.scopes
+    form_code i w at Break = jump_out w.depth.inner w.broken
+    form_code i w at Continue = jump_out w.depth.turn w.again
+    form_code i w at (Return None) = leaving w.depth.scopes
+    form_code i w at (Return (Some e)) = return_code i at w.result e w.depth.scopes
     form_code i w at (Label b) = statement_code i w b
+    form_code i w at (Switch e b) = followed i (switch_test_code i at e) (λ j.
+        let v = deeper (any_leaks b) (in_switch (j + size_of_arms w.depth b) w) in
+        scope (any_leaks b) j (λ l. followed l (selection_code v.depth at (l + size_of_selection b) b) (λ m. block_code m v b)))
 
     -- the second arm, and before it the way of the first around it
     pub else_code : ℕ → ℕ → Inside → Else → List Op
     else_code i to w NoElse = []
     else_code i to w (OrElse b) =
-        followed i (op 0 (Jump (to + size_of_arm w.inner w.scopes b)) ∷ []) (λ j. scope (leaks b) j (λ l. statement_code l (deeper (leaks b) w) b))
+        followed i (op 0 (Jump (to + size_of_arm w.depth b)) ∷ []) (λ j. scope (leaks b) j (λ l. statement_code l (deeper (leaks b) w) b))
 
     -- the statements of a block
     pub block_code : ℕ → Inside → Stms → List Op
     block_code i w NoStm = []
     block_code i w (MoreStm s b) = followed i (statement_code i w s) (λ j. block_code j w b)
+    block_code i w (MoreCase spot l b) = block_code i w b
 
   -- a block, which is a scope if it declares names
   abbrev pub scoped_block : ℕ → Inside → Stms → List Op
@@ -154,6 +201,10 @@ module _ (p : Program) where
   -- the same around a statement
   abbrev pub turns_code : ℕ → Inside → Spot → Option Exp → Option Exp → Stm → List Op
   turns_code i w at e s b =
-      let again = i + 1 + size_of_arm 0 w.scopes b in
+      let again = i + 1 + size_of_arm (in_turn w.depth) b in
       let head = again + size_if s in
       turns i (i + 1) head at e s (λ j. arm_code j (in_loop again (head + size_of_test e) w) b)
+
+  -- the arms of a `switch`, behind the operations that choose one
+  abbrev pub arms_code : ℕ → Inside → Spot → Stms → List Op
+  arms_code i v at b = followed i (selection_code v.depth at (i + size_of_selection b) b) (λ m. block_code m v b)

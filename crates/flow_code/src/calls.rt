@@ -23,9 +23,9 @@ fn argument_goes(callee: Callee) -> Then
     }
 }
 
-// Arguments from left to right, whose values go there; the answer is the steps that are left to take behind them.
+/// Arguments from left to right, whose values go there; the answer is the steps that are left to take behind them.
 #[cycle(expression)]
-fn arguments(
+pub fn arguments(
     program: &Program,
     ops: &mut Seq<Op>,
     steps: u32,

@@ -98,6 +98,14 @@ pub enum Action {
         spot: Spot,
         reads: bool,
     },
+    /// The cell of a row and a column among so many rows and columns, which is left on the stack.
+    Row {
+        rows: u32,
+        columns: u32,
+        left: Operand,
+        right: Operand,
+        spot: Spot,
+    },
     /// An operator that computes in a type; the count of a shift has a type of its own.
     Operate {
         op: BinOp,
@@ -116,6 +124,17 @@ pub enum Action {
         into: Into,
     },
     Jump(u32),
+    /// At a `switch`: where the value on top of the stack is this one, the machine takes it off, reports the way, and goes on at an address.
+    ToCase {
+        at: Spot,
+        value: i128,
+        to: u32,
+    },
+    /// The same whatever the value, by the way of the `default`.
+    ToDefault {
+        at: Spot,
+        to: u32,
+    },
     /// A scope begins; the innermost one ends.
     Open,
     Close,

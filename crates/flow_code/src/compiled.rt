@@ -6,7 +6,7 @@ ghost use Rattle.flow_code.specs.Programs.{IsCodeOf, function_code, functions_co
 
 use crate::code::{Action, Body, Code, Op, Parameter};
 use crate::emit::{ahead, emit, here};
-use crate::sizes::size_of_form;
+use crate::sizes::{outermost, size_of_form};
 use crate::statements::{Inside, form};
 use crate::statics::{cell_counts, first_cells};
 use crate::words::{native, native_if};
@@ -66,15 +66,15 @@ fn functions(alloc: Global, program: &Program, ops: &mut Seq<Op>) -> Result<Seq<
 fn add_body(program: &Program, ops: &mut Seq<Op>, function: &Function) -> Result<(), OutOfMemory>
     ensures { OnOk result (ops.new ≡ ops.old ++ function_code (program_view program.now) (length ops.old) (function_view function.now)) }
 {
-    let size = size_of_form(&function.body.form, 0, 0)?;
+    let depth = outermost();
+    let size = size_of_form(&function.body.form, depth)?;
     emit(ops, 1, Action::Rest)?;
     let leave = ahead(ops, size)?;
     let result = native_if(program.model, function.result);
     let inside = Inside {
         broken: leave,
         again: leave,
-        inner: 0,
-        scopes: 0,
+        depth,
         result,
     };
     let at = function.body.spot;

@@ -1,16 +1,16 @@
 // The code of declared names.
 ghost use Rattle.std.specs.Prelude.{◌≡◌, ◌++◌, length, OnOk};
-ghost use Rattle.c_core.specs.View.{program_view, expr_view, exprs_view, init_view, names_view};
-ghost use Rattle.flow_code.specs.Statements.{names_code, name_code, init_code, initials_code, initial_code};
+ghost use Rattle.c_core.specs.View.{program_view, expr_view, exprs_view, rows_view, init_view, names_view};
+ghost use Rattle.flow_code.specs.Statements.{names_code, name_code, init_code, rows_code, initials_code, initial_code};
 ghost use Rattle.flow_code.specs.Statements as spec;
 
 use crate::code::{Action, Into, Op, Place, Store, Then};
 use crate::emit::{emit, more};
 use crate::targets::stored;
 use crate::words::native;
-use c_core::{Declared, Expr, Init, Program, Spot};
+use c_core::{Declared, Expr, Init, Program, Row, Spot};
 use c_meaning::{size_of_object, type_of_object};
-use run_state::Around;
+use run_state::{Around, columns_of_object};
 use wv_base::{OutOfMemory, Seq};
 
 /// Declared names, each with its cells and its initializer.
@@ -36,6 +36,7 @@ fn draws(init: &Init) -> bool
         Init::Absent => true,
         Init::One(_) => false,
         Init::Many(_) => false,
+        Init::Rows(_) => false,
     }
 }
 
@@ -78,21 +79,42 @@ fn initializer(
     match init {
         Init::Absent => Ok(()),
         Init::One(e) => initial(program, ops, at, object, 0, e),
-        Init::Many(values) => initials(program, ops, at, object, values.as_slice()),
+        Init::Many(values) => initials(program, ops, at, object, 0, values.as_slice()),
+        Init::Rows(rows) => row_initials(program, ops, at, object, rows.as_slice()),
     }
 }
 
-// The values of a list, cell by cell.
+// The values of rows, each row from its own cell on.
+fn row_initials(
+    program: &Program,
+    ops: &mut Seq<Op>,
+    at: Spot,
+    object: u32,
+    rows: &[Row],
+) -> Result<(), OutOfMemory>
+    ensures { OnOk result (ops.new ≡ ops.old ++ rows_code (program_view program.now) (length ops.old) at object 0 (rows_view rows.now)) }
+{
+    let columns = columns_of_object(program, object);
+    let mut index = 0;
+    for row in rows {
+        initials(program, ops, at, object, index, row.values.as_slice())?;
+        index = more(index, columns)?;
+    }
+    Ok(())
+}
+
+// The values of a list, cell by cell from one on.
 fn initials(
     program: &Program,
     ops: &mut Seq<Op>,
     at: Spot,
     object: u32,
+    start: u32,
     values: &[Expr],
 ) -> Result<(), OutOfMemory>
-    ensures { OnOk result (ops.new ≡ ops.old ++ initials_code (program_view program.now) (length ops.old) at object 0 (exprs_view values.now)) }
+    ensures { OnOk result (ops.new ≡ ops.old ++ initials_code (program_view program.now) (length ops.old) at object start (exprs_view values.now)) }
 {
-    let mut index = 0;
+    let mut index = start;
     for e in values {
         initial(program, ops, at, object, index, e)?;
         index = more(index, 1)?;

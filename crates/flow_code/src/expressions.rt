@@ -1,7 +1,7 @@
 // The code of expressions. `steps` are those that the expression's first operation takes besides its own.
 ghost use Rattle.std.specs.Prelude.{◌≡◌, ◌++◌, length, None, Some, OnOk};
 ghost use Rattle.c_core.specs.Tree as t;
-ghost use Rattle.c_core.specs.View.{program_view, expr_view};
+ghost use Rattle.c_core.specs.View.{program_view, expr_view, exprs_view};
 ghost use Rattle.c_meaning.specs.Meaning.{Used};
 ghost use Rattle.run_state.specs.Interpreting.{use_of};
 ghost use Rattle.flow_code.specs.Expressions.{code, node_code};
@@ -10,6 +10,7 @@ ghost use Rattle.flow_code.specs.Preparing as preparing;
 use crate::calls::call;
 use crate::choices::{choose, logic};
 use crate::code::{Action, Into, Op, Operand, Source, Then};
+use crate::elements::element_cell;
 use crate::emit::{emit, give, more, only};
 use crate::operands::{operate, prepare, prepare_both};
 use crate::targets::{assign, step};
@@ -36,7 +37,16 @@ pub fn expression(
     match &e.node {
         Node::Const(value) => give(ops, sum, Operand::Number(*value), then),
         Node::Var(object) => give(ops, sum, Operand::Cell(*object), then),
-        Node::Index { object, at } => element(program, ops, sum, around, e.spot, *object, at, then),
+        Node::Index { object, at } => element(
+            program,
+            ops,
+            sum,
+            around,
+            e.spot,
+            *object,
+            at.as_slice(),
+            then,
+        ),
         Node::Unary { op, of } => unary(program, ops, sum, around, e.spot, *op, of, then),
         Node::Cast(of) => cast(program, ops, sum, around, e.ty, of, then),
         Node::Step { op, target } => step(program, ops, sum, around, e.spot, *op, target, then),
@@ -115,12 +125,12 @@ fn element(
     around: Around,
     spot: Spot,
     object: u32,
-    at: &Expr,
+    indexes: &[Expr],
     then: Then,
 ) -> Result<(), OutOfMemory>
-    ensures { OnOk result (ops.new ≡ ops.old ++ node_code (program_view program.now) around (length ops.old) steps Used spot None (t.Index object (expr_view at.now)) (preparing.only then)) }
+    ensures { OnOk result (ops.new ≡ ops.old ++ node_code (program_view program.now) around (length ops.old) steps Used spot None (t.Index object (exprs_view indexes.now)) (preparing.only then)) }
 {
-    let found = prepare(program, ops, steps, around, at)?;
+    let found = element_cell(program, ops, steps, around, spot, object, indexes)?;
     let size = size_of_object(program, object);
     let into = only(then);
     emit(

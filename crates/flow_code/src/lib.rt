@@ -6,6 +6,7 @@ mod choices;
 mod code;
 mod compiled;
 mod declarations;
+mod elements;
 mod emit;
 mod expressions;
 mod loops;
@@ -13,6 +14,7 @@ mod operands;
 mod sizes;
 mod statements;
 mod statics;
+mod switches;
 mod targets;
 mod words;
 

@@ -9,7 +9,7 @@ use crate::code::{Action, Op, Then};
 use crate::declarations::declare;
 use crate::emit::{ahead, emit, here, more};
 use crate::expressions::expression;
-use crate::sizes::{first_leaks, size, size_if, size_of_arm, size_of_test};
+use crate::sizes::{first_leaks, in_turn, size, size_if, size_of_arm, size_of_test};
 use crate::statements::{Inside, arm, close_scope, deeper, full_of, open_scope};
 use c_core::{Expr, First, Program, Spot, Stmt};
 use wv_base::{OutOfMemory, Seq};
@@ -21,8 +21,7 @@ fn in_loop(inside: Inside, again: u32, broken: u32) -> Inside
     Inside {
         broken,
         again,
-        inner: 0,
-        scopes: inside.scopes,
+        depth: in_turn(inside.depth),
         result: inside.result,
     }
 }
@@ -56,7 +55,7 @@ pub fn while_loop(
     ensures { OnOk result (ops.new ≡ ops.old ++ form_code (program_view program.now) (length ops.old) inside at (t.While (expr_view test.now) (stmt_view body.now))) }
 {
     let start = ahead(ops, 1)?;
-    let turn = size_of_arm(body, 0, inside.scopes)?;
+    let turn = size_of_arm(body, in_turn(inside.depth))?;
     let tested = size(test)?;
     let again = more(start, turn)?;
     let broken = more(again, tested)?;
@@ -80,7 +79,7 @@ pub fn do_loop(
     ensures { OnOk result (ops.new ≡ ops.old ++ form_code (program_view program.now) (length ops.old) inside at (t.DoWhile (stmt_view body.now) (expr_view test.now))) }
 {
     let start = here(ops)?;
-    let turn = size_of_arm(body, 0, inside.scopes)?;
+    let turn = size_of_arm(body, in_turn(inside.depth))?;
     let tested = size(test)?;
     let again = more(start, turn)?;
     let broken = more(again, tested)?;
@@ -169,7 +168,7 @@ fn turns(
     ensures { OnOk result (ops.new ≡ ops.old ++ turns_code (program_view program.now) (length ops.old) inside at (expr_view_if test.now) (expr_view_if step.now) (stmt_view body.now)) }
 {
     let start = ahead(ops, 1)?;
-    let turn = size_of_arm(body, 0, inside.scopes)?;
+    let turn = size_of_arm(body, in_turn(inside.depth))?;
     let last = size_if(step)?;
     let tested = size_of_test(test)?;
     let again = more(start, turn)?;

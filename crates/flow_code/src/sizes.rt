@@ -2,13 +2,69 @@
 // often as it is deep, and the front end bounds the depth.
 ghost use Rattle.std.specs.Prelude.{◌≡◌, ◌+◌, None, IfOk};
 ghost use Rattle.c_core.specs.Tree as t;
-ghost use Rattle.c_core.specs.View.{expr_view, exprs_view, node_view, expr_view_if, init_view, names_view, first_view, form_view, stmt_view, stmts_view};
+ghost use Rattle.c_core.specs.View.{expr_view, exprs_view, rows_view, node_view, expr_view_if, init_view, names_view, first_view, form_view, stmt_view, stmts_view, switch_view};
 ghost use Rattle.run_state.specs.Interpreting.{else_part};
 ghost use Rattle.flow_code.specs.Sizes as spec;
 
 use crate::emit::{more, one_if, operand_of};
-use c_core::{BinOp, Callee, Declared, Expr, First, Form, Init, Node, Stmt};
+use c_core::{Arm, BinOp, Callee, Declared, Expr, First, Form, Init, Label, Node, Row, Stmt};
 use wv_base::OutOfMemory;
+
+/// The scopes that are open: in what `break` leaves, in a turn of the innermost loop, in the function.
+#[derive(Clone, Copy)]
+pub struct Depth {
+    pub inner: u32,
+    pub turn: u32,
+    pub scopes: u32,
+}
+
+/// Where nothing is open.
+pub fn outermost() -> Depth
+    ensures { result ≡ spec.outermost }
+{
+    Depth {
+        inner: 0,
+        turn: 0,
+        scopes: 0,
+    }
+}
+
+/// Inside one scope more, where it is there.
+pub fn deep(there: bool, depth: Depth) -> Result<Depth, OutOfMemory>
+    ensures { IfOk result (λ d. d ≡ spec.deep there depth) }
+{
+    let by = one_if(there);
+    let inner = more(depth.inner, by)?;
+    let turn = more(depth.turn, by)?;
+    let scopes = more(depth.scopes, by)?;
+    Ok(Depth {
+        inner,
+        turn,
+        scopes,
+    })
+}
+
+/// At the start of a loop's turn.
+pub fn in_turn(depth: Depth) -> Depth
+    ensures { result ≡ spec.in_turn depth }
+{
+    Depth {
+        inner: 0,
+        turn: 0,
+        scopes: depth.scopes,
+    }
+}
+
+/// At the arms of a `switch`.
+pub fn in_arms(depth: Depth) -> Depth
+    ensures { result ≡ spec.in_arms depth }
+{
+    Depth {
+        inner: 0,
+        turn: depth.turn,
+        scopes: depth.scopes,
+    }
+}
 
 // The sum of three.
 fn all(a: u32, b: u32, c: u32) -> Result<u32, OutOfMemory>
@@ -27,7 +83,7 @@ pub fn size(e: &Expr) -> Result<u32, OutOfMemory>
     match &e.node {
         Node::Const(_) => Ok(1),
         Node::Var(_) => Ok(1),
-        Node::Index { at, .. } => size_with_one(at),
+        Node::Index { at, .. } => size_of_element(at.as_slice()),
         Node::Unary { of, .. } => size_with_one(of),
         Node::Cast(of) => match e.ty {
             None => size(of),
@@ -87,6 +143,28 @@ fn size_of_assign(op: Option<BinOp>, target: &Expr, from: &Expr) -> Result<u32, 
         Some(_) => {
             let value = size_of_second(target, from)?;
             let sum = more(aim, value)?;
+            Ok(sum)
+        }
+    }
+}
+
+// The code of an element's indexes, and an operation that takes the cell.
+#[cycle(size)]
+fn size_of_element(indexes: &[Expr]) -> Result<u32, OutOfMemory>
+    ensures { IfOk result (λ n. n ≡ spec.size_of_element (exprs_view indexes.now)) }
+{
+    match indexes {
+        [] => Ok(1),
+        [index] => size_with_one(index),
+        [row, column] => {
+            let both = size_with_two(row, column)?;
+            let sum = more(both, 1)?;
+            Ok(sum)
+        }
+        // no element of a checked program
+        _ => {
+            let all = size_of_all(indexes)?;
+            let sum = more(all, 1)?;
             Ok(sum)
         }
     }
@@ -166,7 +244,7 @@ fn size_of_aim(target: &Expr) -> Result<u32, OutOfMemory>
     ensures { IfOk result (λ n. n ≡ spec.size_of_aim (expr_view target.now)) }
 {
     match &target.node {
-        Node::Index { at, .. } => size_with_one(at),
+        Node::Index { at, .. } => size_of_element(at.as_slice()),
         _ => Ok(0),
     }
 }
@@ -210,6 +288,18 @@ pub fn any_leaks(body: &[Stmt]) -> bool
 {
     for s in body {
         if leaks(s) {
+            return true;
+        }
+    }
+    false
+}
+
+/// Does any statement of these arms?
+pub fn any_arm_leaks(arms: &[Arm]) -> bool
+    ensures { result ≡ spec.any_leaks (switch_view arms.now) }
+{
+    for arm in arms {
+        if any_leaks(arm.body.as_slice()) {
             return true;
         }
     }
@@ -269,6 +359,17 @@ fn size_of_values(values: &[Expr]) -> Result<u32, OutOfMemory>
     Ok(sum)
 }
 
+fn size_of_rows(rows: &[Row]) -> Result<u32, OutOfMemory>
+    ensures { IfOk result (λ n. n ≡ spec.size_of_rows (rows_view rows.now)) }
+{
+    let mut sum = 0;
+    for row in rows {
+        let one = size_of_values(row.values.as_slice())?;
+        sum = more(sum, one)?;
+    }
+    Ok(sum)
+}
+
 fn size_of_init(init: &Init) -> Result<u32, OutOfMemory>
     ensures { IfOk result (λ n. n ≡ spec.size_of_init (init_view init.now)) }
 {
@@ -276,6 +377,7 @@ fn size_of_init(init: &Init) -> Result<u32, OutOfMemory>
         Init::Absent => Ok(0),
         Init::One(e) => size_stored(e),
         Init::Many(values) => size_of_values(values.as_slice()),
+        Init::Rows(rows) => size_of_rows(rows.as_slice()),
     }
 }
 
@@ -301,61 +403,60 @@ fn size_of_first(first: &First) -> Result<u32, OutOfMemory>
     }
 }
 
-/// A statement's code, where so many scopes are open in the innermost loop and in the function.
+/// A statement's code, where so many scopes are open.
 #[cycle(size_of_statement)]
-pub fn size_of_statement(s: &Stmt, inner: u32, scopes: u32) -> Result<u32, OutOfMemory>
-    ensures { IfOk result (λ n. n ≡ spec.size_of_statement inner scopes (stmt_view s.now)) }
+pub fn size_of_statement(s: &Stmt, depth: Depth) -> Result<u32, OutOfMemory>
+    ensures { IfOk result (λ n. n ≡ spec.size_of_statement depth (stmt_view s.now)) }
 {
-    let form = size_of_form(&s.form, inner, scopes)?;
+    let form = size_of_form(&s.form, depth)?;
     let sum = more(form, 1)?;
     Ok(sum)
 }
 
 /// The code of a form, without the step and the event of its statement.
 #[cycle(size_of_statement)]
-pub fn size_of_form(form: &Form, inner: u32, scopes: u32) -> Result<u32, OutOfMemory>
-    ensures { IfOk result (λ n. n ≡ spec.size_of_form inner scopes (form_view form.now)) }
+pub fn size_of_form(form: &Form, depth: Depth) -> Result<u32, OutOfMemory>
+    ensures { IfOk result (λ n. n ≡ spec.size_of_form depth (form_view form.now)) }
 {
     match form {
         Form::Empty => Ok(0),
         Form::Expr(e) => size(e),
         Form::Declare(names) => size_of_names(names.as_slice()),
-        Form::Block(body) => size_of_block(body.as_slice(), inner, scopes),
-        Form::If { test, yes, no } => size_of_choice(test, yes, no, inner, scopes),
+        Form::Block(body) => size_of_block(body.as_slice(), depth),
+        Form::If { test, yes, no } => size_of_choice(test, yes, no, depth),
         Form::While { test, body } => {
-            let loop_size = size_of_loop(test, body, scopes)?;
+            let loop_size = size_of_loop(test, body, depth)?;
             let sum = more(loop_size, 1)?;
             Ok(sum)
         }
-        Form::Do { body, test } => size_of_loop(test, body, scopes),
+        Form::Do { body, test } => size_of_loop(test, body, depth),
         Form::For {
             first,
             test,
             step,
             body,
-        } => size_of_for(first, test, step, body, scopes),
-        Form::Break => more(inner, 1),
-        Form::Continue => more(inner, 1),
-        Form::Return(None) => more(scopes, 1),
+        } => size_of_for(first, test, step, body, depth),
+        Form::Break => more(depth.inner, 1),
+        Form::Continue => more(depth.turn, 1),
+        Form::Return(None) => more(depth.scopes, 1),
         Form::Return(Some(e)) => {
             let value = size(e)?;
-            let sum = all(value, scopes, 1)?;
+            let sum = all(value, depth.scopes, 1)?;
             Ok(sum)
         }
-        Form::Label(s) => size_of_statement(s, inner, scopes),
+        Form::Label(s) => size_of_statement(s, depth),
+        Form::Switch { test, arms } => size_of_switch(test, arms.as_slice(), depth),
     }
 }
 
 /// A statement that is a scope of its own, if it declares names.
 #[cycle(size_of_statement)]
-pub fn size_of_arm(s: &Stmt, inner: u32, scopes: u32) -> Result<u32, OutOfMemory>
-    ensures { IfOk result (λ n. n ≡ spec.size_of_arm inner scopes (stmt_view s.now)) }
+pub fn size_of_arm(s: &Stmt, depth: Depth) -> Result<u32, OutOfMemory>
+    ensures { IfOk result (λ n. n ≡ spec.size_of_arm depth (stmt_view s.now)) }
 {
     let there = leaks(s);
-    let by = one_if(there);
-    let inner_here = more(inner, by)?;
-    let scopes_here = more(scopes, by)?;
-    let size = size_of_statement(s, inner_here, scopes_here)?;
+    let within = deep(there, depth)?;
+    let size = size_of_statement(s, within)?;
     let sum = with_scope(there, size)?;
     Ok(sum)
 }
@@ -365,26 +466,25 @@ fn size_of_choice(
     test: &Expr,
     yes: &Stmt,
     no: &Option<Box<Stmt>>,
-    inner: u32,
-    scopes: u32,
+    depth: Depth,
 ) -> Result<u32, OutOfMemory>
-    ensures { IfOk result (λ n. n ≡ spec.size_of_form inner scopes (t.If (expr_view test.now) (stmt_view yes.now) (else_part no.now))) }
+    ensures { IfOk result (λ n. n ≡ spec.size_of_form depth (t.If (expr_view test.now) (stmt_view yes.now) (else_part no.now))) }
 {
     let tested = size(test)?;
-    let first = size_of_arm(yes, inner, scopes)?;
-    let second = size_of_else(no, inner, scopes)?;
+    let first = size_of_arm(yes, depth)?;
+    let second = size_of_else(no, depth)?;
     let sum = all(tested, first, second)?;
     Ok(sum)
 }
 
 #[cycle(size_of_statement)]
-fn size_of_else(no: &Option<Box<Stmt>>, inner: u32, scopes: u32) -> Result<u32, OutOfMemory>
-    ensures { IfOk result (λ n. n ≡ spec.size_of_else inner scopes (else_part no.now)) }
+fn size_of_else(no: &Option<Box<Stmt>>, depth: Depth) -> Result<u32, OutOfMemory>
+    ensures { IfOk result (λ n. n ≡ spec.size_of_else depth (else_part no.now)) }
 {
     match no {
         None => Ok(0),
         Some(no) => {
-            let arm = size_of_arm(no, inner, scopes)?;
+            let arm = size_of_arm(no, depth)?;
             let sum = more(arm, 1)?;
             Ok(sum)
         }
@@ -393,35 +493,34 @@ fn size_of_else(no: &Option<Box<Stmt>>, inner: u32, scopes: u32) -> Result<u32, 
 
 // A loop's body and its test.
 #[cycle(size_of_statement)]
-fn size_of_loop(test: &Expr, body: &Stmt, scopes: u32) -> Result<u32, OutOfMemory>
-    ensures { IfOk result (λ n. n ≡ spec.size (expr_view test.now) + spec.size_of_arm 0 scopes (stmt_view body.now)) }
+fn size_of_loop(test: &Expr, body: &Stmt, depth: Depth) -> Result<u32, OutOfMemory>
+    ensures { IfOk result (λ n. n ≡ spec.size (expr_view test.now) + spec.size_of_arm (spec.in_turn depth) (stmt_view body.now)) }
 {
     let tested = size(test)?;
-    let arm = size_of_arm(body, 0, scopes)?;
+    let arm = size_of_arm(body, in_turn(depth))?;
     let sum = more(tested, arm)?;
     Ok(sum)
 }
 
 #[cycle(size_of_statement)]
-fn size_of_block(body: &[Stmt], inner: u32, scopes: u32) -> Result<u32, OutOfMemory>
-    ensures { IfOk result (λ n. n ≡ spec.size_of_form inner scopes (t.Block (stmts_view body.now))) }
+fn size_of_block(body: &[Stmt], depth: Depth) -> Result<u32, OutOfMemory>
+    ensures { IfOk result (λ n. n ≡ spec.size_of_form depth (t.Block (stmts_view body.now))) }
 {
     let there = any_leaks(body);
-    let by = one_if(there);
-    let inner_here = more(inner, by)?;
-    let scopes_here = more(scopes, by)?;
-    let size = size_of_statements(body, inner_here, scopes_here)?;
+    let within = deep(there, depth)?;
+    let size = size_of_statements(body, within)?;
     let sum = with_scope(there, size)?;
     Ok(sum)
 }
 
+/// The statements of a block.
 #[cycle(size_of_statement)]
-fn size_of_statements(body: &[Stmt], inner: u32, scopes: u32) -> Result<u32, OutOfMemory>
-    ensures { IfOk result (λ n. n ≡ spec.size_of_block inner scopes (stmts_view body.now)) }
+pub fn size_of_statements(body: &[Stmt], depth: Depth) -> Result<u32, OutOfMemory>
+    ensures { IfOk result (λ n. n ≡ spec.size_of_block depth (stmts_view body.now)) }
 {
     let mut sum = 0;
     for s in body {
-        let one = size_of_statement(s, inner, scopes)?;
+        let one = size_of_statement(s, depth)?;
         sum = more(sum, one)?;
     }
     Ok(sum)
@@ -433,18 +532,76 @@ fn size_of_for(
     test: &Option<Expr>,
     step: &Option<Expr>,
     body: &Stmt,
-    scopes: u32,
+    depth: Depth,
 ) -> Result<u32, OutOfMemory>
-    ensures { IfOk result (λ n. n ≡ spec.size_of_form 0 scopes (t.For (first_view first.now) (expr_view_if test.now) (expr_view_if step.now) (stmt_view body.now))) }
+    ensures { IfOk result (λ n. n ≡ spec.size_of_form depth (t.For (first_view first.now) (expr_view_if test.now) (expr_view_if step.now) (stmt_view body.now))) }
 {
     let there = first_leaks(first);
     let begins = size_of_first(first)?;
-    let scopes_here = more(scopes, one_if(there))?;
-    let arm = size_of_arm(body, 0, scopes_here)?;
+    let within = deep(there, depth)?;
+    let arm = size_of_arm(body, in_turn(within))?;
     let last = size_if(step)?;
     let tested = size_of_test(test)?;
     let turn = all(arm, last, tested)?;
     let whole = all(begins, turn, 1)?;
     let sum = with_scope(there, whole)?;
+    Ok(sum)
+}
+
+// The operation that compares a value with a label's constant.
+fn size_of_label(label: Label) -> u32
+    ensures { result ≡ spec.size_of_label label }
+{
+    match label {
+        Label::Case(_) => 1,
+        Label::Default => 0,
+    }
+}
+
+/// The operations that choose one of these arms.
+pub fn size_of_selection(arms: &[Arm]) -> Result<u32, OutOfMemory>
+    ensures { IfOk result (λ n. n ≡ spec.size_of_selection (switch_view arms.now)) }
+{
+    let mut sum = 1;
+    for arm in arms {
+        sum = more(sum, size_of_label(arm.label))?;
+    }
+    Ok(sum)
+}
+
+#[cycle(size_of_statement)]
+fn size_of_switch(test: &Expr, arms: &[Arm], depth: Depth) -> Result<u32, OutOfMemory>
+    ensures { IfOk result (λ n. n ≡ spec.size_of_form depth (t.Switch (expr_view test.now) (switch_view arms.now))) }
+{
+    let tested = size_with_one(test)?;
+    let rest = size_of_arms(arms, depth)?;
+    let sum = more(tested, rest)?;
+    Ok(sum)
+}
+
+/// Arms, behind the operations that choose one.
+#[cycle(size_of_statement)]
+pub fn size_of_arms(arms: &[Arm], depth: Depth) -> Result<u32, OutOfMemory>
+    ensures { IfOk result (λ n. n ≡ spec.size_of_arms depth (switch_view arms.now)) }
+{
+    let there = any_arm_leaks(arms);
+    let within = deep(there, in_arms(depth))?;
+    let selection = size_of_selection(arms)?;
+    let bodies = size_of_bodies(arms, within)?;
+    let inner = more(selection, bodies)?;
+    let sum = with_scope(there, inner)?;
+    Ok(sum)
+}
+
+// The statements of arms.
+#[cycle(size_of_statement)]
+fn size_of_bodies(arms: &[Arm], depth: Depth) -> Result<u32, OutOfMemory>
+    ensures { IfOk result (λ n. n ≡ spec.size_of_block depth (switch_view arms.now)) }
+{
+    let mut sum = 0;
+    for arm in arms {
+        let one = size_of_statements(arm.body.as_slice(), depth)?;
+        sum = more(sum, one)?;
+    }
     Ok(sum)
 }

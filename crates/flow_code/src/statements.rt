@@ -9,22 +9,21 @@ ghost use Rattle.flow_code.specs.Statements as spec;
 
 use crate::code::{Action, Op, Then};
 use crate::declarations::declare;
-use crate::emit::{ahead, emit, more, one_if};
+use crate::emit::{ahead, emit, more};
 use crate::expressions::expression;
 use crate::loops::{do_loop, for_loop, while_loop};
-use crate::sizes::{any_leaks, leaks, size, size_of_arm};
+use crate::sizes::{Depth, any_leaks, deep, leaks, size, size_of_arm};
+use crate::switches::switch;
 use c_core::{Expr, Form, IntType, Program, Spot, Stmt};
 use run_state::Around;
 use wv_base::{OutOfMemory, Seq};
 
-/// Where a statement stands: the addresses at which `break` and `continue` go on, the scopes that are open in the innermost loop and in
-/// the function, and the function's result.
+/// Where a statement stands: the addresses at which `break` and `continue` go on, the scopes that are open, and the function's result.
 #[derive(Clone, Copy)]
 pub struct Inside {
     pub broken: u32,
     pub again: u32,
-    pub inner: u32,
-    pub scopes: u32,
+    pub depth: Depth,
     pub result: Option<IntType>,
 }
 
@@ -32,14 +31,11 @@ pub struct Inside {
 pub fn deeper(inside: Inside, there: bool) -> Result<Inside, OutOfMemory>
     ensures { IfOk result (λ w. w ≡ spec.deeper there inside) }
 {
-    let by = one_if(there);
-    let inner = more(inside.inner, by)?;
-    let scopes = more(inside.scopes, by)?;
+    let depth = deep(there, inside.depth)?;
     Ok(Inside {
         broken: inside.broken,
         again: inside.again,
-        inner,
-        scopes,
+        depth,
         result: inside.result,
     })
 }
@@ -128,11 +124,12 @@ pub fn form(
             step,
             body,
         } => for_loop(program, ops, inside, at, first, test, step, body),
-        Form::Break => jump_out(ops, inside.inner, inside.broken),
-        Form::Continue => jump_out(ops, inside.inner, inside.again),
-        Form::Return(None) => leave(ops, inside.scopes),
+        Form::Break => jump_out(ops, inside.depth.inner, inside.broken),
+        Form::Continue => jump_out(ops, inside.depth.turn, inside.again),
+        Form::Return(None) => leave(ops, inside.depth.scopes),
         Form::Return(Some(e)) => give_back(program, ops, inside, at, e),
         Form::Label(s) => statement(program, ops, inside, s),
+        Form::Switch { test, arms } => { switch(program, ops, inside, at, test, arms.as_slice()) }
     }
 }
 
@@ -162,11 +159,11 @@ fn give_back(
     at: Spot,
     e: &Expr,
 ) -> Result<(), OutOfMemory>
-    ensures { OnOk result (ops.new ≡ ops.old ++ return_code (program_view program.now) (length ops.old) at inside.result (expr_view e.now) inside.scopes) }
+    ensures { OnOk result (ops.new ≡ ops.old ++ return_code (program_view program.now) (length ops.old) at inside.result (expr_view e.now) inside.depth.scopes) }
 {
     let around = full_of(at, e);
     expression(program, ops, 0, around, true, e, Then::Push)?;
-    close_all(ops, inside.scopes)?;
+    close_all(ops, inside.depth.scopes)?;
     emit(ops, 0, Action::Return(inside.result))?;
     Ok(())
 }
@@ -189,9 +186,9 @@ fn block(
     Ok(())
 }
 
-// The statements of a block in their order.
+/// The statements of a block in their order.
 #[cycle(statement)]
-fn sequence(
+pub fn sequence(
     program: &Program,
     ops: &mut Seq<Op>,
     inside: Inside,
@@ -247,7 +244,7 @@ fn choose(
     ensures { OnOk result (ops.new ≡ ops.old ++ form_code (program_view program.now) (length ops.old) inside at (t.If (expr_view test.now) (stmt_view yes.now) (else_part no.now))) }
 {
     let tested = size(test)?;
-    let taken = size_of_arm(yes, inside.inner, inside.scopes)?;
+    let taken = size_of_arm(yes, inside.depth)?;
     let jump = else_jump(no);
     let both = more(tested, taken)?;
     let first = more(both, jump)?;
@@ -287,7 +284,7 @@ fn second_arm(
 ) -> Result<(), OutOfMemory>
     ensures { OnOk result (ops.new ≡ ops.old ++ else_code (program_view program.now) (length ops.old) to inside (t.OrElse (stmt_view s.now))) }
 {
-    let taken = size_of_arm(s, inside.inner, inside.scopes)?;
+    let taken = size_of_arm(s, inside.depth)?;
     let end = more(to, taken)?;
     emit(ops, 0, Action::Jump(end))?;
     arm(program, ops, inside, s)?;

@@ -11,6 +11,7 @@ ghost use Rattle.flow_code.specs.Preparing.{stored_in};
 ghost use Rattle.flow_code.specs.Words as words;
 
 use crate::code::{Action, Into, Op, Operand, Place, Source, Store, Then};
+use crate::elements::element_cell;
 use crate::emit::{emit, more};
 use crate::expressions::binary;
 use crate::operands::{Pair, Prepared, operate, prepare, prepare_second};
@@ -73,7 +74,8 @@ fn aim(
     let sum = more(steps, 1)?;
     match &target.node {
         Node::Index { object, at } => {
-            let found = prepare(program, ops, sum, around, at)?;
+            let indexes = at.as_slice();
+            let found = element_cell(program, ops, sum, around, target.spot, *object, indexes)?;
             let size = size_of_object(program, *object);
             emit(
                 ops,

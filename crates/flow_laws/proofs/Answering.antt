@@ -1,5 +1,5 @@
 -- What actions compute, in the words of the meaning: a code has its program's model and property.
-use Rattle.std.proofs.Common.{◌≡◌, ℕ, ℤ, Bool, false, List, Option, Some, None, refl, ap, ◌∙◌}
+use Rattle.std.proofs.Common.{◌≡◌, ℕ, ℤ, pos, Bool, false, List, ◌∷◌, Option, Some, None, refl, ap, ◌∙◌}
 use Rattle.c_core.specs.Types.{fit, promote_of}
 use Rattle.c_core.specs.Operators.{apply_of, apply_one_of, type_for, right_type_for}
 use Rattle.c_core.specs.Tree.{Program}
@@ -14,10 +14,10 @@ use Rattle.c_core.specs.declared.number.Property.TheVariants.{UnreachCall, NoOve
 use Rattle.c_core.specs.declared.number.Spot.{Spot}
 use Rattle.c_meaning.specs.declared.run.Event.{Event}
 use Rattle.c_meaning.specs.Cells.{Cell, read}
-use Rattle.c_meaning.specs.Acts.{bind}
+use Rattle.c_meaning.specs.Acts.{Go, bind}
 use Rattle.c_meaning.specs.Meaning.{Site, Where}
 use Rattle.c_meaning.specs.Eval.{operate}
-use Rattle.c_meaning.specs.Run.{State, index_below}
+use Rattle.c_meaning.specs.Run.{State, index_below, in_row}
 use Rattle.c_meaning.specs.Run as run
 use Rattle.c_meaning.specs.Watching.{seen_by}
 use Rattle.run_state.specs.Interpreting.{where_of}
@@ -25,7 +25,7 @@ use Rattle.run_state.specs.declared.machine.Around.{Around}
 use Rattle.flow_code.specs.declared.code.Place.{Place}
 use Rattle.flow_code.specs.declared.code.Then.{Then}
 use Rattle.flow_code.specs.declared.code.Into.{Into}
-use Rattle.flow_code.specs.declared.code.Action.TheVariants.{Convert, Look, Aim, OperateOne}
+use Rattle.flow_code.specs.declared.code.Action.TheVariants.{Convert, Look, Aim, Row, OperateOne}
 use Rattle.flow_code.specs.declared.code.Code.{Code}
 use Rattle.flow_code.specs.Preparing.{only, stored_in}
 use Rattle.flow_code.specs.Expressions.{source, operator}
@@ -72,6 +72,15 @@ module _ (p : Program) (c : Code) (S : Type 0) (after : Event → List Cell → 
       → Takes p c S after n (λ y. Aim o size y spot reads) (λ v κ t. bind (run.key_of p S (seen_by after) spot o (index_below size v) t) (λ i u. aimed c S after reads i κ.stack κ u))
   aim_takes o size spot reads y κ s =
       ap (λ r. bind r (λ i u. aimed c S after reads i (stack_of y κ.stack) κ u)) (key_as spot o (index_below size (value_of y κ.stack s.cells)) s)
+
+  -- the cell of a row and a column
+  pub row_takes : (rows columns : ℕ) (spot : Spot)
+      → TakesBoth p c S after n (λ y z. Row rows columns y z spot)
+      (λ v w κ t. bind (run.key_of p S (seen_by after) spot 0 (in_row columns (index_below rows v) (index_below columns w)) t) (λ i u. Go (record κ { stack = pos i.index ∷ κ.stack }) u))
+  row_takes rows columns spot a b κ s =
+      let w = value_of b κ.stack s.cells in
+      let v = value_of a (stack_of b κ.stack) s.cells in
+      ap (λ r. bind r (λ i u. Go (record κ { stack = pos i.index ∷ stack_of a (stack_of b κ.stack) }) u)) (key_as spot 0 (in_row columns (index_below rows v) (index_below columns w)) s)
 
   -- a conversion
   pub convert_takes : (ty : IntType) (x : Into) → Takes p c S after n (λ y. Convert (native p.model ty) y x) (λ v κ t. finished c S after (fit p.model ty v) (fit p.model ty v) x κ t)

@@ -1,5 +1,6 @@
 -- An action looks neither at the steps that are left nor at what was seen, and ends no run as spent.
 use Rattle.std.proofs.Common.{◌≡◌, ℕ, zero, suc, ◌+◌, ◌-◌, ℤ, pos, Bool, true, false, cond, not, List, [], ◌∷◌, ◌++◌, length, take, drop, Option, Some, None, slice_get, nat_le, refl, sym, ap, ◌∙◌}
+use Rattle.std.specs.Ordering.{int_eq}
 use Rattle.c_core.specs.Types.{fit, is_zero, number_of}
 use Rattle.c_core.specs.Operators.{apply_of, apply_one_of}
 use Rattle.c_core.specs.declared.number.DataModel.TheVariants.{Lp64}
@@ -15,16 +16,18 @@ use Rattle.c_meaning.specs.declared.run.End.{End}
 use Rattle.c_meaning.specs.declared.run.End.TheVariants.{Spent, Undefined, Violated, Deep}
 use Rattle.c_meaning.specs.declared.run.Event.{Event}
 use Rattle.c_meaning.specs.declared.run.Event.TheVariants.{At, Branch as Branched, Enter as Entered, Return as Returned, Fail}
+use Rattle.c_meaning.specs.declared.run.Way.{Way}
+use Rattle.c_meaning.specs.declared.run.Way.TheVariants.{Case as ByCase, Default as ByDefault}
 use Rattle.c_meaning.specs.Acts.{Res, Go, Stop, bind}
 use Rattle.c_meaning.specs.Cells.{Cell, Key, put, read, cells_from}
 use Rattle.c_meaning.specs.Meaning.{Site, Where}
-use Rattle.c_meaning.specs.Run.{State, with_cells, index_below}
+use Rattle.c_meaning.specs.Run.{State, with_cells, index_below, in_row}
 use Rattle.c_meaning.specs.Run as run
 use Rattle.c_meaning.specs.Watching.{seen_by}
 use Rattle.run_state.specs.declared.machine.CallSite.{CallSite}
 use Rattle.run_state.specs.Interpreting.{where_of, site_of}
 use Rattle.flow_code.specs.declared.code.Action.{Action}
-use Rattle.flow_code.specs.declared.code.Action.TheVariants.{Rest, Arrive, Give, Truth, Convert, Look, Aim, Operate, OperateOne, Jump, Open, Close, Declare, Enter, Call, Input, Reach, End as EndHere, Leave, Return}
+use Rattle.flow_code.specs.declared.code.Action.TheVariants.{Rest, Arrive, Give, Truth, Convert, Look, Aim, Row, Operate, OperateOne, Jump, ToCase, ToDefault, Open, Close, Declare, Enter, Call, Input, Reach, End as EndHere, Leave, Return}
 use Rattle.flow_code.specs.declared.code.Body.{Body}
 use Rattle.flow_code.specs.declared.code.Code.{Code}
 use Rattle.flow_code.specs.declared.code.Into.{Into}
@@ -35,7 +38,7 @@ use Rattle.flow_code.specs.declared.code.Then.TheVariants.{Push, Drop, Skip, Bra
 use Rattle.flow_code.specs.Words.{type_of_word}
 use Rattle.flow_laws.specs.declared.frame.Frame.{Frame}
 use Rattle.flow_laws.specs.Machines.{Control}
-use Rattle.flow_laws.specs.Acting.{program_in, cell, right_of, top, below, value_of, stack_of, key_at, stack_at, kept_value, arguments, with_parameters, told, passed_on, stored, finished, cells_drawn, drawn_if, declared, input_given, called, left_by, aimed, reached_at, converted, acted, scope_closed}
+use Rattle.flow_laws.specs.Acting.{program_in, cell, right_of, top, below, value_of, stack_of, key_at, stack_at, kept_value, arguments, with_parameters, told, passed_on, stored, finished, cells_drawn, drawn_if, declared, input_given, called, left_by, aimed, sent, reached_at, converted, acted, scope_closed}
 
 -- a state with other steps left and another sight
 abbrev pub state_by : {S T : Type 0} → (S → T) → ℕ → State S → State T
@@ -186,6 +189,11 @@ module _ (S T : Type 0) (after : Event → List Cell → S → S) (later : Event
         apart_then (λ u. run.key_of (program_in c) S (seen_by after) spot o (index_below m (value_of y vs u.cells)) u) (λ u. run.key_of (program_in c) T (seen_by later) spot o (index_below m (value_of y vs u.cells)) u) k l
         (λ u. apart_key (program_in c) spot o (index_below m (value_of y vs u.cells)) u) f
 
+    apart_sent : (at : Spot) (way : Way) (to : ℕ) (k : Control) → Apart (sent c S after at way to k) (sent c T later at way to k)
+    apart_sent at way to k s =
+        let l = record k { at = to; stack = below k.stack } in
+        apart_after (program_in c) (Branched at way) (Go l) (Go l) (λ u. (refl, tt)) s
+
     -- no action looks at them
     pub apart_acted : (a : Action) (k : Control) → Apart (acted c S after a k) (acted c T later a k)
     apart_acted Rest k s = (refl, tt)
@@ -199,6 +207,11 @@ module _ (S T : Type 0) (after : Event → List Cell → S → S) (later : Event
         (λ i u. apart_finished (read i u.cells) (read i u.cells) x (record k { stack = stack_of y k.stack }) u) s
     apart_acted (Aim o m y spot reads) k s =
         apart_at spot o m y k.stack (λ i u. aimed c S after reads i (stack_of y k.stack) k u) (λ i u. aimed c T later reads i (stack_of y k.stack) k u) (λ i u. (refl, tt)) s
+    apart_acted (Row rows columns a b spot) k s =
+        let vs = stack_of b k.stack in
+        let i = in_row columns (index_below rows (value_of a vs s.cells)) (index_below columns (value_of b k.stack s.cells)) in
+        apart_then (run.key_of (program_in c) S (seen_by after) spot 0 i) (run.key_of (program_in c) T (seen_by later) spot 0 i) (λ i u. Go (record k { stack = pos i.index ∷ stack_of a vs }) u)
+        (λ i u. Go (record k { stack = pos i.index ∷ stack_of a vs }) u) (apart_key (program_in c) spot 0 i) (λ i u. (refl, tt)) s
     apart_acted (Operate o word count a b from x) k s =
         let vs = stack_of b k.stack in
         let old = value_of a vs s.cells in
@@ -213,6 +226,9 @@ module _ (S T : Type 0) (after : Event → List Cell → S → S) (later : Event
         (λ w u. finished c S after old w x (record k { stack = stack_of a k.stack }) u) (λ w u. finished c T later old w x (record k { stack = stack_of a k.stack }) u)
         (apart_answered (program_in c) (where_of from.around) from.spot z) (λ w u. apart_finished old w x (record k { stack = stack_of a k.stack }) u) s
     apart_acted (Jump to) k s = (refl, tt)
+    apart_acted (ToCase at v to) k s =
+        alike_if (int_eq (top k.stack) v) (sent c S after at (ByCase v) to k s) (Go k s) (sent c T later at (ByCase v) to k (state_by h n s)) (Go k (state_by h n s)) (apart_sent at (ByCase v) to k s) (refl, tt)
+    apart_acted (ToDefault at to) k s = apart_sent at ByDefault to k s
     apart_acted Open k s = (refl, tt)
     apart_acted Close k s = apart_scope k.scopes k s
     apart_acted (Declare spot o m ty draws) k s =

@@ -2,7 +2,7 @@
 use Rattle.std.proofs.Common.{◌≡◌, ℕ, suc, ◌+◌, ◌≤◌, ℤ, pos, Bool, true, false, cond, not, List, [], ◌∷◌, ◌++◌, length, Option, Some, None, slice_get, refl, sym, ap, ◌∙◌, subst, arith, append_assoc}
 use Rattle.c_core.specs.Types.{fit}
 use Rattle.c_core.specs.Operators.{op_of_step, is_prefix}
-use Rattle.c_core.specs.Tree.{Exp, Expr, Node, Var, Index, Step, Binary, Assign, Program}
+use Rattle.c_core.specs.Tree.{Exp, Expr, Node, Var, Index, Step, Binary, Assign, Exps, Program}
 use Rattle.c_core.specs.declared.number.BinOp.{BinOp}
 use Rattle.c_core.specs.declared.number.StepOp.{StepOp}
 use Rattle.c_core.specs.declared.number.IntType.{IntType}
@@ -40,6 +40,7 @@ use Rattle.flow_laws.proofs.Operands.{Eval, NodeOf, goes_to, Values, operand_com
 use Rattle.flow_laws.proofs.Pairs.{pair_code, pair_comes}
 use Rattle.flow_laws.proofs.Answering.{stored_new, operator_takes}
 use Rattle.flow_laws.proofs.Nodes.{Noded, binary_goes, noded_steps}
+use Rattle.flow_laws.proofs.Invoking.{InArgs}
 use Rattle.flow_laws.proofs.Targets.{AreSmall, TargetOf, PlaceOf, aim_then, target_steps, stores, InTarget}
 
 old_or_new : (b : Bool) (v w : ℤ) → cond (not b) v w ≡ cond b w v
@@ -113,24 +114,24 @@ module _ (p : Program) (c : Code) (S : Type 0) (after : Event → List Cell → 
       ∙ paying_alike p c S after k (λ u. bind (TargetOf p c S after n at (Expr ts tty x) u) (λ key w. bind (stepped at spot o (type_or_int tty) key w) f)) (λ u. bind (NodeOf p c S after n at want spot ty (Step o (Expr ts tty x)) u) f) s
       (λ u. sym (bind_behind (TargetOf p c S after n at (Expr ts tty x) u) (λ key w. stepped at spot o (type_or_int tty) key w) f))
 
-  step_element : AreSmall p → (at : Around) (spot : Spot) (o : StepOp) (ty : IntType) (x : ℕ) (e : Exp) → Values p c S after n e → (ts : Spot) (then : Then) (i k : ℕ) (κ : Control) (s : State S)
-      → HasCode c i ((place_code p at i k ts (Index x e) true).ops ++ op 0 (operator p (source at spot) (op_of_step o) ty Int (stored_in (Element x) (native p.model ty) (not (is_prefix o)) then) Top (Number (pos 1))) ∷ []) → s.steps ≤ n
-      → Comes p c S after (standing κ i s) (paying p c S after k (λ u. bind (PlaceOf p c S after n at ts (Index x e) u) (λ key w. bind (stepped at spot o ty key w) (goes_to p c S after n κ (i + (size_of_place (Index x e) + 1)) (only then)))) s)
-  step_element small at spot o ty x e ih ts then i k κ s h below =
-      let sz = size_of_place (Index x e) in
+  step_element : AreSmall p → (at : Around) (spot : Spot) (o : StepOp) (ty : IntType) (x : ℕ) (is : Exps) → InArgs p c S after n is → (ts : Spot) (then : Then) (i k : ℕ) (κ : Control) (s : State S)
+      → HasCode c i ((place_code p at i k ts (Index x is) true).ops ++ op 0 (operator p (source at spot) (op_of_step o) ty Int (stored_in (Element x) (native p.model ty) (not (is_prefix o)) then) Top (Number (pos 1))) ∷ []) → s.steps ≤ n
+      → Comes p c S after (standing κ i s) (paying p c S after k (λ u. bind (PlaceOf p c S after n at ts (Index x is) u) (λ key w. bind (stepped at spot o ty key w) (goes_to p c S after n κ (i + (size_of_place (Index x is) + 1)) (only then)))) s)
+  step_element small at spot o ty x is ih ts then i k κ s h below =
+      let sz = size_of_place (Index x is) in
       let into = stored_in (Element x) (native p.model ty) (not (is_prefix o)) then in
-      let parts = code_parts c i sz (place_code p at i k ts (Index x e) true).ops (op 0 (operator p (source at spot) (op_of_step o) ty Int into Top (Number (pos 1))) ∷ []) (place_size p at i k ts (Index x e) true) h in
+      let parts = code_parts c i sz (place_code p at i k ts (Index x is) true).ops (op 0 (operator p (source at spot) (op_of_step o) ty Int into Top (Number (pos 1))) ∷ []) (place_size p at i k ts (Index x is) true) h in
       let j : suc (i + sz) ≡ i + (sz + 1) = omega arith in
-      aim_then p c S after n x e ih small at i k ts true κ s parts.0 below (λ key w. bind (stepped at spot o ty key w) (goes_to p c S after n κ (i + (sz + 1)) (only then)))
+      aim_then p c S after n x is ih small at i k ts true κ s parts.0 below (λ key w. bind (stepped at spot o ty key w) (goes_to p c S after n κ (i + (sz + 1)) (only then)))
       (λ key u found d. subst (Comes p c S after (standing (record κ { stack = read key u.cells ∷ pos key.index ∷ κ.stack }) (i + sz) u))
       (step_acts at spot o ty Top (Element x) key then κ (read key u.cells ∷ pos key.index ∷ κ.stack) (suc (i + sz)) u refl found refl
       ∙ ap (λ l. bind (stepped at spot o ty key u) (goes_to p c S after n κ l (only then))) j)
       (op_comes p c S after (i + sz) (op 0 (operator p (source at spot) (op_of_step o) ty Int into Top (Number (pos 1)))) (record κ { stack = read key u.cells ∷ pos key.index ∷ κ.stack }) u parts.1.0))
 
   pub step_goes : AreSmall p → (ty : Option IntType) (o : StepOp) (t : Exp) → InTarget p c S after n t → (then : Then) → Noded p c S after n ty (Step o t) (only then)
-  step_goes small ty o (Expr ts tty (Index x e)) q then at i k want spot κ s h below =
-      subst (Comes p c S after (standing κ i s)) (step_as at want spot ty o ts tty (Index x e) k s (goes_to p c S after n κ (i + (size_of_place (Index x e) + 1)) (only then)))
-      (step_element small at spot o (type_or_int tty) x e q ts then i (k + 1) κ s h below)
+  step_goes small ty o (Expr ts tty (Index x is)) q then at i k want spot κ s h below =
+      subst (Comes p c S after (standing κ i s)) (step_as at want spot ty o ts tty (Index x is) k s (goes_to p c S after n κ (i + (size_of_place (Index x is) + 1)) (only then)))
+      (step_element small at spot o (type_or_int tty) x is q ts then i (k + 1) κ s h below)
   step_goes small ty o (Expr ts tty (Var x)) q then at i k want spot κ s h below =
       subst (Comes p c S after (standing κ i s)) (step_as at want spot ty o ts tty (Var x) k s (goes_to p c S after n κ (i + (0 + 1)) (only then)))
       (step_fixed at spot o (type_or_int tty) x then i (k + 1) κ s h.0)
@@ -184,28 +185,28 @@ module _ (p : Program) (c : Code) (S : Type 0) (after : Event → List Cell → 
       ∙ ap (λ j. bind (changed at spot o ty e (cell x 0) u) (goes_to p c S after n κ j (only then))) l))
       (pair_comes p c S after n (InCell x) e ih f (λ v w κ t. applied at spot o ty e into v w κ t) (operator_takes p c S after n property at spot o ty (type_of e) into) at i k κ s here below)
 
-  change_element : AreSmall p → (at : Around) (spot : Spot) (o : BinOp) (ty : IntType) (e : Exp) → Values p c S after n e → (x : ℕ) (d : Exp) → Values p c S after n d → (ts : Spot) (then : Then) (i k : ℕ) (κ : Control) (s : State S)
-      → HasCode c i (((place_code p at i k ts (Index x d) true).ops
-      ++ (paired Top 0 (operand_of e) (code p at (i + length (place_code p at i k ts (Index x d) true).ops + 0) 0 Used e Push)).ops)
-      ++ op (paired Top 0 (operand_of e) (code p at (i + length (place_code p at i k ts (Index x d) true).ops + 0) 0 Used e Push)).steps
+  change_element : AreSmall p → (at : Around) (spot : Spot) (o : BinOp) (ty : IntType) (e : Exp) → Values p c S after n e → (x : ℕ) (is : Exps) → InArgs p c S after n is → (ts : Spot) (then : Then) (i k : ℕ) (κ : Control) (s : State S)
+      → HasCode c i (((place_code p at i k ts (Index x is) true).ops
+      ++ (paired Top 0 (operand_of e) (code p at (i + length (place_code p at i k ts (Index x is) true).ops + 0) 0 Used e Push)).ops)
+      ++ op (paired Top 0 (operand_of e) (code p at (i + length (place_code p at i k ts (Index x is) true).ops + 0) 0 Used e Push)).steps
       (operator p (source at spot) o ty (type_of e) (stored_in (Element x) (native p.model ty) false then)
-      (paired Top 0 (operand_of e) (code p at (i + length (place_code p at i k ts (Index x d) true).ops + 0) 0 Used e Push)).left
-      (paired Top 0 (operand_of e) (code p at (i + length (place_code p at i k ts (Index x d) true).ops + 0) 0 Used e Push)).right) ∷ []) → s.steps ≤ n
-      → Comes p c S after (standing κ i s) (paying p c S after k (λ u. bind (PlaceOf p c S after n at ts (Index x d) u) (λ key w. bind (changed at spot o ty e key w)
-      (goes_to p c S after n κ (i + (size_of_place (Index x d) + with_one (operand_of e) (size e))) (only then)))) s)
-  change_element small at spot o ty e ih x d ihd ts then i k κ s h below =
-      let sz = size_of_place (Index x d) in
+      (paired Top 0 (operand_of e) (code p at (i + length (place_code p at i k ts (Index x is) true).ops + 0) 0 Used e Push)).left
+      (paired Top 0 (operand_of e) (code p at (i + length (place_code p at i k ts (Index x is) true).ops + 0) 0 Used e Push)).right) ∷ []) → s.steps ≤ n
+      → Comes p c S after (standing κ i s) (paying p c S after k (λ u. bind (PlaceOf p c S after n at ts (Index x is) u) (λ key w. bind (changed at spot o ty e key w)
+      (goes_to p c S after n κ (i + (size_of_place (Index x is) + with_one (operand_of e) (size e))) (only then)))) s)
+  change_element small at spot o ty e ih x is ihs ts then i k κ s h below =
+      let sz = size_of_place (Index x is) in
       let m = with_one (operand_of e) (size e) in
       let into = stored_in (Element x) (native p.model ty) false then in
       let f = operator p (source at spot) o ty (type_of e) into in
-      let first = (place_code p at i k ts (Index x d) true).ops in
-      let first_length = place_size p at i k ts (Index x d) true in
+      let first = (place_code p at i k ts (Index x is) true).ops in
+      let first_length = place_size p at i k ts (Index x is) true in
       let next = λ (l : ℕ). pair_code p c S after n Top 0 (operand_of e) (code p at (l + 0) 0 Used e Push) f in
       let parts = code_parts c i sz first (next (i + length first)) first_length
       (subst (HasCode c i) (append_assoc first (paired Top 0 (operand_of e) (code p at (i + length first + 0) 0 Used e Push)).ops _) h) in
       let behind_first = subst (λ l. HasCode c (i + sz) (next (i + l))) first_length parts.1 in
       let j : i + sz + m ≡ i + (sz + m) = omega arith in
-      aim_then p c S after n x d ihd small at i k ts true κ s parts.0 below (λ key w. bind (changed at spot o ty e key w) (goes_to p c S after n κ (i + (sz + m)) (only then)))
+      aim_then p c S after n x is ihs small at i k ts true κ s parts.0 below (λ key w. bind (changed at spot o ty e key w) (goes_to p c S after n κ (i + (sz + m)) (only then)))
       (λ key u found b. subst (Comes p c S after (standing (record κ { stack = read key u.cells ∷ pos key.index ∷ κ.stack }) (i + sz) u))
       (change_acts at spot o ty e Top (Element x) key then κ (read key u.cells ∷ pos key.index ∷ κ.stack) (i + sz + m) u refl found refl
       ∙ ap (λ l. bind (changed at spot o ty e key u) (goes_to p c S after n κ l (only then))) j)
@@ -242,20 +243,20 @@ module _ (p : Program) (c : Code) (S : Type 0) (after : Event → List Cell → 
       (λ u. write_acts at ty e (Fixed x 0) (cell x 0) then κ κ.stack (i + size_stored e) u refl refl ∙ ap (λ j. bind (written at ty e (cell x 0) u) (goes_to p c S after n κ j (only then))) l))
       (ih at i k (Fixed x 0) (native p.model ty) then κ s (subst (λ j. HasCode c i (stored_code p at j k e into)) z h) below)
 
-  write_element : AreSmall p → (at : Around) (ty : IntType) (e : Exp) → Stores e → (x : ℕ) (d : Exp) → Values p c S after n d → (ts : Spot) (then : Then) (i k : ℕ) (κ : Control) (s : State S)
-      → HasCode c i ((place_code p at i k ts (Index x d) false).ops ++ stored_code p at (i + length (place_code p at i k ts (Index x d) false).ops) 0 e (stored_in (Element x) (native p.model ty) false then)) → s.steps ≤ n
-      → Comes p c S after (standing κ i s) (paying p c S after k (λ u. bind (PlaceOf p c S after n at ts (Index x d) u) (λ key w. bind (written at ty e key w)
-      (goes_to p c S after n κ (i + (size_of_place (Index x d) + size_stored e)) (only then)))) s)
-  write_element small at ty e ih x d ihd ts then i k κ s h below =
-      let sz = size_of_place (Index x d) in
+  write_element : AreSmall p → (at : Around) (ty : IntType) (e : Exp) → Stores e → (x : ℕ) (is : Exps) → InArgs p c S after n is → (ts : Spot) (then : Then) (i k : ℕ) (κ : Control) (s : State S)
+      → HasCode c i ((place_code p at i k ts (Index x is) false).ops ++ stored_code p at (i + length (place_code p at i k ts (Index x is) false).ops) 0 e (stored_in (Element x) (native p.model ty) false then)) → s.steps ≤ n
+      → Comes p c S after (standing κ i s) (paying p c S after k (λ u. bind (PlaceOf p c S after n at ts (Index x is) u) (λ key w. bind (written at ty e key w)
+      (goes_to p c S after n κ (i + (size_of_place (Index x is) + size_stored e)) (only then)))) s)
+  write_element small at ty e ih x is ihs ts then i k κ s h below =
+      let sz = size_of_place (Index x is) in
       let m = size_stored e in
       let into = stored_in (Element x) (native p.model ty) false then in
-      let first = (place_code p at i k ts (Index x d) false).ops in
-      let first_length = place_size p at i k ts (Index x d) false in
+      let first = (place_code p at i k ts (Index x is) false).ops in
+      let first_length = place_size p at i k ts (Index x is) false in
       let parts = code_parts c i sz first (stored_code p at (i + length first) 0 e into) first_length h in
       let behind_first = subst (λ l. HasCode c (i + sz) (stored_code p at (i + l) 0 e into)) first_length parts.1 in
       let j : i + sz + m ≡ i + (sz + m) = omega arith in
-      aim_then p c S after n x d ihd small at i k ts false κ s parts.0 below (λ key w. bind (written at ty e key w) (goes_to p c S after n κ (i + (sz + m)) (only then)))
+      aim_then p c S after n x is ihs small at i k ts false κ s parts.0 below (λ key w. bind (written at ty e key w) (goes_to p c S after n κ (i + (sz + m)) (only then)))
       (λ key u found b. subst (Comes p c S after (standing (record κ { stack = pos key.index ∷ κ.stack }) (i + sz) u))
       (write_acts at ty e (Element x) key then κ (pos key.index ∷ κ.stack) (i + sz + m) u found refl
       ∙ ap (λ l. bind (written at ty e key u) (goes_to p c S after n κ l (only then))) j)
@@ -280,18 +281,18 @@ module _ (p : Program) (c : Code) (S : Type 0) (after : Event → List Cell → 
       (λ u. sym (bind_behind (TargetOf p c S after n at (Expr ts tty x) u) (λ key w. changed at spot o (type_or_int tty) e key w) f))
 
   pub assign_goes : AreSmall p → (ty : Option IntType) (o : Option BinOp) (t e : Exp) → InTarget p c S after n t → Values p c S after n e → Stores e → (then : Then) → Noded p c S after n ty (Assign o t e) (only then)
-  assign_goes small ty None (Expr ts tty (Index x d)) e q ih st then at i k want spot κ s h below =
-      subst (Comes p c S after (standing κ i s)) (write_as at want spot ty ts tty (Index x d) e k s (goes_to p c S after n κ (i + (size_of_place (Index x d) + size_stored e)) (only then)))
-      (write_element small at (type_or_int tty) e st x d q ts then i (k + 1) κ s h below)
+  assign_goes small ty None (Expr ts tty (Index x is)) e q ih st then at i k want spot κ s h below =
+      subst (Comes p c S after (standing κ i s)) (write_as at want spot ty ts tty (Index x is) e k s (goes_to p c S after n κ (i + (size_of_place (Index x is) + size_stored e)) (only then)))
+      (write_element small at (type_or_int tty) e st x is q ts then i (k + 1) κ s h below)
   assign_goes small ty None (Expr ts tty (Var x)) e q ih st then at i k want spot κ s h below =
       subst (Comes p c S after (standing κ i s)) (write_as at want spot ty ts tty (Var x) e k s (goes_to p c S after n κ (i + (0 + size_stored e)) (only then)))
       (write_fixed at (type_or_int tty) e st x then i (k + 1) κ s h below)
   assign_goes small ty None (Expr ts tty x) e q ih st then at i k want spot κ s h below =
       subst (Comes p c S after (standing κ i s)) (write_as at want spot ty ts tty x e k s (goes_to p c S after n κ (i + (0 + size_stored e)) (only then)))
       (write_fixed at (type_or_int tty) e st 0 then i (k + 1) κ s h below)
-  assign_goes small ty (Some o) (Expr ts tty (Index x d)) e q ih st then at i k want spot κ s h below =
-      subst (Comes p c S after (standing κ i s)) (change_as at want spot ty o ts tty (Index x d) e k s (goes_to p c S after n κ (i + (size_of_place (Index x d) + with_one (operand_of e) (size e))) (only then)))
-      (change_element small at spot o (type_or_int tty) e ih x d q ts then i (k + 1) κ s h below)
+  assign_goes small ty (Some o) (Expr ts tty (Index x is)) e q ih st then at i k want spot κ s h below =
+      subst (Comes p c S after (standing κ i s)) (change_as at want spot ty o ts tty (Index x is) e k s (goes_to p c S after n κ (i + (size_of_place (Index x is) + with_one (operand_of e) (size e))) (only then)))
+      (change_element small at spot o (type_or_int tty) e ih x is q ts then i (k + 1) κ s h below)
   assign_goes small ty (Some o) (Expr ts tty (Var x)) e q ih st then at i k want spot κ s h below =
       subst (Comes p c S after (standing κ i s)) (change_as at want spot ty o ts tty (Var x) e k s (goes_to p c S after n κ (i + (0 + behind_operand (operand_of e) (size e))) (only then)))
       (change_fixed at spot o (type_or_int tty) e ih x then i (k + 1) κ s h below)

@@ -7,6 +7,7 @@ use Rattle.c_core.specs.declared.number.Spot.{Spot}
 use Rattle.c_meaning.specs.declared.run.End.{End}
 use Rattle.c_meaning.specs.declared.run.Event.{Event}
 use Rattle.c_meaning.specs.declared.run.Event.TheVariants.{Branch as Branched}
+use Rattle.c_meaning.specs.declared.run.Way.TheVariants.{Truth as ByTruth}
 use Rattle.c_meaning.specs.Acts.{Res, Go, Stop, Flow, Next, Broken, Again, Gave, bind, scoped}
 use Rattle.c_meaning.specs.Cells.{Cell}
 use Rattle.c_meaning.specs.Eval.{eval}
@@ -21,7 +22,7 @@ use Rattle.flow_code.specs.declared.code.Then.TheVariants.{Branch}
 use Rattle.flow_code.specs.declared.statements.Inside.{Inside}
 use Rattle.flow_code.specs.Preparing.{only, followed}
 use Rattle.flow_code.specs.Expressions.{code}
-use Rattle.flow_code.specs.Sizes.{size, leaks, any_leaks, one_if, size_of_arm, size_of_statement, size_of_else, size_of_block}
+use Rattle.flow_code.specs.Sizes.{size, leaks, any_leaks, deep, size_of_arm, size_of_statement, size_of_else, size_of_block}
 use Rattle.flow_code.specs.Statements.{full_of, deeper, else_jump, statement_code, else_code, block_code, arm_code}
 use Rattle.flow_code.specs.Words.{native_if}
 use Rattle.flow_code.proofs.Lengths.{code_size}
@@ -83,7 +84,7 @@ module _ (p : Program) (c : Code) (S : Type 0) (after : Event → List Cell → 
       (Finishes p c S after (control_at k i) (i + size e) (only (Branch at way to))) L
       (known.evaluated e (full_of at e) i 0 Used (Branch at way to) (standing k i s) h (record { at = refl; paid = refl }) b)
       (λ v u y f r z.
-      let t = record u { seen = seen_by after (Told (Branched at (not (is_zero v))) u.cells) u.seen } in
+      let t = record u { seen = seen_by after (Told (Branched at (ByTruth (not (is_zero v)))) u.cells) u.seen } in
       let came = subst (λ x. Went (Go (skipped (not (is_zero v)) way to (control_at k x)) t) y) g z in
       told_at way (not (is_zero v)) j to k t y A B L came
       (λ w. a t (steps_there p c S after n known result (standing k i s) y t s.steps r w (omega arith)))
@@ -103,9 +104,9 @@ module _ (p : Program) (c : Code) (S : Type 0) (after : Event → List Cell → 
   -- a statement that is a scope of its own
   pub arm_runs : (st : Stm) → Runs p c S after n known result st → (i : ℕ) (w : Inside) (k : Control) (s : State S) → w.result ≡ native_if p.model result → HasCode c i (arm_code p i w st) → s.steps ≤ n
       → Does c S after (standing k i s) (scoped End (State S) cells_of with_cells (exec p M call result st) s)
-      (Leaving p c S after n known result w k (i + size_of_arm w.inner w.scopes st) s.steps)
+      (Leaving p c S after n known result w k (i + size_of_arm w.depth st) s.steps)
   arm_runs st runs i w k s e h b =
-      scope_does p c S after (λ x. x < s.steps) (leaks st) w k i (size_of_statement (w.inner + one_if (leaks st)) (w.scopes + one_if (leaks st)) st)
+      scope_does p c S after (λ x. x < s.steps) (leaks st) w k i (size_of_statement (deep (leaks st) w.depth) st)
       (λ j. statement_code p j (deeper (leaks st) w) st) (exec p M call result st) s h
       (λ j. statement_size p j (deeper (leaks st) w) st)
       (exec_neutral p S (seen_by after) call (calls_neutral p S (seen_by after) n) result st)
@@ -114,16 +115,16 @@ module _ (p : Program) (c : Code) (S : Type 0) (after : Event → List Cell → 
   -- the same without its steps
   pub arm_leaves : (st : Stm) → Runs p c S after n known result st → (i : ℕ) (w : Inside) (k : Control) (s : State S) → w.result ≡ native_if p.model result → HasCode c i (arm_code p i w st) → s.steps ≤ n
       → Does c S after (standing k i s) (scoped End (State S) cells_of with_cells (exec p M call result st) s)
-      (LeavesAs p c S after w k (i + size_of_arm w.inner w.scopes st))
+      (LeavesAs p c S after w k (i + size_of_arm w.depth st))
   arm_leaves st runs i w k s e h b =
       forget p c S after n known result (standing k i s) (scoped End (State S) cells_of with_cells (exec p M call result st) s)
-      w k (i + size_of_arm w.inner w.scopes st) s.steps (arm_runs st runs i w k s e h b)
+      w k (i + size_of_arm w.depth st) s.steps (arm_runs st runs i w k s e h b)
 
   -- a statement of a block, and the ones behind it
   pub more_runs : (st : Stm) (b : Stms) → Runs p c S after n known result st → BlockRuns p c S after n known result b → BlockRuns p c S after n known result (MoreStm st b)
   more_runs st b one more i w k s e h l =
-      let z = size_of_statement w.inner w.scopes st in
-      let x = size_of_block w.inner w.scopes b in
+      let z = size_of_statement w.depth st in
+      let x = size_of_block w.depth b in
       let q = has_followed c i z (statement_code p i w st) (λ j. block_code p j w b) (statement_size p i w st) h in
       let a : i + z + x ≡ i + (z + x) = omega arith in
       one_then p c S after n known result w k (standing k i s) (i + z) (i + (z + x)) (exec p M call result st s)
@@ -138,17 +139,17 @@ module _ (p : Program) (c : Code) (S : Type 0) (after : Event → List Cell → 
   -- a block
   pub block_runs : (b : Stms) → BlockRuns p c S after n known result b → FormRuns p c S after n known result (Block b)
   block_runs b runs at i w k s e h l =
-      let z = size_of_block (w.inner + one_if (any_leaks b)) (w.scopes + one_if (any_leaks b)) b in
+      let z = size_of_block (deep (any_leaks b) w.depth) b in
       scope_leaves p c S after (any_leaks b) w k i z (λ j. block_code p j (deeper (any_leaks b) w) b) (execs p M call result b) s h
       (λ j. block_size p j (deeper (any_leaks b) w) b) (execs_neutral p S (seen_by after) call (calls_neutral p S (seen_by after) n) result b)
       (λ j m o. runs j (deeper (any_leaks b) w) m s e o l)
 
   -- the way of the first arm around the second
   around : (b : Else) (j to : ℕ) (w : Inside) (k : Control) (u : State S) → to ≡ j + else_jump b → HasCode c j (else_code p j to w b)
-      → Reaches c S after (standing k j u) (standing k (j + size_of_else w.inner w.scopes b) u)
+      → Reaches c S after (standing k j u) (standing k (j + size_of_else w.depth b) u)
   around NoElse j to w k u e h = let a : j ≡ j + 0 = omega arith in subst (λ x. Reaches c S after (standing k j u) (standing k x u)) a (reaches_itself c S after (standing k j u))
   around (OrElse st) j to w k u e h =
-      let z = size_of_arm w.inner w.scopes st in
+      let z = size_of_arm w.depth st in
       let a : to + z ≡ j + (z + 1) = omega (arith, e) in
       subst (λ x. Reaches c S after (standing k j u) (standing k x u)) a (jumps c S after p j (to + z) k u h.0)
 
@@ -159,7 +160,7 @@ module _ (p : Program) (c : Code) (S : Type 0) (after : Event → List Cell → 
   -- the second arm
   pub else_runs : (st : Stm) → Runs p c S after n known result st → ElseRuns p c S after n known result (OrElse st)
   else_runs st runs i to w k s e g h l =
-      let z = size_of_arm w.inner w.scopes st in
+      let z = size_of_arm w.depth st in
       let q = subst (λ j. HasCode c j (arm_code p (i + 1) w st)) (let a : suc i ≡ i + 1 = omega arith in a) h.1 in
       let o = subst (λ j. HasCode c j (arm_code p j w st)) (sym e) q in
       let a : to + z ≡ i + (z + 1) = omega (arith, e) in
@@ -169,8 +170,8 @@ module _ (p : Program) (c : Code) (S : Type 0) (after : Event → List Cell → 
   -- `if`
   pub if_runs : (e : Exp) (a : Stm) (b : Else) → Runs p c S after n known result a → ElseRuns p c S after n known result b → FormRuns p c S after n known result (If e a b)
   if_runs e a b first second at i w k s g h l =
-      let arm = size_of_arm w.inner w.scopes a in
-      let last = size_of_else w.inner w.scopes b in
+      let arm = size_of_arm w.depth a in
+      let last = size_of_else w.depth b in
       let to = i + (size e + arm + else_jump b) in
       let E = code p (full_of at e) i 0 Used e (Branch at false to) in
       let sized = code_size p (full_of at e) i 0 Used e (Branch at false to) in

@@ -30,7 +30,7 @@ use Rattle.flow_code.specs.declared.code.Parameter.{Parameter}
 use Rattle.flow_code.specs.Expressions.{call_of as call_op}
 use Rattle.flow_code.specs.Preparing.{followed, op}
 use Rattle.flow_code.specs.Programs.{in_function, body_code, function_code, parameters_of}
-use Rattle.flow_code.specs.Sizes.{size_of_form}
+use Rattle.flow_code.specs.Sizes.{outermost, size_of_form}
 use Rattle.flow_code.specs.Statements.{form_code}
 use Rattle.flow_code.specs.Words.{native}
 use Rattle.flow_code.proofs.Lengths.{followed_size}
@@ -196,9 +196,9 @@ module _ (p : Program) (c : Code) (S : Type 0) (after : Event → List Cell → 
 
   -- the operations of a body
   body_parts : (g : Function) (at : Spot) (x : Form) (i : ℕ) → HasCode c i (body_code p i g (Stmt at x))
-      → let l = i + 1 + size_of_form 0 0 x in (slice_get c.ops i ≡ Some (op 1 Rest)) × HasCode c (i + 1) (form_code p (i + 1) (in_function p.model l g) at x) × (slice_get c.ops l ≡ Some (op 0 Leave))
+      → let l = i + 1 + size_of_form outermost x in (slice_get c.ops i ≡ Some (op 1 Rest)) × HasCode c (i + 1) (form_code p (i + 1) (in_function p.model l g) at x) × (slice_get c.ops l ≡ Some (op 0 Leave))
   body_parts g at x i h =
-      let n = size_of_form 0 0 x in
+      let n = size_of_form outermost x in
       let rest : List Op = op 1 Rest ∷ [] in
       let inner = λ (j : ℕ). form_code p j (in_function p.model (j + n) g) at x in
       let parts = code_parts c i (1 + n) (followed i rest inner) (op 0 Leave ∷ []) (followed_size i rest inner 1 n refl (λ j. form_size p j (in_function p.model (j + n) g) at x)) h in
@@ -223,19 +223,19 @@ module _ (p : Program) (c : Code) (S : Type 0) (after : Event → List Cell → 
   zero_body g (Stmt at x) i k u h z =
       let parts = body_parts g at x i h in
       let e : u.steps ≡ 0 = omega arith in
-      (i + 1 + size_of_form 0 0 x, parts.2, body_spent i k u parts.0 e)
+      (i + 1 + size_of_form outermost x, parts.2, body_spent i k u parts.0 e)
 
   module _ (n : ℕ) (forms : FormExecuted p c S after n) where
     by_steps : (g : Function) (at : Spot) (x : Form) (i : ℕ) (k : Control) (u : State S) → HasCode c i (body_code p i g (Stmt at x)) → u.steps ≤ suc n → (d : ℕ) → u.steps ≡ d
-        → let l = i + 1 + size_of_form 0 0 x in Does c S after (standing k i u) (body p M (calls p c S after n) g.result (Stmt at x) u) (LeavesAs p c S after (in_function p.model l g) k l)
+        → let l = i + 1 + size_of_form outermost x in Does c S after (standing k i u) (body p M (calls p c S after n) g.result (Stmt at x) u) (LeavesAs p c S after (in_function p.model l g) k l)
     by_steps g at x i k u h z zero e =
         let parts = body_parts g at x i h in
-        let l = i + 1 + size_of_form 0 0 x in
+        let l = i + 1 + size_of_form outermost x in
         let stopped : body p M (calls p c S after n) g.result (Stmt at x) u ≡ Stop Spent u = rw e refl in
         subst (λ r. Does c S after (standing k i u) r (LeavesAs p c S after (in_function p.model l g) k l)) (sym stopped) (body_spent i k u parts.0 e)
     by_steps g at x i k u h z (suc d) e =
         let parts = body_parts g at x i h in
-        let l = i + 1 + size_of_form 0 0 x in
+        let l = i + 1 + size_of_form outermost x in
         let w = in_function p.model l g in
         let v : State S = record u { steps = d } in
         let f : suc i ≡ i + 1 = omega arith in
@@ -250,7 +250,7 @@ module _ (p : Program) (c : Code) (S : Type 0) (after : Event → List Cell → 
 
     suc_body : (g : Function) (st : Stm) (i : ℕ) (k : Control) (u : State S) → HasCode c i (body_code p i g st) → u.steps ≤ suc n
         → (l : ℕ) × (slice_get c.ops l ≡ Some (op 0 Leave)) × Does c S after (standing k i u) (body p M (calls p c S after n) g.result st u) (LeavesAs p c S after (in_function p.model l g) k l)
-    suc_body g (Stmt at x) i k u h z = let parts = body_parts g at x i h in (i + 1 + size_of_form 0 0 x, parts.2, by_steps g at x i k u h z u.steps refl)
+    suc_body g (Stmt at x) i k u h z = let parts = body_parts g at x i h in (i + 1 + size_of_form outermost x, parts.2, by_steps g at x i k u h z u.steps refl)
 
   -- where no step is left
   pub body_at_zero : BodyDone zero

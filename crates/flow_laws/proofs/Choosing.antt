@@ -8,6 +8,7 @@ use Rattle.c_core.specs.declared.number.Spot.{Spot}
 use Rattle.c_meaning.specs.declared.run.End.{End}
 use Rattle.c_meaning.specs.declared.run.Event.{Event}
 use Rattle.c_meaning.specs.declared.run.Event.TheVariants.{Branch as Branched}
+use Rattle.c_meaning.specs.declared.run.Way.TheVariants.{Truth as ByTruth}
 use Rattle.c_meaning.specs.Cells.{Cell, put}
 use Rattle.c_meaning.specs.Acts.{Res, Go, Stop, bind}
 use Rattle.c_meaning.specs.Meaning.{Used, Unused}
@@ -15,13 +16,11 @@ use Rattle.c_meaning.specs.Objects.{type_of}
 use Rattle.c_meaning.specs.Eval.{convert_to}
 use Rattle.c_meaning.specs.Run.{State, with_cells}
 use Rattle.run_state.specs.declared.machine.Around.{Around}
-use Rattle.flow_code.specs.declared.code.Operand.{Operand}
 use Rattle.flow_code.specs.declared.code.Operand.TheVariants.{Top}
 use Rattle.flow_code.specs.declared.code.Store.{Store}
 use Rattle.flow_code.specs.declared.code.Then.{Then}
 use Rattle.flow_code.specs.declared.code.Then.TheVariants.{Push, Drop, Skip, Branch}
 use Rattle.flow_code.specs.declared.code.Into.{Into}
-use Rattle.flow_code.specs.declared.code.Action.{Action}
 use Rattle.flow_code.specs.declared.code.Action.TheVariants.{Give, Truth, Convert, Jump}
 use Rattle.flow_code.specs.declared.code.Op.{Op}
 use Rattle.flow_code.specs.declared.code.Code.{Code}
@@ -37,11 +36,7 @@ use Rattle.flow_laws.proofs.Values.{fit_native}
 use Rattle.flow_laws.proofs.Operations.{code_parts, bind_behind, standing, Comes, op_comes, comes_then, paying_alike}
 use Rattle.flow_laws.proofs.Operands.{Eval, NodeOf, goes_to, Values, Takes, value_then, pushed_then, operand_comes}
 use Rattle.flow_laws.proofs.Nodes.{Noded}
-
--- an operand, and the operation that takes it
-operand_size : (z : Option Operand) (k : ℕ) (ops : List Op) (f : Operand → Action) (m : ℕ) → length ops ≡ m → length (with_operand z k ops f) ≡ with_one z m
-operand_size (Some x) k ops f m h = refl
-operand_size None k ops f m h = omega (arith, h, length-append ops (op 0 (f Top) ∷ []))
+use Rattle.flow_laws.proofs.Sized.{operand_size}
 
 -- one operation more
 one_more : (xs : List Op) (a : Op) (n : ℕ) → length xs ≡ n → length (xs ++ a ∷ []) ≡ n + 1
@@ -64,7 +59,7 @@ module _ (p : Program) (c : Code) (S : Type 0) (after : Event → List Cell → 
   pass_on Drop v κ j l s m h d = jump_on κ j l s m h d
   pass_on (Skip way to) v κ j l s m h d = skip_on (cond way (not (is_zero v)) (not (not (is_zero v)))) to κ j l s m h d
   pass_on (Branch at way to) v κ j l s m h d =
-      skip_on (cond way (not (is_zero v)) (not (not (is_zero v)))) to κ j l (record s { seen = after (Branched at (not (is_zero v))) s.cells s.seen }) m h d
+      skip_on (cond way (not (is_zero v)) (not (not (is_zero v)))) to κ j l (record s { seen = after (Branched at (ByTruth (not (is_zero v)))) s.cells s.seen }) m h d
 
   store_on : (x : Option Store) (then : Then) (v : ℤ) (κ : Control) (j l : ℕ) (s : State S) (m : Machine S) → slice_get c.ops j ≡ Some (op 0 (Jump l))
       → Comes p c S after m (stored c S after x v v then (control_at κ j) s) → Comes p c S after m (stored c S after x v v then (control_at κ l) s)
@@ -148,7 +143,7 @@ module _ (p : Program) (c : Code) (S : Type 0) (after : Event → List Cell → 
       let F = goes_to p c S after n κ J x in
       let one = λ (w : State S). bind (Eval p c S after n at Used a w) (λ v. convert_to p (meaning p c S after) ty (type_of a) v) in
       let other = λ (w : State S). bind (Eval p c S after n at Used b w) (λ v. convert_to p (meaning p c S after) ty (type_of b) v) in
-      let told = λ (v : ℤ) (u : State S). record u { seen = after (Branched mark (not (is_zero v))) u.cells u.seen } in
+      let told = λ (v : ℤ) (u : State S). record u { seen = after (Branched mark (ByTruth (not (is_zero v)))) u.cells u.seen } in
       subst (Comes p c S after (standing κ i s))
       (paying_alike p c S after k (λ u. bind (Eval p c S after n at Used e u) (λ v w. bind (cond (not (is_zero v)) one other (told v w)) F)) (λ u. bind (NodeOf p c S after n at want spot ty (Choose mark e a b) u) F) s
       (λ u. sym (bind_behind (Eval p c S after n at Used e u) (λ v w. cond (not (is_zero v)) one other (told v w)) F)))

@@ -1,7 +1,7 @@
 -- Declared names: their cells, which draw or hold 0, and their initializers.
-use Rattle.std.proofs.Common.{◌≡◌, ◌≤◌, ℕ, zero, suc, ◌+◌, ℤ, false, List, [], ◌++◌, Option, refl, sym, ap, ◌∙◌, subst, arith}
+use Rattle.std.proofs.Common.{◌≡◌, ◌≤◌, ℕ, zero, suc, ◌+◌, ℤ, false, List, [], ◌∷◌, ◌++◌, Option, refl, sym, ap, ◌∙◌, subst, arith}
 use Rattle.c_core.specs.Types.{fit}
-use Rattle.c_core.specs.Tree.{Program, Exp, Expr, Exps, NoExp, MoreExp, Init, Absent, One, Many, Names, NoName, MoreName}
+use Rattle.c_core.specs.Tree.{Program, Exp, Expr, Exps, NoExp, MoreExp, Init, Absent, One, Many, Rows, Names, NoName, MoreName}
 use Rattle.c_core.specs.declared.number.IntType.{IntType}
 use Rattle.c_core.specs.declared.number.Spot.{Spot}
 use Rattle.c_meaning.specs.declared.run.DrawKind.TheVariants.{Cell as CellDraw}
@@ -10,9 +10,9 @@ use Rattle.c_meaning.specs.declared.run.Event.{Event}
 use Rattle.c_meaning.specs.Acts.{Res, Go, bind}
 use Rattle.c_meaning.specs.Cells.{Cell, put, cells_from}
 use Rattle.c_meaning.specs.Eval.{eval}
-use Rattle.c_meaning.specs.Exec.{ticks, draw_cells, initials, initial, declare}
+use Rattle.c_meaning.specs.Exec.{ticks, draw_cells, initials, row_initials, initial, declare}
 use Rattle.c_meaning.specs.Meaning.{ACell, AStatement, Used, Meaning, Calls}
-use Rattle.c_meaning.specs.Objects.{type_of_object, size_of_object}
+use Rattle.c_meaning.specs.Objects.{type_of_object, size_of_object, columns_of_object}
 use Rattle.c_meaning.specs.Run.{State, with_cells}
 use Rattle.c_meaning.specs.Run as run
 use Rattle.c_meaning.specs.Watching.{seen_by}
@@ -23,8 +23,8 @@ use Rattle.flow_code.specs.declared.code.Place.TheVariants.{Fixed}
 use Rattle.flow_code.specs.declared.code.Then.TheVariants.{Drop}
 use Rattle.flow_code.specs.declared.statements.Inside.{Inside}
 use Rattle.flow_code.specs.Preparing.{stored_in}
-use Rattle.flow_code.specs.Sizes.{size_stored, size_of_values, size_of_init, size_of_names}
-use Rattle.flow_code.specs.Statements.{full_of, draws, initial_code, initials_code, init_code, name_code, names_code}
+use Rattle.flow_code.specs.Sizes.{size_stored, size_of_values, size_of_rows, size_of_init, size_of_names}
+use Rattle.flow_code.specs.Statements.{full_of, draws, initial_code, initials_code, rows_code, init_code, name_code, names_code}
 use Rattle.flow_code.specs.Words.{native}
 use Rattle.flow_laws.specs.Machines.{Control, Machine}
 use Rattle.flow_laws.specs.Acting.{program_in, cell, cells_drawn, drawn_if, declared}
@@ -34,7 +34,7 @@ use Rattle.flow_laws.proofs.Reaching.{reaches_itself}
 use Rattle.flow_laws.proofs.Known.{Known}
 use Rattle.flow_laws.proofs.Leaving.{Part, steps_there, other_end}
 use Rattle.flow_laws.proofs.Operations.{bind_behind, bind_alike, standing}
-use Rattle.flow_laws.proofs.Sized.{initial_size, name_size}
+use Rattle.flow_laws.proofs.Sized.{initial_size, initials_size, name_size}
 use Rattle.flow_laws.proofs.Values.{fit_native}
 use Rattle.flow_laws.proofs.Standing.{has_followed, does_on, does_made, op_stays, ticks_alike}
 
@@ -62,6 +62,7 @@ module _ (p : Program) (c : Code) (S : Type 0) (after : Event → List Cell → 
   given_to at spot o Absent s = Go tt s
   given_to at spot o (One e) s = initials p M call at o 0 (MoreExp e NoExp) s
   given_to at spot o (Many es) s = initials p M call at o 0 es s
+  given_to at spot o (Rows rows) s = row_initials p M call at o 0 rows s
 
   -- cells draw by the operation that makes them; every other initializer comes behind it
   initial_split : (at spot : Spot) (o : ℕ) (j : Init) (s : State S) (rest : Part p c S after n known result)
@@ -70,6 +71,7 @@ module _ (p : Program) (c : Code) (S : Type 0) (after : Event → List Cell → 
   initial_split at spot o Absent s rest = ap (λ r. bind r (λ _ u. rest u)) (drawn_alike spot o 0 (size_of_object p o) s)
   initial_split at spot o (One e) s rest = refl
   initial_split at spot o (Many es) s rest = refl
+  initial_split at spot o (Rows rows) s rest = refl
 
   -- a name's cells are declared by one operation
   declared_first : (at spot : Spot) (o : ℕ) (j : Init) (ns : Names) (s : State S)
@@ -127,6 +129,21 @@ module _ (p : Program) (c : Code) (S : Type 0) (after : Event → List Cell → 
       value_stored at o x e i (i + z) k s rest (Behind k (i + (z + size_of_values es))) refl q.0 b
       (λ u l. subst (λ j. Does c S after (standing k (i + z) u) (rest u) (Behind k j)) end (initials_run es at o (suc x) (i + z) k u more (omega (arith, l, b))))
 
+  -- the values of rows, each row from its own cell on
+  rows_run : (rows : List Exps) (at : Spot) (o x i : ℕ) (k : Control) (s : State S) → HasCode c i (rows_code p i at o x rows) → s.steps ≤ n
+      → Does c S after (standing k i s) (row_initials p M call at o x rows s) (Behind k (i + size_of_rows rows))
+  rows_run [] at o x i k s h b = let a : i ≡ i + 0 = omega arith in (standing k i s, reaches_itself c S after (standing k i s), (refl, ap (control_at k) a))
+  rows_run (es ∷ rows) at o x i k s h b =
+      let z = size_of_values es in
+      let next = x + columns_of_object p o in
+      let q = has_followed c i z (initials_code p i at o x es) (λ l. rows_code p l at o next rows) (initials_size p i at o x es) h in
+      let end : i + z + size_of_rows rows ≡ i + (z + size_of_rows rows) = omega arith in
+      let rest = row_initials p M call at o next rows in
+      does_on c S after (standing k i s) (initials p M call at o x es s) (λ _ u. rest u) (Behind k (i + z)) (Behind k (i + (z + size_of_rows rows)))
+      (initials_run es at o x i k s q.0 b)
+      (λ t u y g r m. does_made c S after y (control_at k (i + z)) u (rest u) (Behind k (i + (z + size_of_rows rows))) m.0 m.1
+      (subst (λ j. Does c S after (standing k (i + z) u) (rest u) (Behind k j)) end (rows_run rows at o next (i + z) k u q.1 (steps_there p c S after n known result (standing k i s) y u n r m.0 b))))
+
   -- an initializer
   given_run : (j : Init) (at spot : Spot) (o i : ℕ) (k : Control) (s : State S) → HasCode c i (init_code p i at o j) → s.steps ≤ n
       → Does c S after (standing k i s) (given_to at spot o j s) (Behind k (i + size_of_init j))
@@ -136,6 +153,7 @@ module _ (p : Program) (c : Code) (S : Type 0) (after : Event → List Cell → 
       value_stored at o 0 e i (i + size_stored e) k s rest (Behind k (i + size_stored e)) refl h b
       (λ u l. (standing k (i + size_stored e) u, reaches_itself c S after (standing k (i + size_stored e) u), (refl, refl)))
   given_run (Many es) at spot o i k s h b = initials_run es at o 0 i k s h b
+  given_run (Rows rows) at spot o i k s h b = rows_run rows at o 0 i k s h b
 
   -- declared names
   pub names_run : (ns : Names) (at : Spot) (i : ℕ) (w : Inside) (k : Control) (s : State S) → HasCode c i (names_code p i at ns) → s.steps ≤ n

@@ -14,10 +14,11 @@ use Rattle.flow_laws.specs.inside.Simulating.{paying, CallIsDone, Evaluated, Sto
 use Rattle.flow_laws.proofs.Operations.{standing, stands_as, Comes, paying_behind}
 use Rattle.flow_laws.proofs.Operands.{Eval, goes_to, Values, finishes}
 use Rattle.flow_laws.proofs.Answering.{only_new}
-use Rattle.flow_laws.proofs.Nodes.{Noded, values_of_node, const_goes, var_goes, index_goes, cast_goes, unary_goes, binary_goes}
+use Rattle.flow_laws.proofs.Nodes.{Noded, values_of_node, const_goes, var_goes, cast_goes, unary_goes, binary_goes}
 use Rattle.flow_laws.proofs.Choosing.{logic_goes, choose_goes, comma_goes}
 use Rattle.flow_laws.proofs.Targets.{AreSmall, InPlace, InTarget}
 use Rattle.flow_laws.proofs.Assigning.{InBoth, InParts, stored_goes, step_goes, assign_goes}
+use Rattle.flow_laws.proofs.Elements.{index_goes}
 use Rattle.flow_laws.proofs.Invoking.{InArgs, call_goes}
 
 module _ (p : Program) (c : Code) (S : Type 0) (after : Event → List Cell → S → S) (n : ℕ)
@@ -29,7 +30,7 @@ module _ (p : Program) (c : Code) (S : Type 0) (after : Event → List Cell → 
     noded : (ty : Option IntType) (x : Node) (then : Then) → Noded p c S after n ty x (only then)
     noded ty (Const v) then = const_goes p c S after n ty v (only then)
     noded ty (Var o) then = var_goes p c S after n ty o (only then)
-    noded ty (Index o e) then = index_goes p c S after n ty o e (values e) (only then)
+    noded ty (Index o is) then = index_goes p c S after n ty o is (in_args is) (only then)
     noded ty (Unary o a) then = unary_goes p c S after n property ty o a (values a) (only then) (only_new p c S after n then)
     noded ty (Cast a) then = cast_goes p c S after n ty a (values a) then
     noded ty (Step o t) then = step_goes p c S after n property small ty o t (in_target t) then
@@ -45,7 +46,7 @@ module _ (p : Program) (c : Code) (S : Type 0) (after : Event → List Cell → 
     in_target (Expr spot ty x) = in_place x
 
     in_place : (x : Node) → InPlace p c S after n x
-    in_place (Index o e) = values e
+    in_place (Index o is) = in_args is
     in_place _ = tt
 
     in_parts : (e : Exp) → InParts p c S after n property e

@@ -1,7 +1,7 @@
 -- The code of every statement does what the statement means.
-use Rattle.std.proofs.Common.{◌≡◌, ◌≤◌, ℕ, ◌+◌, ℤ, List, [], ◌∷◌, ◌++◌, Option, Some, None, refl, sym, ap, ◌∙◌, subst, arith}
+use Rattle.std.proofs.Common.{◌≡◌, ◌≤◌, ℕ, zero, suc, ◌+◌, ℤ, List, [], ◌∷◌, ◌++◌, Option, Some, None, refl, sym, ap, ◌∙◌, subst, arith}
 use Rattle.std.proofs.lemmas.List.{append_assoc}
-use Rattle.c_core.specs.Tree.{Program, Exp, Names, First, NoFirst, FirstExp, FirstNames, Stm, Stmt, Form, Empty, Do, Declare, Block, If, While, DoWhile, For, Break, Continue, Return, Label, Else, NoElse, OrElse, Stms, NoStm, MoreStm}
+use Rattle.c_core.specs.Tree.{Program, Exp, Names, First, NoFirst, FirstExp, FirstNames, Stm, Stmt, Form, Empty, Do, Declare, Block, If, While, DoWhile, For, Break, Continue, Return, Label, Switch, Else, NoElse, OrElse, Stms, NoStm, MoreStm, MoreCase}
 use Rattle.c_core.specs.declared.number.IntType.{IntType}
 use Rattle.c_core.specs.declared.number.Spot.{Spot}
 use Rattle.c_meaning.specs.declared.run.Event.{Event}
@@ -20,7 +20,7 @@ use Rattle.flow_code.specs.declared.code.Then.TheVariants.{Push}
 use Rattle.flow_code.specs.declared.statements.Inside.{Inside}
 use Rattle.flow_code.specs.Preparing.{op, only, followed, all_closed}
 use Rattle.flow_code.specs.Expressions.{code}
-use Rattle.flow_code.specs.Sizes.{size, size_if, size_of_test, size_of_arm, size_of_first, size_of_statement, size_of_form, first_leaks}
+use Rattle.flow_code.specs.Sizes.{size, size_if, size_of_test, size_of_arm, size_of_first, size_of_statement, size_of_form, first_leaks, in_turn}
 use Rattle.flow_code.specs.Statements.{full_of, deeper, in_loop, first_code, arm_code, turns_code}
 use Rattle.flow_code.specs.Words.{native_if}
 use Rattle.flow_code.proofs.Lengths.{code_size, followed_size}
@@ -33,6 +33,7 @@ use Rattle.flow_laws.proofs.Known.{Known}
 use Rattle.flow_laws.proofs.Leaving.{Part, Runs, FormRuns, BlockRuns, ElseRuns, other_end, forget, one_then, statement_runs}
 use Rattle.flow_laws.proofs.Branching.{block_runs, more_runs, none_run, if_runs, else_runs, no_else_runs}
 use Rattle.flow_laws.proofs.Looping.{looped, value_dropped, while_runs, do_runs, for_turns_run}
+use Rattle.flow_laws.proofs.Switching.{ArmRuns, switch_runs, label_run, no_arm_runs, this_arm_runs, behind_statement, behind_label}
 use Rattle.flow_laws.proofs.Declaring.{names_run}
 use Rattle.flow_laws.proofs.Neutral.{calls_neutral, loop_neutral, turn_neutral, first_neutral}
 use Rattle.flow_laws.proofs.Operations.{standing, stands_as, code_split}
@@ -51,7 +52,7 @@ module _ (p : Program) (c : Code) (S : Type 0) (after : Event → List Cell → 
 
   -- the value of `return` as the function's type has it
   value_given : (r : Option IntType) (w : Inside) (k : Control) (i j : ℕ) (e : Exp) (v : ℤ) (u : State S) (y : Machine S) → w.result ≡ native_if p.model r
-      → y.run ≡ u → y.control ≡ record (control_at k i) { stack = v ∷ k.stack } → HasCode c i (all_closed w.scopes ++ op 0 (ReturnOf w.result) ∷ [])
+      → y.run ≡ u → y.control ≡ record (control_at k i) { stack = v ∷ k.stack } → HasCode c i (all_closed w.depth.scopes ++ op 0 (ReturnOf w.result) ∷ [])
       → Does c S after y (bind (convert_to p M r (type_of e) v u) (λ x t. Go (Gave (Some x)) t)) (LeavesAs p c S after w k j)
   value_given None w k i j e v u y g r z h = (y, reaches_itself c S after y, (r, (i, v, ap (λ t. converted c S after t v) g, z, h)))
   value_given (Some ty) w k i j e v u y g r z h = (y, reaches_itself c S after y, (r, (i, v, ap (λ t. converted c S after t v) g ∙ fit_native p.model ty v, z, h)))
@@ -59,10 +60,10 @@ module _ (p : Program) (c : Code) (S : Type 0) (after : Event → List Cell → 
   -- `return` with a value
   return_runs : (e : Exp) → FormRuns p c S after n known result (Return (Some e))
   return_runs e at i w k s g h b =
-      let same = append_assoc (code p (full_of at e) i 0 Used e Push) (all_closed w.scopes) (op 0 (ReturnOf w.result) ∷ []) in
-      let q = code_split c i (code p (full_of at e) i 0 Used e Push) (all_closed w.scopes ++ op 0 (ReturnOf w.result) ∷ []) (subst (HasCode c i) same h) in
-      let o = subst (λ l. HasCode c (i + l) (all_closed w.scopes ++ op 0 (ReturnOf w.result) ∷ [])) (code_size p (full_of at e) i 0 Used e Push) q.1 in
-      let j = i + (size e + w.scopes + 1) in
+      let same = append_assoc (code p (full_of at e) i 0 Used e Push) (all_closed w.depth.scopes) (op 0 (ReturnOf w.result) ∷ []) in
+      let q = code_split c i (code p (full_of at e) i 0 Used e Push) (all_closed w.depth.scopes ++ op 0 (ReturnOf w.result) ∷ []) (subst (HasCode c i) same h) in
+      let o = subst (λ l. HasCode c (i + l) (all_closed w.depth.scopes ++ op 0 (ReturnOf w.result) ∷ [])) (code_size p (full_of at e) i 0 Used e Push) q.1 in
+      let j = i + (size e + w.depth.scopes + 1) in
       does_on c S after (standing k i s) (eval p M call (where_of (full_of at e)) Used e s)
       (λ v u. bind (convert_to p M result (type_of e) v u) (λ x t. Go (Gave (Some x)) t))
       (Finishes p c S after (control_at k i) (i + size e) (only Push)) (LeavesAs p c S after w k j)
@@ -89,7 +90,7 @@ module _ (p : Program) (c : Code) (S : Type 0) (after : Event → List Cell → 
   for_runs : (f : First) (e t : Option Exp) (st : Stm) → Runs p c S after n known result st → FormRuns p c S after n known result (For f e t st)
   for_runs f e t st runs at i w k s g h b =
       let v = deeper (first_leaks f) w in
-      let arm = size_of_arm 0 v.scopes st in
+      let arm = size_of_arm (in_turn v.depth) st in
       let inside = arm + size_if t + size_of_test e in
       let z = size_of_first f + inside + 1 in
       let loop = looped p c S after n known result at (ForLoop e t st) in
@@ -137,7 +138,7 @@ module _ (p : Program) (c : Code) (S : Type 0) (after : Event → List Cell → 
 
   label_runs : (st : Stm) → Runs p c S after n known result st → FormRuns p c S after n known result (Label st)
   label_runs st runs at i w k s g h b =
-      forget p c S after n known result (standing k i s) (exec p M call result st s) w k (i + size_of_statement w.inner w.scopes st) s.steps (runs i w k s g h b)
+      forget p c S after n known result (standing k i s) (exec p M call result st s) w k (i + size_of_statement w.depth st) s.steps (runs i w k s g h b)
 
   mutual
     -- statements
@@ -159,6 +160,7 @@ module _ (p : Program) (c : Code) (S : Type 0) (after : Event → List Cell → 
     form_runs (Return None) = leave_runs
     form_runs (Return (Some e)) = return_runs e
     form_runs (Label st) = label_runs st (runs st)
+    form_runs (Switch e b) = switch_runs p c S after n known result e b (λ i. arms_run i b)
 
     -- second arms
     otherwise_runs : (b : Else) → ElseRuns p c S after n known result b
@@ -169,6 +171,14 @@ module _ (p : Program) (c : Code) (S : Type 0) (after : Event → List Cell → 
     statements_run : (b : Stms) → BlockRuns p c S after n known result b
     statements_run NoStm = none_run p c S after n known result
     statements_run (MoreStm st b) = more_runs p c S after n known result st b (runs st) (statements_run b)
+    statements_run (MoreCase spot l b) = label_run p c S after n known result spot l b (statements_run b)
+
+    -- the arms of a `switch` from one on
+    arms_run : (j : ℕ) (b : Stms) → ArmRuns p c S after n known result j b
+    arms_run j NoStm = no_arm_runs p c S after n known result j
+    arms_run j (MoreStm st b) = behind_statement p c S after n known result j st b (arms_run j b)
+    arms_run zero (MoreCase spot l b) = this_arm_runs p c S after n known result spot l b (statements_run b)
+    arms_run (suc j) (MoreCase spot l b) = behind_label p c S after n known result j spot l b (arms_run j b)
 
 module _ (p : Program) (c : Code) (S : Type 0) (after : Event → List Cell → S → S) (n : ℕ) (model : c.model ≡ p.model) (evaluated : Evaluated p c S after n) (stored : StoredAs p c S after n) where
   known : Known p c S after n
@@ -177,7 +187,7 @@ module _ (p : Program) (c : Code) (S : Type 0) (after : Event → List Cell → 
   -- the code of a statement does what the statement means
   pub executed : Executed p c S after n
   executed result st i w m e h stands b =
-      let end = i + size_of_statement w.inner w.scopes st in
+      let end = i + size_of_statement w.depth st in
       let r = exec p (meaning p c S after) (calls p c S after n) result st m.run in
       subst (λ x. Does c S after x r (LeavesAs p c S after w m.control end)) (sym (stands_as p c S after i m stands))
       (forget p c S after n known result (standing m.control i m.run) r w m.control end m.run.steps (runs p c S after n known result st i w m.control m.run e h b))
@@ -185,7 +195,7 @@ module _ (p : Program) (c : Code) (S : Type 0) (after : Event → List Cell → 
   -- the same of a form
   pub form_executed : FormExecuted p c S after n
   form_executed result at f i w m e h stands b =
-      let end = i + size_of_form w.inner w.scopes f in
+      let end = i + size_of_form w.depth f in
       let r = form p (meaning p c S after) (calls p c S after n) result at f m.run in
       subst (λ x. Does c S after x r (LeavesAs p c S after w m.control end)) (sym (stands_as p c S after i m stands))
       (form_runs p c S after n known result f at i w m.control m.run e h b)

@@ -45,12 +45,12 @@ use Rattle.flow_laws.proofs.Answering.{reached_as}
 use Rattle.flow_laws.proofs.Nodes.{Noded}
 
 -- the stack behind arguments whose values went there
-abbrev stack_behind : Then → List (ℤ × IntType) → List ℤ → List ℤ
+abbrev pub stack_behind : Then → List (ℤ × IntType) → List ℤ → List ℤ
 stack_behind Push vs st = reverse (values_of vs) ++ st
 stack_behind _ vs st = st
 
 -- steps that arguments take in front
-abbrev paid_by : Exps → ℕ → ℕ
+abbrev pub paid_by : Exps → ℕ → ℕ
 paid_by NoExp k = 0
 paid_by (MoreExp e es) k = k
 
@@ -83,7 +83,7 @@ gives_by P Q (Stop e t) g h q = tt
 
 module _ (p : Program) (c : Code) (S : Type 0) (after : Event → List Cell → S → S) (n : ℕ) where
   -- the values of arguments
-  abbrev ArgsOf : Around → Exps → State S → Res End (State S) (List (ℤ × IntType))
+  abbrev pub ArgsOf : Around → Exps → State S → Res End (State S) (List (ℤ × IntType))
   ArgsOf at es s = evals p (meaning p c S after) (calls p c S after n) (where_of at) es s
 
   -- what is called, with these values
@@ -95,7 +95,7 @@ module _ (p : Program) (c : Code) (S : Type 0) (after : Event → List Cell → 
   InArgs NoExp = Unit {0}
   InArgs (MoreExp e es) = Values p c S after n e × InArgs es
 
-  counted : (at : Around) (es : Exps) (s : State S) → Gives (λ (vs : List (ℤ × IntType)). length vs ≡ count_of es) (ArgsOf at es s)
+  pub counted : (at : Around) (es : Exps) (s : State S) → Gives (λ (vs : List (ℤ × IntType)). length vs ≡ count_of es) (ArgsOf at es s)
   counted at NoExp s = refl
   counted at (MoreExp e es) s =
       gives_then (λ (vs : List (ℤ × IntType)). length vs ≡ suc (count_of es)) (Eval p c S after n at Used e s) (λ v t. bind (ArgsOf at es t) (λ vs w. Go ((v, type_of e) ∷ vs) w))
@@ -103,7 +103,7 @@ module _ (p : Program) (c : Code) (S : Type 0) (after : Event → List Cell → 
       (λ vs h. ap suc h) (counted at es t))
 
   -- arguments, whose values go on the stack or not
-  abbrev Listed : Then → Exps → Type 0
+  abbrev pub Listed : Then → Exps → Type 0
   Listed then es = (at : Around) (i k : ℕ) (κ : Control) (s : State S) → HasCode c i (args_code p at i k then es) → s.steps ≤ n
       → Comes p c S after (standing κ i s) (bind (paying p c S after (paid_by es k) (ArgsOf at es) s)
       (λ vs u. Go (control_at (record κ { stack = stack_behind then vs κ.stack }) (i + size_of_all es)) u))
@@ -147,7 +147,7 @@ module _ (p : Program) (c : Code) (S : Type 0) (after : Event → List Cell → 
   listed_push (MoreExp e es) q at i k κ s h below =
       listed_more Push e es q.0 (listed_push es q.1) (λ v st. v ∷ st) (λ κ j v u. refl) (λ v vs st. pushed_under v (values_of vs) st) at i k κ s h below
 
-  listed_drop : (es : Exps) → InArgs es → Listed Drop es
+  pub listed_drop : (es : Exps) → InArgs es → Listed Drop es
   listed_drop NoExp q at i k κ s h below = listed_none Drop κ i s refl
   listed_drop (MoreExp e es) q at i k κ s h below =
       listed_more Drop e es q.0 (listed_drop es q.1) (λ v st. st) (λ κ j v u. refl) (λ v vs st. refl) at i k κ s h below

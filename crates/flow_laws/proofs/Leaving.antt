@@ -47,22 +47,22 @@ module _ (p : Program) (c : Code) (S : Type 0) (after : Event → List Cell → 
   -- the code of a statement does what the statement means, and takes a step
   abbrev pub Runs : Stm → Type 0
   Runs st = (i : ℕ) (w : Inside) (k : Control) (s : State S) → w.result ≡ native_if p.model result → HasCode c i (statement_code p i w st) → s.steps ≤ n
-      → Does c S after (standing k i s) (exec p M call result st s) (Leaving w k (i + size_of_statement w.inner w.scopes st) s.steps)
+      → Does c S after (standing k i s) (exec p M call result st s) (Leaving w k (i + size_of_statement w.depth st) s.steps)
 
   -- the same of a form
   abbrev pub FormRuns : Form → Type 0
   FormRuns f = (at : Spot) (i : ℕ) (w : Inside) (k : Control) (s : State S) → w.result ≡ native_if p.model result → HasCode c i (form_code p i w at f) → s.steps ≤ n
-      → Does c S after (standing k i s) (form p M call result at f s) (LeavesAs p c S after w k (i + size_of_form w.inner w.scopes f))
+      → Does c S after (standing k i s) (form p M call result at f s) (LeavesAs p c S after w k (i + size_of_form w.depth f))
 
   -- the same of a block's statements
   abbrev pub BlockRuns : Stms → Type 0
   BlockRuns b = (i : ℕ) (w : Inside) (k : Control) (s : State S) → w.result ≡ native_if p.model result → HasCode c i (block_code p i w b) → s.steps ≤ n
-      → Does c S after (standing k i s) (execs p M call result b s) (LeavesAs p c S after w k (i + size_of_block w.inner w.scopes b))
+      → Does c S after (standing k i s) (execs p M call result b s) (LeavesAs p c S after w k (i + size_of_block w.depth b))
 
   -- the same of the second arm, behind the way around it, which leads to its end
   abbrev pub ElseRuns : Else → Type 0
   ElseRuns b = (i to : ℕ) (w : Inside) (k : Control) (s : State S) → to ≡ i + else_jump b → w.result ≡ native_if p.model result → HasCode c i (else_code p i to w b) → s.steps ≤ n
-      → Does c S after (standing k to s) (otherwise p M call result b s) (LeavesAs p c S after w k (i + size_of_else w.inner w.scopes b))
+      → Does c S after (standing k to s) (otherwise p M call result b s) (LeavesAs p c S after w k (i + size_of_else w.depth b))
 
   -- where a part leaves, the machine stands as the run does
   pub runs_there : (w : Inside) (k : Control) (j : ℕ) (f : Flow) (u : State S) (y : Machine S) → LeavesAs p c S after w k j f u y → y.run ≡ u
@@ -122,18 +122,18 @@ module _ (p : Program) (c : Code) (S : Type 0) (after : Event → List Cell → 
       let part = λ (u : State S). run.tell p S (seen_by after) (At at) u in
       let j : i + 1 ≡ suc i = omega arith in
       let behind = subst (λ l. HasCode c (suc i) (form_code p l w at f)) j h.1 in
-      let to : suc i + size_of_form w.inner w.scopes f ≡ i + (size_of_form w.inner w.scopes f + 1) = omega arith in
+      let to : suc i + size_of_form w.depth f ≡ i + (size_of_form w.depth f + 1) = omega arith in
       let first = op_stays c S after p i 1 k s (Arrive at) part h.0 (λ l u. refl) in
       let all = does_on c S after (standing k i s) (paying p c S after 1 part s) (λ _ u. form p M call result at f u)
-      (λ _ u y. (y.run ≡ u) × (y.control ≡ control_at k (suc i))) (Leaving w k (i + (size_of_form w.inner w.scopes f + 1)) s.steps) first
+      (λ _ u y. (y.run ≡ u) × (y.control ≡ control_at k (suc i))) (Leaving w k (i + (size_of_form w.depth f + 1)) s.steps) first
       (λ t u y g r z.
       let less = fewer_then at s u s.steps refl g in
       let bound : u.steps ≤ n = omega (arith, less, b) in
-      does_made c S after y (control_at k (suc i)) u (form p M call result at f u) (Leaving w k (i + (size_of_form w.inner w.scopes f + 1)) s.steps) z.0 z.1
-      (does_so c S after (standing k (suc i) u) (form p M call result at f u) (LeavesAs p c S after w k (i + (size_of_form w.inner w.scopes f + 1))) (Leaving w k (i + (size_of_form w.inner w.scopes f + 1)) s.steps)
-      (other_end (standing k (suc i) u) (form p M call result at f u) w k (suc i + size_of_form w.inner w.scopes f) (i + (size_of_form w.inner w.scopes f + 1)) to (runs at (suc i) w k u e behind bound))
+      does_made c S after y (control_at k (suc i)) u (form p M call result at f u) (Leaving w k (i + (size_of_form w.depth f + 1)) s.steps) z.0 z.1
+      (does_so c S after (standing k (suc i) u) (form p M call result at f u) (LeavesAs p c S after w k (i + (size_of_form w.depth f + 1))) (Leaving w k (i + (size_of_form w.depth f + 1)) s.steps)
+      (other_end (standing k (suc i) u) (form p M call result at f u) w k (suc i + size_of_form w.depth f) (i + (size_of_form w.depth f + 1)) to (runs at (suc i) w k u e behind bound))
       (λ flow v x gone q l.
-      let few = steps_there (standing k (suc i) u) x v u.steps q (runs_there w k (i + (size_of_form w.inner w.scopes f + 1)) flow v x l) (omega arith) in
+      let few = steps_there (standing k (suc i) u) x v u.steps q (runs_there w k (i + (size_of_form w.depth f + 1)) flow v x l) (omega arith) in
       let lower : v.steps < s.steps = omega (arith, few, less) in
       (l, lower)))) in
-      subst (λ r. Does c S after (standing k i s) r (Leaving w k (i + (size_of_form w.inner w.scopes f + 1)) s.steps)) (sym (arrived at f s (run.tick_from p S (seen_by after) s.steps s))) all
+      subst (λ r. Does c S after (standing k i s) r (Leaving w k (i + (size_of_form w.depth f + 1)) s.steps)) (sym (arrived at f s (run.tick_from p S (seen_by after) s.steps s))) all

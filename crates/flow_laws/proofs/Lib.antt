@@ -14,9 +14,10 @@ pub mod Pairs
 pub mod Answering
 pub mod Nodes
 pub mod Choosing
+pub mod Invoking
+pub mod Elements
 pub mod Targets
 pub mod Assigning
-pub mod Invoking
 pub mod Evaluating
 pub mod Known
 pub mod Standing
@@ -24,6 +25,8 @@ pub mod Scopes
 pub mod Leaving
 pub mod Branching
 pub mod Looping
+pub mod Selecting
+pub mod Switching
 pub mod Declaring
 pub mod Executing
 pub mod Calling

@@ -20,7 +20,7 @@ use Rattle.flow_code.specs.declared.code.Then.TheVariants.{Drop}
 use Rattle.flow_code.specs.declared.statements.Inside.{Inside}
 use Rattle.flow_code.specs.Preparing.{op, only, followed}
 use Rattle.flow_code.specs.Expressions.{code}
-use Rattle.flow_code.specs.Sizes.{size, size_if, size_of_test, size_of_arm}
+use Rattle.flow_code.specs.Sizes.{size, size_if, size_of_test, size_of_arm, in_turn}
 use Rattle.flow_code.specs.Statements.{full_of, in_loop, only_if, test_code, arm_code, turns_code}
 use Rattle.flow_code.specs.Words.{native_if}
 use Rattle.flow_laws.specs.Machines.{Control, Machine}
@@ -70,11 +70,11 @@ module _ (p : Program) (c : Code) (S : Type 0) (after : Event → List Cell → 
 
   -- a loop's body, which ends at the address to which `continue` leads
   body_runs : (st : Stm) → Runs p c S after n known result st → (i again out : ℕ) (w : Inside) (k : Control) (s : State S) → w.result ≡ native_if p.model result
-      → i + size_of_arm 0 w.scopes st ≡ again → HasCode c i (arm_code p i (in_loop again out w) st) → s.steps ≤ n
+      → i + size_of_arm (in_turn w.depth) st ≡ again → HasCode c i (arm_code p i (in_loop again out w) st) → s.steps ≤ n
       → Does c S after (standing k i s) (continued End (State S) cells_of with_cells (exec p M call result st) s) (TurnLeaves w k again out s.steps)
   body_runs st runs i again out w k s e g h b =
       let part = scoped End (State S) cells_of with_cells (exec p M call result st) in
-      does_on c S after (standing k i s) (part s) (λ f u. Go (continuing f) u) (Leaving p c S after n known result (in_loop again out w) k (i + size_of_arm 0 w.scopes st) s.steps) (TurnLeaves w k again out s.steps)
+      does_on c S after (standing k i s) (part s) (λ f u. Go (continuing f) u) (Leaving p c S after n known result (in_loop again out w) k (i + size_of_arm (in_turn w.depth) st) s.steps) (TurnLeaves w k again out s.steps)
       (arm_runs p c S after n known result st runs i (in_loop again out w) k s e h b)
       (λ f u y q r z. body_left w k again out s.steps f u y (subst (λ j. LeavesAs p c S after (in_loop again out w) k j f u y) g z.0) z.1)
 
@@ -158,7 +158,7 @@ module _ (p : Program) (c : Code) (S : Type 0) (after : Event → List Cell → 
   -- `while`
   pub while_runs : (e : Exp) (st : Stm) → Runs p c S after n known result st → FormRuns p c S after n known result (While e st)
   while_runs e st runs at i w k s g h b =
-      let arm = size_of_arm 0 w.scopes st in
+      let arm = size_of_arm (in_turn w.depth) st in
       let again = i + 1 + arm in
       let out = again + size e in
       let v = in_loop again out w in
@@ -183,7 +183,7 @@ module _ (p : Program) (c : Code) (S : Type 0) (after : Event → List Cell → 
   -- `do`
   pub do_runs : (st : Stm) (e : Exp) → Runs p c S after n known result st → FormRuns p c S after n known result (DoWhile st e)
   do_runs st e runs at i w k s g h b =
-      let arm = size_of_arm 0 w.scopes st in
+      let arm = size_of_arm (in_turn w.depth) st in
       let again = i + arm in
       let out = again + size e in
       let v = in_loop again out w in
@@ -205,9 +205,9 @@ module _ (p : Program) (c : Code) (S : Type 0) (after : Event → List Cell → 
   pub for_turns_run : (e t : Option Exp) (st : Stm) → Runs p c S after n known result st → (at : Spot) (i : ℕ) (w : Inside) (k : Control) (s : State S) → w.result ≡ native_if p.model result
       → HasCode c i (turns_code p i w at e t st) → s.steps ≤ n
       → Does c S after (standing k i s) (looped at (ForLoop e t st) s)
-      (LeavesAs p c S after w k (i + (size_of_arm 0 w.scopes st + size_if t + size_of_test e + 1)))
+      (LeavesAs p c S after w k (i + (size_of_arm (in_turn w.depth) st + size_if t + size_of_test e + 1)))
   for_turns_run e t st runs at i w k s g h b =
-      let arm = size_of_arm 0 w.scopes st in
+      let arm = size_of_arm (in_turn w.depth) st in
       let again = i + 1 + arm in
       let head = again + size_if t in
       let out = head + size_of_test e in

@@ -3,8 +3,9 @@
 use Rattle.std.proofs.Common.{◌≡◌, ℕ, zero, suc, ◌+◌, ℤ, pos, Bool, true, false, cond, not, ◌||◌, ◌&&◌, is_some, nat_le, List, [], ◌∷◌, ◌++◌, length, take, Option, Some, None, slice_get, refl, sym, ap, ◌∙◌, subst}
 use Rattle.std.proofs.lemmas.List.{length-map, map-append}
 use Rattle.std.proofs.Math.Seq.{take-length}
-use Rattle.c_core.specs.Tree.{Exp, Expr, Node, Const, Var, Index, Unary, Cast, Step, Binary, Logic, Choose, Comma, Assign, Call, Exps, NoExp, MoreExp, Init, Absent, One, Many, Names, NoName, MoreName, First, NoFirst, FirstExp, FirstNames, Stm, Stmt, Form, Empty, Do, Declare, Block, If, While, DoWhile, For, Break, Continue, Return, Label, Else, NoElse, OrElse, Stms, NoStm, MoreStm, Function, Program}
+use Rattle.c_core.specs.Tree.{Exp, Expr, Node, Const, Var, Index, Unary, Cast, Step, Binary, Logic, Choose, Comma, Assign, Call, Exps, NoExp, MoreExp, Init, Absent, One, Many, Rows, Names, NoName, MoreName, First, NoFirst, FirstExp, FirstNames, Stm, Stmt, Form, Empty, Do, Declare, Block, If, While, DoWhile, For, Break, Continue, Return, Label, Switch, Else, NoElse, OrElse, Stms, NoStm, MoreStm, MoreCase, Function, Program}
 use Rattle.c_core.specs.Operators.{type_for, right_type_for, op_of_step, is_prefix, apply_of, apply_one_of}
+use Rattle.c_core.specs.Typing.{labels_in}
 use Rattle.c_core.specs.Types.{fit, is_zero, promote_of}
 use Rattle.c_core.specs.declared.number.BinOp.{BinOp}
 use Rattle.c_core.specs.declared.number.Done.{Done}
@@ -15,23 +16,25 @@ use Rattle.c_core.specs.declared.number.Property.{Property}
 use Rattle.c_core.specs.declared.number.Property.TheVariants.{UnreachCall, NoOverflow}
 use Rattle.c_core.specs.declared.number.Spot.{Spot}
 use Rattle.c_core.specs.declared.tree.Callee.{Callee}
+use Rattle.c_core.specs.declared.tree.Label.{Label as ArmLabel}
 use Rattle.c_core.specs.declared.tree.Callee.TheVariants.{Defined, Input as InputOf, ReachError, Abort, Exit}
 use Rattle.c_meaning.specs.declared.run.DrawKind.{DrawKind}
 use Rattle.c_meaning.specs.declared.run.DrawKind.TheVariants.{Cell as CellDraw}
 use Rattle.c_meaning.specs.declared.run.End.{End}
 use Rattle.c_meaning.specs.declared.run.End.TheVariants.{Ended, Undefined, Violated, Spent, Deep}
 use Rattle.c_meaning.specs.declared.run.Event.{Event}
+use Rattle.c_meaning.specs.declared.run.Way.TheVariants.{Truth}
 use Rattle.c_meaning.specs.declared.run.Event.TheVariants.{Branch, Enter, Return as Returned, Fail}
-use Rattle.c_meaning.specs.Acts.{Res, Go, Stop, Flow, Next, Broken, Again, Gave, bind, go_on, turned, continuing, given}
+use Rattle.c_meaning.specs.Acts.{Res, Go, Stop, Flow, Next, Broken, Again, Gave, bind, go_on, turned, continuing, held, given}
 use Rattle.c_meaning.specs.Acts as acts
 use Rattle.c_meaning.specs.Cells.{Key, Cell, cells_from}
 use Rattle.c_meaning.specs.Eval.{convert_to, operate, store, assign, tested, called, eval, node, target, place, evals, is_used}
-use Rattle.c_meaning.specs.Exec.{ticks, full, full_if, control, going, while_turn, do_turn, for_turn, draw_cells, initials, initial, declare, first, exec, form, otherwise, execs, turn, body, with_params, call_of, run_in}
+use Rattle.c_meaning.specs.Exec.{ticks, full, full_if, control, going, while_turn, do_turn, for_turn, draw_cells, initials, row_initials, initial, declare, first, exec, form, otherwise, execs, from_arm, turn, body, with_params, call_of, run_in}
 use Rattle.c_meaning.specs.Fitting.{keys, Grows, calls_in}
 use Rattle.c_meaning.specs.Meaning.{Tick, AStatement, ANode, ACell, AParameter, Use, Used, Unused, Where, Site, Loop, WhileLoop, DoLoop, ForLoop, Meaning, Calls}
-use Rattle.c_meaning.specs.Objects.{type_of, spot_of, type_of_object, size_of_object}
+use Rattle.c_meaning.specs.Objects.{type_of, spot_of, type_of_object, size_of_object, columns_of_object}
 use Rattle.c_meaning.specs.Run as run
-use Rattle.c_meaning.specs.Run.{State, Moment, Head, cells_of, with_cells, index_below}
+use Rattle.c_meaning.specs.Run.{State, Moment, Head, cells_of, with_cells, cell_among, arm_for, way_for}
 use Rattle.c_meaning.proofs.Stateful.{grows_same, grows_on, keys_put}
 use Rattle.flow_code.specs.Sizes.{leaks, leaks_by, any_leaks, first_leaks}
 
@@ -100,7 +103,7 @@ module _ (S : Type 0) where
   more_then cs (Stop x t) k h f = tt
 
   -- one part, and what comes behind it
-  neutral_then : {A B : Type 0} (m : Act A) (k : A → Act B) → Neutral m → ((a : A) → Neutral (k a)) → Neutral (λ s. bind (m s) k)
+  pub neutral_then : {A B : Type 0} (m : Act A) (k : A → Act B) → Neutral m → ((a : A) → Neutral (k a)) → Neutral (λ s. bind (m s) k)
   neutral_then m k g f = record { at = λ s. same_then s.cells (m s) k (g.at s) f }
 
   grows_then : {A B : Type 0} (m : Act A) (k : A → Act B) → Growing m → ((a : A) → Growing (k a)) → Growing (λ s. bind (m s) k)
@@ -156,6 +159,10 @@ module _ (S : Type 0) where
   -- a loop's body
   pub continued_neutral : (m : Act Flow) → Growing m → Neutral (acts.continued End (State S) cells_of with_cells m)
   continued_neutral m g = neutral_then (acts.scoped End (State S) cells_of with_cells m) (λ f s. Go (continuing f) s) (scope_neutral m g) (λ f. neutral_go (continuing f))
+
+  -- the arms of a switch
+  pub breaks_neutral : (m : Act Flow) → Growing m → Neutral (acts.breaks End (State S) cells_of with_cells m)
+  breaks_neutral m g = neutral_then (acts.scoped End (State S) cells_of with_cells m) (λ f s. Go (held f) s) (scope_neutral m g) (λ f. neutral_go (held f))
 
   cut_nothing : {A : Type 0} (n : ℕ) (cs : List Cell) (r : Res End (State S) A) → n ≡ length cs → Same cs r → acts.cut End (State S) cells_of with_cells n r ≡ r
   cut_nothing n cs (Go a t) e h =
@@ -222,7 +229,10 @@ module _ (p : Program) (S : Type 0) (see : Moment → S → S) where
   reach_neutral NoOverflow at site = neutral_stop S Ended
 
   branched_neutral : {A : Type 0} (spot : Spot) (t : Bool) (a b : Ran A) → Neutral S a → Neutral S b → Neutral S (run.branched p S see spot t a b)
-  branched_neutral spot t a b f g = neutral_then S (run.tell p S see (Branch spot t)) (λ _. cond t a b) (tell_neutral (Branch spot t)) (λ _. neutral_choice S t a b f g)
+  branched_neutral spot t a b f g = neutral_then S (run.tell p S see (Branch spot (Truth t))) (λ _. cond t a b) (tell_neutral (Branch spot (Truth t))) (λ _. neutral_choice S t a b f g)
+
+  pub select_neutral : (at : Spot) (v : ℤ) (ls : List ArmLabel) → Neutral S (run.selected p S see at v ls)
+  select_neutral at v ls = neutral_then S (run.tell p S see (Branch at (way_for v ls))) (λ _. run.ret p S see (arm_for v ls)) (tell_neutral (Branch at (way_for v ls))) (λ _. neutral_go S (arm_for v ls))
 
   returned_neutral : (site : Site) (v : Option ℤ) → Neutral S (run.returned p S see site v)
   returned_neutral site (Some v) = neutral_then S (run.tell p S see (Returned site.close (Some v))) (λ _. run.ret p S see v) (tell_neutral (Returned site.close (Some v))) (λ _. neutral_go S v)
@@ -305,9 +315,10 @@ module _ (p : Program) (S : Type 0) (see : Moment → S → S) where
         node_neutral : (want : Use) (spot : Spot) (ty : Option IntType) (n : Node) → Neutral S (node p M call at want spot ty n)
         node_neutral want spot ty (Const v) = neutral_go S v
         node_neutral want spot ty (Var o) = look_neutral (M.cell o 0)
-        node_neutral want spot ty (Index o i) =
-            neutral_then S (eval p M call at Used i) _ (eval_neutral Used i) (λ j.
-            neutral_then S (run.key_of p S see spot o (index_below (size_of_object p o) j)) _ (key_neutral spot o (index_below (size_of_object p o) j)) (λ k. look_neutral k))
+        node_neutral want spot ty (Index o is) =
+            neutral_then S (evals p M call at is) _ (evals_neutral is) (λ js.
+            let i = cell_among (size_of_object p o) (columns_of_object p o) js in
+            neutral_then S (run.key_of p S see spot o i) _ (key_neutral spot o i) (λ k. look_neutral k))
         node_neutral want spot ty (Unary op a) =
             neutral_then S (eval p M call at Used a) _ (eval_neutral Used a) (λ x.
             let y = fit p.model (promote_of (type_of a)) x in
@@ -347,7 +358,7 @@ module _ (p : Program) (S : Type 0) (see : Moment → S → S) where
         target_neutral (Expr spot ty n) = neutral_then S (M.tick ANode) (λ _. place p M call at spot n) tick_neutral (λ _. place_neutral spot n)
 
         place_neutral : (spot : Spot) (n : Node) → Neutral S (place p M call at spot n)
-        place_neutral spot (Index o i) = neutral_then S (eval p M call at Used i) _ (eval_neutral Used i) (λ j. key_neutral spot o (index_below (size_of_object p o) j))
+        place_neutral spot (Index o is) = neutral_then S (evals p M call at is) _ (evals_neutral is) (λ js. key_neutral spot o (cell_among (size_of_object p o) (columns_of_object p o) js))
         place_neutral spot (Var o) = neutral_go S _
         place_neutral spot _ = neutral_go S _
 
@@ -399,11 +410,16 @@ module _ (p : Program) (S : Type 0) (see : Moment → S → S) where
         neutral_then S (M.convert (type_of e) (type_of_object p o) v) _ (neutral_go S (fit p.model (type_of_object p o) v)) (λ w.
         neutral_then S (M.write (M.cell o i) w) _ (write_neutral (M.cell o i) w) (λ _. initials_neutral at o (suc i) es)))
 
+    rows_neutral : (at : Spot) (o i : ℕ) (rows : List Exps) → Neutral S (row_initials p M call at o i rows)
+    rows_neutral at o i [] = neutral_go S tt
+    rows_neutral at o i (es ∷ rows) = neutral_then S (initials p M call at o i es) _ (initials_neutral at o i es) (λ _. rows_neutral at o (i + columns_of_object p o) rows)
+
     -- an initializer
     pub initial_neutral : (at spot : Spot) (o : ℕ) (j : Init) → Neutral S (initial p M call at spot o j)
     initial_neutral at spot o Absent = draw_cells_neutral spot o 0 (size_of_object p o)
     initial_neutral at spot o (One e) = initials_neutral at o 0 (MoreExp e NoExp)
     initial_neutral at spot o (Many es) = initials_neutral at o 0 es
+    initial_neutral at spot o (Rows rows) = rows_neutral at o 0 rows
 
     -- declared names
     pub declare_grows : (at : Spot) (ns : Names) → Growing S (declare p M call at ns)
@@ -444,6 +460,13 @@ module _ (p : Program) (S : Type 0) (see : Moment → S → S) where
           let turns = M.loop at (ForLoop e s b) (for_turn p M call at e s (exec p M call result b)) in
           scope_neutral S (first p M call at i turns) (first_grows at i turns (grows_of S turns (loop_neutral at (ForLoop e s b) (for_turn p M call at e s (exec p M call result b)) (for_neutral at e s (exec p M call result b) g))))
 
+      switch_form : (at : Spot) (e : Exp) (b : Stms) → ((n : ℕ) → Neutral S (from_arm p M call result n b)) → Neutral S (form p M call result at (Switch e b))
+      switch_form at e b g =
+          let ty = promote_of (type_of e) in
+          neutral_then S (full p M call at Used e) _ (full_neutral at Used e) (λ v.
+          neutral_then S (M.convert (type_of e) ty v) _ (neutral_go S (fit p.model ty v)) (λ w.
+          neutral_then S (M.select at ty w (labels_in b)) _ (select_neutral at w (labels_in b)) (λ n. g n)))
+
       mutual
         -- a statement leaves the cells that it finds and perhaps more
         pub exec_grows : (st : Stm) → Growing S (exec p M call result st)
@@ -469,6 +492,7 @@ module _ (p : Program) (S : Type 0) (see : Moment → S → S) where
         form_grows at (Return None) = grows_of S (M.give None) (neutral_go S (Gave None))
         form_grows at (Return (Some e)) = grows_of S (form p M call result at (Return (Some e))) (return_form at e)
         form_grows at (Label b) = exec_grows b
+        form_grows at (Switch e b) = grows_of S (form p M call result at (Switch e b)) (switch_form at e b (λ n. arms_neutral n b))
 
         -- the second arm of a conditional
         pub otherwise_neutral : (b : Else) → Neutral S (otherwise p M call result b)
@@ -478,6 +502,14 @@ module _ (p : Program) (S : Type 0) (see : Moment → S → S) where
         pub execs_grows : (b : Stms) → Growing S (execs p M call result b)
         execs_grows NoStm = grows_of S M.next (neutral_go S Next)
         execs_grows (MoreStm s b) = grows_in_turn S (exec p M call result s) (execs p M call result b) (exec_grows s) (execs_grows b)
+        execs_grows (MoreCase spot l b) = execs_grows b
+
+        -- the arms of a switch from one on
+        pub arms_neutral : (n : ℕ) (b : Stms) → Neutral S (from_arm p M call result n b)
+        arms_neutral n NoStm = neutral_go S Next
+        arms_neutral n (MoreStm s b) = arms_neutral n b
+        arms_neutral zero (MoreCase spot l b) = breaks_neutral S (execs p M call result b) (execs_grows b)
+        arms_neutral (suc n) (MoreCase spot l b) = arms_neutral n b
 
       mutual
         -- a statement that declares no names in its scope leaves the cells that it finds
@@ -502,6 +534,7 @@ module _ (p : Program) (S : Type 0) (see : Moment → S → S) where
         form_neutral at (Return None) l = neutral_go S (Gave None)
         form_neutral at (Return (Some e)) l = return_form at e
         form_neutral at (Label b) l = exec_neutral b l
+        form_neutral at (Switch e b) l = switch_form at e b (λ n. arms_neutral n b)
 
       -- so do statements of which none declares names
       pub execs_neutral : (b : Stms) → any_leaks b ≡ false → Neutral S (execs p M call result b)
@@ -509,6 +542,7 @@ module _ (p : Program) (S : Type 0) (see : Moment → S → S) where
       execs_neutral (MoreStm s b) l =
           let e = either_false (leaks s) (any_leaks b) l in
           in_turn S (exec p M call result s) (execs p M call result b) (exec_neutral s e.0) (execs_neutral b e.1)
+      execs_neutral (MoreCase spot l b) n = execs_neutral b n
 
       -- one turn of a loop
       pub turn_neutral : (at : Spot) (l : Loop) → Neutral S (turn p M call result at l)

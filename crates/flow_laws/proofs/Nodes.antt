@@ -2,7 +2,7 @@
 use Rattle.std.proofs.Common.{◌≡◌, ℕ, suc, ◌+◌, ◌≤◌, ℤ, List, ◌∷◌, length, Option, Some, None, refl, sym, ◌∙◌, subst, arith, append_assoc}
 use Rattle.c_core.specs.Types.{fit, promote_of}
 use Rattle.c_core.specs.Operators.{apply_one_of}
-use Rattle.c_core.specs.Tree.{Exp, Expr, Node, Const, Var, Index, Unary, Cast, Binary, Program}
+use Rattle.c_core.specs.Tree.{Exp, Expr, Node, Const, Var, Unary, Cast, Binary, Program}
 use Rattle.c_core.specs.declared.number.BinOp.{BinOp}
 use Rattle.c_core.specs.declared.number.UnOp.{UnOp}
 use Rattle.c_core.specs.declared.number.IntType.{IntType}
@@ -12,7 +12,7 @@ use Rattle.c_meaning.specs.declared.run.Event.{Event}
 use Rattle.c_meaning.specs.Cells.{Cell, read}
 use Rattle.c_meaning.specs.Acts.{Res, Go, bind}
 use Rattle.c_meaning.specs.Meaning.{Use, Used, Unused}
-use Rattle.c_meaning.specs.Objects.{type_of, size_of_object}
+use Rattle.c_meaning.specs.Objects.{type_of}
 use Rattle.c_meaning.specs.Eval.{operate}
 use Rattle.c_meaning.specs.Run.{State, index_below}
 use Rattle.c_meaning.specs.Run as run
@@ -25,7 +25,7 @@ use Rattle.flow_code.specs.declared.code.Then.{Then}
 use Rattle.flow_code.specs.declared.code.Then.TheVariants.{Push}
 use Rattle.flow_code.specs.declared.code.Into.{Into}
 use Rattle.flow_code.specs.declared.code.Action.{Action}
-use Rattle.flow_code.specs.declared.code.Action.TheVariants.{Give, Look, Convert, OperateOne}
+use Rattle.flow_code.specs.declared.code.Action.TheVariants.{Give, Convert, OperateOne}
 use Rattle.flow_code.specs.declared.code.Code.{Code}
 use Rattle.flow_code.specs.Preparing.{op, only, kept, rest, prepared, paired, paired_at, taken_both}
 use Rattle.flow_code.specs.Sizes.{operand_in, operand_of, with_one, with_two, behind_operand, size, size_of_node}
@@ -38,7 +38,7 @@ use Rattle.flow_laws.specs.inside.Simulating.{HasCode, control_at, meaning, payi
 use Rattle.flow_laws.proofs.Operations.{code_parts, bind_behind, bind_alike, standing, Comes, op_comes, paying_alike, paying_more}
 use Rattle.flow_laws.proofs.Operands.{Eval, NodeOf, ticked, goes_to, Values, own, TakesBoth, own_steps, operand_comes, pushed_then}
 use Rattle.flow_laws.proofs.Pairs.{pair_code, pair_comes}
-use Rattle.flow_laws.proofs.Answering.{IsNew, look_takes, convert_takes, operate_one_takes, operator_takes}
+use Rattle.flow_laws.proofs.Answering.{IsNew, convert_takes, operate_one_takes, operator_takes}
 
 module _ (p : Program) (c : Code) (S : Type 0) (after : Event → List Cell → S → S) (n : ℕ) where
   -- the code of a node, whose value goes somewhere, does what the node does
@@ -72,20 +72,6 @@ module _ (p : Program) (c : Code) (S : Type 0) (after : Event → List Cell → 
       let j : suc i ≡ i + 1 = omega arith in
       subst (λ l. Comes p c S after (standing κ i s) (paying p c S after k (λ u. finished c S after (read (cell o 0) u.cells) (read (cell o 0) u.cells) into (control_at κ l) u) s)) j
       (op_comes p c S after i (op k (Give (InCell o) into)) κ s h.0)
-
-  pub index_goes : (ty : Option IntType) (o : ℕ) (e : Exp) → Values p c S after n e → (into : Into) → Noded ty (Index o e) into
-  index_goes ty o e ih into at i k want spot κ s h below =
-      let j = i + with_one (operand_of e) (size e) in
-      let key = λ (v : ℤ) (t : State S). run.key_of p S (seen_by after) spot o (index_below (size_of_object p o) v) t in
-      subst (Comes p c S after (standing κ i s))
-      (paying_alike p c S after k (λ u. bind (Eval p c S after n at Used e u) (λ v t. bind (key v t) (λ l w. goes_to p c S after n κ j into (read l w.cells) w)))
-      (λ u. bind (NodeOf p c S after n at want spot ty (Index o e) u) (goes_to p c S after n κ j into)) s
-      (λ u. sym (bind_behind (Eval p c S after n at Used e u) (λ v t. bind (key v t) (λ l w. Go (read l w.cells) w)) (goes_to p c S after n κ j into)
-      ∙ bind_alike (Eval p c S after n at Used e u) (λ v t. bind (bind (key v t) (λ l w. Go (read l w.cells) w)) (goes_to p c S after n κ j into))
-      (λ v t. bind (key v t) (λ l w. goes_to p c S after n κ j into (read l w.cells) w))
-      (λ v t. bind_behind (key v t) (λ l w. Go (read l w.cells) w) (goes_to p c S after n κ j into)))))
-      (operand_comes p c S after n e ih (λ y. Look o (size_of_object p o) y spot into) (λ v κ t. bind (key v t) (λ l w. finished c S after (read l w.cells) (read l w.cells) into κ w))
-      (look_takes p c S after n o (size_of_object p o) spot into) at i k κ s h below)
 
   pub cast_goes : (ty : Option IntType) (a : Exp) → Values p c S after n a → (then : Then) → Noded ty (Cast a) (only then)
   cast_goes None a ih then at i k want spot κ s h below = ih at i k Unused then κ s h below
@@ -129,7 +115,7 @@ module _ (p : Program) (c : Code) (S : Type 0) (after : Event → List Cell → 
       (λ v t d. subst (λ l. Comes p c S after (standing (record κ { stack = v ∷ κ.stack }) (i + size a) t) (bind (Eval p c S after n at Used b t) (λ w q. g v w (control_at κ l) q))) j
       (pair_comes p c S after n Top b ihb f g takes at (i + size a) 0 (record κ { stack = v ∷ κ.stack }) t behind_first d))
 
-  both_comes : (a b : Exp) → Values p c S after n a → Values p c S after n b
+  pub both_comes : (a b : Exp) → Values p c S after n a → Values p c S after n b
       → (f : Operand → Operand → Action) (g : ℤ → ℤ → Control → State S → Res End (State S) Control) → TakesBoth p c S after n f g
       → (at : Around) (i k : ℕ) (κ : Control) (s : State S)
       → HasCode c i (taken_both (paired_at i (prepared (operand_of a) k (code p at i k Used a Push)) (operand_of b) (λ j l. code p at j l Used b Push)) f) → s.steps ≤ n

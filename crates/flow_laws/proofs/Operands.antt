@@ -121,7 +121,7 @@ module _ (p : Program) (c : Code) (S : Type 0) (after : Event → List Cell → 
   pub own : (x : Node) (y : Operand) → operand_in x ≡ Some y → IsOwn x y
   own (Const v) y e = own_number v y (let g : Number v ≡ y = cc in g)
   own (Var o) y e = own_cell o y (let g : InCell o ≡ y = cc in g)
-  own (Index o i) y e = absurd (cc)
+  own (Index o is) y e = absurd (cc)
   own (Unary o a) y e = absurd (cc)
   own (Cast a) y e = absurd (cc)
   own (Step o a) y e = absurd (cc)

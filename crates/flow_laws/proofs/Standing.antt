@@ -54,7 +54,7 @@ module _ (c : Code) (S : Type 0) (after : Event → List Cell → S → S) where
 
   module _ (p : Program) where
     -- an operation that takes no step
-    op_goes : (i : ℕ) (k l : Control) (s u : State S) (a : Action) → slice_get c.ops i ≡ Some (op 0 a) → acted c S after a (control_at k (suc i)) s ≡ Go l u
+    pub op_goes : (i : ℕ) (k l : Control) (s u : State S) (a : Action) → slice_get c.ops i ≡ Some (op 0 a) → acted c S after a (control_at k (suc i)) s ≡ Go l u
         → Reaches c S after (standing k i s) (record { control = l; run = u })
     op_goes i k l s u a h e =
         let d = subst (λ r. Does c S after (standing k i s) r (λ m t y. (y.control ≡ m) × (y.run ≡ t))) e (op_comes p c S after i (op 0 a) k s h) in

@@ -1,10 +1,10 @@
--- The targets of assignments: cells, and elements whose index the machine finds.
-use Rattle.std.proofs.Common.{◌≡◌, ℕ, zero, suc, ◌+◌, ◌≤◌, ◌<◌, ℤ, pos, negsuc, nat_lt, Bool, true, false, cond, List, [], ◌∷◌, Option, Some, None, slice_get, refl, sym, ap, ◌∙◌, subst, arith}
+-- The targets of assignments: cells, and elements whose cells the machine finds.
+use Rattle.std.proofs.Common.{◌≡◌, ℕ, zero, suc, ◌+◌, ◌≤◌, ◌<◌, ℤ, pos, nat_lt, Bool, true, false, cond, List, [], ◌∷◌, Option, Some, None, slice_get, refl, sym, ap, ◌∙◌, subst, arith}
 use Rattle.std.specs.List.{All}
-use Rattle.std.proofs.lemmas.Bool.{ltb-true, lt-ltb}
+use Rattle.std.proofs.lemmas.Bool.{lt-ltb}
 use Rattle.std.proofs.lemmas.List.Elements.{All-head, All-tail}
 use Rattle.c_core.specs.Types.{fit}
-use Rattle.c_core.specs.Tree.{Exp, Expr, Node, Index, Program}
+use Rattle.c_core.specs.Tree.{Exp, Expr, Node, Index, Exps, Program}
 use Rattle.c_core.specs.declared.number.IntType.{IntType}
 use Rattle.c_core.specs.declared.number.Spot.{Spot}
 use Rattle.c_core.specs.declared.tree.Object.{Object}
@@ -12,13 +12,14 @@ use Rattle.c_meaning.specs.declared.run.End.{End}
 use Rattle.c_meaning.specs.declared.run.Event.{Event}
 use Rattle.c_meaning.specs.Cells.{Cell, Key, read, put}
 use Rattle.c_meaning.specs.Acts.{Res, Go, Stop, bind}
-use Rattle.c_meaning.specs.Meaning.{AStatement, Used}
-use Rattle.c_meaning.specs.Objects.{size_in, size_of_object}
+use Rattle.c_meaning.specs.Meaning.{AStatement}
+use Rattle.c_meaning.specs.Objects.{size_in, size_of_object, columns_of_object}
 use Rattle.c_meaning.specs.Eval.{target, place}
 use Rattle.c_meaning.specs.Exec.{ticks}
-use Rattle.c_meaning.specs.Run.{State, index_below, with_cells}
+use Rattle.c_meaning.specs.Run.{State, cell_among, with_cells}
 use Rattle.c_meaning.specs.Run as run
 use Rattle.c_meaning.specs.Watching.{seen_by}
+use Rattle.c_meaning.proofs.Indexes.{among_is}
 use Rattle.run_state.specs.Interpreting.{where_of}
 use Rattle.run_state.specs.declared.machine.Around.{Around}
 use Rattle.flow_code.specs.declared.code.Place.{Place}
@@ -26,7 +27,7 @@ use Rattle.flow_code.specs.declared.code.Then.{Then}
 use Rattle.flow_code.specs.declared.code.Action.TheVariants.{Aim}
 use Rattle.flow_code.specs.declared.code.Code.{Code}
 use Rattle.flow_code.specs.Preparing.{only, stored_in}
-use Rattle.flow_code.specs.Sizes.{size, size_of_place}
+use Rattle.flow_code.specs.Sizes.{size_of_place}
 use Rattle.flow_code.specs.Expressions.{place_code}
 use Rattle.flow_code.specs.Words.{native}
 use Rattle.flow_laws.specs.Machines.{Control}
@@ -34,8 +35,10 @@ use Rattle.flow_laws.specs.Acting.{cell, index_of, key_at, stack_at, finished, p
 use Rattle.flow_laws.specs.inside.Simulating.{HasCode, control_at, meaning, calls, paying}
 use Rattle.flow_laws.proofs.Values.{fit_native}
 use Rattle.flow_laws.proofs.Operations.{Gives, bind_behind, standing, Comes, comes_on, paying_alike, paying_behind, paying_more}
-use Rattle.flow_laws.proofs.Operands.{Eval, ticked, goes_to, Values, operand_comes}
+use Rattle.flow_laws.proofs.Operands.{ticked, goes_to}
 use Rattle.flow_laws.proofs.Answering.{aim_takes}
+use Rattle.flow_laws.proofs.Invoking.{ArgsOf, InArgs}
+use Rattle.flow_laws.proofs.Elements.{gives_behind, element_found}
 
 -- the number of cells of each object fits 32 bits
 abbrev pub AreSmall : Program → Type 0
@@ -65,43 +68,32 @@ module _ (p : Program) (c : Code) (S : Type 0) (after : Event → List Cell → 
   abbrev pub PlaceOf : Around → Spot → Node → State S → Res End (State S) Key
   PlaceOf at spot x s = place p (meaning p c S after) (calls p c S after n) (where_of at) spot x s
 
-  found_if : (b : Bool) (spot : Spot) (o i size : ℕ) (t : State S) → nat_lt i size ≡ b → size < 4294967296 → Gives (IsFound o) (run.key_of p S (seen_by after) spot o (cond b (Some i) None) t)
-  found_if true spot o i size t e h = let l = ltb-true i size e in index_same o i (nat_lt i 4294967296) refl (omega (arith, l, h))
-  found_if false spot o i size t e h = tt
+  found_at : (spot : Spot) (o size : ℕ) (x : Option ℕ) (t : State S) → ((k : ℕ) → x ≡ Some k → k < size) → size < 4294967296 → Gives (IsFound o) (run.key_of p S (seen_by after) spot o x t)
+  found_at spot o size (Some k) t f h = let l = f k refl in index_same o k (nat_lt k 4294967296) refl (omega (arith, l, h))
+  found_at spot o size None t f h = tt
 
-  found_at : (spot : Spot) (o size : ℕ) (v : ℤ) (t : State S) → size < 4294967296 → Gives (IsFound o) (run.key_of p S (seen_by after) spot o (index_below size v) t)
-  found_at spot o size (pos i) t h = found_if (nat_lt i size) spot o i size t refl h
-  found_at spot o size (negsuc i) t h = tt
+  found : (spot : Spot) (o size columns : ℕ) (r : Res End (State S) (List (ℤ × IntType))) → size < 4294967296 → Gives (IsFound o) (bind r (λ js t. run.key_of p S (seen_by after) spot o (cell_among size columns js) t))
+  found spot o size columns (Go js t) h = found_at spot o size (cell_among size columns js) t (among_is size columns js) h
+  found spot o size columns (Stop e t) h = tt
 
-  found : (spot : Spot) (o size : ℕ) (r : Res End (State S) ℤ) → size < 4294967296 → Gives (IsFound o) (bind r (λ v t. run.key_of p S (seen_by after) spot o (index_below size v) t))
-  found spot o size (Go v t) h = found_at spot o size v t h
-  found spot o size (Stop e t) h = tt
-
-  gives_behind : {A B : Type 0} (P : A → Type 0) (r : Res End (State S) B) (f : State S → Res End (State S) A) → ((u : State S) → Gives P (f u)) → Gives P (bind r (λ _ u. f u))
-  gives_behind P (Go b u) f h = h u
-  gives_behind P (Stop e u) f h = tt
-
-  -- the index of an element, and what the machine does behind it
-  pub aim_then : (o : ℕ) (e : Exp) → Values p c S after n e → AreSmall p → (at : Around) (i k : ℕ) (spot : Spot) (reads : Bool) (κ : Control) (s : State S)
-      → HasCode c i (place_code p at i k spot (Index o e) reads).ops → s.steps ≤ n
+  -- the cell of an element, and what the machine does behind it
+  pub aim_then : (o : ℕ) (is : Exps) → InArgs p c S after n is → AreSmall p → (at : Around) (i k : ℕ) (spot : Spot) (reads : Bool) (κ : Control) (s : State S)
+      → HasCode c i (place_code p at i k spot (Index o is) reads).ops → s.steps ≤ n
       → (f : Key → State S → Res End (State S) Control)
       → ((key : Key) (u : State S) → IsFound o key → u.steps ≤ n
-      → Comes p c S after (standing (record κ { stack = cond reads (read key u.cells ∷ pos key.index ∷ κ.stack) (pos key.index ∷ κ.stack) }) (i + size_of_place (Index o e)) u) (f key u))
-      → Comes p c S after (standing κ i s) (paying p c S after k (λ u. bind (PlaceOf at spot (Index o e) u) f) s)
-  aim_then o e ih small at i k spot reads κ s h below f g =
+      → Comes p c S after (standing (record κ { stack = cond reads (read key u.cells ∷ pos key.index ∷ κ.stack) (pos key.index ∷ κ.stack) }) (i + size_of_place (Index o is)) u) (f key u))
+      → Comes p c S after (standing κ i s) (paying p c S after k (λ u. bind (PlaceOf at spot (Index o is) u) f) s)
+  aim_then o is ih small at i k spot reads κ s h below f g =
       let l = size_of_object p o in
-      let key = λ (v : ℤ) (t : State S). run.key_of p S (seen_by after) spot o (index_below l v) t in
-      let to = λ (x : Key) (u : State S). control_at (record κ { stack = cond reads (read x u.cells ∷ pos x.index ∷ κ.stack) (pos x.index ∷ κ.stack) }) (i + size_of_place (Index o e)) in
-      let r = paying p c S after k (PlaceOf at spot (Index o e)) s in
-      let reached = operand_comes p c S after n e ih (λ y. Aim o l y spot reads) (λ v κ t. bind (key v t) (λ x u. aimed c S after reads x κ.stack κ u)) (aim_takes p c S after n o l spot reads) at i k κ s h below in
+      let to = λ (x : Key) (u : State S). control_at (record κ { stack = cond reads (read x u.cells ∷ pos x.index ∷ κ.stack) (pos x.index ∷ κ.stack) }) (i + size_of_place (Index o is)) in
+      let r = paying p c S after k (PlaceOf at spot (Index o is)) s in
+      let reached = element_found p c S after n o (λ y. Aim o l y spot reads) (λ x κ u. aimed c S after reads x κ.stack κ u) at spot (aim_takes p c S after n o l spot reads) is ih i k κ s h below in
       let placed : Comes p c S after (standing κ i s) (bind r (λ x u. Go (to x u) u)) =
-      subst (Comes p c S after (standing κ i s))
-      (paying_alike p c S after k (λ u. bind (Eval p c S after n at Used e u) (λ v t. bind (key v t) (λ x w. Go (to x w) w))) (λ u. bind (PlaceOf at spot (Index o e) u) (λ x w. Go (to x w) w)) s
-      (λ u. sym (bind_behind (Eval p c S after n at Used e u) key (λ x w. Go (to x w) w)))
-      ∙ sym (paying_behind p c S after k (PlaceOf at spot (Index o e)) (λ x w. Go (to x w) w) s)) reached in
-      subst (Comes p c S after (standing κ i s)) (paying_behind p c S after k (PlaceOf at spot (Index o e)) f s)
+      subst (Comes p c S after (standing κ i s)) (sym (paying_behind p c S after k (PlaceOf at spot (Index o is)) (λ x w. Go (to x w) w) s)) reached in
+      subst (Comes p c S after (standing κ i s)) (paying_behind p c S after k (PlaceOf at spot (Index o is)) f s)
       (comes_on p c S after (IsFound o) (standing κ i s) r to (λ x u. u) f
-      (gives_behind (IsFound o) (ticks p (meaning p c S after) AStatement k s) (PlaceOf at spot (Index o e)) (λ u. found spot o l (Eval p c S after n at Used e u) (object_small p o small)))
+      (gives_behind p c S after n (IsFound o) (ticks p (meaning p c S after) AStatement k s) (PlaceOf at spot (Index o is))
+      (λ u. found spot o l (columns_of_object p o) (ArgsOf p c S after n at is u) (object_small p o small)))
       placed (λ x u q d. g x u q (omega (arith, d, below))))
 
   -- a target's own step is one more in front of what it means
@@ -123,7 +115,7 @@ module _ (p : Program) (c : Code) (S : Type 0) (after : Event → List Cell → 
 
   -- what is known of a target by its parts
   abbrev pub InPlace : Node → Type 0
-  InPlace (Index o e) = Values p c S after n e
+  InPlace (Index o is) = InArgs p c S after n is
   InPlace _ = Unit {0}
 
   abbrev pub InTarget : Exp → Type 0

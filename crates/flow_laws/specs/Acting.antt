@@ -1,5 +1,6 @@
 -- What each action does: it changes where the machine stands and the state of its run, or ends the run.
 use Rattle.std.specs.Prelude.{ℕ, zero, suc, ◌-◌, ℤ, pos, negsuc, Bool, false, cond, not, nat_lt, List, [], ◌∷◌, ◌++◌, length, take, drop, reverse, Option, Some, None, slice_get}
+use Rattle.std.specs.Ordering.{int_eq}
 use Rattle.c_core.specs.Types.{fit, is_zero, number_of}
 use Rattle.c_core.specs.Operators.{is_shift, apply_of, apply_one_of}
 use Rattle.c_core.specs.declared.number.BinOp.{BinOp}
@@ -13,10 +14,12 @@ use Rattle.c_meaning.specs.declared.run.End.{End}
 use Rattle.c_meaning.specs.declared.run.End.TheVariants.{Ended}
 use Rattle.c_meaning.specs.declared.run.Event.{Event}
 use Rattle.c_meaning.specs.declared.run.Event.TheVariants.{At, Branch as Branched, Enter as Entered, Return as Returned}
+use Rattle.c_meaning.specs.declared.run.Way.{Way}
+use Rattle.c_meaning.specs.declared.run.Way.TheVariants.{Truth as ByTruth, Case as ByCase, Default as ByDefault}
 use Rattle.c_meaning.specs.declared.run.DrawKind.TheVariants.{Input as InputDraw, Cell as CellDraw}
 use Rattle.c_meaning.specs.Cells.{Key, Cell, read, put, cells_from}
 use Rattle.c_meaning.specs.Acts.{Res, Go, Stop, bind}
-use Rattle.c_meaning.specs.Run.{State, index_below, with_cells}
+use Rattle.c_meaning.specs.Run.{State, index_below, in_row, with_cells}
 use Rattle.c_meaning.specs.Run as run
 use Rattle.c_meaning.specs.Watching.{seen_by}
 use Rattle.run_state.specs.Interpreting.{where_of, site_of}
@@ -31,7 +34,7 @@ use Rattle.flow_code.specs.declared.code.Then.{Then}
 use Rattle.flow_code.specs.declared.code.Then.TheVariants.{Push, Drop, Skip, Branch}
 use Rattle.flow_code.specs.declared.code.Into.{Into}
 use Rattle.flow_code.specs.declared.code.Action.{Action}
-use Rattle.flow_code.specs.declared.code.Action.TheVariants.{Rest, Arrive, Give, Truth, Convert, Look, Aim, Operate, OperateOne, Jump, Open, Close, Declare, Enter, Call, Input, Reach, End as EndHere, Leave, Return}
+use Rattle.flow_code.specs.declared.code.Action.TheVariants.{Rest, Arrive, Give, Truth, Convert, Look, Aim, Row, Operate, OperateOne, Jump, ToCase, ToDefault, Open, Close, Declare, Enter, Call, Input, Reach, End as EndHere, Leave, Return}
 use Rattle.flow_code.specs.declared.code.Parameter.{Parameter}
 use Rattle.flow_code.specs.declared.code.Body.{Body}
 use Rattle.flow_code.specs.declared.code.Code.{Code}
@@ -121,7 +124,7 @@ module _ (c : Code) (S : Type 0) (after : Event → List Cell → S → S) where
 
   -- a branching is told
   abbrev pub told : ℤ → Then → Act (Unit {0})
-  told v (Branch at way to) = tell (Branched at (not (is_zero v)))
+  told v (Branch at way to) = tell (Branched at (ByTruth (not (is_zero v))))
   told v _ = λ s. Go tt s
 
   -- a value goes on
@@ -182,6 +185,16 @@ module _ (c : Code) (S : Type 0) (after : Event → List Cell → S → S) where
   aimed_at o n y spot reads k s =
       bind (run.key_of (program_in c) S (seen_by after) spot o (index_below n (value_of y k.stack s.cells)) s) (λ i u. aimed reads i (stack_of y k.stack) k u)
 
+  -- the cell of a row and a column, by the values of both
+  abbrev pub in_row_at : ℕ → ℕ → ℤ → ℤ → Spot → List ℤ → Control → Act Control
+  in_row_at rows columns v w spot vs k s =
+      bind (run.key_of (program_in c) S (seen_by after) spot 0 (in_row columns (index_below rows v) (index_below columns w)) s) (λ i u.
+      Go (record k { stack = pos i.index ∷ vs }) u)
+
+  -- a `switch` takes its value off the stack, reports the way, and goes on at an address
+  abbrev pub sent : Spot → Way → ℕ → Control → Act Control
+  sent at way to k s = bind (tell (Branched at way) s) (λ _ u. Go (record k { at = to; stack = below k.stack }) u)
+
   -- a call of `reach_error`
   abbrev pub reached_at : Around → Spot → Act ℤ
   reached_at at spot s = run.reached (program_in c) S (seen_by after) c.property (where_of at) (record { spot = spot; close = spot; needed = false }) s
@@ -205,6 +218,10 @@ module _ (c : Code) (S : Type 0) (after : Event → List Cell → S → S) where
       bind (run.key_of (program_in c) S (seen_by after) spot o (index_below n (value_of y k.stack s.cells)) s) (λ i u.
       finished (read i u.cells) (read i u.cells) x (record k { stack = stack_of y k.stack }) u)
   acted (Aim o n y spot reads) k s = aimed_at o n y spot reads k s
+  acted (Row rows columns a b spot) k s =
+      let w = value_of b k.stack s.cells in
+      let vs = stack_of b k.stack in
+      in_row_at rows columns (value_of a vs s.cells) w spot (stack_of a vs) k s
   acted (Operate o word count a b from x) k s =
       let w = value_of b k.stack s.cells in
       let vs = stack_of b k.stack in
@@ -216,6 +233,8 @@ module _ (c : Code) (S : Type 0) (after : Event → List Cell → S → S) where
       bind (run.answered (program_in c) S (seen_by after) (where_of from.around) from.spot (apply_one_of Lp64 o (type_of_word word) (fit Lp64 (type_of_word word) v)) s) (λ z u.
       finished v z x (record k { stack = stack_of a k.stack }) u)
   acted (Jump to) k s = Go (record k { at = to }) s
+  acted (ToCase at v to) k s = cond (int_eq (top k.stack) v) (sent at (ByCase v) to k s) (Go k s)
+  acted (ToDefault at to) k s = sent at ByDefault to k s
   acted Open k s = Go (record k { scopes = length s.cells ∷ k.scopes }) s
   acted Close k s = scope_closed k.scopes k s
   acted (Declare spot o n ty draws) k s = bind (declared spot o n ty draws s) (λ _ u. Go k u)

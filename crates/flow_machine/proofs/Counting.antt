@@ -1,5 +1,6 @@
 -- No more draws take no choice than are made.
 use Rattle.std.proofs.Common.{◌≤◌, ℕ, zero, suc, ◌+◌, ◌-◌, ℤ, pos, nat_le, Bool, true, false, cond, not, List, [], ◌∷◌, ◌++◌, length, take, drop, Option, Some, None, slice_get, arith, length-append}
+use Rattle.std.specs.Ordering.{int_eq}
 use Rattle.c_core.specs.Types.{fit, is_zero, number_of}
 use Rattle.c_core.specs.Operators.{apply_of, apply_one_of}
 use Rattle.c_core.specs.declared.number.DataModel.TheVariants.{Lp64}
@@ -17,17 +18,18 @@ use Rattle.c_meaning.specs.declared.run.End.{End}
 use Rattle.c_meaning.specs.declared.run.End.TheVariants.{Undefined, Deep}
 use Rattle.c_meaning.specs.declared.run.Event.{Event}
 use Rattle.c_meaning.specs.declared.run.Event.TheVariants.{Return as Returned}
+use Rattle.c_meaning.specs.declared.run.Way.TheVariants.{Case as ByCase}
 use Rattle.c_meaning.specs.Acts.{Res, Go, Stop, bind}
 use Rattle.c_meaning.specs.Cells.{Cell, put, read, cells_from}
 use Rattle.c_meaning.specs.Meaning.{Site, Where}
-use Rattle.c_meaning.specs.Run.{State, with_cells, index_below, most_cells}
+use Rattle.c_meaning.specs.Run.{State, with_cells, index_below, in_row, most_cells}
 use Rattle.c_meaning.specs.Run as run
 use Rattle.c_meaning.specs.Watching.{seen_by}
 use Rattle.run_state.specs.Interpreting.{where_of, site_of}
 use Rattle.run_state.specs.declared.machine.CallSite.{CallSite}
 use Rattle.flow_code.specs.Words.{type_of_word}
 use Rattle.flow_code.specs.declared.code.Action.{Action}
-use Rattle.flow_code.specs.declared.code.Action.TheVariants.{Rest, Arrive, Give, Truth, Convert, Look, Aim, Operate, OperateOne, Jump, Open, Close, Declare, Enter, Call, Input, Reach, End as EndHere, Leave, Return}
+use Rattle.flow_code.specs.declared.code.Action.TheVariants.{Rest, Arrive, Give, Truth, Convert, Look, Aim, Row, Operate, OperateOne, Jump, ToCase, ToDefault, Open, Close, Declare, Enter, Call, Input, Reach, End as EndHere, Leave, Return}
 use Rattle.flow_code.specs.declared.code.Body.{Body}
 use Rattle.flow_code.specs.declared.code.Code.{Code}
 use Rattle.flow_code.specs.declared.code.Into.{Into}
@@ -37,7 +39,7 @@ use Rattle.flow_code.specs.declared.code.Then.{Then}
 use Rattle.flow_code.specs.declared.code.Then.TheVariants.{Push, Drop, Skip, Branch}
 use Rattle.flow_laws.specs.declared.frame.Frame.{Frame}
 use Rattle.flow_laws.specs.Machines.{Control, Machine}
-use Rattle.flow_laws.specs.Acting.{program_in, cell, right_of, top, below, value_of, stack_of, key_at, stack_at, kept_value, arguments, with_parameters, passed_on, stored, finished, cells_drawn, drawn_if, declared, input_given, called, left_by, aimed, reached_at, converted, acted, scope_closed}
+use Rattle.flow_laws.specs.Acting.{program_in, cell, right_of, top, below, value_of, stack_of, key_at, stack_at, kept_value, arguments, with_parameters, passed_on, stored, finished, cells_drawn, drawn_if, declared, input_given, called, left_by, aimed, reached_at, converted, acted, scope_closed, sent}
 use Rattle.flow_laws.specs.Stepping.{Turn, On, Short, Over, onward, moved, due, paid_all, behind, done_if, step, steps}
 
 -- no more draws took no choice than were made
@@ -159,6 +161,10 @@ module _ (c : Code) (S : Type 0) (after : Event → List Cell → S → S) where
   counts_closed [] k s h = h
   counts_closed (n ∷ ns) k s h = h
 
+  counts_either : (b : Bool) (x y : Res End (State S) Control) → Counts x → Counts y → Counts (cond b x y)
+  counts_either true x y h g = h
+  counts_either false x y h g = g
+
   -- each action leaves it so
   counts_acted : (a : Action) (k : Control) (s : State S) → Few s → Counts (acted c S after a k s)
   counts_acted Rest k s h = h
@@ -174,6 +180,12 @@ module _ (c : Code) (S : Type 0) (after : Event → List Cell → S → S) where
   counts_acted (Aim o n y spot reads) k s h =
       counts_then (run.key_of (program_in c) S (seen_by after) spot o (index_below n (value_of y k.stack s.cells)) s) (λ i u. aimed c S after reads i (stack_of y k.stack) k u)
       (counts_key (program_in c) S (seen_by after) spot o (index_below n (value_of y k.stack s.cells)) s h) (λ i u g. g)
+  counts_acted (Row rows columns a b spot) k s h =
+      let w = value_of b k.stack s.cells in
+      let vs = stack_of b k.stack in
+      let i = in_row columns (index_below rows (value_of a vs s.cells)) (index_below columns w) in
+      counts_then (run.key_of (program_in c) S (seen_by after) spot 0 i s) (λ j u. Go (record k { stack = pos j.index ∷ stack_of a vs }) u)
+      (counts_key (program_in c) S (seen_by after) spot 0 i s h) (λ j u g. g)
   counts_acted (Operate o word count a b from x) k s h =
       let w = value_of b k.stack s.cells in
       let vs = stack_of b k.stack in
@@ -187,6 +199,8 @@ module _ (c : Code) (S : Type 0) (after : Event → List Cell → S → S) where
       counts_then (run.answered (program_in c) S (seen_by after) (where_of from.around) from.spot z s) (λ q u. finished c S after v q x (record k { stack = stack_of a k.stack }) u)
       (counts_answered (program_in c) S (seen_by after) (where_of from.around) from.spot z s h) (λ q u g. counts_finished v q x (record k { stack = stack_of a k.stack }) u g)
   counts_acted (Jump to) k s h = h
+  counts_acted (ToCase at v to) k s h = counts_either (int_eq (top k.stack) v) (sent c S after at (ByCase v) to k s) (Go k s) h h
+  counts_acted (ToDefault at to) k s h = h
   counts_acted Open k s h = h
   counts_acted Close k s h = counts_closed k.scopes k s h
   counts_acted (Declare spot o n ty draws) k s h = counts_then (declared c S after spot o n ty draws s) (λ _ u. Go k u) (counts_declared spot o n ty draws s h) (λ _ u g. g)

@@ -1,4 +1,6 @@
 pub mod Giving
+pub mod Fitting
+pub mod Stacks
 pub mod Drawn
 pub mod Stored
 pub mod Passed

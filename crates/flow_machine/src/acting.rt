@@ -5,9 +5,9 @@ ghost use Rattle.c_meaning.specs.Acts.{Go};
 ghost use Rattle.c_meaning.specs.Run as runs;
 ghost use Rattle.c_meaning.specs.Watching.{seen_by};
 ghost use Rattle.run_state.specs.Interpreting.{same, where_of};
-ghost use Rattle.flow_code.specs.declared.code.Action.TheVariants.{Input, Reach};
+ghost use Rattle.flow_code.specs.declared.code.Action.TheVariants.{Row, ToCase, Input, Reach};
 ghost use Rattle.flow_code.specs.declared.code.Code.{Code};
-ghost use Rattle.flow_laws.specs.Acting.{program_in, acted, scope_closed, aimed_at, reached_at};
+ghost use Rattle.flow_laws.specs.Acting.{program_in, acted, scope_closed, aimed_at, sent, reached_at};
 ghost use Rattle.flow_machine.specs.Rooms.{GoesInRoom, HasSpare, IsCounted, KeepsRooms, KeepsStacks, Lasts};
 ghost use Rattle.flow_machine.specs.Views.{Acts, Gives, answer_finished, control_of, state_of};
 
@@ -15,10 +15,10 @@ use crate::arithmetic::{convert, operate, operate_one, settle};
 use crate::calling::{call, leave};
 use crate::control::{Control, Running, tell};
 use crate::drawing::{declare, input};
-use crate::operands::{index_below, look, take};
+use crate::operands::{in_row, index_below, look, take};
 use crate::results::finish;
 use c_core::{Done, IntType, Property, Spot};
-use c_meaning::{End, Event, Watcher};
+use c_meaning::{End, Event, Watcher, Way};
 use flow_code::{Action, Code, Into, Operand, Source};
 use run_state::{Around, Halt};
 
@@ -191,6 +191,67 @@ fn aim<W: Watcher>(
     Ok(())
 }
 
+// The cell of a row and a column, apart from what is done often.
+#[inline(never)]
+fn find_in_row<W: Watcher>(
+    control: &mut Control,
+    run: &Running,
+    rows: u32,
+    columns: u32,
+    left: &Operand,
+    right: &Operand,
+    spot: Spot,
+) -> Result<(), Halt>
+    ensures acts { (c : Code) (x : W.Seen) → Acts result (control_of control.new) (state_of run.now x) (acted c W.Seen W.after (Row rows columns left.now right.now spot) (control_of control.old) (state_of run.now x)) }
+    ensures kept { KeepsStacks control.old control.new }
+    ensures lasting { HasSpare control.old → Lasts result }
+{
+    let column = take(control, run, right);
+    let row = take(control, run, left);
+    let Some(found) = in_row(rows, columns, row, column) else {
+        return Err(Halt::Ends(End::Undefined(spot)));
+    };
+    control.push(i128::from(found))
+}
+
+// A `switch` takes its value off the stack, reports the way, and goes on at an address.
+fn send<W: Watcher>(
+    control: &mut Control,
+    run: &Running,
+    watcher: &mut W,
+    at: Spot,
+    way: Way,
+    to: u32,
+) -> Result<(), Halt>
+    ensures acts { (c : Code) → Acts result (control_of control.new) (state_of run.now (W.seen watcher.new)) (sent c W.Seen W.after at way to (control_of control.old) (state_of run.now (W.seen watcher.old))) }
+    ensures kept { KeepsStacks control.old control.new }
+    ensures lasting { W.sure → Lasts result }
+{
+    tell(run, watcher, Event::Branch(at, way))?;
+    control.pop();
+    control.at = to as usize;
+    Ok(())
+}
+
+// The value on the stack is compared with the constant of an arm.
+fn compare<W: Watcher>(
+    control: &mut Control,
+    run: &Running,
+    watcher: &mut W,
+    at: Spot,
+    value: i128,
+    to: u32,
+) -> Result<(), Halt>
+    ensures acts { (c : Code) → Acts result (control_of control.new) (state_of run.now (W.seen watcher.new)) (acted c W.Seen W.after (ToCase at value to) (control_of control.old) (state_of run.now (W.seen watcher.old))) }
+    ensures kept { KeepsStacks control.old control.new }
+    ensures lasting { W.sure → Lasts result }
+{
+    if control.top() == value {
+        return send(control, run, watcher, at, Way::Case(value), to);
+    }
+    Ok(())
+}
+
 // A scope begins: how many cells live now.
 fn open_scope(control: &mut Control, run: &Running) -> Result<(), Halt>
     ensures control { OnOk result (control_of control.new ≡ record (control_of control.old) { scopes = length run.now.memory.cells ∷ reverse control.old.scopes.items }) }
@@ -264,6 +325,13 @@ pub fn act<W: Watcher>(
             spot,
             reads,
         } => aim::<W>(control, run, *object, *size, index, *spot, *reads),
+        Action::Row {
+            rows,
+            columns,
+            left,
+            right,
+            spot,
+        } => find_in_row::<W>(control, run, *rows, *columns, left, right, *spot),
         Action::Operate {
             op,
             word,
@@ -296,6 +364,8 @@ pub fn act<W: Watcher>(
             control.at = *to as usize;
             Ok(())
         }
+        Action::ToCase { at, value, to } => compare(control, run, watcher, *at, *value, *to),
+        Action::ToDefault { at, to } => { send(control, run, watcher, *at, Way::Default, *to) }
         Action::Open => open_scope(control, run),
         Action::Close => {
             close_scope::<W>(control, run);

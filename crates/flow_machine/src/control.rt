@@ -47,6 +47,15 @@ impl Control {
         self.stack.pop().unwrap_or(0)
     }
 
+    /// The value on top of the stack, which stays there.
+    #[inline]
+    #[tactic(auto, using(crate::proofs::Stacks::top_is))]
+    pub fn top(&self) -> i128
+        ensures { result ≡ top (reverse self.now.stack.items) }
+    {
+        self.stack.as_slice().last().copied().unwrap_or(0)
+    }
+
     /// Puts a value on top of the stack.
     #[inline]
     pub fn push(&mut self, value: i128) -> Result<(), Halt>

@@ -2,7 +2,7 @@
 ghost use Rattle.std.specs.Prelude.{◌≡◌, reverse};
 ghost use Rattle.c_meaning.specs.Cells.{read};
 ghost use Rattle.flow_laws.specs.Acting.{value_of, stack_of};
-ghost use Rattle.c_meaning.specs.Run.{index_below as index_of_array};
+ghost use Rattle.c_meaning.specs.Run.{index_below as index_of_array, in_row as cell_in_row};
 ghost use Rattle.flow_machine.specs.Rooms.{HasSpare, KeepsStacks};
 ghost use Rattle.flow_machine.specs.Views.{control_of};
 
@@ -45,4 +45,14 @@ pub fn index_below(size: u32, index: i128) -> Option<u32>
     } else {
         None
     }
+}
+
+/// The cell of a row and a column, where there are both among so many rows and columns.
+#[tactic(auto, using(crate::proofs::Fitting::cell_fits))]
+pub fn in_row(rows: u32, columns: u32, row: i128, column: i128) -> Option<u64>
+    ensures { result ≡ cell_in_row columns (index_of_array rows row) (index_of_array columns column) }
+{
+    let row = index_below(rows, row)?;
+    let column = index_below(columns, column)?;
+    Some(u64::from(row) * u64::from(columns) + u64::from(column))
 }

@@ -10,7 +10,7 @@ ghost use Rattle.flow_machine.specs.Views.{Acts, control_of, state_of};
 
 use crate::arithmetic::convert;
 use crate::control::{Control, Running, tell};
-use c_meaning::{Event, Memory, Watcher};
+use c_meaning::{Event, Memory, Watcher, Way};
 use flow_code::{Into, Place, Store, Then};
 use run_state::Halt;
 
@@ -82,7 +82,7 @@ fn pass<W: Watcher>(
             Ok(())
         }
         Then::Branch { at, way, to } => {
-            tell(run, watcher, Event::Branch(*at, value != 0))?;
+            tell(run, watcher, Event::Branch(*at, Way::Truth(value != 0)))?;
             skip(control, value, *way, *to);
             Ok(())
         }

@@ -1,23 +1,25 @@
 -- The code of a function calls the functions that its tree calls, and no others.
-use Rattle.std.proofs.Common.{◌≡◌, ◌<◌, IsTrue, ℕ, zero, suc, ◌+◌, pos, Bool, true, false, not, ◌||◌, List, [], ◌∷◌, ◌++◌, length, Option, Some, None, slice_get, refl, ap, ◌∙◌, subst, eq-eqb}
+use Rattle.std.proofs.Common.{◌≡◌, ◌<◌, IsTrue, ℕ, zero, suc, ◌+◌, pos, negsuc, Bool, true, false, not, ◌||◌, List, [], ◌∷◌, ◌++◌, length, Option, Some, None, slice_get, refl, ap, ◌∙◌, subst, eq-eqb}
+use Rattle.std.specs.List.{flat_map}
 use Rattle.std.proofs.lemmas.Bool.{or_left, or_right}
 use Rattle.std.proofs.lemmas.Option.{slice_get_within}
 use Rattle.c_core.specs.Operators.{op_of_step, is_prefix}
 use Rattle.c_core.specs.Types.{promote_of}
-use Rattle.c_core.specs.Tree.{Exp, Expr, Node, Const, Var, Index, Unary, Cast, Step, Binary, Logic, Choose, Comma, Assign, Call, Exps, NoExp, MoreExp, Init, Absent, One, Many, Names, NoName, MoreName, First, NoFirst, FirstExp, FirstNames, Stm, Stmt, Form, Empty, Do, Declare, Block, If, While, DoWhile, For, Break, Continue, Return, Label, Else, NoElse, OrElse, Stms, NoStm, MoreStm, Function, Program}
+use Rattle.c_core.specs.Tree.{Exp, Expr, Node, Const, Var, Index, Unary, Cast, Step, Binary, Logic, Choose, Comma, Assign, Call, Exps, NoExp, MoreExp, Init, Absent, One, Many, Rows, Names, NoName, MoreName, First, NoFirst, FirstExp, FirstNames, Stm, Stmt, Form, Empty, Do, Declare, Block, If, While, DoWhile, For, Break, Continue, Return, Label, Switch, Else, NoElse, OrElse, Stms, NoStm, MoreStm, MoreCase, Function, Program}
 use Rattle.c_core.specs.declared.number.DataModel.{DataModel}
 use Rattle.c_core.specs.declared.number.IntType.{IntType}
 use Rattle.c_core.specs.declared.number.IntType.TheVariants.{Int}
 use Rattle.c_core.specs.declared.number.Spot.{Spot}
 use Rattle.c_core.specs.declared.tree.Callee.{Callee}
 use Rattle.c_core.specs.declared.tree.Callee.TheVariants.{Defined, Input as InputOf, ReachError, Abort, Exit}
+use Rattle.c_core.specs.declared.tree.Label.TheVariants.{Case, Default}
 use Rattle.c_meaning.specs.Meaning.{Use, Used, Unused}
-use Rattle.c_meaning.specs.Objects.{type_of, type_of_object, size_of_object}
+use Rattle.c_meaning.specs.Objects.{type_of, type_of_object, size_of_object, columns_of_object}
 use Rattle.c_meaning.specs.Parts.{some_of, some_node, some_part, some_argument, calls, calls_callee, exps_in, exp_if, fulls_of_init, fulls_of_names, fulls_of_first, fulls_of, fulls_of_form, fulls_of_else, fulls_of_block}
 use Rattle.run_state.specs.declared.machine.Around.{Around}
 use Rattle.run_state.specs.declared.machine.CallSite.{CallSite}
 use Rattle.flow_code.specs.declared.code.Action.{Action}
-use Rattle.flow_code.specs.declared.code.Action.TheVariants.{Rest, Arrive, Give, Truth, Convert, Look, Aim, OperateOne, Jump, Declare as DeclareOf, Enter, Call as CallOf, Leave, Return as ReturnOf}
+use Rattle.flow_code.specs.declared.code.Action.TheVariants.{Rest, Arrive, Give, Truth, Convert, Look, Aim, Row, OperateOne, Jump, Declare as DeclareOf, Enter, Call as CallOf, Leave, Return as ReturnOf}
 use Rattle.flow_code.specs.declared.code.Into.{Into}
 use Rattle.flow_code.specs.declared.code.Op.{Op}
 use Rattle.flow_code.specs.declared.code.Operand.{Operand}
@@ -25,12 +27,13 @@ use Rattle.flow_code.specs.declared.code.Operand.TheVariants.{Top, Cell, Number}
 use Rattle.flow_code.specs.declared.code.Place.TheVariants.{Fixed}
 use Rattle.flow_code.specs.declared.code.Then.{Then}
 use Rattle.flow_code.specs.declared.code.Then.TheVariants.{Push, Drop, Skip, Branch}
+use Rattle.flow_code.specs.declared.sizes.Depth.{Depth}
 use Rattle.flow_code.specs.declared.statements.Inside.{Inside}
-use Rattle.flow_code.specs.Expressions.{left_by, count_of, argument_to, source, constant, as_type, call_of, stored_at, site_at, operator, callee_code, stored_by, code, node_code, stored_code, aim_code, place_code, args_code, conditional_arm}
-use Rattle.flow_code.specs.Preparing.{followed, op, only, stored_in, Ready, prepared, taken_both, with_operand, kept, rest, paired, paired_at, opened, closed, scope, all_closed}
+use Rattle.flow_code.specs.Expressions.{left_by, count_of, argument_to, source, constant, as_type, call_of, stored_at, site_at, operator, callee_code, stored_by, code, node_code, stored_code, aim_code, place_code, element_code, rows_of_object, args_code, conditional_arm}
+use Rattle.flow_code.specs.Preparing.{followed, op, only, stored_in, Ready, prepared, taken, taken_both, with_operand, kept, rest, paired, paired_at, opened, closed, scope, all_closed}
 use Rattle.flow_code.specs.Programs.{in_function, body_code, function_code}
-use Rattle.flow_code.specs.Sizes.{operand_in, operand_of, is_binary, size, with_one, size_if, size_of_arm, size_of_test, size_of_form, leaks, any_leaks, first_leaks}
-use Rattle.flow_code.specs.Statements.{full_of, deeper, in_loop, jump_out, leaving, draws, else_jump, initial_code, initials_code, init_code, name_code, names_code, first_code, only_if, test_code, return_code, turns, statement_code, form_code, else_code, block_code, arm_code, turns_code}
+use Rattle.flow_code.specs.Sizes.{operand_in, operand_of, is_binary, size, with_one, size_if, size_of_arm, size_of_selection, size_of_arms, size_of_test, size_of_statement, size_of_form, leaks, any_leaks, first_leaks, in_turn, outermost}
+use Rattle.flow_code.specs.Statements.{full_of, deeper, in_loop, in_switch, jump_out, leaving, draws, else_jump, cases_code, selection_code, switch_test_code, initial_code, initials_code, rows_code, init_code, name_code, names_code, first_code, only_if, test_code, return_code, turns, statement_code, form_code, else_code, block_code, arm_code, turns_code, arms_code}
 use Rattle.flow_code.specs.Words.{native, word_of}
 
 or_assoc : (q r s : Bool) → (q || (r || s)) ≡ ((q || r) || s)
@@ -139,6 +142,15 @@ module _ (Q : ℕ → Type 0) where
   leaving_only : (n : ℕ) → OnlyCalls Q (leaving n)
   leaving_only n = both (all_closed n) (op 0 Leave ∷ []) (all_closed_only n) (tt, tt)
 
+  cases_only : (d : Depth) (at : Spot) (to : ℕ) (b : Stms) → OnlyCalls Q (cases_code d at to b)
+  cases_only d at to NoStm = tt
+  cases_only d at to (MoreStm s b) = cases_only d at (to + size_of_statement d s) b
+  cases_only d at to (MoreCase spot (Case v) b) = (tt, cases_only d at to b)
+  cases_only d at to (MoreCase spot Default b) = cases_only d at to b
+
+  selection_only : (d : Depth) (at : Spot) (to : ℕ) (b : Stms) → OnlyCalls Q (selection_code d at to b)
+  selection_only d at to b = both (cases_code d at to b) _ (cases_only d at to b) (tt, tt)
+
   module _ (p : Program) where
     stored_only : (t : Bool) (y : Option Operand) (k : ℕ) (x : Into) (V W : List Op) → OnlyCalls Q V → OnlyCalls Q W → OnlyCalls Q (stored_by p t y k x V W)
     stored_only true y k x V W a b = b
@@ -183,8 +195,7 @@ module _ (Q : ℕ → Type 0) where
         node_only : (i k : ℕ) (want : Use) (spot : Spot) (ty : Option IntType) (n : Node) (x : Into) → Comes (at_node n) → OnlyCalls Q (node_code p at i k want spot ty n x)
         node_only i k want spot ty (Const v) x h = (tt, tt)
         node_only i k want spot ty (Var o) x h = (tt, tt)
-        node_only i k want spot ty (Index o e) x h =
-            one_only (operand_of e) k (code p at i k Used e Push) (λ y. Look o (size_of_object p o) y spot x) (code_only i k Used e Push h) (λ y. tt)
+        node_only i k want spot ty (Index o is) x h = element_only i k spot o is (λ y. Look o (size_of_object p o) y spot x) h (λ y. tt)
         node_only i k want spot ty (Unary o a) x h =
             one_only (operand_of a) k (code p at i k Used a Push) (λ y. OperateOne o (word_of p.model (promote_of (type_of a))) y (source at spot) x) (code_only i k Used a Push h) (λ y. tt)
         node_only i k want spot None (Cast a) x h = code_only i k Unused a x.then h
@@ -249,9 +260,31 @@ module _ (Q : ℕ → Type 0) where
         aim_only i k (Expr spot ty n) reads h = place_only i (k + 1) spot n reads h
 
         place_only : (i k : ℕ) (spot : Spot) (n : Node) (reads : Bool) → Comes (at_node n) → OnlyCalls Q (place_code p at i k spot n reads).ops
-        place_only i k spot (Index o e) reads h =
-            one_only (operand_of e) k (code p at i k Used e Push) (λ y. Aim o (size_of_object p o) y spot reads) (code_only i k Used e Push h) (λ y. tt)
+        place_only i k spot (Index o is) reads h = element_only i k spot o is (λ y. Aim o (size_of_object p o) y spot reads) h (λ y. tt)
         place_only i k spot _ reads h = tt
+
+        -- the indexes of an element, and the operation that takes its cell
+        element_only : (i k : ℕ) (spot : Spot) (o : ℕ) (is : Exps) (f : Operand → Action) → Comes (among is) → ((y : Operand) → Allows Q (f y)) → OnlyCalls Q (taken (element_code p at i k spot o is) f)
+        element_only i k spot o NoExp f h allows = (allows (Number (negsuc 0)), tt)
+        element_only i k spot o (MoreExp a NoExp) f h allows = one_only (operand_of a) k (code p at i k Used a Push) f (code_only i k Used a Push (first (within a) (among NoExp) h)) allows
+        element_only i k spot o (MoreExp a (MoreExp b NoExp)) f h allows =
+            let A = code p at i k Used a Push in
+            let row = λ (y z : Operand). Row (rows_of_object p o) (columns_of_object p o) y z spot in
+            both (taken_both (paired_at i (prepared (operand_of a) k A) (operand_of b) (λ j l. code p at j l Used b Push)) row) (op 0 (f Top) ∷ [])
+            (pair_only i (prepared (operand_of a) k A) (operand_of b) (λ j l. code p at j l Used b Push) row
+            (prepared_only (operand_of a) k A (code_only i k Used a Push (first (within a) (among (MoreExp b NoExp)) h)))
+            (λ l m. code_only l m Used b Push (first (within b) (among NoExp) (second (within a) (among (MoreExp b NoExp)) h))) (λ y z. tt)) (allows Top, tt)
+        element_only i k spot o (MoreExp a (MoreExp b (MoreExp c es))) f h allows =
+            let behind = second (within a) (among (MoreExp b (MoreExp c es))) h in
+            let last = second (within b) (among (MoreExp c es)) behind in
+            both (args_code p at i k Drop (MoreExp a (MoreExp b (MoreExp c es)))) (op 0 (f (Number (negsuc 0))) ∷ [])
+            (followed_only i (code p at i k Used a Drop) (λ j. args_code p at j 0 Drop (MoreExp b (MoreExp c es)))
+            (code_only i k Used a Drop (first (within a) (among (MoreExp b (MoreExp c es))) h))
+            (λ j. followed_only j (code p at j 0 Used b Drop) (λ l. args_code p at l 0 Drop (MoreExp c es))
+            (code_only j 0 Used b Drop (first (within b) (among (MoreExp c es)) behind))
+            (λ l. followed_only l (code p at l 0 Used c Drop) (λ m. args_code p at m 0 Drop es) (code_only l 0 Used c Drop (first (within c) (among es) last))
+            (λ m. args_only m 0 Drop es (second (within c) (among es) last)))))
+            (allows (Number (negsuc 0)), tt)
 
         args_only : (i k : ℕ) (then : Then) (es : Exps) → Comes (among es) → OnlyCalls Q (args_code p at i k then es)
         args_only i k then NoExp h = tt
@@ -269,10 +302,17 @@ module _ (Q : ℕ → Type 0) where
         followed_only i (initial_code p i at o j e) (λ l. initials_code p l at o (j + 1) es) (initial_only i at o j e (first (within e) (in_all (exps_in es)) h))
         (λ l. initials_only l at o (j + 1) es (second (within e) (in_all (exps_in es)) h))
 
+    rows_only : (i : ℕ) (at : Spot) (o j : ℕ) (rows : List Exps) → Comes (in_all (flat_map exps_in rows)) → OnlyCalls Q (rows_code p i at o j rows)
+    rows_only i at o j [] h = tt
+    rows_only i at o j (es ∷ rows) h =
+        followed_only i (initials_code p i at o j es) (λ l. rows_code p l at o (j + columns_of_object p o) rows) (initials_only i at o j es (before (exps_in es) (flat_map exps_in rows) h))
+        (λ l. rows_only l at o (j + columns_of_object p o) rows (behind (exps_in es) (flat_map exps_in rows) h))
+
     init_only : (i : ℕ) (at : Spot) (o : ℕ) (j : Init) → Comes (in_all (fulls_of_init j)) → OnlyCalls Q (init_code p i at o j)
     init_only i at o Absent h = tt
     init_only i at o (One e) h = initial_only i at o 0 e (alone e h)
     init_only i at o (Many es) h = initials_only i at o 0 es h
+    init_only i at o (Rows rows) h = rows_only i at o 0 rows h
 
     name_only : (i : ℕ) (at spot : Spot) (o : ℕ) (j : Init) → Comes (in_all (fulls_of_init j)) → OnlyCalls Q (name_code p i at spot o j)
     name_only i at spot o j h =
@@ -326,7 +366,7 @@ module _ (Q : ℕ → Type 0) where
       form_only i w at (Declare ns) h = names_only i at ns h
       form_only i w at (Block b) h = scope_only (any_leaks b) i (λ j. block_code p j (deeper (any_leaks b) w) b) (λ j. block_only j (deeper (any_leaks b) w) b h)
       form_only i w at (If e a b) h =
-          let to = i + (size e + size_of_arm w.inner w.scopes a + else_jump b) in
+          let to = i + (size e + size_of_arm w.depth a + else_jump b) in
           let T = code p (full_of at e) i 0 Used e (Branch at false to) in
           let A = λ (j : ℕ). arm_code p j w a in
           let arms = second (within e) (in_all (fulls_of a ++ fulls_of_else b)) h in
@@ -335,7 +375,7 @@ module _ (Q : ℕ → Type 0) where
           (λ j. inner_only j w a (λ l v. statement_only l v a (before (fulls_of a) (fulls_of_else b) arms))))
           (λ j. else_only j to w b (behind (fulls_of a) (fulls_of_else b) arms))
       form_only i w at (While e b) h =
-          let again = i + 1 + size_of_arm 0 w.scopes b in
+          let again = i + 1 + size_of_arm (in_turn w.depth) b in
           let v = in_loop again (again + size e) w in
           let J : List Op = op 0 (Jump again) ∷ [] in
           let A = λ (j : ℕ). arm_code p j v b in
@@ -343,7 +383,7 @@ module _ (Q : ℕ → Type 0) where
           (followed_only i J A (tt, tt) (λ j. inner_only j v b (λ l u. statement_only l u b (second (within e) (in_all (fulls_of b)) h))))
           (λ j. code_only (full_of at e) j 0 Used e (Branch at true (i + 1)) (first (within e) (in_all (fulls_of b)) h))
       form_only i w at (DoWhile b e) h =
-          let again = i + size_of_arm 0 w.scopes b in
+          let again = i + size_of_arm (in_turn w.depth) b in
           let v = in_loop again (again + size e) w in
           followed_only i (arm_code p i v b) (λ j. test_code p j at (Some e) i)
           (inner_only i v b (λ l u. statement_only l u b (before (fulls_of b) (e ∷ []) h)))
@@ -358,33 +398,42 @@ module _ (Q : ℕ → Type 0) where
           let starts = before (X ++ E) S parts in
           scope_only (first_leaks x) i (λ l. followed l (first_code p l at x) (λ m. turns_code p m u at e s b))
           (λ l. followed_only l (first_code p l at x) (λ m. turns_code p m u at e s b) (first_part_only l at x (before X E starts))
-          (λ m. let again = m + 1 + size_of_arm 0 u.scopes b in
+          (λ m. let again = m + 1 + size_of_arm (in_turn u.depth) b in
           let head = again + size_if s in
           let v = in_loop again (head + size_of_test e) u in
           turns_only m (m + 1) head at e s (λ j. arm_code p j v b) (behind X E starts) (behind (X ++ E) S parts)
           (λ j. inner_only j v b (λ l y. statement_only l y b (behind (X ++ E ++ S) B h)))))
-      form_only i w at Break h = out_only w.inner w.broken
-      form_only i w at Continue h = out_only w.inner w.again
-      form_only i w at (Return None) h = leaving_only w.scopes
-      form_only i w at (Return (Some e)) h = return_only i at w.result e w.scopes (alone e h)
+      form_only i w at Break h = out_only w.depth.inner w.broken
+      form_only i w at Continue h = out_only w.depth.turn w.again
+      form_only i w at (Return None) h = leaving_only w.depth.scopes
+      form_only i w at (Return (Some e)) h = return_only i at w.result e w.depth.scopes (alone e h)
       form_only i w at (Label b) h = statement_only i w b h
+      form_only i w at (Switch e b) h =
+          let v = λ (j : ℕ). deeper (any_leaks b) (in_switch (j + size_of_arms w.depth b) w) in
+          followed_only i (switch_test_code p i at e) (λ j. scope (any_leaks b) j (λ l. arms_code p l (v j) at b))
+          (one_only (operand_of e) 0 (code p (full_of at e) i 0 Used e Push) (λ y. Convert (native p.model (promote_of (type_of e))) y (only Push))
+          (code_only (full_of at e) i 0 Used e Push (first (within e) (in_all (fulls_of_block b)) h)) (λ y. tt))
+          (λ j. scope_only (any_leaks b) j (λ l. arms_code p l (v j) at b)
+          (λ l. followed_only l (selection_code (v j).depth at (l + size_of_selection b) b) (λ m. block_code p m (v j) b) (selection_only (v j).depth at (l + size_of_selection b) b)
+          (λ m. block_only m (v j) b (second (within e) (in_all (fulls_of_block b)) h))))
 
       else_only : (i to : ℕ) (w : Inside) (b : Else) → Comes (in_all (fulls_of_else b)) → OnlyCalls Q (else_code p i to w b)
       else_only i to w NoElse h = tt
       else_only i to w (OrElse b) h =
-          followed_only i (op 0 (Jump (to + size_of_arm w.inner w.scopes b)) ∷ []) (λ j. arm_code p j w b) (tt, tt) (λ j. inner_only j w b (λ l v. statement_only l v b h))
+          followed_only i (op 0 (Jump (to + size_of_arm w.depth b)) ∷ []) (λ j. arm_code p j w b) (tt, tt) (λ j. inner_only j w b (λ l v. statement_only l v b h))
 
       block_only : (i : ℕ) (w : Inside) (b : Stms) → Comes (in_all (fulls_of_block b)) → OnlyCalls Q (block_code p i w b)
       block_only i w NoStm h = tt
       block_only i w (MoreStm s b) h =
           followed_only i (statement_code p i w s) (λ j. block_code p j w b) (statement_only i w s (before (fulls_of s) (fulls_of_block b) h))
           (λ j. block_only j w b (behind (fulls_of s) (fulls_of_block b) h))
+      block_only i w (MoreCase spot l b) h = block_only i w b h
 
     body_only : (i : ℕ) (g : Function) (s : Stm) → Comes (in_all (fulls_of s)) → OnlyCalls Q (body_code p i g s)
     body_only i g (Stmt at x) h =
         let R : List Op = op 1 Rest ∷ [] in
-        let F = λ (j : ℕ). form_code p j (in_function p.model (j + size_of_form 0 0 x) g) at x in
-        both (followed i R F) (op 0 Leave ∷ []) (followed_only i R F (tt, tt) (λ j. form_only j (in_function p.model (j + size_of_form 0 0 x) g) at x h)) (tt, tt)
+        let F = λ (j : ℕ). form_code p j (in_function p.model (j + size_of_form outermost x) g) at x in
+        both (followed i R F) (op 0 Leave ∷ []) (followed_only i R F (tt, tt) (λ j. form_only j (in_function p.model (j + size_of_form outermost x) g) at x h)) (tt, tt)
 
     -- the code of a function
     pub function_only : (i : ℕ) (g : Function) → Comes (in_all (fulls_of g.body)) → OnlyCalls Q (function_code p i g)

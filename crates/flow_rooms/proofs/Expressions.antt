@@ -1,5 +1,5 @@
 -- The code of an expression keeps shapes right: its value goes where it was to go.
-use Rattle.std.proofs.Common.{◌≡◌, ℕ, zero, suc, ◌+◌, pos, Bool, true, false, not, List, [], ◌∷◌, ◌++◌, length, Option, Some, None, slice_get, refl, sym, ap, ◌∙◌, subst, arith, length-append, append_assoc}
+use Rattle.std.proofs.Common.{◌≡◌, ℕ, zero, suc, ◌+◌, pos, negsuc, Bool, true, false, not, List, [], ◌∷◌, ◌++◌, length, Option, Some, None, slice_get, refl, sym, ap, ◌∙◌, subst, arith, length-append, append_assoc}
 use Rattle.c_core.specs.Operators.{op_of_step, is_prefix}
 use Rattle.c_core.specs.Types.{promote_of}
 use Rattle.c_core.specs.Tree.{Exp, Expr, Node, Const, Var, Index, Unary, Cast, Step, Binary, Logic, Choose, Comma, Assign, Call, Exps, NoExp, MoreExp, Program, Function}
@@ -11,34 +11,34 @@ use Rattle.c_core.specs.declared.number.Spot.{Spot}
 use Rattle.c_core.specs.declared.tree.Callee.{Callee}
 use Rattle.c_core.specs.declared.tree.Callee.TheVariants.{Defined, Input as InputOf, ReachError, Abort, Exit}
 use Rattle.c_meaning.specs.Meaning.{Use, Used, Unused}
-use Rattle.c_meaning.specs.Objects.{type_of, size_of_object}
+use Rattle.c_meaning.specs.Objects.{type_of, size_of_object, columns_of_object}
 use Rattle.run_state.specs.declared.machine.Around.{Around}
 use Rattle.run_state.specs.declared.machine.CallSite.{CallSite}
 use Rattle.flow_code.specs.declared.code.Action.{Action}
-use Rattle.flow_code.specs.declared.code.Action.TheVariants.{Give, Truth, Convert, Look, Aim, OperateOne, Jump, Enter, Call as CallOf, Input, Reach, End}
+use Rattle.flow_code.specs.declared.code.Action.TheVariants.{Give, Truth, Convert, Look, Aim, Row, OperateOne, Jump, Enter, Call as CallOf, Input, Reach, End}
 use Rattle.flow_code.specs.declared.code.Into.{Into}
 use Rattle.flow_code.specs.declared.code.Op.{Op}
 use Rattle.flow_code.specs.declared.code.Operand.{Operand}
 use Rattle.flow_code.specs.declared.code.Operand.TheVariants.{Top, Cell, Number}
 use Rattle.flow_code.specs.declared.code.Then.{Then}
 use Rattle.flow_code.specs.declared.code.Then.TheVariants.{Push, Drop, Skip, Branch}
-use Rattle.flow_code.specs.Expressions.{place_of, left_by, count_of, argument_to, source, constant, as_type, call_of, stored_at, site_at, operator, operated, callee_code, code, node_code, stored_code, place_code, args_code, both_ready, conditional_arm}
-use Rattle.flow_code.specs.Preparing.{followed, op, only, give, Ready, prepared, taken_both, with_operand, kept, rest, paired, paired_at}
+use Rattle.flow_code.specs.Expressions.{place_of, left_by, count_of, argument_to, source, constant, as_type, call_of, stored_at, site_at, operator, operated, callee_code, code, node_code, stored_code, place_code, element_code, rows_of_object, args_code, both_ready, conditional_arm}
+use Rattle.flow_code.specs.Preparing.{followed, op, only, give, Ready, prepared, taken as taken_by, taken_both, with_operand, kept, rest, paired, paired_at}
 use Rattle.flow_code.specs.Sizes.{operand_in, operand_of, size, with_one}
 use Rattle.flow_code.specs.Words.{native, word_of}
 use Rattle.flow_code.proofs.Lengths.{code_size, node_size}
-use Rattle.flow_rooms.specs.Shapes.{Shape, pushed, popped, all_popped, placed, passed, settled, Has, Leads, Keeps, aimed}
+use Rattle.flow_rooms.specs.Shapes.{Shape, pushed, popped, all_popped, taken, placed, passed, settled, Has, Leads, Keeps, aimed}
 use Rattle.flow_rooms.proofs.Fitting.{Fits, one, nothing, joined, seq, Free, relabeled}
 use Rattle.flow_rooms.proofs.Operations.{under_itself, taken_under, settled_near, under_both, near_itself, back_near, aimed_near, IsUnder, plain_in, IsPlain, plain, Left, held, held_taken, held_plain, taken_plain, one_taken, operand_fits, TakesTwo, two_taken, pair_fits}
 
 -- the shape beside which a target's value is, from the one before the target: the index of an element is on the stack
 abbrev pub indexed : Node → Shape → Shape
-indexed (Index o e) x = pushed x
+indexed (Index o is) x = pushed x
 indexed _ x = x
 
 -- a store in the target takes it
 stored_indexed : (n : Node) (x : Shape) → placed (place_of n) (indexed n x) ≡ x
-stored_indexed (Index o e) x = refl
+stored_indexed (Index o is) x = refl
 stored_indexed (Var o) x = refl
 stored_indexed _ x = refl
 
@@ -51,14 +51,21 @@ as_type_fits : (m : DataModel) (ty : Option IntType) (into : Into) (i : ℕ) (x 
 as_type_fits m None into i x = one_taken (λ y. Give y into) into i 0 Top (pushed x) x (λ ts i y x h. h) refl
 as_type_fits m (Some ty) into i x = one_taken (λ y. Convert (native m ty) y into) into i 0 Top (pushed x) x (λ ts i y x h. h) refl
 
--- the index of an element, from the shape before it
-aim_takes : (o n : ℕ) (spot : Spot) (reads : Bool) (i k : ℕ) (ops : List Op) (y : Option Operand) (x : Shape) → IsPlain y → Fits Free i ops x (pushed x)
-    → Fits Free i (with_operand y k ops (λ z. Aim o n z spot reads)) x (aimed reads x)
-aim_takes o n spot reads i k ops (Some y) x plain a =
-    one Free i (op (k + 1) (Aim o n y spot reads)) x (aimed reads x) (λ ts l h. subst (λ w. Has ts (suc i) (aimed reads w)) (sym (taken_plain y x plain)) h) (aimed_near reads x x (under_itself x))
-aim_takes o n spot reads i k ops None x plain a =
-    seq Free i ops (op 0 (Aim o n Top spot reads) ∷ []) x (pushed x) (aimed reads x) a
-    (one Free (i + length ops) (op 0 (Aim o n Top spot reads)) (pushed x) (aimed reads x) (λ ts l h. h) (aimed_near reads (pushed x) x (taken_under Top (pushed x))))
+-- an operation takes an operand that is on the stack or not, from the shape beside it to another
+abbrev Ends : (List Shape → Type 0) → (Operand → Action) → Shape → Shape → Type 0
+Ends labels f x z = (j n : ℕ) (y : Operand) (w : Shape) → taken y w ≡ x → Fits labels j (op n (f y) ∷ []) w z
+
+-- the cell of an element, from the shape before it
+aim_ends : (o n : ℕ) (spot : Spot) (reads : Bool) (x : Shape) → Ends Free (λ y. Aim o n y spot reads) x (aimed reads x)
+aim_ends o n spot reads x j m y w e =
+    one Free j (op m (Aim o n y spot reads)) w (aimed reads x) (λ ts l h. subst (λ z. Has ts (suc j) (aimed reads z)) (sym e) h) (aimed_near reads w x (subst (IsUnder w) e (taken_under y w)))
+
+-- operations that make an operand ready, and the one that takes it
+operand_ends : (labels : List Shape → Type 0) (y : Option Operand) (i k : ℕ) (ops : List Op) (f : Operand → Action) (x z : Shape) → IsPlain y → Ends labels f x z → Fits Free i ops x (pushed x)
+    → Fits labels i (with_operand y k ops f) x z
+operand_ends labels (Some y) i k ops f x z plain ends a = ends i (k + 1) y x (taken_plain y x plain)
+operand_ends labels None i k ops f x z plain ends a =
+    seq labels i ops (op 0 (f Top) ∷ []) x (pushed x) z (relabeled Free labels i ops x (pushed x) (λ ts l. tt) a) (ends (i + length ops) 0 Top (pushed x) refl)
 
 -- a pair of operands, the left one of which an expression is or not
 prepared_pair : (y : Option Operand) (i k : ℕ) (a : List Op) (x : Shape) → IsPlain y → Fits Free i a x (pushed x)
@@ -177,8 +184,9 @@ module _ (p : Program) (at : Around) where
         → Fits (Onto then x) i (node_code p at i k want spot ty n (only then)) x (passed then x)
     node_fits i k want spot ty (Const v) then x = one_taken (λ y. Give y (only then)) (only then) i k (Number v) x x (λ ts i y x h. h) refl
     node_fits i k want spot ty (Var o) then x = one_taken (λ y. Give y (only then)) (only then) i k (Cell o) x x (λ ts i y x h. h) refl
-    node_fits i k want spot ty (Index o e) then x =
-        operand_fits (operand_of e) i k (code p at i k Used e Push) (λ y. Look o (size_of_object p o) y spot (only then)) (only then) x (plain e) (λ ts i y x h. h) (code_fits i k Used e Push x)
+    node_fits i k want spot ty (Index o is) then x =
+        let look = λ (y : Operand). Look o (size_of_object p o) y spot (only then) in
+        element_fits then x i k spot o is look x (passed then x) (λ j n y w e. one_taken look (only then) j n y w x (λ ts i y x h. h) e)
     node_fits i k want spot ty (Unary o a) then x =
         operand_fits (operand_of a) i k (code p at i k Used a Push) (λ y. OperateOne o (word_of p.model (promote_of (type_of a))) y (source at spot) (only then)) (only then) x (plain a) (λ ts i y x h. h) (code_fits i k Used a Push x)
     node_fits i k want spot None (Cast a) then x = code_fits i k Unused a then x
@@ -278,14 +286,45 @@ module _ (p : Program) (at : Around) where
 
     -- a target that is written
     place_fits : (i k : ℕ) (spot : Spot) (n : Node) (x : Shape) → Fits Free i (place_code p at i k spot n false).ops x (indexed n x)
-    place_fits i k spot (Index o e) x = aim_takes o (size_of_object p o) spot false i k (code p at i k Used e Push) (operand_of e) x (plain e) (code_fits i k Used e Push x)
+    place_fits i k spot (Index o is) x = element_fits Drop x i k spot o is (λ y. Aim o (size_of_object p o) y spot false) x (pushed x) (aim_ends o (size_of_object p o) spot false x)
     place_fits i k spot _ x = nothing Free i x
 
     -- a target that is read and written
     read_fits : (i k : ℕ) (spot : Spot) (n : Node) (x : Shape) → let j = place_code p at i k spot n true in Fits Free i j.ops x (held j.operand (indexed n x))
-    read_fits i k spot (Index o e) x = aim_takes o (size_of_object p o) spot true i k (code p at i k Used e Push) (operand_of e) x (plain e) (code_fits i k Used e Push x)
+    read_fits i k spot (Index o is) x = element_fits Drop x i k spot o is (λ y. Aim o (size_of_object p o) y spot true) x (pushed (pushed x)) (aim_ends o (size_of_object p o) spot true x)
     read_fits i k spot (Var o) x = nothing Free i x
     read_fits i k spot _ x = nothing Free i x
+
+    -- the indexes of an element, and the operation that takes its cell
+    element_fits : (onward : Then) (w : Shape) (i k : ℕ) (spot : Spot) (o : ℕ) (is : Exps) (f : Operand → Action) (x z : Shape) → Ends (Onto onward w) f x z
+        → Fits (Onto onward w) i (taken_by (element_code p at i k spot o is) f) x z
+    element_fits onward w i k spot o NoExp f x z ends = ends i k (Number (negsuc 0)) x refl
+    element_fits onward w i k spot o (MoreExp a NoExp) f x z ends = operand_ends (Onto onward w) (operand_of a) i k (code p at i k Used a Push) f x z (plain a) ends (code_fits i k Used a Push x)
+    element_fits onward w i k spot o (MoreExp a (MoreExp b NoExp)) f x z ends =
+        let A = code p at i k Used a Push in
+        let row = λ (y z : Operand). Row (rows_of_object p o) (columns_of_object p o) y z spot in
+        let first = taken_both (both_ready p at i k a b) row in
+        seq (Onto onward w) i first (op 0 (f Top) ∷ []) x (pushed x) z
+        (relabeled (Left (only Push) x) (Onto onward w) i first x (pushed x) (λ ts l. tt)
+        (both_fits (prepared (operand_of a) k A) i (operand_of b) (λ j l. code p at j l Used b Push) row (only Push) x x (plain b) (λ ts i y z x h. h.0)
+        (prepared_pair (operand_of a) i k A x (plain a) (code_fits i k Used a Push x)) (λ l m. code_fits l m Used b Push (pushed x))))
+        (ends (i + length first) 0 Top (pushed x) refl)
+    element_fits onward w i k spot o (MoreExp a (MoreExp b (MoreExp c es))) f x z ends =
+        let A = code p at i k Used a Drop in
+        let j = i + length A in
+        let B = code p at j 0 Used b Drop in
+        let l = j + length B in
+        let C = code p at l 0 Used c Drop in
+        let m = l + length C in
+        let rest = args_code p at m 0 Drop es in
+        let first = A ++ (B ++ (C ++ rest)) in
+        let behind = subst (Fits Free m rest x) (input_takes Int (count_of es) x) (args_fits m 0 (InputOf Int) es x) in
+        seq (Onto onward w) i first (op 0 (f (Number (negsuc 0))) ∷ []) x x z
+        (relabeled Free (Onto onward w) i first x x (λ ts l. tt)
+        (seq Free i A (B ++ (C ++ rest)) x x x (relabeled (Onto Drop x) Free i A x x (λ ts l. tt) (code_fits i k Used a Drop x))
+        (seq Free j B (C ++ rest) x x x (relabeled (Onto Drop x) Free j B x x (λ ts l. tt) (code_fits j 0 Used b Drop x))
+        (seq Free l C rest x x x (relabeled (Onto Drop x) Free l C x x (λ ts l. tt) (code_fits l 0 Used c Drop x)) behind))))
+        (ends (i + length first) 0 (Number (negsuc 0)) x refl)
 
     args_fits : (i k : ℕ) (c : Callee) (es : Exps) (x : Shape) → Fits Free i (args_code p at i k (argument_to c) es) x (each c (count_of es) x)
     args_fits i k c NoExp x = nothing Free i x

@@ -6,7 +6,7 @@ use Rattle.flow_code.specs.declared.code.Body.{Body}
 use Rattle.flow_code.specs.declared.code.Op.{Op}
 use Rattle.flow_code.specs.Preparing.{followed, op}
 use Rattle.flow_code.specs.Programs.{in_function, body_code, function_code, functions_code, parameters_of, bodies}
-use Rattle.flow_code.specs.Sizes.{size_of_form}
+use Rattle.flow_code.specs.Sizes.{outermost, size_of_form}
 use Rattle.flow_code.specs.Statements.{form_code}
 use Rattle.flow_code.proofs.Lengths.{followed_size}
 use Rattle.flow_laws.proofs.Sized.{form_size}
@@ -38,7 +38,7 @@ whole_body f i ops a = record {
 module _ (p : Program) where
   body_whole : (f i : ℕ) (g : Function) (s : Stm) → Whole f i (body_code p i g s)
   body_whole f i g (Stmt at x) =
-      let n = size_of_form 0 0 x in
+      let n = size_of_form outermost x in
       let w = in_function p.model (i + 1 + n) g in
       let rest : List Op = op 1 Rest ∷ [] in
       let F = form_code p (i + 1) w at x in
@@ -47,7 +47,7 @@ module _ (p : Program) where
       let L : List Shape → Type 0 = λ ts. Has ts (i + length (rest ++ F)) y in
       whole_body f i (rest ++ F)
       (seq L i rest F y y y (one L i (op 1 Rest) y y (λ ts l e. e) (near_itself y))
-      (relabeled (Ways w f 0) L (i + 1) F y y (λ ts l. let h = subst (λ j. Has ts j y) (sym leave) l in (h, h)) (form_fits p f (i + 1) w 0 at x refl)))
+      (relabeled (Ways w f 0 0) L (i + 1) F y y (λ ts l. let h = subst (λ j. Has ts j y) (sym leave) l in (h, h)) (form_fits p f (i + 1) w 0 0 at x refl refl)))
 
   -- the code of a function
   pub function_whole : (f i : ℕ) (g : Function) → Whole f i (function_code p i g)
@@ -56,16 +56,16 @@ module _ (p : Program) where
   body_size : (i : ℕ) (g : Function) (s : Stm) → length (body_code p i g s) ≡ length (body_code p 0 g s)
   body_size i g (Stmt at x) = sized i ∙ sym (sized 0)
     where
-      sized : (i : ℕ) → length (body_code p i g (Stmt at x)) ≡ 1 + size_of_form 0 0 x + 1
+      sized : (i : ℕ) → length (body_code p i g (Stmt at x)) ≡ 1 + size_of_form outermost x + 1
       sized i =
-          let n = size_of_form 0 0 x in
+          let n = size_of_form outermost x in
           let rest : List Op = op 1 Rest ∷ [] in
           let inner = λ (j : ℕ). form_code p j (in_function p.model (j + n) g) at x in
           length-append (followed i rest inner) (op 0 Leave ∷ []) ∙ ap (λ m. m + 1) (followed_size i rest inner 1 n refl (λ j. form_size p j (in_function p.model (j + n) g) at x))
 
   body_long : (g : Function) (s : Stm) → 1 ≤ length (body_code p 0 g s)
   body_long g (Stmt at x) =
-      let w = in_function p.model (0 + 1 + size_of_form 0 0 x) g in
+      let w = in_function p.model (0 + 1 + size_of_form outermost x) g in
       omega (arith, length-append (op 1 Rest ∷ form_code p (0 + 1) w at x) (op 0 Leave ∷ []))
 
   -- it has an operation

@@ -1,5 +1,6 @@
 -- A machine's stacks are no higher than its shapes say, and stay so by each action.
-use Rattle.std.proofs.Common.{◌≡◌, ◌≤◌, ℕ, zero, suc, ◌+◌, ◌-◌, ℤ, Bool, true, false, cond, not, List, [], ◌∷◌, length, take, drop, Option, Some, None, slice_get, refl, ap, subst, arith}
+use Rattle.std.proofs.Common.{◌≡◌, ◌≤◌, ℕ, zero, suc, ◌+◌, ◌-◌, ℤ, pos, Bool, true, false, cond, not, List, [], ◌∷◌, length, take, drop, Option, Some, None, slice_get, refl, ap, subst, arith}
+use Rattle.std.specs.Ordering.{int_eq}
 use Rattle.c_core.specs.Types.{fit, is_zero, number_of}
 use Rattle.c_core.specs.Operators.{apply_of, apply_one_of}
 use Rattle.c_core.specs.Tree.{Program}
@@ -9,17 +10,19 @@ use Rattle.c_core.specs.declared.number.Property.TheVariants.{UnreachCall, NoOve
 use Rattle.c_core.specs.declared.number.Spot.{Spot}
 use Rattle.c_meaning.specs.declared.run.End.{End}
 use Rattle.c_meaning.specs.declared.run.Event.{Event}
-use Rattle.c_meaning.specs.declared.run.Event.TheVariants.{At, Enter as Entering}
+use Rattle.c_meaning.specs.declared.run.Event.TheVariants.{At, Branch as Branched, Enter as Entering}
+use Rattle.c_meaning.specs.declared.run.Way.{Way}
+use Rattle.c_meaning.specs.declared.run.Way.TheVariants.{Case as ByCase, Default as ByDefault}
 use Rattle.c_meaning.specs.Acts.{Res, Go, Stop, bind}
 use Rattle.c_meaning.specs.Cells.{Key, Cell, read, put}
-use Rattle.c_meaning.specs.Run.{State, index_below, with_cells}
+use Rattle.c_meaning.specs.Run.{State, index_below, in_row, with_cells}
 use Rattle.c_meaning.specs.Run as run
 use Rattle.c_meaning.specs.Watching.{seen_by}
 use Rattle.run_state.specs.Interpreting.{where_of, site_of}
 use Rattle.run_state.specs.declared.machine.Around.{Around}
 use Rattle.run_state.specs.declared.machine.CallSite.{CallSite}
 use Rattle.flow_code.specs.declared.code.Action.{Action}
-use Rattle.flow_code.specs.declared.code.Action.TheVariants.{Rest, Arrive, Give, Truth, Convert, Look, Aim, Operate, OperateOne, Jump, Open, Close, Declare, Enter, Call, Input, Reach, End as EndHere, Leave, Return}
+use Rattle.flow_code.specs.declared.code.Action.TheVariants.{Rest, Arrive, Give, Truth, Convert, Look, Aim, Row, Operate, OperateOne, Jump, ToCase, ToDefault, Open, Close, Declare, Enter, Call, Input, Reach, End as EndHere, Leave, Return}
 use Rattle.flow_code.specs.declared.code.Body.{Body}
 use Rattle.flow_code.specs.declared.code.Code.{Code}
 use Rattle.flow_code.specs.declared.code.Into.{Into}
@@ -33,7 +36,7 @@ use Rattle.flow_code.specs.declared.code.Then.TheVariants.{Push, Drop, Skip, Bra
 use Rattle.flow_code.specs.Words.{type_of_word}
 use Rattle.flow_laws.specs.declared.frame.Frame.{Frame}
 use Rattle.flow_laws.specs.Machines.{Control}
-use Rattle.flow_laws.specs.Acting.{program_in, right_of, top, below, value_of, stack_of, key_at, stack_at, kept_value, arguments, with_parameters, scope_closed, tell, told, passed_on, finished, input_given, called, left_by, converted, acted}
+use Rattle.flow_laws.specs.Acting.{program_in, right_of, top, below, value_of, stack_of, key_at, stack_at, kept_value, arguments, with_parameters, scope_closed, tell, told, passed_on, finished, input_given, called, left_by, sent, converted, acted}
 use Rattle.flow_laws.specs.Acting as acting
 use Rattle.flow_rooms.specs.Shapes.{Shape, lower, lowered, pushed, popped, all_popped, opened, closed, taken, placed, stored, passed, flat, Has, Leads, Settles, aimed, Keeps}
 use Rattle.flow_rooms.specs.Rooms.{IsCalledIn}
@@ -188,6 +191,17 @@ module _ (p : Program) (ts : List Shape) where
     reach_ends UnreachCall at spot k s = tt
     reach_ends NoOverflow at spot k s = tt
 
+    -- on at an arm, or at the next constant
+    sent_good : (at : Spot) (way : Way) (to : ℕ) (x : Shape) (k : Control) (s : State S) → Has ts to (popped x) → Stands p ts x k → Holds (Good p ts) (sent c S after at way to k s)
+    sent_good at way to x k s there h =
+        let l = record k { at = to; stack = below k.stack } in
+        holds_then (Good p ts) (tell c S after (Branched at way) s) (λ _ u. Go l u) (λ _ u. stays (popped x) l there (is_at to (popped x) (record k { stack = below k.stack }) (is_popped x k h)))
+
+    case_good : (b : Bool) (at : Spot) (v : ℤ) (to : ℕ) (x : Shape) (k : Control) (s : State S) → Has ts k.at x → Has ts to (popped x) → Stands p ts x k
+        → Holds (Good p ts) (cond b (sent c S after at (ByCase v) to k s) (Go k s))
+    case_good true at v to x k s here there h = sent_good at (ByCase v) to x k s there h
+    case_good false at v to x k s here there h = stays x k here h
+
     -- an action, of a machine that already stands behind it
     pub acted_good : (a : Action) (x : Shape) (k : Control) (s : State S) → Entered → ((f n : ℕ) (site : CallSite) → a ≡ Call f n site → IsCalledIn p x.function f) → Keeps ts k.at a x → Stands p ts x k
         → Holds (Good p ts) (acted c S after a k s)
@@ -202,6 +216,12 @@ module _ (p : Program) (ts : List Shape) where
         finished_good into v v (taken y x) (record k { stack = stack_of y k.stack }) s here (is_taken y x k h)
     acted_good (Look o n y spot into) x k s enter calls here h = holds_then (Good p ts) (run.key_of (program_in c) S (seen_by after) spot o (index_below n (value_of y k.stack s.cells)) s) (λ i u. finished c S after (read i u.cells) (read i u.cells) into (record k { stack = stack_of y k.stack }) u) (λ i u. finished_good into (read i u.cells) (read i u.cells) (taken y x) (record k { stack = stack_of y k.stack }) u here (is_taken y x k h))
     acted_good (Aim o n y spot reads) x k s enter calls here h = holds_then (Good p ts) (run.key_of (program_in c) S (seen_by after) spot o (index_below n (value_of y k.stack s.cells)) s) (λ i u. acting.aimed c S after reads i (stack_of y k.stack) k u) (λ i u. aimed_good reads i (taken y x) k (stack_of y k.stack) u here (is_taken y x k h))
+    acted_good (Row rows columns a b spot) x k s enter calls here h =
+        let vs = stack_of b k.stack in
+        let i = in_row columns (index_below rows (value_of a vs s.cells)) (index_below columns (value_of b k.stack s.cells)) in
+        holds_then (Good p ts) (run.key_of (program_in c) S (seen_by after) spot 0 i s) (λ i u. Go (record k { stack = pos i.index ∷ stack_of a vs }) u)
+        (λ i u. stays (pushed (taken a (taken b x))) (record k { stack = pos i.index ∷ stack_of a vs }) here
+        (is_pushed (taken a (taken b x)) (record k { stack = stack_of a vs }) (pos i.index) (is_taken a (taken b x) (record k { stack = vs }) (is_taken b x k h))))
     acted_good (Operate o word count a b from into) x k s enter calls here h =
         let w = value_of b k.stack s.cells in
         let vs = stack_of b k.stack in
@@ -215,6 +235,8 @@ module _ (p : Program) (ts : List Shape) where
         (λ z u. finished c S after v z into (record k { stack = stack_of a k.stack }) u)
         (λ z u. finished_good into v z (taken a x) (record k { stack = stack_of a k.stack }) u here (is_taken a x k h))
     acted_good (Jump to) x k s enter calls here h = stays x (record k { at = to }) here (is_at to x k h)
+    acted_good (ToCase at v to) x k s enter calls here h = case_good (int_eq (top k.stack) v) at v to x k s here.0 here.1 h
+    acted_good (ToDefault at to) x k s enter calls here h = sent_good at ByDefault to x k s here h
     acted_good Open x k s enter calls here h =
         stays (opened x) (record k { scopes = length s.cells ∷ k.scopes }) here (record { height = h.height; scoped = h.scoped; below = h.below; stack = h.stack; scopes = omega (arith, h.scopes) })
     acted_good Close x k s enter calls here h = close_good k.scopes x k s refl here h

@@ -1,5 +1,5 @@
 -- Where the code of an expression leads: to what is behind it, or to where its value is to lead.
-use Rattle.std.proofs.Common.{◌≡◌, ◌≤◌, ◌⊎◌, inl, inr, ℕ, suc, ◌+◌, Bool, true, false, cond, not, List, [], ◌∷◌, ◌++◌, length, Option, Some, None, slice_get, refl, ap, ◌∙◌, subst, arith, length-append}
+use Rattle.std.proofs.Common.{◌≡◌, ◌≤◌, ◌⊎◌, inl, inr, ℕ, suc, ◌+◌, negsuc, Bool, true, false, cond, not, List, [], ◌∷◌, ◌++◌, length, Option, Some, None, slice_get, refl, ap, ◌∙◌, subst, arith, length-append}
 use Rattle.c_core.specs.Types.{promote_of}
 use Rattle.c_core.specs.Tree.{Exp, Expr, Node, Const, Var, Index, Unary, Cast, Step, Binary, Logic, Choose, Comma, Assign, Call, Exps, NoExp, MoreExp, Function, Program}
 use Rattle.c_core.specs.declared.number.DataModel.{DataModel}
@@ -8,7 +8,7 @@ use Rattle.c_core.specs.declared.number.Spot.{Spot}
 use Rattle.c_core.specs.declared.tree.Callee.{Callee}
 use Rattle.c_core.specs.declared.tree.Callee.TheVariants.{Defined, Input as InputOf, ReachError, Abort, Exit}
 use Rattle.c_meaning.specs.Meaning.{Use, Used, Unused}
-use Rattle.c_meaning.specs.Objects.{type_of, size_of_object}
+use Rattle.c_meaning.specs.Objects.{type_of, size_of_object, columns_of_object}
 use Rattle.run_state.specs.declared.machine.Around.{Around}
 use Rattle.run_state.specs.declared.machine.CallSite.{CallSite}
 use Rattle.flow_code.specs.declared.code.Operand.{Operand}
@@ -17,13 +17,13 @@ use Rattle.flow_code.specs.declared.code.Then.{Then}
 use Rattle.flow_code.specs.declared.code.Then.TheVariants.{Push, Drop, Skip, Branch}
 use Rattle.flow_code.specs.declared.code.Into.{Into}
 use Rattle.flow_code.specs.declared.code.Action.{Action}
-use Rattle.flow_code.specs.declared.code.Action.TheVariants.{Give, Truth, Convert, Look, Aim, OperateOne, Jump, Enter}
+use Rattle.flow_code.specs.declared.code.Action.TheVariants.{Give, Truth, Convert, Look, Aim, Row, OperateOne, Jump, Enter}
 use Rattle.flow_code.specs.declared.code.Op.{Op}
-use Rattle.flow_code.specs.Preparing.{followed, op, only, Ready, prepared, with_operand, kept, rest, paired, paired_at}
-use Rattle.flow_code.specs.Sizes.{operand_of, operand_in, with_one, is_binary, as_stored, size, size_of_node, size_of_place}
-use Rattle.flow_code.specs.Expressions.{code, node_code, place_code, args_code, argument_to, callee_code, call_of, count_of, stored_by, stored_at, stored_code, site_at, constant, as_type, source, left_by}
+use Rattle.flow_code.specs.Preparing.{followed, op, only, Ready, prepared, taken, taken_both, with_operand, kept, rest, paired, paired_at}
+use Rattle.flow_code.specs.Sizes.{operand_of, operand_in, with_one, is_binary, as_stored, size, size_of_node, size_of_place, size_of_element}
+use Rattle.flow_code.specs.Expressions.{code, node_code, place_code, element_code, rows_of_object, args_code, argument_to, callee_code, call_of, count_of, stored_by, stored_at, stored_code, site_at, constant, as_type, source, left_by}
 use Rattle.flow_code.specs.Words.{word_of, native}
-use Rattle.flow_code.proofs.Lengths.{code_size, node_size, place_size, followed_size}
+use Rattle.flow_code.proofs.Lengths.{code_size, node_size, place_size, element_size, followed_size}
 use Rattle.flow_rooms.specs.Paces.{target_in, target_of}
 
 -- an address, if there is one, isn't before another, or is let
@@ -70,7 +70,7 @@ module _ (P : ℕ → Type 0) where
   on_prepared (Some x) i k ops h = tt
   on_prepared None i k ops h = h
 
-  on_operand : (y : Option Operand) (i k m : ℕ) (ops : List Op) (f : Operand → Action) → length ops ≡ m → LeadOn P i ops
+  pub on_operand : (y : Option Operand) (i k m : ℕ) (ops : List Op) (f : Operand → Action) → length ops ≡ m → LeadOn P i ops
       → ((x : Operand) → Beyond P (i + with_one y m) (target_of (f x))) → LeadOn P i (with_operand y k ops f)
   on_operand y i k m ops f e h b =
       let r = prepared y k ops in
@@ -139,7 +139,7 @@ module _ (P : ℕ → Type 0) where
       pub node_leads : (i k : ℕ) (want : Use) (spot : Spot) (ty : Option IntType) (n : Node) (x : Into) → Beyond P (i + size_of_node ty n) (target_in x.then) → LeadOn P i (node_code p at i k want spot ty n x)
       node_leads i k want spot ty (Const v) x b = let e : suc i ≤ i + 1 = omega arith in (beyond_less (i + 1) (suc i) (target_in x.then) e b, tt)
       node_leads i k want spot ty (Var o) x b = let e : suc i ≤ i + 1 = omega arith in (beyond_less (i + 1) (suc i) (target_in x.then) e b, tt)
-      node_leads i k want spot ty (Index o e) x b = on_operand (operand_of e) i k (size e) (code p at i k Used e Push) (λ y. Look o (size_of_object p o) y spot x) (code_size p at i k Used e Push) (code_leads i k Used e Push tt) (λ y. b)
+      node_leads i k want spot ty (Index o is) x b = element_leads i k spot o is (λ y. Look o (size_of_object p o) y spot x) (λ y. b)
       node_leads i k want spot ty (Unary o a) x b = on_operand (operand_of a) i k (size a) (code p at i k Used a Push) (λ y. OperateOne o (word_of p.model (promote_of (type_of a))) y (source at spot) x) (code_size p at i k Used a Push) (code_leads i k Used a Push tt) (λ y. b)
       node_leads i k want spot None (Cast a) x b = code_leads i k Unused a x.then b
       node_leads i k want spot (Some to) (Cast a) x b = on_operand (operand_of a) i k (size a) (code p at i k Used a Push) (λ y. Convert (native p.model to) y x) (code_size p at i k Used a Push) (code_leads i k Used a Push tt) (λ y. b)
@@ -218,8 +218,27 @@ module _ (P : ℕ → Type 0) where
           (node_size p at i (k + 1) Used s u n (only Push)) (node_leads i (k + 1) Used s u n (only Push) tt) (λ h. node_leads i (k + 1) Used s u n x h) b
 
       place_leads : (i k : ℕ) (spot : Spot) (n : Node) (reads : Bool) → LeadOn P i (place_code p at i k spot n reads).ops
-      place_leads i k spot (Index o e) reads = on_operand (operand_of e) i k (size e) (code p at i k Used e Push) (λ y. Aim o (size_of_object p o) y spot reads) (code_size p at i k Used e Push) (code_leads i k Used e Push tt) (λ y. tt)
+      place_leads i k spot (Index o is) reads = element_leads i k spot o is (λ y. Aim o (size_of_object p o) y spot reads) (λ y. tt)
       place_leads i k spot _ reads = tt
+
+      -- the indexes of an element, and the operation that takes its cell
+      element_leads : (i k : ℕ) (spot : Spot) (o : ℕ) (is : Exps) (f : Operand → Action) → ((y : Operand) → Beyond P (i + size_of_element is) (target_of (f y))) → LeadOn P i (taken (element_code p at i k spot o is) f)
+      element_leads i k spot o NoExp f b = let e : suc i ≤ i + 1 = omega arith in (beyond_less (i + 1) (suc i) (target_of (f (Number (negsuc 0)))) e (b (Number (negsuc 0))), tt)
+      element_leads i k spot o (MoreExp a NoExp) f b = on_operand (operand_of a) i k (size a) (code p at i k Used a Push) f (code_size p at i k Used a Push) (code_leads i k Used a Push tt) b
+      element_leads i k spot o (MoreExp a (MoreExp c NoExp)) f b =
+          let q = paired_at i (prepared (operand_of a) k (code p at i k Used a Push)) (operand_of c) (λ j l. code p at j l Used c Push) in
+          let row = λ (y z : Operand). Row (rows_of_object p o) (columns_of_object p o) y z spot in
+          on_last i (size_of_element (MoreExp a (MoreExp c NoExp))) (taken_both q row) (op 0 (f Top)) (element_size p at i k spot o (MoreExp a (MoreExp c NoExp)) f)
+          (on_append i q.ops (op q.steps (row q.left q.right) ∷ [])
+          (on_paired_at i (prepared (operand_of a) k (code p at i k Used a Push)) (operand_of c) (λ j l. code p at j l Used c Push)
+          (on_prepared (operand_of a) i k (code p at i k Used a Push) (code_leads i k Used a Push tt)) (λ j l. code_leads j l Used c Push tt)) (tt, tt)) (b Top)
+      element_leads i k spot o (MoreExp a (MoreExp c (MoreExp d es))) f b =
+          let is = MoreExp a (MoreExp c (MoreExp d es)) in
+          on_last i (size_of_element is) (args_code p at i k Drop is) (op 0 (f (Number (negsuc 0)))) (element_size p at i k spot o is f)
+          (on_followed i (size a) (code p at i k Used a Drop) (λ j. args_code p at j 0 Drop (MoreExp c (MoreExp d es))) (code_size p at i k Used a Drop) (code_leads i k Used a Drop tt)
+          (λ j l. on_followed j (size c) (code p at j 0 Used c Drop) (λ m. args_code p at m 0 Drop (MoreExp d es)) (code_size p at j 0 Used c Drop) (code_leads j 0 Used c Drop tt)
+          (λ m h. on_followed m (size d) (code p at m 0 Used d Drop) (λ n. args_code p at n 0 Drop es) (code_size p at m 0 Used d Drop) (code_leads m 0 Used d Drop tt)
+          (λ n q. args_leads n 0 Drop es (λ r. tt))))) (b (Number (negsuc 0)))
 
       args_leads : (i k : ℕ) (then : Then) (es : Exps) → ((n : ℕ) → Beyond P n (target_in then)) → LeadOn P i (args_code p at i k then es)
       args_leads i k then NoExp h = tt

@@ -1,5 +1,6 @@
 -- Where an action leads.
 use Rattle.std.proofs.Common.{◌≡◌, ◌≤◌, ℕ, zero, suc, ◌+◌, ◌-◌, ℤ, pos, nat_le, Bool, true, false, cond, not, List, [], ◌∷◌, ◌++◌, length, take, drop, Option, Some, None, slice_get, leb-true, refl, subst, arith}
+use Rattle.std.specs.Ordering.{int_eq}
 use Rattle.c_core.specs.Types.{fit, is_zero, number_of}
 use Rattle.c_core.specs.Operators.{apply_of, apply_one_of}
 use Rattle.c_core.specs.declared.number.DataModel.TheVariants.{Lp64}
@@ -15,17 +16,18 @@ use Rattle.c_meaning.specs.declared.run.End.{End}
 use Rattle.c_meaning.specs.declared.run.End.TheVariants.{Undefined, Deep}
 use Rattle.c_meaning.specs.declared.run.Event.{Event}
 use Rattle.c_meaning.specs.declared.run.Event.TheVariants.{Branch as Branched, Return as Returned}
+use Rattle.c_meaning.specs.declared.run.Way.TheVariants.{Truth as ByTruth, Case as ByCase}
 use Rattle.c_meaning.specs.Acts.{Res, Go, Stop, bind}
 use Rattle.c_meaning.specs.Cells.{Cell, put, read, cells_from}
 use Rattle.c_meaning.specs.Meaning.{Site, Where}
-use Rattle.c_meaning.specs.Run.{State, with_cells, index_below, most_cells}
+use Rattle.c_meaning.specs.Run.{State, with_cells, index_below, in_row, most_cells}
 use Rattle.c_meaning.specs.Run as run
 use Rattle.c_meaning.specs.Watching.{seen_by}
 use Rattle.run_state.specs.Interpreting.{where_of, site_of}
 use Rattle.run_state.specs.declared.machine.CallSite.{CallSite}
 use Rattle.flow_code.specs.Words.{type_of_word}
 use Rattle.flow_code.specs.declared.code.Action.{Action}
-use Rattle.flow_code.specs.declared.code.Action.TheVariants.{Rest, Arrive, Give, Truth, Convert, Look, Aim, Operate, OperateOne, Jump, Open, Close, Declare, Enter, Call, Input, Reach, End as EndHere, Leave, Return}
+use Rattle.flow_code.specs.declared.code.Action.TheVariants.{Rest, Arrive, Give, Truth, Convert, Look, Aim, Row, Operate, OperateOne, Jump, ToCase, ToDefault, Open, Close, Declare, Enter, Call, Input, Reach, End as EndHere, Leave, Return}
 use Rattle.flow_code.specs.declared.code.Body.{Body}
 use Rattle.flow_code.specs.declared.code.Code.{Code}
 use Rattle.flow_code.specs.declared.code.Into.{Into}
@@ -34,7 +36,7 @@ use Rattle.flow_code.specs.declared.code.Then.{Then}
 use Rattle.flow_code.specs.declared.code.Then.TheVariants.{Push, Drop, Skip, Branch}
 use Rattle.flow_laws.specs.declared.frame.Frame.{Frame}
 use Rattle.flow_laws.specs.Machines.{Control}
-use Rattle.flow_laws.specs.Acting.{program_in, cell, right_of, top, below, value_of, stack_of, key_at, stack_at, kept_value, arguments, with_parameters, passed_on, stored, finished, cells_drawn, drawn_if, declared, input_given, called, left_by, aimed, reached_at, converted, acted, scope_closed}
+use Rattle.flow_laws.specs.Acting.{program_in, cell, right_of, top, below, value_of, stack_of, key_at, stack_at, kept_value, arguments, with_parameters, passed_on, stored, finished, cells_drawn, drawn_if, declared, input_given, called, left_by, aimed, sent, reached_at, converted, acted, scope_closed}
 use Rattle.flow_rooms.specs.Paces.{target_in, target_of, opens}
 
 -- from an address, with so many calls noted and so many active, to another: on, or to an address of the same function, or into a function, or out of one
@@ -113,7 +115,7 @@ module _ (c : Code) (S : Type 0) (after : Event → List Cell → S → S) where
   passed_moves v Push k s = (refl, Along refl refl refl)
   passed_moves v Drop k s = (refl, Along refl refl refl)
   passed_moves v (Skip way to) k s = let t = not (is_zero v) in skipped_moves (cond way t (not t)) to k s
-  passed_moves v (Branch at way to) k s = let t = not (is_zero v) in skipped_moves (cond way t (not t)) to k (record s { seen = after (Branched at t) s.cells s.seen })
+  passed_moves v (Branch at way to) k s = let t = not (is_zero v) in skipped_moves (cond way t (not t)) to k (record s { seen = after (Branched at (ByTruth t)) s.cells s.seen })
 
   stored_moves : (y : Option Store) (old v : ℤ) (then : Then) (k : Control) (s : State S) → Moves c false (target_in then) k.at k.paid (length k.frames) s.active (stored c S after y old v then k s)
   stored_moves None old v then k s = passed_moves v then k s
@@ -171,6 +173,11 @@ module _ (c : Code) (S : Type 0) (after : Event → List Cell → S → S) where
   closed_moves [] k s = (refl, Along refl refl refl)
   closed_moves (n ∷ ns) k s = (refl, Along refl refl refl)
 
+  -- on at an arm, or at the next constant
+  case_moves : (b : Bool) (at : Spot) (v : ℤ) (to : ℕ) (k : Control) (s : State S) → Moves c false (Some to) k.at k.paid (length k.frames) s.active (cond b (sent c S after at (ByCase v) to k s) (Go k s))
+  case_moves true at v to k s = (refl, Led refl refl refl refl)
+  case_moves false at v to k s = (refl, Along refl refl refl)
+
   -- each action leads along, to its target, into a function that it calls, or out of its own
   pub acted_moves : (a : Action) (k : Control) (s : State S) → Moves c (opens a) (target_of a) k.at k.paid (length k.frames) s.active (acted c S after a k s)
   acted_moves Rest k s = (refl, Along refl refl refl)
@@ -188,6 +195,11 @@ module _ (c : Code) (S : Type 0) (after : Event → List Cell → S → S) where
       (λ i u. aimed c S after reads i (stack_of y k.stack) k u)
       (calm_key (program_in c) S (seen_by after) spot o (index_below n (value_of y k.stack s.cells)) s)
       (λ i u. (refl, Along refl refl refl))
+  acted_moves (Row rows columns a b spot) k s =
+      let vs = stack_of b k.stack in
+      let i = in_row columns (index_below rows (value_of a vs s.cells)) (index_below columns (value_of b k.stack s.cells)) in
+      moves_then c false None k.at k.paid (length k.frames) s.active (run.key_of (program_in c) S (seen_by after) spot 0 i s) (λ i u. Go (record k { stack = pos i.index ∷ stack_of a vs }) u)
+      (calm_key (program_in c) S (seen_by after) spot 0 i s) (λ i u. (refl, Along refl refl refl))
   acted_moves (Operate o word count a b from x) k s =
       let w = value_of b k.stack s.cells in
       let vs = stack_of b k.stack in
@@ -205,6 +217,8 @@ module _ (c : Code) (S : Type 0) (after : Event → List Cell → S → S) where
       (calm_answered (program_in c) S (seen_by after) (where_of from.around) from.spot z s)
       (λ q u. finished_moves v q x (record k { stack = stack_of a k.stack }) u)
   acted_moves (Jump to) k s = (refl, Led refl refl refl refl)
+  acted_moves (ToCase at v to) k s = case_moves (int_eq (top k.stack) v) at v to k s
+  acted_moves (ToDefault at to) k s = (refl, Led refl refl refl refl)
   acted_moves Open k s = (refl, Along refl refl refl)
   acted_moves Close k s = closed_moves k.scopes k s
   acted_moves (Declare spot o n ty draws) k s =

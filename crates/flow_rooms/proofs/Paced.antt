@@ -7,7 +7,7 @@ use Rattle.flow_code.specs.declared.code.Code.{Code}
 use Rattle.flow_code.specs.declared.code.Op.{Op}
 use Rattle.flow_code.specs.Preparing.{followed, op}
 use Rattle.flow_code.specs.Programs.{in_function, body_code, function_code, functions_code, parameters_of, bodies, IsCodeOf}
-use Rattle.flow_code.specs.Sizes.{size_of_form}
+use Rattle.flow_code.specs.Sizes.{outermost, size_of_form}
 use Rattle.flow_code.specs.Statements.{form_code}
 use Rattle.flow_laws.specs.Runs.{Sight, noted}
 use Rattle.flow_laws.specs.inside.Simulating.{HasCode}
@@ -32,10 +32,10 @@ module _ (p : Program) (c : Code) where
   body_leads : (i : ℕ) (g : Function) (s : Stm) → HasCode c i (body_code p i g s) → LeadOn (Soon c) i (body_code p i g s)
   body_leads i g (Stmt at x) h =
       let rest : List Op = op 1 Rest ∷ [] in
-      let f = λ (j : ℕ). form_code p j (in_function p.model (j + size_of_form 0 0 x) g) at x in
+      let f = λ (j : ℕ). form_code p j (in_function p.model (j + size_of_form outermost x) g) at x in
       let inner = (has_followed c i 1 rest f refl (code_split c i (followed i rest f) (op 0 Leave ∷ []) h).0).1 in
       on_append (Soon c) i (followed i rest f) (op 0 Leave ∷ [])
-      (on_behind (Soon c) i 1 rest f refl (tt, tt) (form_leads p c x (i + 1) (in_function p.model (i + 1 + size_of_form 0 0 x) g) at inner (omega arith) (omega arith))) (tt, tt)
+      (on_behind (Soon c) i 1 rest f refl (tt, tt) (form_leads p c x (i + 1) (in_function p.model (i + 1 + size_of_form outermost x) g) at inner (omega arith) (omega arith))) (tt, tt)
 
   body_starts : (i : ℕ) (g : Function) (s : Stm) → HasCode c i (body_code p i g s) → slice_get c.ops i ≡ Some (op 1 Rest)
   body_starts i g (Stmt at x) h = h.0

@@ -1,28 +1,33 @@
 -- Where the code of a statement leads: to what is behind it, and back to bodies of loops, which take a step soon.
 use Rattle.std.proofs.Common.{◌≡◌, ◌≤◌, inl, inr, ℕ, zero, suc, ◌+◌, Bool, true, false, ◌&&◌, ◌||◌, List, [], ◌∷◌, ◌++◌, length, Option, Some, None, slice_get, refl, sym, ap, ap₂, ◌∙◌, subst, arith, length-append}
-use Rattle.c_core.specs.Tree.{Exp, Expr, Exps, NoExp, MoreExp, Init, Absent, One, Many, Names, NoName, MoreName, First, NoFirst, FirstExp, FirstNames, Stm, Stmt, Form, Empty, Do, Declare, Block, If, While, DoWhile, For, Break, Continue, Return, Label, Else, NoElse, OrElse, Stms, NoStm, MoreStm, Program}
+use Rattle.c_core.specs.Tree.{Exp, Expr, Exps, NoExp, MoreExp, Init, Absent, One, Many, Rows, Names, NoName, MoreName, First, NoFirst, FirstExp, FirstNames, Stm, Stmt, Form, Empty, Do, Declare, Block, If, While, DoWhile, For, Break, Continue, Return, Label, Switch, Else, NoElse, OrElse, Stms, NoStm, MoreStm, MoreCase, Program}
+use Rattle.c_core.specs.Types.{promote_of}
+use Rattle.c_core.specs.Typing.{is_default, labels_in}
 use Rattle.c_core.specs.declared.number.IntType.{IntType}
 use Rattle.c_core.specs.declared.number.Spot.{Spot}
+use Rattle.c_core.specs.declared.tree.Label.TheVariants.{Case, Default}
 use Rattle.c_meaning.specs.Meaning.{Used, Unused}
-use Rattle.c_meaning.specs.Objects.{type_of_object, size_of_object}
-use Rattle.flow_code.specs.declared.code.Action.TheVariants.{Arrive, Jump, Open, Close, Leave, Declare as DeclareOf, Return as ReturnOf}
+use Rattle.c_meaning.specs.Objects.{type_of, type_of_object, size_of_object, columns_of_object}
+use Rattle.c_meaning.specs.Run.{first_label}
+use Rattle.flow_code.specs.declared.code.Action.TheVariants.{Arrive, Convert, Jump, ToDefault, Open, Close, Leave, Declare as DeclareOf, Return as ReturnOf}
 use Rattle.flow_code.specs.declared.code.Code.{Code}
 use Rattle.flow_code.specs.declared.code.Op.{Op}
 use Rattle.flow_code.specs.declared.code.Place.TheVariants.{Fixed}
 use Rattle.flow_code.specs.declared.code.Then.TheVariants.{Push, Drop, Branch}
+use Rattle.flow_code.specs.declared.sizes.Depth.{Depth}
 use Rattle.flow_code.specs.declared.statements.Inside.{Inside}
 use Rattle.flow_code.specs.Expressions.{code}
-use Rattle.flow_code.specs.Preparing.{followed, op, stored_in, scope, all_closed}
-use Rattle.flow_code.specs.Sizes.{size, size_if, size_of_init, size_stored, size_of_first, size_of_test, size_of_arm, size_of_statement, size_of_form, size_of_else, size_of_block, with_scope, one_if, leaks, any_leaks, first_leaks}
-use Rattle.flow_code.specs.Statements.{full_of, deeper, in_loop, draws, else_jump, jump_out, leaving, initial_code, initials_code, init_code, name_code, names_code, first_code, only_if, test_code, return_code, turns, statement_code, form_code, else_code, block_code, arm_code, turns_code}
+use Rattle.flow_code.specs.Preparing.{followed, op, only, stored_in, scope, all_closed}
+use Rattle.flow_code.specs.Sizes.{operand_of, with_one, size, size_if, size_of_init, size_of_values, size_stored, size_of_first, size_of_test, size_of_arm, size_of_selection, size_of_arms, size_of_statement, size_of_form, size_of_else, size_of_block, with_scope, one_if, leaks, any_leaks, first_leaks, in_turn}
+use Rattle.flow_code.specs.Statements.{full_of, deeper, in_loop, in_switch, draws, else_jump, jump_out, leaving, arm_at, cases_code, selection_code, switch_test_code, initial_code, initials_code, rows_code, init_code, name_code, names_code, first_code, only_if, test_code, return_code, turns, statement_code, form_code, else_code, block_code, arm_code, turns_code, arms_code}
 use Rattle.flow_code.specs.Words.{native}
 use Rattle.flow_code.proofs.Lengths.{code_size, followed_size}
 use Rattle.flow_laws.specs.inside.Simulating.{HasCode}
 use Rattle.flow_laws.proofs.Operations.{code_split}
-use Rattle.flow_laws.proofs.Sized.{closed_size, initial_size, only_size, first_size, name_size, statement_size, arm_size}
+use Rattle.flow_laws.proofs.Sized.{closed_size, selection_size, switch_test_size, initial_size, initials_size, only_size, first_size, name_size, statement_size, arm_size}
 use Rattle.flow_laws.proofs.Standing.{has_followed}
 use Rattle.flow_rooms.specs.Paces.{takes_step, opens_scope, takes_soon}
-use Rattle.flow_rooms.proofs.Leads.{LeadOn, on_append, on_last, code_leads, stored_leads}
+use Rattle.flow_rooms.proofs.Leads.{LeadOn, on_append, on_last, on_operand, code_leads, stored_leads}
 
 -- an operation takes a step soon
 abbrev pub Soon : Code → ℕ → Type 0
@@ -63,6 +68,31 @@ module _ (P : ℕ → Type 0) where
   on_leave : (n i : ℕ) → LeadOn P i (leaving n)
   on_leave n i = on_append P i (all_closed n) (op 0 Leave ∷ []) (on_closed n i) (tt, tt)
 
+  -- an arm begins where the first of the statements does, or further on
+  arm_beyond : (d : Depth) (to n : ℕ) (b : Stms) → to ≤ arm_at d to n b
+  arm_beyond d to n NoStm = omega arith
+  arm_beyond d to n (MoreStm s b) = let l = arm_beyond d (to + size_of_statement d s) n b in omega (arith, l)
+  arm_beyond d to zero (MoreCase spot l b) = omega arith
+  arm_beyond d to (suc n) (MoreCase spot l b) = arm_beyond d to n b
+
+  cases_lead : (d : Depth) (at : Spot) (i to : ℕ) (b : Stms) → i + length (cases_code d at to b) ≤ to → LeadOn P i (cases_code d at to b)
+  cases_lead d at i to NoStm h = tt
+  cases_lead d at i to (MoreStm s b) h = cases_lead d at i (to + size_of_statement d s) b (omega (arith, h))
+  cases_lead d at i to (MoreCase spot (Case v) b) h = (inl (omega (arith, h)), cases_lead d at (suc i) to b (omega (arith, h)))
+  cases_lead d at i to (MoreCase spot Default b) h = cases_lead d at i to b h
+
+  -- the operations that choose an arm, before the arms
+  selection_leads : (d : Depth) (at : Spot) (i : ℕ) (b : Stms) → LeadOn P i (selection_code d at (i + size_of_selection b) b)
+  selection_leads d at i b =
+      let to = i + size_of_selection b in
+      let cases = cases_code d at to b in
+      let n = first_label is_default (labels_in b) in
+      let last = op 0 (ToDefault at (arm_at d to n b)) in
+      let whole = selection_size d at to b in
+      let sum = length-append cases (last ∷ []) in
+      let beyond = arm_beyond d to n b in
+      on_append P i cases (last ∷ []) (cases_lead d at i to b (omega (arith, whole, sum))) (inl (omega (arith, whole, sum, beyond)), tt)
+
   module _ (p : Program) where
     initial_leads : (i : ℕ) (at : Spot) (o j : ℕ) (e : Exp) → LeadOn P i (initial_code p i at o j e)
     initial_leads i at o j (Expr s u n) =
@@ -73,10 +103,17 @@ module _ (P : ℕ → Type 0) where
     initials_lead i at o j (MoreExp e es) =
         on_behind i (size_stored e) (initial_code p i at o j e) (λ l. initials_code p l at o (j + 1) es) (initial_size p i at o j e) (initial_leads i at o j e) (initials_lead (i + size_stored e) at o (j + 1) es)
 
+    rows_lead : (i : ℕ) (at : Spot) (o j : ℕ) (rows : List Exps) → LeadOn P i (rows_code p i at o j rows)
+    rows_lead i at o j [] = tt
+    rows_lead i at o j (es ∷ rows) =
+        on_behind i (size_of_values es) (initials_code p i at o j es) (λ l. rows_code p l at o (j + columns_of_object p o) rows) (initials_size p i at o j es) (initials_lead i at o j es)
+        (rows_lead (i + size_of_values es) at o (j + columns_of_object p o) rows)
+
     init_leads : (i : ℕ) (at : Spot) (o : ℕ) (j : Init) → LeadOn P i (init_code p i at o j)
     init_leads i at o Absent = tt
     init_leads i at o (One e) = initial_leads i at o 0 e
     init_leads i at o (Many es) = initials_lead i at o 0 es
+    init_leads i at o (Rows rows) = rows_lead i at o 0 rows
 
     name_leads : (i : ℕ) (at spot : Spot) (o : ℕ) (j : Init) → LeadOn P i (name_code p i at spot o j)
     name_leads i at spot o j =
@@ -126,26 +163,26 @@ module _ (p : Program) (c : Code) where
 
   -- a statement, whose `break` and `continue` lead behind it, leads on
   abbrev StatementLeads : Stm → Type 0
-  StatementLeads s = (i : ℕ) (w : Inside) → HasCode c i (statement_code p i w s) → i + size_of_statement w.inner w.scopes s ≤ w.broken → i + size_of_statement w.inner w.scopes s ≤ w.again → LeadOn (Soon c) i (statement_code p i w s)
+  StatementLeads s = (i : ℕ) (w : Inside) → HasCode c i (statement_code p i w s) → i + size_of_statement w.depth s ≤ w.broken → i + size_of_statement w.depth s ≤ w.again → LeadOn (Soon c) i (statement_code p i w s)
 
-  arm_leads : (s : Stm) → StatementLeads s → (i : ℕ) (w : Inside) → HasCode c i (arm_code p i w s) → i + size_of_arm w.inner w.scopes s ≤ w.broken → i + size_of_arm w.inner w.scopes s ≤ w.again
+  arm_leads : (s : Stm) → StatementLeads s → (i : ℕ) (w : Inside) → HasCode c i (arm_code p i w s) → i + size_of_arm w.depth s ≤ w.broken → i + size_of_arm w.depth s ≤ w.again
       → LeadOn (Soon c) i (arm_code p i w s)
   arm_leads s leads i w h a b =
       let v = deeper (leaks s) w in
       let f = λ (l : ℕ). statement_code p l v s in
-      let n = size_of_statement v.inner v.scopes s in
+      let n = size_of_statement v.depth s in
       on_scope (Soon c) (leaks s) i f (leads (i + one_if (leaks s)) v (has_inner c (leaks s) i f h) (scope_within (leaks s) i n w.broken a) (scope_within (leaks s) i n w.again b))
 
   mutual
     -- the code of a statement leads to what is behind it, and back to loops' bodies
     pub statement_leads : (s : Stm) → StatementLeads s
     statement_leads (Stmt at f) i w h a b =
-        let one : i + 1 + size_of_form w.inner w.scopes f ≤ w.broken = omega (arith, a) in
-        let two : i + 1 + size_of_form w.inner w.scopes f ≤ w.again = omega (arith, b) in
+        let one : i + 1 + size_of_form w.depth f ≤ w.broken = omega (arith, a) in
+        let two : i + 1 + size_of_form w.depth f ≤ w.again = omega (arith, b) in
         on_behind (Soon c) i 1 (op 1 (Arrive at) ∷ []) (λ j. form_code p j w at f) refl (tt, tt) (form_leads f (i + 1) w at (has_followed c i 1 (op 1 (Arrive at) ∷ []) (λ j. form_code p j w at f) refl h).1 one two)
 
     -- the same by its form
-    pub form_leads : (f : Form) (i : ℕ) (w : Inside) (at : Spot) → HasCode c i (form_code p i w at f) → i + size_of_form w.inner w.scopes f ≤ w.broken → i + size_of_form w.inner w.scopes f ≤ w.again
+    pub form_leads : (f : Form) (i : ℕ) (w : Inside) (at : Spot) → HasCode c i (form_code p i w at f) → i + size_of_form w.depth f ≤ w.broken → i + size_of_form w.depth f ≤ w.again
         → LeadOn (Soon c) i (form_code p i w at f)
     form_leads Empty i w at h a b = tt
     form_leads (Do e) i w at h a b = code_leads (Soon c) p (full_of at e) i 0 Unused e Drop tt
@@ -153,10 +190,10 @@ module _ (p : Program) (c : Code) where
     form_leads (Block s) i w at h a b =
         let v = deeper (any_leaks s) w in
         let f = λ (j : ℕ). block_code p j v s in
-        let n = size_of_block v.inner v.scopes s in
+        let n = size_of_block v.depth s in
         on_scope (Soon c) (any_leaks s) i f (block_leads s (i + one_if (any_leaks s)) v (has_inner c (any_leaks s) i f h) (scope_within (any_leaks s) i n w.broken a) (scope_within (any_leaks s) i n w.again b))
     form_leads (If e s o) i w at h a b =
-        let n = size_of_arm w.inner w.scopes s in
+        let n = size_of_arm w.depth s in
         let to = i + (size e + n + else_jump o) in
         let test = code p (full_of at e) i 0 Used e (Branch at false to) in
         let arm = λ (j : ℕ). arm_code p j w s in
@@ -169,7 +206,7 @@ module _ (p : Program) (c : Code) where
         (arm_leads s (statement_leads s) (i + size e) w inner.1 (omega (arith, a)) (omega (arith, b))))
         (else_leads o (i + (size e + n)) to w parts.1 (omega arith) (omega (arith, a)) (omega (arith, b)))
     form_leads (While e s) i w at h a b =
-        let n = size_of_arm 0 w.scopes s in
+        let n = size_of_arm (in_turn w.depth) s in
         let again = i + 1 + n in
         let u = in_loop again (again + size e) w in
         let jump : List Op = op 0 (Jump again) ∷ [] in
@@ -182,7 +219,7 @@ module _ (p : Program) (c : Code) where
         (on_behind (Soon c) i 1 jump arm refl (inl over, tt) (arm_leads s (statement_leads s) (i + 1) u body (omega arith) (omega arith)))
         (test_leads (Soon c) p (i + (1 + n)) at (Some e) (i + 1) (arm_soon (leaks s) (i + 1) (deeper (leaks s) u) s body))
     form_leads (DoWhile s e) i w at h a b =
-        let n = size_of_arm 0 w.scopes s in
+        let n = size_of_arm (in_turn w.depth) s in
         let again = i + n in
         let u = in_loop again (again + size e) w in
         let parts = has_followed c i n (arm_code p i u s) (λ j. test_code p j at (Some e) i) (arm_size p i u s) h in
@@ -191,7 +228,7 @@ module _ (p : Program) (c : Code) where
         (test_leads (Soon c) p (i + n) at (Some e) i (arm_soon (leaks s) i (deeper (leaks s) u) s parts.0))
     form_leads (For first e t s) i w at h a b =
         let u = deeper (first_leaks first) w in
-        let n = size_of_arm 0 u.scopes s in
+        let n = size_of_arm (in_turn u.depth) s in
         let l = i + one_if (first_leaks first) in
         let m = l + size_of_first first in
         let again = m + 1 + n in
@@ -209,28 +246,48 @@ module _ (p : Program) (c : Code) where
         (on_behind (Soon c) l (size_of_first first) (first_code p l at first) (λ k. turns_code p k u at e t s) (first_size p l at first) (first_leads_on (Soon c) p l at first)
         (turns_lead (Soon c) p m (m + 1) head at e t arm n (arm_size p (m + 1) v s) (omega arith) (arm_soon (leaks s) (m + 1) (deeper (leaks s) v) s body)
         (arm_leads s (statement_leads s) (m + 1) v body (omega arith) (omega arith))))
-    form_leads Break i w at h a b = on_jump (Soon c) w.inner i w.broken a
-    form_leads Continue i w at h a b = on_jump (Soon c) w.inner i w.again b
-    form_leads (Return None) i w at h a b = on_leave (Soon c) w.scopes i
-    form_leads (Return (Some e)) i w at h a b = return_leads (Soon c) p i at w.result e w.scopes
+    form_leads Break i w at h a b = on_jump (Soon c) w.depth.inner i w.broken a
+    form_leads Continue i w at h a b = on_jump (Soon c) w.depth.turn i w.again b
+    form_leads (Return None) i w at h a b = on_leave (Soon c) w.depth.scopes i
+    form_leads (Return (Some e)) i w at h a b = return_leads (Soon c) p i at w.result e w.depth.scopes
     form_leads (Label s) i w at h a b = statement_leads s i w h a b
+    form_leads (Switch e s) i w at h a b =
+        let n = with_one (operand_of e) (size e) in
+        let arms = size_of_arms w.depth s in
+        let j = i + n in
+        let v = deeper (any_leaks s) (in_switch (j + arms) w) in
+        let f = λ (l : ℕ). arms_code p l v at s in
+        let m = size_of_block v.depth s in
+        let l = j + one_if (any_leaks s) in
+        let first = size_of_selection s in
+        let parts = has_followed c i n (switch_test_code p i at e) (λ j. scope (any_leaks s) j (λ l. arms_code p l (deeper (any_leaks s) (in_switch (j + arms) w)) at s)) (switch_test_size p i at e) h in
+        let block = (has_followed c l first (selection_code v.depth at (l + first) s) (λ k. block_code p k v s) (selection_size v.depth at (l + first) s) (has_inner c (any_leaks s) j f parts.1)).1 in
+        let one = scope_within (any_leaks s) j (first + m) (j + arms) (omega arith) in
+        let two = scope_within (any_leaks s) j (first + m) w.again (omega (arith, b)) in
+        on_behind (Soon c) i n (switch_test_code p i at e) (λ j. scope (any_leaks s) j (λ l. arms_code p l (deeper (any_leaks s) (in_switch (j + arms) w)) at s)) (switch_test_size p i at e)
+        (on_operand (Soon c) (operand_of e) i 0 (size e) (code p (full_of at e) i 0 Used e Push) (λ y. Convert (native p.model (promote_of (type_of e))) y (only Push)) (code_size p (full_of at e) i 0 Used e Push)
+        (code_leads (Soon c) p (full_of at e) i 0 Used e Push tt) (λ y. tt))
+        (on_scope (Soon c) (any_leaks s) j f
+        (on_behind (Soon c) l first (selection_code v.depth at (l + first) s) (λ k. block_code p k v s) (selection_size v.depth at (l + first) s)
+        (selection_leads (Soon c) v.depth at l s) (block_leads s (l + first) v block (omega (arith, one)) (omega (arith, two)))))
 
-    else_leads : (o : Else) (i to : ℕ) (w : Inside) → HasCode c i (else_code p i to w o) → i + else_jump o ≤ to → i + size_of_else w.inner w.scopes o ≤ w.broken → i + size_of_else w.inner w.scopes o ≤ w.again
+    else_leads : (o : Else) (i to : ℕ) (w : Inside) → HasCode c i (else_code p i to w o) → i + else_jump o ≤ to → i + size_of_else w.depth o ≤ w.broken → i + size_of_else w.depth o ≤ w.again
         → LeadOn (Soon c) i (else_code p i to w o)
     else_leads NoElse i to w h l a b = tt
     else_leads (OrElse s) i to w h l a b =
-        let n = size_of_arm w.inner w.scopes s in
+        let n = size_of_arm w.depth s in
         let jump : List Op = op 0 (Jump (to + n)) ∷ [] in
         let arm = λ (j : ℕ). arm_code p j w s in
         let over : suc i ≤ to + n = omega (arith, l) in
         on_behind (Soon c) i 1 jump arm refl (inl over, tt) (arm_leads s (statement_leads s) (i + 1) w (has_followed c i 1 jump arm refl h).1 (omega (arith, a)) (omega (arith, b)))
 
-    block_leads : (s : Stms) (i : ℕ) (w : Inside) → HasCode c i (block_code p i w s) → i + size_of_block w.inner w.scopes s ≤ w.broken → i + size_of_block w.inner w.scopes s ≤ w.again
+    block_leads : (s : Stms) (i : ℕ) (w : Inside) → HasCode c i (block_code p i w s) → i + size_of_block w.depth s ≤ w.broken → i + size_of_block w.depth s ≤ w.again
         → LeadOn (Soon c) i (block_code p i w s)
     block_leads NoStm i w h a b = tt
     block_leads (MoreStm s o) i w h a b =
-        let n = size_of_statement w.inner w.scopes s in
+        let n = size_of_statement w.depth s in
         let parts = has_followed c i n (statement_code p i w s) (λ j. block_code p j w o) (statement_size p i w s) h in
         on_behind (Soon c) i n (statement_code p i w s) (λ j. block_code p j w o) (statement_size p i w s)
         (statement_leads s i w parts.0 (omega (arith, a)) (omega (arith, b)))
         (block_leads o (i + n) w parts.1 (omega (arith, a)) (omega (arith, b)))
+    block_leads (MoreCase spot l o) i w h a b = block_leads o i w h a b

@@ -3,7 +3,7 @@ use Rattle.std.specs.Prelude.{◌≡◌, ◌≤◌, ◌<◌, ◌⊎◌, ℕ, suc
 use Rattle.c_meaning.specs.declared.run.Choices.{Choices}
 use Rattle.c_meaning.specs.Run.{most_cells}
 use Rattle.flow_code.specs.declared.code.Action.{Action}
-use Rattle.flow_code.specs.declared.code.Action.TheVariants.{Give, Truth, Convert, Look, Operate, OperateOne, Jump, Open, Input}
+use Rattle.flow_code.specs.declared.code.Action.TheVariants.{Give, Truth, Convert, Look, Operate, OperateOne, Jump, ToCase, ToDefault, Open, Input}
 use Rattle.flow_code.specs.declared.code.Body.{Body}
 use Rattle.flow_code.specs.declared.code.Code.{Code}
 use Rattle.flow_code.specs.declared.code.Op.{Op}
@@ -29,6 +29,8 @@ target_of (Look o n y spot x) = target_in x.then
 target_of (Operate o word count a b from x) = target_in x.then
 target_of (OperateOne o word a from x) = target_in x.then
 target_of (Jump to) = Some to
+target_of (ToCase at v to) = Some to
+target_of (ToDefault at to) = Some to
 target_of (Input spot close ty x) = target_in x.then
 target_of _ = None
 

@@ -9,7 +9,7 @@ use Rattle.flow_code.specs.declared.code.Then.{Then}
 use Rattle.flow_code.specs.declared.code.Then.TheVariants.{Push, Drop, Skip, Branch}
 use Rattle.flow_code.specs.declared.code.Into.{Into}
 use Rattle.flow_code.specs.declared.code.Action.{Action}
-use Rattle.flow_code.specs.declared.code.Action.TheVariants.{Rest, Arrive, Give, Truth, Convert, Look, Aim, Operate, OperateOne, Jump, Open, Close, Declare, Enter, Call, Input, Reach, End as EndHere, Leave, Return}
+use Rattle.flow_code.specs.declared.code.Action.TheVariants.{Rest, Arrive, Give, Truth, Convert, Look, Aim, Row, Operate, OperateOne, Jump, ToCase, ToDefault, Open, Close, Declare, Enter, Call, Input, Reach, End as EndHere, Leave, Return}
 use Rattle.flow_code.specs.declared.code.Op.{Op}
 
 -- the function, by its number, the values on the stack that are its own, and its open scopes
@@ -108,9 +108,12 @@ Keeps ts i (Truth y into) x = Settles ts i into (taken y x)
 Keeps ts i (Convert ty y into) x = Settles ts i into (taken y x)
 Keeps ts i (Look o n y spot into) x = Settles ts i into (taken y x)
 Keeps ts i (Aim o n y spot reads) x = Has ts i (aimed reads (taken y x))
+Keeps ts i (Row rows columns a b spot) x = Has ts i (pushed (taken a (taken b x)))
 Keeps ts i (Operate o word count a b from into) x = Settles ts i into (taken a (taken b x))
 Keeps ts i (OperateOne o word a from into) x = Settles ts i into (taken a x)
 Keeps ts i (Jump to) x = Has ts to x
+Keeps ts i (ToCase at v to) x = Has ts i x × Has ts to (popped x)
+Keeps ts i (ToDefault at to) x = Has ts to (popped x)
 Keeps ts i Open x = Has ts i (opened x)
 Keeps ts i Close x = Has ts i (closed x)
 Keeps ts i (Declare spot o n ty draws) x = Has ts i x

@@ -171,7 +171,7 @@ example_37 : shown (codes "a[b, c]") ≡ codes "a[(b,c)]"
 unfolding level within
 example_37 = refl
 
-example_38 : shown (codes "a[b][c]") ≡ codes "rest"
+example_38 : shown (codes "a[b][c][d]") ≡ codes "rest"
 unfolding level within
 example_38 = refl
 
@@ -240,3 +240,7 @@ example_53 = refl
 example_54 : shown_within 9 3 (codes "a+b+c") ≡ codes "((a+b)+c)"
 unfolding level within
 example_54 = refl
+
+example_55 : shown (codes "a[b][c, d] + a[0]") ≡ codes "(a[b][(c,d)]+a[0])"
+unfolding level within
+example_55 = refl

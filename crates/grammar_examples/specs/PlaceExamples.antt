@@ -1,14 +1,14 @@
 -- Where the parts of small texts stand.
-use Rattle.std.specs.Prelude.{◌≡◌, refl, codes, ℕ, [], ◌∷◌, Some, None}
+use Rattle.std.specs.Prelude.{◌≡◌, refl, codes, ℕ, true, false, [], ◌∷◌, Some}
 use Rattle.c_core.specs.declared.number.Spot.{Spot}
 use Rattle.c_core.specs.declared.number.BinOp.TheVariants as op
 use Rattle.c_core.specs.declared.number.StepOp.TheVariants as step
 use Rattle.c_core.specs.declared.number.IntType.TheVariants.{Int}
-use Rattle.c_parser.specs.Tree.{Expr, Var, Step, Binary, Choose, Call, exps, Absent, Stmt, Do, Declare, Block, Label, stms, Function}
+use Rattle.c_parser.specs.Tree.{Expr, Number, Var, Index, Step, Binary, Choose, Call, exps, Absent, Stmt, Do, Declare, Block, Label, Break, Switch, Case, Default, NoStm, MoreStm, MoreCase, stms, Function}
 use Rattle.c_parser.specs.Signs.{expr}
 use Rattle.c_parser.specs.Declarations.{declared}
 use Rattle.c_parser.specs.ReadExpressions.{read, level, within}
-use Rattle.c_parser.specs.ReadStatements.{header_within, statement_level, braced_within}
+use Rattle.c_parser.specs.ReadStatements.{rows_within, header_within, statement_level, braced_within, armed_within}
 use Rattle.c_parser.specs.ReadItems.{Source, read_items}
 use Rattle.grammar_examples.specs.Shown.{tokens_of}
 
@@ -39,6 +39,23 @@ example_3 = refl
 example_4 : read_items 9 9 30 (tokens_of (codes "int f() { l: a; int b; }")) ≡
     Source (Function (column 5) (codes "f") (Some Int) [] (Stmt (column 9) (Block (stms (
     Stmt (column 11) (Label (codes "l") (Stmt (column 14) (Do (Expr (column 14) (Var (codes "a") (column 14)))))) ∷
-    Stmt (column 17) (Declare (declared (column 21) (codes "b") Int None Absent ∷ [])) ∷ [])))) ∷ [])
-unfolding level within header_within statement_level braced_within
+    Stmt (column 17) (Declare (declared (column 21) (codes "b") Int [] Absent ∷ [])) ∷ [])))) ∷ [])
+unfolding level within rows_within header_within statement_level braced_within armed_within
 example_4 = refl
+
+-- an arm has the place of its word, an element that of its name
+example_5 : read_items 9 9 40 (tokens_of (codes "int f() { switch (a) { case 1: default: break; } }")) ≡
+    Source (Function (column 5) (codes "f") (Some Int) [] (Stmt (column 9) (Block (stms (
+    Stmt (column 11) (Switch (Expr (column 19) (Var (codes "a") (column 19)))
+    (MoreCase (column 24) (Case (Expr (column 29) (Number 1 true false 0))) (MoreCase (column 32) Default (MoreStm (Stmt (column 41) Break) NoStm)))) ∷ [])))) ∷ [])
+unfolding level within rows_within header_within statement_level braced_within armed_within
+example_5 = refl
+
+example_6 : read 9 9 expr (tokens_of (codes "(a)[b]")) ≡ Some (Expr (column 1) (Var (codes "a") (column 2)), tokens_of (codes "   [b]"))
+unfolding level within
+example_6 = refl
+
+example_7 : read 9 9 expr (tokens_of (codes "a[b][c]")) ≡
+    Some (Expr (column 1) (Index (codes "a") (column 1) (exps (Expr (column 3) (Var (codes "b") (column 3)) ∷ Expr (column 6) (Var (codes "c") (column 6)) ∷ []))), [])
+unfolding level within
+example_7 = refl

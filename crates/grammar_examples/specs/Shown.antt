@@ -14,10 +14,10 @@ use Rattle.c_tokens.specs.declared.place.Place.{Place}
 use Rattle.c_tokens.specs.Gaps.{gap}
 use Rattle.c_tokens.specs.Scan.{good, scan}
 use Rattle.c_tokens.specs.Reading as reading
-use Rattle.c_parser.specs.Tree.{Exp, Expr, Node, Number, Char, Var, Index, Unary, Cast, Step, Binary, Logic, Choose, Comma, Assign, Call, Exps, NoExp, MoreExp, Init, Absent as NoInit, One, Many, Declared, First, NoFirst, FirstExp, FirstDeclared, Stm, Stmt, Form, Empty, Do, Declare, Block, If, While, DoWhile, For, Break, Continue, Return, Label, Else, NoElse, OrElse, Stms, NoStm, MoreStm, Param, Item, Function, Prototype, Global, Closed}
+use Rattle.c_parser.specs.Tree.{Exp, Expr, Node, Number, Char, Var, Index, Unary, Cast, Step, Binary, Logic, Choose, Comma, Assign, Call, Exps, NoExp, MoreExp, exps, Init, Absent as NoInit, One, Many, Rows, Declared, First, NoFirst, FirstExp, FirstDeclared, Stm, Stmt, Form, Empty, Do, Declare, Block, If, While, DoWhile, For, Break, Continue, Return, Label, Switch, Else, NoElse, OrElse, ArmLabel, Case, Default, Stms, NoStm, MoreStm, MoreCase, Param, Item, Function, Prototype, Global, Closed}
 use Rattle.c_parser.specs.Signs.{expr}
 use Rattle.c_parser.specs.ReadExpressions.{Read, read, level, within}
-use Rattle.c_parser.specs.ReadStatements.{header_within, statement_level, braced_within}
+use Rattle.c_parser.specs.ReadStatements.{rows_within, header_within, statement_level, braced_within, armed_within}
 use Rattle.c_parser.specs.ReadItems.{Outcome, Source, Syntax, read_items}
 
 -- the tokens of a text that is nothing but tokens
@@ -100,7 +100,7 @@ abbrev mutual
   text_of_node (Number v decimal unsigned longs) = (48 + v) ∷ []
   text_of_node (Char v) = codes "char"
   text_of_node (Var w p) = w
-  text_of_node (Index w p e) = w ++ (codes "[" ++ (text_of e ++ codes "]"))
+  text_of_node (Index w p es) = w ++ text_of_indexes es
   text_of_node (Unary o e) = codes "(" ++ (text_of_one o ++ (text_of e ++ codes ")"))
   text_of_node (Cast to e) = codes "(" ++ (text_of_result to ++ (codes ":" ++ (text_of e ++ codes ")")))
   text_of_node (Step o e) = text_of_step o (text_of e)
@@ -116,27 +116,36 @@ abbrev mutual
   text_of_row NoExp = []
   text_of_row (MoreExp e es) = text_of e ++ (codes ";" ++ text_of_row es)
 
+  pub text_of_indexes : Exps → List ℕ
+  text_of_indexes NoExp = []
+  text_of_indexes (MoreExp e es) = codes "[" ++ (text_of e ++ (codes "]" ++ text_of_indexes es))
+
 abbrev pub text_if : Option Exp → List ℕ
 text_if None = []
 text_if (Some e) = text_of e
+
+abbrev pub text_of_rows : List Exps → List ℕ
+text_of_rows [] = []
+text_of_rows (row ∷ rows) = codes "{" ++ (text_of_row row ++ (codes "}" ++ text_of_rows rows))
 
 abbrev pub text_of_init : Init → List ℕ
 text_of_init NoInit = []
 text_of_init (One e) = codes "=" ++ text_of e
 text_of_init (Many es) = codes "={" ++ (text_of_row es ++ codes "}")
-
-abbrev pub text_of_size : Option Exp → List ℕ
-text_of_size None = []
-text_of_size (Some e) = codes "[" ++ (text_of e ++ codes "]")
+text_of_init (Rows rows) = codes "={" ++ (text_of_rows rows ++ codes "}")
 
 abbrev pub text_of_declared : List Declared → List ℕ
 text_of_declared [] = []
-text_of_declared (d ∷ ds) = text_of_type d.ty ++ (codes " " ++ (d.name ++ (text_of_size d.size ++ (text_of_init d.init ++ (codes ";" ++ text_of_declared ds)))))
+text_of_declared (d ∷ ds) = text_of_type d.ty ++ (codes " " ++ (d.name ++ (text_of_indexes (exps d.sizes) ++ (text_of_init d.init ++ (codes ";" ++ text_of_declared ds)))))
 
 abbrev pub text_of_first : First → List ℕ
 text_of_first NoFirst = codes ";"
 text_of_first (FirstExp e) = text_of e ++ codes ";"
 text_of_first (FirstDeclared ds) = text_of_declared ds
+
+abbrev pub text_of_label : ArmLabel → List ℕ
+text_of_label (Case e) = codes "case " ++ (text_of e ++ codes ":")
+text_of_label Default = codes "default:"
 
 abbrev mutual
   pub text_of_statement : Stm → List ℕ
@@ -155,6 +164,7 @@ abbrev mutual
   text_of_form Continue = codes "continue;"
   text_of_form (Return e) = codes "return " ++ (text_if e ++ codes ";")
   text_of_form (Label w s) = w ++ (codes ":[" ++ (text_of_statement s ++ codes "]"))
+  text_of_form (Switch e b) = codes "switch " ++ (text_of e ++ (codes "{" ++ (text_of_block b ++ codes "}")))
 
   pub text_of_else : Else → List ℕ
   text_of_else NoElse = []
@@ -163,6 +173,7 @@ abbrev mutual
   pub text_of_block : Stms → List ℕ
   text_of_block NoStm = []
   text_of_block (MoreStm s b) = text_of_statement s ++ text_of_block b
+  text_of_block (MoreCase p l b) = text_of_label l ++ text_of_block b
 
 abbrev pub text_of_params : List Param → List ℕ
 text_of_params [] = []
@@ -206,9 +217,9 @@ text_of_outcome (Source xs) = text_of_items xs
 text_of_outcome (Syntax p) = codes "syntax " ++ ((48 + p.column / 10) ∷ (48 + p.column % 10) ∷ [])
 
 abbrev pub items_within : ℕ → ℕ → List ℕ → List ℕ
-unfolding level within header_within statement_level braced_within
+unfolding level within rows_within header_within statement_level braced_within armed_within
 items_within b h text = text_of_outcome (read_items h b (length text) (tokens_of text))
 
 abbrev pub items : List ℕ → List ℕ
-unfolding level within header_within statement_level braced_within
+unfolding level within rows_within header_within statement_level braced_within armed_within
 items text = items_within 9 9 text

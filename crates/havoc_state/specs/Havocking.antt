@@ -26,7 +26,7 @@ use Rattle.c_meaning.specs.Run.{first_cells}
 use Rattle.c_meaning.specs.Value.{holds}
 use Rattle.c_meaning.specs.Objects.{type_of, type_of_object, size_of_object}
 use Rattle.c_meaning.specs.Eval.{eval, target, place, tested, convert_to, operate, store, called, node}
-use Rattle.c_meaning.specs.Exec.{call_of, with_params, run_in, run_main, full, initial, declare, exec, form, otherwise, execs, draw_cells, initials, while_turn, do_turn, for_turn, full_if, control, turn}
+use Rattle.c_meaning.specs.Exec.{call_of, with_params, run_in, run_main, full, initial, declare, exec, form, otherwise, execs, from_arm, draw_cells, initials, row_initials, while_turn, do_turn, for_turn, full_if, control, turn}
 use Rattle.c_calls.specs.Loops.{changed_if}
 use Rattle.run_state.specs.Interpreting.{other_pairs}
 use Rattle.run_state.specs.declared.machine.Flow.{Flow}
@@ -123,6 +123,14 @@ module _ (p : Program) (I : List Placed) where
   abbrev pub blocked : ℕ → Option IntType → Stms → Left → Res Stopped Left acts.Flow
   blocked n result b s = acts.scoped Stopped Left cells_left with_cells_left (sequenced n result b) s
 
+  -- the arms of a switch from one by its number on
+  abbrev pub arms_done : ℕ → Option IntType → ℕ → Stms → Left → Res Stopped Left acts.Flow
+  arms_done n result k b s = from_arm p havocked (calls n) result k b s
+
+  -- the arms that are left of a switch: what is declared in them ends with them, and a `break` is their end
+  abbrev pub held_arms : ℕ → Option IntType → Stms → Left → Res Stopped Left acts.Flow
+  held_arms n result b s = acts.breaks Stopped Left cells_left with_cells_left (sequenced n result b) s
+
   abbrev pub armed : ℕ → Option IntType → Stm → Left → Res Stopped Left acts.Flow
   armed n result x s = acts.scoped Stopped Left cells_left with_cells_left (executed n result x) s
 
@@ -141,6 +149,10 @@ module _ (p : Program) (I : List Placed) where
 
   abbrev pub initialised_by : ℕ → Spot → ℕ → ℕ → Exps → Left → Res Stopped Left (Unit {0})
   initialised_by n at o i es s = initials p havocked (calls n) at o i es s
+
+  -- rows of values, each from its own cell on
+  abbrev pub initialised_rows : ℕ → Spot → ℕ → ℕ → List Exps → Left → Res Stopped Left (Unit {0})
+  initialised_rows n at o i rows s = row_initials p havocked (calls n) at o i rows s
 
   abbrev pub cell_drawn : Spot → ℕ → ℕ → Left → Res Stopped Left (Unit {0})
   cell_drawn spot o i s =
@@ -169,6 +181,11 @@ module _ (p : Program) (I : List Placed) where
 
   abbrev pub placed_at : ℕ → Where → Spot → Node → Left → Res Stopped Left Key
   placed_at n at spot x s = place p havocked (calls n) at spot x s
+
+  -- expressions from left to right, for their effects
+  abbrev pub evaluated_all : ℕ → Where → Exps → Left → Res Stopped Left (Unit {0})
+  evaluated_all n at NoExp s = Go tt s
+  evaluated_all n at (MoreExp e es) s = bind (evaluated n at Used e s) (λ _. evaluated_all n at es)
 
   -- 0 or 1
   abbrev pub truthed : ℕ → Where → Exp → Left → Res Stopped Left ℤ

@@ -19,4 +19,6 @@ pub use invariants::{arrive, assume, check};
 pub use loops::{close, redraw};
 pub use machine::{Ending, Halt, Machine};
 pub use parameters::set_parameters;
-pub use values::{bump, change, convert_to, element, look, operate, operate_one, store};
+pub use values::{
+    bump, change, convert_to, element, element_in_row, look, operate, operate_one, store,
+};

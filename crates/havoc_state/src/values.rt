@@ -1,5 +1,5 @@
 // Values: operators, cells, places of arrays' elements.
-ghost use Rattle.std.specs.Prelude.{◌≡◌, [], None, Ok, cond};
+ghost use Rattle.std.specs.Prelude.{◌≡◌, ◌/◌, [], None, Ok, cond};
 ghost use Rattle.c_core.specs.Types.{fit, promote_of};
 ghost use Rattle.c_core.specs.Operators.{apply_one_of, is_prefix};
 ghost use Rattle.c_core.specs.View.{program_view};
@@ -23,7 +23,7 @@ use c_core::{
     op_of_step,
 };
 use c_meaning::{Duty, DutyKind, size_of_object};
-use run_state::{Around, Element, Typed};
+use run_state::{Around, Element, Typed, columns_of_object};
 
 /// The property is violated in a full expression.
 pub fn violate(at: Around) -> Halt
@@ -90,6 +90,31 @@ pub fn element(program: &Program, object: u32, index: i128) -> Result<Element, H
         Ok(Element {
             object,
             index: index as u32,
+        })
+    } else {
+        Err(Halt::Ends(Ending::Passes))
+    }
+}
+
+/// The element of an array at a row and a column, each within its own dimension.
+#[tactic(auto, using(c_meaning::proofs::Rows::within_row))]
+pub fn element_in_row(
+    program: &Program,
+    object: u32,
+    row: i128,
+    column: i128,
+) -> Result<Element, Halt>
+    ensures { (s : Left) → Gives key_of result s (havoc.key_of (program_view program.now) [] object (run.in_row (objects.columns_of_object (program_view program.now) object) (run.index_below (objects.size_of_object (program_view program.now) object / objects.columns_of_object (program_view program.now) object) row) (run.index_below (objects.columns_of_object (program_view program.now) object) column)) s) }
+{
+    let size = size_of_object(program, object);
+    let columns = columns_of_object(program, object);
+    if columns == 0 {
+        return Err(Halt::Ends(Ending::Passes));
+    }
+    if row >= 0 && row < (size / columns) as i128 && column >= 0 && column < columns as i128 {
+        Ok(Element {
+            object,
+            index: row as u32 * columns + column as u32,
         })
     } else {
         Err(Halt::Ends(Ending::Passes))

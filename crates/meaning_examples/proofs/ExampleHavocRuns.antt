@@ -39,4 +39,11 @@ example_havoc_runs = record {
   overflows_in_32_bits = refl;
   duty_of_a_long_sum = refl;
   fits_in_64_bits = refl;
+  duty_behind_a_switch = refl;
+  falls_through = refl;
+  leaves_by_break = refl;
+  goes_by_default = refl;
+  continued_in_an_arm = refl;
+  rows_reach_the_error = refl;
+  no_such_column = refl;
 }

@@ -20,6 +20,13 @@ example_runs = record {
   three_calls_are_counted = refl;
   error_after_three_turns = refl;
   error_after_recursion = refl;
+  one_falls_through = refl;
+  two_is_left_by_break = refl;
+  seven_goes_by_default = refl;
+  jumps_of_arms = refl;
+  rows_are_filled = refl;
+  fourth_of_three_columns = refl;
+  third_of_two_rows = refl;
   room_for_two = refl;
   no_room_for_three = refl;
 }

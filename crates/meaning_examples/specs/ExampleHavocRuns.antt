@@ -17,6 +17,7 @@ use Rattle.c_meaning.specs.Duties.{Placed, duty, Duties}
 use Rattle.c_meaning.specs.Havoc.{Havoc}
 use Rattle.c_meaning.specs.Examples.{at, drawn, exp, number, object, operation, branch_on_difference, step_char, add_to_long, count_down, count_to_ten, count_calls}
 use Rattle.meaning_examples.specs.Loops.{element, fill_in_loops}
+use Rattle.meaning_examples.specs.Switches.{fall_through, switch_in_loop, rows_and_columns}
 
 -- a value drawn at the head of a loop
 abbrev pub redrawn : Spot → IntType → ℤ → Draw
@@ -117,3 +118,11 @@ pub record ExampleHavocRuns : Type 0 where
   pub overflows_in_32_bits : Havoc (add_to_long Ilp32) [] [] ≡ left (Failed 1) []
   pub duty_of_a_long_sum : Duties (add_to_long Lp64) [] ≡ (duty (at 3 3) PropertyKind None ∷ [])
   pub fits_in_64_bits : Havoc (add_to_long Lp64) [] [] ≡ left Passed []
+  pub duty_behind_a_switch : Duties fall_through [] ≡ (duty (at 12 5) PropertyKind None ∷ [])
+  pub falls_through : Havoc fall_through [] (pos 1 ∷ []) ≡ left (Failed 1) (drawn (at 4 11) Int (pos 1) ∷ [])
+  pub leaves_by_break : Havoc fall_through [] (pos 2 ∷ []) ≡ left Passed (drawn (at 4 11) Int (pos 2) ∷ [])
+  pub goes_by_default : Havoc fall_through [] (pos 7 ∷ []) ≡ left Passed (drawn (at 4 11) Int (pos 7) ∷ [])
+  -- a turn that `continue` ends in an arm comes back to the head
+  pub continued_in_an_arm : Havoc switch_in_loop [] (pos 0 ∷ []) ≡ left Passed (redrawn (at 3 3) Int (pos 0) ∷ [])
+  pub rows_reach_the_error : Havoc (rows_and_columns 1 2) [] [] ≡ left (Failed 1) []
+  pub no_such_column : Havoc (rows_and_columns 0 3) [] [] ≡ left Passed []

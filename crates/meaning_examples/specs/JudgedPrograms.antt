@@ -12,19 +12,25 @@ use Rattle.c_core.specs.declared.number.BinOp.TheVariants as b
 use Rattle.c_core.specs.declared.number.UnOp.TheVariants as u
 use Rattle.c_core.specs.declared.number.StepOp.TheVariants as s
 use Rattle.c_core.specs.declared.tree.Callee.TheVariants as c
+use Rattle.c_core.specs.declared.tree.Label.{Label}
+use Rattle.c_core.specs.declared.tree.Label.TheVariants as l
 use Rattle.c_core.specs.declared.tree.Object.{Object}
 use Rattle.c_core.specs.declared.tree.Start.{Start}
 
 abbrev pub at : ℕ → ℕ → Spot
 at l c = record { line = l; column = c }
 
--- type, cells, array, fixed, column on line 2
-abbrev pub object : IntType → ℕ → Bool → Bool → ℕ → Object
-object ty cells array fixed c = record { name = []; ty = ty; cells = cells; array = array; fixed = fixed; spot = at 2 c }
+-- type, dimensions, cells, columns, fixed, column on line 2
+abbrev pub shaped : IntType → ℕ → ℕ → ℕ → Bool → ℕ → Object
+shaped ty dims cells columns fixed c = record { name = []; ty = ty; cells = cells; columns = columns; dims = dims; fixed = fixed; spot = at 2 c }
+
+-- of one dimension at most
+abbrev pub object : IntType → ℕ → ℕ → Bool → ℕ → Object
+object ty dims cells fixed c = shaped ty dims cells 1 fixed c
 
 -- `int x`, `int a[3]`, `static unsigned char g`
 abbrev pub the_objects : List Object
-the_objects = object Int 1 false false 7 ∷ object Int 3 true false 10 ∷ object UChar 1 false true 13 ∷ []
+the_objects = object Int 0 1 false 7 ∷ object Int 1 3 false 10 ∷ object UChar 0 1 true 13 ∷ []
 
 -- `int main` with these parameters
 abbrev pub main_with : List ℕ → t.Stm → t.Program
@@ -84,15 +90,43 @@ int_x = t.Stmt (at 2 3) (t.Declare (t.MoreName (at 2 7) 0 t.Absent t.NoName))
 abbrev pub block : t.Stm → t.Stm
 block s = t.Stmt (at 2 1) (t.Block (t.MoreStm s t.NoStm))
 
+-- `int m[2][3]`, and a statement
+abbrev pub with_table : t.Stm → t.Program
+with_table s = record (one s) { objects = shaped Int 2 6 3 false 7 ∷ [] }
+
+-- an element of object 0
+abbrev pub element : t.Exps → t.Stm
+element is = line (int 3 (t.Index 0 is))
+
+-- the declaration of object 0 with an initializer
+abbrev pub declared : t.Init → t.Stm
+declared i = t.Stmt (at 2 3) (t.Declare (t.MoreName (at 2 7) 0 i t.NoName))
+
+abbrev pub numbers : List ℕ → t.Exps
+numbers [] = t.NoExp
+numbers (n ∷ ns) = t.MoreExp (number 12 n) (numbers ns)
+
+-- `switch (x)`, and an arm at a column
+abbrev pub switch : t.Stms → t.Stm
+switch b = t.Stmt (at 3 3) (t.Switch (x 11) b)
+
+abbrev pub arm : ℕ → Label → t.Stms → t.Stms
+arm c label b = t.MoreCase (at 3 c) label b
+
 -- how each part judges them
 pub record JudgedPrograms : Type 0 where
   pub a_scalar_and_an_array : objects_fit (main_of t.NoStm) ≡ true
-  pub array_without_cell : objects_fit (with_objects (object Int 0 true false 7 ∷ [])) ≡ false
-  pub scalar_of_two_cells : objects_fit (with_objects (object Int 2 false false 7 ∷ [])) ≡ false
-  pub all_cells : cells_fit (with_objects (object Int 99999 true false 7 ∷ object Int 1 false false 9 ∷ [])) ≡ true
-  pub too_many_cells : cells_fit (with_objects (object Int 100000 true false 7 ∷ object Int 1 false false 9 ∷ [])) ≡ false
+  pub array_without_cell : objects_fit (with_objects (object Int 1 0 false 7 ∷ [])) ≡ false
+  pub scalar_of_two_cells : objects_fit (with_objects (object Int 0 2 false 7 ∷ [])) ≡ false
+  pub a_table : objects_fit (with_objects (shaped Int 2 6 3 false 7 ∷ [])) ≡ true
+  pub no_whole_rows : objects_fit (with_objects (shaped Int 2 7 3 false 7 ∷ [])) ≡ false
+  pub columns_of_a_list : objects_fit (with_objects (shaped Int 1 6 3 false 7 ∷ [])) ≡ false
+  pub no_column : objects_fit (with_objects (shaped Int 2 6 0 false 7 ∷ [])) ≡ false
+  pub three_dimensions : objects_fit (with_objects (shaped Int 3 6 3 false 7 ∷ [])) ≡ false
+  pub all_cells : cells_fit (with_objects (object Int 1 99999 false 7 ∷ object Int 0 1 false 9 ∷ [])) ≡ true
+  pub too_many_cells : cells_fit (with_objects (object Int 1 100000 false 7 ∷ object Int 0 1 false 9 ∷ [])) ≡ false
   pub in_order_of_declarations : objects_rise (main_of t.NoStm) ≡ true
-  pub numbered_otherwise : objects_rise (with_objects (object Int 1 false false 9 ∷ object Int 1 false false 7 ∷ [])) ≡ false
+  pub numbered_otherwise : objects_rise (with_objects (object Int 0 1 false 9 ∷ object Int 0 1 false 7 ∷ [])) ≡ false
   pub start_of_255 : starts_fit (with_starts (record { object = 2; values = (pos 255 ∷ []) } ∷ [])) ≡ true
   pub start_of_256 : starts_fit (with_starts (record { object = 2; values = (pos 256 ∷ []) } ∷ [])) ≡ false
   pub start_of_two_values : starts_fit (with_starts (record { object = 2; values = (pos 1 ∷ pos 2 ∷ []) } ∷ [])) ≡ false
@@ -118,10 +152,10 @@ pub record JudgedPrograms : Type 0 where
   pub constant_too_large : types_fit (one (line (number 3 2147483648))) ≡ false
   pub constant_of_char : types_fit (one (line (t.Expr (at 3 3) (Some Char) (t.Const (pos 1))))) ≡ false
   pub void_constant : types_fit (one (line (t.Expr (at 3 3) None (t.Const (pos 1))))) ≡ false
-  pub element : types_fit (one (line (int 3 (t.Index 1 (number 5 1))))) ≡ true
+  pub an_element : types_fit (one (line (int 3 (t.Index 1 (t.MoreExp (number 5 1) t.NoExp))))) ≡ true
   pub array_without_index : types_fit (one (line (int 3 (t.Var 1)))) ≡ false
-  pub index_on_scalar : types_fit (one (line (int 3 (t.Index 0 (number 5 1))))) ≡ false
-  pub void_index : types_fit (one (line (int 3 (t.Index 1 (void 5))))) ≡ false
+  pub index_on_scalar : types_fit (one (line (int 3 (t.Index 0 (t.MoreExp (number 5 1) t.NoExp))))) ≡ false
+  pub void_index : types_fit (one (line (int 3 (t.Index 1 (t.MoreExp (void 5) t.NoExp))))) ≡ false
   pub unknown_object : types_fit (one (line (int 3 (t.Var 9)))) ≡ false
   pub object_of_other_type : types_fit (one (line (t.Expr (at 3 3) (Some UInt) (t.Var 0)))) ≡ false
   pub negation_promotes : types_fit (one (line (int 3 (t.Unary u.Neg (t.Expr (at 3 4) (Some Char) (t.Cast (x 10))))))) ≡ true
@@ -136,7 +170,7 @@ pub record JudgedPrograms : Type 0 where
   pub void_arms : types_fit (one (line (t.Expr (at 3 3) None (t.Choose (at 3 5) (x 3) (void 7) (void 17))))) ≡ true
   pub one_void_arm : types_fit (one (line (int 3 (t.Choose (at 3 5) (x 3) (void 7) (number 17 1))))) ≡ false
   pub comma_behind_void : types_fit (one (line (int 3 (t.Comma (void 3) (x 12))))) ≡ true
-  pub assigns_element : types_fit (one (line (int 3 (t.Assign None (int 3 (t.Index 1 (number 5 1))) (number 10 1))))) ≡ true
+  pub assigns_element : types_fit (one (line (int 3 (t.Assign None (int 3 (t.Index 1 (t.MoreExp (number 5 1) t.NoExp))) (number 10 1))))) ≡ true
   pub assigns_sum : types_fit (one (line (int 3 (t.Assign None (plus 3 (x 3) (number 7 1)) (number 11 1))))) ≡ false
   pub assigns_void : types_fit (one (line (int 3 (t.Assign None (x 3) (void 7))))) ≡ false
   pub exit_with_status : types_fit (one (line (t.Expr (at 3 3) None (t.Call c.Exit (t.MoreExp (number 8 1) t.NoExp) (at 3 9))))) ≡ true
@@ -194,3 +228,23 @@ pub record JudgedPrograms : Type 0 where
   pub mark_behind_arm : places_rise (one (line (int 3 (t.Choose (at 3 9) (x 3) (number 7 1) (number 11 1))))) ≡ false
   pub prefix_at_its_target : places_rise (one (line (int 3 (t.Step s.PreInc (x 3))))) ≡ false
   pub postfix_at_its_target : places_rise (one (line (int 3 (t.Step s.PostInc (x 3))))) ≡ true
+  pub two_indexes : types_fit (with_table (element (numbers (1 ∷ 2 ∷ [])))) ≡ true
+  pub one_index_of_two : types_fit (with_table (element (numbers (1 ∷ [])))) ≡ false
+  pub three_indexes : types_fit (with_table (element (numbers (1 ∷ 2 ∷ 0 ∷ [])))) ≡ false
+  pub two_indexes_on_a_list : types_fit (one (line (int 3 (t.Index 1 (numbers (1 ∷ 2 ∷ [])))))) ≡ false
+  pub two_rows : types_fit (with_table (declared (t.Rows (numbers (1 ∷ []) ∷ numbers (1 ∷ 2 ∷ 3 ∷ []) ∷ [])))) ≡ true
+  pub three_rows_of_two : types_fit (with_table (declared (t.Rows (numbers (1 ∷ []) ∷ numbers (2 ∷ []) ∷ numbers (3 ∷ []) ∷ [])))) ≡ false
+  pub row_too_long : types_fit (with_table (declared (t.Rows (numbers (1 ∷ 2 ∷ 3 ∷ 4 ∷ []) ∷ [])))) ≡ false
+  pub rows_for_a_list : types_fit (one (t.Stmt (at 2 3) (t.Declare (t.MoreName (at 2 10) 1 (t.Rows (numbers (1 ∷ []) ∷ [])) t.NoName)))) ≡ false
+  pub list_for_a_table : types_fit (with_table (declared (t.Many (numbers (1 ∷ 2 ∷ 3 ∷ 4 ∷ 5 ∷ 6 ∷ []))))) ≡ true
+  pub list_too_long_for_a_table : types_fit (with_table (declared (t.Many (numbers (1 ∷ 2 ∷ 3 ∷ 4 ∷ 5 ∷ 6 ∷ 7 ∷ []))))) ≡ false
+  pub labels_of_a_switch : types_fit (one (switch (arm 16 (l.Case (pos 2147483647)) (arm 24 l.Default t.NoStm)))) ≡ true
+  pub constant_too_great : types_fit (one (switch (arm 16 (l.Case (pos 2147483648)) t.NoStm))) ≡ false
+  pub two_defaults : types_fit (one (switch (arm 16 l.Default (arm 26 l.Default t.NoStm)))) ≡ false
+  pub void_test_of_switch : types_fit (one (t.Stmt (at 3 3) (t.Switch (void 11) t.NoStm))) ≡ false
+  pub declaration_in_an_arm : blocks_fit (one (switch (arm 16 l.Default (t.MoreStm int_x t.NoStm)))) ≡ false
+  pub block_in_an_arm : blocks_fit (one (switch (arm 16 l.Default (t.MoreStm (block int_x) t.NoStm)))) ≡ true
+  pub break_in_an_arm : jumps_fit (one (switch (arm 16 l.Default (t.MoreStm (t.Stmt (at 3 25) t.Break) t.NoStm)))) ≡ true
+  pub continue_in_an_arm : jumps_fit (one (switch (arm 16 l.Default (t.MoreStm (t.Stmt (at 3 25) t.Continue) t.NoStm)))) ≡ false
+  pub continue_in_a_loop_of_it : jumps_fit (one (t.Stmt (at 3 1) (t.While (number 2 1) (switch (arm 16 l.Default (t.MoreStm (t.Stmt (at 3 25) t.Continue) t.NoStm)))))) ≡ true
+  pub arms_in_order : places_rise (one (switch (arm 16 (l.Case (pos 1)) (t.MoreStm (line (x 24)) (arm 27 l.Default t.NoStm))))) ≡ true

@@ -3,3 +3,4 @@ pub mod ExampleHavocRuns
 pub mod Loops
 pub mod WorkedPlaces
 pub mod JudgedPrograms
+pub mod Switches

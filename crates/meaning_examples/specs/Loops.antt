@@ -1,6 +1,6 @@
 -- A program beside the examples of c_meaning: an inner loop that is left by `break`.
 use Rattle.std.specs.Prelude.{ℕ, true, [], ◌∷◌, Some, None}
-use Rattle.c_core.specs.Tree.{Exp, Assign, Index, Break, Program}
+use Rattle.c_core.specs.Tree.{Exp, NoExp, MoreExp, Assign, Index, Break, Program}
 use Rattle.c_core.specs.declared.number.IntType.TheVariants.{Int}
 use Rattle.c_core.specs.declared.number.Property.TheVariants.{UnreachCall}
 use Rattle.c_core.specs.declared.number.BinOp.TheVariants.{Lt, Ne}
@@ -8,11 +8,11 @@ use Rattle.c_core.specs.declared.tree.Object.{Object}
 use Rattle.c_meaning.specs.Examples.{at, exp, number, object, operation, statement, only, declaration, block, if_then, while_do, reach_error, return_number, change_by_one, local, function, program}
 
 abbrev pub element : ℕ → ℕ → ℕ → Exp → Exp
-element l c o i = exp Int l c (Index o i)
+element l c o i = exp Int l c (Index o (MoreExp i NoExp))
 
 -- two elements of `int`, at file scope
 abbrev pub elements : ℕ → ℕ → Object
-elements l c = record { name = []; ty = Int; cells = 2; array = true; fixed = true; spot = at l c }
+elements l c = record { name = []; ty = Int; cells = 2; columns = 1; dims = 1; fixed = true; spot = at l c }
 
 --  1|void reach_error() { }
 --  2|int a[2];

@@ -4,7 +4,7 @@ use crate::check::checked_program;
 use crate::few::bind;
 use crate::schema::read_witness;
 use c_core::Spot;
-use c_meaning::{Choices, Given};
+use c_meaning::{Choices, Given, Way};
 use row_files::{Files, NotTried, Row};
 use std::alloc::{AllocError, Global};
 use way_bind::BindFault;
@@ -23,8 +23,12 @@ fn point(alloc: Global, point: &Point) -> Result<String, AllocError> {
         Point::Enter(spot) => at(alloc, "enter", *spot),
         Point::Return(spot, None) => at(alloc, "return", *spot),
         Point::Return(spot, Some(_)) => at(alloc, "return with a test", *spot),
-        Point::Branch(spot, true) => at(alloc, "branch taken", *spot),
-        Point::Branch(spot, false) => at(alloc, "branch passed by", *spot),
+        Point::Branch(spot, Way::Truth(true)) => at(alloc, "branch taken", *spot),
+        Point::Branch(spot, Way::Truth(false)) => at(alloc, "branch passed by", *spot),
+        Point::Branch(spot, Way::Case(constant)) => {
+            format!(in alloc; "case {constant} {}:{}", spot.line, spot.column)
+        }
+        Point::Branch(spot, Way::Default) => at(alloc, "default", *spot),
     }
 }
 

@@ -29,8 +29,8 @@ fn push_lisp(text: &mut String, expr: &RawExpr) -> Result<(), AllocError> {
         RawNode::Char(value) => return write!(text, "'{value}"),
         RawNode::Var { name, .. } => return text.push_str(name.as_str()),
         RawNode::Index { object, at, .. } => {
-            write!(text, "({}[] ", object.as_str())?;
-            push_lisp(text, at)?;
+            write!(text, "({}[]", object.as_str())?;
+            push_each(text, at.as_slice())?;
         }
         RawNode::Unary { op, of } => {
             write!(text, "({op:?} ")?;

@@ -2,7 +2,7 @@
 // statement that is a part; or the place where it fits no form.
 use c_core::{BinOp, IntType, StepOp, UnOp};
 use c_parser::{
-    Item, ParseFault, RawDeclared, RawExpr, RawFirst, RawForm, RawInit, RawNode, RawStmt, Source,
+    Item, ParseFault, RawArm, RawDeclared, RawExpr, RawFirst, RawForm, RawInit, RawLabel, RawNode, RawRow, RawStmt, Source,
     parse,
 };
 use c_tokens::tokens;
@@ -109,9 +109,8 @@ fn show_expr(text: &mut String, expr: &RawExpr) -> Result<(), AllocError> {
         RawNode::Char(_) => text.push_str("char"),
         RawNode::Var { name, .. } => text.push_str(name.as_str()),
         RawNode::Index { object, at, .. } => {
-            push_two(text, object.as_str(), "[")?;
-            show_expr(text, at)?;
-            text.push_str("]")
+            text.push_str(object.as_str())?;
+            show_indexes(text, at.as_slice())
         }
         RawNode::Unary { op, of } => {
             push_two(text, "(", sign_text(*op))?;
@@ -174,6 +173,17 @@ fn show_expr(text: &mut String, expr: &RawExpr) -> Result<(), AllocError> {
     }
 }
 
+/// Sizes or indexes, each in brackets.
+#[cycle(shown_expr)]
+fn show_indexes(text: &mut String, exprs: &[RawExpr]) -> Result<(), AllocError> {
+    for expr in exprs {
+        text.push_str("[")?;
+        show_expr(text, expr)?;
+        text.push_str("]")?;
+    }
+    Ok(())
+}
+
 #[cycle(shown_expr)]
 fn show_row(text: &mut String, exprs: &[RawExpr]) -> Result<(), AllocError> {
     for expr in exprs {
@@ -195,11 +205,7 @@ fn show_declared(text: &mut String, names: &[RawDeclared]) -> Result<(), AllocEr
         text.push_str(type_text(name.ty))?;
         text.push_str(" ")?;
         text.push_str(name.name.as_str())?;
-        if let Some(size) = &name.size {
-            text.push_str("[")?;
-            show_expr(text, size)?;
-            text.push_str("]")?;
-        }
+        show_indexes(text, name.sizes.as_slice())?;
         show_init(text, &name.init)?;
         text.push_str(";")?;
     }
@@ -218,7 +224,21 @@ fn show_init(text: &mut String, init: &RawInit) -> Result<(), AllocError> {
             show_row(text, values.as_slice())?;
             text.push_str("}")
         }
+        RawInit::Rows(rows) => {
+            text.push_str("={")?;
+            show_rows(text, rows.as_slice())?;
+            text.push_str("}")
+        }
     }
+}
+
+fn show_rows(text: &mut String, rows: &[RawRow]) -> Result<(), AllocError> {
+    for row in rows {
+        text.push_str("{")?;
+        show_row(text, row.values.as_slice())?;
+        text.push_str("}")?;
+    }
+    Ok(())
 }
 
 fn show_first(text: &mut String, first: &RawFirst) -> Result<(), AllocError> {
@@ -305,7 +325,35 @@ fn show_stmt(text: &mut String, stmt: &RawStmt) -> Result<(), AllocError> {
             text.push_str(":")?;
             show_part(text, of)
         }
+        RawForm::Switch { test, arms } => {
+            text.push_str("switch ")?;
+            show_expr(text, test)?;
+            text.push_str(" {")?;
+            show_arms(text, arms.as_slice())?;
+            text.push_str("}")
+        }
     }
+}
+
+fn show_label(text: &mut String, label: &RawLabel) -> Result<(), AllocError> {
+    match label {
+        RawLabel::Case(constant) => {
+            text.push_str("case ")?;
+            show_expr(text, constant)?;
+            text.push_str(":")
+        }
+        RawLabel::Default => text.push_str("default:"),
+    }
+}
+
+/// Each arm with its label.
+#[cycle(shown_stmt)]
+fn show_arms(text: &mut String, arms: &[RawArm]) -> Result<(), AllocError> {
+    for arm in arms {
+        show_label(text, &arm.label)?;
+        show_stmts(text, arm.body.as_slice())?;
+    }
+    Ok(())
 }
 
 #[cycle(shown_stmt)]

@@ -9,7 +9,7 @@ use Rattle.check_rules.specs.Parts.{parts_of_parameters}
 use Rattle.check_rules.specs.Codes.{crowded}
 
 abbrev many : Object
-many = record { name = codes "a"; ty = Int; cells = 99999; array = true; fixed = true; spot = record { line = 1; column = 5 } }
+many = record { name = codes "a"; ty = Int; cells = 99999; columns = 1; dims = 1; fixed = true; spot = record { line = 1; column = 5 } }
 
 abbrev first : Param
 first = record { spot = record { line = 2; column = 5 }; name = codes "x"; ty = Int }

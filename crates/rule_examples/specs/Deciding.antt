@@ -8,7 +8,7 @@ use Rattle.c_parser.specs.Tree as raw
 use Rattle.c_parser.specs.Tree.{Exp, Expr, Node, Step, Assign}
 use Rattle.c_parser.specs.ReadItems.{Outcome, Source, Syntax, read_items}
 use Rattle.c_parser.specs.ReadExpressions.{level, within}
-use Rattle.c_parser.specs.ReadStatements.{header_within, statement_level, braced_within}
+use Rattle.c_parser.specs.ReadStatements.{rows_within, header_within, statement_level, braced_within, armed_within}
 use Rattle.grammar_examples.specs.Shown.{tokens_of}
 use Rattle.check_rules.specs.declared.fault.CheckCode.{CheckCode}
 use Rattle.check_rules.specs.declared.fault.CheckCode.TheVariants as code
@@ -130,5 +130,5 @@ text_of m (Source items) = text_of_refusal (first_refusal m items)
 text_of m (Syntax p) = codes "syntax " ++ two_digits p.column
 
 abbrev pub checked : DataModel → List ℕ → List ℕ
-unfolding level within header_within statement_level braced_within
+unfolding level within rows_within header_within statement_level braced_within armed_within
 checked m text = text_of m (read_items 20 20 (length text) (tokens_of text))

@@ -7,3 +7,5 @@ pub mod FurtherExamples
 pub mod MoreExamples
 pub mod ModelExamples
 pub mod CellExamples
+pub mod SwitchExamples
+pub mod TableExamples

@@ -10,6 +10,7 @@ use Rattle.c_core.specs.declared.number.IntType.{IntType}
 use Rattle.c_core.specs.declared.number.Spot.{Spot}
 use Rattle.c_meaning.specs.declared.run.Event.{Event}
 use Rattle.c_meaning.specs.declared.run.Event.TheVariants.{Branch, Enter}
+use Rattle.c_meaning.specs.declared.run.Way.TheVariants.{Truth}
 use Rattle.c_meaning.specs.declared.run.End.{End}
 use Rattle.c_meaning.specs.Objects.{type_of}
 use Rattle.c_meaning.specs.Eval.{evals, is_used}
@@ -67,14 +68,14 @@ module _ (p : Program) (S : Type 0) (after : Event → List Cell → S → S) (n
 
   -- at a mark, the part that is picked
   pub picked_first : (mark : Spot) (a b : State S → Ran S ℤ) (v : ℤ) (s u : State S) (x : S) (r : Result ℤ Halt)
-      → x ≡ after (Branch mark true) s.cells s.seen → not (is_zero v) ≡ true → Gives same r u (a (record s { seen = x }))
+      → x ≡ after (Branch mark (Truth true)) s.cells s.seen → not (is_zero v) ≡ true → Gives same r u (a (record s { seen = x }))
       → Gives same r u (w.branched p S (seen_by after) mark (not (is_zero v)) a b s)
-  picked_first mark a b v s u x r e h g = rw h (passed same same tt (record s { seen = x }) u (telling p S after (Branch mark true) s) (λ _. a) r (ap (λ z. Go tt (record s { seen = z })) (sym e)) g)
+  picked_first mark a b v s u x r e h g = rw h (passed same same tt (record s { seen = x }) u (telling p S after (Branch mark (Truth true)) s) (λ _. a) r (ap (λ z. Go tt (record s { seen = z })) (sym e)) g)
 
   pub picked_second : (mark : Spot) (a b : State S → Ran S ℤ) (v : ℤ) (s u : State S) (x : S) (r : Result ℤ Halt)
-      → x ≡ after (Branch mark false) s.cells s.seen → not (is_zero v) ≡ false → Gives same r u (b (record s { seen = x }))
+      → x ≡ after (Branch mark (Truth false)) s.cells s.seen → not (is_zero v) ≡ false → Gives same r u (b (record s { seen = x }))
       → Gives same r u (w.branched p S (seen_by after) mark (not (is_zero v)) a b s)
-  picked_second mark a b v s u x r e h g = rw h (passed same same tt (record s { seen = x }) u (telling p S after (Branch mark false) s) (λ _. b) r (ap (λ z. Go tt (record s { seen = z })) (sym e)) g)
+  picked_second mark a b v s u x r e h g = rw h (passed same same tt (record s { seen = x }) u (telling p S after (Branch mark (Truth false)) s) (λ _. b) r (ap (λ z. Go tt (record s { seen = z })) (sym e)) g)
 
   -- arguments, listed after others
   after_first : (at : Where) (vs : List (ℤ × IntType)) (ty : IntType) (es : Exps) (r : Ran S ℤ)

@@ -6,6 +6,7 @@ use Rattle.c_core.specs.Types.{fit, is_zero, number_of}
 use Rattle.c_core.specs.Operators.{apply_of, apply_one_of}
 use Rattle.c_core.specs.declared.number.Spot.{Spot}
 use Rattle.c_core.specs.declared.number.Done.{Done}
+use Rattle.c_core.specs.declared.tree.Label.{Label as ArmLabel}
 use Rattle.c_core.specs.declared.number.Done.TheVariants.{Value, Overflow, Undefined as NoValue}
 use Rattle.c_core.specs.declared.number.Property.{Property}
 use Rattle.c_core.specs.declared.number.Property.TheVariants.{UnreachCall, NoOverflow}
@@ -13,17 +14,18 @@ use Rattle.c_meaning.specs.declared.run.End.{End}
 use Rattle.c_meaning.specs.declared.run.End.TheVariants.{Undefined, Deep, Spent}
 use Rattle.c_meaning.specs.declared.run.Event.{Event}
 use Rattle.c_meaning.specs.declared.run.Event.TheVariants.{At, Branch, Enter, Return, Fail}
+use Rattle.c_meaning.specs.declared.run.Way.TheVariants.{Truth}
 use Rattle.c_meaning.specs.declared.run.Choices.{Choices}
 use Rattle.c_meaning.specs.Cells.{Cell}
-use Rattle.c_meaning.specs.Objects.{size_of_object}
+use Rattle.c_meaning.specs.Objects.{size_of_object, columns_of_object}
 use Rattle.c_meaning.specs.Meaning.{Where, Site, Loop}
-use Rattle.c_meaning.specs.Acts.{Res, Go, Stop, Flow, Next, Broken, Again, Gave, bind, continuing, given}
+use Rattle.c_meaning.specs.Acts.{Res, Go, Stop, Flow, Next, Broken, Again, Gave, bind, continuing, held, given}
 use Rattle.c_meaning.specs.Acts as acts
 use Rattle.c_meaning.specs.Run as run
-use Rattle.c_meaning.specs.Run.{State, Moment, Told, Here, Head, real, index_below, cells_of, with_cells, state_of}
+use Rattle.c_meaning.specs.Run.{State, Moment, Told, Here, Head, real, cell_among, way_for, cells_of, with_cells, state_of}
 use Rattle.c_meaning.specs.Exec.{run_in, run_if, run_main, call_of}
-use Rattle.c_meaning.specs.Related.{Units, Relation, Preserves}
-use Rattle.c_meaning.proofs.Fundamental.{Free, all_fit, all_fit_params, related_body, related_call}
+use Rattle.c_meaning.specs.Related.{Units, Same, Relation, Preserves}
+use Rattle.c_meaning.proofs.Fundamental.{same_values, Free, all_fit, all_fit_params, related_body, related_call}
 use Rattle.c_meaning.specs.Watching.{seen_by, seen_after}
 use Rattle.run_state.specs.Fronts.{SawFront}
 use Rattle.run_state.specs.Ways as w
@@ -176,7 +178,10 @@ module _ (p : Program) (S : Type 0) (see : Moment → S → S) (h : List Moment 
   paced_either R false a b c d f g = record { at = λ s. g.at s }
 
   paced_branched : {A B : Type 0} (R : A → B → Type 0) (spot : Spot) (t : Bool) (a b : State T → Res End (State T) A) (c d : State S → Ran S B) → Paced R a c → Paced R b d → Paced R (run.branched p T keep spot t a b) (w.branched p S see spot t c d)
-  paced_branched R spot t a b c d f g = paced_then Units R (run.tell p T keep (Branch spot t)) (w.wanting p S see (run.tell p S see (Branch spot t))) (λ _ s. cond t a b s) (λ _. w.either p S see t c d) (paced_tell (Branch spot t)) (λ _ _ _. paced_either R t a b c d f g)
+  paced_branched R spot t a b c d f g = paced_then Units R (run.tell p T keep (Branch spot (Truth t))) (w.wanting p S see (run.tell p S see (Branch spot (Truth t)))) (λ _ s. cond t a b s) (λ _. w.either p S see t c d) (paced_tell (Branch spot (Truth t))) (λ _ _ _. paced_either R t a b c d f g)
+
+  paced_selected : (spot : Spot) (v : ℤ) (ls : List ArmLabel) → Paced Same (run.selected p T keep spot v ls) (w.wanting p S see (run.selected p S see spot v ls))
+  paced_selected spot v ls = record { at = λ s. let x = Told (Branch spot (way_for v ls)) s.cells in wanting_goes Same s _ _ (refl, noted s x) (one s x) }
 
   returned_none : (b : Bool) (spot : Spot) (s : State T) (x : Moment) → Goes {A = ℤ} {B = ℤ} Equal s (cond b (run.stop p T keep (Undefined spot)) (run.ret p T keep (pos 0)) (record s { seen = x ∷ s.seen }))
       (record { result = cond b (run.stop p S see (Undefined spot)) (run.ret p S see (pos 0)) (record (mapped s) { seen = see x (h s.seen) }); way = h s.seen ∷ [] })
@@ -274,7 +279,10 @@ module _ (p : Program) (S : Type 0) (see : Moment → S → S) (h : List Moment 
     truth = λ t u q. ap number_of q;
     draw = λ L kind spot ty. record { at = λ s. wanting_goes Equal s _ _ (refl, refl) (stays s) };
     cell = λ o i _. refl;
-    element = λ L spot o ty v u q. subst (λ x. Paced Equal (run.key_of p T keep spot o (index_below (size_of_object p o) v)) (w.quiet p S see (run.key_of p S see spot o (index_below (size_of_object p o) x)))) q (paced_key spot o (index_below (size_of_object p o) v));
+    element = λ L spot o vs us q.
+        let n = size_of_object p o in
+        let c = columns_of_object p o in
+        subst (λ xs. Paced Equal (run.key_of p T keep spot o (cell_among n c vs)) (w.quiet p S see (run.key_of p S see spot o (cell_among n c xs)))) (same_values vs us q) (paced_key spot o (cell_among n c vs));
     look = λ L o x y _ q. subst (λ z. Paced Equal (acts.look End (State T) cells_of with_cells x) (w.quiet p S see (acts.look End (State S) cells_of with_cells z))) q (record { at = λ s. quiet_goes Equal s _ _ (refl, refl) (stays s) });
     write = λ L o x y v u m t q. subst (λ z. Paced Units (acts.write End (State T) cells_of with_cells x v) (w.quiet p S see (acts.write End (State S) cells_of with_cells z u))) t
         (subst (λ z. Paced Units (acts.write End (State T) cells_of with_cells x v) (w.quiet p S see (acts.write End (State S) cells_of with_cells x z))) q (record { at = λ s. quiet_goes Units s _ _ (tt, refl) (stays s) }));
@@ -293,6 +301,7 @@ module _ (p : Program) (S : Type 0) (see : Moment → S → S) (h : List Moment 
     declare = λ ty L o n _. record { at = λ s. wanting_goes Equal s _ _ (refl, refl) (stays s) };
     own = λ L o. tt;
     branch = λ ty L L' at t u a a' b b' q f g. subst (λ z. Paced Equal (run.branched p T keep at t a b) (w.branched p S see at z a' b')) q (paced_branched Equal at t a b a' b' f g);
+    select = λ L at ty v u ls q. subst (λ z. Paced Same (run.selected p T keep at v ls) (w.wanting p S see (run.selected p S see at z ls))) q (paced_selected at v ls);
     next = λ ty L. paced_ret Equal _ _ refl;
     leave = λ ty L. paced_ret Equal _ _ refl;
     again = λ ty L. paced_ret Equal _ _ refl;
@@ -301,6 +310,7 @@ module _ (p : Program) (S : Type 0) (see : Moment → S → S) (h : List Moment 
     seq = λ ty L L' L'' a a' b b' f g. paced_seq a b a' b' f g;
     scoped = λ ty L L' a b f. paced_scoped Equal a b f;
     continued = λ ty L L' a b f. paced_then Equal Equal _ _ (λ g s. Go (continuing g) s) (λ g. w.quiet p S see (λ t. Go (continuing g) t)) (paced_scoped Equal a b f) (λ x y e. paced_ret Equal _ _ (ap continuing e));
+    breaks = λ ty L L' a b f. paced_then Equal Equal _ _ (λ g s. Go (held g) s) (λ g. w.quiet p S see (λ t. Go (held g) t)) (paced_scoped Equal a b f) (λ x y e. paced_ret Equal _ _ (ap held e));
   }
 
   free : Free paced

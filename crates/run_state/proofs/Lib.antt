@@ -6,3 +6,5 @@ pub mod Starting
 pub mod Drawing
 pub mod Calling
 pub mod Fronting
+pub mod Choosing
+pub mod Joining

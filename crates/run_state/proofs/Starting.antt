@@ -1,11 +1,11 @@
 -- The state in which a run starts.
-use Rattle.std.proofs.Common.{◌≡◌, ℕ, zero, suc, ◌+◌, ◌-◌, ◌<◌, ◌≤◌, ℤ, Bool, true, false, cond, ◌&&◌, nat_le, nat_eq, IsTrue, List, [], ◌∷◌, ◌++◌, length, reverse, drop, get_or, Option, Some, None, slice_get, refl, sym, ap, ◌∙◌, arith, drop-cons}
+use Rattle.std.proofs.Common.{◌≡◌, ℕ, zero, suc, ◌+◌, ◌-◌, ◌%◌, ◌<◌, ◌≤◌, ℤ, Bool, true, false, cond, ◌&&◌, nat_le, nat_eq, IsTrue, List, [], ◌∷◌, ◌++◌, length, reverse, drop, get_or, Option, Some, None, slice_get, refl, sym, ap, ◌∙◌, arith, drop-cons}
 use Rattle.std.proofs.lemmas.List.{append_assoc, reverse-append, reverse-reverse}
 use Rattle.std.proofs.lemmas.List.Sums.{sum_by-cons}
 use Rattle.std.specs.List.{list_all, sum_by}
 use Rattle.std.proofs.lemmas.Bool.Decides.{nat_tests}
 use Rattle.c_core.specs.Tree as t
-use Rattle.c_core.specs.Program.{object_fits, most_declared_cells, IsProgram}
+use Rattle.c_core.specs.Program.{shape_fits, object_fits, most_declared_cells, IsProgram}
 use Rattle.c_core.specs.View.{function_view, functions_view}
 use Rattle.c_core.specs.declared.tree.Object.{Object}
 use Rattle.c_core.specs.declared.tree.Start.{Start}
@@ -37,20 +37,22 @@ module _ (starts : List Start) where
       ∙ append_assoc held (cond x.fixed (cells_from i 0 x.cells (start_values i starts)) []) (static_cells starts (suc i) (drop (suc i) objects))
       ∙ ap (λ os. held ++ static_cells starts i os) (sym d) ∙ e
 
-one_cell : (b : Bool) (n : ℕ) → IsTrue (cond b (nat_le 1 n) (nat_eq n 1)) → 1 ≤ n
-one_cell true n h = grind (arith, nat_tests)
-one_cell false n h = grind (arith, nat_tests)
-
 both : (a b : Bool) → IsTrue (a && b) → IsTrue a × IsTrue b
 both true b h = (refl, h)
 both false b h = absurd (cc)
+
+one_cell : (dims cells columns : ℕ) → IsTrue (shape_fits dims cells columns) → 1 ≤ cells
+one_cell zero cells columns h = let e = (both (nat_eq cells 1) (nat_eq columns 1) h).0 in grind (arith, nat_tests)
+one_cell (suc zero) cells columns h = let e = (both (nat_le 1 cells) (nat_eq columns 1) h).0 in grind (arith, nat_tests)
+one_cell (suc (suc zero)) cells columns h = let e = (both (nat_le 1 cells) (nat_le 1 columns && nat_eq (cells % columns) 0) h).0 in grind (arith, nat_tests)
+one_cell (suc (suc (suc n))) cells columns h = absurd (cc)
 
 -- each object has a cell
 pub no_more_objects : (os : List Object) → IsTrue (list_all object_fits os) → length os ≤ sum_by (λ o. o.cells) os
 no_more_objects [] h = omega arith
 no_more_objects (o ∷ os) h =
     let b = both (object_fits o) (list_all object_fits os) h in
-    let one = one_cell o.array o.cells b.0 in
+    let one = one_cell o.dims o.cells o.columns b.0 in
     let rest = no_more_objects os b.1 in
     let sum : sum_by (λ o. o.cells) (o ∷ os) ≡ o.cells + sum_by (λ o. o.cells) os = sum_by-cons (λ o. o.cells) o os in
     omega arith

@@ -6,6 +6,7 @@ use Rattle.c_core.specs.Tree as t
 use Rattle.c_core.specs.View.{stmt_view}
 use Rattle.c_core.specs.declared.tree.Stmt.{Stmt}
 use Rattle.c_core.specs.declared.tree.Callee.{Callee}
+use Rattle.c_core.specs.declared.tree.Label.{Label as ArmLabel}
 use Rattle.c_core.specs.Tree.{Exp, Node, Exps, NoExp, MoreExp, Init, Names, First, Stm, Form, Stms, Function, Program, NoFirst, FirstExp, FirstNames}
 use Rattle.c_core.specs.declared.number.IntType.{IntType}
 use Rattle.c_core.specs.declared.number.Spot.{Spot}
@@ -19,6 +20,7 @@ use Rattle.c_meaning.specs.declared.run.End.{End}
 use Rattle.c_meaning.specs.declared.run.End.TheVariants.{Ended, Spent}
 use Rattle.c_meaning.specs.declared.run.Event.{Event}
 use Rattle.c_meaning.specs.declared.run.Event.TheVariants.{Branch, Return}
+use Rattle.c_meaning.specs.declared.run.Way.TheVariants.{Truth}
 use Rattle.c_meaning.specs.declared.run.DrawKind.{DrawKind}
 use Rattle.c_core.specs.declared.number.Done.{Done}
 use Rattle.c_core.specs.declared.number.Property.{Property}
@@ -36,7 +38,7 @@ use Rattle.c_meaning.specs.Run.{State, with_cells}
 use Rattle.c_meaning.specs.Objects.{type_of_object, size_of_object}
 use Rattle.c_meaning.specs.Watching.{seen_by}
 use Rattle.c_meaning.specs.Eval.{eval, node, target, place, tested, convert_to, operate, store, called}
-use Rattle.c_meaning.specs.Exec.{call_of, with_params, run_in, run_main, ticks, full, initial, declare, exec, form, otherwise, execs, draw_cells, initials, while_turn, do_turn, for_turn, full_if, control, turn}
+use Rattle.c_meaning.specs.Exec.{call_of, with_params, run_in, run_main, ticks, full, initial, declare, exec, form, otherwise, execs, from_arm, draw_cells, initials, row_initials, while_turn, do_turn, for_turn, full_if, control, turn}
 use Rattle.c_meaning.specs.Objects.{type_of}
 use Rattle.run_state.specs.Ways as w
 use Rattle.run_state.specs.Ways.{Ran, IsOn, bound, ways}
@@ -220,7 +222,11 @@ module _ (p : Program) (S : Type 0) (after : Event → List Cell → S → S) wh
 
   -- is a value not 0, told as a branching
   abbrev pub branching : Spot → ℤ → State S → Ran S Bool
-  branching spot v s = bound (telling (Branch spot (not (is_zero v))) s) (λ _ u. done (not (is_zero v)) u)
+  branching spot v s = bound (telling (Branch spot (Truth (not (is_zero v)))) s) (λ _ u. done (not (is_zero v)) u)
+
+  -- the number of the arm that a value chooses by the labels, told as a branching
+  abbrev pub selecting : Spot → ℤ → List ArmLabel → State S → Ran S ℕ
+  selecting spot v ls s = w.wanting p S (seen_by after) (run.selected p S (seen_by after) spot v ls) s
 
   abbrev pub fulled : ℕ → Spot → Use → Exp → State S → Ran S ℤ
   fulled n at want e s = full p watched (calls n) at want e s
@@ -242,6 +248,14 @@ module _ (p : Program) (S : Type 0) (after : Event → List Cell → S → S) wh
   abbrev pub blocked : ℕ → Option IntType → Stms → State S → Ran S acts.Flow
   blocked n result b s = w.scoped p S (seen_by after) (sequenced n result b) s
 
+  -- the arms of a switch from one by its number on
+  abbrev pub arms_done : ℕ → Option IntType → ℕ → Stms → State S → Ran S acts.Flow
+  arms_done n result k b s = from_arm p watched (calls n) result k b s
+
+  -- the arms that are left of a switch: what is declared in them ends with them, and a `break` is their end
+  abbrev pub held_arms : ℕ → Option IntType → Stms → State S → Ran S acts.Flow
+  held_arms n result b s = watched.breaks (sequenced n result b) s
+
   abbrev pub armed : ℕ → Option IntType → Stm → State S → Ran S acts.Flow
   armed n result x s = w.scoped p S (seen_by after) (executed n result x) s
 
@@ -260,6 +274,10 @@ module _ (p : Program) (S : Type 0) (after : Event → List Cell → S → S) wh
 
   abbrev pub initialised_by : ℕ → Spot → ℕ → ℕ → Exps → State S → Ran S (Unit {0})
   initialised_by n at o i es s = initials p watched (calls n) at o i es s
+
+  -- rows of values, each from its own cell on
+  abbrev pub initialised_rows : ℕ → Spot → ℕ → ℕ → List Exps → State S → Ran S (Unit {0})
+  initialised_rows n at o i rows s = row_initials p watched (calls n) at o i rows s
 
   abbrev pub cell_drawn : Spot → ℕ → ℕ → State S → Ran S (Unit {0})
   cell_drawn spot o i s =
@@ -290,6 +308,11 @@ module _ (p : Program) (S : Type 0) (after : Event → List Cell → S → S) wh
 
   abbrev pub placed : ℕ → Where → Spot → Node → State S → Ran S Key
   placed n at spot x s = place p watched (calls n) at spot x s
+
+  -- expressions from left to right, for their effects
+  abbrev pub evaluated_all : ℕ → Where → Exps → State S → Ran S (Unit {0})
+  evaluated_all n at NoExp s = done tt s
+  evaluated_all n at (MoreExp e es) s = bound (evaluated n at Used e s) (λ _. evaluated_all n at es)
 
   -- 0 or 1
   abbrev pub truthed : ℕ → Where → Exp → State S → Ran S ℤ

@@ -5,9 +5,10 @@ use Rattle.c_core.specs.declared.number.Spot.{Spot}
 use Rattle.c_meaning.specs.declared.run.End.{End}
 use Rattle.c_meaning.specs.declared.run.End.TheVariants.{Spent}
 use Rattle.c_meaning.specs.declared.run.Event.TheVariants.{Branch}
+use Rattle.c_meaning.specs.declared.run.Way.TheVariants.{Truth}
 use Rattle.c_meaning.specs.Cells.{Cell, Key}
 use Rattle.c_meaning.specs.Meaning.{Meaning, Site, Loop}
-use Rattle.c_meaning.specs.Acts.{Res, Go, Stop, Flow, Next, Broken, Again, Gave, bind, continuing, given}
+use Rattle.c_meaning.specs.Acts.{Res, Go, Stop, Flow, Next, Broken, Again, Gave, bind, continuing, held, given}
 use Rattle.c_meaning.specs.Acts as acts
 use Rattle.c_meaning.specs.Run as run
 use Rattle.c_meaning.specs.Run.{State, Moment, Head, real, cells_of, with_cells}
@@ -50,7 +51,7 @@ module _ (p : Program) (S : Type 0) (see : Moment → S → S) where
 
   -- a truth value is told, then that way
   abbrev pub branched : {A : Type 0} → Spot → Bool → Act A → Act A → Act A
-  branched spot t a b s = bound (wanting (run.tell p S see (Branch spot t)) s) (λ _. either t a b)
+  branched spot t a b s = bound (wanting (run.tell p S see (Branch spot (Truth t))) s) (λ _. either t a b)
 
   -- after a statement: the statements behind it, where it came to its end
   abbrev pub go_on : Act Flow → Flow → Act Flow
@@ -105,7 +106,7 @@ module _ (p : Program) (S : Type 0) (see : Moment → S → S) where
     truth = R.truth;
     draw = λ kind spot ty. wanting (R.draw kind spot ty);
     cell = R.cell;
-    element = λ spot o n ty i. quiet (R.element spot o n ty i);
+    element = λ spot o n c js. quiet (R.element spot o n c js);
     look = λ k. quiet (R.look k);
     write = λ k v. quiet (R.write k v);
     answer = λ at spot op ty a right b. wanting (R.answer at spot op ty a right b);
@@ -121,6 +122,7 @@ module _ (p : Program) (S : Type 0) (see : Moment → S → S) where
     here = λ spot. wanting (R.here spot);
     declare = λ o n. wanting (R.declare o n);
     branch = λ spot t a b. branched spot t a b;
+    select = λ spot ty v ls. wanting (R.select spot ty v ls);
     next = quiet R.next;
     leave = quiet R.leave;
     again = quiet R.again;
@@ -128,6 +130,7 @@ module _ (p : Program) (S : Type 0) (see : Moment → S → S) where
     seq = λ a b s. bound (a s) (go_on b);
     scoped = λ a. scoped a;
     continued = λ a s. bound (scoped a s) (λ f. quiet (λ t. Go (continuing f) t));
+    breaks = λ a s. bound (scoped a s) (λ f. quiet (λ t. Go (held f) t));
     loop = λ spot l turn. scoped (loop spot l turn);
     deep = quiet R.deep;
   }

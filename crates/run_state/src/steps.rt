@@ -6,7 +6,7 @@ ghost use Rattle.run_state.specs.Interpreting.{Gives, same, state_of, where_of, 
 
 use crate::machine::{Around, Halt, Machine};
 use c_core::{Program, Spot};
-use c_meaning::{End, Event, Watcher};
+use c_meaning::{End, Event, Watcher, Way};
 
 /// Takes a step.
 pub fn tick<W: Watcher>(machine: &mut Machine) -> Result<(), Halt>
@@ -88,7 +88,7 @@ pub fn branch<W: Watcher>(
     ensures gives { Gives same result (state_of machine.now (W.seen watcher.new)) (branching (program_view program.now) W.Seen W.after spot value (state_of machine.now (W.seen watcher.old))) }
 {
     let taken = value != 0;
-    tell(machine, watcher, Event::Branch(spot, taken))?;
+    tell(machine, watcher, Event::Branch(spot, Way::Truth(taken)))?;
     Ok(taken)
 }
 

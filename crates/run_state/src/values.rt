@@ -1,5 +1,5 @@
 // Values: operators, cells, places of arrays' elements.
-ghost use Rattle.std.specs.Prelude.{◌≡◌, Ok, cond};
+ghost use Rattle.std.specs.Prelude.{◌≡◌, ◌/◌, Ok, cond};
 ghost use Rattle.c_core.specs.Operators.{computed_one as computed_one_of, is_prefix};
 ghost use Rattle.c_core.specs.View.{program_view};
 ghost use Rattle.c_core.specs.declared.number.IntType.{IntType as NumberType};
@@ -95,6 +95,42 @@ pub fn element<W: Watcher>(
         Ok(Element {
             object,
             index: index as u32,
+        })
+    } else {
+        Err(Halt::Ends(End::Undefined(spot)))
+    }
+}
+
+/// How many columns an object has.
+pub fn columns_of_object(program: &Program, object: u32) -> u32
+    ensures { result ≡ objects.columns_of_object (program_view program.now) object }
+{
+    match program.objects.get(object as usize) {
+        Some(found) => found.columns,
+        None => 1,
+    }
+}
+
+/// The element of an array at a row and a column, each within its own dimension.
+#[tactic(auto, using(c_meaning::proofs::Rows::within_row))]
+pub fn element_in_row<W: Watcher>(
+    program: &Program,
+    spot: Spot,
+    object: u32,
+    row: i128,
+    column: i128,
+) -> Result<Element, Halt>
+    ensures gives { (s : State W.Seen) → Gives key_of result s (keyed (program_view program.now) W.Seen W.after spot object (run.in_row (objects.columns_of_object (program_view program.now) object) (run.index_below (objects.size_of_object (program_view program.now) object / objects.columns_of_object (program_view program.now) object) row) (run.index_below (objects.columns_of_object (program_view program.now) object) column)) s) }
+{
+    let size = size_of_object(program, object);
+    let columns = columns_of_object(program, object);
+    if columns == 0 {
+        return Err(Halt::Ends(End::Undefined(spot)));
+    }
+    if row >= 0 && row < (size / columns) as i128 && column >= 0 && column < columns as i128 {
+        Ok(Element {
+            object,
+            index: row as u32 * columns + column as u32,
         })
     } else {
         Err(Halt::Ends(End::Undefined(spot)))

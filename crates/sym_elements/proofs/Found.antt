@@ -1,143 +1,151 @@
--- The places of an index: a run whose index lies outside ends.
-use Rattle.std.proofs.Common.{◌≡◌, ℕ, suc, ◌+◌, ◌-◌, ◌*◌, ◌^◌, ◌<◌, Bool, true, false, cond, not, ◌&&◌, nat_lt, ℤ, pos, negsuc, List, length, map, refl, sym, ◌∙◌, ap, ap₂, subst, arith, Some, None, true≢false}
-use Rattle.std.proofs.lemmas.Bool.{ltb-true, ltb-false}
+-- The places of a cell in an object: a run that is at none ends.
+use Rattle.std.proofs.Common.{◌≡◌, ℕ, suc, ◌+◌, ◌*◌, ◌<◌, ◌≤◌, Bool, true, false, cond, not, ◌&&◌, ℤ, List, length, map, refl, sym, ◌∙◌, ap, ap₂, subst, arith, Option, Some, None, is_some, true≢false}
 use Rattle.c_core.specs.Tree.{Program}
-use Rattle.c_core.specs.Types.{width_of, is_signed, signed_of}
+use Rattle.c_core.specs.Types.{is_signed}
 use Rattle.c_core.specs.declared.number.IntType.{IntType}
 use Rattle.c_meaning.specs.Duties.{Placed, Duties}
 use Rattle.c_meaning.specs.Havoc as definition
-use Rattle.c_meaning.specs.Objects.{size_of_object}
-use Rattle.c_meaning.specs.Run.{index_below}
+use Rattle.c_meaning.specs.Objects.{size_of_object, columns_of_object}
+use Rattle.c_meaning.specs.Run.{index_below, in_row}
 use Rattle.circuits.specs.declared.net.Bit.{Bit}
 use Rattle.circuits.specs.declared.net.NetNode.{NetNode}
-use Rattle.circuits.specs.Gates.{negative}
 use Rattle.circuits.specs.Net.{holds, Grown, Means}
 use Rattle.circuits.specs.Numbers.{number, read, typed, AreTyped}
-use Rattle.circuits.proofs.Nets.{grown_then, means_by}
+use Rattle.circuits.proofs.Nets.{grown_then}
 use Rattle.sym_state.specs.declared.state.Sym.{Sym}
 use Rattle.sym_state.specs.Standing.{Stand, stand, IsState, Turned, IsHere, marks, stopped}
 use Rattle.sym_state.specs.Following.{left_of, Came}
-use Rattle.sym_state.proofs.Nets.{added_of, added_then, all_added, number_added, stand_grown}
+use Rattle.sym_state.proofs.Nets.{added_of, added_then, all_added, stand_grown}
 use Rattle.sym_state.proofs.Composed.{turned_follows}
-use Rattle.sym_elements.specs.declared.finding.Places.{Places}
-use Rattle.sym_elements.specs.Marks.{IsDecoded, IsNone, none_true, HasOne}
-use Rattle.sym_elements.specs.Elements.{key_at, ArePlaces, found_cost, Finds}
-use Rattle.sym_elements.proofs.Marking.{none_of_none, none_inside, none_outside}
+use Rattle.sym_elements.specs.declared.placing.Places.{Places}
+use Rattle.sym_elements.specs.Marks.{IsNone, none_true, HasOne}
+use Rattle.sym_elements.specs.Placing.{MaybeCell, mark_of, ArePlaced, Spells, index_of, index_where, row_where, rows_of}
+use Rattle.sym_elements.specs.Elements.{key_at, ArePlaces, index_in, row_in, Finds}
+use Rattle.sym_elements.proofs.Marking.{none_of_none, none_inside}
 use Rattle.sym_elements.proofs.Decoding.{bools_added}
+use Rattle.sym_elements.proofs.Spelling.{spells_added}
 use Rattle.sym_elements.proofs.Kept.{first_is, place_is}
 
--- an index of a type, read from its digits, is below a number
-below_by_sign : (n m : ℕ) (k : ℕ) (t : Bool) → index_below n (cond t (pos m) (negsuc k)) ≡ cond (not (not t) && nat_lt m n) (Some m) None
-below_by_sign n m k true = refl
-below_by_sign n m k false = refl
-
-pub below_read : (n w m : ℕ) (s : Bool) → index_below n (read w s m) ≡ cond (not (negative w s m) && nat_lt m n) (Some m) None
-unfolding signed_of
-below_read n w m false = refl
-below_read n w m true = below_by_sign n m (2 ^ w - suc m) (nat_lt m (2 ^ (w - 1)))
-
--- no mark is true where the number isn't there or isn't below n
-none_is : (h : Bool) (m n : ℕ) → none_true (marks (cond h (suc m) 0) n) ≡ not (h && nat_lt m n)
-none_is false m n = none_of_none n
-none_is true m n = by_case (nat_lt m n) refl
-  where
-    by_case : (t : Bool) → nat_lt m n ≡ t → none_true (marks (suc m) n) ≡ not t
-    by_case true e = none_inside m n (ltb-true m n e)
-    by_case false e = none_outside m n (ltb-false m n e)
-
-both_true : (a b : Bool) → (a && b) ≡ true → (a ≡ true) × (b ≡ true)
-both_true true b h = (refl, h)
-both_true false b h = absurd (true≢false (sym h))
+-- no mark is true where there is no cell
+none_is : (o : Option ℕ) (n : ℕ) → ((k : ℕ) → o ≡ Some k → k < n) → none_true (marks (mark_of o) n) ≡ not (is_some o)
+none_is None n h = none_of_none n
+none_is (Some k) n h = none_inside k n (h k refl)
 
 ends_not : (l t : Bool) → (l && not (not t)) ≡ true → t ≡ true
 ends_not true true h = refl
 ends_not true false h = absurd (true≢false (sym h))
 ends_not false t h = absurd (true≢false (sym h))
 
--- the sign's bit of a type that has none
-pub unsigned_yes : {net : List NetNode} {b : Bit} (w : ℕ) (n : (ℕ → Bool) → ℕ) (s : Bool) → s ≡ false → Means net b (λ v. true) → Means net b (λ v. not (negative w s (n v)))
-unsigned_yes {net} {b} w n s e m = means_by net b (λ v. true) (λ v. not (negative w s (n v))) m (λ v. ap (λ t. not (t && not (nat_lt (n v) (2 ^ (w - 1))))) (sym e))
+some_cell : (o : Option ℕ) → is_some o ≡ true → (k : ℕ) × (o ≡ Some k)
+some_cell None h = absurd (true≢false (sym h))
+some_cell (Some k) h = (k, refl)
 
 pub two_grown : {j k : ℕ} {a b c : List NetNode} → Grown j a b → Grown k b c → Grown (j + k) a c
 two_grown {j} {k} {a} {b} {c} x y = grown_then j k (j + k) a b c x y (omega arith)
 
-module _ (p : Program) (I : List Placed) (o : ℕ) (ty : IntType) (index : List Bit) (s n : Sym) (mid net : List NetNode) (here outside : Bit) (places : List Bit) where
-  abbrev value : (ℕ → Bool) → ℕ
-  value v = number v s.net index
+-- the places for the same cells
+pub placed_as : {i m : ℕ} {old new : List NetNode} {cell other : MaybeCell} {places : Places} → ArePlaced old new i m cell places → ((v : ℕ → Bool) → cell v ≡ other v) → ArePlaced old new i m other places
+placed_as {m = m} {cell = cell} {other = other} x e = record {
+  grown = x.grown;
+  inside = x.inside;
+  wide = x.wide;
+  digits_in = x.digits_in;
+  some = x.some;
+  is = λ v. x.is v ∙ ap (λ o. marks (mark_of o) m) (e v);
+  below = λ v k q. x.below v k (e v ∙ q);
+  told = λ v k q. x.told v k (e v ∙ q);
+}
 
+-- a circuit that ends runs outside
+pub outside_turned : {s n : Sym} {net : List NetNode} {outside : Bit} (p : Program) (places : List Bit) → IsState p s → IsNone s.net net places outside → Turned p 1 0 (record s { net = net }) n (λ v. stopped (holds v net outside))
+    → Turned p (length places + 1) 0 s n (λ v. stopped (none_true (map (holds v s.net) places)))
+outside_turned p places fits none x = record {
+  fits = x.fits;
+  added = added_then (length places + 1) 0 (added_of none.grown) x.added (omega arith) (omega arith);
+  level = x.level;
+  result = x.result;
+  is = λ v. x.is v ∙ ap₂ stopped (none.means.is v) (stand_grown p v none.grown fits);
+}
+
+module _ (p : Program) (I : List Placed) (o cost : ℕ) {i m : ℕ} {s n : Sym} {net : List NetNode} {cell : MaybeCell} {places : Places} (fits : IsState p s) (made : ArePlaced s.net net i m cell places) (few : m ≤ size_of_object p o)
+    (x : Turned p (length places.bits + 1) 0 (record s { net = net }) n (λ v. stopped (none_true (map (holds v net) places.bits)))) (enough : i + (m + 1) ≤ cost) where
   abbrev inside : (ℕ → Bool) → Bool
-  inside v = holds v s.net here && nat_lt (value v) (size_of_object p o)
+  inside v = is_some (cell v)
 
-  module _ (fits : IsState p s) (index_in : AreTyped p.model ty s.net index) (sign : Means s.net here (λ v. not (negative (length index) (is_signed ty) (value v))))
-      (made : IsDecoded s.net mid here index (size_of_object p o) places) (none : IsNone mid net places outside) (x : Turned p 1 0 (record s { net = net }) n (λ v. stopped (holds v net outside))) where
-    grown : Grown (3 * size_of_object p o + 2 * width_of p.model ty) s.net net
-    grown = grown_then _ _ (3 * size_of_object p o + 2 * width_of p.model ty) _ _ _ made.grown none.grown (omega (arith, made.marks_of.wide, index_in.wide))
+  whole : Turned p cost 0 s n (λ v. stopped (not (inside v)))
+  whole = record {
+    fits = x.fits;
+    added = added_then cost 0 (added_of made.grown) x.added (omega (arith, made.wide, enough)) (omega arith);
+    level = x.level;
+    result = x.result;
+    is = λ v. x.is v ∙ ap₂ stopped (ap none_true (made.is v) ∙ none_is (cell v) m (made.below v)) (stand_grown p v made.grown fits);
+  }
 
-    outside_is : (v : ℕ → Bool) → holds v net outside ≡ not (inside v)
-    outside_is v = none.means.is v ∙ ap none_true (made.marks_of.is v) ∙ none_is (holds v s.net here) (value v) (size_of_object p o)
+  is_inside : (v : ℕ → Bool) → holds v n.net n.live ≡ true → (k : ℕ) × (cell v ≡ Some k)
+  is_inside v live = some_cell (cell v) (ends_not (stand p v s).live (inside v) (sym (ap (λ z. z.live) (whole.is v)) ∙ live))
 
-    whole : Turned p (found_cost p ty o) 0 s n (λ v. stopped (not (inside v)))
-    whole = record {
-      fits = x.fits;
-      added = added_then (found_cost p ty o) 0 (added_of grown) x.added (omega arith) (omega arith);
-      level = x.level;
-      result = x.result;
-      is = λ v. x.is v ∙ ap₂ stopped (outside_is v) (stand_grown p v grown fits);
-    }
+  one_place : (v : ℕ → Bool) (k : ℕ) → cell v ≡ Some k → HasOne (length places.bits) (map (holds v n.net) places.bits)
+  one_place v k e = (
+    k,
+    omega (arith, made.below v k e, made.wide),
+    bools_added v places.bits x.added made.inside ∙ made.is v ∙ ap₂ (λ c w. marks (mark_of c) w) e (sym made.wide),
+  )
 
-    below : (v : ℕ → Bool) → inside v ≡ true → value v < size_of_object p o
-    below v h = ltb-true (value v) (size_of_object p o) (both_true (holds v s.net here) (nat_lt (value v) (size_of_object p o)) h).1
+  found_places : ArePlaces p n o places
+  unfolding one_place is_inside
+  found_places = record {
+    inside = all_added x.added places.bits made.inside;
+    few = omega (arith, made.wide, few);
+    some = made.some;
+    one = λ v live. let q = is_inside v live in one_place v q.0 q.1;
+    digits_in = all_added x.added places.digits made.digits_in;
+    told = λ v live.
+        let q = is_inside v live in
+        subst (Spells v n.net places) (sym (first_is (one_place v q.0 q.1))) (spells_added v x.added made.digits_in (made.told v q.0 q.1));
+  }
 
-    only_place : (v : ℕ → Bool) → inside v ≡ true → map (holds v n.net) places ≡ marks (suc (value v)) (size_of_object p o)
-    only_place v h =
-        let q = both_true (holds v s.net here) (nat_lt (value v) (size_of_object p o)) h in
-        let stays : map (holds v n.net) places ≡ map (holds v mid) places = bools_added v places (added_then (length places + 1) 0 (added_of none.grown) x.added (omega arith) (omega arith)) made.marks_of.inside in
-        stays ∙ made.marks_of.is v ∙ ap (λ b. marks (cond b (suc (value v)) 0) (size_of_object p o)) q.0
+  dead : (v : ℕ → Bool) (a : Stand) (t : Bool) → a.live ≡ false → stopped t a ≡ a
+  dead v a t h = λ j. record a { live = (ap (λ l. l && not t) h ∙ sym h) j }
 
-    abbrev one_place : (v : ℕ → Bool) → inside v ≡ true → HasOne (size_of_object p o) (map (holds v n.net) places)
-    one_place v h = (value v, below v h, only_place v h)
+  goes : (v : ℕ → Bool) (a : Stand) (rest : List ℤ) → IsHere (length (Duties p I)) a → (c : Option ℕ) → cell v ≡ c
+      → Came (Duties p I) (λ k. k ≡ key_at o v n.net places.bits) (stopped (not (is_some c)) a) rest (definition.key_of p I o c (left_of a rest))
+  unfolding one_place
+  goes v a rest h (Some k) e = (
+    record { live = ap (λ l. l && true) h.live; broken = h.broken; again = h.again; gave = h.gave; failing = h.failing },
+    refl,
+    sym (place_is o places.bits n v (one_place v k e)),
+  )
+  goes v a rest h None e = (record { live = and_never a.live; broken = h.broken; again = h.again; gave = h.gave; failing = h.failing }, refl, refl)
+    where
+      and_never : (l : Bool) → (l && false) ≡ false
+      and_never true = refl
+      and_never false = refl
 
-    is_inside : (v : ℕ → Bool) → holds v n.net n.live ≡ true → inside v ≡ true
-    is_inside v live = ends_not (stand p v s).live (inside v) (sym (ap (λ z. z.live) (whole.is v)) ∙ live)
+  pub finds : Finds p I o cost cell s n places
+  finds = record {
+    places_of = found_places;
+    follows = turned_follows p (Duties p I) (λ v. stopped (not (inside v))) whole (λ v. refl) (λ v d. dead v (stand p v s) (not (inside v)) d) (λ v h rest. goes v (stand p v s) rest h (cell v) refl);
+  }
 
-    abbrev found : Places
-    found = record { bits = places; digits = index }
+-- ---- the cells of an index, and of a row and a column
+-- an index of a type
+pub typed_index : (p : Program) {net : List NetNode} (ty : IntType) (bits : List Bit) (n : ℕ) (v : ℕ → Bool) → AreTyped p.model ty net bits → index_of net n (is_signed ty) bits v ≡ index_below n (typed p.model ty v net bits)
+typed_index p {net} ty bits n v h = ap (λ w. index_below n (read w (is_signed ty) (number v net bits))) h.wide
 
-    found_places : ArePlaces p n o found
-    found_places = record {
-      inside = all_added (added_then (length places + 1) 0 (added_of none.grown) x.added (omega arith) (omega arith)) places made.marks_of.inside;
-      wide = made.marks_of.wide;
-      one = λ v live. one_place v (is_inside v live);
-      digits_in = all_added whole.added index index_in.inside;
-      told = λ v live. number_added whole.added v index index_in.inside ∙ sym (first_is (one_place v (is_inside v live)));
-    }
+wherever : {net : List NetNode} {yes : Bit} → Means net yes (λ v. true) → (v : ℕ → Bool) (c : Option ℕ) → cond (holds v net yes) c None ≡ c
+wherever always v c = ap (λ t. cond t c None) (always.is v)
 
-    dead : (v : ℕ → Bool) (a : Stand) (t : Bool) → a.live ≡ false → stopped t a ≡ a
-    dead v a t h = λ i. record a { live = (ap (λ l. l && not t) h ∙ sym h) i }
+module _ (p : Program) (s : Sym) where
+  pub index_found : {i : ℕ} {net : List NetNode} {yes : Bit} {places : Places} → Means s.net yes (λ v. true) → (o : ℕ) (ty : IntType) (index : List Bit) → AreTyped p.model ty s.net index
+      → ArePlaced s.net net i (size_of_object p o) (index_where s.net yes (size_of_object p o) (is_signed ty) index) places → ArePlaced s.net net i (size_of_object p o) (index_in p o ty index s) places
+  index_found always o ty index h x = placed_as x (λ v. wherever always v (index_of s.net (size_of_object p o) (is_signed ty) index v) ∙ typed_index p ty index (size_of_object p o) v h)
 
-    index_is : (v : ℕ → Bool) → index_below (size_of_object p o) (typed p.model ty v s.net index) ≡ cond (inside v) (Some (value v)) None
-    index_is v =
-        below_read (size_of_object p o) (width_of p.model ty) (value v) (is_signed ty)
-        ∙ ap (λ t. cond (t && nat_lt (value v) (size_of_object p o)) (Some (value v)) None) (ap (λ w. not (negative w (is_signed ty) (value v))) (sym index_in.wide) ∙ sym (sign.is v))
-
-    goes : (v : ℕ → Bool) (a : Stand) (rest : List ℤ) → IsHere (length (Duties p I)) a → (t : Bool) → inside v ≡ t
-        → Came (Duties p I) (λ k. k ≡ key_at o v n.net places) (stopped (not t) a) rest (definition.key_of p I o (cond t (Some (value v)) None) (left_of a rest))
-    goes v a rest h true e = (
-      record { live = ap (λ l. l && true) h.live; broken = h.broken; again = h.again; gave = h.gave; failing = h.failing },
-      refl,
-      sym (place_is p o places n v (one_place v e)),
-    )
-    goes v a rest h false e = (record { live = and_never a.live; broken = h.broken; again = h.again; gave = h.gave; failing = h.failing }, refl, refl)
-      where
-        and_never : (l : Bool) → (l && false) ≡ false
-        and_never true = refl
-        and_never false = refl
-
-    pub finds : Finds p I o ty index s n found
-    finds = record {
-      places_of = found_places;
-      follows = turned_follows p (Duties p I) (λ v. stopped (not (inside v))) whole (λ v. refl) (λ v d. dead v (stand p v s) (not (inside v)) d)
-          (λ v h rest.
-          subst (λ i. Came (Duties p I) (λ k. k ≡ key_at o v n.net places) (stopped (not (inside v)) (stand p v s)) rest (definition.key_of p I o i (left_of (stand p v s) rest))) (sym (index_is v))
-          (goes v (stand p v s) rest h (inside v) refl));
-    }
+  pub row_found : {i : ℕ} {net : List NetNode} {yes : Bit} {places : Places} → Means s.net yes (λ v. true) → (o : ℕ) (row_type column_type : IntType) (row column : List Bit) → AreTyped p.model row_type s.net row → AreTyped p.model column_type s.net column
+      → ArePlaced s.net net i (rows_of p o * columns_of_object p o) (row_where s.net yes (rows_of p o) (columns_of_object p o) (is_signed row_type) row (is_signed column_type) column) places
+      → ArePlaced s.net net i (rows_of p o * columns_of_object p o) (row_in p o row_type row column_type column s) places
+  row_found always o row_type column_type row column hr hc x =
+      let c = columns_of_object p o in
+      placed_as x
+      (λ v.
+      wherever always v (in_row c (index_of s.net (rows_of p o) (is_signed row_type) row v) (index_of s.net c (is_signed column_type) column v))
+      ∙ ap₂ (in_row c) (typed_index p row_type row (rows_of p o) v hr) (typed_index p column_type column c v hc))

@@ -1,8 +1,7 @@
 -- Places stay good while the net grows and runs end.
-use Rattle.std.proofs.Common.{◌≡◌, ℕ, Bool, true, false, List, map, refl, sym, ◌∙◌, ap, subst, true≢false}
+use Rattle.std.proofs.Common.{◌≡◌, ℕ, Bool, true, false, List, length, map, refl, sym, ◌∙◌, ap, subst, true≢false}
 use Rattle.c_core.specs.Tree.{Program}
 use Rattle.c_meaning.specs.declared.run.Duty.{Duty}
-use Rattle.c_meaning.specs.Objects.{size_of_object}
 use Rattle.circuits.specs.declared.net.Bit.{Bit}
 use Rattle.circuits.specs.declared.net.NetNode.{NetNode}
 use Rattle.circuits.specs.Net.{holds}
@@ -11,12 +10,14 @@ use Rattle.sym_state.specs.declared.state.Sym.{Sym}
 use Rattle.sym_state.specs.Places.{key}
 use Rattle.sym_state.specs.Standing.{Stand, stand, Added, Moves}
 use Rattle.sym_state.specs.Following.{Deed, Follows}
-use Rattle.sym_state.proofs.Nets.{all_added, number_added}
-use Rattle.sym_elements.specs.declared.finding.Places.{Places}
+use Rattle.sym_state.proofs.Nets.{all_added}
+use Rattle.sym_elements.specs.declared.placing.Places.{Places}
 use Rattle.sym_elements.specs.Marks.{HasOne, first_true}
+use Rattle.sym_elements.specs.Placing.{Spells}
 use Rattle.sym_elements.specs.Elements.{key_at, ArePlaces}
 use Rattle.sym_elements.proofs.Marking.{first_of_marks}
 use Rattle.sym_elements.proofs.Decoding.{bools_added}
+use Rattle.sym_elements.proofs.Spelling.{spells_added}
 
 -- the cell that bits tell of is the same in a larger net
 pub key_kept : {i j : ℕ} {old new : List NetNode} (places : List Bit) (o : ℕ) (v : ℕ → Bool) → Added i j old new → AreIn old places → key_at o v new places ≡ key_at o v old places
@@ -34,10 +35,11 @@ module _ (p : Program) (o : ℕ) (places : Places) where
   pub places_moved : {i j : ℕ} {s t : Sym} → ArePlaces p s o places → Added i j s.net t.net → ((v : ℕ → Bool) → (stand p v t).live ≡ true → (stand p v s).live ≡ true) → ArePlaces p t o places
   places_moved {s = s} {t = t} x g m = record {
     inside = all_added g places.bits x.inside;
-    wide = x.wide;
-    one = λ v live. subst (λ bs. HasOne (size_of_object p o) bs) (sym (bools_added v places.bits g x.inside)) (x.one v (m v live));
+    few = x.few;
+    some = x.some;
+    one = λ v live. subst (λ bs. HasOne (length places.bits) bs) (sym (bools_added v places.bits g x.inside)) (x.one v (m v live));
     digits_in = all_added g places.digits x.digits_in;
-    told = λ v live. number_added g v places.digits x.digits_in ∙ x.told v (m v live) ∙ ap first_true (sym (bools_added v places.bits g x.inside));
+    told = λ v live. subst (λ bs. Spells v t.net places (first_true bs)) (sym (bools_added v places.bits g x.inside)) (spells_added v g x.digits_in (x.told v (m v live)));
   }
 
   -- across any part of a program, as the right side of an assignment
@@ -53,5 +55,5 @@ pub first_is : {n : ℕ} {bs : List Bool} (one : HasOne n bs) → first_true bs 
 first_is {n} one = ap first_true one.2 ∙ first_of_marks one.0 n one.1
 
 -- the place of a run that is here
-pub place_is : (p : Program) (o : ℕ) (places : List Bit) (s : Sym) (v : ℕ → Bool) (one : HasOne (size_of_object p o) (map (holds v s.net) places)) → key_at o v s.net places ≡ key o one.0
-place_is p o places s v one = ap (key o) (first_is one)
+pub place_is : {n : ℕ} (o : ℕ) (places : List Bit) (s : Sym) (v : ℕ → Bool) (one : HasOne n (map (holds v s.net) places)) → key_at o v s.net places ≡ key o one.0
+place_is o places s v one = ap (key o) (first_is one)

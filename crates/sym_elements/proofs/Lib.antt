@@ -1,5 +1,8 @@
 pub mod Marking
 pub mod Decoding
+mod Crossing
+mod Placed
+pub mod Spelling
 pub mod Kept
 pub mod Found
 pub mod Picked

@@ -65,10 +65,11 @@ none_inside k zero h = absurd (omega (arith, h))
 none_inside zero (suc n) h = refl
 none_inside (suc k) (suc n) h = none_inside k n (omega (arith, h))
 
-pub none_outside : (k n : ℕ) → n ≤ k → none_true (marks (suc k) n) ≡ true
-none_outside k zero h = refl
-none_outside zero (suc n) h = absurd (omega (arith, h))
-none_outside (suc k) (suc n) h = none_outside k n (omega (arith, h))
+-- beyond the last there is none
+pub marks_outside : (k n : ℕ) → n ≤ k → marks (suc k) n ≡ marks zero n
+marks_outside k zero h = refl
+marks_outside zero (suc n) h = absurd (omega (arith, h))
+marks_outside (suc k) (suc n) h = ap (λ z. false ∷ z) (marks_outside k n (omega (arith, h)))
 
 pub first_of_marks : (k n : ℕ) → k < n → first_true (marks (suc k) n) ≡ k
 first_of_marks k zero h = absurd (omega (arith, h))

@@ -1,5 +1,6 @@
 -- Elements are written: of all cells that of the place that is true.
 use Rattle.std.proofs.Common.{◌≡◌, ℕ, zero, suc, ◌+◌, ◌*◌, ◌<◌, ◌≤◌, Bool, true, false, cond, ◌&&◌, nat_eq, eqb-true, ℤ, List, length, get_or, map, refl, sym, ◌∙◌, ap, ap₂, arith, Some}
+use Rattle.std.proofs.Math.Nat.{mul-le-mul_left}
 use Rattle.std.proofs.lemmas.Bool.{eqb-false, eq-eqb, ne_eqb}
 use Rattle.std.proofs.lemmas.List.{get_or-map}
 use Rattle.std.proofs.lemmas.List.Elements.{All-get_or}
@@ -20,7 +21,7 @@ use Rattle.sym_state.specs.Standing.{Stand, stand, IsState, Turned, stored}
 use Rattle.sym_state.proofs.Nets.{added_of, added_then, unchanged, holds_added, typed_added, are_typed_added, stand_grown}
 use Rattle.sym_state.proofs.Composed.{turned_follows}
 use Rattle.sym_values.specs.Valuing.{Reckoned, Gives}
-use Rattle.sym_elements.specs.declared.finding.Places.{Places}
+use Rattle.sym_elements.specs.declared.placing.Places.{Places}
 use Rattle.sym_elements.specs.Marks.{HasOne}
 use Rattle.sym_elements.specs.Elements.{key_at, ArePlaces, width_of_element, written_cost, stored_cost, stored_in}
 use Rattle.sym_elements.proofs.Marking.{mark_at}
@@ -116,16 +117,21 @@ module _ (p : Program) (o : ℕ) where
             ∙ ap (λ k. writes k (place_at v s.net places) o z (stand p v s)) j;
       }
 
-  pub writes_all : {s n : Sym} {i : ℕ} (places : Places) (value : List Bit) → ArePlaces p s o places → Writes places.bits value s n i → i ≡ size_of_object p o
+  pub writes_all : {s n : Sym} {i : ℕ} (places : Places) (value : List Bit) → ArePlaces p s o places → Writes places.bits value s n i → i ≡ length places.bits
       → Turned p (written_cost p o) 0 s n (λ v. stored (holds v s.net s.live) (key_at o v s.net places.bits) (typed p.model (type_of_object p o) v s.net value))
   writes_all {s} {n} {i} places value x w e = record {
     fits = w.fits;
-    added = added_then (written_cost p o) 0 (unchanged 0 s.net) w.added (omega (arith, ap (λ k. k * (4 * width_of_element p o + 1)) e)) (omega arith);
+    added = added_then (written_cost p o) 0 (unchanged 0 s.net) w.added (few_writes i (size_of_object p o) (4 * width_of_element p o + 1) (omega (arith, e, x.few))) (omega arith);
     level = w.level;
     result = w.result;
     is = λ v. w.is v ∙ all_of v (holds v s.net s.live) refl;
   }
     where
+      few_writes : (m n w : ℕ) → m ≤ n → 0 + m * w ≤ n * w
+      few_writes m n w h =
+          let q : w * m ≤ w * n = mul-le-mul_left w h in
+          omega (arith, q)
+
       z : (ℕ → Bool) → ℤ
       z v = typed p.model (type_of_object p o) v s.net value
 
@@ -135,9 +141,9 @@ module _ (p : Program) (o : ℕ) where
           writes_dead (place_at v s.net places.bits) o (z v) (stand p v s) h i
           ∙ (λ j. record (stand p v s) { cells = cond (sym h j) (put (key_at o v s.net places.bits) (z v) (stand p v s).cells) (stand p v s).cells })
       all_of v true h =
-          let one : HasOne (size_of_object p o) (map (holds v s.net) places.bits) = x.one v h in
-          writes_one (place_at v s.net places.bits) o (z v) (stand p v s) one.0 (λ k. ap (λ bs. get_or bs k false) one.2 ∙ mark_at one.0 (size_of_object p o) k one.1) h i (omega (arith, e, one.1))
-          ∙ ap₂ (λ t k. stored t k (z v) (stand p v s)) (sym h) (sym (place_is p o places.bits s v one))
+          let one : HasOne (length places.bits) (map (holds v s.net) places.bits) = x.one v h in
+          writes_one (place_at v s.net places.bits) o (z v) (stand p v s) one.0 (λ k. ap (λ bs. get_or bs k false) one.2 ∙ mark_at one.0 (length places.bits) k one.1) h i (omega (arith, e, one.1))
+          ∙ ap₂ (λ t k. stored t k (z v) (stand p v s)) (sym h) (sym (place_is o places.bits s v one))
 
   dead_store : (k : Key) (z : ℤ) (a : Stand) → a.live ≡ false → stored a.live k z a ≡ a
   dead_store k z a h = λ i. record a { cells = cond (h i) (put k z a.cells) a.cells }

@@ -1,5 +1,5 @@
 -- Marks of a number: a bit for each number, of which that one is true.
-use Rattle.std.specs.Prelude.{◌≡◌, ℕ, suc, ◌+◌, ◌*◌, ◌<◌, Bool, true, false, cond, not, ◌&&◌, List, [], ◌∷◌, length, map}
+use Rattle.std.specs.Prelude.{◌≡◌, ℕ, zero, suc, ◌+◌, ◌*◌, ◌/◌, ◌%◌, ◌<◌, Bool, true, false, cond, not, ◌&&◌, List, [], ◌∷◌, ◌++◌, length, get_or, map}
 use Rattle.circuits.specs.declared.net.Bit.{Bit}
 use Rattle.circuits.specs.declared.net.NetNode.{NetNode}
 use Rattle.circuits.specs.Net.{holds, Grown, Means}
@@ -28,6 +28,18 @@ pub record AreDoubled (old new : List NetNode) (marks : List Bit) (digit : Bit) 
 pub record IsDecoded (old new : List NetNode) (here : Bit) (digits : List Bit) (n : ℕ) (bits : List Bit) : Type 0 where
   pub grown : Grown (2 * (n + length digits)) old new
   pub marks_of : AreMarks new bits n (λ v. cond (holds v old here) (suc (number v old digits)) 0)
+
+-- of the first k cells of so many columns: is the row's true, and the column's?
+abbrev pub crossing : List Bool → List Bool → ℕ → ℕ → List Bool
+crossing rows columns width zero = []
+crossing rows columns width (suc k) = crossing rows columns width k ++ (get_or rows (k / width) false && get_or columns (k % width) false) ∷ []
+
+-- a bit for each of the first k cells
+pub record AreCrossed (old new : List NetNode) (rows columns : List Bit) (k : ℕ) (bits : List Bit) : Type 0 where
+  pub grown : Grown k old new
+  pub inside : AreIn new bits
+  pub wide : length bits ≡ k
+  pub is : (v : ℕ → Bool) → map (holds v new) bits ≡ crossing (map (holds v old) rows) (map (holds v old) columns) (length columns) k
 
 -- none of these is true
 abbrev pub none_true : List Bool → Bool

@@ -1,42 +1,35 @@
-// Where each run is in an array.
-ghost use Rattle.std.specs.Prelude.{◌+◌, ◌<◌, ◌^◌, IfOk, List, length, not};
-ghost use Rattle.c_core.specs.Types.{is_signed};
+// Where each run is in an array: a run that is outside ends.
+ghost use Rattle.std.specs.Prelude.{◌+◌, ◌<◌, ◌^◌, IfOk, List, length, map};
 ghost use Rattle.c_core.specs.View.{program_view};
 ghost use Rattle.c_meaning.specs.Duties.{Placed};
-ghost use Rattle.circuits.specs.Gates.{negative};
-ghost use Rattle.circuits.specs.Net.{Means};
-ghost use Rattle.circuits.specs.Numbers.{number, AreIn, AreTyped};
-ghost use Rattle.sym_state.specs.Standing.{IsState};
-ghost use Rattle.sym_elements.specs.Elements.{Finds, found_cost};
+ghost use Rattle.circuits.specs.Net.{holds};
+ghost use Rattle.circuits.specs.Numbers.{AreIn, AreTyped};
+ghost use Rattle.sym_state.specs.Standing.{IsState, Turned, stopped};
+ghost use Rattle.sym_elements.specs.Elements.{Finds, index_in, row_in, found_cost, found_row_cost};
+ghost use Rattle.sym_elements.specs.Marks.{none_true};
 
-use crate::marks::{decoded, none_of};
-use c_core::{IntType, Program, signed};
+use crate::marks::none_of;
+use crate::placing::{Places, place_index, place_row};
+use c_core::{IntType, Program};
 use c_meaning::size_of_object;
-use circuits::{Bit, Bits, Net, not};
+use circuits::{Bit, Bits};
 use std::alloc::Global;
 use sym_state::{Sym, stop};
-use wv_base::{OutOfMemory, Seq};
+use wv_base::OutOfMemory;
 
-/// A bit for each cell of an object, in order: is a run's index the cell's? And the binary digits of the index, lowest first.
-#[derive(Debug, Drop)]
-pub struct Places {
-    pub bits: Seq<Bit>,
-    pub digits: Seq<Bit>,
-}
-
-/// Is the number of the digits at least 0 in its type?
-pub fn not_negative(net: &Net, ty: IntType, digits: &[Bit]) -> Bit
-    requires some { 0 < length digits.now }
-    requires digits_in { AreIn net.now digits.now }
-    ensures { Means net.now result (λ v. not (negative (length digits.now) (is_signed ty) (number v net.now digits.now))) }
+// A run of which no place is true ends, and fails nothing (ISO C11 6.5.6p8).
+fn end_outside(program: &Program, sym: &mut Sym, places: &[Bit]) -> Result<(), OutOfMemory>
+    requires fits { IsState (program_view program.now) sym.old }
+    requires inside { AreIn sym.old.net places.now }
+    requires room { length sym.old.net + length places.now < 2 ^ 28 }
+    ensures { IfOk result (λ r. Turned (program_view program.now) (length places.now + 1) 0 sym.old sym.new (λ v. stopped (none_true (map (holds v sym.old.net) places.now)))) }
 {
-    if signed(ty) {
-        return not(digits[digits.len() - 1]);
-    }
-    net.yes()
+    let outside = none_of(&mut sym.net, places)?;
+    stop(sym, program, outside)?;
+    Ok(())
 }
 
-/// The places of an index in an object. A run whose index lies outside ends, and fails nothing (ISO C11 6.5.6p8).
+/// The places of an index in an object. A run whose index lies outside ends.
 pub fn find(
     alloc: Global,
     program: &Program,
@@ -48,16 +41,44 @@ pub fn find(
     requires fits { IsState (program_view program.now) sym.old }
     requires index_in { AreTyped program.now.model ty sym.old.net index.now.bits }
     requires room { length sym.old.net + found_cost (program_view program.now) ty object < 2 ^ 28 }
-    ensures { IfOk result (λ r. (I : List Placed) → Finds (program_view program.now) I object ty index.now.bits sym.old sym.new r) }
+    ensures { IfOk result (λ r. (I : List Placed) → Finds (program_view program.now) I object (found_cost (program_view program.now) ty object) (index_in (program_view program.now) object ty index.now.bits sym.old) sym.old sym.new r) }
 {
     let count = size_of_object(program, object) as usize;
-    let digits = index.bits.as_slice();
-    let here = not_negative(&sym.net, ty, digits);
-    let places = decoded(alloc, &mut sym.net, here, digits, count)?;
-    let outside = none_of(&mut sym.net, &places)?;
-    stop(sym, program, outside)?;
-    let copy = digits.to_vec(alloc)?;
-    let bits = Seq::from_vec(places);
-    let digits = Seq::from_vec(copy);
-    Ok(Places { bits, digits })
+    let yes = sym.net.yes();
+    let places = place_index(alloc, &mut sym.net, yes, ty, index.bits.as_slice(), count)?;
+    end_outside(program, sym, places.bits.as_slice())?;
+    Ok(places)
+}
+
+/// The places of a row and a column in an object. A run of which one lies outside its own dimension ends.
+pub fn find_in_row(
+    alloc: Global,
+    program: &Program,
+    sym: &mut Sym,
+    object: u32,
+    row_type: IntType,
+    row: &Bits,
+    column_type: IntType,
+    column: &Bits,
+) -> Result<Places, OutOfMemory>
+    requires fits { IsState (program_view program.now) sym.old }
+    requires row_in { AreTyped program.now.model row_type sym.old.net row.now.bits }
+    requires column_in { AreTyped program.now.model column_type sym.old.net column.now.bits }
+    requires room { length sym.old.net + found_row_cost (program_view program.now) row_type column_type object < 2 ^ 28 }
+    ensures { IfOk result (λ r. (I : List Placed) → Finds (program_view program.now) I object (found_row_cost (program_view program.now) row_type column_type object) (row_in (program_view program.now) object row_type row.now.bits column_type column.now.bits sym.old) sym.old sym.new r) }
+{
+    let yes = sym.net.yes();
+    let places = place_row(
+        alloc,
+        program,
+        &mut sym.net,
+        object,
+        yes,
+        row_type,
+        row.bits.as_slice(),
+        column_type,
+        column.bits.as_slice(),
+    )?;
+    end_outside(program, sym, places.bits.as_slice())?;
+    Ok(places)
 }

@@ -4,10 +4,11 @@
 
 mod finding;
 mod marks;
+mod placing;
 mod reading;
 mod writing;
 
-pub use finding::{Places, find, not_negative};
-pub use marks::decoded;
+pub use finding::{find, find_in_row};
+pub use placing::{Places, columns_of_object, place_index, place_row};
 pub use reading::{read_among, read_element};
 pub use writing::{store_element, write_element};

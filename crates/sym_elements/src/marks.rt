@@ -2,7 +2,7 @@
 ghost use Rattle.std.specs.Prelude.{◌+◌, ◌*◌, ◌<◌, ◌^◌, IfOk, cond, length};
 ghost use Rattle.circuits.specs.Net.{holds, IsIn};
 ghost use Rattle.circuits.specs.Numbers.{AreIn};
-ghost use Rattle.sym_elements.specs.Marks.{AreMarks, IsDecoded, AreDoubled, IsNone};
+ghost use Rattle.sym_elements.specs.Marks.{AreMarks, IsDecoded, AreDoubled, AreCrossed, IsNone};
 
 use circuits::{Bit, Net, not};
 use std::alloc::Global;
@@ -64,6 +64,28 @@ pub fn decoded(
     let above = decoded(alloc, net, here, &digits[1..], half)?;
     let mut out = doubled(alloc, net, &above, digits[0])?;
     out.truncate(n);
+    Ok(out)
+}
+
+/// For each cell of rows and columns, row by row, a bit: are its row's and its column's true?
+pub fn crossed(
+    alloc: Global,
+    net: &mut Net,
+    rows: &[Bit],
+    columns: &[Bit],
+) -> Result<Vec<Bit>, OutOfMemory>
+    requires rows_in { AreIn net.old rows.now }
+    requires columns_in { AreIn net.old columns.now }
+    requires some { 0 < length columns.now }
+    requires room { length net.old + length rows.now * length columns.now < 2 ^ 31 }
+    ensures { IfOk result (λ r. AreCrossed net.old net.new rows.now columns.now (length rows.now * length columns.now) r.items) }
+{
+    let mut out = Vec::new(alloc);
+    let width = columns.len();
+    for i in 0..rows.len() * width {
+        let place = net.and(rows[i / width], columns[i % width])?;
+        out.push(place)?;
+    }
     Ok(out)
 }
 

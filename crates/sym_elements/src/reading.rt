@@ -1,5 +1,5 @@
 // Elements are read.
-ghost use Rattle.std.specs.Prelude.{◌≡◌, ◌+◌, ◌-◌, ◌<◌, ◌^◌, IfOk, List, Some, length, min};
+ghost use Rattle.std.specs.Prelude.{◌≡◌, ◌+◌, ◌-◌, ◌*◌, ◌<◌, ◌^◌, IfOk, List, Some, length, min};
 ghost use Rattle.c_core.specs.View.{program_view};
 ghost use Rattle.c_meaning.specs.Duties.{Placed};
 ghost use Rattle.c_meaning.specs.Objects.{type_of_object};
@@ -7,10 +7,10 @@ ghost use Rattle.circuits.specs.Numbers.{AreIn};
 ghost use Rattle.sym_state.specs.Standing.{IsState};
 ghost use Rattle.sym_values.specs.Valuing.{Gives};
 ghost use Rattle.sym_elements.specs.Elements.{ArePlaces, IsPicked, picked_cost, read_cost, read_in};
+ghost use Rattle.sym_elements.specs.Placing.{told_by};
 
-use crate::finding::Places;
+use crate::placing::Places;
 use c_core::{IntType, Program};
-use c_meaning::size_of_object;
 use circuits::{Bit, Bits};
 use std::alloc::Global;
 use sym_state::{Sym, look};
@@ -27,7 +27,22 @@ fn numbers(digits: usize) -> u32
     u32::MAX
 }
 
-/// The element at `low` + n, n being the number that the digits spell, wherever n is below `count`: a tree of choices by the digits, the highest first.
+// How many cells so many digits tell apart, of which the first `inner` are those of a column; at most the largest u32.
+fn told(digits: usize, inner: usize, columns: u32) -> u32
+    ensures { result ≡ min (told_by inner columns digits) (2 ^ 32 - 1) }
+{
+    if digits < inner {
+        return numbers(digits);
+    }
+    let cells = u64::from(columns) * u64::from(numbers(digits - inner));
+    if cells < u64::from(u32::MAX) {
+        return cells as u32;
+    }
+    u32::MAX
+}
+
+/// The element at `low` + n, n being the cell that the digits spell, wherever n is below `count`: a tree of choices by the digits, the highest
+/// first.
 pub fn read_among(
     alloc: Global,
     program: &Program,
@@ -35,15 +50,18 @@ pub fn read_among(
     object: u32,
     ty: IntType,
     digits: &[Bit],
+    inner: usize,
+    columns: u32,
     low: u32,
     count: u32,
 ) -> Result<Bits, OutOfMemory>
     requires fits { IsState (program_view program.now) sym.old }
     requires typed { ty ≡ type_of_object (program_view program.now) object }
     requires digits_in { AreIn sym.old.net digits.now }
+    requires some { 0 < columns }
     requires within { low + count < 2 ^ 32 }
     requires room { length sym.old.net + picked_cost (program_view program.now) object count < 2 ^ 28 }
-    ensures { IfOk result (λ r. IsPicked (program_view program.now) object low count digits.now sym.old sym.new r.bits) }
+    ensures { IfOk result (λ r. IsPicked (program_view program.now) object inner columns low count digits.now sym.old sym.new r.bits) }
 {
     if digits.is_empty() {
         let held = look(alloc, program, sym, object, low, ty)?;
@@ -51,14 +69,20 @@ pub fn read_among(
     }
     let highest = digits.len() - 1;
     let lower = &digits[..highest];
-    let half = numbers(highest);
+    let half = told(highest, inner, columns);
     if count <= half {
-        let same = read_among(alloc, program, sym, object, ty, lower, low, count)?;
+        let same = read_among(
+            alloc, program, sym, object, ty, lower, inner, columns, low, count,
+        )?;
         return Ok(same);
     }
     let (middle, rest) = (low + half, count - half);
-    let above = read_among(alloc, program, sym, object, ty, lower, middle, rest)?;
-    let below = read_among(alloc, program, sym, object, ty, lower, low, half)?;
+    let above = read_among(
+        alloc, program, sym, object, ty, lower, inner, columns, middle, rest,
+    )?;
+    let below = read_among(
+        alloc, program, sym, object, ty, lower, inner, columns, low, half,
+    )?;
     let value = choose(alloc, program, sym, ty, digits[highest], &above, &below)?;
     Ok(value)
 }
@@ -79,7 +103,10 @@ pub fn read_element(
     ensures { IfOk result (λ r. (I : List Placed) → Gives (program_view program.now) I (read_cost (program_view program.now) object) 0 sym.old sym.new (Some ty) r.bits (read_in (program_view program.now) I object places.now.bits sym.old)) }
 {
     let digits = places.digits.as_slice();
-    let size = size_of_object(program, object);
-    let value = read_among(alloc, program, sym, object, ty, digits, 0, size)?;
+    let count = places.bits.len() as u32;
+    let (inner, columns) = (places.inner, places.columns);
+    let value = read_among(
+        alloc, program, sym, object, ty, digits, inner, columns, 0, count,
+    )?;
     Ok(value)
 }

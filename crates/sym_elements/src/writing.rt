@@ -10,9 +10,8 @@ ghost use Rattle.sym_state.specs.Standing.{IsState, Turned, stored};
 ghost use Rattle.sym_values.specs.Valuing.{Gives};
 ghost use Rattle.sym_elements.specs.Elements.{key_at, ArePlaces, width_of_element, written_cost, stored_cost, stored_in};
 
-use crate::finding::Places;
+use crate::placing::Places;
 use c_core::{IntType, Program};
-use c_meaning::size_of_object;
 use circuits::{Bit, Bits};
 use std::alloc::Global;
 use sym_state::{Sym, write};
@@ -56,9 +55,8 @@ pub fn write_element(
     ensures { IfOk result (λ r. Turned (program_view program.now) (written_cost (program_view program.now) object) 0 sym.old sym.new (λ v. stored (holds v sym.old.net sym.old.live) (key_at object v sym.old.net places.now.bits) (typed program.now.model (type_of_object (program_view program.now) object) v sym.old.net value.now.bits))) }
 {
     let bits = places.bits.as_slice();
-    for i in 0..size_of_object(program, object) {
-        let here = bits[i as usize];
-        write_place(alloc, program, sym, object, i, here, value)?;
+    for i in 0..bits.len() {
+        write_place(alloc, program, sym, object, i as u32, bits[i], value)?;
     }
     Ok(())
 }

@@ -1,23 +1,24 @@
 -- Declared names: their cells, and what these hold.
-use Rattle.std.proofs.Common.{◌≡◌, ℕ, ◌+◌, ◌*◌, ◌≤◌, ◌<◌, ◌^◌, true, not, ◌&&◌, List, [], ◌∷◌, ◌++◌, append-nil, length, take, get_or, refl, sym, ◌∙◌, ap, subst, arith, Option, Some, None, IsTrue, slice_get, nat_le}
-use Rattle.std.specs.List.{list_all}
-use Rattle.c_core.specs.Tree.{Program, Exp, Exps, NoExp, MoreExp, Init, Absent, One, Many, Names, NoName, MoreName, NoFirst, FirstExp, FirstNames}
+use Rattle.std.proofs.Common.{◌≡◌, ℕ, ◌+◌, ◌*◌, ◌≤◌, ◌<◌, ◌^◌, true, not, ◌&&◌, List, [], ◌∷◌, ◌++◌, append-nil, length, take, get_or, refl, sym, ◌∙◌, ap, ap₂, subst, arith, Option, Some, None, IsTrue, slice_get, nat_eq, nat_le}
+use Rattle.std.specs.List.{list_all, flat_map}
+use Rattle.c_core.specs.Tree.{Program, Exp, Exps, NoExp, MoreExp, Init, Absent, One, Many, Rows, Names, NoName, MoreName, NoFirst, FirstExp, FirstNames}
 use Rattle.c_core.specs.Parts.{type_of as type_if, exps_in, fulls_of_init, fulls_of_names}
 use Rattle.c_core.specs.Types.{fit, width_of}
-use Rattle.c_core.specs.Typing.{is_typed, has_value, init_fits, declarators_fit}
-use Rattle.c_core.specs.View.{expr_view, exprs_view, names_view}
+use Rattle.c_core.specs.Typing.{is_array, is_typed, has_value, row_fits, init_fits, declarators_fit}
+use Rattle.c_core.specs.View.{expr_view, exprs_view, names_view, rows_view}
 use Rattle.c_core.specs.declared.number.IntType.{IntType}
 use Rattle.c_core.specs.declared.number.Spot.{Spot}
 use Rattle.c_core.specs.declared.tree.Declared.{Declared}
 use Rattle.c_core.specs.declared.tree.Expr as rust
 use Rattle.c_core.specs.declared.tree.Object.{Object}
+use Rattle.c_core.specs.declared.tree.Row.{Row}
 use Rattle.c_meaning.specs.declared.run.DrawKind.TheVariants.{Cell}
 use Rattle.c_meaning.specs.Acts.{Go, Next, bind, go_on}
 use Rattle.c_meaning.specs.Duties.{Placed, Duties}
-use Rattle.c_meaning.specs.Exec.{declare, initials}
+use Rattle.c_meaning.specs.Exec.{declare, initials, row_initials}
 use Rattle.c_meaning.specs.Havoc.{havoc}
 use Rattle.c_meaning.specs.Meaning.{Used, Unused}
-use Rattle.c_meaning.specs.Objects.{type_of, type_of_object, size_of_object}
+use Rattle.c_meaning.specs.Objects.{type_of, type_of_object, size_of_object, columns_in, columns_of_object}
 use Rattle.c_meaning.proofs.TypeFacts.{both, neither}
 use Rattle.circuits.specs.declared.net.Bit.{Bit}
 use Rattle.circuits.specs.Net.{holds}
@@ -41,9 +42,9 @@ use Rattle.sym_exprs.proofs.Costs.{conversion_costs}
 use Rattle.sym_exprs.proofs.Typed.{has_one}
 use Rattle.sym_weight.specs.Weight.{weight_in, bits_in}
 use Rattle.sym_eval.specs.Control.{FullReady, FullGives}
-use Rattle.sym_eval.specs.Doing.{calls, weight_of_initials, bits_of_initials, InitialsReady, InitialsDo, InitialReady, InitialDoes, weight_of_names, bits_of_names, NamesReady, NamesDo, weight_of_first, bits_of_first, FirstReady, FirstDoes}
+use Rattle.sym_eval.specs.Doing.{calls, weight_of_initials, bits_of_initials, InitialsReady, InitialsDo, weight_of_rows, bits_of_rows, RowsReady, RowsDo, InitialReady, InitialDoes, weight_of_names, bits_of_names, NamesReady, NamesDo, weight_of_first, bits_of_first, FirstReady, FirstDoes}
 use Rattle.sym_eval.proofs.Fulls.{only_one, full_in, number_as}
-use Rattle.sym_eval.proofs.Sequences.{names_more, names_within, initials_more, initials_within, yes_and, name_typed, value_typed, declare_more, values_more}
+use Rattle.sym_eval.proofs.Sequences.{names_more, names_within, initials_more, initials_within, rows_more, rows_within, yes_and, name_typed, value_typed, row_typed, row_valued, declare_more, values_more, row_values_more}
 
 module _ (p : Program) (I : List Placed) (n : ℕ) where
   -- ---- one value of an initializer
@@ -88,10 +89,10 @@ module _ (p : Program) (I : List Placed) (n : ℕ) where
               (omega (arith, conversion_costs p.model (type_of e) (type_of_object p o))) (omega arith)
 
   -- ---- the values of an initializer, one after another
-  pub values_none : (at : Spot) (o : ℕ) (s : Sym) → IsState p s → InitialsDo p I n at o 0 (exprs_view []) s s
-  values_none at o s h = nothing_follows p (Duties p I) s h
+  pub values_none : (at : Spot) (o i : ℕ) (s : Sym) → IsState p s → InitialsDo p I n at o i (exprs_view []) s s
+  values_none at o i s h = nothing_follows p (Duties p I) s h
 
-  module _ (at : Spot) (o : ℕ) (xs : List rust.Expr) (k : ℕ) (x : rust.Expr) (h : k < length xs) (e : x ≡ get_or xs k x) where
+  module _ (at : Spot) (o i : ℕ) (xs : List rust.Expr) (k : ℕ) (x : rust.Expr) (h : k < length xs) (e : x ≡ get_or xs k x) where
     values_weight : weight_of_initials p I n o (exprs_view (take (k + 1) xs)) ≡ weight_of_initials p I n o (exprs_view (take k xs)) + weight_of_initials p I n o (exprs_view (x ∷ []))
     values_weight = initials_more p (λ w b. w) (weight_in p I n) o xs k x h ∙ ap (λ z. weight_of_initials p I n o (exprs_view (take k xs)) + weight_of_initials p I n o (exprs_view (z ∷ []))) (sym e)
 
@@ -108,7 +109,7 @@ module _ (p : Program) (I : List Placed) (n : ℕ) where
     pub values_part : weight_of_initials p I n o (exprs_view (x ∷ [])) ≤ weight_of_initials p I n o (exprs_view xs)
     values_part = omega (arith, values_weight, values_weight_within)
 
-    pub values_next : {s m : Sym} → InitialsReady p I n o s (exprs_view xs) → InitialsDo p I n at o 0 (exprs_view (take k xs)) s m → InitialsReady p I n o m (MoreExp (expr_view x) NoExp)
+    pub values_next : {s m : Sym} → InitialsReady p I n o s (exprs_view xs) → InitialsDo p I n at o i (exprs_view (take k xs)) s m → InitialsReady p I n o m (MoreExp (expr_view x) NoExp)
     values_next r y = record {
       fits = y.fits;
       types = subst (λ z. IsTrue (list_all (is_typed p) (exps_in (exprs_view (z ∷ []))))) (sym e) (value_typed (is_typed p) xs k x h r.types);
@@ -116,14 +117,53 @@ module _ (p : Program) (I : List Placed) (n : ℕ) where
       room = omega (arith, (longer_by y.added).1, values_weight, values_bits, values_weight_within, values_bits_within, r.room);
     }
 
-    pub values_on : {s m t : Sym} → InitialsDo p I n at o 0 (exprs_view (take k xs)) s m → InitialsDo p I n at o k (MoreExp (expr_view x) NoExp) m t → InitialsDo p I n at o 0 (exprs_view (take (k + 1) xs)) s t
+    pub values_on : {s m t : Sym} → InitialsDo p I n at o i (exprs_view (take k xs)) s m → InitialsDo p I n at o (i + k) (MoreExp (expr_view x) NoExp) m t → InitialsDo p I n at o i (exprs_view (take (k + 1) xs)) s t
     values_on y z =
         follows_as p (Duties p I)
-        (follows_then p (Duties p I) (weight_of_initials p I n o (exprs_view (take (k + 1) xs))) (bits_of_initials p I n o (exprs_view (take (k + 1) xs))) (λ v u. initials p (havoc p I) (calls p I n) at o k (exprs_view (x ∷ []))) y z
+        (follows_then p (Duties p I) (weight_of_initials p I n o (exprs_view (take (k + 1) xs))) (bits_of_initials p I n o (exprs_view (take (k + 1) xs))) (λ v u. initials p (havoc p I) (calls p I n) at o (i + k) (exprs_view (x ∷ []))) y z
         (λ v u q w. refl) (omega (arith, values_weight)) (omega (arith, values_bits)))
         (λ v u q. q)
         (λ v w.
-        ap (λ z. bind (initials p (havoc p I) (calls p I n) at o 0 (exprs_view (take k xs)) w) (λ u. initials p (havoc p I) (calls p I n) at o k (exprs_view (z ∷ [])))) e ∙ values_more p I (calls p I n) at o xs k x h w)
+        ap (λ z. bind (initials p (havoc p I) (calls p I n) at o i (exprs_view (take k xs)) w) (λ u. initials p (havoc p I) (calls p I n) at o (i + k) (exprs_view (z ∷ [])))) e ∙ values_more p I (calls p I n) at o i xs k x h w)
+        (omega arith) (omega arith)
+
+  -- ---- the rows of an initializer, one after another
+  pub rows_none : (at : Spot) (o : ℕ) (s : Sym) → IsState p s → RowsDo p I n at o (rows_view []) s s
+  rows_none at o s h = nothing_follows p (Duties p I) s h
+
+  module _ (at : Spot) (o : ℕ) (xs : List Row) (k : ℕ) (x : Row) (h : k < length xs) (e : x ≡ get_or xs k x) where
+    rows_weight : weight_of_rows p I n o (rows_view (take (k + 1) xs)) ≡ weight_of_rows p I n o (rows_view (take k xs)) + weight_of_initials p I n o (exprs_view x.values)
+    rows_weight = rows_more p (λ w b. w) (weight_in p I n) o xs k x h ∙ ap (λ z. weight_of_rows p I n o (rows_view (take k xs)) + weight_of_initials p I n o (exprs_view z.values)) (sym e)
+
+    rows_bits : bits_of_rows p I n o (rows_view (take (k + 1) xs)) ≡ bits_of_rows p I n o (rows_view (take k xs)) + bits_of_initials p I n o (exprs_view x.values)
+    rows_bits = rows_more p (λ w b. b) (bits_in p n) o xs k x h ∙ ap (λ z. bits_of_rows p I n o (rows_view (take k xs)) + bits_of_initials p I n o (exprs_view z.values)) (sym e)
+
+    rows_weight_within : weight_of_rows p I n o (rows_view (take (k + 1) xs)) ≤ weight_of_rows p I n o (rows_view xs)
+    rows_weight_within = rows_within p (λ w b. w) (weight_in p I n) o xs (k + 1)
+
+    rows_bits_within : bits_of_rows p I n o (rows_view (take (k + 1) xs)) ≤ bits_of_rows p I n o (rows_view xs)
+    rows_bits_within = rows_within p (λ w b. b) (bits_in p n) o xs (k + 1)
+
+    -- a row weighs no more than all
+    pub rows_part : weight_of_initials p I n o (exprs_view x.values) ≤ weight_of_rows p I n o (rows_view xs)
+    rows_part = omega (arith, rows_weight, rows_weight_within)
+
+    pub rows_next : {s m : Sym} → RowsReady p I n o s (rows_view xs) → RowsDo p I n at o (rows_view (take k xs)) s m → InitialsReady p I n o m (exprs_view x.values)
+    rows_next r y = record {
+      fits = y.fits;
+      types = subst (λ z. IsTrue (list_all (is_typed p) (exps_in (exprs_view z.values)))) (sym e) (row_typed (is_typed p) xs k x h r.types);
+      values = subst (λ z. IsTrue (list_all has_value (exps_in (exprs_view z.values)))) (sym e) (row_valued (columns_of_object p o) xs k x h r.values);
+      room = omega (arith, (longer_by y.added).1, rows_weight, rows_bits, rows_weight_within, rows_bits_within, r.room);
+    }
+
+    pub rows_on : {s m t : Sym} (i : ℕ) → i ≡ k * columns_of_object p o → RowsDo p I n at o (rows_view (take k xs)) s m → InitialsDo p I n at o i (exprs_view x.values) m t → RowsDo p I n at o (rows_view (take (k + 1) xs)) s t
+    rows_on i ei y z =
+        follows_as p (Duties p I)
+        (follows_then p (Duties p I) (weight_of_rows p I n o (rows_view (take (k + 1) xs))) (bits_of_rows p I n o (rows_view (take (k + 1) xs))) (λ v u. initials p (havoc p I) (calls p I n) at o i (exprs_view x.values)) y z
+        (λ v u q w. refl) (omega (arith, rows_weight)) (omega (arith, rows_bits)))
+        (λ v u q. q)
+        (λ v w.
+        ap₂ (λ j z. bind (row_initials p (havoc p I) (calls p I n) at o 0 (rows_view (take k xs)) w) (λ u. initials p (havoc p I) (calls p I n) at o j (exprs_view z.values))) ei e ∙ row_values_more p I (calls p I n) at o xs k x h w)
         (omega arith) (omega arith)
 
   -- ---- the initializer of a declared name
@@ -136,11 +176,11 @@ module _ (p : Program) (I : List Placed) (n : ℕ) where
 
   one_value : (ob : Option Object) (e : Exp) → IsTrue (init_fits ob (One e)) → IsTrue (has_value e)
   one_value None e h = neither h
-  one_value (Some ob) e h = (both (not ob.array) (has_value e) h).1
+  one_value (Some ob) e h = (both (not (is_array ob)) (has_value e) h).1
 
   many_values : (ob : Option Object) (es : Exps) → IsTrue (init_fits ob (Many es)) → IsTrue (list_all has_value (exps_in es))
   many_values None es h = neither h
-  many_values (Some ob) es h = (both (list_all has_value (exps_in es)) (nat_le (length (exps_in es)) ob.cells) (both ob.array (list_all has_value (exps_in es) && nat_le (length (exps_in es)) ob.cells) h).1).0
+  many_values (Some ob) es h = (both (list_all has_value (exps_in es)) (nat_le (length (exps_in es)) ob.cells) (both (is_array ob) (list_all has_value (exps_in es) && nat_le (length (exps_in es)) ob.cells) h).1).0
 
   pub one_ready : (o : ℕ) (e : Exp) {s : Sym} → InitialReady p I n o s (One e) → InitialsReady p I n o s (MoreExp e NoExp)
   one_ready o e r =
@@ -157,6 +197,18 @@ module _ (p : Program) (I : List Placed) (n : ℕ) where
 
   pub many_does : (at spot : Spot) (o : ℕ) (es : Exps) {s t : Sym} → InitialsDo p I n at o 0 es s t → InitialDoes p I n at spot o (Many es) s t
   many_does at spot o es x = follows_as p (Duties p I) x (λ v u q. q) (λ v w. refl) (omega arith) (omega arith)
+
+  row_values : (ob : Option Object) (rows : List Exps) → IsTrue (init_fits ob (Rows rows)) → IsTrue (list_all (row_fits (columns_in ob)) rows)
+  row_values None rows h = neither h
+  row_values (Some ob) rows h = (both (list_all (row_fits ob.columns) rows) (nat_le (length rows * ob.columns) ob.cells) (both (nat_eq ob.dims 2) (list_all (row_fits ob.columns) rows && nat_le (length rows * ob.columns) ob.cells) h).1).0
+
+  pub rows_ready : (o : ℕ) (rows : List Exps) {s : Sym} → InitialReady p I n o s (Rows rows) → RowsReady p I n o s rows
+  rows_ready o rows r =
+      let t = both (init_fits (slice_get p.objects o) (Rows rows)) (list_all (is_typed p) (flat_map exps_in rows)) r.types in
+      record { fits = r.fits; types = t.1; values = row_values (slice_get p.objects o) rows t.0; room = omega (arith, r.room) }
+
+  pub rows_do : (at spot : Spot) (o : ℕ) (rows : List Exps) {s t : Sym} → RowsDo p I n at o rows s t → InitialDoes p I n at spot o (Rows rows) s t
+  rows_do at spot o rows x = follows_as p (Duties p I) x (λ v u q. q) (λ v w. refl) (omega arith) (omega arith)
 
   -- ---- one declared name
   module _ (at spot : Spot) (o : ℕ) (i : Init) {s m : Sym} (r : NamesReady p I n s (MoreName spot o i NoName)) (k : ℕ) (ek : k ≡ size_of_object p o) (x : Became p 0 s m (λ v. declaring o k)) where

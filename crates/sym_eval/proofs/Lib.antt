@@ -12,5 +12,7 @@ mod Running
 mod Sequences
 mod Setting
 mod Stages
+mod Switchable
+mod Switched
 mod Turns
 mod Wholly

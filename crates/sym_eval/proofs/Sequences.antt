@@ -1,26 +1,27 @@
 -- Parts one after another: those before an index, and one more.
-use Rattle.std.proofs.Common.{◌≡◌, ℕ, zero, suc, ◌+◌, ◌≤◌, ◌<◌, Bool, true, false, ◌&&◌, ℤ, List, [], ◌∷◌, ◌++◌, length, take, drop, get_or, refl, sym, ◌∙◌, ap, subst, arith, IsTrue, Option, append-nil, slice_get}
+use Rattle.std.proofs.Common.{◌≡◌, ℕ, zero, suc, ◌+◌, ◌*◌, ◌≤◌, nat_le, ◌<◌, Bool, true, false, ◌&&◌, ℤ, List, [], ◌∷◌, ◌++◌, length, take, drop, get_or, refl, sym, ◌∙◌, ap, subst, arith, IsTrue, Option, append-nil, slice_get}
 use Rattle.std.proofs.Math.Seq.{take-suc}
 use Rattle.std.proofs.lemmas.List.{take-append-drop, length-take-le}
-use Rattle.std.specs.List.{list_all}
+use Rattle.std.specs.List.{list_all, flat_map}
 use Rattle.c_core.specs.Tree.{Program, Exp, Init, Names, NoName, MoreName, Stm}
 use Rattle.c_core.specs.Parts.{exps_in, fulls_of_init, fulls_of_names, every_statement, every_statement_of}
 use Rattle.c_core.specs.Types.{fit}
-use Rattle.c_core.specs.Typing.{is_typed, init_fits, declarators_fit}
-use Rattle.c_core.specs.View.{expr_view, exprs_view, init_view, names_view, stmt_view, stmts_view}
+use Rattle.c_core.specs.Typing.{is_typed, has_value, row_fits, init_fits, declarators_fit}
+use Rattle.c_core.specs.View.{expr_view, exprs_view, init_view, names_view, rows_view, stmt_view, stmts_view}
 use Rattle.c_core.specs.declared.number.IntType.{IntType}
 use Rattle.c_core.specs.declared.number.Spot.{Spot}
 use Rattle.c_core.specs.declared.tree.Declared.{Declared}
 use Rattle.c_core.specs.declared.tree.Expr.{Expr}
+use Rattle.c_core.specs.declared.tree.Row.{Row}
 use Rattle.c_core.specs.declared.tree.Stmt.{Stmt}
 use Rattle.c_meaning.specs.Acts.{Res, Go, Stop, Flow, Next, Broken, Again, Gave, bind, go_on}
 use Rattle.c_meaning.specs.Acts as acts
 use Rattle.c_meaning.specs.Cells.{cells_from, put}
 use Rattle.c_meaning.specs.Duties.{Placed}
-use Rattle.c_meaning.specs.Exec.{full, declare, initial, initials, exec, execs}
+use Rattle.c_meaning.specs.Exec.{full, declare, initial, initials, row_initials, exec, execs}
 use Rattle.c_meaning.specs.Havoc.{Stopped, Left, cells_left, with_cells_left, havoc}
 use Rattle.c_meaning.specs.Meaning.{Calls, ACell, Used}
-use Rattle.c_meaning.specs.Objects.{size_of_object, type_of_object}
+use Rattle.c_meaning.specs.Objects.{size_of_object, columns_of_object, type_of_object}
 use Rattle.c_meaning.proofs.TypeFacts.{both, of_both}
 use Rattle.sym_flow.proofs.Declares.{no_ticks}
 use Rattle.sym_flow.proofs.Draws.{after_both}
@@ -92,6 +93,18 @@ module _ (p : Program) (part : ℕ → ℕ → ℕ) (body : ℕ → ℕ) where
     pub initials_within : (xs : List Expr) (k : ℕ) → sum.initials p S o (exprs_view (take k xs)) ≤ sum.initials p S o (exprs_view xs)
     initials_within xs k = omega (arith, ap (λ z. sum.initials p S o (exprs_view z)) (take-append-drop k xs), initials_append (take k xs) (drop k xs))
 
+  -- ---- rows of an initializer
+  module _ (o : ℕ) where
+    rows_append : (xs ys : List Row) → sum.row_initials p S o (rows_view (xs ++ ys)) ≡ sum.row_initials p S o (rows_view xs) + sum.row_initials p S o (rows_view ys)
+    rows_append [] ys = omega arith
+    rows_append (x ∷ xs) ys = omega (arith, rows_append xs ys)
+
+    pub rows_more : (xs : List Row) (k : ℕ) (d : Row) → k < length xs → sum.row_initials p S o (rows_view (take (k + 1) xs)) ≡ sum.row_initials p S o (rows_view (take k xs)) + sum.initials p S o (exprs_view (get_or xs k d).values)
+    rows_more xs k d h = omega (arith, ap (λ z. sum.row_initials p S o (rows_view z)) (front_more xs k d h), rows_append (take k xs) (get_or xs k d ∷ []))
+
+    pub rows_within : (xs : List Row) (k : ℕ) → sum.row_initials p S o (rows_view (take k xs)) ≤ sum.row_initials p S o (rows_view xs)
+    rows_within xs k = omega (arith, ap (λ z. sum.row_initials p S o (rows_view z)) (take-append-drop k xs), rows_append (take k xs) (drop k xs))
+
 -- ---- typed parts at an index
 pub statement_typed : (q : Stm → Bool) (xs : List Stmt) (k : ℕ) (d : Stmt) → k < length xs → IsTrue (every_statement_of q (stmts_view xs)) → IsTrue (every_statement q (stmt_view (get_or xs k d)))
 statement_typed q [] k d h t = absurd (omega (arith, h))
@@ -121,6 +134,20 @@ pub value_typed : (q : Exp → Bool) (xs : List Expr) (k : ℕ) (d : Expr) → k
 value_typed q [] k d h t = absurd (omega (arith, h))
 value_typed q (x ∷ xs) zero d h t = yes_and (q (expr_view x)) true (both (q (expr_view x)) (list_all q (exps_in (exprs_view xs))) t).0 refl
 value_typed q (x ∷ xs) (suc k) d h t = value_typed q xs k d (omega (arith, h)) (both (q (expr_view x)) (list_all q (exps_in (exprs_view xs))) t).1
+
+-- a test of each value of rows holds of a row's
+pub row_typed : (q : Exp → Bool) (xs : List Row) (k : ℕ) (d : Row) → k < length xs → IsTrue (list_all q (flat_map exps_in (rows_view xs))) → IsTrue (list_all q (exps_in (exprs_view (get_or xs k d).values)))
+row_typed q [] k d h t = absurd (omega (arith, h))
+row_typed q (x ∷ xs) zero d h t = (of_both q (exps_in (exprs_view x.values)) (flat_map exps_in (rows_view xs)) t).0
+row_typed q (x ∷ xs) (suc k) d h t = row_typed q xs k d (omega (arith, h)) (of_both q (exps_in (exprs_view x.values)) (flat_map exps_in (rows_view xs)) t).1
+
+-- each row has values
+pub row_valued : (c : ℕ) (xs : List Row) (k : ℕ) (d : Row) → k < length xs → IsTrue (list_all (row_fits c) (rows_view xs)) → IsTrue (list_all has_value (exps_in (exprs_view (get_or xs k d).values)))
+row_valued c [] k d h t = absurd (omega (arith, h))
+row_valued c (x ∷ xs) zero d h t =
+    let es = exps_in (exprs_view x.values) in
+    (both (list_all has_value es) (nat_le (length es) c) (both (row_fits c (exprs_view x.values)) (list_all (row_fits c) (rows_view xs)) t).0).0
+row_valued c (x ∷ xs) (suc k) d h t = row_valued c xs k d (omega (arith, h)) (both (row_fits c (exprs_view x.values)) (list_all (row_fits c) (rows_view xs)) t).1
 
 -- ---- what they do
 module _ (p : Program) (I : List Placed) (call : Calls (havoc p I)) where
@@ -173,9 +200,35 @@ module _ (p : Program) (I : List Placed) (call : Calls (havoc p I)) where
       let last : ℕ → Left → Res Stopped Left (Unit {0}) = λ j. initials p (havoc p I) call at o j (exprs_view (x ∷ [])) in
       ap (bind r) (λ j z t. initials_snoc at o (suc i) ys x (with_value o i z t) j) ∙ after_both p r front (λ u. last (suc i + length ys)) ∙ ap (λ j. bind (bind r front) (λ u. last j)) e
 
-  pub values_more : (at : Spot) (o : ℕ) (xs : List Expr) (k : ℕ) (d : Expr) → k < length xs → (s : Left)
-      → bind (initials p (havoc p I) call at o 0 (exprs_view (take k xs)) s) (λ u. initials p (havoc p I) call at o k (exprs_view (get_or xs k d ∷ []))) ≡ initials p (havoc p I) call at o 0 (exprs_view (take (k + 1) xs)) s
-  values_more at o xs k d h s =
-      let e : k ≡ 0 + length (take k xs) = omega (arith, length-take-le k xs (omega (arith, h))) in
-      ap (λ j. bind (initials p (havoc p I) call at o 0 (exprs_view (take k xs)) s) (λ u. initials p (havoc p I) call at o j (exprs_view (get_or xs k d ∷ [])))) e ∙ sym (initials_snoc at o 0 (take k xs) (get_or xs k d) s)
-      ∙ ap (λ z. initials p (havoc p I) call at o 0 (exprs_view z) s) (sym (front_more xs k d h))
+  pub values_more : (at : Spot) (o i : ℕ) (xs : List Expr) (k : ℕ) (d : Expr) → k < length xs → (s : Left)
+      → bind (initials p (havoc p I) call at o i (exprs_view (take k xs)) s) (λ u. initials p (havoc p I) call at o (i + k) (exprs_view (get_or xs k d ∷ []))) ≡ initials p (havoc p I) call at o i (exprs_view (take (k + 1) xs)) s
+  values_more at o i xs k d h s =
+      let e : i + k ≡ i + length (take k xs) = omega (arith, length-take-le k xs (omega (arith, h))) in
+      ap (λ j. bind (initials p (havoc p I) call at o i (exprs_view (take k xs)) s) (λ u. initials p (havoc p I) call at o j (exprs_view (get_or xs k d ∷ [])))) e ∙ sym (initials_snoc at o i (take k xs) (get_or xs k d) s)
+      ∙ ap (λ z. initials p (havoc p I) call at o i (exprs_view z) s) (sym (front_more xs k d h))
+
+  -- rows one after another, each from its own cell on
+  units_end : (r : Res Stopped Left (Unit {0})) → bind r (λ u s. Go tt s) ≡ r
+  units_end (Go u s) = refl
+  units_end (Stop e s) = refl
+
+  rows_snoc : (at : Spot) (o i : ℕ) (xs : List Row) (x : Row) (s : Left) → row_initials p (havoc p I) call at o i (rows_view (xs ++ x ∷ [])) s
+      ≡ bind (row_initials p (havoc p I) call at o i (rows_view xs) s) (λ u. initials p (havoc p I) call at o (i + length xs * columns_of_object p o) (exprs_view x.values))
+  rows_snoc at o i [] x s =
+      let e : i ≡ i + 0 * columns_of_object p o = omega arith in
+      units_end (initials p (havoc p I) call at o i (exprs_view x.values) s) ∙ ap (λ j. initials p (havoc p I) call at o j (exprs_view x.values) s) e
+  rows_snoc at o i (y ∷ ys) x s =
+      let c = columns_of_object p o in
+      let e : i + c + length ys * c ≡ i + suc (length ys) * c = omega arith in
+      let r = initials p (havoc p I) call at o i (exprs_view y.values) s in
+      let front : Unit {0} → Left → Res Stopped Left (Unit {0}) = λ u t. row_initials p (havoc p I) call at o (i + c) (rows_view ys) t in
+      let last : ℕ → Left → Res Stopped Left (Unit {0}) = λ j. initials p (havoc p I) call at o j (exprs_view x.values) in
+      ap (bind r) (λ j u t. rows_snoc at o (i + c) ys x t j) ∙ after_both p r front (λ u. last (i + c + length ys * c)) ∙ ap (λ j. bind (bind r front) (λ u. last j)) e
+
+  pub row_values_more : (at : Spot) (o : ℕ) (xs : List Row) (k : ℕ) (d : Row) → k < length xs → (s : Left)
+      → bind (row_initials p (havoc p I) call at o 0 (rows_view (take k xs)) s) (λ u. initials p (havoc p I) call at o (k * columns_of_object p o) (exprs_view (get_or xs k d).values))
+      ≡ row_initials p (havoc p I) call at o 0 (rows_view (take (k + 1) xs)) s
+  row_values_more at o xs k d h s =
+      let e : k * columns_of_object p o ≡ 0 + length (take k xs) * columns_of_object p o = ap (λ j. j * columns_of_object p o) (sym (length-take-le k xs (omega (arith, h)))) ∙ (let f : length (take k xs) * columns_of_object p o ≡ 0 + length (take k xs) * columns_of_object p o = omega arith in f) in
+      ap (λ j. bind (row_initials p (havoc p I) call at o 0 (rows_view (take k xs)) s) (λ u. initials p (havoc p I) call at o j (exprs_view (get_or xs k d).values))) e ∙ sym (rows_snoc at o 0 (take k xs) (get_or xs k d) s)
+      ∙ ap (λ z. row_initials p (havoc p I) call at o 0 (rows_view z) s) (sym (front_more xs k d h))

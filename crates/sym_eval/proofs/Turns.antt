@@ -42,7 +42,7 @@ use Rattle.sym_eval.specs.Looping.{turn_glue, loop_glue, turn_fits, changed_bits
 use Rattle.sym_eval.proofs.Deciding.{at_once}
 
 -- what a call made of a state, told otherwise
-became_as : {p : Program} {i : ℕ} {a b : Sym} {f : (ℕ → Bool) → Stand → Stand} (g : (ℕ → Bool) → Stand → Stand) → Became p i a b f → ((v : ℕ → Bool) (s : Stand) → f v s ≡ g v s) → Became p i a b g
+pub became_as : {p : Program} {i : ℕ} {a b : Sym} {f : (ℕ → Bool) → Stand → Stand} (g : (ℕ → Bool) → Stand → Stand) → Became p i a b f → ((v : ℕ → Bool) (s : Stand) → f v s ≡ g v s) → Became p i a b g
 became_as {p} {a = a} g x e = record { fits = x.fits; added = x.added; result = x.result; is = λ v. x.is v ∙ e v (stand p v a) }
 
 both_true : (a b : Bool) → IsTrue a → IsTrue b → IsTrue (a && b)
@@ -89,7 +89,7 @@ module _ (p : Program) (I : List Placed) (n : ℕ) (gives : Option IntType) wher
     pub stays_in : IsIn c.net kept
     stays_in = subst (IsIn c.net) (sym e) (in_added y.added bit (in_added x.added bit h))
 
-    kept_holds : (v : ℕ → Bool) → holds v c.net kept ≡ holds v a.net bit
+    pub kept_holds : (v : ℕ → Bool) → holds v c.net kept ≡ holds v a.net bit
     kept_holds v = ap (holds v c.net) e ∙ holds_added y.added v bit (in_added x.added bit h) ∙ holds_added x.added v bit h
 
   -- ---- a loop's body

@@ -3,20 +3,20 @@
 -- For each form one function; its contract is that of the whole: what `exec p (havoc p I)` does to each run that is here, no more
 -- and-nodes than the statement weighs, no more inputs than it draws.
 use Rattle.std.specs.Prelude.{◌≡◌, ℕ, ◌+◌, ◌<◌, ◌^◌, ◌&&◌, not, length, List, Option, IsTrue, slice_get}
-use Rattle.std.specs.List.{list_all}
+use Rattle.std.specs.List.{list_all, flat_map}
 use Rattle.c_core.specs.Tree.{Program, Exp, Exps, Init, Names, First, Stm, Stmt, Form, Else, Stms}
 use Rattle.c_core.specs.Parts.{exps_in, fulls_of_init, fulls_of_names, fulls_of_first, every_statement, every_statement_else, every_statement_of}
 use Rattle.c_core.specs.Types.{is_zero}
-use Rattle.c_core.specs.Typing.{is_typed, init_fits, declarators_fit, first_fits, has_value, statement_fits}
+use Rattle.c_core.specs.Typing.{is_typed, row_fits, init_fits, declarators_fit, first_fits, has_value, statement_fits}
 use Rattle.c_core.specs.declared.number.IntType.{IntType}
 use Rattle.c_core.specs.declared.number.Spot.{Spot}
 use Rattle.c_meaning.specs.Acts.{Go, Next, bind, scoped}
 use Rattle.c_meaning.specs.Duties.{Placed, Duties}
-use Rattle.c_meaning.specs.Exec.{full, first, declare, initials, initial, exec, form, otherwise, execs}
+use Rattle.c_meaning.specs.Exec.{full, first, declare, initials, row_initials, initial, exec, form, otherwise, execs}
 use Rattle.c_meaning.specs.Fitting.{calls_in}
 use Rattle.c_meaning.specs.Havoc.{Stopped, Left, cells_left, with_cells_left, havoc}
 use Rattle.c_meaning.specs.Meaning.{Used, Calls}
-use Rattle.c_meaning.specs.Objects.{type_or_int}
+use Rattle.c_meaning.specs.Objects.{type_or_int, columns_of_object}
 use Rattle.circuits.specs.declared.net.Bit.{Bit}
 use Rattle.circuits.specs.Net.{holds, IsIn}
 use Rattle.sym_state.specs.declared.state.Sym.{Sym}
@@ -72,6 +72,22 @@ module _ (p : Program) (I : List Placed) (n : ℕ) where
   -- from an index on
   abbrev pub InitialsDo : Spot → ℕ → ℕ → Exps → Sym → Sym → Type 0
   InitialsDo at o i es old new = Follows (Duties p I) p (weight_of_initials o es) (bits_of_initials o es) old new (λ v u. Unit {0}) (λ v. initials p (havoc p I) calls at o i es)
+
+  abbrev pub weight_of_rows : ℕ → List Exps → ℕ
+  weight_of_rows o rows = sum.row_initials p (weighing (weight_in p I n)) o rows
+
+  abbrev pub bits_of_rows : ℕ → List Exps → ℕ
+  bits_of_rows o rows = sum.row_initials p (drawing (bits_in p n)) o rows
+
+  -- the rows of an object's initializer can be stored from a state
+  pub record RowsReady (o : ℕ) (s : Sym) (rows : List Exps) : Type 0 where
+    pub fits : IsState p s
+    pub types : IsTrue (list_all (is_typed p) (flat_map exps_in rows))
+    pub values : IsTrue (list_all (row_fits (columns_of_object p o)) rows)
+    pub room : length s.net + (weight_of_rows o rows + bits_of_rows o rows) < 2 ^ 27
+
+  abbrev pub RowsDo : Spot → ℕ → List Exps → Sym → Sym → Type 0
+  RowsDo at o rows old new = Follows (Duties p I) p (weight_of_rows o rows) (bits_of_rows o rows) old new (λ v u. Unit {0}) (λ v. row_initials p (havoc p I) calls at o 0 rows)
 
   abbrev pub weight_of_initial : ℕ → Init → ℕ
   weight_of_initial o i = sum.initialised p (weighing (weight_in p I n)) o i

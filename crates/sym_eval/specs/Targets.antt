@@ -1,6 +1,6 @@
 -- Targets of assignments and steps that were found: the cell that is meant under each input.
 use Rattle.std.specs.Prelude.{◌≡◌, ℕ, List}
-use Rattle.c_core.specs.Tree.{Program, Exp, Expr, Node, Var, Index}
+use Rattle.c_core.specs.Tree.{Program, Exp, Expr, Node, Var, Index, Exps, NoExp, MoreExp}
 use Rattle.c_core.specs.declared.number.IntType.{IntType}
 use Rattle.c_meaning.specs.Duties.{Placed}
 use Rattle.c_meaning.specs.Objects.{type_of, type_of_object}
@@ -9,7 +9,7 @@ use Rattle.sym_state.specs.declared.state.Sym.{Sym}
 use Rattle.sym_state.specs.declared.state.Around.{Around}
 use Rattle.sym_state.specs.Places.{key}
 use Rattle.sym_values.specs.Storing.{stored_cost as stored_in_scalar}
-use Rattle.sym_elements.specs.Elements.{key_at, ArePlaces, found_cost, read_cost, stored_cost}
+use Rattle.sym_elements.specs.Elements.{key_at, ArePlaces, found_cost, found_row_cost, read_cost, stored_cost}
 use Rattle.sym_exprs.specs.Targeting.{Keys, Targets}
 use Rattle.sym_eval.specs.declared.targets.Target.{Target}
 use Rattle.sym_eval.specs.declared.targets.Target.TheVariants.{Scalar, Element}
@@ -27,7 +27,7 @@ keys_of (Element o places) net v = key_at o v net places.bits
 -- an expression means it
 abbrev pub IsMeant : Node → Target → Type 0
 IsMeant node (Scalar o) = node ≡ Var o
-IsMeant node (Element o places) = (i : Exp) × (node ≡ Index o i)
+IsMeant node (Element o places) = (is : Exps) × (node ≡ Index o is)
 
 abbrev pub node_of : Exp → Node
 node_of (Expr spot ty node) = node
@@ -38,9 +38,14 @@ module _ (p : Program) where
   IsTarget s (Scalar o) = Unit {0}
   IsTarget s (Element o places) = ArePlaces p s o places
 
-  -- and-nodes of the places of an element
+  -- and-nodes of the places of an element, by its indexes
+  abbrev pub finding_by : ℕ → Exps → ℕ
+  finding_by o (MoreExp i NoExp) = found_cost p (type_of i) o
+  finding_by o (MoreExp i (MoreExp j NoExp)) = found_row_cost p (type_of i) (type_of j) o
+  finding_by o _ = 0
+
   abbrev pub finding_in : Node → ℕ
-  finding_in (Index o i) = found_cost p (type_of i) o
+  finding_in (Index o is) = finding_by o is
   finding_in _ = 0
 
   -- and-nodes of a target, besides its weight

@@ -1,7 +1,7 @@
 // Assignments and steps: the target comes first, then what it holds, the right side, the operator and the store.
 ghost use Rattle.std.specs.Prelude.{◌≡◌, IfOk, None, Some, cond};
 ghost use Rattle.c_core.specs.Tree as t;
-ghost use Rattle.c_core.specs.View.{expr_view};
+ghost use Rattle.c_core.specs.View.{expr_view, exprs_view};
 ghost use Rattle.c_meaning.specs.Meaning.{Used};
 ghost use Rattle.sym_exprs.specs.Evaluating.{Ready, Values};
 ghost use Rattle.sym_exprs.specs.Targeting.{TargetReady};
@@ -13,7 +13,7 @@ use crate::targets::{Target, look_target, store_target};
 use c_core::{BinOp, Expr, IntType, Node, StepOp, op_of_step, type_for};
 use c_meaning::type_of;
 use circuits::{Bits, const_bits};
-use sym_elements::find;
+use sym_elements::{find, find_in_row};
 use sym_exprs::is_prefix;
 use sym_invariants::Walk;
 use sym_state::{Around, Sym};
@@ -35,14 +35,78 @@ fn target(
 {
     match &e.node {
         Node::Var(object) => Ok(Target::Scalar(*object)),
-        Node::Index { object, at: index } => {
-            let i = eval(walk, sym, depth, at, true, index)?;
-            let places = find(walk.alloc, walk.program, sym, *object, type_of(index), &i)?;
-            Ok(Target::Element(*object, places))
-        }
+        Node::Index {
+            object,
+            at: indexes,
+        } => indexed(walk, sym, depth, at, e, *object, indexes.as_slice()),
         // a checked program assigns to nothing else (ISO C11 6.3.2.1)
         _ => Err(OutOfMemory),
     }
+}
+
+/// The cell of an element, at its place.
+#[cycle(walk)]
+pub fn indexed(
+    walk: &Walk,
+    sym: &mut Sym,
+    depth: u32,
+    at: Around,
+    e: &Expr,
+    object: u32,
+    indexes: &[Expr],
+) -> Result<Target, OutOfMemory>
+    requires walk { IsWalk walk.now }
+    requires ready { TargetReady (program_of walk.now) (invariants_of walk.now) depth at (finding (program_of walk.now) (t.Expr e.now.spot e.now.ty (t.Index object (exprs_view indexes.now)))) sym.old (t.Expr e.now.spot e.now.ty (t.Index object (exprs_view indexes.now))) }
+    ensures { IfOk result (λ cell. Found (program_of walk.now) (invariants_of walk.now) depth at (t.Expr e.now.spot e.now.ty (t.Index object (exprs_view indexes.now))) sym.old sym.new cell) }
+{
+    match indexes {
+        [index] => at_index(walk, sym, depth, at, e, object, index),
+        [row, column] => at_row(walk, sym, depth, at, e, object, row, column),
+        // no array has another number of dimensions
+        _ => Err(OutOfMemory),
+    }
+}
+
+#[cycle(walk)]
+fn at_index(
+    walk: &Walk,
+    sym: &mut Sym,
+    depth: u32,
+    at: Around,
+    e: &Expr,
+    object: u32,
+    index: &Expr,
+) -> Result<Target, OutOfMemory>
+    requires walk { IsWalk walk.now }
+    requires ready { TargetReady (program_of walk.now) (invariants_of walk.now) depth at (finding (program_of walk.now) (t.Expr e.now.spot e.now.ty (t.Index object (t.MoreExp (expr_view index.now) t.NoExp)))) sym.old (t.Expr e.now.spot e.now.ty (t.Index object (t.MoreExp (expr_view index.now) t.NoExp))) }
+    ensures { IfOk result (λ cell. Found (program_of walk.now) (invariants_of walk.now) depth at (t.Expr e.now.spot e.now.ty (t.Index object (t.MoreExp (expr_view index.now) t.NoExp))) sym.old sym.new cell) }
+{
+    let i = eval(walk, sym, depth, at, true, index)?;
+    let places = find(walk.alloc, walk.program, sym, object, type_of(index), &i)?;
+    Ok(Target::Element(object, places))
+}
+
+// Both indexes are evaluated before the first is tested.
+#[cycle(walk)]
+fn at_row(
+    walk: &Walk,
+    sym: &mut Sym,
+    depth: u32,
+    at: Around,
+    e: &Expr,
+    object: u32,
+    row: &Expr,
+    column: &Expr,
+) -> Result<Target, OutOfMemory>
+    requires walk { IsWalk walk.now }
+    requires ready { TargetReady (program_of walk.now) (invariants_of walk.now) depth at (finding (program_of walk.now) (t.Expr e.now.spot e.now.ty (t.Index object (t.MoreExp (expr_view row.now) (t.MoreExp (expr_view column.now) t.NoExp))))) sym.old (t.Expr e.now.spot e.now.ty (t.Index object (t.MoreExp (expr_view row.now) (t.MoreExp (expr_view column.now) t.NoExp)))) }
+    ensures { IfOk result (λ cell. Found (program_of walk.now) (invariants_of walk.now) depth at (t.Expr e.now.spot e.now.ty (t.Index object (t.MoreExp (expr_view row.now) (t.MoreExp (expr_view column.now) t.NoExp)))) sym.old sym.new cell) }
+{
+    let i = eval(walk, sym, depth, at, true, row)?;
+    let j = eval(walk, sym, depth, at, true, column)?;
+    let (a, b) = (type_of(row), type_of(column));
+    let places = find_in_row(walk.alloc, walk.program, sym, object, a, &i, b, &j)?;
+    Ok(Target::Element(object, places))
 }
 
 /// An assignment; its value is that of the target behind it (ISO C11 6.5.16).

@@ -1,13 +1,14 @@
 // Declared names and their initializers.
-ghost use Rattle.std.specs.Prelude.{IfOk};
+ghost use Rattle.std.specs.Prelude.{◌≡◌, ◌*◌, IfOk};
 ghost use Rattle.c_core.specs.Tree as t;
-ghost use Rattle.c_core.specs.View.{expr_view, exprs_view, first_view, init_view, names_view};
+ghost use Rattle.c_core.specs.View.{expr_view, exprs_view, first_view, init_view, names_view, rows_view};
 ghost use Rattle.sym_invariants.specs.Walking.{program_of, invariants_of, IsWalk};
-ghost use Rattle.sym_eval.specs.Doing.{InitialsReady, InitialsDo, InitialReady, InitialDoes, NamesReady, NamesDo, FirstReady, FirstDoes};
+ghost use Rattle.sym_eval.specs.Doing.{InitialsReady, InitialsDo, RowsReady, RowsDo, InitialReady, InitialDoes, NamesReady, NamesDo, FirstReady, FirstDoes};
 
 use crate::control::full;
-use c_core::{Declared, Expr, First, Init, Spot};
+use c_core::{Declared, Expr, First, Init, Row, Spot};
 use c_meaning::{DrawKind, size_of_object, type_of, type_of_object};
+use sym_elements::columns_of_object;
 use sym_flow::{declare, draw_cells};
 use sym_invariants::Walk;
 use sym_state::{Sym, write};
@@ -37,7 +38,7 @@ fn initial_value(
     Ok(())
 }
 
-// The values of an initializer, one after another.
+// The values of an initializer from a cell on, one after another.
 #[cycle(walk)]
 fn initial_values(
     walk: &Walk,
@@ -45,18 +46,55 @@ fn initial_values(
     depth: u32,
     at: Spot,
     object: u32,
+    first: u32,
     es: &[Expr],
 ) -> Result<(), OutOfMemory>
     requires walk { IsWalk walk.now }
     requires ready { InitialsReady (program_of walk.now) (invariants_of walk.now) depth object sym.old (exprs_view es.now) }
-    ensures { IfOk result (λ r. InitialsDo (program_of walk.now) (invariants_of walk.now) depth at object 0 (exprs_view es.now) sym.old sym.new) }
+    ensures { IfOk result (λ r. InitialsDo (program_of walk.now) (invariants_of walk.now) depth at object first (exprs_view es.now) sym.old sym.new) }
 {
     for (index, e) in es.iter().enumerate() {
         // cells are numbered by 32 bits
-        if index > u32::MAX as usize {
+        if index > (u32::MAX - first) as usize {
             return Err(OutOfMemory);
         }
-        initial_value(walk, sym, depth, at, object, index as u32, e)?;
+        initial_value(walk, sym, depth, at, object, first + index as u32, e)?;
+    }
+    Ok(())
+}
+
+// The first cell of a row; cells are numbered by 32 bits.
+fn first_of_row(row: usize, columns: u32) -> Result<u32, OutOfMemory>
+    ensures { IfOk result (λ r. r ≡ row * columns) }
+{
+    if row > u32::MAX as usize {
+        return Err(OutOfMemory);
+    }
+    let first = row as u64 * u64::from(columns);
+    if first > u64::from(u32::MAX) {
+        return Err(OutOfMemory);
+    }
+    Ok(first as u32)
+}
+
+// The rows of an initializer, each from its own first cell on.
+#[cycle(walk)]
+fn initial_rows(
+    walk: &Walk,
+    sym: &mut Sym,
+    depth: u32,
+    at: Spot,
+    object: u32,
+    rows: &[Row],
+) -> Result<(), OutOfMemory>
+    requires walk { IsWalk walk.now }
+    requires ready { RowsReady (program_of walk.now) (invariants_of walk.now) depth object sym.old (rows_view rows.now) }
+    ensures { IfOk result (λ r. RowsDo (program_of walk.now) (invariants_of walk.now) depth at object (rows_view rows.now) sym.old sym.new) }
+{
+    let columns = columns_of_object(walk.program, object);
+    for (index, row) in rows.iter().enumerate() {
+        let first = first_of_row(index, columns)?;
+        initial_values(walk, sym, depth, at, object, first, row.values.as_slice())?;
     }
     Ok(())
 }
@@ -86,7 +124,11 @@ fn initial(
             Ok(())
         }
         Init::Many(es) => {
-            initial_values(walk, sym, depth, at, object, es.as_slice())?;
+            initial_values(walk, sym, depth, at, object, 0, es.as_slice())?;
+            Ok(())
+        }
+        Init::Rows(rows) => {
+            initial_rows(walk, sym, depth, at, object, rows.as_slice())?;
             Ok(())
         }
     }

@@ -7,12 +7,12 @@ ghost use Rattle.c_meaning.specs.Meaning.{Used};
 ghost use Rattle.sym_exprs.specs.Evaluating.{use_of, Ready, Values, ReadyWhere, ValuesWhere};
 ghost use Rattle.sym_invariants.specs.Walking.{program_of, invariants_of, IsWalk};
 
-use crate::assignments::{assign, step};
+use crate::assignments::{assign, indexed, step};
 use crate::calls::call_defined;
+use crate::targets::look_target;
 use c_core::{BinOp, Callee, Expr, IntType, Node, Spot, UnOp};
 use c_meaning::type_of;
 use circuits::{Bit, Bits, const_bits, not};
-use sym_elements::{find, read_element};
 use sym_exprs::kept_if;
 use sym_invariants::Walk;
 use sym_state::{Around, Sym, join, look, narrow};
@@ -36,7 +36,10 @@ pub fn eval(
     match &e.node {
         Node::Const(value) => constant(walk, sym, depth, at, e, *value),
         Node::Var(object) => scalar(walk, sym, depth, at, e, *object),
-        Node::Index { object, at: i } => element(walk, sym, depth, at, e, *object, i),
+        Node::Index {
+            object,
+            at: indexes,
+        } => element(walk, sym, depth, at, e, *object, indexes.as_slice()),
         Node::Unary { op, of } => unary(walk, sym, depth, at, e, *op, of),
         Node::Cast(of) => cast(walk, sym, depth, at, e, of),
         Node::Step { op, target } => step(walk, sym, depth, at, e, *op, target),
@@ -108,15 +111,14 @@ fn element(
     at: Around,
     e: &Expr,
     object: u32,
-    index: &Expr,
+    indexes: &[Expr],
 ) -> Result<Bits, OutOfMemory>
     requires walk { IsWalk walk.now }
-    requires ready { Ready (program_of walk.now) (invariants_of walk.now) depth at sym.old (t.Expr e.now.spot e.now.ty (t.Index object (expr_view index.now))) }
-    ensures { IfOk result (λ r. Values (program_of walk.now) (invariants_of walk.now) depth at Used (t.Expr e.now.spot e.now.ty (t.Index object (expr_view index.now))) sym.old sym.new r.bits) }
+    requires ready { Ready (program_of walk.now) (invariants_of walk.now) depth at sym.old (t.Expr e.now.spot e.now.ty (t.Index object (exprs_view indexes.now))) }
+    ensures { IfOk result (λ r. Values (program_of walk.now) (invariants_of walk.now) depth at Used (t.Expr e.now.spot e.now.ty (t.Index object (exprs_view indexes.now))) sym.old sym.new r.bits) }
 {
-    let i = eval(walk, sym, depth, at, true, index)?;
-    let places = find(walk.alloc, walk.program, sym, object, type_of(index), &i)?;
-    let r = read_element(walk.alloc, walk.program, sym, object, type_of(e), &places)?;
+    let cell = indexed(walk, sym, depth, at, e, object, indexes)?;
+    let r = look_target(walk.alloc, walk.program, sym, &cell, type_of(e))?;
     Ok(r)
 }
 

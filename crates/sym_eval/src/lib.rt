@@ -11,6 +11,7 @@ mod loops;
 mod parameters;
 mod programs;
 mod statements;
+mod switches;
 mod targets;
 
 pub use programs::obligations;

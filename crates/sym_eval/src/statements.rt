@@ -9,6 +9,7 @@ ghost use Rattle.sym_eval.specs.Doing.{Ready, Does, ScopeDoes, FormReady, FormDo
 use crate::control::{decided, full};
 use crate::declarations::declare_names;
 use crate::loops::one_loop;
+use crate::switches::switch;
 use c_core::{Expr, Form, IntType, Spot, Stmt};
 use c_meaning::{DutyKind, type_of};
 use circuits::not;
@@ -94,6 +95,10 @@ pub fn form(
         }
         Form::For { .. } => {
             one_loop(walk, sym, depth, gives, at, f)?;
+            Ok(())
+        }
+        Form::Switch { test, arms } => {
+            switch(walk, sym, depth, gives, at, test, arms.as_slice())?;
             Ok(())
         }
     }
@@ -186,9 +191,9 @@ fn give_back(
     }
 }
 
-// The statements of a block, one after another.
+/// The statements of a block, one after another.
 #[cycle(walk)]
-fn execs(
+pub fn execs(
     walk: &Walk,
     sym: &mut Sym,
     depth: u32,

@@ -1,10 +1,10 @@
 -- Expressions, form by form: what the calls of the code promise of the parts, put together, is what is promised of the whole.
 use Rattle.std.proofs.Common.{◌≡◌, ℕ, ◌+◌, ◌≤◌, ◌<◌, ◌^◌, Bool, true, false, not, ◌&&◌, ℤ, List, length, refl, sym, ◌∙◌, ap, ap₂, subst, arith, Option, Some, None, IsTrue, is_some, slice_get}
-use Rattle.c_core.specs.Tree.{Program, Exp, Expr, Node, Const, Var, Index, Unary, Cast, Binary, Logic, Choose, Comma}
+use Rattle.c_core.specs.Tree.{Program, Exp, Expr, Node, Const, Var, Index, Unary, Cast, Binary, Logic, Choose, Comma, Exps, NoExp, MoreExp}
 use Rattle.c_core.specs.Types.{fit, promote_of, in_range, is_zero}
 use Rattle.c_core.specs.Operators.{type_for, right_type_for}
 use Rattle.c_core.specs.Parts.{type_of as type_if}
-use Rattle.c_core.specs.Typing.{is_typed, node_fits, has_value, is_choice, is_element, is_type, is_constant, same_type}
+use Rattle.c_core.specs.Typing.{is_typed, node_fits, has_value, is_choice, is_type, is_constant, same_type}
 use Rattle.c_core.specs.declared.number.DataModel.{DataModel}
 use Rattle.c_core.specs.declared.number.IntType.{IntType}
 use Rattle.c_core.specs.declared.number.IntType.TheVariants.{Bool as BoolType, Int}
@@ -15,8 +15,8 @@ use Rattle.c_core.specs.declared.number.Spot.{Spot}
 use Rattle.c_meaning.specs.Cells.{Cell}
 use Rattle.c_meaning.specs.Objects.{type_of, type_or_int, type_of_object}
 use Rattle.c_meaning.specs.Related.{given_by_one}
-use Rattle.c_meaning.specs.Value.{and_then, value_of, operated, operated_one, of_logic, as_type, converted, seen_at, seen_in}
-use Rattle.c_meaning.proofs.TypeFacts.{both, neither, some_type, the_type, one_result, scalar_type, element_type, unary_types, binary_types}
+use Rattle.c_meaning.specs.Value.{and_then, value_of, operated, operated_one, of_logic, as_type, converted, seen_at, seen_in, seen_in_row}
+use Rattle.c_meaning.proofs.TypeFacts.{both, neither, some_type, the_type, one_result, scalar_type, unary_types, binary_types}
 use Rattle.c_meaning.proofs.Valued.{index_gives, unary_gives, binary_gives, logic_gives, choice_gives, comma_gives, cast_gives}
 use Rattle.circuits.specs.declared.net.Bit.{Bit}
 use Rattle.circuits.specs.declared.net.NetNode.{NetNode}
@@ -31,8 +31,9 @@ use Rattle.sym_state.specs.Places.{key}
 use Rattle.sym_state.proofs.Nets.{unchanged, longer_by}
 use Rattle.sym_values.specs.Valuing.{Decided}
 use Rattle.sym_weight.specs.Table.{conversion_to, chosen, element, tested}
-use Rattle.sym_invariants.specs.Valued.{Perhaps, IsSeen, Sees, then_value, then_both, logic_in, choice_in, side_type, element_cost, one_weight, both_weight, logic_weight, weight_of, value_in, Ready, SeesExpression, ReadyToTest, Holds}
+use Rattle.sym_invariants.specs.Valued.{Perhaps, IsSeen, Sees, then_value, then_both, logic_in, choice_in, side_type, element_cost, row_element_cost, one_weight, both_weight, logic_weight, weight_of, value_in, Ready, SeesExpression, ReadyToTest, Holds}
 use Rattle.sym_exprs.proofs.Costs.{conversion_costs, test_costs, operator_costs, unary_costs}
+use Rattle.sym_exprs.proofs.Typed.{index_type, first_index_parts, second_index_parts}
 use Rattle.sym_invariants.proofs.Deciding.{truth_decides}
 use Rattle.sym_invariants.proofs.Sides.{then_itself}
 use Rattle.sym_invariants.proofs.Seeing.{void_some, seen_as, seen_typed, seen_added, turned_after, turned_within, same_cells}
@@ -116,32 +117,69 @@ module _ (p : Program) where
       → IsSeen p.model (Some t) s.net bits d (λ v. None) → SeesExpression p (Expr spot ty n) s s bits d
   none_sees s bits d spot ty n t e h none x = whole (Expr spot ty n) (still h (typed_or_void ty (seen_typed p.model (ap Some e) x))) (omega arith) refl (λ v. sym (none (stand p v s).cells))
 
-  pub element_first : {s : Sym} (spot : Spot) (ty : Option IntType) (o : ℕ) (i : Exp) → Ready p s (Expr spot ty (Index o i)) → Ready p s i
-  element_first spot ty o i h = first_ready (Expr spot ty (Index o i)) i h (both (node_fits p ty (Index o i)) (is_typed p i) h.types).1 (omega arith)
+  -- ---- elements
+
+  pub element_first : {s : Sym} (spot : Spot) (ty : Option IntType) (o : ℕ) (i : Exp) (is : Exps) → Ready p s (Expr spot ty (Index o (MoreExp i is))) → Ready p s i
+  element_first spot ty o i is h = first_ready (Expr spot ty (Index o (MoreExp i is))) i h (first_index_parts p spot ty o i is h.types).1 (omega arith)
 
   module _ (spot : Spot) (ty : Option IntType) (o : ℕ) (i : Exp) where
-    element_has : {s : Sym} → Ready p s (Expr spot ty (Index o i)) → (Some (type_of_object p o) ≡ ty) × (type_if i ≡ Some (type_of i))
-    element_has h =
-        let g = both (is_element ty (slice_get p.objects o)) (has_value i) (both (node_fits p ty (Index o i)) (is_typed p i) h.types).0 in
-        (element_type ty (slice_get p.objects o) g.0, has_one i g.1)
+    abbrev one : Exp
+    one = Expr spot ty (Index o (MoreExp i NoExp))
 
-    element_costs : (from : IntType) → element_cost p from o ≤ element p o
+    index_has : {s : Sym} → Ready p s one → type_if i ≡ Some (type_of i)
+    index_has h = has_one i (first_index_parts p spot ty o i NoExp h.types).0
+
+    element_costs : (from : IntType) → element_cost p from o ≤ element p o (MoreExp i NoExp)
     element_costs from = omega (arith, width_few p.model from)
 
-    pub element_side : {s x : Sym} {xs : List Bit} {d : Bit} (from : IntType) → from ≡ type_of i → Ready p s (Expr spot ty (Index o i)) → SeesExpression p i s x xs d
-        → AreTyped p.model from x.net xs × (d.node < length x.net) × (length x.net + element_cost p from o < 2 ^ 27)
+    pub element_side : {s x : Sym} {xs : List Bit} {d : Bit} (from : IntType) → from ≡ type_of i → Ready p s one → SeesExpression p i s x xs d → AreTyped p.model from x.net xs × (d.node < length x.net) × (length x.net + element_cost p from o < 2 ^ 27)
     element_side {s} {x} {xs} from e h g = (
-      rw e (in_type i (type_of i) (element_has h).1 g).bits_in,
+      rw e (in_type i (type_of i) (index_has h) g).bits_in,
       g.seen.defined.inside,
       omega (arith, element_costs from, (longer_by g.turned.added).1, h.room),
     )
 
-    pub element_step : {s x m : Sym} {xs rs : List Bit} {d r : Bit} (from : IntType) → from ≡ type_of i → Ready p s (Expr spot ty (Index o i)) → SeesExpression p i s x xs d
-        → ((f : Perhaps) → IsSeen p.model (Some from) x.net xs d f → Sees p (element_cost p from o) x m (Some (type_of_object p o)) rs r (λ v. and_then (f v) (λ j. seen_in p o j (stand p v x).cells))) → SeesExpression p (Expr spot ty (Index o i)) s m rs r
+    pub element_step : {s x m : Sym} {xs rs : List Bit} {d r : Bit} (from : IntType) → from ≡ type_of i → Ready p s one → SeesExpression p i s x xs d
+        → ((f : Perhaps) → IsSeen p.model (Some from) x.net xs d f → Sees p (element_cost p from o) x m (Some (type_of_object p o)) rs r (λ v. and_then (f v) (λ j. seen_in p o j (stand p v x).cells))) → SeesExpression p one s m rs r
     element_step {s} {x} {m} {xs} {rs} {d} {r} from e h g k =
-        let q = k (value_in p s i) (seen_typed p.model (ap Some (sym e)) (in_type i (type_of i) (element_has h).1 g)) in
-        whole (Expr spot ty (Index o i)) (record { turned = turned_after p (weight_of p i + element_cost p from o) g.turned q.turned (omega arith); seen = q.seen }) (omega (arith, element_costs from)) (element_has h).0
-        (λ v. ap (λ cs. and_then (value_in p s i v) (λ j. seen_in p o j cs)) (same_cells p g.turned v) ∙ sym (index_gives p spot ty (stand p v s).cells o i))
+        let q = k (value_in p s i) (seen_typed p.model (ap Some (sym e)) (in_type i (type_of i) (index_has h) g)) in
+        whole one (record { turned = turned_after p (weight_of p i + element_cost p from o) g.turned q.turned (omega arith); seen = q.seen }) (omega (arith, element_costs from)) (index_type p spot ty o (MoreExp i NoExp) h.types)
+        (λ v. ap (λ cs. and_then (value_in p s i v) (λ j. seen_in p o j cs)) (same_cells p g.turned v) ∙ sym (index_gives p spot ty (stand p v s).cells o (MoreExp i NoExp)))
+
+  module _ (spot : Spot) (ty : Option IntType) (o : ℕ) (a b : Exp) where
+    abbrev two : Exp
+    two = Expr spot ty (Index o (MoreExp a (MoreExp b NoExp)))
+
+    row_has : {s : Sym} → Ready p s two → (type_if a ≡ Some (type_of a)) × (type_if b ≡ Some (type_of b))
+    row_has h = (has_one a (first_index_parts p spot ty o a (MoreExp b NoExp) h.types).0, has_one b (second_index_parts p spot ty o a b NoExp h.types).0)
+
+    row_costs : (row column : IntType) → row_element_cost p row column o ≤ element p o (MoreExp a (MoreExp b NoExp))
+    row_costs row column = omega (arith, width_few p.model row, width_few p.model column)
+
+    pub row_next : {s x : Sym} {xs : List Bit} {d : Bit} → Ready p s two → SeesExpression p a s x xs d → Ready p x b
+    row_next h ga = next_ready two b h ga.turned (second_index_parts p spot ty o a b NoExp h.types).1 (omega arith)
+
+    row_seen : {s x y : Sym} {xs ys : List Bit} {d e : Bit} → Ready p s two → SeesExpression p a s x xs d → SeesExpression p b x y ys e → IsSeen p.model (Some (type_of a)) y.net xs d (value_in p s a) × IsSeen p.model (Some (type_of b)) y.net ys e (value_in p s b)
+    row_seen h ga gb = (seen_added p.model (Some (type_of a)) gb.turned.added (in_type a (type_of a) (row_has h).0 ga), seen_typed p.model (row_has h).1 (behind b ga.turned gb))
+
+    pub row_sides : {s x y : Sym} {xs ys : List Bit} {d e : Bit} (ta tb : IntType) → ta ≡ type_of a → tb ≡ type_of b → Ready p s two → SeesExpression p a s x xs d → SeesExpression p b x y ys e
+        → AreTyped p.model ta y.net xs × AreTyped p.model tb y.net ys × (length y.net + row_element_cost p ta tb o < 2 ^ 27)
+    row_sides {s} {x} {y} {xs} {ys} ta tb ea eb h ga gb =
+        let g = row_seen h ga gb in
+        (rw ea g.0.bits_in, rw eb g.1.bits_in, omega (arith, row_costs ta tb, (longer_by ga.turned.added).1, (longer_by gb.turned.added).1, h.room))
+
+    pub row_defined : {s x y : Sym} {xs ys : List Bit} {d e : Bit} → Ready p s two → SeesExpression p a s x xs d → SeesExpression p b x y ys e → d.node < length y.net
+    row_defined h ga gb = (row_seen h ga gb).0.defined.inside
+
+    pub row_step : {s x y m : Sym} {xs ys rs : List Bit} {d e r : Bit} (ta tb : IntType) → ta ≡ type_of a → tb ≡ type_of b → Ready p s two → SeesExpression p a s x xs d → SeesExpression p b x y ys e
+        → ((f g : Perhaps) → IsSeen p.model (Some ta) y.net xs d f → IsSeen p.model (Some tb) y.net ys e g → Sees p (row_element_cost p ta tb o) y m (Some (type_of_object p o)) rs r (λ v. and_then (f v) (λ z. and_then (g v) (λ w. seen_in_row p o z w (stand p v y).cells))))
+        → SeesExpression p two s m rs r
+    row_step {s} {x} {y} {m} {xs} {ys} {rs} {d} {e} {r} ta tb ea eb h ga gb k =
+        let i = row_seen h ga gb in
+        let g = k (value_in p s a) (value_in p s b) (seen_typed p.model (ap Some (sym ea)) i.0) (seen_typed p.model (ap Some (sym eb)) i.1) in
+        let up = turned_after p (weight_of p a + weight_of p b) ga.turned gb.turned (omega arith) in
+        whole two (record { turned = turned_after p (weight_of p a + weight_of p b + row_element_cost p ta tb o) up g.turned (omega arith); seen = g.seen }) (omega (arith, row_costs ta tb)) (index_type p spot ty o (MoreExp a (MoreExp b NoExp)) h.types)
+        (λ v. ap (λ cs. and_then (value_in p s a v) (λ z. and_then (value_in p s b v) (λ w. seen_in_row p o z w cs))) (same_cells p up v) ∙ sym (index_gives p spot ty (stand p v s).cells o (MoreExp a (MoreExp b NoExp))))
 
   -- an invariant's bit
   pub holds_step : {s a t : Sym} {net : List NetNode} {xs : List Bit} {d b r : Bit} (e : Exp) (ty : IntType) → ty ≡ type_of e → ReadyToTest p s e → SeesExpression p e s a xs d

@@ -1,6 +1,7 @@
--- The element at an index: where the index has a value that isn't outside, what its cell holds.
+-- The element at an index, or at a row and a column: where each has a value that isn't outside, what the cell holds.
 use Rattle.std.proofs.Common.{◌≡◌, ℕ, zero, suc, ◌+◌, ◌-◌, ◌*◌, ◌≤◌, ◌<◌, ◌^◌, Bool, true, false, cond, not, ◌&&◌, nat_lt, nat_eq, eqb-true, ℤ, List, length, get_or, map, refl, sym, ◌∙◌, ap, ap₂, subst, arith, Option, Some, None, IfSome, is_some}
-use Rattle.std.proofs.lemmas.Bool.{eqb-false, ltb-true, ltb-false}
+use Rattle.std.proofs.Math.Nat.{mul-le-mul_left}
+use Rattle.std.proofs.lemmas.Bool.{eqb-false}
 use Rattle.std.proofs.lemmas.List.{get_or-map}
 use Rattle.std.proofs.lemmas.List.Elements.{All-get_or}
 use Rattle.c_core.specs.Tree.{Program}
@@ -8,29 +9,30 @@ use Rattle.c_core.specs.Types.{width_of, is_signed, fit}
 use Rattle.c_core.specs.declared.number.IntType.{IntType}
 use Rattle.c_meaning.specs.Cells.{Cell, live}
 use Rattle.c_meaning.specs.Cells.{read as read_cell}
-use Rattle.c_meaning.specs.Objects.{type_of_object, size_of_object}
-use Rattle.c_meaning.specs.Run.{index_below}
-use Rattle.c_meaning.specs.Value.{and_then, seen_at, seen_in}
+use Rattle.c_meaning.specs.Objects.{type_of_object, size_of_object, columns_of_object}
+use Rattle.c_meaning.specs.Run.{index_below, in_row}
+use Rattle.c_meaning.specs.Value.{and_then, seen_at, seen_in, seen_in_row}
 use Rattle.circuits.specs.declared.net.Bit.{Bit}
 use Rattle.circuits.specs.declared.net.NetNode.{NetNode}
-use Rattle.circuits.specs.Gates.{negative}
 use Rattle.circuits.specs.Net.{holds, opposite, Grown, Means, IsIn}
-use Rattle.circuits.specs.Numbers.{number, read, typed, AreIn, AreTyped}
-use Rattle.circuits.proofs.Nets.{grown_then, means_by, opp}
+use Rattle.circuits.specs.Numbers.{typed, AreIn, AreTyped}
+use Rattle.circuits.proofs.Nets.{means_by, opp}
 use Rattle.sym_state.specs.declared.state.Sym.{Sym}
 use Rattle.sym_state.specs.Places.{key, live_in}
 use Rattle.sym_state.specs.Standing.{stand, IsState, marks}
-use Rattle.sym_state.proofs.Nets.{unchanged, longer_by, added_of, in_added, holds_added, number_added}
+use Rattle.sym_state.proofs.Nets.{unchanged, longer_by, added_of, in_added, holds_added}
 use Rattle.sym_values.specs.Valuing.{Decided}
 use Rattle.sym_values.proofs.Reckoning.{net_turned}
+use Rattle.sym_elements.specs.declared.placing.Places.{Places}
 use Rattle.sym_elements.specs.Elements.{IsPicked}
-use Rattle.sym_elements.specs.Marks.{IsDecoded}
-use Rattle.sym_elements.proofs.Found.{below_read}
+use Rattle.sym_elements.specs.Placing.{MaybeCell, mark_of, ArePlaced, index_where, row_where, rows_of, index_cost, row_cost}
+use Rattle.sym_elements.proofs.Spelling.{spells_added}
+use Rattle.sym_elements.proofs.Found.{two_grown, typed_index}
 use Rattle.sym_elements.proofs.Marking.{none_at, mark_at}
-use Rattle.sym_invariants.specs.Valued.{Perhaps, IsSeen, Sees, seen_last, held_in, element_cost}
+use Rattle.sym_invariants.specs.Valued.{Perhaps, IsSeen, Sees, seen_last, held_in, seen_cell, cell_cost, element_cost, row_element_cost}
 use Rattle.sym_invariants.proofs.Cells.{typed_kept, same_live, seen_live, seen_dead, there_is_live}
 use Rattle.sym_invariants.proofs.Deciding.{either_there}
-use Rattle.sym_invariants.proofs.Seeing.{means_added, turned_after, same_cells}
+use Rattle.sym_invariants.proofs.Seeing.{means_added, seen_as, seen_added, sees_within, turned_after, same_cells}
 
 -- ---- the last cell whose place is true
 
@@ -49,41 +51,36 @@ last_one b f k e (suc n) h = by_case (nat_eq k n) refl (λ lt. last_one b f k e 
         less : (k ≡ n → ⊥) → k < n
         less d = omega (arith, h, d)
 
-mark_outside : (k n i : ℕ) → n ≤ k → get_or (marks (suc k) n) i false ≡ false
-mark_outside k zero i h = refl
-mark_outside zero (suc n) i h = absurd (omega (arith, h))
-mark_outside (suc k) (suc n) zero h = refl
-mark_outside (suc k) (suc n) (suc i) h = mark_outside k n i (omega (arith, h))
+-- of marks of a cell
+cell_value : (n : ℕ) (o : Option ℕ) (f : ℕ → Option ℤ) → ((k : ℕ) → o ≡ Some k → k < n) → seen_last (λ i. get_or (marks (mark_of o) n) i false) f n ≡ and_then o f
+cell_value n None f h = last_none (λ i. get_or (marks 0 n) i false) f (none_at n) n
+cell_value n (Some m) f h = last_one (λ i. get_or (marks (suc m) n) i false) f m (λ i. mark_at m n i (h m refl)) n (h m refl)
 
--- of marks
-abbrev last_marked : ℕ → ℕ → (ℕ → Option ℤ) → Option ℤ
-last_marked k n f = seen_last (λ i. get_or (marks k n) i false) f n
+-- where there is a cell, what holds of what it holds
+value_number : (o : Option ℕ) (f : ℕ → Option ℤ) (P : ℤ → Type 0) → ((k : ℕ) → o ≡ Some k → IfSome (f k) P) → IfSome (and_then o f) P
+value_number None f P h = tt
+value_number (Some k) f P h = h k refl
 
-marked : (n m : ℕ) (t q : Bool) (f : ℕ → Option ℤ) → nat_lt m n ≡ q → last_marked (cond t (suc m) 0) n f ≡ and_then (cond (t && q) (Some m) None) f
-marked n m false q f e = last_none (λ i. get_or (marks 0 n) i false) f (none_at n) n
-marked n m true true f e = last_one (λ i. get_or (marks (suc m) n) i false) f m (λ i. mark_at m n i (ltb-true m n e)) n (ltb-true m n e)
-marked n m true false f e = last_none (λ i. get_or (marks (suc m) n) i false) f (λ i. mark_outside m n i (ltb-false m n e)) n
+-- the cell of an index, if it has a value
+index_seen : (h : Bool) (n : ℕ) (z : ℤ) (o : Option ℤ) (g : ℕ → Option ℤ) → h ≡ is_some o → IfSome o (λ x. x ≡ z) → and_then (cond h (index_below n z) None) g ≡ and_then o (λ j. and_then (index_below n j) g)
+index_seen h n z None g e q = ap (λ t. and_then (cond t (index_below n z) None) g) e
+index_seen h n z (Some x) g e q = ap₂ (λ t y. and_then (cond t (index_below n y) None) g) e (sym q)
 
--- the mark of the index where it has a value and isn't negative
-element_value : (n w m : ℕ) (s : Bool) (o : Option ℤ) (f : ℕ → Option ℤ) → IfSome o (λ z. z ≡ read w s m)
-    → last_marked (cond (is_some o && not (negative w s m)) (suc m) 0) n f ≡ and_then o (λ j. and_then (index_below n j) f)
-element_value n w m s None f e = last_none (λ i. get_or (marks 0 n) i false) f (none_at n) n
-element_value n w m s (Some z) f e = marked n m (not (negative w s m)) (nat_lt m n) f refl ∙ ap (λ x. and_then x f) (sym (below_read n w m s) ∙ ap (index_below n) (sym e))
-
--- where the index has a value, what holds of that element holds of what is there
-value_number : (n w m : ℕ) (s : Bool) (o : Option ℤ) (f : ℕ → Option ℤ) (P : ℤ → Type 0) → IfSome o (λ z. z ≡ read w s m) → (m < n → IfSome (f m) P) → IfSome (and_then o (λ j. and_then (index_below n j) f)) P
-value_number n w m s None f P e h = tt
-value_number n w m s (Some z) f P e h = subst (λ i. IfSome (and_then i f) P) (sym (below_read n w m s) ∙ ap (index_below n) (sym e)) (below (not (negative w s m)) (nat_lt m n) refl)
-  where
-    below : (t q : Bool) → nat_lt m n ≡ q → IfSome (and_then (cond (t && q) (Some m) None) f) P
-    below true true l = h (ltb-true m n l)
-    below true false l = tt
-    below false q l = tt
+-- and of a row and a column, if both have one
+row_seen : (h : Bool) (r c : ℕ) (x y : ℤ) (a b : Option ℤ) (g : ℕ → Option ℤ) → h ≡ (is_some a && is_some b) → IfSome a (λ z. z ≡ x) → IfSome b (λ z. z ≡ y)
+    → and_then (cond h (in_row c (index_below r x) (index_below c y)) None) g ≡ and_then a (λ i. and_then b (λ j. and_then (in_row c (index_below r i) (index_below c j)) g))
+row_seen h r c x y None b g e p q = ap (λ t. and_then (cond t (in_row c (index_below r x) (index_below c y)) None) g) e
+row_seen h r c x y (Some i) None g e p q = ap (λ t. and_then (cond t (in_row c (index_below r x) (index_below c y)) None) g) e
+row_seen h r c x y (Some i) (Some j) g e p q =
+    ap (λ t. and_then (cond t (in_row c (index_below r x) (index_below c y)) None) g) e
+    ∙ ap₂ (λ z w. and_then (in_row c (index_below r z) (index_below c w)) g) (sym p) (sym q)
 
 -- the choices among all cells, and what the bits cost that say where one is live
-tree_within : (n w : ℕ) → 3 * n + (n - 1) * (4 * w) ≤ n * (4 * w + 3)
-tree_within zero w = omega arith
-tree_within (suc n) w = let e : suc n - 1 ≡ n = omega arith in rw e (omega arith)
+tree_within : (m n w : ℕ) → m ≤ n → 3 * m + (m - 1) * (4 * w) ≤ n * (4 * w + 3)
+tree_within m n w h =
+    let q : (4 * w + 3) * m ≤ (4 * w + 3) * n = mul-le-mul_left (4 * w + 3) h in
+    let r : 4 * w * (m - 1) ≤ 4 * w * m = mul-le-mul_left (4 * w) (omega arith) in
+    omega (arith, q, r)
 
 module _ (p : Program) (o : ℕ) where
   -- ---- is the cell live whose place is true?
@@ -95,7 +92,7 @@ module _ (p : Program) (o : ℕ) where
   pub live_none : {s : Sym} {always d : Bit} (places : List Bit) → IsState p s → Means s.net always (λ v. true) → d ≡ opposite always → LiveFirst places s s d 0
   live_none {s} places h y e = record { turned = record { fits = h; added = unchanged _ s.net; level = refl; result = refl; is = λ v. refl }; means = opp e y }
 
-  pub live_room : {s n : Sym} {d : Bit} {i : ℕ} (places : List Bit) → LiveFirst places s n d i → i < size_of_object p o → length s.net + 3 * size_of_object p o < 2 ^ 27 → length n.net < 2 ^ 28
+  pub live_room : {s n : Sym} {d : Bit} {i : ℕ} (places : List Bit) → LiveFirst places s n d i → i < length places → length s.net + 3 * length places < 2 ^ 27 → length n.net < 2 ^ 28
   live_room places x h room = omega (arith, (longer_by x.turned.added).1, h, room)
 
   pub place_in : {s n : Sym} {d : Bit} {i : ℕ} (places : List Bit) (b : Bit) → LiveFirst places s n d i → AreIn s.net places → i < length places → IsIn n.net (get_or places i b)
@@ -129,44 +126,68 @@ module _ (p : Program) (o : ℕ) where
       (ap (λ t. fit p.model t (read_cell (key o i) cs)) (sym same) ∙ ap (fit p.model ty) (sym e) ∙ typed_kept p.model ty v net bits wide)
   cell_number s ty v net bits i cs same wide e false h = subst (λ x. IfSome x (λ z. z ≡ typed p.model ty v net bits)) (seen_dead p s o i cs h) tt
 
-  -- ---- the index
+  -- ---- the cell at the places
 
-  module _ {s : Sym} {one two : List NetNode} {index places : List Bit} {d inside here : Bit} {f : Perhaps} (from : IntType) (h : IsState p s) (x : IsSeen p.model (Some from) s.net index d f)
-      (sign : Means s.net inside (λ v. not (negative (length index) (is_signed from) (number v s.net index)))) (g1 : Grown 1 s.net one) (m1 : Means one here (λ v. holds v s.net d && holds v s.net inside))
-      (made : IsDecoded one two here index (size_of_object p o) places) where
-    decoded_grown : Grown (1 + 2 * (size_of_object p o + length index)) s.net two
-    decoded_grown = grown_then 1 (2 * (size_of_object p o + length index)) (1 + 2 * (size_of_object p o + length index)) s.net one two g1 made.grown (omega arith)
+  pub at_places : {before : List NetNode} {i m : ℕ} {cell : MaybeCell} {places : Places} {s a n : Sym} {rs : List Bit} {r : Bit} → ArePlaced before s.net i m cell places → length places.bits ≤ size_of_object p o
+      → Decided p (3 * length places.bits) s a r (λ v. is_some (held_in p o s places.bits (length places.bits) v)) → IsPicked p o places.inner places.columns 0 (length places.bits) places.digits a n rs
+      → Sees p (cell_cost p o) s n (Some (type_of_object p o)) rs r (λ v. and_then (cell v) (seen_cell p o v s))
+  at_places {m = m} {cell = cell} {places = places} {s = s} {a = a} {n = n} {rs = rs} {r = r} made few g y =
+      let ty = type_of_object p o in
+      let held : (v : ℕ → Bool) → held_in p o s places.bits (length places.bits) v ≡ and_then (cell v) (seen_cell p o v s) =
+      λ v. ap₂ (λ bs k. seen_last (λ i. get_or bs i false) (seen_cell p o v s) k) (made.is v) made.wide ∙ cell_value m (cell v) (seen_cell p o v s) (made.below v) in
+      record {
+        turned = turned_after p (cell_cost p o) g.turned y.turned (tree_within (length places.bits) (size_of_object p o) (width_of p.model ty) few);
+        seen = record {
+          bits_in = y.bits_in;
+          defined = means_added y.turned.added (means_by a.net r (λ v. is_some (held_in p o s places.bits (length places.bits) v)) (λ v. is_some (and_then (cell v) (seen_cell p o v s))) g.means (λ v. ap is_some (held v)));
+          is = λ v.
+              value_number (cell v) (seen_cell p o v s) (λ z. z ≡ typed p.model ty v n.net rs)
+              (λ k e.
+              let told = spells_added v g.turned.added made.digits_in (made.told v k e) in
+              cell_number s ty v n.net rs k (stand p v s).cells refl y.bits_in
+              (y.is v told.column (omega (arith, told.is, made.below v k e, made.wide)) ∙ ap₂ (λ j cs. read_cell (key o j) cs) (omega (arith, told.is)) (same_cells p g.turned v))
+              (live (key o k) (stand p v s).cells) refl);
+        };
+      }
 
-    -- is the index there
-    here_is : (v : ℕ → Bool) → holds v one here ≡ (is_some (f v) && not (negative (width_of p.model from) (is_signed from) (number v s.net index)))
-    here_is v = m1.is v ∙ ap₂ (λ a b. a && b) (x.defined.is v) (sign.is v ∙ ap (λ w. not (negative w (is_signed from) (number v s.net index))) x.bits_in.wide)
+  -- what is seen at places is seen by the cells before them
+  abbrev AtPlaces : Sym → Sym → List Bit → Bit → Places → Type 0
+  AtPlaces s n rs r places = (before : List NetNode) (i m : ℕ) (cell : MaybeCell) → ArePlaced before s.net i m cell places → Sees p (cell_cost p o) s n (Some (type_of_object p o)) rs r (λ v. and_then (cell v) (seen_cell p o v s))
 
-    places_are : (v : ℕ → Bool) → map (holds v two) places ≡ marks (cond (is_some (f v) && not (negative (width_of p.model from) (is_signed from) (number v s.net index))) (suc (number v s.net index)) 0) (size_of_object p o)
-    places_are v = made.marks_of.is v ∙ ap₂ (λ t k. marks (cond t (suc k) 0) (size_of_object p o)) (here_is v) (number_added (added_of g1) v index x.bits_in.inside)
+  placed_sees : {i m k : ℕ} {before : List NetNode} {s n : Sym} {net : List NetNode} {cell : MaybeCell} {places : Places} {rs : List Bit} {r : Bit} {f : Perhaps} → IsState p s → Grown k s.net net → ArePlaced before net i m cell places
+      → AtPlaces (record s { net = net }) n rs r places → ((v : ℕ → Bool) → and_then (cell v) (seen_cell p o v s) ≡ f v) → Sees p (k + cell_cost p o) s n (Some (type_of_object p o)) rs r f
+  placed_sees {i} {m} {k} {before} {s} {n} {net} {cell} {places} {rs} {r} {f} h g made at same =
+      let w = at before i m cell made in
+      let up = net_turned p s net h g in
+      record {
+        turned = turned_after p (k + cell_cost p o) up w.turned (omega arith);
+        seen = seen_as p.model f w.seen (λ v. ap (λ cs. and_then (cell v) (λ j. seen_at p (key o j) cs)) (same_cells p up v) ∙ same v);
+      }
 
-    pub element_sees : {a m : Sym} {rs : List Bit} {r : Bit} → Decided p (3 * size_of_object p o) (record s { net = two }) a r (λ v. is_some (held_in p o (record s { net = two }) places (size_of_object p o) v))
-        → IsPicked p o 0 (size_of_object p o) index a m rs → Sees p (element_cost p from o) s m (Some (type_of_object p o)) rs r (λ v. and_then (f v) (λ j. seen_in p o j (stand p v s).cells))
-    element_sees {a} {m} {rs} {r} g y =
-        let up = net_turned p s two h decoded_grown in
-        let before = turned_after p (1 + 2 * (size_of_object p o + length index) + 3 * size_of_object p o) up g.turned (omega arith) in
-        let ty = type_of_object p o in
-        let value : Perhaps = λ v. and_then (f v) (λ j. seen_in p o j (stand p v s).cells) in
-        let cells : (v : ℕ → Bool) → (stand p v a).cells ≡ (stand p v s).cells = λ v. same_cells p before v in
-        let index_is : (v : ℕ → Bool) → number v a.net index ≡ number v s.net index = λ v. number_added before.added v index x.bits_in.inside in
-        record {
-          turned = turned_after p (element_cost p from o) before y.turned (omega (arith, x.bits_in.wide, tree_within (size_of_object p o) (width_of p.model ty)));
-          seen = record {
-            bits_in = y.bits_in;
-            defined = means_added y.turned.added (means_by a.net r (λ v. is_some (held_in p o (record s { net = two }) places (size_of_object p o) v)) (λ v. is_some (value v)) g.means
-                (λ v.
-                ap is_some
-                (ap₂ (λ bs cs. seen_last (λ i. get_or bs i false) (λ i. seen_at p (key o i) cs) (size_of_object p o)) (places_are v) (same_cells p up v)
-                ∙ element_value (size_of_object p o) (width_of p.model from) (number v s.net index) (is_signed from) (f v) (λ i. seen_at p (key o i) (stand p v s).cells) (x.is v))));
-            is = λ v.
-                value_number (size_of_object p o) (width_of p.model from) (number v s.net index) (is_signed from) (f v) (λ i. seen_at p (key o i) (stand p v s).cells) (λ z. z ≡ typed p.model ty v m.net rs) (x.is v)
-                (λ lt.
-                cell_number s ty v m.net rs (number v s.net index) (stand p v s).cells refl y.bits_in
-                (y.is v (omega (arith, lt, index_is v)) ∙ ap₂ (λ k cs. read_cell (key o k) cs) (omega (arith, index_is v)) (cells v))
-                (live (key o (number v s.net index)) (stand p v s).cells) refl);
-          };
-        }
+  -- ---- an index, and a row and a column
+
+  pub element_sees : {s n : Sym} {net : List NetNode} {index rs : List Bit} {d r : Bit} {places : Places} {f : Perhaps} (from : IntType) → IsState p s → IsSeen p.model (Some from) s.net index d f
+      → ArePlaced s.net net (index_cost (size_of_object p o) (length index)) (size_of_object p o) (index_where s.net d (size_of_object p o) (is_signed from) index) places → AtPlaces (record s { net = net }) n rs r places
+      → Sees p (element_cost p from o) s n (Some (type_of_object p o)) rs r (λ v. and_then (f v) (λ j. seen_in p o j (stand p v s).cells))
+  element_sees {s} {n} {net} {index} {rs} {d} {r} {places} {f} from h x made at =
+      sees_within p (element_cost p from o)
+      (placed_sees h made.grown made at
+      (λ v.
+      ap (λ c. and_then (cond (holds v s.net d) c None) (seen_cell p o v s)) (typed_index p from index (size_of_object p o) v x.bits_in)
+      ∙ index_seen (holds v s.net d) (size_of_object p o) (typed p.model from v s.net index) (f v) (seen_cell p o v s) (x.defined.is v) (x.is v)))
+      (omega (arith, x.bits_in.wide))
+
+  pub row_sees : {s n : Sym} {one net : List NetNode} {row column rs : List Bit} {d e both r : Bit} {places : Places} {f g : Perhaps} (ta tb : IntType) → IsState p s → IsSeen p.model (Some ta) s.net row d f → IsSeen p.model (Some tb) s.net column e g
+      → Grown 1 s.net one → Means one both (λ v. holds v s.net d && holds v s.net e)
+      → ArePlaced one net (row_cost (size_of_object p o) (length row) (length column)) (rows_of p o * columns_of_object p o) (row_where one both (rows_of p o) (columns_of_object p o) (is_signed ta) row (is_signed tb) column) places
+      → AtPlaces (record s { net = net }) n rs r places → Sees p (row_element_cost p ta tb o) s n (Some (type_of_object p o)) rs r (λ v. and_then (f v) (λ i. and_then (g v) (λ j. seen_in_row p o i j (stand p v s).cells)))
+  row_sees {s} {n} {one} {net} {row} {column} {rs} {d} {e} {both} {r} {places} {f} {g} ta tb h x y grown means made at =
+      let c = columns_of_object p o in
+      let kept = seen_added p.model (Some ta) (added_of grown) x in
+      let also = seen_added p.model (Some tb) (added_of grown) y in
+      sees_within p (row_element_cost p ta tb o)
+      (placed_sees h (two_grown grown made.grown) made at
+      (λ v.
+      ap₂ (λ a b. and_then (cond (holds v one both) (in_row c a b) None) (seen_cell p o v s)) (typed_index p ta row (rows_of p o) v kept.bits_in) (typed_index p tb column c v also.bits_in)
+      ∙ row_seen (holds v one both) (rows_of p o) c (typed p.model ta v one row) (typed p.model tb v one column) (f v) (g v) (seen_cell p o v s) (means.is v ∙ ap₂ (λ a b. a && b) (x.defined.is v) (y.defined.is v)) (kept.is v) (also.is v)))
+      (omega (arith, x.bits_in.wide, y.bits_in.wide))

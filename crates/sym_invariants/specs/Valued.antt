@@ -24,6 +24,7 @@ use Rattle.sym_state.specs.Places.{key}
 use Rattle.sym_state.specs.Standing.{stand, IsState, Turned}
 use Rattle.sym_state.specs.Following.{AreOf, IsNumber}
 use Rattle.sym_values.specs.Valuing.{Decided}
+use Rattle.sym_elements.specs.Placing.{index_cost, row_cost}
 use Rattle.sym_weight.specs.Sum.{expression}
 use Rattle.sym_weight.specs.Table.{tested}
 use Rattle.sym_weight.specs.Weight.{weighing}
@@ -90,9 +91,21 @@ module _ (p : Program) where
   abbrev pub held_in : ℕ → Sym → List Bit → ℕ → Perhaps
   held_in o s places n v = seen_last (λ i. get_or (map (net_of.holds v s.net) places) i false) (λ i. seen_at p (key o i) (stand p v s).cells) n
 
-  -- and-nodes of an element at an index of a type: its places, the tree of choices, and 3 for each cell that tell whether it is live
+  -- what a cell of an object holds, if it is live
+  abbrev pub seen_cell : ℕ → (ℕ → Bool) → Sym → ℕ → Option ℤ
+  seen_cell o v s k = seen_at p (key o k) (stand p v s).cells
+
+  -- and-nodes of an element behind its places: the tree of choices, and 3 for each cell that tell whether it is live
+  abbrev pub cell_cost : ℕ → ℕ
+  cell_cost o = size_of_object p o * (4 * width_of p.model (type_of_object p o) + 3)
+
+  -- of an element at an index of a type
   abbrev pub element_cost : IntType → ℕ → ℕ
-  element_cost from o = 1 + (2 * (size_of_object p o + width_of p.model from) + size_of_object p o * (4 * width_of p.model (type_of_object p o) + 3))
+  element_cost from o = index_cost (size_of_object p o) (width_of p.model from) + cell_cost o
+
+  -- of an element at a row and a column of two types
+  abbrev pub row_element_cost : IntType → IntType → ℕ → ℕ
+  row_element_cost row column o = 1 + (row_cost (size_of_object p o) (width_of p.model row) (width_of p.model column) + cell_cost o)
 
   -- ---- expressions
 

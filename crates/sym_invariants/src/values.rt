@@ -1,10 +1,10 @@
 // The value of an expression over symbolic cells: one function for each form.
 ghost use Rattle.std.specs.Prelude.{IfOk};
 ghost use Rattle.c_core.specs.Tree as t;
-ghost use Rattle.c_core.specs.View.{program_view, expr_view};
+ghost use Rattle.c_core.specs.View.{program_view, expr_view, exprs_view};
 ghost use Rattle.sym_invariants.specs.Valued.{Ready, SeesExpression, ReadyToTest, Holds};
 
-use crate::elements::element_at;
+use crate::elements::{element_at, element_in_row};
 use crate::seen::{
     Seen, as_type, cell, chosen, constant, converted, decided, no_value, operated, operated_one,
     second,
@@ -39,7 +39,7 @@ fn value_bits(
             Ok(r)
         }
         Node::Index { object, at } => {
-            let r = element(alloc, program, sym, e.spot, e.ty, *object, at)?;
+            let r = element(alloc, program, sym, e.spot, e.ty, *object, at.as_slice())?;
             Ok(r)
         }
         Node::Unary { op, of } => {
@@ -98,13 +98,69 @@ fn element(
     spot: Spot,
     ty: Option<IntType>,
     object: u32,
-    at: &Expr,
+    at: &[Expr],
 ) -> Result<Seen, OutOfMemory>
-    requires { Ready (program_view program.now) sym.old (t.Expr spot ty (t.Index object (expr_view at.now))) }
-    ensures { IfOk result (λ r. SeesExpression (program_view program.now) (t.Expr spot ty (t.Index object (expr_view at.now))) sym.old sym.new r.bits.bits r.defined) }
+    requires { Ready (program_view program.now) sym.old (t.Expr spot ty (t.Index object (exprs_view at.now))) }
+    ensures { IfOk result (λ r. SeesExpression (program_view program.now) (t.Expr spot ty (t.Index object (exprs_view at.now))) sym.old sym.new r.bits.bits r.defined) }
 {
-    let index = value_bits(alloc, program, sym, at)?;
-    let r = element_at(alloc, program, sym, object, type_of(at), &index)?;
+    match at {
+        [index] => {
+            let r = indexed(alloc, program, sym, spot, ty, object, index)?;
+            Ok(r)
+        }
+        [row, column] => {
+            let r = indexed_twice(alloc, program, sym, spot, ty, object, row, column)?;
+            Ok(r)
+        }
+        // no array has another number of dimensions
+        _ => Err(OutOfMemory),
+    }
+}
+
+#[cycle(value)]
+fn indexed(
+    alloc: Global,
+    program: &Program,
+    sym: &mut Sym,
+    spot: Spot,
+    ty: Option<IntType>,
+    object: u32,
+    index: &Expr,
+) -> Result<Seen, OutOfMemory>
+    requires { Ready (program_view program.now) sym.old (t.Expr spot ty (t.Index object (t.MoreExp (expr_view index.now) t.NoExp))) }
+    ensures { IfOk result (λ r. SeesExpression (program_view program.now) (t.Expr spot ty (t.Index object (t.MoreExp (expr_view index.now) t.NoExp))) sym.old sym.new r.bits.bits r.defined) }
+{
+    let x = value_bits(alloc, program, sym, index)?;
+    let r = element_at(alloc, program, sym, object, type_of(index), &x)?;
+    Ok(r)
+}
+
+#[cycle(value)]
+fn indexed_twice(
+    alloc: Global,
+    program: &Program,
+    sym: &mut Sym,
+    spot: Spot,
+    ty: Option<IntType>,
+    object: u32,
+    row: &Expr,
+    column: &Expr,
+) -> Result<Seen, OutOfMemory>
+    requires { Ready (program_view program.now) sym.old (t.Expr spot ty (t.Index object (t.MoreExp (expr_view row.now) (t.MoreExp (expr_view column.now) t.NoExp)))) }
+    ensures { IfOk result (λ r. SeesExpression (program_view program.now) (t.Expr spot ty (t.Index object (t.MoreExp (expr_view row.now) (t.MoreExp (expr_view column.now) t.NoExp)))) sym.old sym.new r.bits.bits r.defined) }
+{
+    let x = value_bits(alloc, program, sym, row)?;
+    let y = value_bits(alloc, program, sym, column)?;
+    let r = element_in_row(
+        alloc,
+        program,
+        sym,
+        object,
+        type_of(row),
+        &x,
+        type_of(column),
+        &y,
+    )?;
     Ok(r)
 }
 

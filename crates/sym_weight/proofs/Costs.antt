@@ -1,10 +1,10 @@
 -- Sums that stop at the end of a type.
-use Rattle.std.proofs.Common.{◌≡◌, ℕ, ◌+◌, refl, ap, sym, ◌∙◌, Bool, Option, arith}
-use Rattle.c_core.specs.Tree.{Exps, NoExp, MoreExp, Names, NoName, MoreName, Stms, NoStm, MoreStm, Program}
+use Rattle.std.proofs.Common.{◌≡◌, ℕ, ◌+◌, refl, ap, sym, ◌∙◌, Bool, List, [], ◌∷◌, Option, arith}
+use Rattle.c_core.specs.Tree.{Exps, NoExp, MoreExp, Names, NoName, MoreName, Stms, NoStm, MoreStm, MoreCase, Program}
 use Rattle.c_core.specs.declared.number.IntType.{IntType}
 use Rattle.c_core.specs.declared.number.Spot.{Spot}
 use Rattle.sym_weight.specs.declared.cost.Cost.{Cost}
-use Rattle.sym_weight.specs.Sum.{initials, declared, statements}
+use Rattle.sym_weight.specs.Sum.{initials, row_initials, declared, statements}
 use Rattle.sym_weight.specs.Tally.{capped, cost, plus, tallying}
 
 pub capped_twice : (a : ℕ) → capped (capped a) ≡ capped a
@@ -26,6 +26,10 @@ pub initials_alone : (p : Program) (o : ℕ) (es : Exps) → plus (cost 0 0) (in
 initials_alone p o NoExp = refl
 initials_alone p o (MoreExp e es) = nothing_before _ _
 
+pub rows_alone : (p : Program) (o : ℕ) (rows : List Exps) → plus (cost 0 0) (row_initials p tallying o rows).cost ≡ (row_initials p tallying o rows).cost
+rows_alone p o [] = refl
+rows_alone p o (es ∷ rows) = nothing_before _ _
+
 pub declared_alone : (p : Program) (ns : Names) → plus (cost 0 0) (declared p tallying ns).cost ≡ (declared p tallying ns).cost
 declared_alone p NoName = refl
 declared_alone p (MoreName spot o i ns) = nothing_before _ _
@@ -34,6 +38,15 @@ pub statements_alone : (p : Program) (at_place : Bool → Spot → ℕ) (result 
     → plus (cost 0 0) (statements p tallying at_place result b).cost ≡ (statements p tallying at_place result b).cost
 statements_alone p at_place result NoStm = refl
 statements_alone p at_place result (MoreStm s b) = nothing_before _ _
+statements_alone p at_place result (MoreCase spot l b) = statements_alone p at_place result b
+
+pub plus_thrice : (a b c : Cost) → plus (plus a b) c ≡ plus a (plus b c)
+plus_thrice a b c =
+    ap (λ w. record { weight = w; bits = capped (capped (a.bits + b.bits) + c.bits) }) (regrouped a.weight b.weight c.weight)
+    ∙ ap (λ w. record { weight = capped (a.weight + capped (b.weight + c.weight)); bits = w }) (regrouped a.bits b.bits c.bits)
+  where
+    regrouped : (a b c : ℕ) → capped (capped (a + b) + c) ≡ capped (a + capped (b + c))
+    regrouped a b c = omega arith
 
 -- a sum of parts, each of which is known
 pub three : (X Y Z x y z yz r whole : Cost) → x ≡ X → y ≡ Y → z ≡ Z → yz ≡ plus y z → r ≡ plus x yz → whole ≡ plus X (plus Y Z) → r ≡ whole

@@ -1,5 +1,8 @@
+pub mod Arms
 pub mod Costs
 pub mod Deciding
+pub mod Indexed
+pub mod Labels
 pub mod Light
 pub mod Listing
 pub mod Owning

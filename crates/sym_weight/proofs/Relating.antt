@@ -1,7 +1,8 @@
 -- Two sums of one program whose amounts are related part by part are related on every part.
-use Rattle.std.proofs.Common.{ℕ, ◌+◌, ◌*◌, ◌≤◌, List, Bool, true, false, Option, None, Some, slice_get, arith}
+use Rattle.std.proofs.Common.{ℕ, ◌+◌, ◌*◌, ◌≤◌, List, [], ◌∷◌, Bool, true, false, Option, None, Some, slice_get, arith}
 use Rattle.c_core.specs.Types.{width_of}
-use Rattle.c_core.specs.Tree.{Exp, Expr, Node, Const, Var, Index, Unary, Cast, Step, Binary, Logic, Choose, Comma, Assign, Call, Exps, NoExp, MoreExp, Init, Absent, One, Many, Names, NoName, MoreName, First, NoFirst, FirstExp, FirstNames, Stm, Stmt, Form, Empty, Do, Declare, Block, If, While, DoWhile, For, Break, Continue, Return, Label, Else, NoElse, OrElse, Stms, NoStm, MoreStm, Function, Program}
+use Rattle.c_core.specs.Typing.{labels_in}
+use Rattle.c_core.specs.Tree.{Exp, Expr, Node, Const, Var, Index, Unary, Cast, Step, Binary, Logic, Choose, Comma, Assign, Call, Exps, NoExp, MoreExp, Init, Absent, One, Many, Rows, Names, NoName, MoreName, First, NoFirst, FirstExp, FirstNames, Stm, Stmt, Form, Empty, Do, Declare, Block, If, While, DoWhile, For, Break, Continue, Return, Label, Switch, Else, NoElse, OrElse, Stms, NoStm, MoreStm, MoreCase, Function, Program}
 use Rattle.c_core.specs.declared.number.DataModel.{DataModel}
 use Rattle.c_core.specs.declared.number.DataModel.TheVariants.{Ilp32, Lp64}
 use Rattle.c_core.specs.declared.number.IntType.{IntType}
@@ -12,8 +13,8 @@ use Rattle.c_core.specs.declared.tree.Callee.TheVariants.{Defined, Input, ReachE
 use Rattle.c_meaning.specs.Changed.{changed_by}
 use Rattle.c_meaning.specs.Meaning.{WhileLoop, DoLoop, ForLoop}
 use Rattle.c_meaning.specs.Objects.{type_of, type_of_object}
-use Rattle.sym_weight.specs.Table.{statement_weight, expression_weight, call_weight, tested, stored, returned, passed, passed_to_exit, params_of, bits_of_object, bits_of_objects, callee_bits, node_work, node_bits}
-use Rattle.sym_weight.specs.Sum.{Sum, called, expression, operands, target, index_of, arguments, expression_if, control, control_if, initial, initials, initialised, declared, first, given, head, statement, form, otherwise, statements, function_body, function_of, function}
+use Rattle.sym_weight.specs.Table.{statement_weight, expression_weight, call_weight, tested, stored, returned, passed, passed_to_exit, params_of, bits_of_object, bits_of_objects, callee_bits, node_work, node_bits, chooses}
+use Rattle.sym_weight.specs.Sum.{Sum, called, expression, operands, target, indexes_of, arguments, expression_if, control, control_if, initial, initials, row_initials, initialised, declared, first, given, head, statement, form, otherwise, statements, function_body, function_of, function}
 
 at_most_64 : (m : DataModel) (ty : IntType) → width_of m ty ≤ 64
 at_most_64 Ilp32 Long = omega arith
@@ -61,7 +62,7 @@ module _ (p : Program) (S T : Sum) (R : S.Amount → T.Amount → Type 0) (h : R
     related_operands : (n : Node) → R (operands p S n) (operands p T n)
     related_operands (Const v) = h.none
     related_operands (Var o) = h.none
-    related_operands (Index o i) = related_expression i
+    related_operands (Index o is) = related_arguments is
     related_operands (Unary op a) = related_expression a
     related_operands (Cast a) = related_expression a
     related_operands (Step op a) = related_target a
@@ -75,21 +76,21 @@ module _ (p : Program) (S T : Sum) (R : S.Amount → T.Amount → Type 0) (h : R
     related_operands (Call callee es close) = h.both (arguments p S es) (called p S callee es) (arguments p T es) (called p T callee es) (related_arguments es) (related_called callee es)
 
     related_target : (e : Exp) → R (target p S e) (target p T e)
-    related_target (Expr spot ty n) = h.both (S.part expression_weight 0) (index_of p S n) (T.part expression_weight 0) (index_of p T n) (weighs expression_weight) (related_index n)
+    related_target (Expr spot ty n) = h.both (S.part expression_weight 0) (indexes_of p S n) (T.part expression_weight 0) (indexes_of p T n) (weighs expression_weight) (related_indexes n)
 
-    related_index : (n : Node) → R (index_of p S n) (index_of p T n)
-    related_index (Index o i) = related_expression i
-    related_index (Const v) = h.none
-    related_index (Var o) = h.none
-    related_index (Unary op a) = h.none
-    related_index (Cast a) = h.none
-    related_index (Step op a) = h.none
-    related_index (Binary op a b) = h.none
-    related_index (Logic k a b) = h.none
-    related_index (Choose mark e a b) = h.none
-    related_index (Comma a b) = h.none
-    related_index (Assign op a b) = h.none
-    related_index (Call callee es close) = h.none
+    related_indexes : (n : Node) → R (indexes_of p S n) (indexes_of p T n)
+    related_indexes (Index o is) = related_arguments is
+    related_indexes (Const v) = h.none
+    related_indexes (Var o) = h.none
+    related_indexes (Unary op a) = h.none
+    related_indexes (Cast a) = h.none
+    related_indexes (Step op a) = h.none
+    related_indexes (Binary op a b) = h.none
+    related_indexes (Logic k a b) = h.none
+    related_indexes (Choose mark e a b) = h.none
+    related_indexes (Comma a b) = h.none
+    related_indexes (Assign op a b) = h.none
+    related_indexes (Call callee es close) = h.none
 
     related_arguments : (es : Exps) → R (arguments p S es) (arguments p T es)
     related_arguments NoExp = h.none
@@ -115,12 +116,19 @@ module _ (p : Program) (S T : Sum) (R : S.Amount → T.Amount → Type 0) (h : R
   related_initials o NoExp = h.none
   related_initials o (MoreExp e es) = h.both (initial p S o e) (initials p S o es) (initial p T o e) (initials p T o es) (related_initial o e) (related_initials o es)
 
+  related_rows : (o : ℕ) (rows : List Exps) → R (row_initials p S o rows) (row_initials p T o rows)
+  related_rows o [] = h.none
+  related_rows o (es ∷ rows) =
+      h.both (initials p S o es) (row_initials p S o rows) (initials p T o es) (row_initials p T o rows) (related_initials o es) (related_rows o rows)
+
   related_initialised : (o : ℕ) (i : Init) → R (initialised p S o i) (initialised p T o i)
   related_initialised o Absent = draws (bits_of_object p o)
   related_initialised o (One e) =
       h.both (S.part (4 * bits_of_object p o) 0) (initial p S o e) (T.part (4 * bits_of_object p o) 0) (initial p T o e) (weighs (4 * bits_of_object p o)) (related_initial o e)
   related_initialised o (Many es) =
       h.both (S.part (4 * bits_of_object p o) 0) (initials p S o es) (T.part (4 * bits_of_object p o) 0) (initials p T o es) (weighs (4 * bits_of_object p o)) (related_initials o es)
+  related_initialised o (Rows rows) =
+      h.both (S.part (4 * bits_of_object p o) 0) (row_initials p S o rows) (T.part (4 * bits_of_object p o) 0) (row_initials p T o rows) (weighs (4 * bits_of_object p o)) (related_rows o rows)
 
   related_declared : (ns : Names) → R (declared p S ns) (declared p T ns)
   related_declared NoName = h.none
@@ -177,6 +185,10 @@ module _ (p : Program) (S T : Sum) (R : S.Amount → T.Amount → Type 0) (h : R
         related_form at Continue = h.none
         related_form at (Return e) = related_given result e
         related_form at (Label b) = related_statement b
+        related_form at (Switch e b) =
+            let choice = chooses p.model (type_of e) (labels_in b) in
+            h.both (expression p S e) (S.both (S.part choice 0) (statements p S P result b)) (expression p T e) (T.both (T.part choice 0) (statements p T Q result b)) (related_expression e)
+            (h.both (S.part choice 0) (statements p S P result b) (T.part choice 0) (statements p T Q result b) (weighs choice) (related_statements b))
 
         related_otherwise : (b : Else) → R (otherwise p S P result b) (otherwise p T Q result b)
         related_otherwise NoElse = h.none
@@ -185,6 +197,7 @@ module _ (p : Program) (S T : Sum) (R : S.Amount → T.Amount → Type 0) (h : R
         related_statements : (b : Stms) → R (statements p S P result b) (statements p T Q result b)
         related_statements NoStm = h.none
         related_statements (MoreStm s b) = h.both (statement p S P result s) (statements p S P result b) (statement p T Q result s) (statements p T Q result b) (related_statement s) (related_statements b)
+        related_statements (MoreCase spot l b) = related_statements b
 
       related_body : (s : Stm) → R (function_body p S P result s) (function_body p T Q result s)
       related_body (Stmt at f) = h.both (S.part statement_weight 0) (form p S P result at f) (T.part statement_weight 0) (form p T Q result at f) (weighs statement_weight) (related_form at f)

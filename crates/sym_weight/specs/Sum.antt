@@ -1,6 +1,7 @@
 -- What a program sums up to, part by part: each loop's parts once, calls by what stands for the bodies of the functions.
-use Rattle.std.specs.Prelude.{ℕ, ◌+◌, ◌*◌, Bool, false, true, List, Option, Some, None, slice_get}
-use Rattle.c_core.specs.Tree.{Exp, Expr, Node, Const, Var, Index, Unary, Cast, Step, Binary, Logic, Choose, Comma, Assign, Call, Exps, NoExp, MoreExp, Init, Absent, One, Many, Names, NoName, MoreName, First, NoFirst, FirstExp, FirstNames, Stm, Stmt, Form, Empty, Do, Declare, Block, If, While, DoWhile, For, Break, Continue, Return, Label, Else, NoElse, OrElse, Stms, NoStm, MoreStm, Function, Program}
+use Rattle.std.specs.Prelude.{ℕ, ◌+◌, ◌*◌, Bool, false, true, List, [], ◌∷◌, Option, Some, None, slice_get}
+use Rattle.c_core.specs.Tree.{Exp, Expr, Node, Const, Var, Index, Unary, Cast, Step, Binary, Logic, Choose, Comma, Assign, Call, Exps, NoExp, MoreExp, Init, Absent, One, Many, Rows, Names, NoName, MoreName, First, NoFirst, FirstExp, FirstNames, Stm, Stmt, Form, Empty, Do, Declare, Block, If, While, DoWhile, For, Break, Continue, Return, Label, Switch, Else, NoElse, OrElse, Stms, NoStm, MoreStm, MoreCase, Function, Program}
+use Rattle.c_core.specs.Typing.{labels_in}
 use Rattle.c_core.specs.declared.number.IntType.{IntType}
 use Rattle.c_core.specs.declared.number.Spot.{Spot}
 use Rattle.c_core.specs.declared.tree.Callee.{Callee}
@@ -8,7 +9,7 @@ use Rattle.c_core.specs.declared.tree.Callee.TheVariants.{Defined, Exit}
 use Rattle.c_meaning.specs.Meaning.{WhileLoop, DoLoop, ForLoop}
 use Rattle.c_meaning.specs.Changed.{changed_by}
 use Rattle.c_meaning.specs.Objects.{type_of, type_of_object}
-use Rattle.sym_weight.specs.Table.{statement_weight, expression_weight, tested, stored, returned, params_of, passed, passed_to_exit, bits_of_object, bits_of_objects, node_work, node_bits}
+use Rattle.sym_weight.specs.Table.{statement_weight, expression_weight, tested, stored, returned, params_of, passed, passed_to_exit, bits_of_object, bits_of_objects, node_work, node_bits, chooses}
 
 -- amounts, and how they are put together
 pub record Sum : Type 1 where
@@ -36,7 +37,7 @@ module _ (p : Program) (S : Sum) where
     pub operands : Node → S.Amount
     operands (Const v) = S.none
     operands (Var o) = S.none
-    operands (Index o i) = expression i
+    operands (Index o is) = arguments is
     operands (Unary op a) = expression a
     operands (Cast a) = expression a
     operands (Step op a) = target a
@@ -47,16 +48,16 @@ module _ (p : Program) (S : Sum) where
     operands (Assign op a b) = S.both (target a) (expression b)
     operands (Call callee es close) = S.both (arguments es) (called callee es)
 
-    -- what an assignment or a step puts its value into: a node, and its index
+    -- what an assignment or a step puts its value into: a node, and its indexes
     pub target : Exp → S.Amount
-    target (Expr spot ty n) = S.both (S.part expression_weight 0) (index_of n)
+    target (Expr spot ty n) = S.both (S.part expression_weight 0) (indexes_of n)
 
-    -- the index of an element
-    pub index_of : Node → S.Amount
-    index_of (Index o i) = expression i
-    index_of _ = S.none
+    -- the indexes of an element
+    pub indexes_of : Node → S.Amount
+    indexes_of (Index o is) = arguments is
+    indexes_of _ = S.none
 
-    -- the arguments of a call
+    -- the arguments of a call, or indexes
     pub arguments : Exps → S.Amount
     arguments NoExp = S.none
     arguments (MoreExp e es) = S.both (expression e) (arguments es)
@@ -84,11 +85,17 @@ module _ (p : Program) (S : Sum) where
   initials o NoExp = S.none
   initials o (MoreExp e es) = S.both (initial o e) (initials o es)
 
+  -- the values of rows
+  abbrev pub row_initials : ℕ → List Exps → S.Amount
+  row_initials o [] = S.none
+  row_initials o (es ∷ rows) = S.both (initials o es) (row_initials o rows)
+
   -- a declared object: its cells, which are drawn where it has no initializer, and the values of its initializer
   abbrev pub initialised : ℕ → Init → S.Amount
   initialised o Absent = S.part (4 * bits_of_object p o) (bits_of_object p o)
   initialised o (One e) = S.both (S.part (4 * bits_of_object p o) 0) (initial o e)
   initialised o (Many es) = S.both (S.part (4 * bits_of_object p o) 0) (initials o es)
+  initialised o (Rows rows) = S.both (S.part (4 * bits_of_object p o) 0) (row_initials o rows)
 
   -- the objects of a declaration
   abbrev pub declared : Names → S.Amount
@@ -133,16 +140,18 @@ module _ (p : Program) (S : Sum) where
         form at Continue = S.none
         form at (Return e) = given result e
         form at (Label b) = statement b
+        form at (Switch e b) = S.both (expression e) (S.both (S.part (chooses p.model (type_of e) (labels_in b)) 0) (statements b))
 
         -- the arm behind `else`
         pub otherwise : Else → S.Amount
         otherwise NoElse = S.none
         otherwise (OrElse b) = statement b
 
-        -- the statements of a block
+        -- the statements of a block, or those of the arms of a switch
         pub statements : Stms → S.Amount
         statements NoStm = S.none
         statements (MoreStm s b) = S.both (statement s) (statements b)
+        statements (MoreCase spot l b) = statements b
 
       -- a function's body is no place of an invariant
       abbrev pub function_body : Stm → S.Amount

@@ -97,7 +97,10 @@ fn operands(program: &Program, calls: &mut Vec<u32>, node: &Node) -> Result<Cost
     match node {
         Node::Const(_) => Ok(nothing()),
         Node::Var(_) => Ok(nothing()),
-        Node::Index { at, .. } => expression(program, calls, at),
+        Node::Index { at, .. } => {
+            let inner = arguments(program, calls, at.as_slice())?;
+            Ok(inner)
+        }
         Node::Unary { of, .. } => expression(program, calls, of),
         Node::Cast(of) => expression(program, calls, of),
         Node::Step { target: of, .. } => target(program, calls, of),
@@ -146,17 +149,20 @@ fn target(program: &Program, calls: &mut Vec<u32>, e: &Expr) -> Result<Cost, Out
     ensures cost { IfOk result (λ c. c ≡ (sums.target (program_view program.now) tallying (expr_view e.now)).cost) }
     ensures calls { OnOk result (calls.new.items ≡ calls.old.items ++ (sums.target (program_view program.now) tallying (expr_view e.now)).calls) }
 {
-    let index = index_of(program, calls, &e.node)?;
-    Ok(plus(weighs(16), index))
+    let indexes = indexes_of(program, calls, &e.node)?;
+    Ok(plus(weighs(16), indexes))
 }
 
 #[cycle(expression)]
-fn index_of(program: &Program, calls: &mut Vec<u32>, node: &Node) -> Result<Cost, OutOfMemory>
-    ensures cost { IfOk result (λ c. c ≡ (sums.index_of (program_view program.now) tallying (node_view node.now)).cost) }
-    ensures calls { OnOk result (calls.new.items ≡ calls.old.items ++ (sums.index_of (program_view program.now) tallying (node_view node.now)).calls) }
+fn indexes_of(program: &Program, calls: &mut Vec<u32>, node: &Node) -> Result<Cost, OutOfMemory>
+    ensures cost { IfOk result (λ c. c ≡ (sums.indexes_of (program_view program.now) tallying (node_view node.now)).cost) }
+    ensures calls { OnOk result (calls.new.items ≡ calls.old.items ++ (sums.indexes_of (program_view program.now) tallying (node_view node.now)).calls) }
 {
     match node {
-        Node::Index { at, .. } => expression(program, calls, at),
+        Node::Index { at, .. } => {
+            let inner = arguments(program, calls, at.as_slice())?;
+            Ok(inner)
+        }
         _ => Ok(nothing()),
     }
 }

@@ -1,7 +1,7 @@
 // What statements weigh and draw, and the functions that they call.
 ghost use Rattle.std.specs.Prelude.{◌≡◌, ◌++◌, IfOk, OnOk};
 ghost use Rattle.c_calls.specs.Loops.{changed_if, loop_of};
-ghost use Rattle.c_core.specs.View.{expr_view, expr_view_if, exprs_view, first_view, form_view, init_view, names_view, program_view, stmt_view, stmts_view};
+ghost use Rattle.c_core.specs.View.{expr_view, expr_view_if, exprs_view, first_view, form_view, init_view, names_view, program_view, rows_view, stmt_view, stmts_view, switch_view};
 ghost use Rattle.sym_weight.specs.Sum as sums;
 ghost use Rattle.sym_weight.specs.Table as table;
 ghost use Rattle.sym_weight.specs.Tally.{capped, placed_of, tallying};
@@ -10,9 +10,9 @@ ghost use Rattle.sym_weight.specs.Views.{else_of};
 use crate::cost::{Cost, draws, nothing, plus, weighs};
 use crate::expressions::expression;
 use crate::placed::{Weights, weight_at};
-use crate::table::{bits_of_object, returned, stored, tested};
+use crate::table::{bits_of_object, chooses, returned, stored, tested};
 use c_calls::changed_in;
-use c_core::{Declared, Expr, First, Form, Init, IntType, Program, Spot, Stmt};
+use c_core::{Arm, Declared, Expr, First, Form, Init, IntType, Program, Row, Spot, Stmt};
 use c_meaning::{type_of, type_of_object};
 use std::alloc::Global;
 use wv_base::OutOfMemory;
@@ -93,6 +93,23 @@ fn initials(
     Ok(sum)
 }
 
+fn row_initials(
+    program: &Program,
+    calls: &mut Vec<u32>,
+    object: u32,
+    rows: &[Row],
+) -> Result<Cost, OutOfMemory>
+    ensures cost { IfOk result (λ c. c ≡ (sums.row_initials (program_view program.now) tallying object (rows_view rows.now)).cost) }
+    ensures calls { OnOk result (calls.new.items ≡ calls.old.items ++ (sums.row_initials (program_view program.now) tallying object (rows_view rows.now)).calls) }
+{
+    let mut sum = nothing();
+    for row in rows {
+        let values = initials(program, calls, object, row.values.as_slice())?;
+        sum = plus(sum, values);
+    }
+    Ok(sum)
+}
+
 fn initialised(
     program: &Program,
     calls: &mut Vec<u32>,
@@ -111,6 +128,10 @@ fn initialised(
         }
         Init::Many(es) => {
             let values = initials(program, calls, object, es.as_slice())?;
+            Ok(plus(weighs(4 * bits), values))
+        }
+        Init::Rows(rows) => {
+            let values = row_initials(program, calls, object, rows.as_slice())?;
             Ok(plus(weighs(4 * bits), values))
         }
     }
@@ -261,6 +282,13 @@ pub fn form(
         Form::Continue => Ok(nothing()),
         Form::Return(e) => given(program, calls, returns, e),
         Form::Label(of) => statement(weigher, calls, returns, of),
+        Form::Switch { test, arms } => {
+            let arms = arms.as_slice();
+            let choice = weighs(chooses(program.model, type_of(test), arms));
+            let test = expression(program, calls, test)?;
+            let inner = statements_of_arms(weigher, calls, returns, arms)?;
+            Ok(plus(test, plus(choice, inner)))
+        }
     }
 }
 
@@ -293,6 +321,24 @@ fn statements(
     let mut sum = nothing();
     for s in body {
         let cost = statement(weigher, calls, returns, s)?;
+        sum = plus(sum, cost);
+    }
+    Ok(sum)
+}
+
+#[cycle(statement)]
+fn statements_of_arms(
+    weigher: Weigher,
+    calls: &mut Vec<u32>,
+    returns: Option<IntType>,
+    arms: &[Arm],
+) -> Result<Cost, OutOfMemory>
+    ensures cost { IfOk result (λ c. c ≡ (sums.statements (program_view weigher.entry.program.now) tallying (placed_of weigher.entry) returns (switch_view arms.now)).cost) }
+    ensures calls { OnOk result (calls.new.items ≡ calls.old.items ++ (sums.statements (program_view weigher.entry.program.now) tallying (placed_of weigher.entry) returns (switch_view arms.now)).calls) }
+{
+    let mut sum = nothing();
+    for arm in arms {
+        let cost = statements(weigher, calls, returns, arm.body.as_slice())?;
         sum = plus(sum, cost);
     }
     Ok(sum)

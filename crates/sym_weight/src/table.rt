@@ -3,13 +3,14 @@ ghost use Rattle.std.specs.Prelude.{◌≡◌, ◌≤◌, ◌<◌, ◌^◌};
 ghost use Rattle.c_core.specs.Operators as operators;
 ghost use Rattle.c_core.specs.Types.{width_of};
 ghost use Rattle.c_core.specs.Typing as typing;
-ghost use Rattle.c_core.specs.View.{expr_view, node_view, program_view};
+ghost use Rattle.c_core.specs.View.{expr_view, exprs_view, node_view, program_view, switch_view};
 ghost use Rattle.c_meaning.specs.Objects as objects;
 ghost use Rattle.sym_weight.specs.Table as table;
+ghost use Rattle.sym_weight.specs.Tally.{capped};
 
 use c_core::{
-    BinOp, Callee, DataModel, Expr, IntType, Node, Program, StepOp, UnOp, op_of_step, promote,
-    right_type_for, type_for,
+    Arm, BinOp, Callee, DataModel, Expr, IntType, Label, Node, Program, StepOp, UnOp, op_of_step,
+    promote, right_type_for, type_for,
 };
 use c_meaning::{size_of_object, type_of, type_of_object};
 
@@ -167,11 +168,23 @@ pub fn bits_of_object(program: &Program, object: u32) -> u64
     u64::from(size_of_object(program, object)) * width_of_object(program, object)
 }
 
-fn element(program: &Program, object: u32) -> u64
-    ensures value { result ≡ table.element (program_view program.now) object }
+#[tactic(auto, using(crate::proofs::Indexed::one_weight, crate::proofs::Indexed::two_weight))]
+fn indexes_weight(at: &[Expr]) -> u64
+    ensures value { result ≡ table.indexes_weight (exprs_view at.now) }
+    ensures bound { result ≤ 512 }
+{
+    match at {
+        [_, _, ..] => 512,
+        _ => 256,
+    }
+}
+
+fn element(program: &Program, object: u32, at: &[Expr]) -> u64
+    ensures value { result ≡ table.element (program_view program.now) object (exprs_view at.now) }
     ensures bound { result < 2 ^ 42 }
 {
-    u64::from(size_of_object(program, object)) * (4 * width_of_object(program, object) + 16) + 256
+    let each = 4 * width_of_object(program, object) + 16;
+    u64::from(size_of_object(program, object)) * each + indexes_weight(at)
 }
 
 fn read(program: &Program, e: &Expr) -> u64
@@ -179,7 +192,7 @@ fn read(program: &Program, e: &Expr) -> u64
     ensures bound { result < 2 ^ 42 }
 {
     match &e.node {
-        Node::Index { object, .. } => element(program, *object),
+        Node::Index { object, at } => element(program, *object, at.as_slice()),
         _ => 0,
     }
 }
@@ -190,7 +203,7 @@ fn written(program: &Program, e: &Expr) -> u64
 {
     match &e.node {
         Node::Var(object) => 4 * width_of_object(program, *object),
-        Node::Index { object, .. } => element(program, *object),
+        Node::Index { object, at } => element(program, *object, at.as_slice()),
         _ => 0,
     }
 }
@@ -204,7 +217,7 @@ pub fn node_work(program: &Program, ty: Option<IntType>, node: &Node) -> u64
     match node {
         Node::Const(_) => 0,
         Node::Var(_) => 0,
-        Node::Index { object, .. } => element(program, *object),
+        Node::Index { object, at } => element(program, *object, at.as_slice()),
         Node::Unary { op, of } => {
             let to = promote(model, type_of(of));
             conversion(model, type_of(of), to) + unary_weight(model, *op, to)
@@ -259,4 +272,32 @@ pub fn node_bits(program: &Program, node: &Node) -> u64
         Node::Call { callee, .. } => callee_bits(program, *callee),
         _ => 0,
     }
+}
+
+fn label_weight(model: DataModel, ty: IntType, label: Label) -> u64
+    ensures value { result ≡ table.label_weight model ty label }
+    ensures bound { result < 2 ^ 18 }
+{
+    match label {
+        Label::Case(_) => 16 * width(model, ty) + 64,
+        Label::Default => 0,
+    }
+}
+
+fn labels_weight(model: DataModel, ty: IntType, arms: &[Arm]) -> u64
+    ensures { result ≡ capped (table.labels_weight model ty (typing.labels_in (switch_view arms.now))) }
+{
+    let mut sum = 0u64;
+    for arm in arms {
+        sum = sum.saturating_add(label_weight(model, ty, arm.label));
+    }
+    sum
+}
+
+/// The choice of an arm by a test of this type.
+pub fn chooses(model: DataModel, ty: IntType, arms: &[Arm]) -> u64
+    ensures { result ≡ capped (table.chooses model ty (typing.labels_in (switch_view arms.now))) }
+{
+    let to = promote(model, ty);
+    conversion(model, ty, to).saturating_add(labels_weight(model, to, arms))
 }

@@ -176,7 +176,7 @@ fn lack_text(alloc: Global, claim: &Claim<'_, '_>) -> Result<String, OutOfMemory
     match lack_of(alloc, claim.is_result, claim.expression)? {
         Lack::Types => Ok(String::from_str(
             alloc,
-            "it is an expression, but its types don't fit: an array stands without an index, or an object has one",
+            "it is an expression, but its types don't fit: an array has fewer or more indexes than dimensions, or an object has one",
         )?),
         Lack::Grammar(front) => {
             let rest = claim.expression.get(front..).unwrap_or("");
@@ -219,6 +219,40 @@ fn explain_expression(
         "constraint.value"
     };
     note_in_witness(alloc, files, claim, key, out)
+}
+
+/// What a branching may state at its place.
+fn ways_there(index: &Index, location: &Location) -> &'static str {
+    let place = index.place_at(PlaceKind::Branch, location.line, location.column);
+    let switch = match place {
+        Some(spot) => index.switch_at(spot),
+        None => None,
+    };
+    match switch {
+        Some(_) => "at a `switch` the value is to be an integer or `default`",
+        None => "the value is to be `true` or `false`, as no `switch` stands there",
+    }
+}
+
+/// A branching that states no way that there is at its place.
+fn explain_way(
+    alloc: Global,
+    files: &Files<'_>,
+    index: &Index,
+    claim: &Claim<'_, '_>,
+    out: &mut Messages,
+) -> Result<(), OutOfMemory> {
+    let head = head(alloc, claim)?;
+    let head = head.as_str();
+    let rule = ways_there(index, claim.location);
+    let told = format!(in alloc; "{head}: {rule}")?;
+    out.error(
+        "expression",
+        File::Program,
+        Some(spot_of(claim.location)),
+        told,
+    )?;
+    note_in_witness(alloc, files, claim, "constraint.value", out)
 }
 
 /// The words of an expression that name no visible object, each once.
@@ -327,7 +361,13 @@ pub fn explain_claim(
     let index = Index::new(alloc, program)?;
     match fault {
         BindFault::NoPlace(_) => explain_place(alloc, files, &index, claim, out),
-        BindFault::Expression(_) => explain_expression(alloc, files, claim, out),
+        BindFault::Expression(_) => {
+            if matches!(claim.wanted, Wanted::Place(PlaceKind::Branch)) {
+                explain_way(alloc, files, &index, claim, out)
+            } else {
+                explain_expression(alloc, files, claim, out)
+            }
+        }
         BindFault::Scope(_) => explain_scope(alloc, files, &index, claim, out),
         BindFault::OutOfMemory => Err(OutOfMemory),
     }

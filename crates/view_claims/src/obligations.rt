@@ -2,7 +2,7 @@
 use crate::binding::{claim_of_invariant, head};
 use crate::names::name_of;
 use c_calls::changed;
-use c_core::{Program, Spot};
+use c_core::{Object, Program, Spot};
 use c_meaning::{Draw, DrawKind, Duty, DutyKind, size_of_object};
 use std::alloc::Global;
 use view_runs::{declared_at, is_same_spot, type_word};
@@ -133,21 +133,28 @@ fn cells_at(alloc: Global, program: &Program, spot: Spot) -> Result<Vec<Cell>, O
     Ok(cells)
 }
 
-fn is_array(program: &Program, object: u32) -> bool {
-    match program.objects.get(object as usize) {
-        Some(object) => object.array,
-        None => false,
+/// The indexes of a cell, each in brackets.
+fn indexes_text(alloc: Global, object: &Object, index: u32) -> Result<String, OutOfMemory> {
+    match object.dims {
+        0 => Ok(String::new(alloc)),
+        1 => Ok(format!(in alloc; "[{index}]")?),
+        _ => {
+            let columns = object.columns;
+            let row = index.checked_div(columns).unwrap_or(0);
+            let column = index.checked_rem(columns).unwrap_or(0);
+            Ok(format!(in alloc; "[{row}][{column}]")?)
+        }
     }
 }
 
 fn cell_name(alloc: Global, program: &Program, cell: Cell) -> Result<String, OutOfMemory> {
     let name = name_of(program, cell.object);
-    let index = cell.index;
-    if is_array(program, cell.object) {
-        Ok(format!(in alloc; "`{name}[{index}]`")?)
-    } else {
-        Ok(format!(in alloc; "`{name}`")?)
-    }
+    let indexes = match program.objects.get(cell.object as usize) {
+        Some(object) => indexes_text(alloc, object, cell.index)?,
+        None => String::new(alloc),
+    };
+    let indexes = indexes.as_str();
+    Ok(format!(in alloc; "`{name}{indexes}`")?)
 }
 
 /// Draws that follow one another at one place.

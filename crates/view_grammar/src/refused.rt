@@ -115,7 +115,7 @@ pub fn explain_syntax(
             out.remark(
                 File::Program,
                 Some(item),
-                "it stands in the item that begins here; no pointers, struct, union, enum, typedef, switch, goto, sizeof or floating point are read",
+                "it stands in the item that begins here; no pointers, struct, union, enum, typedef, goto, sizeof or floating point are read",
             )
         }
         ParseFault::OutOfMemory => Err(OutOfMemory),

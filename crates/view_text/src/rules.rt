@@ -33,11 +33,11 @@ pub fn advice(code: &str) -> &'static str {
         "check-name" =>
             "this word names no object in scope, and no function that was declared before",
         "check-again" =>
-            "this name is declared in this scope already, or this label in this function",
+            "this name is declared in this scope already, this label in this function, or this constant or default in this switch",
         "check-typing" =>
-            "a rule on types is broken here: of operands, of arguments, of an initializer, or of return, break or continue",
+            "a rule on types is broken here: of operands, arguments, indexes, an initializer, a case constant, or of return, break or continue",
         "check-size" =>
-            "an array has a constant size from 1 to 256, and at most as many initializers",
+            "an array has one or two constant sizes, at most 1,024 elements, and at most as many initializers",
         "check-order" =>
             "operands without an order change or read one object here, or call two functions that are defined in this file: give each its own statement",
         "check-body" => "this function has no body here, and isn't one of those that are built in",
@@ -56,7 +56,7 @@ pub fn wanted_place(kind: &str) -> &'static str {
         "assumption" | "location_invariant" =>
             "the first character of a statement or of a declaration in a block",
         "loop_invariant" => "the first character of while, for or do",
-        "branching" => "the first character of if, while, for or do, or the ? of a conditional",
+        "branching" => "the first character of if, while, for, do or switch, or the ? of a conditional",
         "function_enter" | "function_return" => "the closing parenthesis of a call",
         _ => "the first character of a statement, of a full expression or of a call of reach_error",
     }

@@ -17,7 +17,7 @@ use Rattle.way_match.specs.Points.{Point, ReturnTest}
 use Rattle.way_bind.specs.declared.fault.Unbound.{Unbound}
 use Rattle.way_bind.specs.declared.fault.Unbound.TheVariants.{NoPlace, Expression, Scope, OutOfMemory}
 use Rattle.way_bind.proofs.OneLaws.{One, one_made, one_placed}
-use Rattle.way_bind.specs.Binding.{BindsExpression, BindsTest, BindsReturn, BindsAssumption, BindsKind, BindsPoint, is_valued, place_named, text_of, way_of, BindsEntry, BindsBranching}
+use Rattle.way_bind.specs.Binding.{BindsExpression, BindsTest, BindsReturn, BindsAssumption, BindsKind, BindsPoint, is_valued, place_named, text_of, BindsEntry, BindsBranching}
 
 -- ---- typed, mistyped and out of scope exclude one another
 
@@ -116,7 +116,7 @@ one_kind p Assumption at v r q h k =
 one_kind p Target at v r q h k = inl (h ∙ sym k)
 one_kind p FunctionEnter at v r q h k = one_placed (place_named p place.CallEnd at) BindsEntry (λ close r q h k. inl (h ∙ sym k)) r q h k
 one_kind p FunctionReturn at v r q h k = one_placed (place_named p place.CallEnd at) (BindsReturn p v) (λ close. one_return p v close) r q h k
-one_kind p Branching at v r q h k = one_placed (place_named p place.Branch at) (BindsBranching (way_of v)) (λ spot r q h k. inl (h ∙ sym k)) r q h k
+one_kind p Branching at v r q h k = one_placed (place_named p place.Branch at) (BindsBranching p (text_of v)) (λ spot r q h k. inl (h ∙ sym k)) r q h k
 
 -- one point, or one first failing test
 pub one_point : (p : Program) (v : Waypoint) (r q : Result Point Unbound) → BindsPoint p v r → BindsPoint p v q → One r q

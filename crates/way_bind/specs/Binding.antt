@@ -1,9 +1,8 @@
 -- Violation witnesses bound to the places and the typed expressions of a program. A waypoint passes four tests, in this order: its
 -- place exists; its expression is in the grammar; its names are in scope, and a `\result` constraint isn't at a call of a void
 -- function; its expression types. The least waypoint that fails one is told, by the first test that it fails.
-use Rattle.std.specs.Prelude.{◌≡◌, ◌⊎◌, ℕ, Bool, true, false, cond, is_some, List, [], ◌∷◌, ◌++◌, Option, Some, None, Result, Ok, Err, codes}
+use Rattle.std.specs.Prelude.{◌≡◌, ◌⊎◌, ℕ, Bool, true, false, cond, is_some, List, [], ◌∷◌, ◌++◌, Option, Some, None, Result, Ok, Err}
 use Rattle.std.specs.List.{flat_map}
-use Rattle.std.specs.Str.{bytes_eq}
 use Rattle.c_core.specs.Tree.{Exp, Expr, Program}
 use Rattle.c_core.specs.Places.{place_at, aim_fits, call_at}
 use Rattle.c_core.specs.declared.number.BinOp.{BinOp}
@@ -12,6 +11,7 @@ use Rattle.c_core.specs.declared.place.PlaceKind.{PlaceKind}
 use Rattle.c_core.specs.declared.place.PlaceKind.TheVariants as place
 use Rattle.c_parser.specs.Tree as raw
 use Rattle.c_parser.specs.Witness.{IsWitnessExpression, IsResultTest}
+use Rattle.c_meaning.specs.declared.run.Way.{Way}
 use Rattle.way_names.specs.Visible.{names_at}
 use Rattle.way_constraint.specs.Constraints.{IsTyped, IsMistyped, entries, in_scope}
 use Rattle.wv_schema.specs.declared.witness.WayKind.{WayKind}
@@ -32,6 +32,7 @@ use Rattle.way_bind.specs.declared.fault.Unbound.{Unbound}
 use Rattle.way_bind.specs.declared.fault.Unbound.TheVariants.{NoPlace, Expression, Scope, OutOfMemory}
 use Rattle.way_bind.specs.declared.fault.BindFault.{BindFault}
 use Rattle.way_bind.specs.InOrder.{Each, AllBound, TellsLeast}
+use Rattle.way_bind.specs.Ways.{way_at}
 
 -- ---- the parts of a waypoint
 
@@ -47,10 +48,6 @@ is_suitable p v = aim_fits p v.line v.column
 abbrev pub text_of : Option Constraint → List ℕ
 text_of None = []
 text_of (Some v) = v.value
-
--- the way of a branching; the schema leaves `true` and `false` alone
-abbrev pub way_of : Option Constraint → Bool
-way_of v = bytes_eq (text_of v) (codes "true")
 
 -- where a target lies
 abbrev pub aim_of : ℕ → Option ℕ → point.Aim
@@ -138,9 +135,14 @@ BindsReturn p (Some v) close answer = BindsTested p v.value close answer
 abbrev pub BindsEntry : Spot → Result Point Unbound → Type 0
 BindsEntry close answer = answer ≡ Ok (point.Enter close)
 
--- a branching needs its place alone
-abbrev pub BindsBranching : Bool → Spot → Result Point Unbound → Type 0
-BindsBranching way spot answer = answer ≡ Ok (point.Branch spot way)
+-- a branching there takes this way, if there is one
+abbrev pub branching_by : Spot → Option Way → Result Point Unbound
+branching_by spot None = Err Expression
+branching_by spot (Some way) = Ok (point.Branch spot way)
+
+-- a branching needs its place, and states a way there
+abbrev pub BindsBranching : Program → List ℕ → Spot → Result Point Unbound → Type 0
+BindsBranching p text spot answer = answer ≡ branching_by spot (way_at p spot text)
 
 -- a target is bound where one may lie
 abbrev pub target_at : Program → Location → Result Point Unbound
@@ -152,7 +154,7 @@ BindsKind p Assumption at v answer = WherePlaced (place_named p place.Statement 
 BindsKind p Target at v answer = answer ≡ target_at p at
 BindsKind p FunctionEnter at v answer = WherePlaced (place_named p place.CallEnd at) BindsEntry answer
 BindsKind p FunctionReturn at v answer = WherePlaced (place_named p place.CallEnd at) (BindsReturn p v) answer
-BindsKind p Branching at v answer = WherePlaced (place_named p place.Branch at) (BindsBranching (way_of v)) answer
+BindsKind p Branching at v answer = WherePlaced (place_named p place.Branch at) (BindsBranching p (text_of v)) answer
 
 -- a waypoint is bound to a point, or this is the first test that it fails
 abbrev pub BindsPoint : Program → Waypoint → Result Point Unbound → Type 0

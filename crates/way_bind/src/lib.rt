@@ -6,6 +6,7 @@ mod binding;
 mod fault;
 mod laws;
 mod lookup;
+mod way;
 mod waypoint;
 
 pub use binding::{bind_violation, told};

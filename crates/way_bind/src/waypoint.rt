@@ -6,10 +6,11 @@ ghost use Rattle.c_parser.specs.View.{expr_view as raw_view};
 ghost use Rattle.way_constraint.specs.Constraints.{AnswersConstraint};
 ghost use Rattle.way_names.specs.Visible.{is_scoped, names_at};
 ghost use Rattle.way_match.specs.View.{aim_view, point_view, test_view};
-ghost use Rattle.way_bind.specs.Binding.{BindsAssumption, BindsBranching, BindsEntry, BindsExpression, BindsPoint, BindsReturn, BindsTest, BindsTested, WherePlaced, aim_of, is_suitable, is_valued, place_named, seen, target_at, text_of, way_of};
+ghost use Rattle.way_bind.specs.Binding.{BindsAssumption, BindsBranching, BindsEntry, BindsExpression, BindsPoint, BindsReturn, BindsTest, BindsTested, WherePlaced, aim_of, is_suitable, is_valued, place_named, seen, target_at, text_of};
 
 use crate::fault::Unbound;
 use crate::lookup::Lookup;
+use crate::way::way_at;
 use c_core::{Expr, PlaceKind, Program, Spot};
 use c_parser::{ExprFault, RawExpr, parse_expr, parse_result};
 use std::alloc::Global;
@@ -27,12 +28,6 @@ fn text_of(constraint: &Option<Constraint>) -> &str
         Some(constraint) => constraint.value.as_str(),
         None => "",
     }
-}
-
-fn way_of(constraint: &Option<Constraint>) -> bool
-    ensures { result ≡ way_of constraint.now }
-{
-    text_of(constraint) == "true"
 }
 
 fn aim_of(location: &Location) -> Aim
@@ -200,13 +195,22 @@ fn function_return(alloc: Global, index: &Index, waypoint: &Waypoint) -> Result<
     }
 }
 
+fn branching_at(index: &Index, text: &str, spot: Spot) -> Result<Point, Unbound>
+    ensures { BindsBranching (program_view index.now) text.now spot (seen point_view result) }
+{
+    match way_at(index, spot, text) {
+        None => Err(Unbound::Expression),
+        Some(way) => Ok(Point::Branch(spot, way)),
+    }
+}
+
 fn branching(index: &Index, waypoint: &Waypoint) -> Result<Point, Unbound>
     ensures { WherePlaced (place_named (program_view index.now) Branch waypoint.now.location)
-        (BindsBranching (way_of waypoint.now.constraint)) (seen point_view result) }
+        (BindsBranching (program_view index.now) (text_of waypoint.now.constraint)) (seen point_view result) }
 {
     match place_named(index, PlaceKind::Branch, &waypoint.location) {
         None => Err(Unbound::NoPlace),
-        Some(spot) => Ok(Point::Branch(spot, way_of(&waypoint.constraint))),
+        Some(spot) => branching_at(index, text_of(&waypoint.constraint), spot),
     }
 }
 

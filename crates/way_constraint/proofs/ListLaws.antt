@@ -23,9 +23,9 @@ entries_more objects numbers i h =
     ∙ ap (λ es. entries objects (take i numbers) ++ es) (append-nil (entry_at n (slice_get objects n)))
 
 -- an object is declared
-pub object_declared : (s s' : InScope) (n : ℕ) (x : List ℕ) (o : Object) → s' ≡ with_name s (entry x (kind.Object n o.ty o.array o.fixed)) → x ≡ o.name → all_of s' ≡ all_of s ++ entry_at n (Some o)
+pub object_declared : (s s' : InScope) (n : ℕ) (x : List ℕ) (o : Object) → s' ≡ with_name s (entry x (kind.Object n o.ty o.dims o.fixed)) → x ≡ o.name → all_of s' ≡ all_of s ++ entry_at n (Some o)
 object_declared s s' n x o e f =
-    let k = kind.Object n o.ty o.array o.fixed in
+    let k = kind.Object n o.ty o.dims o.fixed in
     ap all_of e ∙ sym (append_assoc s.outer s.inner (entry x k ∷ [])) ∙ ap (λ (y : List ℕ). all_of s ++ entry y k ∷ []) f
 
 -- a number of no object adds nothing

@@ -17,33 +17,33 @@ use Rattle.way_constraint.specs.Known.{is_object, means_object, word_is_object}
 -- a word is none of the names, or an object of one of these numbers
 data IsFound (numbers : List ℕ) : Option Kind → Bool → Type 0 where
   Nowhere : IsFound numbers None false
-  There : {n : ℕ} {ty : IntType} {array fixed : Bool} → is_in n numbers ≡ true → IsFound numbers (Some (Object n ty array fixed)) true
+  There : {n : ℕ} {ty : IntType} {dims : ℕ} {fixed : Bool} → is_in n numbers ≡ true → IsFound numbers (Some (Object n ty dims fixed)) true
 
 same_number : (n : ℕ) (b : Bool) → (nat_eq n n || b) ≡ true
 same_number n b = ap (λ x. x || b) (eq-eqb n n refl)
 
 found_wider : (n : ℕ) (ns : List ℕ) (k : Option Kind) (t : Bool) → IsFound ns k t → IsFound (n ∷ ns) k t
 found_wider n ns None false Nowhere = Nowhere
-found_wider n ns (Some (Object o ty array fixed)) true (There h) = There (or_right (nat_eq o n) (is_in o ns) h)
+found_wider n ns (Some (Object o ty dims fixed)) true (There h) = There (or_right (nat_eq o n) (is_in o ns) h)
 found_wider n ns None true h = elim h [ ]
-found_wider n ns (Some (Object o ty array fixed)) false h = elim h [ ]
+found_wider n ns (Some (Object o ty dims fixed)) false h = elim h [ ]
 found_wider n ns (Some (Function result stated has_body)) t h = elim h [ ]
 found_wider n ns (Some Closed) t h = elim h [ ]
 
-found_behind : (n : ℕ) (ns : List ℕ) (ty : IntType) (array fixed : Bool) (b : Bool) (k : Option Kind) (t : Bool)
-    → IsFound ns k t → IsFound (n ∷ ns) (later (cond b (Some (Object n ty array fixed)) None) k) (b || t)
-found_behind n ns ty array fixed true None false Nowhere = There (same_number n (is_in n ns))
-found_behind n ns ty array fixed false None false Nowhere = Nowhere
-found_behind n ns ty array fixed true (Some (Object o ty' array' fixed')) true (There h) = There (or_right (nat_eq o n) (is_in o ns) h)
-found_behind n ns ty array fixed false (Some (Object o ty' array' fixed')) true (There h) = There (or_right (nat_eq o n) (is_in o ns) h)
-found_behind n ns ty array fixed false None true h = elim h [ ]
-found_behind n ns ty array fixed true None true h = elim h [ ]
-found_behind n ns ty array fixed false (Some (Object o ty' array' fixed')) false h = elim h [ ]
-found_behind n ns ty array fixed true (Some (Object o ty' array' fixed')) false h = elim h [ ]
-found_behind n ns ty array fixed false (Some (Function result stated has_body)) t h = elim h [ ]
-found_behind n ns ty array fixed true (Some (Function result stated has_body)) t h = elim h [ ]
-found_behind n ns ty array fixed false (Some Closed) t h = elim h [ ]
-found_behind n ns ty array fixed true (Some Closed) t h = elim h [ ]
+found_behind : (n : ℕ) (ns : List ℕ) (ty : IntType) (dims : ℕ) (fixed : Bool) (b : Bool) (k : Option Kind) (t : Bool)
+    → IsFound ns k t → IsFound (n ∷ ns) (later (cond b (Some (Object n ty dims fixed)) None) k) (b || t)
+found_behind n ns ty dims fixed true None false Nowhere = There (same_number n (is_in n ns))
+found_behind n ns ty dims fixed false None false Nowhere = Nowhere
+found_behind n ns ty dims fixed true (Some (Object o ty' dims' fixed')) true (There h) = There (or_right (nat_eq o n) (is_in o ns) h)
+found_behind n ns ty dims fixed false (Some (Object o ty' dims' fixed')) true (There h) = There (or_right (nat_eq o n) (is_in o ns) h)
+found_behind n ns ty dims fixed false None true h = elim h [ ]
+found_behind n ns ty dims fixed true None true h = elim h [ ]
+found_behind n ns ty dims fixed false (Some (Object o ty' dims' fixed')) false h = elim h [ ]
+found_behind n ns ty dims fixed true (Some (Object o ty' dims' fixed')) false h = elim h [ ]
+found_behind n ns ty dims fixed false (Some (Function result stated has_body)) t h = elim h [ ]
+found_behind n ns ty dims fixed true (Some (Function result stated has_body)) t h = elim h [ ]
+found_behind n ns ty dims fixed false (Some Closed) t h = elim h [ ]
+found_behind n ns ty dims fixed true (Some Closed) t h = elim h [ ]
 
 module _ (x : List ℕ) where
   abbrev has_name : Entry → Bool
@@ -52,7 +52,7 @@ module _ (x : List ℕ) where
   found_next : (n : ℕ) (ns : List ℕ) (o : Option declared.Object) (es : List Entry)
       → IsFound ns (declared_as es x) (list_any has_name es) → IsFound (n ∷ ns) (declared_as (entry_at n o ++ es) x) (list_any has_name (entry_at n o ++ es))
   found_next n ns None es h = found_wider n ns (declared_as es x) (list_any has_name es) h
-  found_next n ns (Some o) es h = found_behind n ns o.ty o.array o.fixed (bytes_eq o.name x) (declared_as es x) (list_any has_name es) h
+  found_next n ns (Some o) es h = found_behind n ns o.ty o.dims o.fixed (bytes_eq o.name x) (declared_as es x) (list_any has_name es) h
 
   found : (objects : List declared.Object) (numbers : List ℕ) → IsFound numbers (declared_as (entries objects numbers) x) (list_any has_name (entries objects numbers))
   found objects [] = Nowhere
@@ -62,17 +62,17 @@ module _ (x : List ℕ) where
 object_found : (numbers : List ℕ) (k : Option Kind) (t : Bool) (built : Option Callee) → IsFound numbers k t → is_object (or_built_in k built) ≡ t
 object_found numbers None false None Nowhere = refl
 object_found numbers None false (Some callee) Nowhere = refl
-object_found numbers (Some (Object n ty array fixed)) true built (There h) = refl
+object_found numbers (Some (Object n ty dims fixed)) true built (There h) = refl
 object_found numbers None true built h = elim h [ ]
-object_found numbers (Some (Object n ty array fixed)) false built h = elim h [ ]
+object_found numbers (Some (Object n ty dims fixed)) false built h = elim h [ ]
 object_found numbers (Some (Function result stated has_body)) t built h = elim h [ ]
 object_found numbers (Some Closed) t built h = elim h [ ]
 
 number_found : (numbers : List ℕ) (k : Option Kind) (t : Bool) (built : Option Callee) → IsFound numbers k t → t ≡ true → is_in (number_named (or_built_in k built)) numbers ≡ true
 number_found numbers None false built Nowhere e = cc
-number_found numbers (Some (Object n ty array fixed)) true built (There h) e = h
+number_found numbers (Some (Object n ty dims fixed)) true built (There h) e = h
 number_found numbers None true built h e = elim h [ ]
-number_found numbers (Some (Object n ty array fixed)) false built h e = elim h [ ]
+number_found numbers (Some (Object n ty dims fixed)) false built h e = elim h [ ]
 number_found numbers (Some (Function result stated has_body)) t built h e = elim h [ ]
 number_found numbers (Some Closed) t built h e = elim h [ ]
 
@@ -87,18 +87,18 @@ module _ (objects : List declared.Object) (numbers : List ℕ) where
 
 pub object_named : (k : Option Kind) → is_object k ≡ true → is_none k ≡ false
 object_named None h = cc
-object_named (Some (Object n ty array fixed)) h = refl
+object_named (Some (Object n ty dims fixed)) h = refl
 object_named (Some (Function result stated has_body)) h = refl
 object_named (Some Closed) h = refl
 
 pub object_uncalled : (k : Option Kind) → is_object k ≡ true → is_function k ≡ false
 object_uncalled None h = refl
-object_uncalled (Some (Object n ty array fixed)) h = refl
+object_uncalled (Some (Object n ty dims fixed)) h = refl
 object_uncalled (Some (Function result stated has_body)) h = cc
 object_uncalled (Some Closed) h = cc
 
 pub object_meant : (k : Option Kind) → means_object (option_map meaning_of k) ≡ is_object k
 object_meant None = refl
-object_meant (Some (Object n ty array fixed)) = refl
+object_meant (Some (Object n ty dims fixed)) = refl
 object_meant (Some (Function result stated has_body)) = refl
 object_meant (Some Closed) = refl

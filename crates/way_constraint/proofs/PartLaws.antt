@@ -40,7 +40,7 @@ module _ (m : DataModel) (items : List Item) (es : List Entry) where
   calls_none (Number v decimal unsigned longs) h = refl
   calls_none (Char v) h = refl
   calls_none (Var x w) h = refl
-  calls_none (Index x w a) h = refl
+  calls_none (Index x w is) h = refl
   calls_none (Unary op a) h = refl
   calls_none (Cast to a) h = refl
   calls_none (Step op a) h = refl
@@ -87,7 +87,7 @@ module _ (m : DataModel) (items : List Item) (es : List Entry) where
     in_node (Number v decimal unsigned longs) h = refl
     in_node (Char v) h = refl
     in_node (Var x w) h = refl
-    in_node (Index x w a) h = refused_by_types Value a h
+    in_node (Index x w is) h = in_arguments is h
     in_node (Unary op a) h = refused_by_types Value a h
     in_node (Cast to a) h = refused_by_types (of_cast to) a h
     in_node (Step op a) h = refused_by_types Target a h

@@ -37,7 +37,7 @@ module _ (m : DataModel) (bodies : List (List ℕ)) (es : List Entry) where
     passive_in p (Number v decimal unsigned longs) = refl
     passive_in p (Char v) = refl
     passive_in p (Var x w) = refl
-    passive_in p (Index x w a) = passive a
+    passive_in p (Index x w is) = passive_all is
     passive_in p (Unary op a) = passive a
     passive_in p (Cast to a) = passive a
     passive_in p (Step op a) = refl
@@ -47,6 +47,10 @@ module _ (m : DataModel) (bodies : List (List ℕ)) (es : List Entry) where
     passive_in p (Comma a b) = both (passive a) (passive b)
     passive_in p (Assign op a b) = refl
     passive_in p (Call f w gs close) = refl
+
+    passive_all : (gs : Exps) → every_typed_argument is_passive_exp (typed_all m bodies es gs) ≡ every_argument is_passive gs
+    passive_all NoExp = refl
+    passive_all (MoreExp e gs) = both (passive e) (passive_all gs)
 
 module _ (m : DataModel) (bodies : List (List ℕ)) (objects : List Object) (numbers : List ℕ) where
   abbrev es : List Entry
@@ -73,7 +77,7 @@ module _ (m : DataModel) (bodies : List (List ℕ)) (objects : List Object) (num
     reads_in p (Number v decimal unsigned longs) k h = refl
     reads_in p (Char v) k h = refl
     reads_in p (Var x w) k h = all_true (number_among objects numbers x k) refl
-    reads_in p (Index x w a) k h = all_true (number_among objects numbers x k) (reads_objects a h)
+    reads_in p (Index x w is) k h = all_true (number_among objects numbers x k) (reads_arguments is h)
     reads_in p (Unary op a) k h = reads_objects a h
     reads_in p (Cast to a) k h = reads_objects a h
     reads_in p (Step op a) k h = reads_objects a h

@@ -22,7 +22,7 @@ use Rattle.check_rules.specs.Typed.{typed}
 -- an object as a name in scope; a number of no object is no name
 abbrev pub entry_at : ℕ → Option Object → List Entry
 entry_at n None = []
-entry_at n (Some o) = entry o.name (kind.Object n o.ty o.array o.fixed) ∷ []
+entry_at n (Some o) = entry o.name (kind.Object n o.ty o.dims o.fixed) ∷ []
 
 -- the objects of these numbers as names, in their order: of two with one name the later one counts
 abbrev pub entries : List Object → List ℕ → List Entry
@@ -80,7 +80,7 @@ is_passive_exp _ = true
 -- the object that is read, where it is one, is among these
 abbrev pub reads_among : List ℕ → t.Exp → Bool
 reads_among numbers (t.Expr p ty (t.Var o)) = is_in o numbers
-reads_among numbers (t.Expr p ty (t.Index o i)) = is_in o numbers
+reads_among numbers (t.Expr p ty (t.Index o is)) = is_in o numbers
 reads_among numbers _ = true
 
 pub record FitsConstraint (numbers : List ℕ) (e : raw.Exp) (tree : t.Exp) : Type 0 where

@@ -8,14 +8,14 @@ use Rattle.check_scope.specs.declared.meaning.Meaning.TheVariants as meaning
 
 abbrev pub is_object : Option Kind → Bool
 is_object None = false
-is_object (Some (Object n ty array fixed)) = true
+is_object (Some (Object n ty dims fixed)) = true
 is_object (Some (Function result stated has_body)) = false
 is_object (Some Closed) = false
 
 -- by what the table tells of a word
 abbrev pub means_object : Option Meaning → Bool
 means_object None = false
-means_object (Some (meaning.Object n ty array fixed)) = true
+means_object (Some (meaning.Object n ty dims fixed)) = true
 means_object (Some (meaning.Function result)) = false
 means_object (Some meaning.Closed) = false
 

@@ -69,7 +69,7 @@ fn parts_name_objects(table: &Table, node: &RawNode) -> bool
         RawNode::Number { .. } => true,
         RawNode::Char(_) => true,
         RawNode::Var { .. } => true,
-        RawNode::Index { at, .. } => names_objects(table, at),
+        RawNode::Index { at, .. } => all_name_objects(table, at.as_slice()),
         RawNode::Unary { of, .. } => names_objects(table, of),
         RawNode::Cast { of, .. } => names_objects(table, of),
         RawNode::Step { target, .. } => names_objects(table, target),

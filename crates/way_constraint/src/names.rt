@@ -15,7 +15,7 @@ fn declare<'a>(table: &mut Table<'a>, number: u32, object: &'a Object) -> Result
     let known = Known::Object {
         number,
         ty: object.ty,
-        array: object.array,
+        dims: object.dims,
         fixed: object.fixed,
     };
     table.declare(object.name.as_str(), known)?;

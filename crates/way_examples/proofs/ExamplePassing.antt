@@ -38,4 +38,8 @@ example_passing = record {
   taken = refl;
   other_way = refl;
   other_branching = refl;
+  chosen = refl;
+  other_arm = refl;
+  by_default = refl;
+  no_default = refl;
 }

@@ -1,6 +1,6 @@
 -- The values that example witnesses give to the input calls of a program.
 use Rattle.std.specs.Prelude.{◌≡◌, ℕ, ℤ, pos, false, true, List, [], ◌∷◌, Option, Some, None}
-use Rattle.c_core.specs.Tree.{Exp, Var, Index, Unary, Cast, Logic, Assign, NoName, Stm, Declare, Label, Program}
+use Rattle.c_core.specs.Tree.{Exp, NoExp, MoreExp, Var, Index, Unary, Cast, Logic, Assign, NoName, Stm, Declare, Label, Switch, Stms, NoStm, MoreStm, MoreCase, Program}
 use Rattle.c_core.specs.declared.number.IntType.{IntType}
 use Rattle.c_core.specs.declared.number.IntType.TheVariants.{Int, UInt, UChar}
 use Rattle.c_core.specs.declared.number.Property.TheVariants.{UnreachCall}
@@ -8,6 +8,7 @@ use Rattle.c_core.specs.declared.number.BinOp.{BinOp}
 use Rattle.c_core.specs.declared.number.BinOp.TheVariants.{Add, Div, Gt, Eq, Ne}
 use Rattle.c_core.specs.declared.number.UnOp.TheVariants.{Not}
 use Rattle.c_core.specs.declared.tree.Callee.TheVariants.{Input}
+use Rattle.c_core.specs.declared.tree.Label.TheVariants.{Case, Default}
 use Rattle.c_meaning.specs.declared.run.Choices.{Choices}
 use Rattle.c_meaning.specs.declared.run.Choices.TheVariants.{Given}
 use Rattle.c_meaning.specs.Examples.{at, exp, number, object, operation, call, int_input, statement, only, declared, declaration, block, return_number, local, cell, main_alone, recurse}
@@ -35,6 +36,17 @@ set_to c op e = only 3 c (exp Int 3 c (Assign op (object 3 c 0) e))
 -- `x = __VERIFIER_nondet_int();`
 abbrev pub assigned : Stm
 assigned = set_to 3 None (int_input 3 7 29)
+
+-- 1|int main() {
+-- 2|  int x = 0, y = 0; switch (y) { ARMS }
+-- 5|  return 0;
+-- 6|}
+abbrev pub with_arms : Stms → Program
+with_arms arms = main_alone UnreachCall (local 2 7 ∷ local 2 14 ∷ []) (block 1 12 (
+    statement 2 3 (Declare (declared 2 7 0 (number 2 11 0) (declared 2 14 1 (number 2 18 0) NoName))) ∷ statement 2 21 (Switch (object 2 29 1) arms) ∷ return_number 5 3 10 0 ∷ []))
+
+abbrev pub used : Stm
+used = only 4 3 (object 4 3 0)
 
 abbrev pub given_there : List ℤ → Choices
 given_there vs = Given (record { spot = at 3 7; values = vs } ∷ [])
@@ -90,12 +102,16 @@ pub record ExampleGiven : Type 0 where
       Given (record { spot = at 3 12; values = [] } ∷ [])
   pub compound : given_by (before_use (set_to 3 (Some Add) (int_input 3 8 30))) (assume (first_is 5)) ≡
       Given (record { spot = at 3 8; values = [] } ∷ [])
-  pub element : given_by (before_use (only 3 3 (exp Int 3 3 (Assign None (exp Int 3 3 (Index 0 (number 3 5 0))) (int_input 3 10 32))))) (assume (first_is 5)) ≡
+  pub element : given_by (before_use (only 3 3 (exp Int 3 3 (Assign None (exp Int 3 3 (Index 0 (MoreExp (number 3 5 0) NoExp))) (int_input 3 10 32))))) (assume (first_is 5)) ≡
       Given (record { spot = at 3 10; values = [] } ∷ [])
   pub two_names : given_by (before_use (statement 3 3 (Declare (declared 3 7 0 (int_input 3 11 33) (declared 3 36 1 (number 3 40 0) NoName))))) (assume (first_is 5)) ≡
       Given (record { spot = at 3 11; values = [] } ∷ [])
   pub inner_block : given_by (before_use (block 3 3 (set_to 5 None (int_input 3 9 31) ∷ []))) (assume (first_is 5)) ≡
       Given (record { spot = at 3 9; values = [] } ∷ [])
+  -- the body of an arm counts as a block
+  pub same_arm : given_by (with_arms (MoreCase (at 2 34) (Case (pos 1)) (MoreStm assigned (MoreStm used NoStm)))) (assume (first_is 5)) ≡ given_there (pos 5 ∷ [])
+  pub next_arm : given_by (with_arms (MoreCase (at 2 34) (Case (pos 1)) (MoreStm assigned (MoreCase (at 3 37) Default (MoreStm used NoStm))))) (assume (first_is 5)) ≡
+      given_there []
   -- values by the returns of input calls alone, in witness order
   pub returned : given_by (input_of_type Int) (returns 2 15 (number 1 12 5) ∷ returns 2 15 (number 1 12 6) ∷ []) ≡
       given_in_declaration (pos 5 ∷ pos 6 ∷ [])

@@ -8,6 +8,7 @@ use Rattle.c_core.specs.declared.number.BinOp.{BinOp}
 use Rattle.c_core.specs.declared.number.BinOp.TheVariants.{Add, Div, Lt, Gt, Eq, Ne}
 use Rattle.c_meaning.specs.declared.run.Event.{Event}
 use Rattle.c_meaning.specs.declared.run.Event.TheVariants as event
+use Rattle.c_meaning.specs.declared.run.Way.TheVariants.{Truth, Case, Default}
 use Rattle.c_meaning.specs.Cells.{Cell}
 use Rattle.c_meaning.specs.Examples.{at, number, object, operation, add_to_input, branch_on_input}
 use Rattle.way_match.specs.Points.{At, Line, Point, Assume, Target, Enter, Return, Branch}
@@ -73,6 +74,11 @@ pub record ExamplePassing : Type 0 where
   pub entered : target_passes (Enter (at 6 17)) (event.Enter (at 6 17)) ≡ true
   pub not_returned : target_passes (Enter (at 6 17)) (event.Return (at 6 17) None) ≡ false
   pub not_entered : target_passes (Return (at 6 17) None) (event.Enter (at 6 17)) ≡ false
-  pub taken : target_passes (Branch (at 5 3) false) (event.Branch (at 5 3) false) ≡ true
-  pub other_way : target_passes (Branch (at 5 3) false) (event.Branch (at 5 3) true) ≡ false
-  pub other_branching : target_passes (Branch (at 5 3) true) (event.Branch (at 5 4) true) ≡ false
+  pub taken : target_passes (Branch (at 5 3) (Truth false)) (event.Branch (at 5 3) (Truth false)) ≡ true
+  pub other_way : target_passes (Branch (at 5 3) (Truth false)) (event.Branch (at 5 3) (Truth true)) ≡ false
+  pub other_branching : target_passes (Branch (at 5 3) (Truth true)) (event.Branch (at 5 4) (Truth true)) ≡ false
+  -- the arm of a constant, and the way past all constants
+  pub chosen : target_passes (Branch (at 5 3) (Case (negsuc 0))) (event.Branch (at 5 3) (Case (negsuc 0))) ≡ true
+  pub other_arm : target_passes (Branch (at 5 3) (Case (pos 1))) (event.Branch (at 5 3) (Case (negsuc 0))) ≡ false
+  pub by_default : target_passes (Branch (at 5 3) Default) (event.Branch (at 5 3) Default) ≡ true
+  pub no_default : target_passes (Branch (at 5 3) Default) (event.Branch (at 5 3) (Case (pos 0))) ≡ false

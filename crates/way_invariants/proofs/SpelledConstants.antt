@@ -7,7 +7,7 @@ use Rattle.c_parser.specs.Tree.{Exp, Expr, exps, moved}
 use Rattle.c_parser.specs.Formed.{every_node, every_part, every_argument, constant_fits, constants_fit}
 use Rattle.c_parser.specs.Signs.{Joint, Sequence, Both, Either, Plain, joined, conditional}
 use Rattle.c_parser.specs.Words.{TypeWord}
-use Rattle.c_parser.specs.Expressions.{NameWords, NoMoreWords, AConst, ATypeWord, Arguments, LastArgument, MoreArguments, Expression, Stronger, Joined, Assigned, Chosen, SteppedBefore, Signed, Converted, SteppedBehind, AName, AnElement, ABareCall, ACall, ANumber, ACharacter, AGroup, Within, has_room}
+use Rattle.c_parser.specs.Expressions.{NameWords, NoMoreWords, AConst, ATypeWord, Bracketed, InBrackets, Dimensions, OneDimension, TwoDimensions, Arguments, LastArgument, MoreArguments, Expression, Stronger, Joined, Assigned, Chosen, SteppedBefore, Signed, Converted, SteppedBehind, AName, AnElement, ABareCall, ACall, ANumber, ACharacter, AGroup, Within, has_room}
 use Rattle.c_parser.specs.Sources.{max_brackets}
 use Rattle.c_parser.specs.Witness.{IsWitnessExpression}
 use Rattle.check_wellformed.proofs.Lists.{both, left, right}
@@ -33,6 +33,13 @@ moved_fits p (Expr q n) h = h
 
 module _ (room : Bool) (Inner : ℕ → List Token → Exp → List Token → Type 0)
     (inner : (k : ℕ) (ts : List Token) (e : Exp) (rest : List Token) → Inner k ts e rest → Fits (every_node constant_fits e) ts rest) where
+  in_brackets_fits : (k : ℕ) (ts : List Token) (e : Exp) (rest : List Token) → Bracketed (Inner k) ts e rest → Fits (every_node constant_fits e) ts rest
+  in_brackets_fits k ts e rest (InBrackets d) f = inner _ _ _ _ d f
+
+  dimensions_fit : (k : ℕ) (ts : List Token) (es : List Exp) (rest : List Token) → Dimensions (Inner k) ts es rest → Fits (every_argument constant_fits (exps es)) ts rest
+  dimensions_fit k ts es rest (OneDimension x) f = let h = in_brackets_fits k _ _ _ x f in (both h.0 refl, h.1)
+  dimensions_fit k ts es rest (TwoDimensions x y) f = let h = in_brackets_fits k _ _ _ x f in let i = in_brackets_fits k _ _ _ y h.1 in (both h.0 (both i.0 refl), i.1)
+
   arguments_fit : (ts : List Token) (es : List Exp) (rest : List Token) → Arguments room Inner ts es rest → Fits (every_argument constant_fits (exps es)) ts rest
   arguments_fit ts es rest (LastArgument d) f = let h = inner _ _ _ _ d f in (both h.0 refl, h.1)
   arguments_fit ts es rest (MoreArguments d ds) f = let h = inner _ _ _ _ d f in let k = arguments_fit _ _ _ ds h.1 in (both h.0 k.0, k.1)
@@ -49,7 +56,7 @@ module _ (room : Bool) (Inner : ℕ → List Token → Exp → List Token → Ty
   expression_fits k ts e rest (Converted r w t x) f = expression_fits _ _ _ _ x (names_fit _ _ _ w f)
   expression_fits k ts e rest (SteppedBehind s x) f = expression_fits _ _ _ _ x f
   expression_fits k ts e rest (AName n) f = (refl, f)
-  expression_fits k ts e rest (AnElement n x) f = inner _ _ _ _ x f
+  expression_fits k ts e rest (AnElement n x) f = dimensions_fit _ _ _ _ x f
   expression_fits k ts e rest (ABareCall n r) f = (refl, f)
   expression_fits k ts e rest (ACall n x) f = arguments_fit _ _ _ x f
   expression_fits k ts e rest ANumber f = (both (left _ _ f) refl, right _ _ f)

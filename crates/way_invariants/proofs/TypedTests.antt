@@ -1,7 +1,7 @@
 -- Expressions of witnesses that aren't refused are well typed.
 use Rattle.std.proofs.Common.{◌≡◌, ◌⊎◌, inl, inr, ℕ, Bool, true, false, cond, ◌&&◌, ◌||◌, List, [], ◌∷◌, ◌++◌, Option, Some, None, is_none, refl, sym, subst, ◌∙◌, arith}
 use Rattle.std.proofs.lemmas.Bool.{false≢true}
-use Rattle.std.proofs.lemmas.List.Elements.{Contains-push_cases}
+use Rattle.std.proofs.lemmas.List.Elements.{Contains-append_cases, Contains-push_cases}
 use Rattle.std.specs.List.{Contains, list_any, slice_get}
 use Rattle.std.specs.Str.{bytes_eq}
 use Rattle.c_core.specs.Tree as t
@@ -9,14 +9,14 @@ use Rattle.c_core.specs.Typing.{is_typed, has_value}
 use Rattle.c_core.specs.declared.number.Spot.{Spot}
 use Rattle.c_core.specs.declared.tree.Callee.{Callee}
 use Rattle.c_core.specs.declared.tree.Object.{Object}
-use Rattle.c_parser.specs.Formed.{every_node, constant_fits, assignment_fits}
-use Rattle.c_parser.specs.Tree.{Exp, Expr, Node, Number, Char, Var, Index, Unary, Cast, Step, Binary, Logic, Choose, Comma, Assign, Call}
-use Rattle.c_parser.specs.Witness.{IsWitnessExpression, is_effectless}
+use Rattle.c_parser.specs.Formed.{every_node, every_argument, constant_fits, assignment_fits}
+use Rattle.c_parser.specs.Tree.{Exp, Expr, Node, Number, Char, Var, Index, Unary, Cast, Step, Binary, Logic, Choose, Comma, Assign, Call, Exps, NoExp, MoreExp}
+use Rattle.c_parser.specs.Witness.{IsWitnessExpression, is_effectless, are_effectless}
 use Rattle.check_rules.specs.Names as kind
 use Rattle.check_rules.specs.Names.{Kind, Entry, later, declared_as, or_built_in, built_in, named}
 use Rattle.check_rules.specs.Codes.{word_of, names_nothing, calls_bodiless, mistyped}
-use Rattle.check_rules.specs.Order.{SomeOf, This, Other, SomePair, OfFirst, OfOthers, Changes, AreUnsequenced, IsUnordered, is_object, changes}
-use Rattle.check_rules.specs.Parts.{Role, Value, Target, Effect, Part, Expression, parts, parts_in}
+use Rattle.check_rules.specs.Order.{SomeOf, This, Other, SomePair, OfFirst, OfOthers, Changes, AreUnsequenced, IsUnordered, arguments, is_object, changes}
+use Rattle.check_rules.specs.Parts.{Role, Value, Target, Effect, Part, Expression, parts, parts_in, parts_of}
 use Rattle.check_wellformed.proofs.Lists.{AllOf, all_then, all_front, all_behind, all_weaker, left, right, first_fails, second_fails}
 use Rattle.check_wellformed.proofs.Known.{IsSound}
 use Rattle.check_wellformed.proofs.Good.{IsGood, value_of_part}
@@ -28,7 +28,7 @@ use Rattle.way_invariants.proofs.SpelledConstants.{constants_fit_in}
 
 found : (b : Bool) (k : Kind) (d : Option Kind) (behind : Bool) → (behind ≡ true → is_none d ≡ false) → (b || behind) ≡ true → is_none (later (cond b (Some k) None) d) ≡ false
 found true k None behind f h = refl
-found true k (Some (kind.Object n ty array fixed)) behind f h = refl
+found true k (Some (kind.Object n ty dims fixed)) behind f h = refl
 found true k (Some (kind.Function result stated has_body)) behind f h = refl
 found true k (Some kind.Closed) behind f h = refl
 found false k None behind f h = f h
@@ -40,7 +40,7 @@ declared x (e ∷ es) h = found (bytes_eq e.name x) e.kind (declared_as es x) (l
 
 built_or : (d : Option Kind) (b : Option Callee) → is_none d ≡ false → is_none (or_built_in d b) ≡ false
 built_or None b h = absurd (false≢true (sym h))
-built_or (Some (kind.Object n ty array fixed)) b h = refl
+built_or (Some (kind.Object n ty dims fixed)) b h = refl
 built_or (Some (kind.Function result stated has_body)) None h = refl
 built_or (Some (kind.Function result stated has_body)) (Some c) h = refl
 built_or (Some kind.Closed) None h = refl
@@ -55,6 +55,18 @@ names_something es (Some x) h = built_or (declared_as es x) (built_in x) (declar
 none_holds : {A : Type 0} (test : A → Bool) (xs : List A) → list_any test xs ≡ false → AllOf (λ x. test x ≡ false) xs
 none_holds test [] h = tt
 none_holds test (x ∷ xs) h = (first_fails (test x) _ h, none_holds test xs (second_fails (test x) _ h))
+
+one_of_all : {A : Type 0} (P : A → Type 0) (xs : List A) → AllOf P xs → (x : A) → Contains xs x → P x
+one_of_all P [] h x c = absurd (omega (arith, c))
+one_of_all P (y ∷ xs) h x c = by (Contains-append_cases (y ∷ []) xs x c)
+  where
+    first : Contains [] x ⊎ (y ≡ x) → P x
+    first (inl k) = absurd (omega (arith, k))
+    first (inr e) = subst P e h.0
+
+    by : Contains (y ∷ []) x ⊎ Contains xs x → P x
+    by (inl k) = first (Contains-push_cases [] y x k)
+    by (inr k) = one_of_all P xs h.1 x k
 
 -- an operand is there for its value or its effect
 abbrev IsRead : Role → Type 0
@@ -86,23 +98,16 @@ module _ (p : t.Program) (numbers : List ℕ) where
   no_pair : SomePair p.model [] [] → ⊥
   no_pair h = elim h [ ]
 
-  second : (ps qs us : List Part) → Contains (qs ∷ []) us → us ≡ qs
-  second ps qs us c = by (Contains-push_cases [] qs us c)
-    where
-      by : Contains [] us ⊎ (qs ≡ us) → us ≡ qs
-      by (inl x) = absurd (omega (arith, x))
-      by (inr e) = sym e
-
-  ordered : (ps qs : List Part) → AllOf Checked ps → AllOf Checked qs → SomePair p.model [] (ps ∷ qs ∷ []) → ⊥
-  ordered ps qs h k (OfFirst {qs = us} c u) = sequenced ps qs h k (subst (λ l. AreUnsequenced p.model [] ps l) (second ps qs us c) u)
-  ordered ps qs h k (OfOthers (OfFirst {qs = us} c u)) = absurd (omega (arith, c))
-  ordered ps qs h k (OfOthers (OfOthers x)) = no_pair x
+  ordered : (pss : List (List Part)) → AllOf (AllOf Checked) pss → SomePair p.model [] pss → ⊥
+  ordered [] h x = no_pair x
+  ordered (ps ∷ pss) h (OfFirst {qs = qs} c u) = sequenced ps qs h.0 (one_of_all (AllOf Checked) pss h.1 qs c) u
+  ordered (ps ∷ pss) h (OfOthers x) = ordered pss h.1 x
 
   -- ---- the parts of an expression of a witness
 
   sound_at : (n : ℕ) (o : Option Object) → slice_get p.objects n ≡ o → AllOf (IsSound p.objects [] []) (entry_at n o)
   sound_at n None e = tt
-  sound_at n (Some o) e = (record { object = o; at = e; type = refl; array = refl; fixed = refl }, tt)
+  sound_at n (Some o) e = (record { object = o; at = e; type = refl; dims = refl; fixed = refl }, tt)
 
   sound : (ns : List ℕ) → AllOf (IsSound p.objects [] []) (entries p.objects ns)
   sound [] = tt
@@ -115,6 +120,11 @@ module _ (p : t.Program) (numbers : List ℕ) where
     effectless : is_effectless e ≡ true
     scope : every_node known e ≡ true
     constants : every_node constant_fits e ≡ true
+
+  record FitAll (is : Exps) : Type 0 where
+    effectless : are_effectless is ≡ true
+    scope : every_argument known is ≡ true
+    constants : every_argument constant_fits is ≡ true
 
   fit_first : (a b : Exp) → (is_effectless a && is_effectless b) ≡ true → (every_node known a && every_node known b) ≡ true → (every_node constant_fits a && every_node constant_fits b) ≡ true → Fit a
   fit_first a b e s c = record { effectless = left (is_effectless a) _ e; scope = left (every_node known a) _ s; constants = left (every_node constant_fits a) _ c }
@@ -147,9 +157,9 @@ module _ (p : t.Program) (numbers : List ℕ) where
   nothing_apart (inl h) = no_pair h
   nothing_apart (inr h) = h
 
-  apart : (ps qs : List Part) → AllOf Checked ps → AllOf Checked qs → SomePair p.model [] (ps ∷ qs ∷ []) ⊎ ⊥ → ⊥
-  apart ps qs h k (inl x) = ordered ps qs h k x
-  apart ps qs h k (inr x) = x
+  apart : (pss : List (List Part)) → AllOf (AllOf Checked) pss → SomePair p.model [] pss ⊎ ⊥ → ⊥
+  apart pss h (inl x) = ordered pss h x
+  apart pss h (inr x) = x
 
   mutual
     goods : (r : Role) → IsRead r → (e : Exp) → Fit e → Types (parts es r e) → AllOf Checked (parts es r e)
@@ -159,9 +169,10 @@ module _ (p : t.Program) (numbers : List ℕ) where
     node_goods r x q (Number v decimal unsigned longs) h t u = (head r x q _ h t refl refl nothing_apart, tt)
     node_goods r x q (Char v) h t u = (head r x q _ h t refl refl nothing_apart, tt)
     node_goods r x q (Var y w) h t u = (head r x q _ h t refl refl nothing_apart, tt)
-    node_goods r x q (Index y w a) h t u =
-        let f : Fit a = record { effectless = h.effectless; scope = right (known (Index y w a)) _ h.scope; constants = h.constants } in
-        (head r x q _ h t refl refl nothing_apart, goods Value tt a f u)
+    node_goods r x q (Index y w is) h t u =
+        let f : FitAll is = record { effectless = h.effectless; scope = right (known (Index y w is)) _ h.scope; constants = h.constants } in
+        let all = goods_of is f u in
+        (head r x q _ h t refl refl (apart (arguments es is) all.1), all.0)
     node_goods r x q (Unary op a) h t u =
         let f : Fit a = record { effectless = h.effectless; scope = h.scope; constants = h.constants } in
         (head r x q _ h t refl refl nothing_apart, goods Value tt a f u)
@@ -172,7 +183,7 @@ module _ (p : t.Program) (numbers : List ℕ) where
     node_goods r x q (Binary op a b) h t u =
         let ha = goods Value tt a (fit_first a b h.effectless h.scope h.constants) (all_front _ (parts es Value a) _ u) in
         let hb = goods Value tt b (fit_second a b h.effectless h.scope h.constants) (all_behind _ (parts es Value a) _ u) in
-        (head r x q _ h t refl refl (apart (parts es Value a) (parts es Value b) ha hb), all_then Checked (parts es Value a) _ ha hb)
+        (head r x q _ h t refl refl (apart (parts es Value a ∷ parts es Value b ∷ []) (ha, hb, tt)), all_then Checked (parts es Value a) _ ha hb)
     node_goods r x q (Logic both a b) h t u =
         let ha = goods Value tt a (fit_first a b h.effectless h.scope h.constants) (all_front _ (parts es Value a) _ u) in
         let hb = goods Value tt b (fit_second a b h.effectless h.scope h.constants) (all_behind _ (parts es Value a) _ u) in
@@ -191,6 +202,15 @@ module _ (p : t.Program) (numbers : List ℕ) where
     node_goods r x q (Comma a b) h t u = absurd (false≢true h.effectless)
     node_goods r x q (Assign op a b) h t u = absurd (false≢true h.effectless)
     node_goods r x q (Call f w gs close) h t u = absurd (false≢true h.effectless)
+
+    goods_of : (is : Exps) → FitAll is → Types (parts_of es is) → AllOf Checked (parts_of es is) × AllOf (AllOf Checked) (arguments es is)
+    goods_of NoExp f u = (tt, tt)
+    goods_of (MoreExp e is) f u =
+        let one : Fit e = record { effectless = left (is_effectless e) _ f.effectless; scope = left (every_node known e) _ f.scope; constants = left (every_node constant_fits e) _ f.constants } in
+        let rest : FitAll is = record { effectless = right (is_effectless e) _ f.effectless; scope = right (every_node known e) _ f.scope; constants = right (every_node constant_fits e) _ f.constants } in
+        let h = goods Value tt e one (all_front _ (parts es Value e) _ u) in
+        let k = goods_of is rest (all_behind _ (parts es Value e) _ u) in
+        (all_then Checked (parts es Value e) _ h k.0, (h, k.1))
 
   -- a typed expression of a witness is one of the program, and not void
   pub test_fits : (text : List ℕ) (e : Exp) (tree : t.Exp) → IsWitnessExpression text e → IsTyped p.model es e tree → (is_typed p tree ≡ true) × (has_value tree ≡ true)

@@ -2,7 +2,7 @@
 use Rattle.std.specs.Prelude.{ℕ, ℤ, Bool, true, false, cond, not, nat_eq, ◌&&◌, List, [], ◌∷◌, ◌++◌, Option, Some, None, map}
 use Rattle.std.specs.List.{filter_map}
 use Rattle.c_core.specs.Types.{fit}
-use Rattle.c_core.specs.Tree.{Exp, Expr, Node, Var, Index, Binary, Logic, Assign, Init, Absent, One, Many, Names, NoName, MoreName, Stm, Stmt, Form, Do, Declare, Program}
+use Rattle.c_core.specs.Tree.{Exp, Expr, Node, Var, Index, Binary, Logic, Assign, Init, Absent, One, Many, Rows, Names, NoName, MoreName, Stm, Stmt, Form, Do, Declare, Program}
 use Rattle.c_core.specs.Parts.{exps_of_program}
 use Rattle.c_core.specs.Places.{InputCall, input_of, input_at, stmt_before, first_some}
 use Rattle.c_core.specs.declared.number.Spot.{Spot}
@@ -67,11 +67,12 @@ stored_by_node _ = None
 abbrev pub stored_by_exp : Exp → Option StoredInput
 stored_by_exp (Expr spot ty n) = stored_by_node n
 
--- an initializer that is an input call; a list of values is none
+-- an initializer that is an input call; a list of values or of rows is none
 abbrev pub stored_by_init : ℕ → Init → Option StoredInput
 stored_by_init o Absent = None
 stored_by_init o (One e) = stored_input o (input_of e)
 stored_by_init o (Many es) = None
+stored_by_init o (Rows rows) = None
 
 -- a declaration of one object, `T x = input()`
 abbrev pub stored_by_names : Names → Option StoredInput
@@ -101,7 +102,7 @@ abbrev mutual
 -- a node that reads an object
 abbrev pub node_names : Node → Bool
 node_names (Var o) = true
-node_names (Index o i) = true
+node_names (Index o is) = true
 node_names _ = false
 
 -- an expression that reads an object somewhere

@@ -1,5 +1,6 @@
 -- The events of a run that pass a waypoint.
 use Rattle.std.specs.Prelude.{ℤ, Bool, true, false, List, [], ◌∷◌, Option, Some, None, ◌&&◌, ◌||◌, nat_eq}
+use Rattle.std.specs.Ordering.{int_eq}
 use Rattle.c_core.specs.Types.{fit, common_of}
 use Rattle.c_core.specs.Operators.{apply_of}
 use Rattle.c_core.specs.Tree.{Exp, Program}
@@ -12,6 +13,8 @@ use Rattle.c_core.specs.declared.number.Done.{Done}
 use Rattle.c_core.specs.declared.number.Spot.{Spot}
 use Rattle.c_meaning.specs.declared.run.Event.{Event}
 use Rattle.c_meaning.specs.declared.run.Event.TheVariants as event
+use Rattle.c_meaning.specs.declared.run.Way.{Way}
+use Rattle.c_meaning.specs.declared.run.Way.TheVariants.{Truth, Case, Default}
 use Rattle.c_meaning.specs.Cells.{Cell}
 use Rattle.c_meaning.specs.Objects.{same_spot, type_of}
 use Rattle.c_meaning.specs.Value.{and_then, wrapping, value_of, is_true, holds}
@@ -50,11 +53,18 @@ meets_at p close None v = true
 meets_at p close (Some t) None = false
 meets_at p close (Some t) (Some v) = meets p t (type_of_call (call_at p close)) v
 
+-- of two truths
+abbrev pub same_truth : Bool → Bool → Bool
+same_truth true way = way
+same_truth false true = false
+same_truth false false = true
+
 -- the way that was taken is the one that the waypoint states
-abbrev pub same_way : Bool → Bool → Bool
-same_way true way = way
-same_way false true = false
-same_way false false = true
+abbrev pub same_way : Way → Way → Bool
+same_way (Truth a) (Truth b) = same_truth a b
+same_way (Case a) (Case b) = int_eq a b
+same_way Default Default = true
+same_way _ _ = false
 
 -- the event passes the waypoint, in the memory of its moment
 abbrev pub passes : Program → Point → Event → List Cell → Bool

@@ -1,8 +1,9 @@
 -- The waypoints of a violation witness, bound to the places and the typed expressions of a program.
-use Rattle.std.specs.Prelude.{ℕ, Bool, List, Option}
+use Rattle.std.specs.Prelude.{ℕ, List, Option}
 use Rattle.c_core.specs.Tree.{Exp}
 use Rattle.c_core.specs.declared.number.Spot.{Spot}
 use Rattle.c_core.specs.declared.number.BinOp.{BinOp}
+use Rattle.c_meaning.specs.declared.run.Way.{Way}
 
 -- where a target lies: at a place, or at every suitable place of a line
 pub data Aim : Type 0 where
@@ -23,7 +24,7 @@ pub data Point : Type 0 where
   Enter : Spot → Point
   Return : Spot → Option ReturnTest → Point
   -- a branching takes this way
-  Branch : Spot → Bool → Point
+  Branch : Spot → Way → Point
 
 -- the waypoints to avoid until the one to follow is passed
 pub record BoundSegment : Type 0 where

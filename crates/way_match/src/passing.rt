@@ -12,7 +12,7 @@ ghost use Rattle.way_match.specs.View.{aim_view, point_view, points_view, test_v
 use crate::point::{Aim, Point, ReturnTest};
 use crate::prepared::{Comparison, type_of};
 use c_core::{BinOp, DataModel, Done, Expr, IntType, Program, Spot, apply, common, fitted};
-use c_meaning::{Event, Memory, value_in};
+use c_meaning::{Event, Memory, Way, value_in};
 
 fn same_spot(a: Spot, b: Spot) -> bool
     ensures { result ≡ same_spot_of a b }
@@ -35,6 +35,17 @@ fn aims_if(aim: Aim, at: Option<Spot>) -> bool
     match at {
         Some(at) => aims(aim, at),
         None => false,
+    }
+}
+
+fn same_way(a: Way, b: Way) -> bool
+    ensures { result ≡ passing.same_way a b }
+{
+    match (a, b) {
+        (Way::Truth(a), Way::Truth(b)) => a == b,
+        (Way::Case(a), Way::Case(b)) => a == b,
+        (Way::Default, Way::Default) => true,
+        _ => false,
     }
 }
 
@@ -139,7 +150,7 @@ pub fn passes(
             same_spot(*close, at) && meets_at(program, *close, test, comparison, value)
         }
         (Point::Branch(spot, way), Event::Branch(at, taken)) => {
-            same_spot(*spot, at) && *way == taken
+            same_spot(*spot, at) && same_way(*way, taken)
         }
         _ => false,
     }

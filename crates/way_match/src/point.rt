@@ -1,5 +1,6 @@
 // Waypoints of a violation witness, bound to the places and the typed expressions of a program.
 use c_core::{BinOp, Expr, Spot};
+use c_meaning::Way;
 use wv_base::Seq;
 
 /// Where a target lies: at a place, or at every suitable place of a line.
@@ -23,7 +24,7 @@ pub enum Point {
     Target(Aim),
     Enter(Spot),
     Return(Spot, Option<ReturnTest>),
-    Branch(Spot, bool),
+    Branch(Spot, Way),
 }
 
 /// The waypoints to avoid until the one to follow is passed.

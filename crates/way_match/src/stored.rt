@@ -53,6 +53,7 @@ fn stored_by_init(object: u32, init: &Init) -> Option<StoredInput>
         Init::Absent => None,
         Init::One(e) => stored_input(object, e),
         Init::Many(_) => None,
+        Init::Rows(_) => None,
     }
 }
 

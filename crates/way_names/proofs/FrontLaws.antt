@@ -2,7 +2,7 @@
 use Rattle.std.proofs.Common.{◌≡◌, ℕ, refl, sym, ap, ◌∙◌, Bool, true, false, cond, List, [], ◌∷◌, ◌++◌, map, Option, Some, None}
 use Rattle.std.specs.Option.{option_map}
 use Rattle.std.proofs.lemmas.List.{append-nil, append_assoc, map-append}
-use Rattle.c_core.specs.Tree.{Stm, Stmt, Form, Empty, Do, Declare, Block, If, While, DoWhile, For, Break, Continue, Return, Label, Else, NoElse, OrElse, Stms, NoStm, MoreStm, Function, Program}
+use Rattle.c_core.specs.Tree.{Stm, Stmt, Form, Empty, Do, Declare, Block, If, While, DoWhile, For, Break, Continue, Return, Label, Switch, Else, NoElse, OrElse, Stms, NoStm, MoreStm, MoreCase, Function, Program}
 use Rattle.c_core.specs.Parts.{declared_by, objects_of_first, same_spot}
 use Rattle.c_core.specs.declared.number.Spot.{Spot}
 use Rattle.c_core.specs.declared.place.PlaceKind.{PlaceKind}
@@ -34,6 +34,7 @@ module _ (kind : PlaceKind) (front : List ℕ) where
   loop_behind at names Continue = refl
   loop_behind at names (Return e) = refl
   loop_behind at names (Label b) = refl
+  loop_behind at names (Switch e b) = refl
 
   start_behind : (k : PlaceKind) (at : Spot) (names : List ℕ) (f : Form) → Behind (at_start k (front ++ names) at f) (at_start k names at f)
   start_behind Statement at names f = refl
@@ -63,6 +64,7 @@ module _ (kind : PlaceKind) (front : List ℕ) where
     in_form names Continue = refl
     in_form names (Return e) = refl
     in_form names (Label b) = in_statement names b
+    in_form names (Switch e b) = in_block names b
 
     in_else : (names : List ℕ) (b : Else) → Behind (sights_in_else kind (front ++ names) b) (sights_in_else kind names b)
     in_else names NoElse = refl
@@ -74,6 +76,7 @@ module _ (kind : PlaceKind) (front : List ℕ) where
         both (sights_in kind (front ++ names) s) (sights_in_block kind (front ++ names ++ declared_by s) b) (sights_in kind names s) (sights_in_block kind (names ++ declared_by s) b)
         (in_statement names s)
         (ap (λ ns. sights_in_block kind ns b) (append_assoc front names (declared_by s)) ∙ in_block (names ++ declared_by s) b)
+    in_block names (MoreCase spot l b) = in_block names b
 
   in_body : (names : List ℕ) (s : Stm) → Behind (sights_in_body kind (front ++ names) s) (sights_in_body kind names s)
   in_body names (Stmt at f) = in_form names f

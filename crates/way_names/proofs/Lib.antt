@@ -1,4 +1,5 @@
 pub mod ScopeLaws
+pub mod ArmLaws
 pub mod WalkLaws
 pub mod FrontLaws
 pub mod StaticLaws

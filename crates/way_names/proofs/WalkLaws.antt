@@ -4,7 +4,7 @@ use Rattle.std.specs.BTreeMap.{BTreeMap}
 use Rattle.std.specs.List.{AllZip}
 use Rattle.std.specs.Option.{option_flatten}
 use Rattle.std.proofs.lemmas.List.{append-nil, append_assoc}
-use Rattle.c_core.specs.Tree.{Stm, Stmt, Form, Empty, Do, Declare, Block, If, While, DoWhile, For, Break, Continue, Return, Label, Else, NoElse, OrElse, Stms, NoStm, MoreStm, Function}
+use Rattle.c_core.specs.Tree.{Stm, Stmt, Form, Empty, Do, Declare, Block, If, While, DoWhile, For, Break, Continue, Return, Label, Switch, Else, NoElse, OrElse, Stms, NoStm, MoreStm, MoreCase, Function}
 use Rattle.c_core.specs.Parts.{declared_by, objects_of_first, same_spot}
 use Rattle.c_core.specs.declared.number.Spot.{Spot}
 use Rattle.c_core.specs.declared.place.PlaceKind.TheVariants.{Statement, Loop}
@@ -118,6 +118,7 @@ enters w scope names Break h = h
 enters w scope names Continue h = h
 enters w scope names (Return e) h = h
 enters w scope names (Label b) h = h
+enters w scope names (Switch e b) h = h
 
 notes_loop_if : (w : Walk) (at : Spot) (scope : Option ℕ) (names : List ℕ) (f : Form) → IsScope w.scopes scope (in_there names f)
     → Notes w (with_loop_if (is_loop f) w at scope) [] (at_loop names at f)
@@ -133,6 +134,7 @@ notes_loop_if w at scope names Break h = stays w
 notes_loop_if w at scope names Continue h = stays w
 notes_loop_if w at scope names (Return e) h = stays w
 notes_loop_if w at scope names (Label b) h = stays w
+notes_loop_if w at scope names (Switch e b) h = stays w
 
 -- what is noted of a part that sees these names
 abbrev NotesStatement : Walk → Option ℕ → List ℕ → Stm → Type 0
@@ -174,6 +176,7 @@ mutual
   notes_of_form w scope names Continue h = stays w
   notes_of_form w scope names (Return e) h = stays w
   notes_of_form w scope names (Label b) h = notes_of w scope names b h
+  notes_of_form w scope names (Switch e b) h = notes_of_block w scope names b h
 
   notes_of_else : (w : Walk) (scope : Option ℕ) (names : List ℕ) (b : Else) → IsScope w.scopes scope names
       → Notes w (walked_else w scope b) (sights_in_else Statement names b) (sights_in_else Loop names b)
@@ -195,6 +198,7 @@ mutual
       one_then w u (walked_block v inside b) (sights_in Statement names s) (sights_in Loop names s) all loops
       one
       (one_then u v (walked_block v inside b) [] [] all loops more.notes (notes_of_block v inside (names ++ os) b more.is))
+  notes_of_block w scope names (MoreCase spot l b) h = notes_of_block w scope names b h
 
 notes_within : (w : Walk) (scope : Option ℕ) (names : List ℕ) (s : Stm) → IsScope w.scopes scope names
     → Notes w (walked_within w scope s) (sights_in_body Statement names s) (sights_in_body Loop names s)

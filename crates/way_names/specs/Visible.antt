@@ -1,7 +1,7 @@
 -- The objects that are visible at a place (C11 6.2.1p4), innermost last.
 use Rattle.std.specs.Prelude.{ℕ, suc, Bool, true, false, cond, ◌&&◌, List, [], ◌∷◌, ◌++◌, Option, Some, None}
 use Rattle.std.specs.List.{list_any}
-use Rattle.c_core.specs.Tree.{Stm, Stmt, Form, Empty, Do, Declare, Block, If, While, DoWhile, For, Break, Continue, Return, Label, Else, NoElse, OrElse, Stms, NoStm, MoreStm, Function, Program}
+use Rattle.c_core.specs.Tree.{Stm, Stmt, Form, Empty, Do, Declare, Block, If, While, DoWhile, For, Break, Continue, Return, Label, Switch, Else, NoElse, OrElse, Stms, NoStm, MoreStm, MoreCase, Function, Program}
 use Rattle.c_core.specs.Parts.{same_spot, declared_by, objects_of_first}
 use Rattle.c_core.specs.TextOrder.{is_before}
 use Rattle.c_core.specs.Places.{spots_of_kind}
@@ -63,6 +63,7 @@ abbrev mutual
   sights_in_form kind names Continue = []
   sights_in_form kind names (Return e) = []
   sights_in_form kind names (Label b) = sights_in kind names b
+  sights_in_form kind names (Switch e b) = sights_in_block kind names b
 
   pub sights_in_else : PlaceKind → List ℕ → Else → List Sight
   sights_in_else kind names NoElse = []
@@ -72,6 +73,7 @@ abbrev mutual
   pub sights_in_block : PlaceKind → List ℕ → Stms → List Sight
   sights_in_block kind names NoStm = []
   sights_in_block kind names (MoreStm s b) = sights_in kind names s ++ sights_in_block kind (names ++ declared_by s) b
+  sights_in_block kind names (MoreCase spot l b) = sights_in_block kind names b
 
 -- a function's body is no place, and sees the parameters
 abbrev pub sights_in_body : PlaceKind → List ℕ → Stm → List Sight

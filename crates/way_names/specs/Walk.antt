@@ -1,6 +1,6 @@
 -- A walk over functions that numbers their scopes, and notes those that statements and loops see.
 use Rattle.std.specs.Prelude.{ℕ, Bool, true, false, cond, List, [], ◌∷◌, ◌++◌, Option, Some, None, length}
-use Rattle.c_core.specs.Tree.{Stm, Stmt, Form, Empty, Do, Declare, Block, If, While, DoWhile, For, Break, Continue, Return, Label, Else, NoElse, OrElse, Stms, NoStm, MoreStm, Function}
+use Rattle.c_core.specs.Tree.{Stm, Stmt, Form, Empty, Do, Declare, Block, If, While, DoWhile, For, Break, Continue, Return, Label, Switch, Else, NoElse, OrElse, Stms, NoStm, MoreStm, MoreCase, Function}
 use Rattle.c_core.specs.Parts.{declared_by, objects_of_first}
 use Rattle.c_core.specs.declared.number.Spot.{Spot}
 use Rattle.way_names.specs.declared.scope.Scope.{Scope}
@@ -89,6 +89,7 @@ abbrev mutual
   walked_form w scope Continue = w
   walked_form w scope (Return e) = w
   walked_form w scope (Label b) = walked w scope b
+  walked_form w scope (Switch e b) = walked_block w scope b
 
   pub walked_else : Walk → Option ℕ → Else → Walk
   walked_else w scope NoElse = w
@@ -99,6 +100,14 @@ abbrev mutual
   walked_block w scope NoStm = w
   walked_block w scope (MoreStm s b) =
       walked_block (with_names (walked w scope s) scope (declared_by s)) (innermost (walked w scope s) scope (declared_by s)) b
+  walked_block w scope (MoreCase spot l b) = walked_block w scope b
+
+-- the scope behind statements
+abbrev pub scope_behind : Walk → Option ℕ → Stms → Option ℕ
+scope_behind w scope NoStm = scope
+scope_behind w scope (MoreStm s b) =
+    scope_behind (with_names (walked w scope s) scope (declared_by s)) (innermost (walked w scope s) scope (declared_by s)) b
+scope_behind w scope (MoreCase spot l b) = scope_behind w scope b
 
 -- a function's body is no place
 abbrev pub walked_within : Walk → Option ℕ → Stm → Walk

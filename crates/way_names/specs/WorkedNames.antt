@@ -37,7 +37,7 @@ abbrev pub turns_once : t.Stm
 turns_once = t.Stmt (at 8 3) (t.DoWhile (assigns (at 8 6) 1 (variable (at 8 10) 0)) (number (at 8 20) (pos 0)))
 
 abbrev pub an_int : Bool → Spot → Object
-an_int fixed spot = record { name = []; ty = Int; cells = 1; array = false; fixed = fixed; spot = spot }
+an_int fixed spot = record { name = []; ty = Int; cells = 1; columns = 1; dims = 0; fixed = fixed; spot = spot }
 
 -- `int g;`, `int main() {`, `  int x = 0;`, the loops, `  return 0;`, `}`, `int late;`
 abbrev pub hidden_names : t.Program

@@ -1,11 +1,11 @@
 // A walk over functions, which numbers their scopes and notes those that statements and loops see.
 ghost use Rattle.std.specs.Prelude.{◌≡◌, IfOk, OnOk};
 ghost use Rattle.c_core.specs.Parts.{declared_by, objects_of_first, objects_of_names};
-ghost use Rattle.c_core.specs.View.{first_view, form_view, functions_view, names_view, stmt_view, stmts_view};
-ghost use Rattle.way_names.specs.Walk.{in_parentheses, innermost, is_loop, last_scope, start, walk_view, walked, walked_block, walked_body, walked_form, walked_functions, with_loop, with_loop_if, with_names, with_scope, with_statement};
+ghost use Rattle.c_core.specs.View.{first_view, form_view, functions_view, names_view, stmt_view, stmts_view, switch_view};
+ghost use Rattle.way_names.specs.Walk.{in_parentheses, innermost, is_loop, last_scope, scope_behind, start, walk_view, walked, walked_block, walked_body, walked_form, walked_functions, with_loop, with_loop_if, with_names, with_scope, with_statement};
 
 use crate::scope::Scope;
-use c_core::{Declared, First, Form, Function, Spot, Stmt};
+use c_core::{Arm, Declared, First, Form, Function, Spot, Stmt};
 use std::alloc::Global;
 use wv_base::OutOfMemory;
 
@@ -173,7 +173,9 @@ fn inside(walk: &mut Walk, scope: Option<usize>, form: &Form) -> Result<(), OutO
     ensures { OnOk result (walk_view walk.new ≡ walked_form (walk_view walk.old) scope (form_view form.now)) }
 {
     match form {
-        Form::Block(body) => block(walk, scope, body.as_slice())?,
+        Form::Block(body) => {
+            block(walk, scope, body.as_slice())?;
+        }
         Form::If { yes, no, .. } => {
             statement(walk, scope, yes)?;
             if let Some(no) = no {
@@ -184,6 +186,7 @@ fn inside(walk: &mut Walk, scope: Option<usize>, form: &Form) -> Result<(), OutO
         Form::Do { body, .. } => statement(walk, scope, body)?,
         Form::For { body, .. } => statement(walk, scope, body)?,
         Form::Label(of) => statement(walk, scope, of)?,
+        Form::Switch { arms, .. } => in_arms(walk, scope, arms.as_slice())?,
         Form::Empty => {}
         Form::Expr(_) => {}
         Form::Declare(_) => {}
@@ -194,14 +197,28 @@ fn inside(walk: &mut Walk, scope: Option<usize>, form: &Form) -> Result<(), OutO
     Ok(())
 }
 
+/// The scope behind statements.
 #[cycle(statement)]
-fn block(walk: &mut Walk, outer: Option<usize>, body: &[Stmt]) -> Result<(), OutOfMemory>
-    ensures { OnOk result (walk_view walk.new ≡ walked_block (walk_view walk.old) outer (stmts_view body.now)) }
+fn block(walk: &mut Walk, outer: Option<usize>, body: &[Stmt]) -> Result<Option<usize>, OutOfMemory>
+    ensures scope { IfOk result (λ scope. scope ≡ scope_behind (walk_view walk.old) outer (stmts_view body.now)) }
+    ensures walk { OnOk result (walk_view walk.new ≡ walked_block (walk_view walk.old) outer (stmts_view body.now)) }
 {
     let mut scope = outer;
     for s in body {
         statement(walk, scope, s)?;
         scope = behind(walk, scope, s)?;
+    }
+    Ok(scope)
+}
+
+/// The arms of a `switch` are one scope.
+#[cycle(statement)]
+fn in_arms(walk: &mut Walk, outer: Option<usize>, arms: &[Arm]) -> Result<(), OutOfMemory>
+    ensures { OnOk result (walk_view walk.new ≡ walked_block (walk_view walk.old) outer (switch_view arms.now)) }
+{
+    let mut scope = outer;
+    for arm in arms {
+        scope = block(walk, scope, arm.body.as_slice())?;
     }
     Ok(())
 }

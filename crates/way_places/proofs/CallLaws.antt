@@ -37,7 +37,7 @@ mutual
   in_node : (n : Node) → calls_in n ≡ among (exps_of_node n)
   in_node (Const v) = refl
   in_node (Var o) = refl
-  in_node (Index o i) = calls_there i
+  in_node (Index o is) = in_arguments is
   in_node (Unary op a) = calls_there a
   in_node (Cast a) = calls_there a
   in_node (Step op a) = calls_there a

@@ -42,7 +42,7 @@ first_more true None v rest = refl
 first_more false None v rest = refl
 first_more b (Some w) v rest = refl
 
-both_by : {V : Type 0} (b : Bool) (v : V) (o x y : Option V) → o ≡ or_else x y → cond b (Some v) o ≡ or_else (cond b (Some v) x) y
+pub both_by : {V : Type 0} (b : Bool) (v : V) (o x y : Option V) → o ≡ or_else x y → cond b (Some v) o ≡ or_else (cond b (Some v) x) y
 both_by true v o x y h = refl
 both_by false v o x y h = h
 

@@ -3,6 +3,8 @@ pub mod PlaceLaws
 pub mod SoughtLaws
 pub mod CallLaws
 pub mod BeforeLaws
+pub mod ArmLaws
+pub mod SwitchLaws
 pub mod OrderLaws
 pub mod FirstLaws
 pub mod LeftmostLaws

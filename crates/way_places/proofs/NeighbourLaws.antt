@@ -2,7 +2,7 @@
 use Rattle.std.proofs.Common.{◌≡◌, refl, sym, ap, ◌∙◌, cond, List, [], ◌∷◌, ◌++◌, Option, Some, None, map}
 use Rattle.std.proofs.lemmas.Grind.{flat_map-append}
 use Rattle.c_core.specs.Tree as t
-use Rattle.c_core.specs.Tree.{Stm, Form, Empty, Do, Declare, Block, If, While, DoWhile, For, Break, Continue, Return, Label, Stms, NoStm, MoreStm, Program}
+use Rattle.c_core.specs.Tree.{Stm, Form, Empty, Do, Declare, Block, If, While, DoWhile, For, Break, Continue, Return, Label, Switch, Stms, NoStm, MoreStm, MoreCase, Program}
 use Rattle.c_core.specs.Parts.{spot_of_statement, same_spot, statements_of_program}
 use Rattle.c_core.specs.Places.{before_in, before_in_form, before_in_statement, first_some, stmt_before}
 use Rattle.c_core.specs.declared.number.Spot.{Spot}
@@ -17,16 +17,19 @@ among_both xs ys = flat_map-append pairs_of xs ys
 in_block : (spot : Spot) (b : Stms) → first_in (pairs_in b) spot ≡ before_in spot b
 in_block spot NoStm = refl
 in_block spot (MoreStm s NoStm) = refl
+in_block spot (MoreStm s (MoreCase at l b)) = in_block spot b
 in_block spot (MoreStm s (MoreStm behind b)) = ap (cond (same_spot (spot_of_statement behind) spot) (Some s)) (in_block spot (MoreStm behind b))
+in_block spot (MoreCase at l b) = in_block spot b
 
 in_form : (spot : Spot) (f : Form) → first_in (pairs_in_form f) spot ≡ before_in_form spot f
 in_form spot (Block b) = in_block spot b
+in_form spot (Switch e b) = in_block spot b
 in_form spot _ = refl
 
 in_statement : (spot : Spot) (s : Stm) → first_in (pairs_of s) spot ≡ before_in_statement spot s
 in_statement spot (t.Stmt at f) = in_form spot f
 
-first_or : (o : Option Stm) (os : List (Option Stm)) → first_some (o ∷ os) ≡ or_else o (first_some os)
+pub first_or : {A : Type 0} (o : Option A) (os : List (Option A)) → first_some (o ∷ os) ≡ or_else o (first_some os)
 first_or None os = refl
 first_or (Some s) os = refl
 

@@ -8,7 +8,7 @@ use Rattle.c_core.specs.Parts.{same_spot}
 use Rattle.c_core.specs.Places.{number_of_kind, place, places_if, places_in, places_in_arguments, places_in_first, places_in_init, places_in_names, places_in_node, places_of, places_of_block, places_of_body, places_of_else, places_of_form, places_of_statement}
 use Rattle.c_core.specs.Program.{places_rise}
 use Rattle.c_core.specs.TextOrder.{is_before, is_before_first, rises, spots_if, spots_of, spots_of_arguments, spots_of_block, spots_of_declarators, spots_of_else, spots_of_first, spots_of_form, spots_of_functions, spots_of_init, spots_of_node, spots_of_statement, whole}
-use Rattle.c_core.specs.Tree.{Exp, Expr, Node, Const, Var, Index, Unary, Cast, Step, Binary, Logic, Choose, Comma, Assign, Call, Exps, NoExp, MoreExp, Init, Absent, One, Many, Names, NoName, MoreName, First, NoFirst, FirstExp, FirstNames, Stm, Stmt, Form, Empty, Do, Declare, Block, If, While, DoWhile, For, Break, Continue, Return, Label, Else, NoElse, OrElse, Stms, NoStm, MoreStm, Function, Program}
+use Rattle.c_core.specs.Tree.{Exp, Expr, Node, Const, Var, Index, Unary, Cast, Step, Binary, Logic, Choose, Comma, Assign, Call, Exps, NoExp, MoreExp, Init, Absent, One, Many, Rows, Names, NoName, MoreName, First, NoFirst, FirstExp, FirstNames, Stm, Stmt, Form, Empty, Do, Declare, Block, If, While, DoWhile, For, Break, Continue, Return, Label, Switch, Else, NoElse, OrElse, Stms, NoStm, MoreStm, MoreCase, Function, Program}
 use Rattle.c_core.specs.declared.number.Spot.{Spot}
 use Rattle.c_core.specs.declared.place.Place.{Place}
 use Rattle.c_core.specs.declared.place.PlaceKind.{PlaceKind}
@@ -97,7 +97,7 @@ mutual
   in_node : (spot : Spot) (n : Node) → Inner (places_in_node n) (spots_of_node spot n)
   in_node spot (Const v) = inner_none (spot ∷ [])
   in_node spot (Var o) = inner_none (spot ∷ [])
-  in_node spot (Index o i) = skips spot (places_in i) (spots_of i) (in_exp i)
+  in_node spot (Index o is) = skips spot (places_in_arguments is) (spots_of_arguments is) (in_arguments is)
   in_node spot (Unary op a) = skips spot (places_in a) (spots_of a) (in_exp a)
   in_node spot (Cast a) = skips spot (places_in a) (spots_of a) (in_exp a)
   in_node spot (Step op a) = step_by (is_prefix op) spot (places_in a) (spots_of a) (in_exp a)
@@ -121,10 +121,15 @@ in_if : (e : Option Exp) → Inner (places_if e) (spots_if e)
 in_if None = ends
 in_if (Some e) = in_exp e
 
+in_rows : (rows : List Exps) → Inner (flat_map places_in_arguments rows) (flat_map spots_of_arguments rows)
+in_rows [] = ends
+in_rows (es ∷ rows) = inner_both (places_in_arguments es) (flat_map places_in_arguments rows) (spots_of_arguments es) (flat_map spots_of_arguments rows) (in_arguments es) (in_rows rows)
+
 in_init : (i : Init) → Inner (places_in_init i) (spots_of_init i)
 in_init Absent = ends
 in_init (One e) = in_exp e
 in_init (Many es) = in_arguments es
+in_init (Rows rows) = in_rows rows
 
 in_names : (ns : Names) → Inner (places_in_names ns) (spots_of_declarators ns)
 in_names NoName = ends
@@ -171,6 +176,9 @@ mutual
   in_form at Continue = one Statement at [] [] none
   in_form at (Return e) = one Statement at (places_if e) (spots_if e) (laid (places_if e) (spots_if e) (in_if e))
   in_form at (Label b) = one Statement at (places_of_statement b) (spots_of_statement b) (in_statement b)
+  in_form at (Switch e b) =
+      laid_both (place Statement at ∷ place Branch at ∷ places_in e) (places_of_block b) (at ∷ spots_of e) (spots_of_block b)
+      (two Statement Branch at (places_in e) (spots_of e) refl (laid (places_in e) (spots_of e) (in_exp e))) (in_block b)
 
   in_else : (b : Else) → Laid (places_of_else b) (spots_of_else b)
   in_else NoElse = none
@@ -179,6 +187,7 @@ mutual
   in_block : (b : Stms) → Laid (places_of_block b) (spots_of_block b)
   in_block NoStm = none
   in_block (MoreStm s b) = laid_both (places_of_statement s) (places_of_block b) (spots_of_statement s) (spots_of_block b) (in_statement s) (in_block b)
+  in_block (MoreCase spot l b) = past spot (places_of_block b) (spots_of_block b) (in_block b)
 
 -- without the first place
 without_first : (x : Place) (ps : List Place) (ss : List Spot) → Laid (x ∷ ps) ss → Laid ps ss

@@ -1,11 +1,13 @@
 -- What walks keep over two lists, one after the other, and what they find over a program.
-use Rattle.std.proofs.Common.{◌≡◌, ℕ, suc, ◌+◌, ◌<◌, refl, sym, ap, ◌∙◌, Bool, cond, List, [], ◌∷◌, ◌++◌, get_or, length, drop, drop-cons, add-one, Option, Some}
+use Rattle.std.proofs.Common.{◌≡◌, ℕ, refl, Bool, cond, List, [], ◌∷◌, ◌++◌, Option, Some}
 use Rattle.c_core.specs.Tree.{Exp, Stm}
 use Rattle.c_core.specs.Places.{before_in_statement}
+use Rattle.c_core.specs.declared.number.IntType.{IntType}
 use Rattle.c_core.specs.declared.number.Spot.{Spot}
 use Rattle.c_core.specs.declared.place.PlaceKind.{PlaceKind}
 use Rattle.c_core.specs.declared.place.Place.{Place}
-use Rattle.way_places.specs.Seeking.{nearer, is_sought, best_of, or_this, or_else, first_of, before_of}
+use Rattle.way_places.specs.Seeking.{nearer, is_sought, best_of, or_this, or_else, first_of, before_of, type_from}
+use Rattle.way_places.specs.Switches.{switch_in}
 
 pub best_of_both : (kind : PlaceKind) (line : ℕ) (column : Option ℕ) (best : Option Spot) (ps qs : List Place)
     → best_of kind line column best (ps ++ qs) ≡ best_of kind line column (best_of kind line column best ps) qs
@@ -21,6 +23,6 @@ pub before_of_both : (spot : Spot) (found : Option Stm) (xs ys : List Stm) → b
 before_of_both spot found [] ys = refl
 before_of_both spot found (s ∷ xs) ys = before_of_both spot (or_else found (before_in_statement spot s)) xs ys
 
--- the item at an index, and those behind it
-pub item_first : {A : Type 0} (xs : List A) (i : ℕ) (x : A) → i < length xs → x ≡ get_or xs i x → drop i xs ≡ x ∷ drop (i + 1) xs
-item_first xs i x inside is = drop-cons xs i x inside ∙ ap (λ y. y ∷ drop (suc i) xs) (sym is) ∙ ap (λ n. x ∷ drop n xs) (sym (add-one i))
+pub type_from_both : (spot : Spot) (found : Option IntType) (xs ys : List Stm) → type_from spot found (xs ++ ys) ≡ type_from spot (type_from spot found xs) ys
+type_from_both spot found [] ys = refl
+type_from_both spot found (s ∷ xs) ys = type_from_both spot (or_else found (switch_in spot s)) xs ys

@@ -4,7 +4,7 @@ use Rattle.std.specs.List.{filter, find, flat_map, list_any}
 use Rattle.std.specs.Prelude.{is_some}
 use Rattle.std.proofs.lemmas.Grind.{flat_map-append}
 use Rattle.std.proofs.lemmas.List.{append-nil}
-use Rattle.c_core.specs.Tree.{Exp, Exps, NoExp, MoreExp, Init, Absent, One, Many, Names, NoName, MoreName, First, NoFirst, FirstExp, FirstNames, Stm, Stmt, Form, Empty, Do, Declare, Block, If, While, DoWhile, For, Break, Continue, Return, Label, Else, NoElse, OrElse, Stms, NoStm, MoreStm, Function, Program}
+use Rattle.c_core.specs.Tree.{Exp, Exps, NoExp, MoreExp, Init, Absent, One, Many, Rows, Names, NoName, MoreName, First, NoFirst, FirstExp, FirstNames, Stm, Stmt, Form, Empty, Do, Declare, Block, If, While, DoWhile, For, Break, Continue, Return, Label, Switch, Else, NoElse, OrElse, Stms, NoStm, MoreStm, MoreCase, Function, Program}
 use Rattle.c_core.specs.Parts.{exp_if, exps_in, exps_of, exps_of_program, fulls_of_first, fulls_of_init, fulls_of_names, fulls_of_program, own_fulls, own_fulls_of, spot_of, statements_of, statements_of_block, statements_of_else, statements_of_form}
 use Rattle.c_core.specs.Places.{aim_fits, call_at, calls_reach_error, ends_at, is_named, leftmost, place_at, spots_of_kind, starts_of_reach_error}
 use Rattle.c_core.specs.declared.number.Property.{Property}
@@ -33,10 +33,16 @@ in_list : {A : Type 0} (w : Exp → List A) (es : Exps) → each_in_list w es �
 in_list w NoExp = refl
 in_list w (MoreExp e es) = ap (λ l. w e ++ l) (in_list w es)
 
+in_rows : {A : Type 0} (w : Exp → List A) (rows : List Exps) → flat_map (each_in_list w) rows ≡ parts w (flat_map exps_in rows)
+in_rows w [] = refl
+in_rows w (es ∷ rows) =
+    ap (λ l. l ++ flat_map (each_in_list w) rows) (in_list w es) ∙ ap (λ l. parts w (exps_in es) ++ l) (in_rows w rows) ∙ sym (two_parts w (exps_in es) (flat_map exps_in rows))
+
 in_init : {A : Type 0} (w : Exp → List A) (i : Init) → each_in_init w i ≡ parts w (fulls_of_init i)
 in_init w Absent = refl
 in_init w (One e) = one_part w e
 in_init w (Many es) = in_list w es
+in_init w (Rows rows) = in_rows w rows
 
 in_names : {A : Type 0} (w : Exp → List A) (ns : Names) → each_in_names w ns ≡ parts w (fulls_of_names ns)
 in_names w NoName = refl
@@ -93,6 +99,7 @@ mutual
   in_form w Continue = refl
   in_form w (Return e) = alone w (exp_if e) (each_if w e) (in_if w e)
   in_form w (Label b) = in_statement w b
+  in_form w (Switch e b) = ap (λ l. w e ++ l) (in_block w b)
 
   in_else : {A : Type 0} (w : Exp → List A) (b : Else) → each_in_else w b ≡ parts w (fulls (statements_of_else b))
   in_else w NoElse = refl
@@ -101,6 +108,7 @@ mutual
   in_block : {A : Type 0} (w : Exp → List A) (b : Stms) → each_in_block w b ≡ parts w (fulls (statements_of_block b))
   in_block w NoStm = refl
   in_block w (MoreStm s b) = both w (statements_of s) (statements_of_block b) (each_in w s) (each_in_block w b) (in_statement w s) (in_block w b)
+  in_block w (MoreCase spot l b) = in_block w b
 
 pub in_functions : {A : Type 0} (w : Exp → List A) (fs : List Function) → each_in_functions w fs ≡ parts w (fulls (flat_map (λ f. statements_of f.body) fs))
 in_functions w [] = refl

@@ -40,7 +40,7 @@ abbrev mutual
   pub calls_in : Node → List (Spot × Exp)
   calls_in (Const v) = []
   calls_in (Var o) = []
-  calls_in (Index o i) = calls_of i
+  calls_in (Index o is) = calls_in_arguments is
   calls_in (Unary op a) = calls_of a
   calls_in (Cast a) = calls_of a
   calls_in (Step op a) = calls_of a

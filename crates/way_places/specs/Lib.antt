@@ -1,5 +1,6 @@
 pub mod Seeking
 pub mod Sought
+pub mod Switches
 pub mod Aims
 pub mod Calls
 pub mod Indexed

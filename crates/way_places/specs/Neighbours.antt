@@ -1,9 +1,9 @@
--- The statements of blocks, each under the place of the one behind it.
+-- The statements of blocks and arms, each under the place of the one behind it.
 use Rattle.std.specs.Prelude.{List, [], ◌∷◌, ◌++◌, Option, Some, None, map}
 use Rattle.std.specs.List.{flat_map}
 use denote.Ref.{Bor}
 use Rattle.c_core.specs.Tree as t
-use Rattle.c_core.specs.Tree.{Stm, Form, Block, Stms, NoStm, MoreStm}
+use Rattle.c_core.specs.Tree.{Stm, Form, Block, Switch, Stms, NoStm, MoreStm, MoreCase}
 use Rattle.c_core.specs.Parts.{spot_of_statement}
 use Rattle.c_core.specs.View.{stmt_view}
 use Rattle.c_core.specs.declared.number.Spot.{Spot}
@@ -17,14 +17,17 @@ pairs_view cs = map pair_view cs
 
 abbrev pub pair_of : Stm → Stms → List (Spot × Stm)
 pair_of s NoStm = []
+pair_of s (MoreCase spot l b) = []
 pair_of s (MoreStm behind b) = (spot_of_statement behind, s) ∷ []
 
 abbrev pub pairs_in : Stms → List (Spot × Stm)
 pairs_in NoStm = []
 pairs_in (MoreStm s b) = pair_of s b ++ pairs_in b
+pairs_in (MoreCase spot l b) = pairs_in b
 
 abbrev pub pairs_in_form : Form → List (Spot × Stm)
 pairs_in_form (Block b) = pairs_in b
+pairs_in_form (Switch e b) = pairs_in b
 pairs_in_form _ = []
 
 abbrev pub pairs_of : Stm → List (Spot × Stm)

@@ -3,9 +3,11 @@ use Rattle.std.specs.Prelude.{ℕ, nat_lt, Bool, cond, ◌&&◌, List, [], ◌�
 use Rattle.c_core.specs.Tree.{Exp, Stm, Stms, MoreStm, Function}
 use Rattle.c_core.specs.Parts.{spot_of, statements_of}
 use Rattle.c_core.specs.Places.{is_named, same_kind, places_of_body, calls_reach_error, ends_at, before_in, before_in_statement}
+use Rattle.c_core.specs.declared.number.IntType.{IntType}
 use Rattle.c_core.specs.declared.number.Spot.{Spot}
 use Rattle.c_core.specs.declared.place.PlaceKind.{PlaceKind}
 use Rattle.c_core.specs.declared.place.Place.{Place}
+use Rattle.way_places.specs.Switches.{switch_in}
 use Rattle.way_places.specs.declared.expressions.Wanted.{Wanted}
 use Rattle.way_places.specs.declared.expressions.Wanted.TheVariants.{EndsAt, Starts, ReachesError}
 
@@ -46,6 +48,11 @@ or_else (Some a) b = Some a
 abbrev pub before_of : Spot → Option Stm → List Stm → Option Stm
 before_of spot found [] = found
 before_of spot found (s ∷ ss) = before_of spot (or_else found (before_in_statement spot s)) ss
+
+-- the type of the test of the switch at a place, where none was found before
+abbrev pub type_from : Spot → Option IntType → List Stm → Option IntType
+type_from spot found [] = found
+type_from spot found (s ∷ ss) = type_from spot (or_else found (switch_in spot s)) ss
 
 abbrev pub places_of_functions : List Function → List Place
 places_of_functions [] = []

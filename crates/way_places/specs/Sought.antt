@@ -1,6 +1,7 @@
 -- What a walk over bodies takes from each full expression, in its order.
 use Rattle.std.specs.Prelude.{Bool, false, true, List, [], ◌∷◌, ◌++◌, Option, Some, None}
-use Rattle.c_core.specs.Tree.{Exp, Exps, NoExp, MoreExp, Init, Absent, One, Many, Names, NoName, MoreName, First, NoFirst, FirstExp, FirstNames, Stm, Stmt, Form, Empty, Do, Declare, Block, If, While, DoWhile, For, Break, Continue, Return, Label, Else, NoElse, OrElse, Stms, NoStm, MoreStm, Function, Program}
+use Rattle.std.specs.List.{flat_map}
+use Rattle.c_core.specs.Tree.{Exp, Exps, NoExp, MoreExp, Init, Absent, One, Many, Rows, Names, NoName, MoreName, First, NoFirst, FirstExp, FirstNames, Stm, Stmt, Form, Empty, Do, Declare, Block, If, While, DoWhile, For, Break, Continue, Return, Label, Switch, Else, NoElse, OrElse, Stms, NoStm, MoreStm, MoreCase, Function, Program}
 use Rattle.c_core.specs.Parts.{exps_of}
 use Rattle.c_core.specs.declared.number.Property.{Property}
 use Rattle.c_core.specs.declared.number.Property.TheVariants.{UnreachCall, NoOverflow}
@@ -26,6 +27,7 @@ abbrev pub each_in_init : {A : Type 0} → (Exp → List A) → Init → List A
 each_in_init f Absent = []
 each_in_init f (One e) = f e
 each_in_init f (Many es) = each_in_list f es
+each_in_init f (Rows rows) = flat_map (each_in_list f) rows
 
 abbrev pub each_in_names : {A : Type 0} → (Exp → List A) → Names → List A
 each_in_names f NoName = []
@@ -53,6 +55,7 @@ abbrev mutual
   each_in_form f Continue = []
   each_in_form f (Return e) = each_if f e
   each_in_form f (Label b) = each_in f b
+  each_in_form f (Switch e b) = f e ++ each_in_block f b
 
   pub each_in_else : {A : Type 0} → (Exp → List A) → Else → List A
   each_in_else f NoElse = []
@@ -61,6 +64,7 @@ abbrev mutual
   pub each_in_block : {A : Type 0} → (Exp → List A) → Stms → List A
   each_in_block f NoStm = []
   each_in_block f (MoreStm s b) = each_in f s ++ each_in_block f b
+  each_in_block f (MoreCase spot l b) = each_in_block f b
 
 abbrev pub each_in_functions : {A : Type 0} → (Exp → List A) → List Function → List A
 each_in_functions f [] = []

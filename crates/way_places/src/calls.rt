@@ -34,7 +34,7 @@ fn push_node<'a>(list: &mut Vec<(Spot, &'a Expr)>, node: &'a Node) -> Result<(),
     match node {
         Node::Const(_) => {}
         Node::Var(_) => {}
-        Node::Index { at, .. } => push_expression(list, at)?,
+        Node::Index { at, .. } => push_arguments(list, at.as_slice())?,
         Node::Unary { of, .. } => push_expression(list, of)?,
         Node::Cast(of) => push_expression(list, of)?,
         Node::Step { target, .. } => push_expression(list, target)?,

@@ -1,16 +1,17 @@
 // The first expression of a kind, over all bodies.
 ghost use Rattle.std.specs.Prelude.{◌≡◌, ◌&&◌, ◌||◌, [], ◌∷◌, ◌++◌, None, is_some};
+ghost use Rattle.std.specs.List.{flat_map};
 ghost use Rattle.std.specs.Option.{option_copied};
 ghost use Rattle.c_core.specs.Parts.{exps_of, exps_of_arguments, exps_of_node, same_spot};
 ghost use Rattle.c_core.specs.Places.{aim_fits, call_at};
-ghost use Rattle.c_core.specs.View.{expr_view, expr_view_if, exprs_view, first_view, form_view, functions_view, init_view, names_view, node_view, program_view, stmt_view, stmts_view};
+ghost use Rattle.c_core.specs.View.{expr_view, expr_view_if, exprs_view, first_view, form_view, functions_view, init_view, names_view, node_view, program_view, rows_view, stmt_view, stmts_view, switch_view};
 ghost use Rattle.way_places.specs.Seeking.{first_of, is_wanted};
 ghost use Rattle.way_places.specs.Sought.{found_by, is_reachability, parts_of, each_if, each_in, each_in_block, each_in_first, each_in_form, each_in_functions, each_in_init, each_in_list, each_in_names};
 
 use crate::place::{names, place_at};
 use c_core::{
-    Callee, Declared, Expr, First, Form, Function, Init, Node, PlaceKind, Program, Property, Spot,
-    Stmt,
+    Arm, Callee, Declared, Expr, First, Form, Function, Init, Node, PlaceKind, Program, Property,
+    Row, Spot, Stmt,
 };
 
 /// What an expression is sought for: a call that ends there, a full expression that starts at a place, a call of `reach_error` that
@@ -73,7 +74,7 @@ fn node<'a>(wanted: Wanted, found: Option<&'a Expr>, inner: &'a Node) -> Option<
     match inner {
         Node::Const(_) => found,
         Node::Var(_) => found,
-        Node::Index { at, .. } => expression(wanted, found, at),
+        Node::Index { at, .. } => arguments(wanted, found, at.as_slice()),
         Node::Unary { of, .. } => expression(wanted, found, of),
         Node::Cast(of) => expression(wanted, found, of),
         Node::Step { target, .. } => expression(wanted, found, target),
@@ -145,6 +146,17 @@ fn listed<'a>(wanted: Wanted, found: Option<&'a Expr>, es: &'a [Expr]) -> Option
     first
 }
 
+#[tactic(auto, using(crate::proofs::SeekingLaws::first_of_both))]
+fn in_rows<'a>(wanted: Wanted, found: Option<&'a Expr>, rows: &'a [Row]) -> Option<&'a Expr>
+    ensures { expr_view_if (option_copied result) ≡ first_of (is_wanted wanted) (expr_view_if (option_copied found.entry)) (flat_map (each_in_list (parts_of wanted)) (rows_view rows.now)) }
+{
+    let mut first = found;
+    for row in rows {
+        first = listed(wanted, first, row.values.as_slice());
+    }
+    first
+}
+
 fn initial<'a>(wanted: Wanted, found: Option<&'a Expr>, init: &'a Init) -> Option<&'a Expr>
     ensures { expr_view_if (option_copied result) ≡ first_of (is_wanted wanted) (expr_view_if (option_copied found.entry)) (each_in_init (parts_of wanted) (init_view init.now)) }
 {
@@ -152,6 +164,7 @@ fn initial<'a>(wanted: Wanted, found: Option<&'a Expr>, init: &'a Init) -> Optio
         Init::Absent => found,
         Init::One(e) => full(wanted, found, e),
         Init::Many(es) => listed(wanted, found, es.as_slice()),
+        Init::Rows(rows) => in_rows(wanted, found, rows.as_slice()),
     }
 }
 
@@ -224,6 +237,10 @@ fn inside<'a>(wanted: Wanted, found: Option<&'a Expr>, form: &'a Form) -> Option
         Form::Continue => found,
         Form::Return(e) => optional(wanted, found, e),
         Form::Label(of) => statement(wanted, found, of),
+        Form::Switch { test, arms } => {
+            let found = full(wanted, found, test);
+            in_arms(wanted, found, arms.as_slice())
+        }
     }
 }
 
@@ -235,6 +252,18 @@ fn block<'a>(wanted: Wanted, found: Option<&'a Expr>, body: &'a [Stmt]) -> Optio
     let mut first = found;
     for s in body {
         first = statement(wanted, first, s);
+    }
+    first
+}
+
+#[cycle(statement)]
+#[tactic(auto, using(crate::proofs::SeekingLaws::first_of_both))]
+fn in_arms<'a>(wanted: Wanted, found: Option<&'a Expr>, arms: &'a [Arm]) -> Option<&'a Expr>
+    ensures { expr_view_if (option_copied result) ≡ first_of (is_wanted wanted) (expr_view_if (option_copied found.entry)) (each_in_block (parts_of wanted) (switch_view arms.now)) }
+{
+    let mut first = found;
+    for arm in arms {
+        first = block(wanted, first, arm.body.as_slice());
     }
     first
 }

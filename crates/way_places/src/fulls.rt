@@ -1,11 +1,12 @@
 // The full expressions of a program.
 ghost use Rattle.std.specs.Prelude.{◌≡◌, ◌∷◌, ◌++◌, [], OnOk, IfOk};
+ghost use Rattle.std.specs.List.{flat_map};
 ghost use Rattle.c_core.specs.Parts.{fulls_of_program};
-ghost use Rattle.c_core.specs.View.{expr_view, expr_view_if, exprs_view, first_view, form_view, functions_view, init_view, names_view, program_view, stmt_view, stmts_view};
+ghost use Rattle.c_core.specs.View.{expr_view, expr_view_if, exprs_view, first_view, form_view, functions_view, init_view, names_view, program_view, rows_view, stmt_view, stmts_view, switch_view};
 ghost use Rattle.way_places.specs.Calls.{alone, fulls_view};
 ghost use Rattle.way_places.specs.Sought.{each_if, each_in, each_in_block, each_in_first, each_in_form, each_in_functions, each_in_init, each_in_list, each_in_names};
 
-use c_core::{Declared, Expr, First, Form, Function, Init, Program, Stmt};
+use c_core::{Arm, Declared, Expr, First, Form, Function, Init, Program, Row, Stmt};
 use std::alloc::Global;
 use wv_base::OutOfMemory;
 
@@ -34,6 +35,15 @@ fn push_list<'a>(list: &mut Vec<&'a Expr>, es: &'a [Expr]) -> Result<(), OutOfMe
     Ok(())
 }
 
+fn push_rows<'a>(list: &mut Vec<&'a Expr>, rows: &'a [Row]) -> Result<(), OutOfMemory>
+    ensures { OnOk result (fulls_view list.new.items ≡ fulls_view list.old.items ++ flat_map (each_in_list alone) (rows_view rows.now)) }
+{
+    for row in rows {
+        push_list(list, row.values.as_slice())?;
+    }
+    Ok(())
+}
+
 fn push_init<'a>(list: &mut Vec<&'a Expr>, init: &'a Init) -> Result<(), OutOfMemory>
     ensures { OnOk result (fulls_view list.new.items ≡ fulls_view list.old.items ++ each_in_init alone (init_view init.now)) }
 {
@@ -41,6 +51,7 @@ fn push_init<'a>(list: &mut Vec<&'a Expr>, init: &'a Init) -> Result<(), OutOfMe
         Init::Absent => Ok(()),
         Init::One(e) => push(list, e),
         Init::Many(es) => push_list(list, es.as_slice()),
+        Init::Rows(rows) => push_rows(list, rows.as_slice()),
     }
 }
 
@@ -110,6 +121,10 @@ fn push_form<'a>(list: &mut Vec<&'a Expr>, form: &'a Form) -> Result<(), OutOfMe
         Form::Continue => {}
         Form::Return(e) => push_if(list, e)?,
         Form::Label(of) => push_statement(list, of)?,
+        Form::Switch { test, arms } => {
+            push(list, test)?;
+            push_arms(list, arms.as_slice())?;
+        }
     }
     Ok(())
 }
@@ -120,6 +135,16 @@ fn push_block<'a>(list: &mut Vec<&'a Expr>, body: &'a [Stmt]) -> Result<(), OutO
 {
     for s in body {
         push_statement(list, s)?;
+    }
+    Ok(())
+}
+
+#[cycle(statement)]
+fn push_arms<'a>(list: &mut Vec<&'a Expr>, arms: &'a [Arm]) -> Result<(), OutOfMemory>
+    ensures { OnOk result (fulls_view list.new.items ≡ fulls_view list.old.items ++ each_in_block alone (switch_view arms.now)) }
+{
+    for arm in arms {
+        push_block(list, arm.body.as_slice())?;
     }
     Ok(())
 }

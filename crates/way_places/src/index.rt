@@ -3,6 +3,7 @@ ghost use Rattle.std.specs.List.{filter};
 ghost use Rattle.std.specs.Option.{option_copied, option_map};
 ghost use Rattle.c_core.specs.Places.{aim_fits, call_at, is_named, leftmost, of_kind, place_at, stmt_before};
 ghost use Rattle.c_core.specs.View.{expr_view_if, program_view, stmt_view};
+ghost use Rattle.way_places.specs.Switches.{switch_at};
 ghost use Rattle.way_places.specs.Maps.{named_in};
 
 use crate::aims::{aims, push_of_kind};
@@ -12,13 +13,14 @@ use crate::fulls::fulls;
 use crate::leftmost::{Spots, leftmosts, named_in};
 use crate::listed::places;
 use crate::neighbours::neighbours;
-use c_core::{Expr, Place, PlaceKind, Program, Spot, Stmt};
+use crate::tests::tests;
+use c_core::{Expr, IntType, Place, PlaceKind, Program, Spot, Stmt};
 use std::alloc::Global;
 use std::collections::BTreeMap;
 use std::marker::Model;
 use wv_base::OutOfMemory;
 
-/// A program whose places, targets, calls and statements before places are found without a walk.
+/// A program whose places, targets, calls, statements before places and switches are found without a walk.
 #[derive(Drop)]
 pub struct Index<'a> {
     program: &'a Program,
@@ -29,6 +31,7 @@ pub struct Index<'a> {
     aims: Spots,
     calls: BTreeMap<(u32, u32), &'a Expr>,
     befores: BTreeMap<(u32, u32), &'a Stmt>,
+    switches: BTreeMap<(u32, u32), IntType>,
 }
 
 impl<'a> Model for Index<'a> {
@@ -45,7 +48,7 @@ impl<'a> Model for Index<'a> {
 
     ghost view = { λ x. x.program.now };
 
-    ghost invariant = { λ x. IsIndex (program_view x.program.now) x.statements x.loops x.branches x.call_ends x.aims x.calls x.befores };
+    ghost invariant = { λ x. IsIndex (program_view x.program.now) x.statements x.loops x.branches x.call_ends x.aims x.calls x.befores x.switches };
 }
 
 fn spots_of_kind(alloc: Global, kind: PlaceKind, places: &[Place]) -> Result<Spots, OutOfMemory>
@@ -75,6 +78,8 @@ impl<'a> Index<'a> {
         let calls = firsts(alloc, ended)?;
         let pairs = neighbours(alloc, program)?;
         let befores = firsts(alloc, pairs.as_slice())?;
+        let typed = tests(alloc, program)?;
+        let switches = firsts(alloc, typed.as_slice())?;
         Ok(Index {
             program,
             statements,
@@ -84,6 +89,7 @@ impl<'a> Index<'a> {
             aims,
             calls,
             befores,
+            switches,
         })
     }
 
@@ -124,5 +130,12 @@ impl<'a> Index<'a> {
         ensures { option_map stmt_view (option_copied result) ≡ stmt_before (program_view self.now) spot }
     {
         found_at(&self.befores, spot)
+    }
+
+    /// The promoted type of the test of the switch at a place.
+    pub fn switch_at(&self, spot: Spot) -> Option<IntType>
+        ensures { result ≡ switch_at (program_view self.now) spot }
+    {
+        found_at(&self.switches, spot)
     }
 }

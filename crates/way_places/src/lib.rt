@@ -13,6 +13,8 @@ mod leftmost;
 mod listed;
 mod neighbours;
 mod place;
+mod switches;
+mod tests;
 
 pub use before::stmt_before;
 pub use expressions::{aim_fits, call_at, is_same};
@@ -20,3 +22,4 @@ pub use index::Index;
 pub use inputs::{InputCall, input_calls, input_of};
 pub use listed::places;
 pub use place::place_at;
+pub use switches::switch_at;

@@ -1,13 +1,15 @@
 // The list of a program's places.
 ghost use Rattle.std.specs.Prelude.{◌≡◌, [], ◌∷◌, ◌++◌, OnOk, IfOk, IsTrue};
+ghost use Rattle.std.specs.List.{flat_map};
 ghost use Rattle.c_core.specs.Places.{place, places_if, places_in, places_in_arguments, places_in_first, places_in_init, places_in_names, places_in_node, places_of, places_of_block, places_of_body, places_of_form, places_of_statement};
-ghost use Rattle.c_core.specs.View.{block_view, expr_view, expr_view_if, exprs_view, first_view, form_view, functions_view, init_view, names_view, node_view, program_view, stmt_view, stmts_view};
+ghost use Rattle.c_core.specs.View.{block_view, expr_view, expr_view_if, exprs_view, first_view, form_view, functions_view, init_view, names_view, node_view, program_view, rows_view, stmt_view, stmts_view, switch_view};
 ghost use Rattle.c_core.specs.declared.place.PlaceKind.TheVariants.{CallEnd};
 ghost use Rattle.way_places.specs.Ordered.{are_ordered};
 ghost use Rattle.way_places.specs.Seeking.{places_of_functions};
 
 use c_core::{
-    Declared, Expr, First, Form, Function, Init, Node, Place, PlaceKind, Program, Spot, Stmt,
+    Arm, Declared, Expr, First, Form, Function, Init, Node, Place, PlaceKind, Program, Row, Spot,
+    Stmt,
 };
 use std::alloc::Global;
 use wv_base::{OutOfMemory, Seq};
@@ -34,7 +36,7 @@ fn push_node(list: &mut Vec<Place>, node: &Node) -> Result<(), OutOfMemory>
     match node {
         Node::Const(_) => {}
         Node::Var(_) => {}
-        Node::Index { at, .. } => push_expression(list, at)?,
+        Node::Index { at, .. } => push_arguments(list, at.as_slice())?,
         Node::Unary { of, .. } => push_expression(list, of)?,
         Node::Cast(of) => push_expression(list, of)?,
         Node::Step { target, .. } => push_expression(list, target)?,
@@ -98,6 +100,15 @@ fn push_if(list: &mut Vec<Place>, e: &Option<Expr>) -> Result<(), OutOfMemory>
     Ok(())
 }
 
+fn push_rows(list: &mut Vec<Place>, rows: &[Row]) -> Result<(), OutOfMemory>
+    ensures { OnOk result (list.new.items ≡ list.old.items ++ flat_map places_in_arguments (rows_view rows.now)) }
+{
+    for row in rows {
+        push_arguments(list, row.values.as_slice())?;
+    }
+    Ok(())
+}
+
 fn push_init(list: &mut Vec<Place>, init: &Init) -> Result<(), OutOfMemory>
     ensures { OnOk result (list.new.items ≡ list.old.items ++ places_in_init (init_view init.now)) }
 {
@@ -105,6 +116,7 @@ fn push_init(list: &mut Vec<Place>, init: &Init) -> Result<(), OutOfMemory>
         Init::Absent => Ok(()),
         Init::One(e) => push_expression(list, e),
         Init::Many(es) => push_arguments(list, es.as_slice()),
+        Init::Rows(rows) => push_rows(list, rows.as_slice()),
     }
 }
 
@@ -182,6 +194,11 @@ fn push_form(list: &mut Vec<Place>, at: Spot, form: &Form) -> Result<(), OutOfMe
         Form::Continue => {}
         Form::Return(e) => push_if(list, e)?,
         Form::Label(of) => push_statement(list, of)?,
+        Form::Switch { test, arms } => {
+            push(list, PlaceKind::Branch, at)?;
+            push_expression(list, test)?;
+            push_arms(list, arms.as_slice())?;
+        }
     }
     Ok(())
 }
@@ -192,6 +209,16 @@ fn push_block(list: &mut Vec<Place>, body: &[Stmt]) -> Result<(), OutOfMemory>
 {
     for s in body {
         push_statement(list, s)?;
+    }
+    Ok(())
+}
+
+#[cycle(statement)]
+fn push_arms(list: &mut Vec<Place>, arms: &[Arm]) -> Result<(), OutOfMemory>
+    ensures { OnOk result (list.new.items ≡ list.old.items ++ places_of_block (switch_view arms.now)) }
+{
+    for arm in arms {
+        push_block(list, arm.body.as_slice())?;
     }
     Ok(())
 }

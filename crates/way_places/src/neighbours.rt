@@ -1,11 +1,11 @@
-// The statements of blocks, each under the place of the one behind it.
+// The statements of blocks and arms, each under the place of the one behind it.
 ghost use Rattle.std.specs.Prelude.{◌≡◌, ◌∷◌, ◌++◌, [], OnOk, IfOk};
 ghost use Rattle.c_core.specs.Parts.{statements_of, statements_of_block, statements_of_form, statements_of_program};
-ghost use Rattle.c_core.specs.View.{form_view, functions_view, program_view, stmt_view, stmts_view};
+ghost use Rattle.c_core.specs.View.{form_view, functions_view, program_view, stmt_view, stmts_view, switch_view};
 ghost use Rattle.way_places.specs.Neighbours.{among, pairs_in, pairs_in_form, pairs_view};
 ghost use Rattle.way_places.specs.Seeking.{statements_of_functions};
 
-use c_core::{Form, Function, Program, Spot, Stmt};
+use c_core::{Arm, Form, Function, Program, Spot, Stmt};
 use std::alloc::Global;
 use wv_base::OutOfMemory;
 
@@ -22,11 +22,24 @@ fn push_pairs<'a>(list: &mut Vec<(Spot, &'a Stmt)>, body: &'a [Stmt]) -> Result<
     Ok(())
 }
 
+fn push_pairs_of_arms<'a>(
+    list: &mut Vec<(Spot, &'a Stmt)>,
+    arms: &'a [Arm],
+) -> Result<(), OutOfMemory>
+    ensures { OnOk result (pairs_view list.new.items ≡ pairs_view list.old.items ++ pairs_in (switch_view arms.now)) }
+{
+    for arm in arms {
+        push_pairs(list, arm.body.as_slice())?;
+    }
+    Ok(())
+}
+
 fn push_own<'a>(list: &mut Vec<(Spot, &'a Stmt)>, form: &'a Form) -> Result<(), OutOfMemory>
     ensures { OnOk result (pairs_view list.new.items ≡ pairs_view list.old.items ++ pairs_in_form (form_view form.now)) }
 {
     match form {
         Form::Block(body) => push_pairs(list, body.as_slice())?,
+        Form::Switch { arms, .. } => push_pairs_of_arms(list, arms.as_slice())?,
         _ => {}
     }
     Ok(())
@@ -59,6 +72,7 @@ fn push_form<'a>(list: &mut Vec<(Spot, &'a Stmt)>, form: &'a Form) -> Result<(),
         Form::Do { body, .. } => push_statement(list, body)?,
         Form::For { body, .. } => push_statement(list, body)?,
         Form::Label(of) => push_statement(list, of)?,
+        Form::Switch { arms, .. } => push_arms(list, arms.as_slice())?,
         Form::Empty => {}
         Form::Expr(_) => {}
         Form::Declare(_) => {}
@@ -76,6 +90,17 @@ fn push_block<'a>(list: &mut Vec<(Spot, &'a Stmt)>, body: &'a [Stmt]) -> Result<
 {
     for s in body {
         push_statement(list, s)?;
+    }
+    Ok(())
+}
+
+#[cycle(statement)]
+#[tactic(auto, using(crate::proofs::NeighbourLaws::among_both))]
+fn push_arms<'a>(list: &mut Vec<(Spot, &'a Stmt)>, arms: &'a [Arm]) -> Result<(), OutOfMemory>
+    ensures { OnOk result (pairs_view list.new.items ≡ pairs_view list.old.items ++ among (statements_of_block (switch_view arms.now))) }
+{
+    for arm in arms {
+        push_block(list, arm.body.as_slice())?;
     }
     Ok(())
 }

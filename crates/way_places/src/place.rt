@@ -1,11 +1,14 @@
 // The place that a location names.
 ghost use Rattle.std.specs.Prelude.{◌≡◌, [], ◌∷◌, ◌++◌, None, Some};
+ghost use Rattle.std.specs.List.{flat_map};
 ghost use Rattle.c_core.specs.Places.{is_named, place, place_at, places_if, places_in, places_in_arguments, places_in_first, places_in_init, places_in_names, places_in_node, places_of_block, places_of_form, places_of_statement, same_kind};
-ghost use Rattle.c_core.specs.View.{block_view, expr_view, expr_view_if, exprs_view, first_view, form_view, functions_view, init_view, names_view, node_view, program_view, stmt_view, stmts_view};
+ghost use Rattle.c_core.specs.View.{block_view, expr_view, expr_view_if, exprs_view, first_view, form_view, functions_view, init_view, names_view, node_view, program_view, rows_view, stmt_view, stmts_view, switch_view};
 ghost use Rattle.c_core.specs.declared.place.PlaceKind.TheVariants.{Branch, CallEnd, Loop};
 ghost use Rattle.way_places.specs.Seeking.{best_of, places_of_functions};
 
-use c_core::{Declared, Expr, First, Form, Function, Init, Node, PlaceKind, Program, Spot, Stmt};
+use c_core::{
+    Arm, Declared, Expr, First, Form, Function, Init, Node, PlaceKind, Program, Row, Spot, Stmt,
+};
 
 /// Whether a spot is exactly there, or on the line where no column is named.
 pub fn names(line: u32, column: Option<u32>, spot: Spot) -> bool
@@ -70,7 +73,7 @@ impl Location {
         match node {
             Node::Const(_) => best,
             Node::Var(_) => best,
-            Node::Index { at, .. } => self.expression(best, at),
+            Node::Index { at, .. } => self.arguments(best, at.as_slice()),
             Node::Unary { of, .. } => self.expression(best, of),
             Node::Cast(of) => self.expression(best, of),
             Node::Step { target, .. } => self.expression(best, target),
@@ -135,6 +138,17 @@ impl Location {
         }
     }
 
+    #[tactic(auto, using(crate::proofs::SeekingLaws::best_of_both))]
+    fn rows(&self, best: Option<Spot>, rows: &[Row]) -> Option<Spot>
+        ensures { result ≡ best_of self.now.kind self.now.line self.now.column best (flat_map places_in_arguments (rows_view rows.now)) }
+    {
+        let mut nearest = best;
+        for row in rows {
+            nearest = self.arguments(nearest, row.values.as_slice());
+        }
+        nearest
+    }
+
     fn init(&self, best: Option<Spot>, init: &Init) -> Option<Spot>
         ensures { result ≡ best_of self.now.kind self.now.line self.now.column best (places_in_init (init_view init.now)) }
     {
@@ -142,6 +156,7 @@ impl Location {
             Init::Absent => best,
             Init::One(e) => self.expression(best, e),
             Init::Many(es) => self.arguments(best, es.as_slice()),
+            Init::Rows(rows) => self.rows(best, rows.as_slice()),
         }
     }
 
@@ -220,6 +235,11 @@ impl Location {
             Form::Continue => best,
             Form::Return(e) => self.optional(best, e),
             Form::Label(of) => self.statement(best, of),
+            Form::Switch { test, arms } => {
+                let best = self.own(best, PlaceKind::Branch, at);
+                let best = self.expression(best, test);
+                self.arms(best, arms.as_slice())
+            }
         }
     }
 
@@ -240,6 +260,18 @@ impl Location {
         let mut nearest = best;
         for s in body {
             nearest = self.statement(nearest, s);
+        }
+        nearest
+    }
+
+    #[cycle(statement)]
+    #[tactic(auto, using(crate::proofs::SeekingLaws::best_of_both))]
+    fn arms(&self, best: Option<Spot>, arms: &[Arm]) -> Option<Spot>
+        ensures { result ≡ best_of self.now.kind self.now.line self.now.column best (places_of_block (switch_view arms.now)) }
+    {
+        let mut nearest = best;
+        for arm in arms {
+            nearest = self.block(nearest, arm.body.as_slice());
         }
         nearest
     }

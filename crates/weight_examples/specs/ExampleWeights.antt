@@ -1,11 +1,12 @@
 -- What small programs weigh and draw, and how long their chains of calls are. Each sum is counted by hand beside it.
-use Rattle.std.specs.Prelude.{◌≡◌, ℕ, zero, suc, ◌<◌, true, false, List, [], ◌∷◌, None, Some}
-use Rattle.c_core.specs.Tree.{Exp, Expr, Binary, Index, Assign, Step, NoExp, Absent, Names, NoName, MoreName, Declare, Return, Program}
+use Rattle.std.specs.Prelude.{◌≡◌, ℕ, zero, suc, ◌<◌, pos, true, false, List, [], ◌∷◌, None, Some}
+use Rattle.c_core.specs.Tree.{Exp, Expr, Binary, Index, Assign, Step, NoExp, MoreExp, Absent, Rows, Names, NoName, MoreName, Declare, Break, Return, Switch, NoStm, MoreStm, MoreCase, Program}
 use Rattle.c_core.specs.declared.number.IntType.TheVariants.{Int}
 use Rattle.c_core.specs.declared.number.Property.TheVariants.{UnreachCall}
 use Rattle.c_core.specs.declared.number.BinOp.TheVariants.{Add, Mul, Lt, Le, Eq}
 use Rattle.c_core.specs.declared.number.StepOp.TheVariants.{PostInc}
 use Rattle.c_core.specs.declared.tree.Callee.TheVariants.{Defined}
+use Rattle.c_core.specs.declared.tree.Label.TheVariants.{Case, Default}
 use Rattle.c_core.specs.Tree.{Logic, Var}
 use Rattle.c_core.specs.declared.number.IntType.TheVariants.{UInt}
 use Rattle.c_meaning.specs.Duties.{Placed}
@@ -41,15 +42,40 @@ sum_kept = operation 1 1 Eq (exp UInt 1 1 (Binary Add (exp UInt 1 1 (Var 2)) (ex
 -- 6|  return a[2];
 -- 7|}
 abbrev pub element : ℕ → ℕ → ℕ → Exp
-element l c i = exp Int l c (Index 0 (number l c i))
+element l c i = exp Int l c (Index 0 (MoreExp (number l c i) NoExp))
 
 abbrev pub use_array : Program
-use_array = main_alone UnreachCall (record { name = []; ty = Int; cells = 4; array = true; fixed = false; spot = at 2 7 } ∷ []) (block 1 12 (
+use_array = main_alone UnreachCall (record { name = []; ty = Int; cells = 4; columns = 1; dims = 1; fixed = false; spot = at 2 7 } ∷ []) (block 1 12 (
     statement 2 3 (Declare (MoreName (at 2 7) 0 Absent NoName)) ∷
     only 3 3 (exp Int 3 3 (Assign None (element 3 3 1) (number 3 10 2))) ∷
     only 4 3 (exp Int 4 3 (Step PostInc (element 4 3 0))) ∷
     only 5 3 (exp Int 5 3 (Assign (Some Add) (element 5 3 2) (number 5 11 3))) ∷
     statement 6 3 (Return (Some (element 6 10 2))) ∷ []))
+
+-- 1|int main() {
+-- 2|  int a[2][3] = { { 1 }, { 2, 3 } };
+-- 3|  a[1][2] = 7;
+-- 4|}
+abbrev pub use_rows : Program
+use_rows = main_alone UnreachCall (record { name = []; ty = Int; cells = 6; columns = 3; dims = 2; fixed = false; spot = at 2 7 } ∷ []) (block 1 12 (
+    statement 2 3 (Declare (MoreName (at 2 7) 0 (Rows (MoreExp (number 2 21 1) NoExp ∷ MoreExp (number 2 28 2) (MoreExp (number 2 31 3) NoExp) ∷ [])) NoName)) ∷
+    only 3 3 (exp Int 3 3 (Assign None (exp Int 3 3 (Index 0 (MoreExp (number 3 5 1) (MoreExp (number 3 8 2) NoExp)))) (number 3 13 7))) ∷ []))
+
+-- 1|int main() {
+-- 2|  int x = 3;
+-- 3|  switch (x) {
+-- 4|    case 1: x = 5;
+-- 5|    case 2: break;
+-- 6|    default: x = 5;
+-- 7|  }
+-- 8|}
+abbrev pub use_switch : Program
+use_switch = main_alone UnreachCall (local 2 7 ∷ []) (block 1 12 (
+    declaration 2 3 7 0 (number 2 11 3) ∷
+    statement 3 3 (Switch (object 3 11 0) (
+    MoreCase (at 4 5) (Case (pos 1)) (MoreStm (only 4 13 (exp Int 4 13 (Assign None (object 4 13 0) (number 4 17 5))))
+    (MoreCase (at 5 5) (Case (pos 2)) (MoreStm (statement 5 13 Break)
+    (MoreCase (at 6 5) Default (MoreStm (only 6 14 (exp Int 6 14 (Assign None (object 6 14 0) (number 6 18 5)))) NoStm))))))) ∷ []))
 
 -- 1|void f() { }
 -- 2|void g() { f(); }
@@ -103,6 +129,11 @@ pub record ExampleWeights : Type 0 where
   -- an element 4 * 144 + 256 = 832: declaration 64 + 512; 64 + 16 + 832 + 16 + 16 + 16; 64 + 16 + 640 + 1664 + 16 + 16; 64 + 16 + 512 + 1664 + 16 + 16 + 16; 64 + 16 + 832 + 16 + 128
   pub an_array : Weight use_array [] ≡ 7376
   pub bits_of_an_array : Bits use_array ≡ 128
+  -- an element 6 * 144 + 512 = 1376; declaration 64 + 768 + 3 * (16 + 128); 64 + 16 + 1376 + 16 + 16 + 16 + 16
+  pub two_dimensions : Weight use_rows [] ≡ 2848
+  pub bits_of_two_dimensions : Bits use_rows ≡ 0
+  -- body 64; declaration 64 + 128 + 16 + 128; switch 64 + 16 + 2 * (512 + 64); 64 + 16 + 128 + 16 + 16, `break` 64, and the same once more
+  pub a_switch : Weight use_switch [] ≡ 2176
   -- each call 64 + 80 + 64, and nothing for a function that is not called
   pub two_calls : Weight call_twice [] ≡ 688
   pub one_deep : Chain call_twice ≡ 1

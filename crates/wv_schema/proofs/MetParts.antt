@@ -8,7 +8,7 @@ use Rattle.wv_yaml.specs.declared.tree.Pair.{Pair}
 use Rattle.wv_schema.specs.declared.witness.WayKind.{WayKind}
 use Rattle.wv_schema.specs.declared.witness.WayKind.TheVariants.{Assumption, Target, FunctionEnter, FunctionReturn, Branching}
 use Rattle.wv_schema.specs.Paths.{map_of, key_place}
-use Rattle.wv_schema.specs.Table.{Rule, AnyText, OneOf, Count, AText, ways, formats, needs, may_have, location_fields, expression_fields, way_fields, constraint_rows}
+use Rattle.wv_schema.specs.Table.{Rule, AnyText, OneOf, Count, AWay, AText, formats, needs, may_have, location_fields, expression_fields, way_fields, constraint_rows}
 use Rattle.wv_schema.specs.Judging.{meets, is_count, is_among, row_fault, first_fault}
 use Rattle.wv_schema.specs.Values.{text_at, text_if, map_at, count_of, location_in, constraint_in, way_in, constraint_of}
 use Rattle.wv_schema.specs.Rules.{IsCount, IsCountIf, IsLocation, IsFormat, IsWay, Constrained}
@@ -58,18 +58,9 @@ pub expression_meets : (at : List ℕ) (ps : List Pair) → first_fault at ps ex
 unfolding first_fault expression_fields
 expression_meets at ps e = format_meets _ (text_if_meets at (codes "format") ps (OneOf formats) (first_none _ _ (rest_none (row_fault at ps (needs (codes "value") (AText AnyText))) _ e)))
 
-one_way : (text : List ℕ) → meets (OneOf ways) text ≡ true → (text ≡ codes "true") ⊎ (text ≡ codes "false")
-unfolding meets
-one_way text e = by (bytes_eq text (codes "true")) (bytes_eq text (codes "false")) refl refl e
-  where
-    by : (a b : Bool) → bytes_eq text (codes "true") ≡ a → bytes_eq text (codes "false") ≡ b → (a || (b || false)) ≡ true → (text ≡ codes "true") ⊎ (text ≡ codes "false")
-    by true b p q e = inl (equal_texts _ _ p)
-    by false true p q e = inr (equal_texts _ _ q)
-    by false false p q e = absurd (cc e)
-
 way_meets : (at : List ℕ) (ps : List Pair) → first_fault at ps way_fields ≡ None → IsWay (way_in ps)
-unfolding first_fault way_fields way_in
-way_meets at ps e = (one_way _ (text_meets at (codes "value") ps (OneOf ways) (first_none _ _ e)), refl)
+unfolding first_fault way_fields way_in meets
+way_meets at ps e = (text_meets at (codes "value") ps AWay (first_none _ _ e), refl)
 
 pub constrained_meets : (at : List ℕ) (ps : List Pair) (kind : WayKind) → first_fault at ps (constraint_rows kind) ≡ None → Constrained kind (constraint_of kind ps)
 unfolding constraint_rows constraint_of constraint_in

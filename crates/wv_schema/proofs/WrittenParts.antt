@@ -8,7 +8,7 @@ use Rattle.wv_schema.specs.declared.witness.WayKind.TheVariants.{Assumption, Tar
 use Rattle.wv_schema.specs.declared.witness.Location.{Location}
 use Rattle.wv_schema.specs.declared.witness.Constraint.{Constraint}
 use Rattle.wv_schema.specs.Paths.{value_of, map_of, key_place}
-use Rattle.wv_schema.specs.Table.{Rule, AnyText, OneOf, Count, AText, AMap, ways, formats, in_map, in_map_if, location_fields, expression_fields, way_fields, constraint_rows}
+use Rattle.wv_schema.specs.Table.{Rule, AnyText, OneOf, Count, AWay, AText, AMap, formats, in_map, in_map_if, location_fields, expression_fields, way_fields, constraint_rows}
 use Rattle.wv_schema.specs.Judging.{meets, is_among, first_fault}
 use Rattle.wv_schema.specs.Values.{text_at, text_if, map_at, count_of, location_in, constraint_in, way_in, constraint_of}
 use Rattle.wv_schema.specs.Rules.{IsCount, IsCountIf, IsLocation, IsFormat, IsWay, Constrained}
@@ -106,11 +106,7 @@ constraint_met at v h = expression_met at _ v.value v.format (value_by v.value v
 
 way_met : (at : List ℕ) (v : Constraint) → IsWay v → first_fault at (constraint_pairs v) way_fields ≡ None
 unfolding first_fault way_fields constraint_pairs meets
-way_met at v h = both _ _ (text_row at (codes "value") _ (OneOf ways) v.value (value_by v.value v.format) (among v.value h.0)) refl
-  where
-    among : (text : List ℕ) → ((text ≡ codes "true") ⊎ (text ≡ codes "false")) → meets (OneOf ways) text ≡ true
-    among text (inl e) = ap (is_among ways) e
-    among text (inr e) = ap (is_among ways) e
+way_met at v h = both _ _ (text_row at (codes "value") _ AWay v.value (value_by v.value v.format) h.0) refl
 
 way_back : (v : Constraint) → IsWay v → way_in (constraint_pairs v) ≡ v
 unfolding way_in constraint_pairs

@@ -7,7 +7,7 @@ use Rattle.wv_schema.specs.declared.fault.SchemaFault.TheVariants.{Missing, Wron
 use Rattle.wv_schema.specs.declared.witness.WayKind.TheVariants.{Assumption, Target, FunctionEnter, FunctionReturn, Branching}
 use Rattle.wv_schema.specs.Paths.{map_of, place_below}
 use Rattle.wv_schema.specs.Table.{Row, producer_fields, task_fields, metadata_fields, entry_fields, segment_fields, location_fields, expression_fields, way_fields, constraint_rows, waypoint_fields, invariant_fields}
-use Rattle.wv_schema.specs.Judging.{is_count, meets, broken, row_fault, first_fault}
+use Rattle.wv_schema.specs.Judging.{is_count, meets, broken, row_fault, first_fault, is_integer}
 use Rattle.wv_schema.specs.Canonical.{pair, text_pair}
 
 -- the paths of these rows
@@ -145,8 +145,35 @@ unfolding first_fault row_fault expression_fields meets broken
 format_is_known = refl
 
 pub way_is_word : first_fault (codes "c") (text_pair (codes "value") (codes "yes") ∷ []) way_fields ≡ Some (BadValue (codes "c.value"))
-unfolding first_fault row_fault way_fields meets broken
+unfolding first_fault row_fault way_fields meets broken is_integer
 way_is_word = refl
+
+abbrev way : List ℕ → Option SchemaFault
+way text = first_fault (codes "c") (text_pair (codes "value") text ∷ []) way_fields
+
+pub way_is_default : way (codes "default") ≡ None
+unfolding first_fault row_fault way_fields meets broken
+way_is_default = refl
+
+pub way_is_negative : way (codes "-12") ≡ None
+unfolding first_fault row_fault way_fields meets broken is_integer
+way_is_negative = refl
+
+pub way_has_a_plus : way (codes "+1") ≡ Some (BadValue (codes "c.value"))
+unfolding first_fault row_fault way_fields meets broken is_integer
+way_has_a_plus = refl
+
+pub way_is_a_sign : way (codes "-") ≡ Some (BadValue (codes "c.value"))
+unfolding first_fault row_fault way_fields meets broken is_integer
+way_is_a_sign = refl
+
+pub way_has_20_digits : way (codes "-00000000000000000001") ≡ None
+unfolding first_fault row_fault way_fields meets broken is_integer
+way_has_20_digits = refl
+
+pub way_has_21_digits : way (codes "000000000000000000001") ≡ Some (BadValue (codes "c.value"))
+unfolding first_fault row_fault way_fields meets broken is_integer
+way_has_21_digits = refl
 
 pub other_version : first_fault (codes "m") (text_pair (codes "format_version") (codes "2.1") ∷ []) metadata_fields ≡ Some Version
 unfolding first_fault row_fault metadata_fields meets broken

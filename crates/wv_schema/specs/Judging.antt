@@ -1,14 +1,14 @@
 -- The first row of a table that isn't met.
-use Rattle.std.specs.Prelude.{ℕ, ◌+◌, List, [], ◌∷◌, length, Bool, true, false, ◌&&◌, ◌||◌, nat_le, Option, Some, None, is_some}
+use Rattle.std.specs.Prelude.{ℕ, ℤ, ◌+◌, List, [], ◌∷◌, length, drop, cond, Bool, true, false, ◌&&◌, ◌||◌, nat_le, Option, Some, None, is_some}
 use Rattle.std.specs.Str.{bytes_eq, all_ascii_digits}
-use Rattle.std.specs.Str.Parse.{digits_value}
+use Rattle.std.specs.Str.Parse.{digits_value, signed_digits_value, starts_with_minus}
 use Rattle.std.specs.Option.{option_or}
 use Rattle.wv_yaml.specs.declared.tree.Tree.{Tree}
 use Rattle.wv_yaml.specs.declared.tree.Pair.{Pair}
 use Rattle.wv_schema.specs.declared.fault.SchemaFault.{SchemaFault}
 use Rattle.wv_schema.specs.declared.fault.SchemaFault.TheVariants.{Missing, WrongKind, BadValue, Version}
 use Rattle.wv_schema.specs.Paths.{text_in, items_in, pairs_in, Found, Nowhere, Lacking, There, found, item_place, place_below}
-use Rattle.wv_schema.specs.Table.{Rule, AnyText, OneOf, TwoZero, Count, Kind, AText, AList, AMap, Texts, TextMap, Row}
+use Rattle.wv_schema.specs.Table.{Rule, AnyText, OneOf, TwoZero, Count, AWay, ways, Kind, AText, AList, AMap, Texts, TextMap, Row}
 
 -- the text is one of these words
 abbrev pub is_among : List (List ℕ) → List ℕ → Bool
@@ -19,12 +19,25 @@ is_among (word ∷ words) text = bytes_eq text word || is_among words text
 unfoldable pub is_count : List ℕ → Bool
 is_count text = nat_le 1 (length text) && (nat_le (length text) 7 && (all_ascii_digits text && nat_le 1 (digits_value 10 text)))
 
+-- 1 to 20 digits
+abbrev pub is_numeral : List ℕ → Bool
+is_numeral text = nat_le 1 (length text) && (nat_le (length text) 20 && all_ascii_digits text)
+
+-- the same, with an optional `-` before them
+unfoldable pub is_integer : List ℕ → Bool
+is_integer text = is_numeral (cond (starts_with_minus text) (drop 1 text) text)
+
+-- the integer that a text writes
+unfoldable pub integer_in : List ℕ → Option ℤ
+integer_in text = cond (is_integer text) (Some (signed_digits_value 10 text)) None
+
 -- a text meets the rule of its row
 unfoldable pub meets : Rule → List ℕ → Bool
 meets AnyText text = true
 meets (OneOf words) text = is_among words text
 meets TwoZero text = bytes_eq text (50 ∷ 46 ∷ 48 ∷ [])
 meets Count text = is_count text
+meets AWay text = is_among ways text || is_integer text
 
 -- how a rule that isn't met is reported
 unfoldable pub broken : Rule → List ℕ → SchemaFault
@@ -32,6 +45,7 @@ broken AnyText path = BadValue path
 broken (OneOf words) path = BadValue path
 broken TwoZero path = Version
 broken Count path = BadValue path
+broken AWay path = BadValue path
 
 -- the fault, where something doesn't hold
 abbrev pub when_not : Bool → SchemaFault → Option SchemaFault

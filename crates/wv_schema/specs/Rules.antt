@@ -1,5 +1,5 @@
 -- The rules of the schema, of a witness as a value.
-use Rattle.std.specs.Prelude.{◌≡◌, ℕ, ◌≤◌, ◌⊎◌, List, [], ◌∷◌, true, Option, Some, None, codes}
+use Rattle.std.specs.Prelude.{◌≡◌, ℕ, ◌≤◌, ◌||◌, List, [], ◌∷◌, true, Option, Some, None, codes}
 use Rattle.wv_schema.specs.declared.witness.WayKind.{WayKind}
 use Rattle.wv_schema.specs.declared.witness.WayKind.TheVariants.{Assumption, Target, FunctionEnter, FunctionReturn, Branching}
 use Rattle.wv_schema.specs.declared.witness.Location.{Location}
@@ -11,8 +11,8 @@ use Rattle.wv_schema.specs.declared.witness.Content.{Content}
 use Rattle.wv_schema.specs.declared.witness.Content.TheVariants.{Violation, Invariants}
 use Rattle.wv_schema.specs.declared.witness.Entry.{Entry}
 use Rattle.wv_schema.specs.declared.witness.Witness.{Witness}
-use Rattle.wv_schema.specs.Table.{formats}
-use Rattle.wv_schema.specs.Judging.{is_among}
+use Rattle.wv_schema.specs.Table.{formats, ways}
+use Rattle.wv_schema.specs.Judging.{is_among, is_integer}
 use Rattle.wv_schema.specs.Shapes.{entries_fault}
 
 abbrev pub IsCount : ℕ → Type 0
@@ -29,8 +29,9 @@ abbrev pub IsFormat : Option (List ℕ) → Type 0
 IsFormat None = Unit {0}
 IsFormat (Some text) = is_among formats text ≡ true
 
+-- `true`, `false`, `default`, or an integer
 abbrev pub IsWay : Constraint → Type 0
-IsWay v = ((v.value ≡ codes "true") ⊎ (v.value ≡ codes "false")) × (v.format ≡ None)
+IsWay v = ((is_among ways v.value || is_integer v.value) ≡ true) × (v.format ≡ None)
 
 -- which constraints a waypoint of this type may have
 abbrev pub Constrained : WayKind → Option Constraint → Type 0

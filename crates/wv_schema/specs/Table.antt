@@ -12,6 +12,8 @@ pub data Rule : Type 0 where
   TwoZero : Rule
   -- 1 to 7 digits, a number of at least 1
   Count : Rule
+  -- the way of a branching: `true`, `false`, `default`, or an optional `-` and 1 to 20 digits
+  AWay : Rule
 
 -- what stands at a path
 pub data Kind : Type 0 where
@@ -67,9 +69,9 @@ invariant_types = codes "loop_invariant" ∷ codes "location_invariant" ∷ []
 abbrev pub formats : List (List ℕ)
 formats = codes "c_expression" ∷ codes "acsl_expression" ∷ codes "ext_c_expression" ∷ []
 
--- the values of a branching waypoint's constraint
+-- the values of a branching waypoint's constraint that are words
 abbrev pub ways : List (List ℕ)
-ways = codes "true" ∷ codes "false" ∷ []
+ways = codes "true" ∷ codes "false" ∷ codes "default" ∷ []
 
 -- a map that is needed, and the rows below it
 abbrev pub in_map : List ℕ → List Row → List Row
@@ -132,7 +134,7 @@ expression_fields =
 
 -- the fields of a constraint that is a way
 unfoldable pub way_fields : List Row
-way_fields = needs (codes "value") (AText (OneOf ways)) ∷ []
+way_fields = needs (codes "value") (AText AWay) ∷ []
 
 -- A constraint is needed for assumptions and branchings, may be absent for returns, and isn't read for the others. At a
 -- branching its value is a way, and no format is read.

@@ -7,6 +7,7 @@ mod claim;
 mod entry;
 mod fault;
 mod field;
+mod integer;
 mod laws;
 mod location;
 mod metadata;
@@ -20,6 +21,7 @@ mod witness;
 
 pub use canonical::tree_of;
 pub use fault::SchemaFault;
+pub use integer::integer_in;
 pub use laws::written_witnesses_are_read;
 pub use schema::witness_of;
 pub use witness::{

@@ -4,7 +4,7 @@
 ghost use Rattle.std.specs.Prelude.{◌≡◌, ◌≤◌, length, true, Some};
 ghost use Rattle.std.specs.Str.{all_ascii_digits};
 ghost use Rattle.std.specs.Str.Parse.{digits_value};
-ghost use Rattle.wv_schema.specs.Table.{Count, waypoint_types, formats};
+ghost use Rattle.wv_schema.specs.Table.{Count, waypoint_types, formats, ways};
 ghost use Rattle.wv_schema.specs.Judging.{is_among, is_count, meets, broken};
 ghost use Rattle.wv_schema.specs.Paths.{key_place};
 ghost use Rattle.wv_schema.specs.Values.{count_of};
@@ -12,6 +12,7 @@ ghost use Rattle.wv_schema.specs.RuleNames.{rule_of};
 ghost use Rattle.wv_schema.specs.Schema.{Fails};
 
 use crate::fault::SchemaFault;
+use crate::integer::is_integer;
 use crate::place::bad_value;
 use std::alloc::Global;
 
@@ -39,13 +40,19 @@ fn is_waypoint_type(text: &str) -> bool
         || text == "branching"
 }
 
+fn is_way_word(text: &str) -> bool
+    ensures { result ≡ is_among ways text.now }
+{
+    text == "true" || text == "false" || text == "default"
+}
+
 fn is_format(text: &str) -> bool
     ensures { result ≡ is_among formats text.now }
 {
     text == "c_expression" || text == "acsl_expression" || text == "ext_c_expression"
 }
 
-fn are_digits(bytes: &[u8]) -> bool
+pub fn are_digits(bytes: &[u8]) -> bool
     ensures { result ≡ all_ascii_digits bytes.now }
 {
     for byte in bytes {
@@ -93,7 +100,7 @@ pub fn is_met(rule: TextRule, text: &str) -> bool
         TextRule::WaypointType => is_waypoint_type(text),
         TextRule::Action => text == "follow" || text == "avoid",
         TextRule::Count => is_count_text(text),
-        TextRule::Way => text == "true" || text == "false",
+        TextRule::Way => is_way_word(text) || is_integer(text),
         TextRule::InvariantType => text == "loop_invariant" || text == "location_invariant",
         TextRule::Format => is_format(text),
     }

@@ -1,13 +1,13 @@
-use Rattle.std.proofs.Common.{rules, ◌≡◌, ◌∙◌, ◌+◌, suc, ◌∷◌, drop, drop-cons, arith, ap, sym, refl, None, Some, Ok, Err, true, false}
+use Rattle.std.proofs.Common.{rules, ◌≡◌, ◌∙◌, ◌+◌, ◌*◌, ◌≤◌, suc, ◌∷◌, length, drop, drop-cons, arith, ap, sym, refl, None, Some, Ok, Err, true, false}
 use mir.Val.{SFits}
 use mir.Syntax.{w128}
 use Rattle.std.proofs.lemmas.Int.{to_z-of_z}
 use Rattle.c_core.specs.Tree.{Index, Unary, Cast, Step, Binary, Logic, Choose, Comma, Assign, Call}
-use Rattle.c_core.proofs.View.{view_of_call, view_of_block}
-use Rattle.c_core.specs.View.{program_view, expr_view, exprs_view, node_view, expr_view_if, stmt_view, stmts_view, names_view, first_view, form_view, init_view, function_view, functions_view}
+use Rattle.c_core.proofs.View.{view_of_index, view_of_call, view_of_block, view_of_switch}
+use Rattle.c_core.specs.View.{program_view, expr_view, exprs_view, rows_view, node_view, expr_view_if, stmt_view, stmts_view, switch_view, names_view, first_view, form_view, init_view, function_view, functions_view}
 use Rattle.c_core.specs.declared.number.IntType.TheVariants.{Int}
 use Rattle.c_meaning.specs.Meaning.{Used}
-use Rattle.c_meaning.specs.Objects.{type_of}
+use Rattle.c_meaning.specs.Objects.{type_of, columns_of_object}
 use Rattle.run_state.specs.Interpreting.{same, key_of, use_of, where_of, pairs_of, flow_of, else_part, site_of}
 use Rattle.c_calls.specs.Loops.{loop_of}
 use Rattle.run_state.specs.declared.machine.Typed.{Typed}
@@ -15,9 +15,11 @@ use Rattle.run_state.proofs.Starting.{function_at, no_function_at}
 use Rattle.c_meaning.specs.Placing.{placed_view}
 use Rattle.havoc_state.specs.Havocking.{left_of}
 use Rattle.havoc_state.proofs.Giving.{halted, passed}
-use Rattle.c_havoc.proofs.Sizes.{size_of_node, size_of_exps, size_if, size_of_init, size_of_names, size_of_first, size_of_stm, size_of_form, size_of_else, size_of_stms, size_of_loop, level_above, body_within_all, loop_within, for_within, exp_within, stm_within, name_within}
+use Rattle.c_havoc.proofs.Sizes.{size_of_node, size_of_exps, size_if, size_of_rows, size_of_init, size_of_names, size_of_first, size_of_stm, size_of_form, size_of_else, size_of_stms, size_of_loop, level_above, body_within_all, loop_within, for_within, exp_within, stm_within, row_within, arm_within, arms_within, name_within}
 use Rattle.c_havoc.proofs.Evaluating.{as_form, as_noded, as_place, cast_gives, logic_gives, list_on, list_halted, entered, evals_give, picked_first, picked_second}
-use Rattle.c_havoc.proofs.Executing.{view_of_if, sequence_halted, sequence_on, sequence_left, chosen, choice_halts, declare_halted, declare_on, initial_stored, values_halted, values_on}
+use Rattle.c_havoc.proofs.Executing.{view_of_if, sequence_halted, sequence_on, sequence_left, chosen, choice_halts, declare_halted, declare_on, initial_stored, values_halted, values_on, rows_halted, rows_on}
+use Rattle.c_havoc.proofs.Indexing.{one_item, two_items, one_halts, one_goes, row_halts, column_halts, two_go, many_halt, many_go, all_halted, all_on}
+use Rattle.c_havoc.proofs.Switching.{rest_taken, switch_goes, arms_are, no_arm, arms_halted, arms_on, arms_left}
 use Rattle.c_havoc.proofs.Looping.{while_given, do_given, for_given, while_chosen, while_halts, for_chosen, test_done, test_halts}
 use Rattle.c_havoc.proofs.Calling.{parameters_halted, parameters_passed, number_found, number_missing}
 use Rattle.c_havoc.proofs.+run.Goals as goal
@@ -31,16 +33,6 @@ pub expressions::eval-returns-in-Binary : goal.expressions::eval-returns-in-Bina
 expressions::eval-returns-in-Binary t c =
     let e : node_view c.args.e.now.node ≡ Binary c.in-Binary.op (expr_view c.deref.result.now) (expr_view c.deref-in-Binary.result.now) = rw (c.in-Binary.is, c.deref.ensures, c.deref-in-Binary.ensures) refl in
     as_form (program_view c.args.program.now) (placed_view c.args.invariants.now) c.args.depth _ _ _ _ _ _ _ _ c.binary.result e c.binary.ensures
-
-pub expressions::eval-index-requires : goal.expressions::eval-index-requires
-expressions::eval-index-requires t c =
-    let e : node_view c.args.e.now.node ≡ Index c.in-Index.object (expr_view c.deref-in-Index.result.now) = rw (c.in-Index.is, c.deref-in-Index.ensures) refl in
-    (omega (arith, c.decreases, ap size_of_node e), tt)
-
-pub expressions::eval-returns-in-Index : goal.expressions::eval-returns-in-Index
-expressions::eval-returns-in-Index t c =
-    let e : node_view c.args.e.now.node ≡ Index c.in-Index.object (expr_view c.deref-in-Index.result.now) = rw (c.in-Index.is, c.deref-in-Index.ensures) refl in
-    as_form (program_view c.args.program.now) (placed_view c.args.invariants.now) c.args.depth _ _ _ _ _ _ _ _ c.index.result e c.index.ensures
 
 pub expressions::eval-unary-requires : goal.expressions::eval-unary-requires
 expressions::eval-unary-requires t c =
@@ -119,30 +111,14 @@ expressions::eval-returns-in-Choose t c =
 pub expressions::eval-call-requires : goal.expressions::eval-call-requires
 expressions::eval-call-requires t c =
     let v = ap node_view c.in-Call.is ∙ view_of_call c.in-Call.callee c.in-Call.args c.in-Call.close in
-    let e = v ∙ ap (λ es. Call c.in-Call.callee (exprs_view es) c.in-Call.close) (sym c.as_slice.ensures) in
+    let e = v ∙ ap (λ es. Call c.in-Call.callee (exprs_view es) c.in-Call.close) (sym c.as_slice-in-Call.ensures) in
     (omega (arith, c.decreases, ap size_of_node e), tt)
 
 pub expressions::eval-returns-in-Call : goal.expressions::eval-returns-in-Call
 expressions::eval-returns-in-Call t c =
     let v = ap node_view c.in-Call.is ∙ view_of_call c.in-Call.callee c.in-Call.args c.in-Call.close in
-    let e = v ∙ ap (λ es. Call c.in-Call.callee (exprs_view es) c.in-Call.close) (sym c.as_slice.ensures) in
+    let e = v ∙ ap (λ es. Call c.in-Call.callee (exprs_view es) c.in-Call.close) (sym c.as_slice-in-Call.ensures) in
     as_form (program_view c.args.program.now) (placed_view c.args.invariants.now) c.args.depth _ _ _ _ _ _ _ _ c.call.result e c.call.ensures
-
-pub expressions::target-element_at-requires : goal.expressions::target-element_at-requires
-expressions::target-element_at-requires t c =
-    let e : node_view c.args.e.now.node ≡ Index c.in-Index.object (expr_view c.deref.result.now) = rw (c.in-Index.is, c.deref.ensures) refl in
-    (omega (arith, c.decreases, ap size_of_node e), tt)
-
-pub expressions::target-returns-in-Index : goal.expressions::target-returns-in-Index
-expressions::target-returns-in-Index t c =
-    let e : node_view c.args.e.now.node ≡ Index c.in-Index.object (expr_view c.deref.result.now) = rw (c.in-Index.is, c.deref.ensures) refl in
-    as_place (program_view c.args.program.now) (placed_view c.args.invariants.now) c.args.depth _ _ c.args.e.now.ty _ _ _ _ c.element_at.result e c.element_at.ensures
-
-pub expressions::element_at-returns : goal.expressions::element_at-returns
-expressions::element_at-returns t c =
-    let z : SFits w128 c.in_ok-j.j = search rules in
-    let k = rw (to_z-of_z w128 c.in_ok-j.j z) at (c.element.ensures (left_of c.eval.new.machine)) in
-    passed same key_of c.in_ok-j.j _ _ _ _ c.element.result c.in_ok-j.ensures k
 
 pub expressions::binary-returns : goal.expressions::binary-returns
 expressions::binary-returns t c =
@@ -425,18 +401,6 @@ declarations::initial_value-returns t c =
     initial_stored (program_view c.args.program.now) (placed_view c.args.invariants.now) c.args.depth c.args.at c.args.object c.args.index (expr_view c.args.e.now) Int c.type_of_object-ty.result c.in_ok-value.value _ _ _ _
     c.in_ok-value.ensures c.type_of_object-ty.ensures h
 
-pub declarations::initial_values-returns-in_err-initial_value : goal.declarations::initial_values-returns-in_err-initial_value
-declarations::initial_values-returns-in_err-initial_value t c =
-    let e : c.from_residual.result ≡ Err c.in_err-initial_value.field-0.0 = search rules in
-    let d = drop-cons c.args.es.now c.loop-index.index c.index-es-index.result c.loop-index-test.true ∙ ap (λ x. x ∷ drop (suc c.loop-index.index) c.args.es.now) (sym c.index-es-index.is) in
-    rw e (values_halted (program_view c.args.program.now) (placed_view c.args.invariants.now) c.args.depth c.args.at c.args.object c.args.es.now c.loop-index.index c.index-es-index.result d _ _ _ c.loop-index.invariant c.in_err-initial_value.field-0.0 c.in_err-initial_value.ensures)
-
-pub declarations::initial_values-loop-index-preserved : goal.declarations::initial_values-loop-index-preserved
-declarations::initial_values-loop-index-preserved t c =
-    let d = drop-cons c.args.es.now c.loop-index.index c.index-es-index.result c.loop-index-test.true ∙ ap (λ x. x ∷ drop (suc c.loop-index.index) c.args.es.now) (sym c.index-es-index.is) in
-    let e : c.loop-index.index + 1 ≡ suc c.loop-index.index = omega arith in
-    rw e (values_on (program_view c.args.program.now) (placed_view c.args.invariants.now) c.args.depth c.args.at c.args.object c.args.es.now c.loop-index.index c.index-es-index.result d _ _ _ c.loop-index.invariant c.in_ok-initial_value.ensures)
-
 pub declarations::initial_values-initial_value-requires : goal.declarations::initial_values-initial_value-requires
 declarations::initial_values-initial_value-requires t c =
     let d = drop-cons c.args.es.now c.loop-index.index c.index-es-index.result c.loop-index-test.true ∙ ap (λ x. x ∷ drop (suc c.loop-index.index) c.args.es.now) (sym c.index-es-index.is) in
@@ -510,3 +474,188 @@ calls::enter-returns t c =
 pub calls::run_call-returns : goal.calls::run_call-returns
 calls::run_call-returns t c =
     passed flow_of same c.in_ok-flow.flow _ _ _ _ c.returned.result c.in_ok-flow.ensures (c.returned.ensures (left_of c.scope.new.machine))
+
+pub expressions::eval-index-requires : goal.expressions::eval-index-requires
+expressions::eval-index-requires t c =
+    let v = ap node_view c.in-Index.is ∙ view_of_index c.in-Index.object c.in-Index.place in
+    let e = v ∙ ap (λ es. Index c.in-Index.object (exprs_view es)) (sym c.as_slice.ensures) in
+    (omega (arith, c.decreases, ap size_of_node e), tt)
+
+pub expressions::eval-returns-in-Index : goal.expressions::eval-returns-in-Index
+expressions::eval-returns-in-Index t c =
+    let v = ap node_view c.in-Index.is ∙ view_of_index c.in-Index.object c.in-Index.place in
+    let e = v ∙ ap (λ es. Index c.in-Index.object (exprs_view es)) (sym c.as_slice.ensures) in
+    as_form (program_view c.args.program.now) (placed_view c.args.invariants.now) c.args.depth _ _ _ _ _ _ _ _ c.index.result e c.index.ensures
+
+pub expressions::target-element_at-requires : goal.expressions::target-element_at-requires
+expressions::target-element_at-requires t c =
+    let v = ap node_view c.in-Index.is ∙ view_of_index c.in-Index.object c.in-Index.place in
+    let e = v ∙ ap (λ es. Index c.in-Index.object (exprs_view es)) (sym c.as_slice.ensures) in
+    (omega (arith, c.decreases, ap size_of_node e), tt)
+
+pub expressions::target-returns-in-Index : goal.expressions::target-returns-in-Index
+expressions::target-returns-in-Index t c =
+    let v = ap node_view c.in-Index.is ∙ view_of_index c.in-Index.object c.in-Index.place in
+    let e = v ∙ ap (λ es. Index c.in-Index.object (exprs_view es)) (sym c.as_slice.ensures) in
+    as_place (program_view c.args.program.now) (placed_view c.args.invariants.now) c.args.depth _ _ c.args.e.now.ty _ _ _ _ c.element_at.result e c.element_at.ensures
+
+pub statements::form-switch-requires : goal.statements::form-switch-requires
+statements::form-switch-requires t c =
+    let e = ap form_view c.in-Switch.is ∙ view_of_switch c.in-Switch.test c.in-Switch.arms in
+    (omega (arith, c.decreases, ap size_of_form e, ap (λ ss. size_of_stms (switch_view ss)) c.as_slice-in-Switch.ensures), tt)
+
+pub statements::form-returns-in-Switch : goal.statements::form-returns-in-Switch
+statements::form-returns-in-Switch t c =
+    let e = ap form_view c.in-Switch.is ∙ view_of_switch c.in-Switch.test c.in-Switch.arms in
+    rw (e, ← c.as_slice-in-Switch.ensures) c.switch.ensures
+
+pub declarations::initial-initial_rows-requires : goal.declarations::initial-initial_rows-requires
+declarations::initial-initial_rows-requires t c = (omega (arith, c.decreases, ap (λ i. size_of_init (init_view i)) c.in-Rows.is, ap (λ rs. size_of_rows (rows_view rs)) c.as_slice-in-Rows.ensures), tt)
+
+pub expressions::evaluate_all-returns-in_err-eval : goal.expressions::evaluate_all-returns-in_err-eval
+expressions::evaluate_all-returns-in_err-eval t c =
+    let e : c.from_residual.result ≡ Err c.in_err-eval.field-0.0 = search rules in
+    let d = drop-cons c.args.es.now c.loop-e.e-index c.e-item.result c.loop-e-test.true ∙ ap (λ x. x ∷ drop (suc c.loop-e.e-index) c.args.es.now) (sym c.e-item.is) in
+    rw e (all_halted (program_view c.args.program.now) (placed_view c.args.invariants.now) c.args.depth (where_of c.args.at) c.args.es.now c.loop-e.e-index c.e-item.result d _ _ _ c.loop-e.invariant c.in_err-eval.field-0.0 c.in_err-eval.ensures)
+
+pub expressions::evaluate_all-loop-e-preserved : goal.expressions::evaluate_all-loop-e-preserved
+expressions::evaluate_all-loop-e-preserved t c =
+    let d = drop-cons c.args.es.now c.loop-e.e-index c.e-item.result c.loop-e-test.true ∙ ap (λ x. x ∷ drop (suc c.loop-e.e-index) c.args.es.now) (sym c.e-item.is) in
+    let e : c.loop-e.e-index + 1 ≡ suc c.loop-e.e-index = omega arith in
+    rw e (all_on (program_view c.args.program.now) (placed_view c.args.invariants.now) c.args.depth (where_of c.args.at) c.args.es.now c.loop-e.e-index c.e-item.result d _ _ _ c.loop-e.invariant c.in_ok-eval.field-0 c.in_ok-eval.ensures)
+
+pub expressions::evaluate_all-eval-requires : goal.expressions::evaluate_all-eval-requires
+expressions::evaluate_all-eval-requires t c =
+    let d = drop-cons c.args.es.now c.loop-e.e-index c.e-item.result c.loop-e-test.true ∙ ap (λ x. x ∷ drop (suc c.loop-e.e-index) c.args.es.now) (sym c.e-item.is) in
+    (omega (arith, c.decreases, exp_within c.args.es.now c.loop-e.e-index c.e-item.result d), tt)
+
+pub expressions::element_at-eval-requires : goal.expressions::element_at-eval-requires
+expressions::element_at-eval-requires t c = (omega (arith, c.decreases, ap size_of_exps (one_item c.args.indexes.now c.index-item.result c.in-len1.len_at_least c.in-len1.len_below c.index-item.is)), tt)
+
+pub expressions::element_at-returns-in_err-j-in-len1 : goal.expressions::element_at-returns-in_err-j-in-len1
+expressions::element_at-returns-in_err-j-in-len1 t c =
+    let e : c.from_residual.result ≡ Err c.in_err-j-in-len1.field-0.0 = search rules in
+    let s = one_item c.args.indexes.now c.index-item.result c.in-len1.len_at_least c.in-len1.len_below c.index-item.is in
+    rw (e, s) (one_halts (program_view c.args.program.now) (placed_view c.args.invariants.now) c.args.depth (where_of c.args.at) c.args.at.full c.args.object (expr_view c.index-item.result) _ _ c.in_err-j-in-len1.field-0.0 c.in_err-j-in-len1.ensures)
+
+pub expressions::element_at-returns-in_ok-j-in-len1 : goal.expressions::element_at-returns-in_ok-j-in-len1
+expressions::element_at-returns-in_ok-j-in-len1 t c =
+    let z : SFits w128 c.in_ok-j-in-len1.j = search rules in
+    let s = one_item c.args.indexes.now c.index-item.result c.in-len1.len_at_least c.in-len1.len_below c.index-item.is in
+    let k = rw (to_z-of_z w128 c.in_ok-j-in-len1.j z) at (c.element.ensures (left_of c.eval.new.machine)) in
+    rw s (one_goes (program_view c.args.program.now) (placed_view c.args.invariants.now) c.args.depth (where_of c.args.at) c.args.at.full c.args.object (expr_view c.index-item.result) _ _ c.in_ok-j-in-len1.j _ c.element.result c.in_ok-j-in-len1.ensures k)
+
+pub expressions::element_at-eval-requires-in-len2 : goal.expressions::element_at-eval-requires-in-len2
+expressions::element_at-eval-requires-in-len2 t c = (omega (arith, c.decreases, ap size_of_exps (two_items c.args.indexes.now c.row-item.result c.column-item.result c.in-len2.len_at_least c.in-len2.len_below c.row-item.is c.column-item.is)), tt)
+
+pub expressions::element_at-eval-requires-in-len2-2 : goal.expressions::element_at-eval-requires-in-len2-2
+expressions::element_at-eval-requires-in-len2-2 t c = (omega (arith, c.decreases, ap size_of_exps (two_items c.args.indexes.now c.row-item.result c.column-item.result c.in-len2.len_at_least c.in-len2.len_below c.row-item.is c.column-item.is)), tt)
+
+pub expressions::element_at-returns-in_err-i-in-len2 : goal.expressions::element_at-returns-in_err-i-in-len2
+expressions::element_at-returns-in_err-i-in-len2 t c =
+    let e : c.from_residual-in_err-i-in-len2.result ≡ Err c.in_err-i-in-len2.field-0.0 = search rules in
+    let s = two_items c.args.indexes.now c.row-item.result c.column-item.result c.in-len2.len_at_least c.in-len2.len_below c.row-item.is c.column-item.is in
+    rw (e, s) (row_halts (program_view c.args.program.now) (placed_view c.args.invariants.now) c.args.depth (where_of c.args.at) c.args.at.full c.args.object (expr_view c.row-item.result) (expr_view c.column-item.result) _ _ c.in_err-i-in-len2.field-0.0 c.in_err-i-in-len2.ensures)
+
+pub expressions::element_at-returns-in_err-j-in-len2 : goal.expressions::element_at-returns-in_err-j-in-len2
+expressions::element_at-returns-in_err-j-in-len2 t c =
+    let e : c.from_residual-in_err-j-in-len2.result ≡ Err c.in_err-j-in-len2.field-0.0 = search rules in
+    let s = two_items c.args.indexes.now c.row-item.result c.column-item.result c.in-len2.len_at_least c.in-len2.len_below c.row-item.is c.column-item.is in
+    rw (e, s) (column_halts (program_view c.args.program.now) (placed_view c.args.invariants.now) c.args.depth (where_of c.args.at) c.args.at.full c.args.object (expr_view c.row-item.result) (expr_view c.column-item.result) _ _ c.in_ok-i-in-len2.i _ c.in_err-j-in-len2.field-0.0
+    c.in_ok-i-in-len2.ensures c.in_err-j-in-len2.ensures)
+
+pub expressions::element_at-returns-in_ok-j-in-len2 : goal.expressions::element_at-returns-in_ok-j-in-len2
+expressions::element_at-returns-in_ok-j-in-len2 t c =
+    let y : SFits w128 c.in_ok-i-in-len2.i = search rules in
+    let z : SFits w128 c.in_ok-j-in-len2.j = search rules in
+    let s = two_items c.args.indexes.now c.row-item.result c.column-item.result c.in-len2.len_at_least c.in-len2.len_below c.row-item.is c.column-item.is in
+    let k = rw (to_z-of_z w128 c.in_ok-i-in-len2.i y, to_z-of_z w128 c.in_ok-j-in-len2.j z) at (c.element_in_row.ensures (left_of c.eval-in-len2-2.new.machine)) in
+    rw s (two_go (program_view c.args.program.now) (placed_view c.args.invariants.now) c.args.depth (where_of c.args.at) c.args.at.full c.args.object (expr_view c.row-item.result) (expr_view c.column-item.result) _ _ c.in_ok-i-in-len2.i c.in_ok-j-in-len2.j _ _ c.element_in_row.result
+    c.in_ok-i-in-len2.ensures c.in_ok-j-in-len2.ensures k)
+
+pub expressions::element_at-returns-in_err-evaluate_all-in_default : goal.expressions::element_at-returns-in_err-evaluate_all-in_default
+expressions::element_at-returns-in_err-evaluate_all-in_default t c =
+    let e : c.from_residual-in_err-evaluate_all-in_default.result ≡ Err c.in_err-evaluate_all-in_default.field-0.0 = search rules in
+    rw e (many_halt (program_view c.args.program.now) (placed_view c.args.invariants.now) c.args.depth (where_of c.args.at) c.args.at.full c.args.object c.args.indexes.now _ _ c.in_default.len_at_least c.in_err-evaluate_all-in_default.field-0.0 c.in_err-evaluate_all-in_default.ensures)
+
+pub expressions::element_at-returns-in_ok-evaluate_all-in_default : goal.expressions::element_at-returns-in_ok-evaluate_all-in_default
+expressions::element_at-returns-in_ok-evaluate_all-in_default t c =
+    many_go (program_view c.args.program.now) (placed_view c.args.invariants.now) c.args.depth (where_of c.args.at) c.args.at.full c.args.object c.args.indexes.now _ _ c.in_default.len_at_least c.in_ok-evaluate_all-in_default.ensures
+
+pub statements::switch-returns : goal.statements::switch-returns
+statements::switch-returns t c =
+    let z : SFits w128 c.in_ok-value.value = search rules in
+    let y : SFits w128 c.convert.result = search rules in
+    let k = rw (to_z-of_z w128 c.convert.result y, c.convert.ensures, to_z-of_z w128 c.in_ok-value.value z, c.promote-ty.ensures, c.type_of.ensures) at c.arm_for-first.ensures in
+    switch_goes (program_view c.args.program.now) (placed_view c.args.invariants.now) c.args.depth c.args.wanted c.args.at (expr_view c.args.test.now) (switch_view c.args.arms.now) c.in_ok-value.value c.arm_for-first.result _ _ _ c.arms_from.result c.in_ok-value.ensures k c.arms_from.ensures
+
+pub statements::arms_from-hold_arms-requires : goal.statements::arms_from-hold_arms-requires
+statements::arms_from-hold_arms-requires t c =
+    (omega (arith, c.decreases, arms_within c.args.arms.now c.args.first, ap (λ xs. size_of_stms (switch_view xs)) (rest_taken c.args.arms.now c.args.first)), tt)
+
+pub statements::arms_from-returns-then-first-arms : goal.statements::arms_from-returns-then-first-arms
+statements::arms_from-returns-then-first-arms t c =
+    let k = rw (rest_taken c.args.arms.now c.args.first) at c.hold_arms.ensures in
+    rw (arms_are (program_view c.args.program.now) (placed_view c.args.invariants.now) c.args.depth c.args.wanted c.args.arms.now c.args.first c.if-first-arms.true (left_of c.args.machine.now)) k
+
+pub statements::arms_from-returns-else-first-arms : goal.statements::arms_from-returns-else-first-arms
+statements::arms_from-returns-else-first-arms t c =
+    let l : length c.args.arms.now ≤ c.args.first = omega arith in
+    no_arm (program_view c.args.program.now) (placed_view c.args.invariants.now) c.args.depth c.args.wanted c.args.arms.now c.args.first l _
+
+pub statements::sequence_arms-sequence-requires : goal.statements::sequence_arms-sequence-requires
+statements::sequence_arms-sequence-requires t c =
+    let d = drop-cons c.args.arms.now c.loop-arm.arm-index c.arm-item.result c.loop-arm-test.true ∙ ap (λ x. x ∷ drop (suc c.loop-arm.arm-index) c.args.arms.now) (sym c.arm-item.is) in
+    (omega (arith, c.decreases, arm_within c.args.arms.now c.loop-arm.arm-index c.arm-item.result d, ap (λ ss. size_of_stms (stmts_view ss)) c.as_slice-body.ensures), tt)
+
+pub statements::sequence_arms-returns-in_err-flow : goal.statements::sequence_arms-returns-in_err-flow
+statements::sequence_arms-returns-in_err-flow t c =
+    let e : c.from_residual.result ≡ Err c.in_err-flow.field-0.0 = search rules in
+    let k = rw c.as_slice-body.ensures at c.in_err-flow.ensures in
+    rw e (arms_halted (program_view c.args.program.now) (placed_view c.args.invariants.now) c.args.depth c.args.wanted c.args.arms.now c.loop-arm.arm-index c.arm-item.result c.loop-arm-test.true c.arm-item.is _ _ _ c.loop-arm.invariant c.in_err-flow.field-0.0 k)
+
+pub statements::sequence_arms-returns-in_default : goal.statements::sequence_arms-returns-in_default
+statements::sequence_arms-returns-in_default t c =
+    let k = rw c.as_slice-body.ensures at c.in_ok-flow.ensures in
+    arms_left (program_view c.args.program.now) (placed_view c.args.invariants.now) c.args.depth c.args.wanted c.args.arms.now c.loop-arm.arm-index c.arm-item.result c.loop-arm-test.true c.arm-item.is _ _ _ c.loop-arm.invariant c.in_ok-flow.flow k c.in_default.not-Next
+
+pub statements::sequence_arms-loop-arm-preserved : goal.statements::sequence_arms-loop-arm-preserved
+statements::sequence_arms-loop-arm-preserved t c =
+    let k = rw (c.as_slice-body.ensures, c.in-Next.is) at c.in_ok-flow.ensures in
+    arms_on (program_view c.args.program.now) (placed_view c.args.invariants.now) c.args.depth c.args.wanted c.args.arms.now c.loop-arm.arm-index c.arm-item.result c.loop-arm-test.true c.arm-item.is _ _ _ c.loop-arm.invariant k
+
+pub declarations::initial_values-returns-in_err-initial_value : goal.declarations::initial_values-returns-in_err-initial_value
+declarations::initial_values-returns-in_err-initial_value t c =
+    let e : c.from_residual.result ≡ Err c.in_err-initial_value.field-0.0 = search rules in
+    let d = drop-cons c.args.es.now c.loop-index.index c.index-es-index.result c.loop-index-test.true ∙ ap (λ x. x ∷ drop (suc c.loop-index.index) c.args.es.now) (sym c.index-es-index.is) in
+    let k = rw c.in-Some.ensures at c.in_err-initial_value.ensures in
+    rw e (values_halted (program_view c.args.program.now) (placed_view c.args.invariants.now) c.args.depth c.args.at c.args.object (c.args.first + c.loop-index.index) c.args.es.now c.loop-index.index c.index-es-index.result d _ _ _ c.loop-index.invariant c.in_err-initial_value.field-0.0 k)
+
+pub declarations::initial_values-loop-index-preserved : goal.declarations::initial_values-loop-index-preserved
+declarations::initial_values-loop-index-preserved t c =
+    let d = drop-cons c.args.es.now c.loop-index.index c.index-es-index.result c.loop-index-test.true ∙ ap (λ x. x ∷ drop (suc c.loop-index.index) c.args.es.now) (sym c.index-es-index.is) in
+    let k = rw c.in-Some.ensures at c.in_ok-initial_value.ensures in
+    let i : c.loop-index.index + 1 ≡ suc c.loop-index.index = omega arith in
+    let j : c.args.first + suc c.loop-index.index ≡ suc (c.args.first + c.loop-index.index) = omega arith in
+    rw (i, j) (values_on (program_view c.args.program.now) (placed_view c.args.invariants.now) c.args.depth c.args.at c.args.object (c.args.first + c.loop-index.index) c.args.es.now c.loop-index.index c.index-es-index.result d _ _ _ c.loop-index.invariant k)
+
+pub declarations::initial_rows-initial_values-requires : goal.declarations::initial_rows-initial_values-requires
+declarations::initial_rows-initial_values-requires t c =
+    let d = drop-cons c.args.rows.now c.loop-index.index c.index-rows-index.result c.loop-index-test.true ∙ ap (λ x. x ∷ drop (suc c.loop-index.index) c.args.rows.now) (sym c.index-rows-index.is) in
+    (omega (arith, c.decreases, row_within c.args.rows.now c.loop-index.index c.index-rows-index.result d, ap (λ es. size_of_exps (exprs_view es)) c.as_slice-values.ensures), tt)
+
+pub declarations::initial_rows-returns-in_err-initial_values : goal.declarations::initial_rows-returns-in_err-initial_values
+declarations::initial_rows-returns-in_err-initial_values t c =
+    let e : c.from_residual.result ≡ Err c.in_err-initial_values.field-0.0 = search rules in
+    let d = drop-cons c.args.rows.now c.loop-index.index c.index-rows-index.result c.loop-index-test.true ∙ ap (λ x. x ∷ drop (suc c.loop-index.index) c.args.rows.now) (sym c.index-rows-index.is) in
+    let k = rw (c.columns_of_object-columns.ensures, c.as_slice-values.ensures) at c.in_err-initial_values.ensures in
+    rw e (rows_halted (program_view c.args.program.now) (placed_view c.args.invariants.now) c.args.depth c.args.at c.args.object (c.loop-index.index * columns_of_object (program_view c.args.program.now) c.args.object) c.args.rows.now c.loop-index.index c.index-rows-index.result d _ _ _ c.loop-index.invariant c.in_err-initial_values.field-0.0 k)
+
+pub declarations::initial_rows-loop-index-preserved : goal.declarations::initial_rows-loop-index-preserved
+declarations::initial_rows-loop-index-preserved t c =
+    let d = drop-cons c.args.rows.now c.loop-index.index c.index-rows-index.result c.loop-index-test.true ∙ ap (λ x. x ∷ drop (suc c.loop-index.index) c.args.rows.now) (sym c.index-rows-index.is) in
+    let columns = columns_of_object (program_view c.args.program.now) c.args.object in
+    let k = rw (c.columns_of_object-columns.ensures, c.as_slice-values.ensures) at c.in_ok-initial_values.ensures in
+    let i : c.loop-index.index + 1 ≡ suc c.loop-index.index = omega arith in
+    let j : suc c.loop-index.index * columns ≡ c.loop-index.index * columns + columns = omega arith in
+    rw (i, j) (rows_on (program_view c.args.program.now) (placed_view c.args.invariants.now) c.args.depth c.args.at c.args.object (c.loop-index.index * columns) c.args.rows.now c.loop-index.index c.index-rows-index.result d _ _ _ c.loop-index.invariant k)

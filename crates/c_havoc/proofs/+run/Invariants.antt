@@ -1,10 +1,11 @@
 use Rattle.std.proofs.Common.{◌≡◌, ◌+◌, ◌*◌, [], drop, suc}
-use Rattle.c_core.specs.View.{program_view, expr_view, exprs_view, expr_view_if, stmt_view, stmts_view, form_view, first_view, init_view, names_view}
+use Rattle.c_core.specs.View.{program_view, expr_view, exprs_view, rows_view, expr_view_if, stmt_view, stmts_view, switch_view, form_view, first_view, init_view, names_view}
 use Rattle.run_state.specs.Interpreting.{where_of, pairs_of, else_part}
 use Rattle.c_calls.specs.Loops.{loop_of}
 use Rattle.c_meaning.specs.Placing.{placed_view}
-use Rattle.havoc_state.specs.Havocking.{left_of, listed, sequenced, declaring, initialised_by}
-use Rattle.c_havoc.proofs.Sizes.{level, size, size_of_exps, size_if, size_of_init, size_of_names, size_of_first, size_of_stm, size_of_form, size_of_else, size_of_stms, size_of_loop}
+use Rattle.havoc_state.specs.Havocking.{left_of, evaluated_all, listed, sequenced, declaring, initialised_by, initialised_rows}
+use Rattle.c_meaning.specs.Objects.{columns_of_object}
+use Rattle.c_havoc.proofs.Sizes.{level, size, size_of_exps, size_if, size_of_rows, size_of_init, size_of_names, size_of_first, size_of_stm, size_of_form, size_of_else, size_of_stms, size_of_loop}
 use Rattle.c_havoc.proofs.+run.Given as goal
 
 -- the depth of calls that is left, then the size of the tree; between functions over one tree, a rank
@@ -18,10 +19,13 @@ abbrev pub decreases-expressions::target : goal.decreases-expressions::target
 decreases-expressions::target l = level (program_view l.program.now) (suc l.depth) + 32 * (size (expr_view l.e.now)) + 0
 
 abbrev pub decreases-expressions::element_at : goal.decreases-expressions::element_at
-decreases-expressions::element_at l = level (program_view l.program.now) (suc l.depth) + 32 * (size (expr_view l.place.now)) + 1
+decreases-expressions::element_at l = level (program_view l.program.now) (suc l.depth) + 32 * (size_of_exps (exprs_view l.indexes.now)) + 2
+
+abbrev pub decreases-expressions::evaluate_all : goal.decreases-expressions::evaluate_all
+decreases-expressions::evaluate_all l = level (program_view l.program.now) (suc l.depth) + 32 * (size_of_exps (exprs_view l.es.now)) + 1
 
 abbrev pub decreases-expressions::index : goal.decreases-expressions::index
-decreases-expressions::index l = level (program_view l.program.now) (suc l.depth) + 32 * (size (expr_view l.place.now)) + 1
+decreases-expressions::index l = level (program_view l.program.now) (suc l.depth) + 32 * (size_of_exps (exprs_view l.indexes.now)) + 3
 
 abbrev pub decreases-expressions::unary : goal.decreases-expressions::unary
 decreases-expressions::unary l = level (program_view l.program.now) (suc l.depth) + 32 * (size (expr_view l.of.now)) + 1
@@ -101,17 +105,20 @@ decreases-declarations::initial_value l = level (program_view l.program.now) (su
 abbrev pub decreases-declarations::initial_values : goal.decreases-declarations::initial_values
 decreases-declarations::initial_values l = level (program_view l.program.now) (suc l.depth) + 32 * (size_of_exps (exprs_view l.es.now)) + 3
 
+abbrev pub decreases-declarations::initial_rows : goal.decreases-declarations::initial_rows
+decreases-declarations::initial_rows l = level (program_view l.program.now) (suc l.depth) + 32 * (size_of_rows (rows_view l.rows.now)) + 4
+
 abbrev pub decreases-declarations::initial : goal.decreases-declarations::initial
-decreases-declarations::initial l = level (program_view l.program.now) (suc l.depth) + 32 * (size_of_init (init_view l.init.now)) + 4
+decreases-declarations::initial l = level (program_view l.program.now) (suc l.depth) + 32 * (size_of_init (init_view l.init.now)) + 5
 
 abbrev pub decreases-declarations::introduce : goal.decreases-declarations::introduce
-decreases-declarations::introduce l = level (program_view l.program.now) (suc l.depth) + 32 * (size_of_init (init_view l.name.now.init)) + 5
+decreases-declarations::introduce l = level (program_view l.program.now) (suc l.depth) + 32 * (size_of_init (init_view l.name.now.init)) + 6
 
 abbrev pub decreases-declarations::declare : goal.decreases-declarations::declare
-decreases-declarations::declare l = level (program_view l.program.now) (suc l.depth) + 32 * (size_of_names (names_view l.names.now)) + 6
+decreases-declarations::declare l = level (program_view l.program.now) (suc l.depth) + 32 * (size_of_names (names_view l.names.now)) + 7
 
 abbrev pub decreases-declarations::begin : goal.decreases-declarations::begin
-decreases-declarations::begin l = level (program_view l.program.now) (suc l.depth) + 32 * (size_of_first (first_view l.first.now)) + 7
+decreases-declarations::begin l = level (program_view l.program.now) (suc l.depth) + 32 * (size_of_first (first_view l.first.now)) + 8
 
 abbrev pub decreases-statements::exec : goal.decreases-statements::exec
 decreases-statements::exec l = level (program_view l.program.now) (suc l.depth) + 32 * (size_of_stm (stmt_view l.s.now)) + 0
@@ -127,6 +134,21 @@ decreases-statements::arm l = level (program_view l.program.now) (suc l.depth) +
 
 abbrev pub decreases-statements::otherwise : goal.decreases-statements::otherwise
 decreases-statements::otherwise l = level (program_view l.program.now) (suc l.depth) + 32 * (size_of_else (else_part l.no.now)) + 11
+
+abbrev pub decreases-statements::sequence_arms : goal.decreases-statements::sequence_arms
+decreases-statements::sequence_arms l = level (program_view l.program.now) (suc l.depth) + 32 * (size_of_stms (switch_view l.arms.now)) + 11
+
+abbrev pub decreases-statements::scope_arms : goal.decreases-statements::scope_arms
+decreases-statements::scope_arms l = level (program_view l.program.now) (suc l.depth) + 32 * (size_of_stms (switch_view l.arms.now)) + 12
+
+abbrev pub decreases-statements::hold_arms : goal.decreases-statements::hold_arms
+decreases-statements::hold_arms l = level (program_view l.program.now) (suc l.depth) + 32 * (size_of_stms (switch_view l.arms.now)) + 13
+
+abbrev pub decreases-statements::arms_from : goal.decreases-statements::arms_from
+decreases-statements::arms_from l = level (program_view l.program.now) (suc l.depth) + 32 * (size_of_stms (switch_view l.arms.now)) + 14
+
+abbrev pub decreases-statements::switch : goal.decreases-statements::switch
+decreases-statements::switch l = level (program_view l.program.now) (suc l.depth) + 32 * (size (expr_view l.test.now) + size_of_stms (switch_view l.arms.now)) + 15
 
 abbrev pub decreases-statements::choose : goal.decreases-statements::choose
 decreases-statements::choose l = level (program_view l.program.now) (suc l.depth) + 32 * (size (expr_view l.test.now) + size_of_stm (stmt_view l.yes.now) + size_of_else (else_part l.no.now)) + 12
@@ -193,6 +215,16 @@ invariant-statements::sequence-loop-s l =
     sequenced (program_view l.program) (placed_view l.invariants) l.depth l.wanted (stmts_view (drop l.s-index l.body)) (left_of l.machine)
     ≡ sequenced (program_view l.program) (placed_view l.invariants) l.depth l.wanted (stmts_view l.body) (left_of l.initial.machine)
 
+abbrev pub invariant-expressions::evaluate_all-loop-e : goal.invariant-expressions::evaluate_all-loop-e
+invariant-expressions::evaluate_all-loop-e l =
+    evaluated_all (program_view l.program) (placed_view l.invariants) l.depth (where_of l.at) (exprs_view (drop l.e-index l.es)) (left_of l.machine)
+    ≡ evaluated_all (program_view l.program) (placed_view l.invariants) l.depth (where_of l.at) (exprs_view l.es) (left_of l.initial.machine)
+
+abbrev pub invariant-statements::sequence_arms-loop-arm : goal.invariant-statements::sequence_arms-loop-arm
+invariant-statements::sequence_arms-loop-arm l =
+    sequenced (program_view l.program) (placed_view l.invariants) l.depth l.wanted (switch_view (drop l.arm-index l.arms)) (left_of l.machine)
+    ≡ sequenced (program_view l.program) (placed_view l.invariants) l.depth l.wanted (switch_view l.arms) (left_of l.initial.machine)
+
 abbrev pub invariant-declarations::declare-loop-name : goal.invariant-declarations::declare-loop-name
 invariant-declarations::declare-loop-name l =
     declaring (program_view l.program) (placed_view l.invariants) l.depth l.at (names_view (drop l.name-index l.names)) (left_of l.machine)
@@ -200,5 +232,10 @@ invariant-declarations::declare-loop-name l =
 
 abbrev pub invariant-declarations::initial_values-loop-index : goal.invariant-declarations::initial_values-loop-index
 invariant-declarations::initial_values-loop-index l =
-    initialised_by (program_view l.program) (placed_view l.invariants) l.depth l.at l.object l.index (exprs_view (drop l.index l.es)) (left_of l.machine)
-    ≡ initialised_by (program_view l.program) (placed_view l.invariants) l.depth l.at l.object 0 (exprs_view l.es) (left_of l.initial.machine)
+    initialised_by (program_view l.program) (placed_view l.invariants) l.depth l.at l.object (l.first + l.index) (exprs_view (drop l.index l.es)) (left_of l.machine)
+    ≡ initialised_by (program_view l.program) (placed_view l.invariants) l.depth l.at l.object l.first (exprs_view l.es) (left_of l.initial.machine)
+
+abbrev pub invariant-declarations::initial_rows-loop-index : goal.invariant-declarations::initial_rows-loop-index
+invariant-declarations::initial_rows-loop-index l =
+    initialised_rows (program_view l.program) (placed_view l.invariants) l.depth l.at l.object (l.index * columns_of_object (program_view l.program) l.object) (rows_view (drop l.index l.rows)) (left_of l.machine)
+    ≡ initialised_rows (program_view l.program) (placed_view l.invariants) l.depth l.at l.object 0 (rows_view l.rows) (left_of l.initial.machine)

@@ -1,12 +1,12 @@
-use Rattle.std.proofs.Common.{rules, ◌≡◌, ◌∙◌, ◌+◌, suc, ◌∷◌, drop, drop-cons, arith, ap, sym, refl, None, Some, Ok, Err, true, false}
+use Rattle.std.proofs.Common.{rules, ◌≡◌, ◌∙◌, ◌+◌, ◌*◌, ◌≤◌, suc, ◌∷◌, length, drop, drop-cons, arith, ap, sym, refl, None, Some, Ok, Err, true, false}
 use mir.Val.{SFits}
 use mir.Syntax.{w128}
 use Rattle.std.proofs.lemmas.Int.{to_z-of_z}
 use Rattle.c_core.specs.Tree.{Index, Unary, Cast, Step, Binary, Logic, Choose, Comma, Assign, Call}
-use Rattle.c_core.proofs.View.{view_of_call, view_of_block}
-use Rattle.c_core.specs.View.{program_view, expr_view, exprs_view, node_view, expr_view_if, stmt_view, first_view, form_view, init_view, function_view}
+use Rattle.c_core.proofs.View.{view_of_index, view_of_call, view_of_block, view_of_switch}
+use Rattle.c_core.specs.View.{program_view, expr_view, exprs_view, rows_view, switch_view, node_view, expr_view_if, stmt_view, first_view, form_view, init_view, function_view}
 use Rattle.c_meaning.specs.Meaning.{Used, ACell, AParameter}
-use Rattle.c_meaning.specs.Objects.{type_of}
+use Rattle.c_meaning.specs.Objects.{type_of, columns_of_object}
 use Rattle.run_state.specs.Interpreting.{same, key_of, use_of, where_of, state_of, pairs_of, flow_of, else_part, convertible, loop_in, all_rounds, site_of}
 use Rattle.run_state.proofs.Starting.{function_at, no_function_at}
 use Rattle.run_state.proofs.Calling.{call_few_steps, call_full, call_no_room, call_all, number_found, number_missing, parameters_halted, parameters_passed}
@@ -14,10 +14,12 @@ use Rattle.run_state.specs.declared.machine.Typed.{Typed}
 use Rattle.run_state.proofs.Giving.{halted, went}
 use Rattle.run_state.proofs.Evaluating.{ticked_node, ticked_target, as_form, as_place, cast_gives, logic_gives, picked_first, picked_second, list_on, list_full, list_halted, call_halted, enter_halted, entered}
 use Rattle.c_interpreter.proofs.Executing.{view_of_if, stepped, sequence_halted, sequence_on, sequence_left, chosen, choice_halts, declare_halted, declare_on, initial_stored, introduce_few_steps, introduce_no_room, introduce_no_cells, introduce_all, bodied}
-use Rattle.c_interpreter.proofs.Expressing.{binary_goes, binary_halts, element_goes, index_halts, unary_goes, comma_goes, both_go_on, either_goes_on, step_goes, decided_goes, do_goes, for_rest_goes, replace_halts, update_halts, update_goes, choose_goes, choose_halts, call_goes, call_halts}
+use Rattle.c_interpreter.proofs.Expressing.{binary_goes, binary_halts, unary_goes, comma_goes, both_go_on, either_goes_on, step_goes, decided_goes, do_goes, for_rest_goes, replace_halts, update_halts, update_goes, choose_goes, choose_halts, call_goes, call_halts}
+use Rattle.c_interpreter.proofs.Indexing.{one_item, two_items, one_halts, one_goes, row_halts, column_halts, two_go, many_halt, many_go, all_halted, all_on, index_halts, index_goes}
+use Rattle.c_interpreter.proofs.Switching.{rest_taken, switch_halts, switch_goes, arms_are, no_arm, arms_halted, arms_on, arms_left}
 use Rattle.c_interpreter.proofs.Looping.{while_given, do_given, for_given, while_chosen, while_halts, for_chosen, for_halts, rounds_halted, rounds_left, rounds_broken, rounds_on, test_done, test_halts}
 use Rattle.c_core.specs.declared.number.IntType.TheVariants.{Int}
-use Rattle.run_state.proofs.Declaring.{values_halted, values_full, values_on}
+use Rattle.run_state.proofs.Declaring.{values_halted, values_full, values_on, rows_halted, rows_on}
 use Rattle.run_state.specs.declared.machine.Flow.TheVariants.{Broken}
 use Rattle.run_state.specs.declared.machine.Halt.TheVariants.{NoMemory}
 use Rattle.c_interpreter.proofs.+run.Goals as goal
@@ -46,11 +48,6 @@ pub expressions::node-returns-in-Binary-clause-gives : goal.expressions::node-re
 expressions::node-returns-in-Binary-clause-gives g t c =
     let e : node_view c.args.e.now.node ≡ Binary c.in-Binary.op (expr_view c.deref.result.now) (expr_view c.deref-in-Binary.result.now) = rw (c.in-Binary.is, c.deref.ensures, c.deref-in-Binary.ensures) refl in
     as_form (program_view c.args.program.now) g.W.Watcher.Seen g.W.Watcher.after c.args.depth _ _ _ _ _ _ _ _ c.binary.result e c.binary.ensures.gives
-
-pub expressions::node-returns-in-Index-clause-gives : goal.expressions::node-returns-in-Index-clause-gives
-expressions::node-returns-in-Index-clause-gives g t c =
-    let e : node_view c.args.e.now.node ≡ Index c.in-Index.object (expr_view c.deref-in-Index.result.now) = rw (c.in-Index.is, c.deref-in-Index.ensures) refl in
-    as_form (program_view c.args.program.now) g.W.Watcher.Seen g.W.Watcher.after c.args.depth _ _ _ _ _ _ _ _ c.index.result e c.index.ensures.gives
 
 pub expressions::node-returns-in-Unary-clause-gives : goal.expressions::node-returns-in-Unary-clause-gives
 expressions::node-returns-in-Unary-clause-gives g t c =
@@ -91,11 +88,6 @@ expressions::node-returns-in-Choose-clause-gives g t c =
     let e : node_view c.args.e.now.node ≡ Choose c.in-Choose.mark (expr_view c.deref-in-Choose.result.now) (expr_view c.deref-in-Choose-2.result.now) (expr_view c.deref-in-Choose-3.result.now) = rw (c.in-Choose.is, c.deref-in-Choose.ensures, c.deref-in-Choose-2.ensures, c.deref-in-Choose-3.ensures) refl in
     as_form (program_view c.args.program.now) g.W.Watcher.Seen g.W.Watcher.after c.args.depth _ _ _ _ _ _ _ _ c.choose.result e c.choose.ensures.gives
 
-pub expressions::place-returns-in-Index-clause-gives : goal.expressions::place-returns-in-Index-clause-gives
-expressions::place-returns-in-Index-clause-gives g t c =
-    let e : node_view c.args.e.now.node ≡ Index c.in-Index.object (expr_view c.deref.result.now) = rw (c.in-Index.is, c.deref.ensures) refl in
-    as_place (program_view c.args.program.now) g.W.Watcher.Seen g.W.Watcher.after c.args.depth _ _ _ _ _ _ c.element_at.result e c.element_at.ensures.gives
-
 pub expressions::replace-returns-clause-gives : goal.expressions::replace-returns-clause-gives
 expressions::replace-returns-clause-gives g t c =
     let z : SFits w128 c.in_ok-value.value = search rules in
@@ -130,7 +122,7 @@ expressions::assign-returns-in-Some-clause-gives g t c =
 pub expressions::node-returns-in-Call-clause-gives : goal.expressions::node-returns-in-Call-clause-gives
 expressions::node-returns-in-Call-clause-gives g t c =
     let v = ap node_view c.in-Call.is ∙ view_of_call c.in-Call.callee c.in-Call.args c.in-Call.close in
-    let e = v ∙ ap (λ es. Call c.in-Call.callee (exprs_view es) c.in-Call.close) (sym c.as_slice.ensures) in
+    let e = v ∙ ap (λ es. Call c.in-Call.callee (exprs_view es) c.in-Call.close) (sym c.as_slice-in-Call.ensures) in
     as_form (program_view c.args.program.now) g.W.Watcher.Seen g.W.Watcher.after c.args.depth _ _ _ _ _ _ _ _ c.call.result e c.call.ensures.gives
 
 pub expressions::call-returns-in_err-values-clause-gives : goal.expressions::call-returns-in_err-values-clause-gives
@@ -237,7 +229,7 @@ statements::exec-returns-in_err-tick-clause-gives g t c =
 pub statements::exec-returns-clause-gives : goal.statements::exec-returns-clause-gives
 statements::exec-returns-clause-gives g t c =
     let k = c.in_ok-tick.ensures.gives (program_view c.args.program.now) (g.W.Watcher.seen c.args.watcher.now) in
-    stepped (program_view c.args.program.now) g.W.Watcher.Seen g.W.Watcher.after c.args.depth c.args.wanted _ _ _ _ _ _ c.form.result k c.in_ok-arrive.ensures.gives c.form.ensures.gives
+    stepped (program_view c.args.program.now) g.W.Watcher.Seen g.W.Watcher.after c.args.depth c.args.wanted c.args.s.now.spot (form_view c.args.s.now.form) _ _ _ _ c.form.result k c.in_ok-arrive.ensures.gives c.form.ensures.gives
 
 pub statements::form-returns-in-While-clause-gives : goal.statements::form-returns-in-While-clause-gives
 statements::form-returns-in-While-clause-gives g t c = while_given (program_view c.args.program.now) g.W.Watcher.Seen g.W.Watcher.after c.args.depth c.args.wanted c.args.at (form_view c.args.f.now) (expr_view c.in-While.test) (stmt_view c.in-While.body.value) (ap form_view c.in-While.is) _ _ _ c.loop_scope.ensures.gives
@@ -334,21 +326,6 @@ declarations::initial_value-returns-clause-gives g t c =
     let h = simp to_z-of_z at c.store.ensures.gives Int (g.W.Watcher.seen c.full.new.watcher) in
     initial_stored (program_view c.args.program.now) g.W.Watcher.Seen g.W.Watcher.after c.args.depth c.args.at c.args.object c.args.index (expr_view c.args.e.now) Int c.type_of_object-ty.result c.in_ok-value.value _ _ _ _
     c.in_ok-value.ensures.gives c.type_of_object-ty.ensures h
-
-pub declarations::initial_values-returns-in_err-initial_value-clause-gives : goal.declarations::initial_values-returns-in_err-initial_value-clause-gives
-declarations::initial_values-returns-in_err-initial_value-clause-gives g t c =
-    let e : c.from_residual.result ≡ Err c.in_err-initial_value.field-0.0 = search rules in
-    let d = drop-cons c.args.es.now c.loop-index.index c.index-es-index.result c.loop-index-test.true ∙ ap (λ x. x ∷ drop (suc c.loop-index.index) c.args.es.now) (sym c.index-es-index.is) in
-    rw e (values_halted (program_view c.args.program.now) g.W.Watcher.Seen g.W.Watcher.after c.args.depth c.args.at c.args.object c.args.es.now c.loop-index.index c.index-es-index.result d _ _ _ c.loop-index.invariant.value c.in_err-initial_value.field-0.0 c.in_err-initial_value.ensures.gives)
-
-pub declarations::initial_values-loop-index-preserved : goal.declarations::initial_values-loop-index-preserved
-declarations::initial_values-loop-index-preserved g t c =
-    let d = drop-cons c.args.es.now c.loop-index.index c.index-es-index.result c.loop-index-test.true ∙ ap (λ x. x ∷ drop (suc c.loop-index.index) c.args.es.now) (sym c.index-es-index.is) in
-    let e : c.loop-index.index + 1 ≡ suc c.loop-index.index = omega arith in
-    record {
-      spends = omega (arith, c.loop-index.invariant.spends, c.in_ok-initial_value.ensures.spends);
-      value = rw e (values_on (program_view c.args.program.now) g.W.Watcher.Seen g.W.Watcher.after c.args.depth c.args.at c.args.object c.args.es.now c.loop-index.index c.index-es-index.result d _ _ _ c.loop-index.invariant.value c.in_ok-initial_value.ensures.gives);
-    }
 
 pub declarations::introduce-returns-in_err-ticks-clause-gives : goal.declarations::introduce-returns-in_err-ticks-clause-gives
 declarations::introduce-returns-in_err-ticks-clause-gives g t c =
@@ -501,16 +478,6 @@ expressions::converted-returns-in_err-value-clause-gives g t c =
     let e : c.from_residual.result ≡ Err c.in_err-value.field-0.0 = search rules in
     rw e (halted same same c.in_err-value.field-0.0 _ _ _ c.in_err-value.ensures.gives)
 
-pub expressions::element_at-returns-in_err-j-clause-gives : goal.expressions::element_at-returns-in_err-j-clause-gives
-expressions::element_at-returns-in_err-j-clause-gives g t c =
-    let e : c.from_residual.result ≡ Err c.in_err-j.field-0.0 = search rules in
-    rw e (halted same key_of c.in_err-j.field-0.0 _ _ _ c.in_err-j.ensures.gives)
-
-pub expressions::index-returns-in_err-j-clause-gives : goal.expressions::index-returns-in_err-j-clause-gives
-expressions::index-returns-in_err-j-clause-gives g t c =
-    let e : c.from_residual.result ≡ Err c.in_err-j.field-0.0 = search rules in
-    rw e (halted same same c.in_err-j.field-0.0 _ _ _ c.in_err-j.ensures.gives)
-
 pub expressions::replace-returns-in_err-key-clause-gives : goal.expressions::replace-returns-in_err-key-clause-gives
 expressions::replace-returns-in_err-key-clause-gives g t c =
     let e : c.from_residual.result ≡ Err c.in_err-key.field-0.0 = search rules in
@@ -565,12 +532,6 @@ pub declarations::initial_value-returns-in_err-value-clause-gives : goal.declara
 declarations::initial_value-returns-in_err-value-clause-gives g t c =
     let e : c.from_residual.result ≡ Err c.in_err-value.field-0.0 = search rules in
     rw e (halted same same c.in_err-value.field-0.0 _ _ _ c.in_err-value.ensures.gives)
-
-pub expressions::element_at-returns-clause-gives : goal.expressions::element_at-returns-clause-gives
-expressions::element_at-returns-clause-gives g t c =
-    let z : SFits w128 c.in_ok-j.j = search rules in
-    let k = rw (to_z-of_z w128 c.in_ok-j.j z) at (c.element.ensures.gives (state_of c.eval.new.machine (g.W.Watcher.seen c.eval.new.watcher))) in
-    element_goes (program_view c.args.program.now) g.W.Watcher.Seen g.W.Watcher.after c.args.depth (where_of c.args.at) c.args.spot c.args.object (expr_view c.args.place.now) c.in_ok-j.j _ _ _ c.element.result c.in_ok-j.ensures.gives k
 
 pub expressions::update-returns-clause-gives : goal.expressions::update-returns-clause-gives
 expressions::update-returns-clause-gives g t c =
@@ -631,13 +592,6 @@ expressions::binary-returns-in_err-b-clause-gives g t c =
     rw e (binary_halts (program_view c.args.program.now) g.W.Watcher.Seen g.W.Watcher.after c.args.depth (where_of c.args.at) c.args.spot c.args.op (expr_view c.args.left.now) (expr_view c.args.right.now) c.in_ok-a.a _ _ c.in_ok-a.ensures.gives
     c.in_err-b.field-0.0 _ c.in_err-b.ensures.gives)
 
-pub expressions::index-returns-in_err-found-clause-gives : goal.expressions::index-returns-in_err-found-clause-gives
-expressions::index-returns-in_err-found-clause-gives g t c =
-    let e : c.from_residual-in_err-found.result ≡ Err c.in_err-found.field-0.0 = search rules in
-    let z : SFits w128 c.in_ok-j.j = search rules in
-    let k = rw (to_z-of_z w128 c.in_ok-j.j z) at (c.in_err-found.ensures.gives (state_of c.eval.new.machine (g.W.Watcher.seen c.eval.new.watcher))) in
-    rw e (index_halts (program_view c.args.program.now) g.W.Watcher.Seen g.W.Watcher.after c.args.depth (where_of c.args.at) c.args.spot c.args.object (expr_view c.args.place.now) c.in_ok-j.j _ _ _ c.in_err-found.field-0.0 c.in_ok-j.ensures.gives k)
-
 pub expressions::unary-returns-clause-gives : goal.expressions::unary-returns-clause-gives
 expressions::unary-returns-clause-gives g t c =
     let z : SFits w128 c.in_ok-value.value = search rules in
@@ -679,11 +633,6 @@ statements::for_turn-returns-in_err-for_goes_on-clause-gives g t c =
     rw e (for_halts (program_view c.args.program.now) g.W.Watcher.Seen g.W.Watcher.after c.args.depth c.args.wanted c.args.at (expr_view_if c.args.test.now) (expr_view_if c.args.step.now) (stmt_view c.args.body.now)
     (state_of c.args.machine.now (g.W.Watcher.seen c.args.watcher.now)) (state_of c.for_goes_on.new.machine (g.W.Watcher.seen c.for_goes_on.new.watcher)) c.in_err-for_goes_on.field-0.0 c.in_err-for_goes_on.ensures.gives)
 
-pub declarations::initial_values-returns-then-index-clause-gives : goal.declarations::initial_values-returns-then-index-clause-gives
-declarations::initial_values-returns-then-index-clause-gives g t c =
-    let d = drop-cons c.args.es.now c.loop-index.index c.index-es-index.result c.loop-index-test.true ∙ ap (λ x. x ∷ drop (suc c.loop-index.index) c.args.es.now) (sym c.index-es-index.is) in
-    values_full (program_view c.args.program.now) g.W.Watcher.Seen g.W.Watcher.after c.args.depth c.args.at c.args.object c.args.es.now c.loop-index.index c.index-es-index.result d (state_of c.loop-index.machine (g.W.Watcher.seen c.loop-index.watcher)) (state_of c.loop-index.machine (g.W.Watcher.seen c.loop-index.watcher)) _ c.loop-index.invariant.value
-
 pub declarations::introduce-returns-in_err-add_cells-clause-gives : goal.declarations::introduce-returns-in_err-add_cells-clause-gives
 declarations::introduce-returns-in_err-add_cells-clause-gives g t c =
     let e : c.from_residual-in_err-add_cells.result ≡ Err c.in_err-add_cells.field-0.0 = search rules in
@@ -713,3 +662,171 @@ full_expressions::decide-returns-clause-gives g t c =
     let z : SFits w128 c.in_ok-value.value = search rules in
     let k = rw (to_z-of_z w128 c.in_ok-value.value z) at c.branch-program.ensures.gives in
     decided_goes (program_view c.args.program.now) g.W.Watcher.Seen g.W.Watcher.after c.args.depth c.args.at (expr_view c.args.test.now) c.in_ok-value.value _ _ _ c.branch-program.result c.in_ok-value.ensures.gives k
+
+pub expressions::node-returns-in-Index-clause-gives : goal.expressions::node-returns-in-Index-clause-gives
+expressions::node-returns-in-Index-clause-gives g t c =
+    let v = ap node_view c.in-Index.is ∙ view_of_index c.in-Index.object c.in-Index.place in
+    let e = v ∙ ap (λ es. Index c.in-Index.object (exprs_view es)) (sym c.as_slice.ensures) in
+    as_form (program_view c.args.program.now) g.W.Watcher.Seen g.W.Watcher.after c.args.depth _ _ _ _ _ _ _ _ c.index.result e c.index.ensures.gives
+
+pub expressions::place-returns-in-Index-clause-gives : goal.expressions::place-returns-in-Index-clause-gives
+expressions::place-returns-in-Index-clause-gives g t c =
+    let v = ap node_view c.in-Index.is ∙ view_of_index c.in-Index.object c.in-Index.place in
+    let e = v ∙ ap (λ es. Index c.in-Index.object (exprs_view es)) (sym c.as_slice.ensures) in
+    as_place (program_view c.args.program.now) g.W.Watcher.Seen g.W.Watcher.after c.args.depth _ _ _ _ _ _ c.element_at.result e c.element_at.ensures.gives
+
+pub statements::form-returns-in-Switch-clause-gives : goal.statements::form-returns-in-Switch-clause-gives
+statements::form-returns-in-Switch-clause-gives g t c =
+    let e = ap form_view c.in-Switch.is ∙ view_of_switch c.in-Switch.test c.in-Switch.arms in
+    rw (e, ← c.as_slice-in-Switch.ensures) c.switch.ensures.gives
+
+pub expressions::evaluate_all-returns-in_err-eval-clause-gives : goal.expressions::evaluate_all-returns-in_err-eval-clause-gives
+expressions::evaluate_all-returns-in_err-eval-clause-gives g t c =
+    let e : c.from_residual.result ≡ Err c.in_err-eval.field-0.0 = search rules in
+    let d = drop-cons c.args.es.now c.loop-e.e-index c.e-item.result c.loop-e-test.true ∙ ap (λ x. x ∷ drop (suc c.loop-e.e-index) c.args.es.now) (sym c.e-item.is) in
+    rw e (all_halted (program_view c.args.program.now) g.W.Watcher.Seen g.W.Watcher.after c.args.depth (where_of c.args.at) c.args.es.now c.loop-e.e-index c.e-item.result d _ _ _ c.loop-e.invariant.value c.in_err-eval.field-0.0 c.in_err-eval.ensures.gives)
+
+pub expressions::evaluate_all-loop-e-preserved : goal.expressions::evaluate_all-loop-e-preserved
+expressions::evaluate_all-loop-e-preserved g t c =
+    let d = drop-cons c.args.es.now c.loop-e.e-index c.e-item.result c.loop-e-test.true ∙ ap (λ x. x ∷ drop (suc c.loop-e.e-index) c.args.es.now) (sym c.e-item.is) in
+    let e : c.loop-e.e-index + 1 ≡ suc c.loop-e.e-index = omega arith in
+    record {
+      spends = omega (arith, c.loop-e.invariant.spends, c.in_ok-eval.ensures.spends);
+      value = rw e (all_on (program_view c.args.program.now) g.W.Watcher.Seen g.W.Watcher.after c.args.depth (where_of c.args.at) c.args.es.now c.loop-e.e-index c.e-item.result d _ _ _ c.loop-e.invariant.value c.in_ok-eval.field-0 c.in_ok-eval.ensures.gives);
+    }
+
+pub expressions::element_at-returns-in_err-j-in-len1-clause-gives : goal.expressions::element_at-returns-in_err-j-in-len1-clause-gives
+expressions::element_at-returns-in_err-j-in-len1-clause-gives g t c =
+    let e : c.from_residual.result ≡ Err c.in_err-j-in-len1.field-0.0 = search rules in
+    let s = one_item c.args.indexes.now c.index-item.result c.in-len1.len_at_least c.in-len1.len_below c.index-item.is in
+    rw (e, s) (one_halts (program_view c.args.program.now) g.W.Watcher.Seen g.W.Watcher.after c.args.depth (where_of c.args.at) c.args.spot c.args.object (expr_view c.index-item.result) _ _ c.in_err-j-in-len1.field-0.0 c.in_err-j-in-len1.ensures.gives)
+
+pub expressions::element_at-returns-in_ok-j-in-len1-clause-gives : goal.expressions::element_at-returns-in_ok-j-in-len1-clause-gives
+expressions::element_at-returns-in_ok-j-in-len1-clause-gives g t c =
+    let z : SFits w128 c.in_ok-j-in-len1.j = search rules in
+    let s = one_item c.args.indexes.now c.index-item.result c.in-len1.len_at_least c.in-len1.len_below c.index-item.is in
+    let k = rw (to_z-of_z w128 c.in_ok-j-in-len1.j z) at (c.element.ensures.gives (state_of c.eval.new.machine (g.W.Watcher.seen c.eval.new.watcher))) in
+    rw s (one_goes (program_view c.args.program.now) g.W.Watcher.Seen g.W.Watcher.after c.args.depth (where_of c.args.at) c.args.spot c.args.object (expr_view c.index-item.result) _ _ c.in_ok-j-in-len1.j _ c.element.result c.in_ok-j-in-len1.ensures.gives k)
+
+pub expressions::element_at-returns-in_err-i-in-len2-clause-gives : goal.expressions::element_at-returns-in_err-i-in-len2-clause-gives
+expressions::element_at-returns-in_err-i-in-len2-clause-gives g t c =
+    let e : c.from_residual-in_err-i-in-len2.result ≡ Err c.in_err-i-in-len2.field-0.0 = search rules in
+    let s = two_items c.args.indexes.now c.row-item.result c.column-item.result c.in-len2.len_at_least c.in-len2.len_below c.row-item.is c.column-item.is in
+    rw (e, s) (row_halts (program_view c.args.program.now) g.W.Watcher.Seen g.W.Watcher.after c.args.depth (where_of c.args.at) c.args.spot c.args.object (expr_view c.row-item.result) (expr_view c.column-item.result) _ _ c.in_err-i-in-len2.field-0.0 c.in_err-i-in-len2.ensures.gives)
+
+pub expressions::element_at-returns-in_err-j-in-len2-clause-gives : goal.expressions::element_at-returns-in_err-j-in-len2-clause-gives
+expressions::element_at-returns-in_err-j-in-len2-clause-gives g t c =
+    let e : c.from_residual-in_err-j-in-len2.result ≡ Err c.in_err-j-in-len2.field-0.0 = search rules in
+    let s = two_items c.args.indexes.now c.row-item.result c.column-item.result c.in-len2.len_at_least c.in-len2.len_below c.row-item.is c.column-item.is in
+    rw (e, s) (column_halts (program_view c.args.program.now) g.W.Watcher.Seen g.W.Watcher.after c.args.depth (where_of c.args.at) c.args.spot c.args.object (expr_view c.row-item.result) (expr_view c.column-item.result) _ _ c.in_ok-i-in-len2.i _ c.in_err-j-in-len2.field-0.0
+    c.in_ok-i-in-len2.ensures.gives c.in_err-j-in-len2.ensures.gives)
+
+pub expressions::element_at-returns-in_ok-j-in-len2-clause-gives : goal.expressions::element_at-returns-in_ok-j-in-len2-clause-gives
+expressions::element_at-returns-in_ok-j-in-len2-clause-gives g t c =
+    let y : SFits w128 c.in_ok-i-in-len2.i = search rules in
+    let z : SFits w128 c.in_ok-j-in-len2.j = search rules in
+    let s = two_items c.args.indexes.now c.row-item.result c.column-item.result c.in-len2.len_at_least c.in-len2.len_below c.row-item.is c.column-item.is in
+    let k = rw (to_z-of_z w128 c.in_ok-i-in-len2.i y, to_z-of_z w128 c.in_ok-j-in-len2.j z) at (c.element_in_row.ensures.gives (state_of c.eval-in-len2-2.new.machine (g.W.Watcher.seen c.eval-in-len2-2.new.watcher))) in
+    rw s (two_go (program_view c.args.program.now) g.W.Watcher.Seen g.W.Watcher.after c.args.depth (where_of c.args.at) c.args.spot c.args.object (expr_view c.row-item.result) (expr_view c.column-item.result) _ _ c.in_ok-i-in-len2.i c.in_ok-j-in-len2.j _ _ c.element_in_row.result
+    c.in_ok-i-in-len2.ensures.gives c.in_ok-j-in-len2.ensures.gives k)
+
+pub expressions::element_at-returns-in_err-evaluate_all-in_default-clause-gives : goal.expressions::element_at-returns-in_err-evaluate_all-in_default-clause-gives
+expressions::element_at-returns-in_err-evaluate_all-in_default-clause-gives g t c =
+    let e : c.from_residual-in_err-evaluate_all-in_default.result ≡ Err c.in_err-evaluate_all-in_default.field-0.0 = search rules in
+    rw e (many_halt (program_view c.args.program.now) g.W.Watcher.Seen g.W.Watcher.after c.args.depth (where_of c.args.at) c.args.spot c.args.object c.args.indexes.now _ _ c.in_default.len_at_least c.in_err-evaluate_all-in_default.field-0.0 c.in_err-evaluate_all-in_default.ensures.gives)
+
+pub expressions::element_at-returns-in_ok-evaluate_all-in_default-clause-gives : goal.expressions::element_at-returns-in_ok-evaluate_all-in_default-clause-gives
+expressions::element_at-returns-in_ok-evaluate_all-in_default-clause-gives g t c =
+    many_go (program_view c.args.program.now) g.W.Watcher.Seen g.W.Watcher.after c.args.depth (where_of c.args.at) c.args.spot c.args.object c.args.indexes.now _ _ c.in_default.len_at_least c.in_ok-evaluate_all-in_default.ensures.gives
+
+pub statements::switch-returns-in_err-value-clause-gives : goal.statements::switch-returns-in_err-value-clause-gives
+statements::switch-returns-in_err-value-clause-gives g t c =
+    let e : c.from_residual.result ≡ Err c.in_err-value.field-0.0 = search rules in
+    rw e (halted same flow_of c.in_err-value.field-0.0 _ _ _ c.in_err-value.ensures.gives)
+
+pub statements::switch-returns-in_err-first-clause-gives : goal.statements::switch-returns-in_err-first-clause-gives
+statements::switch-returns-in_err-first-clause-gives g t c =
+    let e : c.from_residual-in_err-first.result ≡ Err c.in_err-first.field-0.0 = search rules in
+    let z : SFits w128 c.in_ok-value.value = search rules in
+    let y : SFits w128 c.convert-promoted.result = search rules in
+    let k = rw (to_z-of_z w128 c.convert-promoted.result y, c.convert-promoted.ensures, to_z-of_z w128 c.in_ok-value.value z, c.promote-ty.ensures, c.type_of.ensures) at c.in_err-first.ensures.gives in
+    rw e (switch_halts (program_view c.args.program.now) g.W.Watcher.Seen g.W.Watcher.after c.args.depth c.args.wanted c.args.at (expr_view c.args.test.now) (switch_view c.args.arms.now) c.in_ok-value.value _ _ c.in_ok-value.ensures.gives _ c.in_err-first.field-0.0 k)
+
+pub statements::switch-returns-clause-gives : goal.statements::switch-returns-clause-gives
+statements::switch-returns-clause-gives g t c =
+    let z : SFits w128 c.in_ok-value.value = search rules in
+    let y : SFits w128 c.convert-promoted.result = search rules in
+    let k = rw (to_z-of_z w128 c.convert-promoted.result y, c.convert-promoted.ensures, to_z-of_z w128 c.in_ok-value.value z, c.promote-ty.ensures, c.type_of.ensures) at c.in_ok-first.ensures.gives in
+    switch_goes (program_view c.args.program.now) g.W.Watcher.Seen g.W.Watcher.after c.args.depth c.args.wanted c.args.at (expr_view c.args.test.now) (switch_view c.args.arms.now) c.in_ok-value.value _ _ c.in_ok-value.ensures.gives c.in_ok-first.first _ _ c.arms_from.result k c.arms_from.ensures.gives
+
+pub statements::arms_from-returns-then-first-arms-clause-gives : goal.statements::arms_from-returns-then-first-arms-clause-gives
+statements::arms_from-returns-then-first-arms-clause-gives g t c =
+    let k = rw (rest_taken c.args.arms.now c.args.first) at c.hold_arms.ensures.gives in
+    rw (arms_are (program_view c.args.program.now) g.W.Watcher.Seen g.W.Watcher.after c.args.depth c.args.wanted c.args.arms.now c.args.first c.if-first-arms.true (state_of c.args.machine.now (g.W.Watcher.seen c.args.watcher.now))) k
+
+pub statements::arms_from-returns-else-first-arms-clause-gives : goal.statements::arms_from-returns-else-first-arms-clause-gives
+statements::arms_from-returns-else-first-arms-clause-gives g t c =
+    let l : length c.args.arms.now ≤ c.args.first = omega arith in
+    no_arm (program_view c.args.program.now) g.W.Watcher.Seen g.W.Watcher.after c.args.depth c.args.wanted c.args.arms.now c.args.first l _
+
+pub statements::sequence_arms-returns-in_err-flow-clause-gives : goal.statements::sequence_arms-returns-in_err-flow-clause-gives
+statements::sequence_arms-returns-in_err-flow-clause-gives g t c =
+    let e : c.from_residual.result ≡ Err c.in_err-flow.field-0.0 = search rules in
+    let k = rw c.as_slice.ensures at c.in_err-flow.ensures.gives in
+    rw e (arms_halted (program_view c.args.program.now) g.W.Watcher.Seen g.W.Watcher.after c.args.depth c.args.wanted c.args.arms.now c.loop-arm.arm-index c.arm-item.result c.loop-arm-test.true c.arm-item.is _ _ _ c.loop-arm.invariant.value c.in_err-flow.field-0.0 k)
+
+pub statements::sequence_arms-returns-in_default-clause-gives : goal.statements::sequence_arms-returns-in_default-clause-gives
+statements::sequence_arms-returns-in_default-clause-gives g t c =
+    let k = rw c.as_slice.ensures at c.in_ok-flow.ensures.gives in
+    arms_left (program_view c.args.program.now) g.W.Watcher.Seen g.W.Watcher.after c.args.depth c.args.wanted c.args.arms.now c.loop-arm.arm-index c.arm-item.result c.loop-arm-test.true c.arm-item.is _ _ _ c.loop-arm.invariant.value c.in_ok-flow.flow k c.in_default.not-Next
+
+pub statements::sequence_arms-loop-arm-preserved : goal.statements::sequence_arms-loop-arm-preserved
+statements::sequence_arms-loop-arm-preserved g t c =
+    let k = rw (c.as_slice.ensures, c.in-Next.is) at c.in_ok-flow.ensures.gives in
+    record {
+      spends = omega (arith, c.loop-arm.invariant.spends, c.in_ok-flow.ensures.spends);
+      value = arms_on (program_view c.args.program.now) g.W.Watcher.Seen g.W.Watcher.after c.args.depth c.args.wanted c.args.arms.now c.loop-arm.arm-index c.arm-item.result c.loop-arm-test.true c.arm-item.is _ _ _ c.loop-arm.invariant.value k;
+    }
+
+pub declarations::initial_values-returns-in_default-clause-gives : goal.declarations::initial_values-returns-in_default-clause-gives
+declarations::initial_values-returns-in_default-clause-gives g t c =
+    let d = drop-cons c.args.es.now c.loop-index.index c.index-es-index.result c.loop-index-test.true ∙ ap (λ x. x ∷ drop (suc c.loop-index.index) c.args.es.now) (sym c.index-es-index.is) in
+    let u = state_of c.loop-index.machine (g.W.Watcher.seen c.loop-index.watcher) in
+    values_full (program_view c.args.program.now) g.W.Watcher.Seen g.W.Watcher.after c.args.depth c.args.at c.args.object (c.args.first + c.loop-index.index) c.args.es.now c.loop-index.index c.index-es-index.result d u u _ c.loop-index.invariant.value
+
+pub declarations::initial_values-returns-in_err-initial_value-clause-gives : goal.declarations::initial_values-returns-in_err-initial_value-clause-gives
+declarations::initial_values-returns-in_err-initial_value-clause-gives g t c =
+    let e : c.from_residual.result ≡ Err c.in_err-initial_value.field-0.0 = search rules in
+    let d = drop-cons c.args.es.now c.loop-index.index c.index-es-index.result c.loop-index-test.true ∙ ap (λ x. x ∷ drop (suc c.loop-index.index) c.args.es.now) (sym c.index-es-index.is) in
+    let k = rw c.in-Some.ensures at c.in_err-initial_value.ensures.gives in
+    rw e (values_halted (program_view c.args.program.now) g.W.Watcher.Seen g.W.Watcher.after c.args.depth c.args.at c.args.object (c.args.first + c.loop-index.index) c.args.es.now c.loop-index.index c.index-es-index.result d _ _ _ c.loop-index.invariant.value c.in_err-initial_value.field-0.0 k)
+
+pub declarations::initial_values-loop-index-preserved : goal.declarations::initial_values-loop-index-preserved
+declarations::initial_values-loop-index-preserved g t c =
+    let d = drop-cons c.args.es.now c.loop-index.index c.index-es-index.result c.loop-index-test.true ∙ ap (λ x. x ∷ drop (suc c.loop-index.index) c.args.es.now) (sym c.index-es-index.is) in
+    let k = rw c.in-Some.ensures at c.in_ok-initial_value.ensures.gives in
+    let i : c.loop-index.index + 1 ≡ suc c.loop-index.index = omega arith in
+    let j : c.args.first + suc c.loop-index.index ≡ suc (c.args.first + c.loop-index.index) = omega arith in
+    record {
+      spends = omega (arith, c.loop-index.invariant.spends, c.in_ok-initial_value.ensures.spends);
+      value = rw (i, j) (values_on (program_view c.args.program.now) g.W.Watcher.Seen g.W.Watcher.after c.args.depth c.args.at c.args.object (c.args.first + c.loop-index.index) c.args.es.now c.loop-index.index c.index-es-index.result d _ _ _ c.loop-index.invariant.value k);
+    }
+
+pub declarations::initial_rows-returns-in_err-initial_values-clause-gives : goal.declarations::initial_rows-returns-in_err-initial_values-clause-gives
+declarations::initial_rows-returns-in_err-initial_values-clause-gives g t c =
+    let e : c.from_residual.result ≡ Err c.in_err-initial_values.field-0.0 = search rules in
+    let d = drop-cons c.args.rows.now c.loop-index.index c.index-rows-index.result c.loop-index-test.true ∙ ap (λ x. x ∷ drop (suc c.loop-index.index) c.args.rows.now) (sym c.index-rows-index.is) in
+    let k = rw (c.columns_of_object-columns.ensures, c.as_slice-values.ensures) at c.in_err-initial_values.ensures.gives in
+    rw e (rows_halted (program_view c.args.program.now) g.W.Watcher.Seen g.W.Watcher.after c.args.depth c.args.at c.args.object (c.loop-index.index * columns_of_object (program_view c.args.program.now) c.args.object) c.args.rows.now c.loop-index.index c.index-rows-index.result d _ _ _ c.loop-index.invariant.value c.in_err-initial_values.field-0.0 k)
+
+pub declarations::initial_rows-loop-index-preserved : goal.declarations::initial_rows-loop-index-preserved
+declarations::initial_rows-loop-index-preserved g t c =
+    let d = drop-cons c.args.rows.now c.loop-index.index c.index-rows-index.result c.loop-index-test.true ∙ ap (λ x. x ∷ drop (suc c.loop-index.index) c.args.rows.now) (sym c.index-rows-index.is) in
+    let columns = columns_of_object (program_view c.args.program.now) c.args.object in
+    let k = rw (c.columns_of_object-columns.ensures, c.as_slice-values.ensures) at c.in_ok-initial_values.ensures.gives in
+    let i : c.loop-index.index + 1 ≡ suc c.loop-index.index = omega arith in
+    let j : suc c.loop-index.index * columns ≡ c.loop-index.index * columns + columns = omega arith in
+    record {
+      spends = omega (arith, c.loop-index.invariant.spends, c.in_ok-initial_values.ensures.spends);
+      value = rw (i, j) (rows_on (program_view c.args.program.now) g.W.Watcher.Seen g.W.Watcher.after c.args.depth c.args.at c.args.object (c.loop-index.index * columns) c.args.rows.now c.loop-index.index c.index-rows-index.result d _ _ _ c.loop-index.invariant.value k);
+    }

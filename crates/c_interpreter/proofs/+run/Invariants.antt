@@ -1,6 +1,7 @@
 use Rattle.std.proofs.Common.{◌≤◌, ◌+◌, ◌*◌, [], drop, ℕ, ◌<◌}
-use Rattle.c_core.specs.View.{program_view, exprs_view, stmts_view, form_view, names_view}
-use Rattle.run_state.specs.Interpreting.{state_of, where_of, pairs_of, listed, sequenced, loop_in, rounds, all_rounds, declaring, initialised_by}
+use Rattle.c_core.specs.View.{program_view, exprs_view, rows_view, stmts_view, switch_view, form_view, names_view}
+use Rattle.c_meaning.specs.Objects.{columns_of_object}
+use Rattle.run_state.specs.Interpreting.{state_of, where_of, pairs_of, listed, evaluated_all, sequenced, loop_in, rounds, all_rounds, declaring, initialised_by, initialised_rows}
 use Rattle.run_state.proofs.Giving.{Behind}
 use Rattle.c_interpreter.proofs.+run.Given as goal
 
@@ -18,13 +19,16 @@ abbrev pub decreases-expressions::target : goal.decreases-expressions::target
 decreases-expressions::target g l = 32 * l.machine.now.steps + 0
 
 abbrev pub decreases-expressions::place : goal.decreases-expressions::place
-decreases-expressions::place g l = 32 * l.machine.now.steps + 2
+decreases-expressions::place g l = 32 * l.machine.now.steps + 3
 
 abbrev pub decreases-expressions::element_at : goal.decreases-expressions::element_at
-decreases-expressions::element_at g l = 32 * l.machine.now.steps + 1
+decreases-expressions::element_at g l = 32 * l.machine.now.steps + 2
+
+abbrev pub decreases-expressions::evaluate_all : goal.decreases-expressions::evaluate_all
+decreases-expressions::evaluate_all g l = 32 * l.machine.now.steps + 1
 
 abbrev pub decreases-expressions::index : goal.decreases-expressions::index
-decreases-expressions::index g l = 32 * l.machine.now.steps + 1
+decreases-expressions::index g l = 32 * l.machine.now.steps + 3
 
 abbrev pub decreases-expressions::unary : goal.decreases-expressions::unary
 decreases-expressions::unary g l = 32 * l.machine.now.steps + 1
@@ -82,6 +86,14 @@ invariant-expressions::arguments-loop-arg g l = record {
       (listed (program_view l.program) g.W.Watcher.Seen g.W.Watcher.after l.depth (where_of l.at) [] (exprs_view l.args) (state_of l.initial.machine (g.W.Watcher.seen l.initial.watcher)));
 }
 
+-- what is left does what the whole does
+abbrev pub invariant-expressions::evaluate_all-loop-e : goal.invariant-expressions::evaluate_all-loop-e
+invariant-expressions::evaluate_all-loop-e g l = record {
+  spends : l.machine.steps ≤ l.initial.machine.steps;
+  value : Behind (evaluated_all (program_view l.program) g.W.Watcher.Seen g.W.Watcher.after l.depth (where_of l.at) (exprs_view (drop l.e-index l.es)) (state_of l.machine (g.W.Watcher.seen l.watcher)))
+      (evaluated_all (program_view l.program) g.W.Watcher.Seen g.W.Watcher.after l.depth (where_of l.at) (exprs_view l.es) (state_of l.initial.machine (g.W.Watcher.seen l.initial.watcher)));
+}
+
 -- a statement takes its step before it does its parts
 abbrev pub decreases-statements::exec : goal.decreases-statements::exec
 decreases-statements::exec g l = 32 * l.machine.now.steps + 0
@@ -97,6 +109,21 @@ decreases-statements::otherwise g l = 32 * l.machine.now.steps + 11
 
 abbrev pub decreases-statements::block : goal.decreases-statements::block
 decreases-statements::block g l = 32 * l.machine.now.steps + 11
+
+abbrev pub decreases-statements::sequence_arms : goal.decreases-statements::sequence_arms
+decreases-statements::sequence_arms g l = 32 * l.machine.now.steps + 11
+
+abbrev pub decreases-statements::scope_arms : goal.decreases-statements::scope_arms
+decreases-statements::scope_arms g l = 32 * l.machine.now.steps + 12
+
+abbrev pub decreases-statements::hold_arms : goal.decreases-statements::hold_arms
+decreases-statements::hold_arms g l = 32 * l.machine.now.steps + 13
+
+abbrev pub decreases-statements::arms_from : goal.decreases-statements::arms_from
+decreases-statements::arms_from g l = 32 * l.machine.now.steps + 14
+
+abbrev pub decreases-statements::switch : goal.decreases-statements::switch
+decreases-statements::switch g l = 32 * l.machine.now.steps + 15
 
 abbrev pub decreases-statements::choose : goal.decreases-statements::choose
 decreases-statements::choose g l = 32 * l.machine.now.steps + 12
@@ -142,6 +169,14 @@ invariant-statements::sequence-loop-s g l = record {
       (sequenced (program_view l.program) g.W.Watcher.Seen g.W.Watcher.after l.depth l.wanted (stmts_view l.body) (state_of l.initial.machine (g.W.Watcher.seen l.initial.watcher)));
 }
 
+-- what is left does what the whole does
+abbrev pub invariant-statements::sequence_arms-loop-arm : goal.invariant-statements::sequence_arms-loop-arm
+invariant-statements::sequence_arms-loop-arm g l = record {
+  spends : l.machine.steps ≤ l.initial.machine.steps;
+  value : Behind (sequenced (program_view l.program) g.W.Watcher.Seen g.W.Watcher.after l.depth l.wanted (switch_view (drop l.arm-index l.arms)) (state_of l.machine (g.W.Watcher.seen l.watcher)))
+      (sequenced (program_view l.program) g.W.Watcher.Seen g.W.Watcher.after l.depth l.wanted (switch_view l.arms) (state_of l.initial.machine (g.W.Watcher.seen l.initial.watcher)));
+}
+
 abbrev pub decreases-statements::turns-turns : goal.decreases-statements::turns-turns
 decreases-statements::turns-turns g l = l.machine.steps
 
@@ -166,8 +201,16 @@ invariant-declarations::declare-loop-name g l = record {
 abbrev pub invariant-declarations::initial_values-loop-index : goal.invariant-declarations::initial_values-loop-index
 invariant-declarations::initial_values-loop-index g l = record {
   spends : l.machine.steps ≤ l.initial.machine.steps;
-  value : Behind (initialised_by (program_view l.program) g.W.Watcher.Seen g.W.Watcher.after l.depth l.at l.object l.index (exprs_view (drop l.index l.es)) (state_of l.machine (g.W.Watcher.seen l.watcher)))
-      (initialised_by (program_view l.program) g.W.Watcher.Seen g.W.Watcher.after l.depth l.at l.object 0 (exprs_view l.es) (state_of l.initial.machine (g.W.Watcher.seen l.initial.watcher)));
+  value : Behind (initialised_by (program_view l.program) g.W.Watcher.Seen g.W.Watcher.after l.depth l.at l.object (l.first + l.index) (exprs_view (drop l.index l.es)) (state_of l.machine (g.W.Watcher.seen l.watcher)))
+      (initialised_by (program_view l.program) g.W.Watcher.Seen g.W.Watcher.after l.depth l.at l.object l.first (exprs_view l.es) (state_of l.initial.machine (g.W.Watcher.seen l.initial.watcher)));
+}
+
+-- what is left does what the whole does
+abbrev pub invariant-declarations::initial_rows-loop-index : goal.invariant-declarations::initial_rows-loop-index
+invariant-declarations::initial_rows-loop-index g l = record {
+  spends : l.machine.steps ≤ l.initial.machine.steps;
+  value : Behind (initialised_rows (program_view l.program) g.W.Watcher.Seen g.W.Watcher.after l.depth l.at l.object (l.index * columns_of_object (program_view l.program) l.object) (rows_view (drop l.index l.rows)) (state_of l.machine (g.W.Watcher.seen l.watcher)))
+      (initialised_rows (program_view l.program) g.W.Watcher.Seen g.W.Watcher.after l.depth l.at l.object 0 (rows_view l.rows) (state_of l.initial.machine (g.W.Watcher.seen l.initial.watcher)));
 }
 
 abbrev pub decreases-full_expressions::full : goal.decreases-full_expressions::full
@@ -197,17 +240,20 @@ decreases-declarations::initial_value g l = 32 * l.machine.now.steps + 2
 abbrev pub decreases-declarations::initial_values : goal.decreases-declarations::initial_values
 decreases-declarations::initial_values g l = 32 * l.machine.now.steps + 3
 
+abbrev pub decreases-declarations::initial_rows : goal.decreases-declarations::initial_rows
+decreases-declarations::initial_rows g l = 32 * l.machine.now.steps + 4
+
 abbrev pub decreases-declarations::initial : goal.decreases-declarations::initial
-decreases-declarations::initial g l = 32 * l.machine.now.steps + 4
+decreases-declarations::initial g l = 32 * l.machine.now.steps + 5
 
 abbrev pub decreases-declarations::introduce : goal.decreases-declarations::introduce
-decreases-declarations::introduce g l = 32 * l.machine.now.steps + 5
+decreases-declarations::introduce g l = 32 * l.machine.now.steps + 6
 
 abbrev pub decreases-declarations::declare : goal.decreases-declarations::declare
-decreases-declarations::declare g l = 32 * l.machine.now.steps + 6
+decreases-declarations::declare g l = 32 * l.machine.now.steps + 7
 
 abbrev pub decreases-declarations::begin : goal.decreases-declarations::begin
-decreases-declarations::begin g l = 32 * l.machine.now.steps + 7
+decreases-declarations::begin g l = 32 * l.machine.now.steps + 8
 
 abbrev pub decreases-calls::body : goal.decreases-calls::body
 decreases-calls::body g l = 32 * l.machine.now.steps + 0

@@ -1,26 +1,28 @@
 use mir.Val.{SFits}
 use mir.Syntax.{w128}
 use Rattle.std.proofs.lemmas.Int.{to_z-of_z}
-use Rattle.std.proofs.Common.{◌≡◌, ◌+◌, pos, Bool, ◌∷◌, [], ℕ, not, true, false, drop, length, refl, sym, ap, ap₂, ◌∙◌, arith, rules}
+use Rattle.std.proofs.Common.{◌≡◌, ◌+◌, pos, Bool, ◌∷◌, [], ℕ, not, true, false, drop, length, refl, sym, ap, ap₂, ◌∙◌, arith, rules, subst, IfOk}
 use Rattle.std.proofs.lemmas.List.{drop_all}
 use Rattle.std.proofs.lemmas.Result.{on_ok_weaker}
 use Rattle.c_core.specs.Tree.{Const, Var, Index, Unary, Cast, Step, Binary, Logic, Choose, Comma, Assign, Call}
 use Rattle.c_core.specs.Operators.{op_of_step, is_prefix}
 use Rattle.c_core.specs.declared.number.IntType.TheVariants.{Int}
 use Rattle.c_core.specs.View.{program_view, expr_view, exprs_view, node_view}
-use Rattle.c_core.proofs.View.{view_of_call}
+use Rattle.c_core.proofs.View.{view_of_index, view_of_call}
 use Rattle.c_meaning.specs.Meaning.{Used, Unused}
-use Rattle.c_meaning.specs.Objects.{type_of, size_of_object}
+use Rattle.c_meaning.specs.Objects.{type_of, size_of_object, columns_of_object}
 use Rattle.run_state.specs.Interpreting.{use_of}
 use Rattle.run_state.specs.declared.machine.CallSite.{CallSite}
 use Rattle.c_core.specs.Types.{promote_of}
 use Rattle.flow_code.specs.declared.code.Operand.TheVariants.{Number}
 use Rattle.flow_code.specs.declared.code.Then.TheVariants.{Push, Drop}
-use Rattle.flow_code.specs.declared.code.Action.TheVariants.{Give, Truth, Convert, Look, Aim, OperateOne}
+use Rattle.flow_code.specs.declared.code.Action.TheVariants.{Give, Truth, Convert, Look, Aim, Row, OperateOne}
+use Rattle.flow_code.specs.Making.{IsReady}
 use Rattle.flow_code.specs.Preparing.{only, prepared, paired_at, kept, rest}
 use Rattle.flow_code.specs.Sizes.{operand_of}
 use Rattle.flow_code.specs.Words.{word_of, native}
-use Rattle.flow_code.specs.Expressions.{code, aim_code, args_code, left_by, operator, source, both_ready, place_of, stored_at, as_type}
+use Rattle.flow_code.specs.Expressions.{code, aim_code, element_code, rows_of_object, args_code, left_by, operator, source, both_ready, place_of, stored_at, as_type}
+use Rattle.flow_code.proofs.Indexes.{one_ready, two_ready, many_ready}
 use Rattle.flow_code.proofs.Weights.{weight_in, argument_part}
 use Rattle.flow_code.proofs.Gluing.{glued, behind_it, next_item, walk_on, walk_done}
 use Rattle.flow_code.proofs.Readying.{ready_operand, ready_value, pair_operand, pair_value, pair_both, pair_number, taken_is, taken_both_is}
@@ -43,25 +45,27 @@ expressions::expression-returns-in-Var t c =
 
 pub expressions::expression-element-requires : goal.expressions::expression-element-requires
 expressions::expression-element-requires t c =
-    let e : node_view c.args.e.now.node ≡ Index c.in-Index.object (expr_view c.deref.result.now) = rw (c.in-Index.is, c.deref.ensures) refl in
+    let e : node_view c.args.e.now.node ≡ Index c.in-Index.object (exprs_view c.as_slice.result.now) =
+    ap node_view c.in-Index.is ∙ view_of_index c.in-Index.object c.in-Index.at ∙ ap (λ es. Index c.in-Index.object (exprs_view es)) (sym c.as_slice.ensures) in
     (omega (arith, c.decreases, ap weight_in e), tt)
 
 pub expressions::expression-returns-in-Index : goal.expressions::expression-returns-in-Index
 expressions::expression-returns-in-Index t c =
-    let e : node_view c.args.e.now.node ≡ Index c.in-Index.object (expr_view c.deref.result.now) = rw (c.in-Index.is, c.deref.ensures) refl in
+    let e : node_view c.args.e.now.node ≡ Index c.in-Index.object (exprs_view c.as_slice.result.now) =
+    ap node_view c.in-Index.is ∙ view_of_index c.in-Index.object c.in-Index.at ∙ ap (λ es. Index c.in-Index.object (exprs_view es)) (sym c.as_slice.ensures) in
     as_form (program_view c.args.program.now) c.args.around c.args.e.now (length c.args.ops.now) c.args.steps c.in_ok-sum.sum c.args.used c.args.then
-    (Index c.in-Index.object (expr_view c.deref.result.now)) c.args.ops.now c.element.new.ops c.element.result c.in_ok-sum.ensures e c.element.ensures
+    (Index c.in-Index.object (exprs_view c.as_slice.result.now)) c.args.ops.now c.element.new.ops c.element.result c.in_ok-sum.ensures e c.element.ensures
 
 pub expressions::expression-unary-requires : goal.expressions::expression-unary-requires
 expressions::expression-unary-requires t c =
-    let e : node_view c.args.e.now.node ≡ Unary c.in-Unary.op (expr_view c.deref-in-Unary.result.now) = rw (c.in-Unary.is, c.deref-in-Unary.ensures) refl in
+    let e : node_view c.args.e.now.node ≡ Unary c.in-Unary.op (expr_view c.deref.result.now) = rw (c.in-Unary.is, c.deref.ensures) refl in
     (omega (arith, c.decreases, ap weight_in e), tt)
 
 pub expressions::expression-returns-in-Unary : goal.expressions::expression-returns-in-Unary
 expressions::expression-returns-in-Unary t c =
-    let e : node_view c.args.e.now.node ≡ Unary c.in-Unary.op (expr_view c.deref-in-Unary.result.now) = rw (c.in-Unary.is, c.deref-in-Unary.ensures) refl in
+    let e : node_view c.args.e.now.node ≡ Unary c.in-Unary.op (expr_view c.deref.result.now) = rw (c.in-Unary.is, c.deref.ensures) refl in
     as_form (program_view c.args.program.now) c.args.around c.args.e.now (length c.args.ops.now) c.args.steps c.in_ok-sum.sum c.args.used c.args.then
-    (Unary c.in-Unary.op (expr_view c.deref-in-Unary.result.now)) c.args.ops.now c.unary.new.ops c.unary.result c.in_ok-sum.ensures e c.unary.ensures
+    (Unary c.in-Unary.op (expr_view c.deref.result.now)) c.args.ops.now c.unary.new.ops c.unary.result c.in_ok-sum.ensures e c.unary.ensures
 
 pub expressions::expression-cast-requires : goal.expressions::expression-cast-requires
 expressions::expression-cast-requires t c =
@@ -142,16 +146,16 @@ expressions::expression-returns-in-Assign t c =
 
 pub expressions::expression-call-requires : goal.expressions::expression-call-requires
 expressions::expression-call-requires t c =
-    let e : node_view c.args.e.now.node ≡ Call c.in-Call.callee (exprs_view c.as_slice.result.now) c.in-Call.close =
-    ap node_view c.in-Call.is ∙ view_of_call c.in-Call.callee c.in-Call.args c.in-Call.close ∙ ap (λ es. Call c.in-Call.callee (exprs_view es) c.in-Call.close) (sym c.as_slice.ensures) in
+    let e : node_view c.args.e.now.node ≡ Call c.in-Call.callee (exprs_view c.as_slice-in-Call.result.now) c.in-Call.close =
+    ap node_view c.in-Call.is ∙ view_of_call c.in-Call.callee c.in-Call.args c.in-Call.close ∙ ap (λ es. Call c.in-Call.callee (exprs_view es) c.in-Call.close) (sym c.as_slice-in-Call.ensures) in
     (omega (arith, c.decreases, ap weight_in e), tt)
 
 pub expressions::expression-returns-in-Call : goal.expressions::expression-returns-in-Call
 expressions::expression-returns-in-Call t c =
-    let e : node_view c.args.e.now.node ≡ Call c.in-Call.callee (exprs_view c.as_slice.result.now) c.in-Call.close =
-    ap node_view c.in-Call.is ∙ view_of_call c.in-Call.callee c.in-Call.args c.in-Call.close ∙ ap (λ es. Call c.in-Call.callee (exprs_view es) c.in-Call.close) (sym c.as_slice.ensures) in
+    let e : node_view c.args.e.now.node ≡ Call c.in-Call.callee (exprs_view c.as_slice-in-Call.result.now) c.in-Call.close =
+    ap node_view c.in-Call.is ∙ view_of_call c.in-Call.callee c.in-Call.args c.in-Call.close ∙ ap (λ es. Call c.in-Call.callee (exprs_view es) c.in-Call.close) (sym c.as_slice-in-Call.ensures) in
     as_form (program_view c.args.program.now) c.args.around c.args.e.now (length c.args.ops.now) c.args.steps c.in_ok-sum.sum c.args.used c.args.then
-    (Call c.in-Call.callee (exprs_view c.as_slice.result.now) c.in-Call.close) c.args.ops.now c.call.new.ops c.call.result c.in_ok-sum.ensures e c.call.ensures
+    (Call c.in-Call.callee (exprs_view c.as_slice-in-Call.result.now) c.in-Call.close) c.args.ops.now c.call.new.ops c.call.result c.in_ok-sum.ensures e c.call.ensures
 
 pub operands::prepare-returns-in_ok-steps-in-Some : goal.operands::prepare-returns-in_ok-steps-in-Some
 operands::prepare-returns-in_ok-steps-in-Some t c =
@@ -187,8 +191,36 @@ expressions::binary-returns t c =
 pub expressions::element-returns : goal.expressions::element-returns
 expressions::element-returns t c =
     let p = program_view c.args.program.now in
-    taken_is c.args.ops.now c.prepare.new.ops c.emit.new.ops c.in_ok-found.found (prepared (operand_of (expr_view c.args.at.now)) c.args.steps (code p c.args.around (length c.args.ops.now) c.args.steps Used (expr_view c.args.at.now) Push)) _
+    taken_is c.args.ops.now c.element_cell.new.ops c.emit.new.ops c.in_ok-found.found (element_code p c.args.around (length c.args.ops.now) c.args.steps c.args.spot c.args.object (exprs_view c.args.indexes.now)) _
     (λ y. Look c.args.object (size_of_object p c.args.object) y c.args.spot (only c.args.then)) c.in_ok-found.ensures c.in_ok-emit.ensures cc
+
+pub elements::element_cell-returns-in-len1 : goal.elements::element_cell-returns-in-len1
+elements::element_cell-returns-in-len1 t c =
+    let e = one_ready (program_view c.args.program.now) c.args.around (length c.args.ops.now) c.args.steps c.args.spot c.args.object c.args.indexes.now c.index-item.result c.in-len1.len_at_least c.in-len1.len_below c.index-item.is in
+    subst (λ r. IfOk c.prepare.result (λ q. IsReady q c.args.ops.now c.prepare.new.ops r)) (sym e) c.prepare.ensures
+
+pub elements::element_cell-returns-in-len2 : goal.elements::element_cell-returns-in-len2
+elements::element_cell-returns-in-len2 t c =
+    let e = two_ready (program_view c.args.program.now) c.args.around (length c.args.ops.now) c.args.steps c.args.spot c.args.object c.args.indexes.now c.row-item.result c.column-item.result c.in-len2.len_at_least c.in-len2.len_below c.row-item.is c.column-item.is in
+    subst (λ r. IfOk c.in_row.result (λ q. IsReady q c.args.ops.now c.in_row.new.ops r)) (sym e) c.in_row.ensures
+
+pub elements::element_cell-returns-in_ok-left-in_default : goal.elements::element_cell-returns-in_ok-left-in_default
+elements::element_cell-returns-in_ok-left-in_default t c =
+    many_ready (program_view c.args.program.now) c.args.around (length c.args.ops.now) c.args.steps c.args.spot c.args.object c.args.indexes.now c.args.ops.now c.arguments.new.ops c.in_ok-left-in_default.left
+    c.in_default.len_at_least c.in_ok-left-in_default.ensures.code c.in_ok-left-in_default.ensures.due
+
+pub elements::in_row-returns : goal.elements::in_row-returns
+elements::in_row-returns t c =
+    let p = program_view c.args.program.now in
+    let o = c.args.object in
+    let pair = c.in_ok-pair.pair in
+    record {
+      ops = taken_both_is c.args.ops.now c.prepare_both.new.ops c.emit.new.ops pair (both_ready p c.args.around (length c.args.ops.now) c.args.steps (expr_view c.args.row.now) (expr_view c.args.column.now)) _
+          (λ y z. Row (rows_of_object p o) (columns_of_object p o) y z c.args.spot) c.in_ok-pair.ensures c.in_ok-emit.ensures
+          (ap₂ (λ n m. Row n m pair.left pair.right c.args.spot) c.rows_of_object-rows.ensures c.columns_of_object-columns.ensures);
+      operand = refl;
+      steps = refl;
+    }
 
 pub expressions::unary-returns : goal.expressions::unary-returns
 expressions::unary-returns t c =
@@ -262,18 +294,20 @@ targets::stored-returns-in_ok-emit-in_default t c =
     (taken_is c.args.ops.now c.prepare.new.ops c.emit.new.ops c.in_ok-value-in_default.value (prepared (operand_of (expr_view c.args.e.now)) c.args.steps (code (program_view c.args.program.now) c.args.around (length c.args.ops.now) c.args.steps Used (expr_view c.args.e.now) Push)) _
     (λ z. Give z c.args.into) c.in_ok-value-in_default.ensures c.in_ok-emit-in_default.ensures refl)
 
-pub targets::aim-prepare-requires : goal.targets::aim-prepare-requires
-targets::aim-prepare-requires t c =
-    let e : node_view c.args.target.now.node ≡ Index c.in-Index.object (expr_view c.deref.result.now) = rw (c.in-Index.is, c.deref.ensures) refl in
+pub targets::aim-element_cell-requires : goal.targets::aim-element_cell-requires
+targets::aim-element_cell-requires t c =
+    let e : node_view c.args.target.now.node ≡ Index c.in-Index.object (exprs_view c.as_slice-indexes.result.now) =
+    ap node_view c.in-Index.is ∙ view_of_index c.in-Index.object c.in-Index.at ∙ ap (λ es. Index c.in-Index.object (exprs_view es)) (sym c.as_slice-indexes.ensures) in
     (omega (arith, c.decreases, ap weight_in e), tt)
 
 pub targets::aim-returns-in_ok-emit-in-Index : goal.targets::aim-returns-in_ok-emit-in-Index
 targets::aim-returns-in_ok-emit-in-Index t c =
-    let e : node_view c.args.target.now.node ≡ Index c.in-Index.object (expr_view c.deref.result.now) = rw (c.in-Index.is, c.deref.ensures) refl in
+    let e : node_view c.args.target.now.node ≡ Index c.in-Index.object (exprs_view c.as_slice-indexes.result.now) =
+    ap node_view c.in-Index.is ∙ view_of_index c.in-Index.object c.in-Index.at ∙ ap (λ es. Index c.in-Index.object (exprs_view es)) (sym c.as_slice-indexes.ensures) in
     let p = program_view c.args.program.now in
     let k = c.in_ok-sum.sum in
-    aimed_element p c.args.around c.args.target.now c.args.steps k c.in-Index.object (expr_view c.deref.result.now) c.args.reads c.args.ops.now c.emit.new.ops c.in_ok-sum.ensures e
-    (taken_is c.args.ops.now c.prepare.new.ops c.emit.new.ops c.in_ok-found-in-Index.found (prepared (operand_of (expr_view c.deref.result.now)) k (code p c.args.around (length c.args.ops.now) k Used (expr_view c.deref.result.now) Push)) _
+    aimed_element p c.args.around c.args.target.now c.args.steps k c.in-Index.object (exprs_view c.as_slice-indexes.result.now) c.args.reads c.args.ops.now c.emit.new.ops c.in_ok-sum.ensures e
+    (taken_is c.args.ops.now c.element_cell.new.ops c.emit.new.ops c.in_ok-found-in-Index.found (element_code p c.args.around (length c.args.ops.now) k c.args.target.now.spot c.in-Index.object (exprs_view c.as_slice-indexes.result.now)) _
     (λ y. Aim c.in-Index.object (size_of_object p c.in-Index.object) y c.args.target.now.spot c.args.reads) c.in_ok-found-in-Index.ensures c.in_ok-emit-in-Index.ensures cc)
 
 pub targets::aim-returns-in-Var : goal.targets::aim-returns-in-Var

@@ -12,7 +12,13 @@ abbrev pub decreases-expressions::binary : goal.decreases-expressions::binary
 decreases-expressions::binary l = 8 * (weight (expr_view l.left.now) + weight (expr_view l.right.now)) + 4
 
 abbrev pub decreases-expressions::element : goal.decreases-expressions::element
-decreases-expressions::element l = 8 * weight (expr_view l.at.now) + 2
+decreases-expressions::element l = 8 * weight_of_all (exprs_view l.indexes.now) + 5
+
+abbrev pub decreases-elements::element_cell : goal.decreases-elements::element_cell
+decreases-elements::element_cell l = 8 * weight_of_all (exprs_view l.indexes.now) + 4
+
+abbrev pub decreases-elements::in_row : goal.decreases-elements::in_row
+decreases-elements::in_row l = 8 * (weight (expr_view l.row.now) + weight (expr_view l.column.now)) + 3
 
 abbrev pub decreases-expressions::unary : goal.decreases-expressions::unary
 decreases-expressions::unary l = 8 * weight (expr_view l.of.now) + 2

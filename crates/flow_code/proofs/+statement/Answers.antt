@@ -1,19 +1,22 @@
 use Rattle.std.proofs.Common.{◌≡◌, ◌+◌, ◌++◌, ◌∷◌, [], length, refl, sym, ap, ap₂, ◌∙◌, arith}
 use Rattle.std.proofs.lemmas.List.{drop_all}
 use Rattle.std.proofs.lemmas.Result.{on_ok_weaker}
-use Rattle.c_core.specs.Tree.{Do, Declare, Block, If, While, DoWhile, For, Break, Continue, Label, OrElse}
-use Rattle.c_core.specs.View.{program_view, expr_view, expr_view_if, names_view, first_view, form_view, stmt_view, stmts_view}
-use Rattle.c_core.proofs.View.{view_of_block}
+use Rattle.c_core.specs.Tree.{Do, Declare, Block, If, While, DoWhile, For, Break, Continue, Label, Switch, OrElse}
+use Rattle.c_core.specs.View.{program_view, expr_view, expr_view_if, names_view, first_view, form_view, stmt_view, stmts_view, switch_view}
+use Rattle.c_core.specs.declared.tree.Arm.{out-Arm}
+use Rattle.c_core.proofs.View.{view_of_block, view_of_switch}
 use Rattle.c_meaning.specs.Meaning.{Unused}
 use Rattle.run_state.specs.Interpreting.{else_part}
 use Rattle.flow_code.specs.declared.code.Action.TheVariants.{Arrive}
 use Rattle.flow_code.specs.declared.code.Then.TheVariants.{Drop}
 use Rattle.flow_code.specs.Preparing.{op}
 use Rattle.flow_code.specs.Expressions.{code}
+use Rattle.flow_code.specs.Sizes.{size_of_arm}
 use Rattle.flow_code.specs.Statements.{form_code, statement_code, block_code}
-use Rattle.flow_code.proofs.Weights.{weight_of_form, weight_of_else, statement_part}
+use Rattle.flow_code.proofs.Weights.{weight_of_form, weight_of_else, weight_of_block, statement_part, arm_part}
+use Rattle.flow_code.proofs.Arms.{code_from}
 use Rattle.flow_code.proofs.Gluing.{nothing_more, glued, next_item, walk_on, walk_done}
-use Rattle.flow_code.proofs.Blocks.{view_of_if, as_statement, block_is, arm_is, choice_is, second_is, while_is, do_is, turns_are, for_is}
+use Rattle.flow_code.proofs.Blocks.{view_of_if, as_statement, block_is, arm_is, choice_is, second_is, while_is, do_is, turns_are, for_is, arms_are, switch_is}
 use Rattle.flow_code.proofs.+statement.Goals as goal
 
 pub statements::statement-returns : goal.statements::statement-returns
@@ -162,13 +165,13 @@ statements::second_arm-returns t c =
 pub loops::while_loop-returns : goal.loops::while_loop-returns
 loops::while_loop-returns t c =
     while_is (program_view c.args.program.now) c.args.inside c.in_loop-within.result c.args.at (expr_view c.args.test.now) (stmt_view c.args.body.now) c.in_ok-start.start c.in_ok-again.again c.in_ok-broken.broken c.args.ops.now c.emit.new.ops c.arm.new.ops c.test_at.new.ops
-    c.in_ok-start.ensures (c.in_ok-again.ensures ∙ ap (λ n. c.in_ok-start.start + n) c.in_ok-turn.ensures) (c.in_ok-broken.ensures ∙ ap (λ n. c.in_ok-again.again + n) c.in_ok-tested.ensures)
+    c.in_ok-start.ensures (c.in_ok-again.ensures ∙ ap (λ n. c.in_ok-start.start + n) (c.in_ok-turn.ensures ∙ ap (λ d. size_of_arm d (stmt_view c.args.body.now)) c.in_turn.ensures)) (c.in_ok-broken.ensures ∙ ap (λ n. c.in_ok-again.again + n) c.in_ok-tested.ensures)
     c.in_loop-within.ensures c.in_ok-emit.ensures c.in_ok-arm.ensures c.in_ok-test_at.ensures
 
 pub loops::do_loop-returns : goal.loops::do_loop-returns
 loops::do_loop-returns t c =
     do_is (program_view c.args.program.now) c.args.inside c.in_loop-within.result c.args.at (stmt_view c.args.body.now) (expr_view c.args.test.now) c.in_ok-start.start c.in_ok-again.again c.in_ok-broken.broken c.args.ops.now c.arm.new.ops c.test_at.new.ops
-    c.in_ok-start.ensures (c.in_ok-again.ensures ∙ ap (λ n. c.in_ok-start.start + n) c.in_ok-turn.ensures) (c.in_ok-broken.ensures ∙ ap (λ n. c.in_ok-again.again + n) c.in_ok-tested.ensures)
+    c.in_ok-start.ensures (c.in_ok-again.ensures ∙ ap (λ n. c.in_ok-start.start + n) (c.in_ok-turn.ensures ∙ ap (λ d. size_of_arm d (stmt_view c.args.body.now)) c.in_turn.ensures)) (c.in_ok-broken.ensures ∙ ap (λ n. c.in_ok-again.again + n) c.in_ok-tested.ensures)
     c.in_loop-within.ensures c.in_ok-arm.ensures c.in_ok-test_at.ensures
 
 pub loops::for_loop-returns : goal.loops::for_loop-returns
@@ -179,6 +182,51 @@ loops::for_loop-returns t c =
 pub loops::turns-returns : goal.loops::turns-returns
 loops::turns-returns t c =
     turns_are (program_view c.args.program.now) c.args.inside c.in_loop-within.result c.args.at (expr_view_if c.args.test.now) (expr_view_if c.args.step.now) (stmt_view c.args.body.now) c.in_ok-start.start c.in_ok-again.again c.in_ok-head.head c.in_ok-broken.broken
-    c.args.ops.now c.emit.new.ops c.arm.new.ops c.evaluate_if.new.ops c.test_if.new.ops c.in_ok-start.ensures (c.in_ok-again.ensures ∙ ap (λ n. c.in_ok-start.start + n) c.in_ok-turn.ensures)
+    c.args.ops.now c.emit.new.ops c.arm.new.ops c.evaluate_if.new.ops c.test_if.new.ops c.in_ok-start.ensures (c.in_ok-again.ensures ∙ ap (λ n. c.in_ok-start.start + n) (c.in_ok-turn.ensures ∙ ap (λ d. size_of_arm d (stmt_view c.args.body.now)) c.in_turn.ensures))
     (c.in_ok-head.ensures ∙ ap (λ n. c.in_ok-again.again + n) c.in_ok-last.ensures) (c.in_ok-broken.ensures ∙ ap (λ n. c.in_ok-head.head + n) c.in_ok-tested.ensures)
     c.in_loop-within.ensures c.in_ok-emit.ensures c.in_ok-arm.ensures c.in_ok-evaluate_if.ensures c.in_ok-test_if.ensures
+
+pub statements::form-switch-requires : goal.statements::form-switch-requires
+statements::form-switch-requires t c =
+    let e : form_view c.args.f.now ≡ Switch (expr_view c.in-Switch.test) (switch_view c.as_slice-in-Switch.result.now) = ap form_view c.in-Switch.is ∙ view_of_switch c.in-Switch.test c.in-Switch.arms ∙ ap (λ b. Switch (expr_view c.in-Switch.test) (switch_view b)) (sym c.as_slice-in-Switch.ensures) in
+    (omega (arith, c.decreases, ap weight_of_form e), tt)
+
+pub statements::form-returns-in-Switch : goal.statements::form-returns-in-Switch
+statements::form-returns-in-Switch t c =
+    let e : form_view c.args.f.now ≡ Switch (expr_view c.in-Switch.test) (switch_view c.as_slice-in-Switch.result.now) = ap form_view c.in-Switch.is ∙ view_of_switch c.in-Switch.test c.in-Switch.arms ∙ ap (λ b. Switch (expr_view c.in-Switch.test) (switch_view b)) (sym c.as_slice-in-Switch.ensures) in
+    as_statement (program_view c.args.program.now) (length c.args.ops.now) c.args.inside c.args.at (form_view c.args.f.now) (Switch (expr_view c.in-Switch.test) (switch_view c.as_slice-in-Switch.result.now)) c.args.ops.now c.switch.new.ops c.switch.result e c.switch.ensures
+
+pub switches::switch-returns : goal.switches::switch-returns
+switches::switch-returns t c =
+    switch_is (program_view c.args.program.now) c.args.inside c.in_switch.result c.in_ok-within.within c.args.at (expr_view c.args.test.now) (switch_view c.args.arms.now) c.any_arm_leaks-there.result c.in_ok-broken.broken
+    c.args.ops.now c.switch_test.new.ops c.open_scope.new.ops c.selected_arms.new.ops c.close_scope.new.ops c.in_ok-switch_test.ensures c.any_arm_leaks-there.ensures
+    (c.in_ok-broken.ensures ∙ ap (λ n. length c.switch_test.new.ops + n) c.in_ok-size.ensures) c.in_switch.ensures c.in_ok-within.ensures
+    c.in_ok-open_scope.ensures c.in_ok-selected_arms.ensures c.in_ok-close_scope.ensures
+
+pub switches::selected_arms-returns : goal.switches::selected_arms-returns
+switches::selected_arms-returns t c =
+    arms_are (program_view c.args.program.now) c.args.inside c.args.at (switch_view c.args.arms.now) c.in_ok-start.start c.args.ops.now c.select.new.ops c.bodies.new.ops
+    (c.in_ok-start.ensures ∙ ap (λ n. length c.args.ops.now + n) c.in_ok-size.ensures) c.in_ok-select.ensures c.in_ok-bodies.ensures
+
+pub switches::bodies-sequence-requires : goal.switches::bodies-sequence-requires
+switches::bodies-sequence-requires t c =
+    (omega (arith, c.decreases, ap (λ b. weight_of_block (stmts_view b)) c.as_slice.ensures, arm_part c.args.arms.now c.loop-arm.arm-index c.arm-item.result c.loop-arm-test.true c.arm-item.is), tt)
+
+pub switches::bodies-loop-arm-preserved : goal.switches::bodies-loop-arm-preserved
+switches::bodies-loop-arm-preserved t c =
+    let p = program_view c.args.program.now in
+    let w = c.args.inside in
+    let arms = c.args.arms.now in
+    let i = c.loop-arm.arm-index in
+    let x = c.arm-item.result in
+    let d = next_item arms i x c.loop-arm-test.true c.arm-item.is in
+    let body = stmts_view (out-Arm x).body in
+    let old = c.loop-arm.ops in
+    walk_on arms i x old c.sequence.new.ops _ (λ j xs. block_code p j w (switch_view xs)) (λ j xs. block_code p j w (switch_view xs)) (λ j. block_code p j w body) d
+    (λ j. ap (λ xs. block_code p j w (switch_view xs)) (sym d) ∙ code_from p w arms i x c.loop-arm-test.true c.arm-item.is j) c.loop-arm.invariant
+    (c.in_ok-sequence.ensures ∙ ap (λ b. old ++ block_code p (length old) w (stmts_view b)) c.as_slice.ensures)
+
+pub switches::bodies-returns : goal.switches::bodies-returns
+switches::bodies-returns t c =
+    let p = program_view c.args.program.now in
+    walk_done c.args.arms.now c.loop-arm.arm-index c.loop-arm.ops _ (λ j xs. block_code p j c.args.inside (switch_view xs)) (drop_all c.loop-arm.arm-index c.args.arms.now c.loop-arm-test.false) refl c.loop-arm.invariant

@@ -1,5 +1,5 @@
 use Rattle.std.proofs.Common.{◌≡◌, ◌+◌, ◌*◌, ◌++◌, drop, length}
-use Rattle.c_core.specs.View.{program_view, form_view, stmt_view, stmts_view}
+use Rattle.c_core.specs.View.{program_view, form_view, stmt_view, stmts_view, switch_view}
 use Rattle.run_state.specs.Interpreting.{else_part}
 use Rattle.flow_code.specs.Statements.{block_code}
 use Rattle.flow_code.proofs.Weights.{weight_of, weight_of_form, weight_of_else, weight_of_block}
@@ -42,7 +42,20 @@ decreases-loops::for_loop l = 8 * weight_of (stmt_view l.body.now) + 3
 abbrev pub decreases-loops::turns : goal.decreases-loops::turns
 decreases-loops::turns l = 8 * weight_of (stmt_view l.body.now) + 2
 
+abbrev pub decreases-switches::switch : goal.decreases-switches::switch
+decreases-switches::switch l = 8 * weight_of_block (switch_view l.arms.now) + 5
+
+abbrev pub decreases-switches::selected_arms : goal.decreases-switches::selected_arms
+decreases-switches::selected_arms l = 8 * weight_of_block (switch_view l.arms.now) + 4
+
+abbrev pub decreases-switches::bodies : goal.decreases-switches::bodies
+decreases-switches::bodies l = 8 * weight_of_block (switch_view l.arms.now) + 3
+
 -- what is left does what the whole does
 abbrev pub invariant-statements::sequence-loop-s : goal.invariant-statements::sequence-loop-s
 invariant-statements::sequence-loop-s l =
     l.ops ++ block_code (program_view l.program) (length l.ops) l.inside (stmts_view (drop l.s-index l.body)) ≡ l.initial.ops ++ block_code (program_view l.program) (length l.initial.ops) l.inside (stmts_view l.body)
+
+abbrev pub invariant-switches::bodies-loop-arm : goal.invariant-switches::bodies-loop-arm
+invariant-switches::bodies-loop-arm l =
+    l.ops ++ block_code (program_view l.program) (length l.ops) l.inside (switch_view (drop l.arm-index l.arms)) ≡ l.initial.ops ++ block_code (program_view l.program) (length l.initial.ops) l.inside (switch_view l.arms)

@@ -86,25 +86,25 @@ module _ (p : Program) (c : Code) (S : Type 0) (after : Event → List Cell → 
       → slice_get c.ops m.control.at ≡ Some (call_op f (length vs) site (Some g)) → m.control.paid ≡ 0 → m.control.stack ≡ reverse (values_of vs) ++ rest → m.run.steps ≤ n
       → Does c S after m (calls n (site_of site) f vs m.run) (λ v s y. (y.control ≡ record m.control { at = suc m.control.at; stack = v ∷ rest }) × (y.run ≡ s))
 
-  -- how a statement inside others is left: behind its code; before the way out of the loop's scopes, of the function's, with the value
+  -- how a statement inside others is left: behind its code; before the way out of the scopes of what `break` leaves, of the turn's, of the function's, with the value
   -- that is given, not yet converted to the function's type, on the stack
   abbrev pub LeavesAs : Inside → Control → ℕ → Flow → State S → Machine S → Type 0
   LeavesAs w k j Next s y = (y.run ≡ s) × (y.control ≡ control_at k j)
-  LeavesAs w k j Broken s y = (y.run ≡ s) × ((i : ℕ) × (y.control ≡ control_at k i) × HasCode c i (jump_out w.inner w.broken))
-  LeavesAs w k j Again s y = (y.run ≡ s) × ((i : ℕ) × (y.control ≡ control_at k i) × HasCode c i (jump_out w.inner w.again))
-  LeavesAs w k j (Gave None) s y = (y.run ≡ s) × ((i : ℕ) × (y.control ≡ control_at k i) × HasCode c i (all_closed w.scopes ++ op 0 Leave ∷ []))
+  LeavesAs w k j Broken s y = (y.run ≡ s) × ((i : ℕ) × (y.control ≡ control_at k i) × HasCode c i (jump_out w.depth.inner w.broken))
+  LeavesAs w k j Again s y = (y.run ≡ s) × ((i : ℕ) × (y.control ≡ control_at k i) × HasCode c i (jump_out w.depth.turn w.again))
+  LeavesAs w k j (Gave None) s y = (y.run ≡ s) × ((i : ℕ) × (y.control ≡ control_at k i) × HasCode c i (all_closed w.depth.scopes ++ op 0 Leave ∷ []))
   LeavesAs w k j (Gave (Some v)) s y =
       (y.run ≡ s) × ((i : ℕ) × (u : ℤ) × (converted c S after w.result u ≡ v) × (y.control ≡ record (control_at k i) { stack = u ∷ k.stack })
-      × HasCode c i (all_closed w.scopes ++ op 0 (ReturnOf w.result) ∷ []))
+      × HasCode c i (all_closed w.depth.scopes ++ op 0 (ReturnOf w.result) ∷ []))
 
   -- statements of a function of a result, where calls are at most n deep and at most n steps are left
   abbrev pub Executed : ℕ → Type 0
   Executed n = (result : Option IntType) (st : Stm) (i : ℕ) (w : Inside) (m : Machine S)
       → w.result ≡ native_if p.model result → HasCode c i (statement_code p i w st) → StandsAt i m → m.run.steps ≤ n
-      → Does c S after m (exec p meaning (calls n) result st m.run) (LeavesAs w m.control (i + size_of_statement w.inner w.scopes st))
+      → Does c S after m (exec p meaning (calls n) result st m.run) (LeavesAs w m.control (i + size_of_statement w.depth st))
 
   -- the same of a form, behind the statement's step and event
   abbrev pub FormExecuted : ℕ → Type 0
   FormExecuted n = (result : Option IntType) (at : Spot) (f : Form) (i : ℕ) (w : Inside) (m : Machine S)
       → w.result ≡ native_if p.model result → HasCode c i (form_code p i w at f) → StandsAt i m → m.run.steps ≤ n
-      → Does c S after m (form p meaning (calls n) result at f m.run) (LeavesAs w m.control (i + size_of_form w.inner w.scopes f))
+      → Does c S after m (form p meaning (calls n) result at f m.run) (LeavesAs w m.control (i + size_of_form w.depth f))

@@ -1,33 +1,33 @@
 use mir.Val.{SFits, to_z, of_z}
 use mir.Syntax.{w128}
 use Rattle.std.proofs.lemmas.Int.{to_z-of_z}
-use Rattle.std.proofs.Common.{rules, cond, ◌≡◌, ◌∙◌, refl, sym, ap, ap₂, subst, arith, None, Some, length, vec_len, IsTrue, ◌+◌, take, ◌<◌, ◌^◌, ◌-◌}
+use Rattle.std.proofs.Common.{rules, cond, ◌≡◌, ◌∙◌, refl, sym, ap, ap₂, subst, arith, None, Some, length, vec_len, IfOk, IsTrue, ◌+◌, ◌*◌, take, ◌<◌, ◌^◌, ◌-◌, false, get_or, map}
 use Rattle.c_core.specs.Operators.{type_for, op_of_step, is_prefix}
-use Rattle.c_core.specs.Tree.{Expr, Const, Var, Index, Unary, Cast, Step, Binary, Logic, Choose, Comma, Assign, Call, MoreExp, NoExp, Many, FirstNames, Return, Declare, Block, If, Label, OrElse, Form, While, DoWhile, For}
-use Rattle.c_core.specs.View.{expr_view, exprs_view, node_view, init_view, names_view, first_view, expr_view_if, form_view, stmt_view, stmts_view, function_view}
+use Rattle.c_core.specs.Tree.{Expr, Const, Var, Index, Unary, Cast, Step, Binary, Logic, Choose, Comma, Assign, Call, MoreExp, NoExp, Many, Rows, FirstNames, Return, Declare, Block, If, Label, OrElse, Form, While, DoWhile, For, Switch}
+use Rattle.c_core.specs.View.{expr_view, exprs_view, node_view, init_view, names_view, rows_view, first_view, expr_view_if, form_view, stmt_view, stmts_view, function_view, switch_view}
 use Rattle.c_core.specs.declared.number.IntType.TheVariants.{Int}
 use Rattle.c_core.specs.declared.tree.Callee.TheVariants.{Defined, Input, ReachError, Abort, Exit}
-use Rattle.c_core.proofs.View.{view_of_call, view_of_block}
+use Rattle.c_core.proofs.View.{view_of_index, view_of_call, view_of_block, view_of_switch}
 use Rattle.c_meaning.specs.Meaning.{Used, Unused, Loop, WhileLoop, DoLoop, ForLoop}
 use Rattle.c_meaning.specs.Objects.{type_of, type_or_int}
 use Rattle.sym_state.proofs.Nets.{unchanged, added_of, in_added, longer_by, state_grown}
 use Rattle.sym_exprs.specs.Evaluating.{use_of, weight_of, Ready, Values}
 use Rattle.sym_exprs.specs.Targeting.{weight_of_target, TargetReady}
-use Rattle.sym_exprs.proofs.Typed.{unary_parts, cast_parts, binary_parts, comma_parts, logic_parts, choose_parts, index_parts, assign_parts, step_parts, exit_counts}
+use Rattle.sym_exprs.proofs.Typed.{unary_parts, cast_parts, binary_parts, comma_parts, logic_parts, choose_parts, assign_parts, step_parts, exit_counts}
 use Rattle.sym_exprs.proofs.Forms.{first_ready, next_ready, wanted, unary_side, unary_step, binary_sides, binary_step, void_values, cast_side, cast_step, comma_values}
 use Rattle.sym_exprs.proofs.Choosing.{kept_in, where_ready, where_values, logic_first, logic_where, logic_second, logic_bits, logic_step, pick_first, pick_yes, pick_yes_value, pick_no, pick_no_value, pick_last, pick_step, void_no, void_step}
 use Rattle.sym_exprs.proofs.Assigning.{assign_target, step_target, assign_value, replace_sides, replace_step, update_sides, update_last, update_step, step_sides, step_last, step_step}
 use Rattle.sym_exprs.proofs.Calls.{input_values, reach_values, abort_values, exit_ready, exit_room, exit_values}
 use Rattle.sym_invariants.specs.Walking.{program_of, invariants_of}
-use Rattle.sym_eval.specs.Targets.{finding, finding_in, storing}
+use Rattle.sym_eval.specs.Targets.{finding, finding_in, storing, Found}
 use Rattle.sym_eval.proofs.Nodes.{as_node, as_call, logic_alike, one_argument, one_counted}
-use Rattle.sym_eval.proofs.Found.{spent_target, spent_look, object_type, replace_cost, update_cost, target_kept, keys_kept, kept_twice, kept_thrice, stored_before, index_ready, index_first, index_in, index_values, index_room, element_room, target_room, found_scalar, found_element}
+use Rattle.sym_eval.proofs.Found.{spent_target, spent_look, object_type, replace_cost, update_cost, target_kept, keys_kept, kept_twice, kept_thrice, stored_before, found_scalar, element_weighs, element_ready, element_type, element_room, element_values, index_ready, index_in, index_room, index_found, row_ready, column_ready, row_in, column_in, row_room, row_found}
 use Rattle.c_calls.specs.Loops.{is_loop, loop_of}
-use Rattle.sym_eval.proofs.Declaring.{stored_ready, stored_in, stored_room, store_in, store_room, stored_does, values_none, values_next, values_on, absent_room, absent_does, one_ready, one_does, many_ready, many_does, name_ready, name_does, names_none, names_next, names_on, no_first, first_exp_ready, first_exp_does, first_names_ready, first_names_do, values_part, names_part}
+use Rattle.sym_eval.proofs.Declaring.{stored_ready, stored_in, stored_room, store_in, store_room, stored_does, values_none, values_next, values_on, rows_none, rows_part, rows_next, rows_on, absent_room, absent_does, one_ready, one_does, many_ready, many_does, rows_ready, rows_do, name_ready, name_does, names_none, names_next, names_on, no_first, first_exp_ready, first_exp_does, first_names_ready, first_names_do, values_part, names_part}
 use Rattle.std.proofs.lemmas.List.{take_all}
-use Rattle.sym_eval.specs.Doing.{InitialsDo, InitialReady, InitialDoes, NamesDo, FirstReady, FirstDoes, FormReady, FormDoes, weight_of_form, weight_of_else, ElseReady, ElseDoes, BlockDoes, weight_of_initial, weight_of_first}
+use Rattle.sym_eval.specs.Doing.{weight_of_initials, InitialsReady, InitialsDo, RowsDo, InitialReady, InitialDoes, NamesDo, FirstReady, FirstDoes, FormReady, FormDoes, weight_of_form, weight_of_else, ElseReady, ElseDoes, BlockDoes, weight_of_initial, weight_of_first, weight_of_block}
 use Rattle.sym_eval.proofs.Blocks.{only_ready, only_does, value_ready, value_in, value_room, give_room, give_type, give_does, no_value, form_room, return_does, view_of_if, test_room, form_ready, statement_does, empty_does, break_does, continue_does, names_ready, names_do, label_ready, label_does, scope_does, block_ready, block_does, block_none, block_part, block_next, block_more, else_ready, else_does, no_else, choice_ready, first_room, yes_ready, second_room, still_in, no_ready, last_room, last_in}
-use Rattle.circuits.specs.Net.{IsIn, opposite}
+use Rattle.circuits.specs.Net.{IsIn, opposite, holds}
 use Rattle.sym_weight.specs.Views.{else_of}
 use Rattle.sym_eval.proofs.Choices.{choose_runs}
 use Rattle.sym_eval.specs.Control.{weight_of_test, weight_of_step, TestIfReady, TestIfDoes, StepReady, StepDoes}
@@ -39,6 +39,14 @@ use Rattle.sym_eval.specs.Calling.{AllValues, Sets, set_cost, CallReady, Called}
 use Rattle.sym_eval.proofs.Arguments.{argument_ready, first_values, next_values, argument_weight}
 use Rattle.sym_eval.proofs.Running.{entered_arguments, entered_room, body_ready, back_around, back_room, function_run}
 use Rattle.sym_eval.proofs.Reached.{ended_called, found_ready, found_called, arguments_ready, call_ready, call_values, found_weight}
+use Rattle.c_core.specs.Types.{promote_of}
+use Rattle.c_core.specs.Typing.{label_fits, labels_in}
+use Rattle.c_core.proofs.Promoted.{IsPromoted-promote_of}
+use Rattle.circuits.specs.Numbers.{typed, AreIn}
+use Rattle.sym_choices.specs.Cases.{AreCases, cases_cost}
+use Rattle.sym_eval.specs.Switching.{ArmsDo, ArmReady, ArmDoes, ArmsReady}
+use Rattle.std.specs.List.{list_all}
+use Rattle.sym_eval.proofs.Switchable.{labels_many, chosen_by_ready, chosen_by_in, chosen_by_room, promoted_as, cases_room, entries_room, cases_many, chosen_chooses, arm_room, arm_starts, arm_still, arm_room_again, arm_last_in, arm_last_room, arm_does, arms_none, arms_part, arms_next, arms_on, switch_chooses, arms_start, switch_kept_in, switch_room, switch_does}
 use Rattle.sym_eval.proofs.+walk.Goals as goal
 
 pub expressions::eval-constant-requires-clause-ready : goal.expressions::eval-constant-requires-clause-ready
@@ -68,26 +76,26 @@ expressions::eval-returns-in-Var t c =
 
 pub expressions::eval-element-requires : goal.expressions::eval-element-requires
 expressions::eval-element-requires t c =
-    let form = Index c.in-Index.object (expr_view c.deref.result.now) in
-    let e : node_view c.args.e.now.node ≡ form = rw (c.in-Index.is, c.deref.ensures) refl in
+    let form = Index c.in-Index.object (exprs_view c.as_slice.result.now) in
+    let e : node_view c.args.e.now.node ≡ form = ap node_view c.in-Index.is ∙ view_of_index c.in-Index.object c.in-Index.indexes ∙ ap (λ es. Index c.in-Index.object (exprs_view es)) (sym c.as_slice.ensures) in
     (omega (arith, c.decreases, ap (λ k. weight_of (program_of c.args.walk.now) (invariants_of c.args.walk.now) c.args.depth (Expr c.args.e.now.spot c.args.e.now.ty k)) e), (c.requires.walk, subst (λ k. Ready (program_of c.args.walk.now) (invariants_of c.args.walk.now) c.args.depth c.args.at c.args.sym.now (Expr c.args.e.now.spot c.args.e.now.ty k)) e c.requires.ready))
 
 pub expressions::eval-returns-in-Index : goal.expressions::eval-returns-in-Index
 expressions::eval-returns-in-Index t c =
-    let form = Index c.in-Index.object (expr_view c.deref.result.now) in
-    let e : node_view c.args.e.now.node ≡ form = rw (c.in-Index.is, c.deref.ensures) refl in
+    let form = Index c.in-Index.object (exprs_view c.as_slice.result.now) in
+    let e : node_view c.args.e.now.node ≡ form = ap node_view c.in-Index.is ∙ view_of_index c.in-Index.object c.in-Index.indexes ∙ ap (λ es. Index c.in-Index.object (exprs_view es)) (sym c.as_slice.ensures) in
     as_node (program_of c.args.walk.now) (invariants_of c.args.walk.now) c.args.depth c.args.at c.args.sym.now c.element.new.sym (use_of c.args.used) c.args.e.now.spot c.args.e.now.ty (node_view c.args.e.now.node) form c.element.result e (λ v l. refl) c.element.ensures
 
 pub expressions::eval-unary-requires : goal.expressions::eval-unary-requires
 expressions::eval-unary-requires t c =
-    let form = Unary c.in-Unary.op (expr_view c.deref-in-Unary.result.now) in
-    let e : node_view c.args.e.now.node ≡ form = rw (c.in-Unary.is, c.deref-in-Unary.ensures) refl in
+    let form = Unary c.in-Unary.op (expr_view c.deref.result.now) in
+    let e : node_view c.args.e.now.node ≡ form = rw (c.in-Unary.is, c.deref.ensures) refl in
     (omega (arith, c.decreases, ap (λ k. weight_of (program_of c.args.walk.now) (invariants_of c.args.walk.now) c.args.depth (Expr c.args.e.now.spot c.args.e.now.ty k)) e), (c.requires.walk, subst (λ k. Ready (program_of c.args.walk.now) (invariants_of c.args.walk.now) c.args.depth c.args.at c.args.sym.now (Expr c.args.e.now.spot c.args.e.now.ty k)) e c.requires.ready))
 
 pub expressions::eval-returns-in-Unary : goal.expressions::eval-returns-in-Unary
 expressions::eval-returns-in-Unary t c =
-    let form = Unary c.in-Unary.op (expr_view c.deref-in-Unary.result.now) in
-    let e : node_view c.args.e.now.node ≡ form = rw (c.in-Unary.is, c.deref-in-Unary.ensures) refl in
+    let form = Unary c.in-Unary.op (expr_view c.deref.result.now) in
+    let e : node_view c.args.e.now.node ≡ form = rw (c.in-Unary.is, c.deref.ensures) refl in
     as_node (program_of c.args.walk.now) (invariants_of c.args.walk.now) c.args.depth c.args.at c.args.sym.now c.unary.new.sym (use_of c.args.used) c.args.e.now.spot c.args.e.now.ty (node_view c.args.e.now.node) form c.unary.result e (λ v l. refl) c.unary.ensures
 
 pub expressions::eval-cast-requires : goal.expressions::eval-cast-requires
@@ -176,41 +184,33 @@ expressions::eval-returns-in-Assign t c =
 
 pub expressions::eval-call-requires : goal.expressions::eval-call-requires
 expressions::eval-call-requires t c =
-    let form = Call c.in-Call.callee (exprs_view c.as_slice.result.now) c.in-Call.close in
+    let form = Call c.in-Call.callee (exprs_view c.as_slice-in-Call.result.now) c.in-Call.close in
     let v = ap node_view c.in-Call.is ∙ view_of_call c.in-Call.callee c.in-Call.args c.in-Call.close in
-    let e : node_view c.args.e.now.node ≡ form = v ∙ ap (λ es. Call c.in-Call.callee (exprs_view es) c.in-Call.close) (sym c.as_slice.ensures) in
+    let e : node_view c.args.e.now.node ≡ form = v ∙ ap (λ es. Call c.in-Call.callee (exprs_view es) c.in-Call.close) (sym c.as_slice-in-Call.ensures) in
     (omega (arith, c.decreases, ap (λ k. weight_of (program_of c.args.walk.now) (invariants_of c.args.walk.now) c.args.depth (Expr c.args.e.now.spot c.args.e.now.ty k)) e), (c.requires.walk, subst (λ k. Ready (program_of c.args.walk.now) (invariants_of c.args.walk.now) c.args.depth c.args.at c.args.sym.now (Expr c.args.e.now.spot c.args.e.now.ty k)) e c.requires.ready))
 
 pub expressions::eval-returns-in-Call : goal.expressions::eval-returns-in-Call
 expressions::eval-returns-in-Call t c =
-    let form = Call c.in-Call.callee (exprs_view c.as_slice.result.now) c.in-Call.close in
+    let form = Call c.in-Call.callee (exprs_view c.as_slice-in-Call.result.now) c.in-Call.close in
     let v = ap node_view c.in-Call.is ∙ view_of_call c.in-Call.callee c.in-Call.args c.in-Call.close in
-    let e : node_view c.args.e.now.node ≡ form = v ∙ ap (λ es. Call c.in-Call.callee (exprs_view es) c.in-Call.close) (sym c.as_slice.ensures) in
+    let e : node_view c.args.e.now.node ≡ form = v ∙ ap (λ es. Call c.in-Call.callee (exprs_view es) c.in-Call.close) (sym c.as_slice-in-Call.ensures) in
     as_call (program_of c.args.walk.now) (invariants_of c.args.walk.now) c.args.depth c.args.at c.args.sym.now c.call.new.sym (use_of c.args.used) c.args.e.now.spot c.args.e.now.ty (node_view c.args.e.now.node) form c.call.result e c.call.ensures
 
-pub expressions::element-eval-requires : goal.expressions::element-eval-requires
-expressions::element-eval-requires t c =
-    (omega (arith, c.decreases), (c.requires.walk, index_ready (program_of c.args.walk.now) (invariants_of c.args.walk.now) c.args.depth c.args.at c.args.e.now.spot c.args.e.now.ty c.args.object (expr_view c.args.index.now) c.requires.ready))
+pub expressions::element-indexed-requires : goal.expressions::element-indexed-requires
+expressions::element-indexed-requires t c =
+    (omega (arith, c.decreases, element_weighs (program_of c.args.walk.now) c.args.object (exprs_view c.args.indexes.now)), (c.requires.walk, element_ready (program_of c.args.walk.now) (invariants_of c.args.walk.now) c.args.depth c.args.at c.args.e.now.spot c.args.e.now.ty c.args.object (exprs_view c.args.indexes.now) c.requires.ready))
 
-pub expressions::element-find-requires-clause-index_in : goal.expressions::element-find-requires-clause-index_in
-expressions::element-find-requires-clause-index_in t c =
-    index_in (program_of c.args.walk.now) (invariants_of c.args.walk.now) c.args.depth c.args.at c.args.e.now.spot c.args.e.now.ty c.args.object (expr_view c.args.index.now) c.type_of.result c.type_of.ensures c.requires.ready.types c.in_ok-i.ensures
+pub expressions::element-look_target-requires-clause-typed : goal.expressions::element-look_target-requires-clause-typed
+expressions::element-look_target-requires-clause-typed t c =
+    element_type (program_of c.args.walk.now) (invariants_of c.args.walk.now) c.args.depth c.args.at c.args.e.now.spot c.args.e.now.ty c.args.object (exprs_view c.args.indexes.now) c.type_of.result c.in_ok-cell.cell c.type_of.ensures c.requires.ready.types c.in_ok-cell.ensures.meant
 
-pub expressions::element-find-requires-clause-room : goal.expressions::element-find-requires-clause-room
-expressions::element-find-requires-clause-room t c =
-    index_room (program_of c.args.walk.now) (invariants_of c.args.walk.now) c.args.depth c.args.at c.args.e.now.spot c.args.e.now.ty c.args.object (expr_view c.args.index.now) c.type_of.result c.type_of.ensures c.requires.ready c.in_ok-i.ensures
-
-pub expressions::element-read_element-requires-clause-typed : goal.expressions::element-read_element-requires-clause-typed
-expressions::element-read_element-requires-clause-typed t c =
-    c.type_of-2.ensures ∙ ap type_or_int (sym (index_parts (program_of c.args.walk.now) c.args.e.now.spot c.args.e.now.ty c.args.object (expr_view c.args.index.now) c.requires.ready.types).0)
-
-pub expressions::element-read_element-requires-clause-room : goal.expressions::element-read_element-requires-clause-room
-expressions::element-read_element-requires-clause-room t c =
-    element_room (program_of c.args.walk.now) (invariants_of c.args.walk.now) c.args.depth c.args.at c.args.e.now.spot c.args.e.now.ty c.args.object (expr_view c.args.index.now) c.type_of.result c.requires.ready c.in_ok-i.ensures (c.in_ok-places.ensures (invariants_of c.args.walk.now))
+pub expressions::element-look_target-requires-clause-room : goal.expressions::element-look_target-requires-clause-room
+expressions::element-look_target-requires-clause-room t c =
+    element_room (program_of c.args.walk.now) (invariants_of c.args.walk.now) c.args.depth c.args.at c.args.e.now.spot c.args.e.now.ty c.args.object (exprs_view c.args.indexes.now) c.requires.ready c.in_ok-cell.ensures
 
 pub expressions::element-returns : goal.expressions::element-returns
 expressions::element-returns t c =
-    index_values (program_of c.args.walk.now) (invariants_of c.args.walk.now) c.args.depth c.args.at c.args.e.now.spot c.args.e.now.ty c.args.object (expr_view c.args.index.now) c.type_of-2.result c.type_of.result c.type_of-2.ensures c.type_of.ensures c.requires.ready c.in_ok-i.ensures (c.in_ok-places.ensures (invariants_of c.args.walk.now)) (c.in_ok-r.ensures (invariants_of c.args.walk.now))
+    element_values (program_of c.args.walk.now) (invariants_of c.args.walk.now) c.args.depth c.args.at c.args.e.now.spot c.args.e.now.ty c.args.object (exprs_view c.args.indexes.now) c.type_of.result c.type_of.ensures c.requires.ready c.in_ok-cell.ensures (c.in_ok-r.ensures (invariants_of c.args.walk.now))
 
 pub expressions::unary-eval-requires : goal.expressions::unary-eval-requires
 expressions::unary-eval-requires t c =
@@ -532,32 +532,62 @@ expressions::exit-returns t c =
     let ready = subst (λ k. Ready (program_of c.args.walk.now) (invariants_of c.args.walk.now) c.args.depth c.args.at c.args.sym.now (Expr c.args.e.now.spot c.args.e.now.ty (Call Exit k c.args.close))) one c.requires.ready in
     subst (λ k. Values (program_of c.args.walk.now) (invariants_of c.args.walk.now) c.args.depth c.args.at Used (Expr c.args.e.now.spot c.args.e.now.ty (Call Exit k c.args.close)) c.args.sym.now c.end.new.sym c.in_ok-r.r.bits) (sym one) (exit_values (program_of c.args.walk.now) (invariants_of c.args.walk.now) c.args.depth c.args.at c.in_ok-r.r.bits c.args.e.now.spot c.args.close c.args.e.now.ty (expr_view c.index-args-0.result) ready c.in_ok-r.ensures (c.in_ok-end.ensures (invariants_of c.args.walk.now)))
 
-pub assignments::target-eval-requires : goal.assignments::target-eval-requires
-assignments::target-eval-requires t c =
-    let e : node_view c.args.e.now.node ≡ Index c.in-Index.object (expr_view c.deref.result.now) = rw (c.in-Index.is, c.deref.ensures) refl in
+pub assignments::target-indexed-requires : goal.assignments::target-indexed-requires
+assignments::target-indexed-requires t c =
+    let form = Index c.in-Index.object (exprs_view c.as_slice.result.now) in
+    let e : node_view c.args.e.now.node ≡ form = ap node_view c.in-Index.is ∙ view_of_index c.in-Index.object c.in-Index.indexes ∙ ap (λ es. Index c.in-Index.object (exprs_view es)) (sym c.as_slice.ensures) in
     let ready = subst (λ k. TargetReady (program_of c.args.walk.now) (invariants_of c.args.walk.now) c.args.depth c.args.at (finding_in (program_of c.args.walk.now) k) c.args.sym.now (Expr c.args.e.now.spot c.args.e.now.ty k)) e c.requires.ready in
-    (omega (arith, c.decreases, ap (λ k. weight_of_target (program_of c.args.walk.now) (invariants_of c.args.walk.now) c.args.depth (Expr c.args.e.now.spot c.args.e.now.ty k)) e), (c.requires.walk, index_first (program_of c.args.walk.now) (invariants_of c.args.walk.now) c.args.depth c.args.at c.args.e.now.spot c.args.e.now.ty c.in-Index.object (expr_view c.deref.result.now) ready))
-
-pub assignments::target-find-requires-clause-index_in : goal.assignments::target-find-requires-clause-index_in
-assignments::target-find-requires-clause-index_in t c =
-    let e : node_view c.args.e.now.node ≡ Index c.in-Index.object (expr_view c.deref.result.now) = rw (c.in-Index.is, c.deref.ensures) refl in
-    let ready = subst (λ k. TargetReady (program_of c.args.walk.now) (invariants_of c.args.walk.now) c.args.depth c.args.at (finding_in (program_of c.args.walk.now) k) c.args.sym.now (Expr c.args.e.now.spot c.args.e.now.ty k)) e c.requires.ready in
-    index_in (program_of c.args.walk.now) (invariants_of c.args.walk.now) c.args.depth c.args.at c.args.e.now.spot c.args.e.now.ty c.in-Index.object (expr_view c.deref.result.now) c.type_of.result (c.type_of.ensures ∙ ap (λ x. type_of (expr_view x)) (c.deref-in-Index.ensures ∙ sym c.deref.ensures)) ready.types c.in_ok-i-in-Index.ensures
-
-pub assignments::target-find-requires-clause-room : goal.assignments::target-find-requires-clause-room
-assignments::target-find-requires-clause-room t c =
-    let e : node_view c.args.e.now.node ≡ Index c.in-Index.object (expr_view c.deref.result.now) = rw (c.in-Index.is, c.deref.ensures) refl in
-    let ready = subst (λ k. TargetReady (program_of c.args.walk.now) (invariants_of c.args.walk.now) c.args.depth c.args.at (finding_in (program_of c.args.walk.now) k) c.args.sym.now (Expr c.args.e.now.spot c.args.e.now.ty k)) e c.requires.ready in
-    target_room (program_of c.args.walk.now) (invariants_of c.args.walk.now) c.args.depth c.args.at c.args.e.now.spot c.args.e.now.ty c.in-Index.object (expr_view c.deref.result.now) c.type_of.result (c.type_of.ensures ∙ ap (λ x. type_of (expr_view x)) (c.deref-in-Index.ensures ∙ sym c.deref.ensures)) ready c.in_ok-i-in-Index.ensures
+    (omega (arith, c.decreases, ap (λ k. weight_of_target (program_of c.args.walk.now) (invariants_of c.args.walk.now) c.args.depth (Expr c.args.e.now.spot c.args.e.now.ty k)) e), (c.requires.walk, ready))
 
 pub assignments::target-returns-in-Var : goal.assignments::target-returns-in-Var
 assignments::target-returns-in-Var t c =
     found_scalar (program_of c.args.walk.now) (invariants_of c.args.walk.now) c.args.depth c.args.at c.args.sym.now c.args.e.now.spot c.args.e.now.ty (node_view c.args.e.now.node) c.in-Var.object (ap node_view c.in-Var.is) c.requires.ready.fits
 
-pub assignments::target-returns-in_ok-places-in-Index : goal.assignments::target-returns-in_ok-places-in-Index
-assignments::target-returns-in_ok-places-in-Index t c =
-    let e : node_view c.args.e.now.node ≡ Index c.in-Index.object (expr_view c.deref.result.now) = rw (c.in-Index.is, c.deref.ensures) refl in
-    found_element (program_of c.args.walk.now) (invariants_of c.args.walk.now) c.args.depth c.args.at c.args.e.now.spot c.args.e.now.ty (node_view c.args.e.now.node) c.in-Index.object (expr_view c.deref.result.now) c.type_of.result c.in_ok-places-in-Index.places e (c.type_of.ensures ∙ ap (λ x. type_of (expr_view x)) (c.deref-in-Index.ensures ∙ sym c.deref.ensures)) c.requires.ready.types c.in_ok-i-in-Index.ensures (c.in_ok-places-in-Index.ensures (invariants_of c.args.walk.now))
+pub assignments::target-returns-in-Index : goal.assignments::target-returns-in-Index
+assignments::target-returns-in-Index t c =
+    let form = Index c.in-Index.object (exprs_view c.as_slice.result.now) in
+    let e : node_view c.args.e.now.node ≡ form = ap node_view c.in-Index.is ∙ view_of_index c.in-Index.object c.in-Index.indexes ∙ ap (λ es. Index c.in-Index.object (exprs_view es)) (sym c.as_slice.ensures) in
+    subst (λ k. IfOk c.indexed.result (λ cell. Found (program_of c.args.walk.now) (invariants_of c.args.walk.now) c.args.depth c.args.at (Expr c.args.e.now.spot c.args.e.now.ty k) c.args.sym.now c.indexed.new.sym cell)) (sym e) c.indexed.ensures
+
+pub assignments::at_index-eval-requires : goal.assignments::at_index-eval-requires
+assignments::at_index-eval-requires t c =
+    (omega (arith, c.decreases), (c.requires.walk, index_ready (program_of c.args.walk.now) (invariants_of c.args.walk.now) c.args.depth c.args.at c.args.e.now.spot c.args.e.now.ty c.args.object (expr_view c.args.index.now) c.requires.ready))
+
+pub assignments::at_index-find-requires-clause-index_in : goal.assignments::at_index-find-requires-clause-index_in
+assignments::at_index-find-requires-clause-index_in t c =
+    index_in (program_of c.args.walk.now) (invariants_of c.args.walk.now) c.args.depth c.args.at c.args.e.now.spot c.args.e.now.ty c.args.object (expr_view c.args.index.now) c.type_of.result c.type_of.ensures c.requires.ready.types c.in_ok-i.ensures
+
+pub assignments::at_index-find-requires-clause-room : goal.assignments::at_index-find-requires-clause-room
+assignments::at_index-find-requires-clause-room t c =
+    index_room (program_of c.args.walk.now) (invariants_of c.args.walk.now) c.args.depth c.args.at c.args.e.now.spot c.args.e.now.ty c.args.object (expr_view c.args.index.now) c.type_of.result c.type_of.ensures c.requires.ready c.in_ok-i.ensures
+
+pub assignments::at_index-returns : goal.assignments::at_index-returns
+assignments::at_index-returns t c =
+    index_found (program_of c.args.walk.now) (invariants_of c.args.walk.now) c.args.depth c.args.at c.args.e.now.spot c.args.e.now.ty c.args.object (expr_view c.args.index.now) c.type_of.result c.in_ok-places.places c.type_of.ensures c.requires.ready.types c.in_ok-i.ensures (c.in_ok-places.ensures (invariants_of c.args.walk.now))
+
+pub assignments::at_row-eval-requires : goal.assignments::at_row-eval-requires
+assignments::at_row-eval-requires t c =
+    (omega (arith, c.decreases), (c.requires.walk, row_ready (program_of c.args.walk.now) (invariants_of c.args.walk.now) c.args.depth c.args.at c.args.e.now.spot c.args.e.now.ty c.args.object (expr_view c.args.row.now) (expr_view c.args.column.now) c.requires.ready))
+
+pub assignments::at_row-eval-requires-2 : goal.assignments::at_row-eval-requires-2
+assignments::at_row-eval-requires-2 t c =
+    (omega (arith, c.decreases), (c.requires.walk, column_ready (program_of c.args.walk.now) (invariants_of c.args.walk.now) c.args.depth c.args.at c.args.e.now.spot c.args.e.now.ty c.args.object (expr_view c.args.row.now) (expr_view c.args.column.now) c.requires.ready c.in_ok-i.ensures))
+
+pub assignments::at_row-find_in_row-requires-clause-row_in : goal.assignments::at_row-find_in_row-requires-clause-row_in
+assignments::at_row-find_in_row-requires-clause-row_in t c =
+    row_in (program_of c.args.walk.now) (invariants_of c.args.walk.now) c.args.depth c.args.at c.args.e.now.spot c.args.e.now.ty c.args.object (expr_view c.args.row.now) (expr_view c.args.column.now) c.type_of-a.result c.type_of-a.ensures c.requires.ready.types c.in_ok-i.ensures c.in_ok-j.ensures
+
+pub assignments::at_row-find_in_row-requires-clause-column_in : goal.assignments::at_row-find_in_row-requires-clause-column_in
+assignments::at_row-find_in_row-requires-clause-column_in t c =
+    column_in (program_of c.args.walk.now) (invariants_of c.args.walk.now) c.args.depth c.args.at c.args.e.now.spot c.args.e.now.ty c.args.object (expr_view c.args.row.now) (expr_view c.args.column.now) c.type_of-b.result c.type_of-b.ensures c.requires.ready.types c.in_ok-j.ensures
+
+pub assignments::at_row-find_in_row-requires-clause-room : goal.assignments::at_row-find_in_row-requires-clause-room
+assignments::at_row-find_in_row-requires-clause-room t c =
+    row_room (program_of c.args.walk.now) (invariants_of c.args.walk.now) c.args.depth c.args.at c.args.e.now.spot c.args.e.now.ty c.args.object (expr_view c.args.row.now) (expr_view c.args.column.now) c.type_of-a.result c.type_of-b.result c.type_of-a.ensures c.type_of-b.ensures c.requires.ready c.in_ok-i.ensures c.in_ok-j.ensures
+
+pub assignments::at_row-returns : goal.assignments::at_row-returns
+assignments::at_row-returns t c =
+    row_found (program_of c.args.walk.now) (invariants_of c.args.walk.now) c.args.depth c.args.at c.args.e.now.spot c.args.e.now.ty c.args.object (expr_view c.args.row.now) (expr_view c.args.column.now) c.type_of-a.result c.type_of-b.result c.in_ok-places.places c.type_of-a.ensures c.type_of-b.ensures c.requires.ready.types c.in_ok-i.ensures c.in_ok-j.ensures (c.in_ok-places.ensures (invariants_of c.args.walk.now))
 
 pub assignments::assign-replace-requires : goal.assignments::assign-replace-requires
 assignments::assign-replace-requires t c =
@@ -791,20 +821,38 @@ declarations::initial_value-returns t c =
 
 pub declarations::initial_values-loop-index-init : goal.declarations::initial_values-loop-index-init
 declarations::initial_values-loop-index-init t c =
-    values_none (program_of c.args.walk.now) (invariants_of c.args.walk.now) c.args.depth c.args.at c.args.object c.args.sym.now c.requires.ready.fits
+    values_none (program_of c.args.walk.now) (invariants_of c.args.walk.now) c.args.depth c.args.at c.args.object c.args.first c.args.sym.now c.requires.ready.fits
 
 pub declarations::initial_values-initial_value-requires : goal.declarations::initial_values-initial_value-requires
 declarations::initial_values-initial_value-requires t c =
-    (omega (arith, c.decreases, values_part (program_of c.args.walk.now) (invariants_of c.args.walk.now) c.args.depth c.args.at c.args.object c.args.es.now c.loop-index.index c.index-es-index.result c.loop-index-test.true c.index-es-index.is), (c.requires.walk, values_next (program_of c.args.walk.now) (invariants_of c.args.walk.now) c.args.depth c.args.at c.args.object c.args.es.now c.loop-index.index c.index-es-index.result c.loop-index-test.true c.index-es-index.is c.requires.ready c.loop-index.invariant))
+    (omega (arith, c.decreases, values_part (program_of c.args.walk.now) (invariants_of c.args.walk.now) c.args.depth c.args.at c.args.object c.args.first c.args.es.now c.loop-index.index c.index-es-index.result c.loop-index-test.true c.index-es-index.is), (c.requires.walk, values_next (program_of c.args.walk.now) (invariants_of c.args.walk.now) c.args.depth c.args.at c.args.object c.args.first c.args.es.now c.loop-index.index c.index-es-index.result c.loop-index-test.true c.index-es-index.is c.requires.ready c.loop-index.invariant))
 
 pub declarations::initial_values-loop-index-preserved : goal.declarations::initial_values-loop-index-preserved
 declarations::initial_values-loop-index-preserved t c =
-    values_on (program_of c.args.walk.now) (invariants_of c.args.walk.now) c.args.depth c.args.at c.args.object c.args.es.now c.loop-index.index c.index-es-index.result c.loop-index-test.true c.index-es-index.is c.loop-index.invariant c.in_ok-initial_value.ensures
+    values_on (program_of c.args.walk.now) (invariants_of c.args.walk.now) c.args.depth c.args.at c.args.object c.args.first c.args.es.now c.loop-index.index c.index-es-index.result c.loop-index-test.true c.index-es-index.is c.loop-index.invariant c.in_ok-initial_value.ensures
 
 pub declarations::initial_values-returns : goal.declarations::initial_values-returns
 declarations::initial_values-returns t c =
-    subst (λ z. InitialsDo (program_of c.args.walk.now) (invariants_of c.args.walk.now) c.args.depth c.args.at c.args.object 0 (exprs_view z) c.args.sym.now c.loop-index.sym)
+    subst (λ z. InitialsDo (program_of c.args.walk.now) (invariants_of c.args.walk.now) c.args.depth c.args.at c.args.object c.args.first (exprs_view z) c.args.sym.now c.loop-index.sym)
     (take_all c.loop-index.index c.args.es.now (omega (arith, c.loop-index-test.false))) c.loop-index.invariant
+
+pub declarations::initial_rows-loop-index-init : goal.declarations::initial_rows-loop-index-init
+declarations::initial_rows-loop-index-init t c =
+    rows_none (program_of c.args.walk.now) (invariants_of c.args.walk.now) c.args.depth c.args.at c.args.object c.args.sym.now c.requires.ready.fits
+
+pub declarations::initial_rows-initial_values-requires : goal.declarations::initial_rows-initial_values-requires
+declarations::initial_rows-initial_values-requires t c =
+    (omega (arith, c.decreases, rows_part (program_of c.args.walk.now) (invariants_of c.args.walk.now) c.args.depth c.args.at c.args.object c.args.rows.now c.loop-index.index c.index-rows-index.result c.loop-index-test.true c.index-rows-index.is, ap (λ es. weight_of_initials (program_of c.args.walk.now) (invariants_of c.args.walk.now) c.args.depth c.args.object (exprs_view es)) c.as_slice.ensures), (c.requires.walk, subst (λ es. InitialsReady (program_of c.args.walk.now) (invariants_of c.args.walk.now) c.args.depth c.args.object c.loop-index.sym (exprs_view es)) (sym c.as_slice.ensures) (rows_next (program_of c.args.walk.now) (invariants_of c.args.walk.now) c.args.depth c.args.at c.args.object c.args.rows.now c.loop-index.index c.index-rows-index.result c.loop-index-test.true c.index-rows-index.is c.requires.ready c.loop-index.invariant)))
+
+pub declarations::initial_rows-loop-index-preserved : goal.declarations::initial_rows-loop-index-preserved
+declarations::initial_rows-loop-index-preserved t c =
+    rows_on (program_of c.args.walk.now) (invariants_of c.args.walk.now) c.args.depth c.args.at c.args.object c.args.rows.now c.loop-index.index c.index-rows-index.result c.loop-index-test.true c.index-rows-index.is c.in_ok-first.first (c.in_ok-first.ensures ∙ ap (λ k. c.loop-index.index * k) c.columns_of_object-columns.ensures) c.loop-index.invariant
+    (subst (λ es. InitialsDo (program_of c.args.walk.now) (invariants_of c.args.walk.now) c.args.depth c.args.at c.args.object c.in_ok-first.first (exprs_view es) c.loop-index.sym c.initial_values.new.sym) c.as_slice.ensures c.in_ok-initial_values.ensures)
+
+pub declarations::initial_rows-returns : goal.declarations::initial_rows-returns
+declarations::initial_rows-returns t c =
+    subst (λ z. RowsDo (program_of c.args.walk.now) (invariants_of c.args.walk.now) c.args.depth c.args.at c.args.object (rows_view z) c.args.sym.now c.loop-index.sym)
+    (take_all c.loop-index.index c.args.rows.now (omega (arith, c.loop-index-test.false))) c.loop-index.invariant
 
 pub declarations::initial-draw_cells-requires-clause-fits : goal.declarations::initial-draw_cells-requires-clause-fits
 declarations::initial-draw_cells-requires-clause-fits t c =
@@ -856,6 +904,27 @@ declarations::initial-returns-in_ok-initial_values-in-Many t c =
     subst (λ i. InitialDoes p I c.args.depth c.args.at c.args.spot c.args.object (init_view i) c.args.sym.now c.initial_values.new.sym) (sym c.in-Many.is)
     (subst (λ es. InitialDoes p I c.args.depth c.args.at c.args.spot c.args.object (Many (exprs_view es)) c.args.sym.now c.initial_values.new.sym) c.as_slice.ensures
     (many_does p I c.args.depth c.args.at c.args.spot c.args.object (exprs_view c.as_slice.result.now) c.in_ok-initial_values-in-Many.ensures))
+
+pub declarations::initial-initial_rows-requires : goal.declarations::initial-initial_rows-requires
+declarations::initial-initial_rows-requires t c =
+    let p = program_of c.args.walk.now in
+    let I = invariants_of c.args.walk.now in (
+      omega (arith, c.decreases, ap (λ i. weight_of_initial (program_of c.args.walk.now) (invariants_of c.args.walk.now) c.args.depth c.args.object (init_view i)) c.in-Rows.is, ap (λ rows. weight_of_initial (program_of c.args.walk.now) (invariants_of c.args.walk.now) c.args.depth c.args.object (Rows (rows_view rows))) c.as_slice-in-Rows.ensures),
+      (
+        c.requires.walk,
+        rows_ready p I c.args.depth c.args.object (rows_view c.as_slice-in-Rows.result.now)
+            (subst (λ rows. InitialReady p I c.args.depth c.args.object c.args.sym.now (Rows (rows_view rows))) (sym c.as_slice-in-Rows.ensures)
+            (subst (λ i. InitialReady p I c.args.depth c.args.object c.args.sym.now (init_view i)) c.in-Rows.is c.requires.ready)),
+      ),
+    )
+
+pub declarations::initial-returns-in_ok-initial_rows-in-Rows : goal.declarations::initial-returns-in_ok-initial_rows-in-Rows
+declarations::initial-returns-in_ok-initial_rows-in-Rows t c =
+    let p = program_of c.args.walk.now in
+    let I = invariants_of c.args.walk.now in
+    subst (λ i. InitialDoes p I c.args.depth c.args.at c.args.spot c.args.object (init_view i) c.args.sym.now c.initial_rows.new.sym) (sym c.in-Rows.is)
+    (subst (λ rows. InitialDoes p I c.args.depth c.args.at c.args.spot c.args.object (Rows (rows_view rows)) c.args.sym.now c.initial_rows.new.sym) c.as_slice-in-Rows.ensures
+    (rows_do p I c.args.depth c.args.at c.args.spot c.args.object (rows_view c.as_slice-in-Rows.result.now) c.in_ok-initial_rows-in-Rows.ensures))
 
 pub declarations::introduce-initial-requires : goal.declarations::introduce-initial-requires
 declarations::introduce-initial-requires t c =
@@ -1885,3 +1954,200 @@ calls::call_defined-returns t c =
     let w = c.args.walk.now in
     call_values (program_of w) (invariants_of w) c.args.depth c.args.at (use_of c.args.used) c.args.spot c.args.close c.args.ty c.args.function (exprs_view c.args.args.now) c.requires.ready c.is_needed-needed.result c.is_needed-needed.ensures c.in_ok-arguments.ensures
     (subst (λ z. Called (program_of w) (invariants_of w) c.args.depth c.args.function c.is_needed-needed.result c.args.ty z c.evals.new.sym c.call_found.new.sym c.in_ok-bits.bits.bits) c.as_slice.ensures.value c.in_ok-bits.ensures)
+
+-- ---- `switch`
+pub switches::chosen-full-requires : goal.switches::chosen-full-requires
+switches::chosen-full-requires t c =
+    (omega (arith, c.decreases), (c.requires.walk, chosen_by_ready (program_of c.args.walk.now) (invariants_of c.args.walk.now) c.args.depth c.args.at (expr_view c.args.test.now) (labels_in (switch_view c.args.arms.now)) c.requires.ready))
+
+pub switches::chosen-convert-requires-clause-fits : goal.switches::chosen-convert-requires-clause-fits
+switches::chosen-convert-requires-clause-fits t c = c.in_ok-x.ensures.follows.fits
+
+pub switches::chosen-convert-requires-clause-x_in : goal.switches::chosen-convert-requires-clause-x_in
+switches::chosen-convert-requires-clause-x_in t c =
+    chosen_by_in (program_of c.args.walk.now) (invariants_of c.args.walk.now) c.args.depth c.args.at (expr_view c.args.test.now) (labels_in (switch_view c.args.arms.now)) c.requires.ready c.in_ok-x.ensures c.type_of-from.result c.type_of-from.ensures
+
+pub switches::chosen-convert-requires-clause-room : goal.switches::chosen-convert-requires-clause-room
+switches::chosen-convert-requires-clause-room t c =
+    chosen_by_room (program_of c.args.walk.now) (invariants_of c.args.walk.now) c.args.depth c.args.at (expr_view c.args.test.now) (labels_in (switch_view c.args.arms.now)) c.requires.ready c.in_ok-x.ensures
+
+pub switches::chosen-case_bits-requires-clause-fits : goal.switches::chosen-case_bits-requires-clause-fits
+switches::chosen-case_bits-requires-clause-fits t c = c.in_ok-y.ensures.turned.fits
+
+pub switches::chosen-case_bits-requires-clause-promoted : goal.switches::chosen-case_bits-requires-clause-promoted
+switches::chosen-case_bits-requires-clause-promoted t c = rw c.promote-ty.ensures (IsPromoted-promote_of c.type_of-from.result)
+
+pub switches::chosen-case_bits-requires-clause-x_in : goal.switches::chosen-case_bits-requires-clause-x_in
+switches::chosen-case_bits-requires-clause-x_in t c = c.in_ok-y.ensures.bits_in
+
+pub switches::chosen-case_bits-requires-clause-labels_in : goal.switches::chosen-case_bits-requires-clause-labels_in
+switches::chosen-case_bits-requires-clause-labels_in t c =
+    subst (λ k. IsTrue (list_all (label_fits (program_of c.args.walk.now).model k) (labels_in (switch_view c.args.arms.now)))) (sym (c.promote-ty.ensures ∙ ap promote_of c.type_of-from.ensures)) c.requires.ready.labels
+
+pub switches::chosen-case_bits-requires-clause-room : goal.switches::chosen-case_bits-requires-clause-room
+switches::chosen-case_bits-requires-clause-room t c =
+    let p = program_of c.args.walk.now in
+    let I = invariants_of c.args.walk.now in
+    let e = expr_view c.args.test.now in
+    let ls = labels_in (switch_view c.args.arms.now) in
+    let y = promoted_as p I c.args.depth c.args.at e ls c.requires.ready c.in_ok-x.ensures c.type_of-from.result c.promote-ty.result c.type_of-from.ensures c.promote-ty.ensures c.in_ok-y.ensures in
+    subst (λ k. length c.convert.new.sym.net + cases_cost p.model k ls < 2 ^ 28) (sym (c.promote-ty.ensures ∙ ap promote_of c.type_of-from.ensures))
+    (cases_room p I c.args.depth c.args.at e ls c.requires.ready c.in_ok-x.ensures y)
+
+pub switches::chosen-enter_arms-requires-clause-fits : goal.switches::chosen-enter_arms-requires-clause-fits
+switches::chosen-enter_arms-requires-clause-fits t c = c.in_ok-cases.ensures.turned.fits
+
+pub switches::chosen-enter_arms-requires-clause-many : goal.switches::chosen-enter_arms-requires-clause-many
+switches::chosen-enter_arms-requires-clause-many t c =
+    let p = program_of c.args.walk.now in
+    let I = invariants_of c.args.walk.now in
+    let e = expr_view c.args.test.now in
+    let ls = labels_in (switch_view c.args.arms.now) in
+    let kind = c.promote-ty.ensures ∙ ap promote_of c.type_of-from.ensures in
+    let y = promoted_as p I c.args.depth c.args.at e ls c.requires.ready c.in_ok-x.ensures c.type_of-from.result c.promote-ty.result c.type_of-from.ensures c.promote-ty.ensures c.in_ok-y.ensures in
+    ap length c.deref.ensures.value
+    ∙ cases_many p I c.args.depth c.args.at e ls c.requires.ready c.in_ok-x.ensures y
+    (subst (λ k. AreCases p k c.in_ok-y.y.bits ls c.convert.new.sym c.case_bits.new.sym c.in_ok-cases.cases.items) kind c.in_ok-cases.ensures) ∙ labels_many c.args.arms.now
+
+pub switches::chosen-enter_arms-requires-clause-cases_in : goal.switches::chosen-enter_arms-requires-clause-cases_in
+switches::chosen-enter_arms-requires-clause-cases_in t c = subst (λ cs. AreIn c.case_bits.new.sym.net cs) (sym c.deref.ensures.value) c.in_ok-cases.ensures.inside
+
+pub switches::chosen-enter_arms-requires-clause-room : goal.switches::chosen-enter_arms-requires-clause-room
+switches::chosen-enter_arms-requires-clause-room t c =
+    let p = program_of c.args.walk.now in
+    let I = invariants_of c.args.walk.now in
+    let e = expr_view c.args.test.now in
+    let ls = labels_in (switch_view c.args.arms.now) in
+    let kind = c.promote-ty.ensures ∙ ap promote_of c.type_of-from.ensures in
+    let y = promoted_as p I c.args.depth c.args.at e ls c.requires.ready c.in_ok-x.ensures c.type_of-from.result c.promote-ty.result c.type_of-from.ensures c.promote-ty.ensures c.in_ok-y.ensures in
+    entries_room p I c.args.depth c.args.at e ls c.requires.ready c.in_ok-x.ensures y
+    (subst (λ k. AreCases p k c.in_ok-y.y.bits ls c.convert.new.sym c.case_bits.new.sym c.in_ok-cases.cases.items) kind c.in_ok-cases.ensures) (length c.args.arms.now) (sym (labels_many c.args.arms.now))
+
+pub switches::chosen-returns : goal.switches::chosen-returns
+switches::chosen-returns t c =
+    let p = program_of c.args.walk.now in
+    let I = invariants_of c.args.walk.now in
+    let e = expr_view c.args.test.now in
+    let ls = labels_in (switch_view c.args.arms.now) in
+    let kind = c.promote-ty.ensures ∙ ap promote_of c.type_of-from.ensures in
+    let y = promoted_as p I c.args.depth c.args.at e ls c.requires.ready c.in_ok-x.ensures c.type_of-from.result c.promote-ty.result c.type_of-from.ensures c.promote-ty.ensures c.in_ok-y.ensures in
+    let z = subst (λ k. AreCases p k c.in_ok-y.y.bits ls c.convert.new.sym c.case_bits.new.sym c.in_ok-cases.cases.items) kind c.in_ok-cases.ensures in
+    chosen_chooses p I c.args.depth c.args.at e ls c.requires.ready c.in_ok-x.ensures y z (length c.args.arms.now) (sym (labels_many c.args.arms.now))
+    (c.in_ok-bits.ensures (λ v. typed p.model (promote_of (type_of e)) v c.convert.new.sym.net c.in_ok-y.y.bits) (λ v. ap (map (holds v c.case_bits.new.sym.net)) c.deref.ensures.value ∙ z.are v))
+
+pub switches::one_arm-narrow-requires-clause-fits : goal.switches::one_arm-narrow-requires-clause-fits
+switches::one_arm-narrow-requires-clause-fits t c = c.requires.ready.fits
+
+pub switches::one_arm-narrow-requires-clause-a_in : goal.switches::one_arm-narrow-requires-clause-a_in
+switches::one_arm-narrow-requires-clause-a_in t c = c.requires.ready.fits.live
+
+pub switches::one_arm-narrow-requires-clause-b_in : goal.switches::one_arm-narrow-requires-clause-b_in
+switches::one_arm-narrow-requires-clause-b_in t c = c.requires.ready.bit_in
+
+pub switches::one_arm-narrow-requires-clause-room : goal.switches::one_arm-narrow-requires-clause-room
+switches::one_arm-narrow-requires-clause-room t c =
+    arm_room (program_of c.args.walk.now) (invariants_of c.args.walk.now) c.args.depth c.args.gives c.args.bit (stmts_view c.args.body.now) c.requires.ready
+
+pub switches::one_arm-execs-requires : goal.switches::one_arm-execs-requires
+switches::one_arm-execs-requires t c =
+    (omega (arith, c.decreases), (c.requires.walk, arm_starts (program_of c.args.walk.now) (invariants_of c.args.walk.now) c.args.depth c.args.gives c.args.bit (stmts_view c.args.body.now) c.requires.ready c.in_ok-narrow.ensures))
+
+pub switches::one_arm-narrow-requires-2-clause-fits : goal.switches::one_arm-narrow-requires-2-clause-fits
+switches::one_arm-narrow-requires-2-clause-fits t c = c.in_ok-execs.ensures.fits
+
+pub switches::one_arm-narrow-requires-2-clause-a_in : goal.switches::one_arm-narrow-requires-2-clause-a_in
+switches::one_arm-narrow-requires-2-clause-a_in t c =
+    arm_still (program_of c.args.walk.now) (invariants_of c.args.walk.now) c.args.depth c.args.gives c.args.bit (stmts_view c.args.body.now) c.requires.ready c.in_ok-narrow.ensures c.in_ok-execs.ensures c.args.sym.now.live c.requires.ready.fits.live
+
+pub switches::one_arm-narrow-requires-2-clause-b_in : goal.switches::one_arm-narrow-requires-2-clause-b_in
+switches::one_arm-narrow-requires-2-clause-b_in t c =
+    subst (λ k. IsIn c.execs.new.sym.net k) (sym c.not-other.ensures)
+    (arm_still (program_of c.args.walk.now) (invariants_of c.args.walk.now) c.args.depth c.args.gives c.args.bit (stmts_view c.args.body.now) c.requires.ready c.in_ok-narrow.ensures c.in_ok-execs.ensures (opposite c.args.bit) c.requires.ready.bit_in)
+
+pub switches::one_arm-narrow-requires-2-clause-room : goal.switches::one_arm-narrow-requires-2-clause-room
+switches::one_arm-narrow-requires-2-clause-room t c =
+    arm_room_again (program_of c.args.walk.now) (invariants_of c.args.walk.now) c.args.depth c.args.gives c.args.bit (stmts_view c.args.body.now) c.requires.ready c.in_ok-narrow.ensures c.in_ok-execs.ensures
+
+pub switches::one_arm-join-requires-clause-fits : goal.switches::one_arm-join-requires-clause-fits
+switches::one_arm-join-requires-clause-fits t c = c.in_ok-narrow-2.ensures.fits
+
+pub switches::one_arm-join-requires-clause-other_in : goal.switches::one_arm-join-requires-clause-other_in
+switches::one_arm-join-requires-clause-other_in t c =
+    arm_last_in (program_of c.args.walk.now) (invariants_of c.args.walk.now) c.args.depth c.args.gives c.args.bit (stmts_view c.args.body.now) c.requires.ready c.in_ok-narrow.ensures c.in_ok-execs.ensures c.in_ok-narrow-2.ensures
+
+pub switches::one_arm-join-requires-clause-room : goal.switches::one_arm-join-requires-clause-room
+switches::one_arm-join-requires-clause-room t c =
+    arm_last_room (program_of c.args.walk.now) (invariants_of c.args.walk.now) c.args.depth c.args.gives c.args.bit (stmts_view c.args.body.now) c.requires.ready c.in_ok-narrow.ensures c.in_ok-execs.ensures c.in_ok-narrow-2.ensures
+
+pub switches::one_arm-returns : goal.switches::one_arm-returns
+switches::one_arm-returns t c =
+    arm_does (program_of c.args.walk.now) (invariants_of c.args.walk.now) c.args.depth c.args.gives c.args.bit c.not-other.result (stmts_view c.args.body.now) c.requires.ready c.not-other.ensures c.in_ok-narrow.ensures c.in_ok-execs.ensures
+    (omega (arith, c.len-cells.ensures, c.args.sym.now.cells.ok.0)) c.in_ok-narrow-2.ensures c.in_ok-join.ensures
+
+pub switches::walk_arms-loop-index-init : goal.switches::walk_arms-loop-index-init
+switches::walk_arms-loop-index-init t c = arms_none (program_of c.args.walk.now) (invariants_of c.args.walk.now) c.args.depth c.args.gives c.args.sym.now c.requires.ready.fits
+
+pub switches::walk_arms-one_arm-requires : goal.switches::walk_arms-one_arm-requires
+switches::walk_arms-one_arm-requires t c =
+    let p = program_of c.args.walk.now in
+    let I = invariants_of c.args.walk.now in
+    (omega (arith, c.decreases, arms_part p I c.args.depth c.args.gives c.args.bits.now c.args.arms.now c.loop-index.index (record { node = 0; negated = false }) _ c.index-arms-index.result c.loop-index-test.true c.index-arms-index.is (omega (arith, c.loop-index-test.true, c.requires.ready.many)) refl, ap (λ b. weight_of_block p I c.args.depth c.args.gives (stmts_view b)) c.as_slice.ensures), (c.requires.walk, subst (λ b. ArmReady p I c.args.depth c.args.gives c.loop-index.sym (get_or c.args.bits.now c.loop-index.index (record { node = 0; negated = false })) (stmts_view b)) (sym c.as_slice.ensures) (arms_next p I c.args.depth c.args.gives c.args.bits.now c.args.arms.now c.loop-index.index (record { node = 0; negated = false }) _ c.index-arms-index.result c.loop-index-test.true c.index-arms-index.is (omega (arith, c.loop-index-test.true, c.requires.ready.many)) refl c.requires.ready c.loop-index.invariant)))
+
+pub switches::walk_arms-loop-index-preserved : goal.switches::walk_arms-loop-index-preserved
+switches::walk_arms-loop-index-preserved t c =
+    let p = program_of c.args.walk.now in
+    let I = invariants_of c.args.walk.now in
+    arms_on p I c.args.depth c.args.gives c.args.bits.now c.args.arms.now c.loop-index.index (record { node = 0; negated = false }) _ c.index-arms-index.result c.loop-index-test.true c.index-arms-index.is (omega (arith, c.loop-index-test.true, c.requires.ready.many)) refl c.requires.ready.inside c.loop-index.invariant
+    (subst (λ b. ArmDoes p I c.args.depth c.args.gives (get_or c.args.bits.now c.loop-index.index (record { node = 0; negated = false })) (stmts_view b) c.loop-index.sym c.one_arm.new.sym) c.as_slice.ensures c.in_ok-one_arm.ensures)
+
+pub switches::walk_arms-returns : goal.switches::walk_arms-returns
+switches::walk_arms-returns t c =
+    let p = program_of c.args.walk.now in
+    let I = invariants_of c.args.walk.now in
+    let none = c.loop-index-test.false in
+    subst (λ arms. ArmsDo p I c.args.depth c.args.gives c.args.bits.now arms c.args.sym.now c.loop-index.sym) (take_all c.loop-index.index c.args.arms.now (omega (arith, none)))
+    (subst (λ bits. ArmsDo p I c.args.depth c.args.gives bits (take c.loop-index.index c.args.arms.now) c.args.sym.now c.loop-index.sym) (take_all c.loop-index.index c.args.bits.now (omega (arith, none, c.requires.ready.many))) c.loop-index.invariant)
+
+pub switches::switch-chosen-requires : goal.switches::switch-chosen-requires
+switches::switch-chosen-requires t c =
+    (omega (arith, c.decreases), (c.requires.walk, switch_chooses (program_of c.args.walk.now) (invariants_of c.args.walk.now) c.args.depth c.args.gives c.args.at (expr_view c.args.test.now) c.args.arms.now c.requires.ready))
+
+pub switches::switch-walk_arms-requires : goal.switches::switch-walk_arms-requires
+switches::switch-walk_arms-requires t c =
+    (omega (arith, c.decreases), (c.requires.walk, subst (λ bs. ArmsReady (program_of c.args.walk.now) (invariants_of c.args.walk.now) c.args.depth c.args.gives c.start_loop-kept.new.sym bs c.args.arms.now) (sym c.deref.ensures.value) (arms_start (program_of c.args.walk.now) (invariants_of c.args.walk.now) c.args.depth c.args.gives c.args.at (expr_view c.args.test.now) c.args.arms.now c.requires.ready c.in_ok-bits.ensures c.start_loop-kept.ensures.became)))
+
+pub switches::switch-end_loop-requires-clause-fits : goal.switches::switch-end_loop-requires-clause-fits
+switches::switch-end_loop-requires-clause-fits t c = c.in_ok-walk_arms.ensures.runs.fits
+
+pub switches::switch-end_loop-requires-clause-kept_in : goal.switches::switch-end_loop-requires-clause-kept_in
+switches::switch-end_loop-requires-clause-kept_in t c =
+    switch_kept_in (program_of c.args.walk.now) (invariants_of c.args.walk.now) c.args.depth c.args.gives c.args.at (expr_view c.args.test.now) c.args.arms.now c.requires.ready c.in_ok-bits.ensures c.start_loop-kept.ensures.became
+    (subst (λ bs. ArmsDo (program_of c.args.walk.now) (invariants_of c.args.walk.now) c.args.depth c.args.gives bs c.args.arms.now c.start_loop-kept.new.sym c.walk_arms.new.sym) c.deref.ensures.value c.in_ok-walk_arms.ensures)
+    c.start_loop-kept.result c.start_loop-kept.ensures.kept
+
+pub switches::switch-end_loop-requires-clause-room : goal.switches::switch-end_loop-requires-clause-room
+switches::switch-end_loop-requires-clause-room t c =
+    switch_room (program_of c.args.walk.now) (invariants_of c.args.walk.now) c.args.depth c.args.gives c.args.at (expr_view c.args.test.now) c.args.arms.now c.requires.ready c.in_ok-bits.ensures c.start_loop-kept.ensures.became
+    (subst (λ bs. ArmsDo (program_of c.args.walk.now) (invariants_of c.args.walk.now) c.args.depth c.args.gives bs c.args.arms.now c.start_loop-kept.new.sym c.walk_arms.new.sym) c.deref.ensures.value c.in_ok-walk_arms.ensures)
+
+pub switches::switch-returns : goal.switches::switch-returns
+switches::switch-returns t c =
+    switch_does (program_of c.args.walk.now) (invariants_of c.args.walk.now) c.args.depth c.args.gives c.args.at (expr_view c.args.test.now) c.args.arms.now c.requires.ready c.in_ok-bits.ensures c.start_loop-kept.ensures.became
+    (subst (λ bs. ArmsDo (program_of c.args.walk.now) (invariants_of c.args.walk.now) c.args.depth c.args.gives bs c.args.arms.now c.start_loop-kept.new.sym c.walk_arms.new.sym) c.deref.ensures.value c.in_ok-walk_arms.ensures)
+    c.start_loop-kept.result c.len-cells.result c.start_loop-kept.ensures.kept (omega (arith, c.len-cells.ensures, c.chosen.new.sym.cells.ok.0)) c.in_ok-end_loop.ensures
+
+pub statements::form-switch-requires : goal.statements::form-switch-requires
+statements::form-switch-requires t c =
+    let p = program_of c.args.walk.now in
+    let I = invariants_of c.args.walk.now in
+    let e : form_view c.args.f.now ≡ Switch (expr_view c.in-Switch.test) (switch_view c.as_slice-in-Switch.result.now) =
+    ap form_view c.in-Switch.is ∙ view_of_switch c.in-Switch.test c.in-Switch.arms ∙ ap (λ arms. Switch (expr_view c.in-Switch.test) (switch_view arms)) (sym c.as_slice-in-Switch.ensures) in
+    (omega (arith, c.decreases, ap (λ k. weight_of_form p I c.args.depth c.args.gives c.args.at k) e), (c.requires.walk, subst (λ k. FormReady p I c.args.depth c.args.gives c.args.at c.args.sym.now k) e c.requires.ready))
+
+pub statements::form-returns-in_ok-switch-in-Switch : goal.statements::form-returns-in_ok-switch-in-Switch
+statements::form-returns-in_ok-switch-in-Switch t c =
+    let p = program_of c.args.walk.now in
+    let I = invariants_of c.args.walk.now in
+    let e : form_view c.args.f.now ≡ Switch (expr_view c.in-Switch.test) (switch_view c.as_slice-in-Switch.result.now) =
+    ap form_view c.in-Switch.is ∙ view_of_switch c.in-Switch.test c.in-Switch.arms ∙ ap (λ arms. Switch (expr_view c.in-Switch.test) (switch_view arms)) (sym c.as_slice-in-Switch.ensures) in
+    subst (λ k. FormDoes p I c.args.depth c.args.gives c.args.at k c.args.sym.now c.switch.new.sym) (sym e) c.in_ok-switch-in-Switch.ensures

@@ -1,12 +1,12 @@
 use Rattle.std.proofs.Common.{◌+◌, ◌*◌, None, Some, take}
-use Rattle.c_core.specs.Tree.{Expr, Index, Unary, Cast, Step, Binary, Logic, Choose, Comma, Assign, Call, MoreExp, NoExp, MoreName, NoName, Do, Block, If, Return}
-use Rattle.c_core.specs.View.{expr_view, exprs_view, expr_view_if, first_view, form_view, init_view, names_view, stmt_view, stmts_view}
+use Rattle.c_core.specs.Tree.{Expr, Index, Unary, Cast, Step, Binary, Logic, Choose, Comma, Assign, Call, MoreExp, NoExp, MoreName, NoName, Do, Block, If, Return, Switch}
+use Rattle.c_core.specs.View.{expr_view, exprs_view, expr_view_if, first_view, form_view, init_view, names_view, rows_view, stmt_view, stmts_view, switch_view}
 use Rattle.c_core.specs.declared.tree.Callee.TheVariants.{Exit, Defined}
 use Rattle.sym_exprs.specs.Evaluating.{weight_of as expression_weight}
 use Rattle.sym_exprs.specs.Targeting.{weight_of_target}
 use Rattle.sym_invariants.specs.Walking.{program_of, invariants_of}
 use Rattle.sym_weight.specs.Views.{else_of}
-use Rattle.sym_eval.specs.Doing.{weight_of_initials, InitialsDo, weight_of_initial, weight_of_names, NamesDo, weight_of_first, weight_of, weight_of_form, weight_of_else, weight_of_block, BlockDoes, weight_of_control}
+use Rattle.sym_eval.specs.Doing.{weight_of_initials, InitialsDo, weight_of_rows, RowsDo, weight_of_initial, weight_of_names, NamesDo, weight_of_first, weight_of, weight_of_form, weight_of_else, weight_of_block, BlockDoes, weight_of_control}
 use Rattle.c_calls.specs.Loops.{loop_of}
 use Rattle.c_meaning.specs.Meaning.{WhileLoop, DoLoop, ForLoop}
 use Rattle.sym_eval.specs.Control.{weight_of_test, weight_of_step}
@@ -15,6 +15,7 @@ use Rattle.sym_weight.specs.Sum.{function_body}
 use Rattle.sym_weight.specs.Weight.{weighing, weight_in, placed_weight}
 use Rattle.sym_eval.specs.Calling.{weight_of_all, AllValues}
 use Rattle.sym_exprs.specs.Evaluating as evaluating
+use Rattle.sym_eval.specs.Switching.{ArmsDo}
 use Rattle.sym_eval.proofs.+walk.Given as goal
 
 -- each part weighs less than the whole
@@ -25,7 +26,7 @@ abbrev pub decreases-expressions::eval_where : goal.decreases-expressions::eval_
 decreases-expressions::eval_where l = 4 * expression_weight (program_of l.walk.now) (invariants_of l.walk.now) l.depth (expr_view l.e.now) + 3
 
 abbrev pub decreases-expressions::element : goal.decreases-expressions::element
-decreases-expressions::element l = 4 * expression_weight (program_of l.walk.now) (invariants_of l.walk.now) l.depth (Expr l.e.now.spot l.e.now.ty (Index l.object (expr_view l.index.now))) + 1
+decreases-expressions::element l = 4 * expression_weight (program_of l.walk.now) (invariants_of l.walk.now) l.depth (Expr l.e.now.spot l.e.now.ty (Index l.object (exprs_view l.indexes.now))) + 1
 
 abbrev pub decreases-expressions::unary : goal.decreases-expressions::unary
 decreases-expressions::unary l = 4 * expression_weight (program_of l.walk.now) (invariants_of l.walk.now) l.depth (Expr l.e.now.spot l.e.now.ty (Unary l.op (expr_view l.of.now))) + 1
@@ -57,9 +58,18 @@ decreases-expressions::call l = 4 * expression_weight (program_of l.walk.now) (i
 abbrev pub decreases-expressions::exit : goal.decreases-expressions::exit
 decreases-expressions::exit l = 4 * expression_weight (program_of l.walk.now) (invariants_of l.walk.now) l.depth (Expr l.e.now.spot l.e.now.ty (Call Exit (exprs_view l.args.now) l.close)) + 0
 
--- a target weighs no more than its assignment or step, and its index less
+-- a target weighs less than its assignment or step, and its indexes less
 abbrev pub decreases-assignments::target : goal.decreases-assignments::target
-decreases-assignments::target l = 4 * weight_of_target (program_of l.walk.now) (invariants_of l.walk.now) l.depth (expr_view l.e.now) + 0
+decreases-assignments::target l = 4 * weight_of_target (program_of l.walk.now) (invariants_of l.walk.now) l.depth (expr_view l.e.now) + 2
+
+abbrev pub decreases-assignments::indexed : goal.decreases-assignments::indexed
+decreases-assignments::indexed l = 4 * weight_of_target (program_of l.walk.now) (invariants_of l.walk.now) l.depth (Expr l.e.now.spot l.e.now.ty (Index l.object (exprs_view l.indexes.now))) + 1
+
+abbrev pub decreases-assignments::at_index : goal.decreases-assignments::at_index
+decreases-assignments::at_index l = 4 * weight_of_target (program_of l.walk.now) (invariants_of l.walk.now) l.depth (Expr l.e.now.spot l.e.now.ty (Index l.object (MoreExp (expr_view l.index.now) NoExp))) + 0
+
+abbrev pub decreases-assignments::at_row : goal.decreases-assignments::at_row
+decreases-assignments::at_row l = 4 * weight_of_target (program_of l.walk.now) (invariants_of l.walk.now) l.depth (Expr l.e.now.spot l.e.now.ty (Index l.object (MoreExp (expr_view l.row.now) (MoreExp (expr_view l.column.now) NoExp)))) + 0
 
 abbrev pub decreases-assignments::assign : goal.decreases-assignments::assign
 decreases-assignments::assign l = 4 * expression_weight (program_of l.walk.now) (invariants_of l.walk.now) l.depth (Expr l.e.now.spot l.e.now.ty (Assign l.op (expr_view l.to.now) (expr_view l.from.now))) + 1
@@ -105,17 +115,20 @@ decreases-declarations::initial_value l = 4 * weight_of_initials (program_of l.w
 abbrev pub decreases-declarations::initial_values : goal.decreases-declarations::initial_values
 decreases-declarations::initial_values l = 4 * weight_of_initials (program_of l.walk.now) (invariants_of l.walk.now) l.depth l.object (exprs_view l.es.now) + 5
 
+abbrev pub decreases-declarations::initial_rows : goal.decreases-declarations::initial_rows
+decreases-declarations::initial_rows l = 4 * weight_of_rows (program_of l.walk.now) (invariants_of l.walk.now) l.depth l.object (rows_view l.rows.now) + 6
+
 abbrev pub decreases-declarations::initial : goal.decreases-declarations::initial
-decreases-declarations::initial l = 4 * weight_of_initial (program_of l.walk.now) (invariants_of l.walk.now) l.depth l.object (init_view l.init.now) + 6
+decreases-declarations::initial l = 4 * weight_of_initial (program_of l.walk.now) (invariants_of l.walk.now) l.depth l.object (init_view l.init.now) + 7
 
 abbrev pub decreases-declarations::introduce : goal.decreases-declarations::introduce
-decreases-declarations::introduce l = 4 * weight_of_names (program_of l.walk.now) (invariants_of l.walk.now) l.depth (MoreName l.name.now.spot l.name.now.object (init_view l.name.now.init) NoName) + 7
+decreases-declarations::introduce l = 4 * weight_of_names (program_of l.walk.now) (invariants_of l.walk.now) l.depth (MoreName l.name.now.spot l.name.now.object (init_view l.name.now.init) NoName) + 8
 
 abbrev pub decreases-declarations::declare_names : goal.decreases-declarations::declare_names
-decreases-declarations::declare_names l = 4 * weight_of_names (program_of l.walk.now) (invariants_of l.walk.now) l.depth (names_view l.names.now) + 8
+decreases-declarations::declare_names l = 4 * weight_of_names (program_of l.walk.now) (invariants_of l.walk.now) l.depth (names_view l.names.now) + 9
 
 abbrev pub decreases-declarations::first : goal.decreases-declarations::first
-decreases-declarations::first l = 4 * weight_of_first (program_of l.walk.now) (invariants_of l.walk.now) l.depth (first_view l.start.now) + 9
+decreases-declarations::first l = 4 * weight_of_first (program_of l.walk.now) (invariants_of l.walk.now) l.depth (first_view l.start.now) + 10
 
 abbrev pub decreases-statements::only : goal.decreases-statements::only
 decreases-statements::only l = 4 * weight_of_form (program_of l.walk.now) (invariants_of l.walk.now) l.depth l.gives l.at (Do (expr_view l.e.now)) + 12
@@ -131,7 +144,11 @@ decreases-statements::give_back l = 4 * weight_of_form (program_of l.walk.now) (
 
 -- the values before the index are stored
 abbrev pub invariant-declarations::initial_values-loop-index : goal.invariant-declarations::initial_values-loop-index
-invariant-declarations::initial_values-loop-index l = InitialsDo (program_of l.walk) (invariants_of l.walk) l.depth l.at l.object 0 (exprs_view (take l.index l.es)) l.initial.sym l.sym
+invariant-declarations::initial_values-loop-index l = InitialsDo (program_of l.walk) (invariants_of l.walk) l.depth l.at l.object l.first (exprs_view (take l.index l.es)) l.initial.sym l.sym
+
+-- the rows before the index are stored
+abbrev pub invariant-declarations::initial_rows-loop-index : goal.invariant-declarations::initial_rows-loop-index
+invariant-declarations::initial_rows-loop-index l = RowsDo (program_of l.walk) (invariants_of l.walk) l.depth l.at l.object (rows_view (take l.index l.rows)) l.initial.sym l.sym
 
 -- the names before the index are declared
 abbrev pub invariant-declarations::declare_names-loop-name : goal.invariant-declarations::declare_names-loop-name
@@ -172,7 +189,7 @@ decreases-loops::loop_scope l = 4 * weight_of_loop (program_of l.walk.now) (inva
 
 abbrev pub decreases-loops::for_scope : goal.decreases-loops::for_scope
 decreases-loops::for_scope l =
-    4 * (weight_of_first (program_of l.walk.now) (invariants_of l.walk.now) l.depth (first_view l.start.now) + weight_of_loop (program_of l.walk.now) (invariants_of l.walk.now) l.depth l.gives l.at (loop_of (form_view l.f.now))) + 10
+    4 * (weight_of_first (program_of l.walk.now) (invariants_of l.walk.now) l.depth (first_view l.start.now) + weight_of_loop (program_of l.walk.now) (invariants_of l.walk.now) l.depth l.gives l.at (loop_of (form_view l.f.now))) + 11
 
 abbrev pub decreases-loops::one_loop : goal.decreases-loops::one_loop
 decreases-loops::one_loop l = 4 * weight_of_form (program_of l.walk.now) (invariants_of l.walk.now) l.depth l.gives l.at (form_view l.f.now) + 12
@@ -193,3 +210,19 @@ decreases-calls::run_function l =
 -- the arguments so far have their values
 abbrev pub invariant-calls::evals-loop-e : goal.invariant-calls::evals-loop-e
 invariant-calls::evals-loop-e l = AllValues (program_of l.walk) (invariants_of l.walk) l.depth l.at (exprs_view (take l.e-index l.args)) l.initial.sym l.sym l.arguments.items
+
+abbrev pub decreases-switches::chosen : goal.decreases-switches::chosen
+decreases-switches::chosen l = 4 * evaluating.weight_of (program_of l.walk.now) (invariants_of l.walk.now) l.depth (expr_view l.test.now) + 4
+
+abbrev pub decreases-switches::one_arm : goal.decreases-switches::one_arm
+decreases-switches::one_arm l = 4 * weight_of_block (program_of l.walk.now) (invariants_of l.walk.now) l.depth l.gives (stmts_view l.body.now) + 2
+
+abbrev pub decreases-switches::walk_arms : goal.decreases-switches::walk_arms
+decreases-switches::walk_arms l = 4 * weight_of_block (program_of l.walk.now) (invariants_of l.walk.now) l.depth l.gives (switch_view l.arms.now) + 3
+
+abbrev pub decreases-switches::switch : goal.decreases-switches::switch
+decreases-switches::switch l = 4 * weight_of_form (program_of l.walk.now) (invariants_of l.walk.now) l.depth l.gives l.at (Switch (expr_view l.test.now) (switch_view l.arms.now)) + 12
+
+-- the arms before the index are done
+abbrev pub invariant-switches::walk_arms-loop-index : goal.invariant-switches::walk_arms-loop-index
+invariant-switches::walk_arms-loop-index l = ArmsDo (program_of l.walk) (invariants_of l.walk) l.depth l.gives (take l.index l.bits) (take l.index l.arms) l.initial.sym l.sym

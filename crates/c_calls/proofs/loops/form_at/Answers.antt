@@ -4,7 +4,8 @@ use Rattle.std.specs.Option.{option_copied, option_map}
 use Rattle.c_core.specs.Parts.{statements_of}
 use Rattle.c_core.specs.TreeView.{form_view, functions_view, stmt_view}
 use Rattle.c_calls.specs.Loops.{first_loop}
-use Rattle.c_calls.proofs.LoopLaws.{first_loop_both, item_first}
+use Rattle.c_core.proofs.ArmLaws.{item_first}
+use Rattle.c_calls.proofs.LoopLaws.{first_loop_both}
 use Rattle.c_calls.proofs.loops.form_at.Goals as goal
 
 pub loop-function-preserved : goal.loop-function-preserved

@@ -1,13 +1,15 @@
 use Rattle.std.proofs.Common.{◌≡◌, [], ◌∷◌, ◌+◌, ◌++◌, ap, drop, sym, ◌∙◌, List}
-use Rattle.c_core.specs.Tree.{Form, Block, If, OrElse}
-use Rattle.c_core.specs.View.{expr_view, expr_view_if, first_view, form_view, program_view, stmt_view, stmts_view}
+use Rattle.c_core.specs.Tree.{Form, Block, If, OrElse, Switch}
+use Rattle.c_core.specs.View.{expr_view, expr_view_if, first_view, form_view, program_view, stmt_view, stmts_view, switch_view}
 use Rattle.c_core.specs.declared.program.Program.{Program}
+use Rattle.c_core.specs.declared.tree.Arm.{out-Arm}
 use Rattle.c_core.specs.declared.tree.Form.TheVariants.{If as IfThen}
 use Rattle.c_meaning.specs.declared.run.Duty.{Duty}
 use Rattle.c_meaning.specs.Duties.{property_duties}
 use Rattle.c_meaning.specs.Parts.{exp_if, fulls_of, fulls_of_block, fulls_of_first, fulls_of_form}
-use Rattle.c_core.proofs.View.{view_of_block}
-use Rattle.c_duties.proofs.Walked.{item_first, then_more, with_the_rest}
+use Rattle.c_core.proofs.ArmLaws.{item_first}
+use Rattle.c_core.proofs.View.{view_of_block, view_of_switch}
+use Rattle.c_duties.proofs.Walked.{fulls_from, then_more, with_the_rest}
 use Rattle.c_duties.proofs.walk.+statement.Goals as goal
 
 pub push_block-loop-s-preserved : goal.push_block-loop-s-preserved
@@ -59,3 +61,20 @@ push_form-returns-in_ok-push_statement-in-For t c =
     (then_more p _ _ _ (first ++ test) step (then_more p _ _ _ first test c.in_ok-push_first-in-For.ensures c.in_ok-push_if-in-For.ensures) c.in_ok-push_if-in-For-2.ensures)
     (c.in_ok-push_statement-in-For.ensures ∙ ap (λ s. c.push_if-in-For.new.list.items ++ property_duties p (fulls_of (stmt_view s))) c.deref-in-For.ensures)
     ∙ sym (ap (λ f. With c.args.list.now.items c.args.program.now (form_view f)) c.in-For.is)
+
+pub push_arms-loop-arm-preserved : goal.push_arms-loop-arm-preserved
+push_arms-loop-arm-preserved t c =
+    let p = program_view c.args.program.now in
+    with_the_rest p _ _ (fulls_of_block (stmts_view (out-Arm c.arm-item.result).body)) (fulls_of_block (switch_view (drop (c.loop-arm.arm-index + 1) c.args.arms.now))) _ _
+    (fulls_from c.args.arms.now c.loop-arm.arm-index c.arm-item.result c.loop-arm-test.true c.arm-item.is)
+    c.loop-arm.invariant
+    (c.in_ok-push_block.ensures ∙ ap (λ ss. c.loop-arm.list.items ++ property_duties p (fulls_of_block (stmts_view ss))) c.as_slice.ensures)
+
+pub push_form-returns-in_ok-push_arms-in-Switch : goal.push_form-returns-in_ok-push_arms-in-Switch
+push_form-returns-in_ok-push_arms-in-Switch t c =
+    let p = program_view c.args.program.now in
+    let e : form_view c.args.form.now ≡ Switch (expr_view c.in-Switch.test) (switch_view c.in-Switch.arms) = ap form_view c.in-Switch.is ∙ view_of_switch c.in-Switch.test c.in-Switch.arms in
+    then_more p _ _ _ (expr_view c.in-Switch.test ∷ []) (fulls_of_block (switch_view c.in-Switch.arms))
+    c.in_ok-push-in-Switch.ensures
+    (c.in_ok-push_arms-in-Switch.ensures ∙ ap (λ ss. c.push-in-Switch.new.list.items ++ property_duties p (fulls_of_block (switch_view ss))) c.as_slice-in-Switch.ensures)
+    ∙ sym (ap (With c.args.list.now.items c.args.program.now) e)

@@ -1,7 +1,8 @@
 use Rattle.std.proofs.Common.{◌+◌, ap, drop}
 use Rattle.c_core.specs.View.{init_view, names_view, program_view}
 use Rattle.c_meaning.specs.Parts.{fulls_of_init, fulls_of_names}
-use Rattle.c_duties.proofs.Walked.{item_first, with_the_rest}
+use Rattle.c_core.proofs.ArmLaws.{item_first}
+use Rattle.c_duties.proofs.Walked.{with_the_rest}
 use Rattle.c_duties.proofs.walk.push_names.Goals as goal
 
 pub loop-name-preserved : goal.loop-name-preserved

@@ -51,6 +51,12 @@ decreases-word_at l = 16 * (l.brackets + l.height) + 9
 abbrev pub decreases-named_at : goal.decreases-named_at
 decreases-named_at l = 16 * (l.brackets + l.height) + 8
 
+abbrev pub decreases-dimensions_at : goal.decreases-dimensions_at
+decreases-dimensions_at l = 16 * (l.brackets + l.height) + 3
+
+abbrev pub decreases-bracketed_at : goal.decreases-bracketed_at
+decreases-bracketed_at l = 16 * (l.brackets + l.height) + 2
+
 abbrev pub decreases-called_at : goal.decreases-called_at
 decreases-called_at l = 16 * (l.brackets + l.height) + 7
 

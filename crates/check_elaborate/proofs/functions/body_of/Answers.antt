@@ -1,4 +1,4 @@
-use Rattle.std.proofs.Common.{◌≡◌, ◌++◌, [], Bool, false, List, map, Option, ap, ◌∙◌}
+use Rattle.std.proofs.Common.{◌≡◌, ◌++◌, [], Bool, List, map, Option, ap, ◌∙◌}
 use Rattle.check_sequencing.specs.declared.kept.Kept.{Kept}
 use Rattle.c_parser.specs.SourceView.{stmt_view}
 use Rattle.c_parser.specs.Tree.{stms}
@@ -6,7 +6,7 @@ use Rattle.check_rules.specs.declared.fault.Refusal.{Refusal}
 use Rattle.check_rules.specs.Checked.{typed_block}
 use Rattle.check_rules.specs.Kept.{kept_of_parts}
 use Rattle.check_rules.specs.Noting.{noted_parts}
-use Rattle.check_rules.specs.Parts.{Part, parts_of_block}
+use Rattle.check_rules.specs.Parts.{Part, parts_of_block, in_body}
 use Rattle.check_rules.specs.Scopes.{Scope, after_block, statements_of}
 use Rattle.check_elaborate.specs.Items.{kept_views}
 use Rattle.check_elaborate.specs.Walks.{Found, scope_at, items_in, bodies_in}
@@ -38,9 +38,9 @@ returns-clause-noted c =
     let old = c.set_kept-outside.new.self.best in
     c.set_kept-kept.ensures.best
     ∙ ap (λ (y : Found). y.best) c.in_ok-statements.ensures.noted
-    ∙ ap (λ y. noted_parts m items old (parts_of_block m bodies c.args.gives false t y)) c.statements_in.ensures
-    ∙ ap (λ (y : Scope). noted_parts m items old (parts_of_block m bodies c.args.gives false y b)) c.set_kept-outside.ensures.scope
-    ∙ ap (λ (y : Option Refusal). noted_parts m items y (parts_of_block m bodies c.args.gives false (scope_at c.args.walk.now) b)) c.set_kept-outside.ensures.best
+    ∙ ap (λ y. noted_parts m items old (parts_of_block m bodies c.args.gives in_body t y)) c.statements_in.ensures
+    ∙ ap (λ (y : Scope). noted_parts m items old (parts_of_block m bodies c.args.gives in_body y b)) c.set_kept-outside.ensures.scope
+    ∙ ap (λ (y : Option Refusal). noted_parts m items y (parts_of_block m bodies c.args.gives in_body (scope_at c.args.walk.now) b)) c.set_kept-outside.ensures.best
 
 pub returns-clause-kept : goal.returns-clause-kept
 returns-clause-kept c =
@@ -50,10 +50,10 @@ returns-clause-kept c =
     let t = scope_at c.set_kept-outside.new.self in
     ap kept_views c.set_kept-kept.ensures.given
     ∙ ap (λ (y : Found). y.kept) c.in_ok-statements.ensures.noted
-    ∙ ap (λ (y : List Kept). kept_views y ++ kept_of_parts m bodies (parts_of_block m bodies c.args.gives false t (stms (map stmt_view c.statements_in.result.now))))
+    ∙ ap (λ (y : List Kept). kept_views y ++ kept_of_parts m bodies (parts_of_block m bodies c.args.gives in_body t (stms (map stmt_view c.statements_in.result.now))))
     (c.set_kept-outside.ensures.kept ∙ c.new-empty.ensures)
-    ∙ ap (λ y. kept_of_parts m bodies (parts_of_block m bodies c.args.gives false t y)) c.statements_in.ensures
-    ∙ ap (λ (y : Scope). kept_of_parts m bodies (parts_of_block m bodies c.args.gives false y b)) c.set_kept-outside.ensures.scope
+    ∙ ap (λ y. kept_of_parts m bodies (parts_of_block m bodies c.args.gives in_body t y)) c.statements_in.ensures
+    ∙ ap (λ (y : Scope). kept_of_parts m bodies (parts_of_block m bodies c.args.gives in_body y b)) c.set_kept-outside.ensures.scope
 
 pub returns-clause-outside : goal.returns-clause-outside
 returns-clause-outside c = c.set_kept-kept.ensures.kept ∙ c.set_kept-outside.ensures.given

@@ -1,4 +1,4 @@
-use Rattle.std.proofs.Common.{rules, Err, ◌≡◌, ◌++◌, ◌∷◌, [], ℕ, Bool, false, List, length, map, Option, refl, ap, sym, ◌∙◌}
+use Rattle.std.proofs.Common.{rules, Err, ◌≡◌, ◌++◌, ◌∷◌, [], ℕ, Bool, List, length, map, Option, refl, ap, sym, ◌∙◌}
 use Rattle.c_core.specs.Tree as typ
 use Rattle.c_core.specs.declared.number.IntType.{IntType}
 use Rattle.c_parser.specs.Tree as raw
@@ -7,7 +7,7 @@ use Rattle.check_rules.specs.declared.fault.Refusal.{Refusal}
 use Rattle.check_rules.specs.Checked.{typed_block, numbers_from}
 use Rattle.check_rules.specs.Kept.{kept_of_parts}
 use Rattle.check_rules.specs.Noting.{noted_part, noted_parts}
-use Rattle.check_rules.specs.Parts.{Part, Naming, parts_of_block, parts_of_item, parts_of_labels, parts_of_parameters, labels_of}
+use Rattle.check_rules.specs.Parts.{Part, Naming, parts_of_block, parts_of_item, parts_of_labels, parts_of_parameters, labels_of, in_body}
 use Rattle.check_rules.specs.Scopes.{Scope, seen, opened, closed, with_entry, after_block, after_parameters, inside, statements_of, entry_of_function}
 use Rattle.check_elaborate.specs.Items.{kept_views}
 use Rattle.check_elaborate.specs.Walks.{Found, scope_at, items_in, bodies_in}
@@ -87,7 +87,7 @@ returns-clause-noted c =
     let n2 = scope_at c.parameters.new.walk in
     let u1 : n1 ≡ within = c.open-outside.ensures.scope ∙ ap opened c.in_ok-declare.ensures.scope in
     let pp : Scope → List Part = λ y. parts_of_parameters y xs in
-    let pb : Scope → List Part = λ y. parts_of_block m bodies c.args.gives false y (statements_of body) in
+    let pb : Scope → List Part = λ y. parts_of_block m bodies c.args.gives in_body y (statements_of body) in
     let pl = parts_of_labels [] (labels_of body) in
     let all : Scope → List Part = λ y. pp y ++ pb (after_parameters y xs) ++ pl in
     let opened_best = c.open-outside.new.self.best in
@@ -135,7 +135,7 @@ returns-clause-kept c =
     let within = inside s c.args.name.now c.args.gives xs in
     let u1 : scope_at c.open-outside.new.self ≡ within = c.open-outside.ensures.scope ∙ ap opened c.in_ok-declare.ensures.scope in
     let u2 : scope_at c.parameters.new.walk ≡ after_parameters within xs = c.in_ok-params.ensures.scope ∙ ap (λ (y : Scope). after_parameters y xs) u1 in
-    c.in_ok-inner.ensures.kept ∙ ap (λ (y : Scope). kept_of_parts m bodies (parts_of_block m bodies c.args.gives false y b)) u2
+    c.in_ok-inner.ensures.kept ∙ ap (λ (y : Scope). kept_of_parts m bodies (parts_of_block m bodies c.args.gives in_body y b)) u2
 
 pub returns-clause-outside : goal.returns-clause-outside
 returns-clause-outside c =

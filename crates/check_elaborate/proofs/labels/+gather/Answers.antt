@@ -7,13 +7,16 @@ use Rattle.c_core.specs.declared.number.Spot.{Spot}
 use Rattle.c_parser.specs.declared.tree.RawExpr.{RawExpr}
 use Rattle.c_parser.specs.declared.tree.RawForm.TheVariants as form
 use Rattle.c_parser.specs.Tree as raw
-use Rattle.c_parser.specs.Tree.{stms}
+use Rattle.c_parser.specs.Tree.{stms, arms}
 use Rattle.c_parser.specs.SourceView.{form_view, stmt_view, else_if}
 use Rattle.c_parser.specs.declared.tree.RawForm.{RawForm}
 use Rattle.c_parser.specs.declared.tree.RawStmt.{RawStmt}
-use Rattle.c_parser.proofs.SourceViews.{view_of_block}
+use Rattle.c_parser.proofs.SourceViews.{view_of_block, view_of_switch}
 use Rattle.check_rules.specs.Parts.{Label, labels_of, labels_in, labels_of_else, labels_of_block}
 use Rattle.check_elaborate.specs.Walks.{label, labels_seen}
+use Rattle.c_parser.specs.StatementParts.{raw_arm_view}
+use Rattle.c_parser.specs.declared.tree.RawArm.{RawArm, out-RawArm}
+use Rattle.check_elaborate.proofs.ArmLaws.{labels_from}
 use Rattle.check_elaborate.proofs.BlockLaws.{next_statement, raw_view_of_if}
 use Rattle.check_elaborate.proofs.labels.+gather.Goals as goal
 
@@ -63,6 +66,32 @@ gather_block-returns t c =
     sym (append-nil so_far)
     ∙ ap (λ (xs : List RawStmt). so_far ++ labels_of_block (stms (map stmt_view xs))) (sym (drop_all c.loop-s.s-index c.args.ss.now c.loop-s-test.false))
     ∙ c.loop-s.invariant
+
+pub gather-returns-in-Switch : goal.gather-returns-in-Switch
+gather-returns-in-Switch t c =
+    let p = c.args.s.now.spot in
+    let old = labels_seen c.args.all.now.items in
+    subst (λ (x : List Label). OnOk c.gather_arms.result (labels_seen c.gather_arms.new.all.items ≡ old ++ x))
+    (ap (λ (xs : List RawArm). labels_of_block (arms (map raw_arm_view xs))) c.as_slice-in-Switch.ensures
+    ∙ sym (ap (labels_in p) (view_of_switch c.in-Switch.test c.in-Switch.arms)) ∙ sym (ap (λ (f : RawForm). labels_in p (form_view f)) c.in-Switch.is))
+    c.gather_arms.ensures
+
+pub gather_arms-loop-arm-preserved : goal.gather_arms-loop-arm-preserved
+gather_arms-loop-arm-preserved t c =
+    let body = labels_of_block (stms (map stmt_view (out-RawArm c.arm-item.result).body)) in
+    let rest = labels_of_block (arms (map raw_arm_view (drop (c.loop-arm.arm-index + 1) c.args.arms.now))) in
+    let so_far = labels_seen c.loop-arm.all.items in
+    ap (λ (y : List Label). y ++ rest) (c.in_ok-gather_block.ensures ∙ ap (λ (xs : List RawStmt). so_far ++ labels_of_block (stms (map stmt_view xs))) c.as_slice.ensures)
+    ∙ append_assoc so_far body rest
+    ∙ ap (λ (y : List Label). so_far ++ y) (sym (labels_from c.args.arms.now c.loop-arm.arm-index c.arm-item.result c.loop-arm-test.true c.arm-item.is))
+    ∙ c.loop-arm.invariant
+
+pub gather_arms-returns : goal.gather_arms-returns
+gather_arms-returns t c =
+    let so_far = labels_seen c.loop-arm.all.items in
+    sym (append-nil so_far)
+    ∙ ap (λ (xs : List RawArm). so_far ++ labels_of_block (arms (map raw_arm_view xs))) (sym (drop_all c.loop-arm.arm-index c.args.arms.now c.loop-arm-test.false))
+    ∙ c.loop-arm.invariant
 
 -- ---- forms that have no statement in them
 

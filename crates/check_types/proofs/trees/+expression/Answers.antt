@@ -1,4 +1,4 @@
-use Rattle.std.proofs.Common.{rules, ◌≡◌, ◌∙◌, ap, sym, List, [], ◌∷◌, ◌++◌, ◌+◌, drop, Option}
+use Rattle.std.proofs.Common.{rules, ◌≡◌, ◌∙◌, ap, sym, List, [], ◌∷◌, ◌++◌, ◌+◌, drop, Option, Some}
 use Rattle.std.proofs.lemmas.List.{drop_all}
 use Rattle.c_core.specs.Tree as t
 use Rattle.c_core.specs.View.{exprs_view as typed_views}
@@ -9,7 +9,7 @@ use Rattle.c_parser.specs.Tree.{exps}
 use Rattle.c_parser.specs.View.{expr_view, exprs_view, node_view}
 use Rattle.c_parser.specs.declared.tree.RawExpr.{RawExpr}
 use Rattle.c_parser.specs.declared.tree.RawNode.{RawNode}
-use Rattle.c_parser.proofs.Views.{view_of_call}
+use Rattle.c_parser.proofs.Views.{view_of_index, view_of_call}
 use Rattle.check_rules.proofs.NotingLaws.{noted_parts-append}
 use Rattle.check_rules.specs.declared.fault.Refusal.{Refusal}
 use Rattle.check_rules.specs.Codes.{word_of}
@@ -17,7 +17,7 @@ use Rattle.check_rules.specs.Names.{named, is_function}
 use Rattle.check_rules.specs.Noting.{noted_parts}
 use Rattle.check_rules.specs.Parts.{Value, Target, Effect, parts, parts_in, parts_of, bodies_of}
 use Rattle.check_rules.specs.Roles.{role_of}
-use Rattle.check_rules.specs.Typed.{typed_node, typed_all, callee_for, result_named}
+use Rattle.check_rules.specs.Typed.{typed_node, typed_all, callee_for, number_named, type_named, result_named}
 use Rattle.check_scope.specs.InScope.{all_of}
 use Rattle.check_scope.specs.Sources.{items_of}
 use Rattle.check_types.specs.declared.words.Word.{Word}
@@ -71,6 +71,31 @@ node-returns-in_ok-typed-in-Choose-clause-noted g c =
     c.in_ok-test-in-Choose.ensures.noted c.in_ok-yes-in-Choose.ensures.noted c.in_ok-no-in-Choose.ensures.noted
     ∙ sym (ap (λ (n : RawNode). noted_parts c.args.model (items_of c.args.functions.now) c.args.best.now (parts_in (all_of c.args.table.now) (node_view n))) c.in-Choose.is)
 
+pub node-returns-in_ok-at-in-Index-clause-typed : goal.node-returns-in_ok-at-in-Index-clause-typed
+node-returns-in_ok-at-in-Index-clause-typed g c =
+    let m = c.args.model in
+    let bodies = bodies_of (items_of c.args.functions.now) in
+    let es = all_of c.args.table.now in
+    let x = c.in-Index.object in
+    let p = c.args.spot in
+    let shape = ap node_view c.in-Index.is ∙ view_of_index c.in-Index.object c.in-Index.word c.in-Index.at in
+    let word = c.requires ∙ ap (λ (n : raw.Node). word_at es (word_of n)) shape in
+    let at = c.in_ok-at-in-Index.ensures.typed ∙ ap (λ (xs : List RawExpr). typed_all m bodies es (exps (exprs_view xs))) c.as_slice.ensures in
+    c.index.ensures
+    ∙ ap (λ (w : Word). t.Expr p (Some w.ty) (t.Index w.number (typed_views c.in_ok-at-in-Index.at))) word
+    ∙ ap (λ (xs : t.Exps). t.Expr p (Some (type_named (named es x))) (t.Index (number_named (named es x)) xs)) at
+    ∙ sym (ap (typed_node m bodies es p) shape)
+
+pub node-returns-in_ok-at-in-Index-clause-noted : goal.node-returns-in_ok-at-in-Index-clause-noted
+node-returns-in_ok-at-in-Index-clause-noted g c =
+    let m = c.args.model in
+    let items = items_of c.args.functions.now in
+    let es = all_of c.args.table.now in
+    let shape = ap node_view c.in-Index.is ∙ view_of_index c.in-Index.object c.in-Index.word c.in-Index.at in
+    c.in_ok-at-in-Index.ensures.noted
+    ∙ ap (λ (xs : List RawExpr). noted_parts m items c.args.best.now (parts_of es (exps (exprs_view xs)))) c.as_slice.ensures
+    ∙ sym (ap (λ (n : raw.Node). noted_parts m items c.args.best.now (parts_in es n)) shape)
+
 pub node-returns-in_ok-args-in-Call-clause-typed : goal.node-returns-in_ok-args-in-Call-clause-typed
 node-returns-in_ok-args-in-Call-clause-typed g c =
     let m = c.args.model in
@@ -83,7 +108,7 @@ node-returns-in_ok-args-in-Call-clause-typed g c =
     let callee = c.callee-callee.ensures
     ∙ ap (λ (w : Word). callee_for w.is_function bodies c.as_str.result.now) word
     ∙ ap (callee_for (is_function (named es f)) bodies) c.as_str.ensures in
-    let args = c.in_ok-args-in-Call.ensures.typed ∙ ap (λ (xs : List RawExpr). typed_all m bodies es (exps (exprs_view xs))) c.as_slice.ensures in
+    let args = c.in_ok-args-in-Call.ensures.typed ∙ ap (λ (xs : List RawExpr). typed_all m bodies es (exps (exprs_view xs))) c.as_slice-in-Call.ensures in
     c.call.ensures
     ∙ ap (λ (w : Word). t.Expr p w.result (t.Call c.callee-callee.result (typed_views c.in_ok-args-in-Call.args) c.in-Call.close)) word
     ∙ ap (λ (k : Callee). t.Expr p (result_named (named es f)) (t.Call k (typed_views c.in_ok-args-in-Call.args) c.in-Call.close)) callee
@@ -97,7 +122,7 @@ node-returns-in_ok-args-in-Call-clause-noted g c =
     let es = all_of c.args.table.now in
     let shape = ap node_view c.in-Call.is ∙ view_of_call c.in-Call.callee c.in-Call.word c.in-Call.args c.in-Call.close in
     c.in_ok-args-in-Call.ensures.noted
-    ∙ ap (λ (xs : List RawExpr). noted_parts m items c.args.best.now (parts_of es (exps (exprs_view xs)))) c.as_slice.ensures
+    ∙ ap (λ (xs : List RawExpr). noted_parts m items c.args.best.now (parts_of es (exps (exprs_view xs)))) c.as_slice-in-Call.ensures
     ∙ sym (ap (λ (n : raw.Node). noted_parts m items c.args.best.now (parts_in es n)) shape)
 
 pub expressions-loop-e-preserved : goal.expressions-loop-e-preserved

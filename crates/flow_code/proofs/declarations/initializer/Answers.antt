@@ -12,3 +12,7 @@ returns-in-One c =
 pub returns-in-Many : goal.returns-in-Many
 returns-in-Many c =
     rw (c.in-Many.is, ← c.as_slice.ensures) c.initials.ensures
+
+pub returns-in-Rows : goal.returns-in-Rows
+returns-in-Rows c =
+    rw (c.in-Rows.is, ← c.as_slice-in-Rows.ensures) c.row_initials.ensures

@@ -7,4 +7,4 @@ use Rattle.flow_code.proofs.declarations.initials.Given as goal
 abbrev pub invariant-loop-e : goal.invariant-loop-e
 invariant-loop-e l =
     l.ops ++ initials_code (program_view l.program) (length l.ops) l.at l.object l.index (exprs_view (drop l.e-index l.values))
-    ≡ l.initial.ops ++ initials_code (program_view l.program) (length l.initial.ops) l.at l.object 0 (exprs_view l.values)
+    ≡ l.initial.ops ++ initials_code (program_view l.program) (length l.initial.ops) l.at l.object l.start (exprs_view l.values)

@@ -11,6 +11,9 @@ decreases-size l = 8 * weight (expr_view l.e.now) + 0
 abbrev pub decreases-size_of_assign : goal.decreases-size_of_assign
 decreases-size_of_assign l = 8 * (weight (expr_view l.target.now) + weight (expr_view l.from.now)) + 3
 
+abbrev pub decreases-size_of_element : goal.decreases-size_of_element
+decreases-size_of_element l = 8 * weight_of_all (exprs_view l.indexes.now) + 3
+
 abbrev pub decreases-size_of_all : goal.decreases-size_of_all
 decreases-size_of_all l = 8 * weight_of_all (exprs_view l.args.now) + 1
 

@@ -1,5 +1,5 @@
 use Rattle.std.proofs.Common.{◌≡◌, ◌+◌, ◌*◌, drop}
-use Rattle.c_core.specs.View.{form_view, stmt_view, stmts_view}
+use Rattle.c_core.specs.View.{form_view, stmt_view, stmts_view, switch_view}
 use Rattle.run_state.specs.Interpreting.{else_part}
 use Rattle.flow_code.specs.Sizes.{size_of_block}
 use Rattle.flow_code.proofs.Weights.{weight_of, weight_of_form, weight_of_else, weight_of_block}
@@ -30,9 +30,21 @@ decreases-size_of_block l = 8 * weight_of_block (stmts_view l.body.now) + 3
 abbrev pub decreases-size_of_statements : goal.decreases-size_of_statements
 decreases-size_of_statements l = 8 * weight_of_block (stmts_view l.body.now) + 2
 
+abbrev pub decreases-size_of_switch : goal.decreases-size_of_switch
+decreases-size_of_switch l = 8 * weight_of_block (switch_view l.arms.now) + 5
+
+abbrev pub decreases-size_of_arms : goal.decreases-size_of_arms
+decreases-size_of_arms l = 8 * weight_of_block (switch_view l.arms.now) + 4
+
+abbrev pub decreases-size_of_bodies : goal.decreases-size_of_bodies
+decreases-size_of_bodies l = 8 * weight_of_block (switch_view l.arms.now) + 3
+
 abbrev pub decreases-size_of_for : goal.decreases-size_of_for
 decreases-size_of_for l = 8 * weight_of (stmt_view l.body.now) + 2
 
 -- with what is left it becomes the whole
 abbrev pub invariant-size_of_statements-loop-s : goal.invariant-size_of_statements-loop-s
-invariant-size_of_statements-loop-s l = l.sum + size_of_block l.inner l.scopes (stmts_view (drop l.s-index l.body)) ≡ size_of_block l.inner l.scopes (stmts_view l.body)
+invariant-size_of_statements-loop-s l = l.sum + size_of_block l.depth (stmts_view (drop l.s-index l.body)) ≡ size_of_block l.depth (stmts_view l.body)
+
+abbrev pub invariant-size_of_bodies-loop-arm : goal.invariant-size_of_bodies-loop-arm
+invariant-size_of_bodies-loop-arm l = l.sum + size_of_block l.depth (switch_view (drop l.arm-index l.arms)) ≡ size_of_block l.depth (switch_view l.arms)

@@ -15,5 +15,5 @@ returns c =
     let old = c.args.ops.now in
     let e = expr_view c.args.e.now in
     let value = c.in_ok-expression.ensures ∙ ap (λ a. old ++ code p a (length old) 0 Used e Push) c.full_of-around.ensures in
-    let closed = behind_it old (code p (full_of c.args.at e) (length old) 0 Used e Push) c.expression.new.ops c.close_all.new.ops (all_closed c.args.inside.scopes) value c.in_ok-close_all.ensures in
-    behind_it old (code p (full_of c.args.at e) (length old) 0 Used e Push ++ all_closed c.args.inside.scopes) c.close_all.new.ops c.emit.new.ops (op 0 (Return c.args.inside.result) ∷ []) closed c.in_ok-emit.ensures
+    let closed = behind_it old (code p (full_of c.args.at e) (length old) 0 Used e Push) c.expression.new.ops c.close_all.new.ops (all_closed c.args.inside.depth.scopes) value c.in_ok-close_all.ensures in
+    behind_it old (code p (full_of c.args.at e) (length old) 0 Used e Push ++ all_closed c.args.inside.depth.scopes) c.close_all.new.ops c.emit.new.ops (op 0 (Return c.args.inside.result) ∷ []) closed c.in_ok-emit.ensures

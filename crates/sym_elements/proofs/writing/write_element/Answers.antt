@@ -8,11 +8,11 @@ loop-i-init c = writes_begin (program_view c.args.program.now) c.args.object c.a
 
 pub loop-i-preserved : goal.loop-i-preserved
 loop-i-preserved c =
-    let within : c.loop-i.i < length c.as_slice-bits.result.now = omega (arith, ap length c.as_slice-bits.ensures, c.requires.places_of.wide, c.size_of_object-i-end.ensures) in
+    let within : c.loop-i.i < length c.as_slice-bits.result.now = omega arith in
     writes_next (program_view c.args.program.now) c.args.object c.as_slice-bits.result.now c.args.value.now.bits _ c.loop-i.invariant (rw c.as_slice-bits.ensures c.requires.places_of.inside) c.requires.value_in within refl c.in_ok-write_place.ensures
 
 pub returns : goal.returns
 returns c =
     writes_all (program_view c.args.program.now) c.args.object c.args.places.now c.args.value.now.bits c.requires.places_of
     (subst (λ z. Writes (program_view c.args.program.now) c.args.object z c.args.value.now.bits c.args.sym.now c.loop-i.sym c.loop-i.i) c.as_slice-bits.ensures c.loop-i.invariant)
-    (omega (arith, c.size_of_object-i-end.ensures))
+    (omega (arith, ap length c.as_slice-bits.ensures))

@@ -9,18 +9,14 @@ pub loop-i-init : goal.loop-i-init
 loop-i-init c = live_none (program_view c.args.program.now) c.args.object c.args.places.now c.requires.fits c.yes.ensures c.not-live.ensures
 
 pub loop-i-preserved : goal.loop-i-preserved
-loop-i-preserved c =
-    let within : c.loop-i.i < length c.args.places.now = omega (arith, c.requires.wide, c.size_of_object-i-end.ensures) in
-    live_next (program_view c.args.program.now) c.args.object c.args.places.now _ c.loop-i.invariant c.requires.inside within refl c.is_live-held.ensures c.in_ok-live.ensures
+loop-i-preserved c = live_next (program_view c.args.program.now) c.args.object c.args.places.now _ c.loop-i.invariant c.requires.inside (omega arith) refl c.is_live-held.ensures c.in_ok-live.ensures
 
 pub returns : goal.returns
 returns c =
-    subst (λ k. Decided (program_view c.args.program.now) (3 * k) c.args.sym.now c.loop-i.sym c.loop-i.live (λ v. is_some (held_in (program_view c.args.program.now) c.args.object c.args.sym.now c.args.places.now k v))) (omega (arith, c.size_of_object-i-end.ensures)) c.loop-i.invariant
+    subst (λ k. Decided (program_view c.args.program.now) (3 * k) c.args.sym.now c.loop-i.sym c.loop-i.live (λ v. is_some (held_in (program_view c.args.program.now) c.args.object c.args.sym.now c.args.places.now k v))) (omega arith) c.loop-i.invariant
 
 pub pick-requires-clause-go_in : goal.pick-requires-clause-go_in
-pick-requires-clause-go_in c =
-    let within : c.loop-i.i < length c.args.places.now = omega (arith, c.requires.wide, c.size_of_object-i-end.ensures) in
-    place_in (program_view c.args.program.now) c.args.object c.args.places.now _ c.loop-i.invariant c.requires.inside within
+pick-requires-clause-go_in c = place_in (program_view c.args.program.now) c.args.object c.args.places.now _ c.loop-i.invariant c.requires.inside (omega arith)
 
 pub pick-requires-clause-room : goal.pick-requires-clause-room
-pick-requires-clause-room c = live_room (program_view c.args.program.now) c.args.object c.args.places.now c.loop-i.invariant (omega (arith, c.size_of_object-i-end.ensures)) c.requires.room
+pick-requires-clause-room c = live_room (program_view c.args.program.now) c.args.object c.args.places.now c.loop-i.invariant (omega arith) c.requires.room

@@ -2,33 +2,35 @@ use mir.Val.{SFits}
 use mir.Syntax.{w128}
 use Rattle.std.proofs.lemmas.Int.{to_z-of_z}
 use Rattle.std.proofs.Common.{rules, ◌≡◌, ◌∙◌, refl, sym, ap, subst, arith, None}
-use Rattle.c_core.specs.Tree.{Expr, Const, Var, Index, Unary, Cast, Step, Binary, Logic, Choose, Comma, Assign, Call}
+use Rattle.c_core.specs.Tree.{Expr, Const, Var, Index, Unary, Cast, Step, Binary, Logic, Choose, Comma, Assign, Call, NoExp, MoreExp}
 use Rattle.c_core.specs.View.{program_view, expr_view, exprs_view, node_view}
-use Rattle.c_core.proofs.View.{view_of_call}
+use Rattle.c_core.proofs.View.{view_of_index, view_of_call}
 use Rattle.c_meaning.specs.Value.{value_of}
 use Rattle.c_meaning.proofs.Valued.{step_gives, assign_gives, call_gives}
 use Rattle.sym_invariants.specs.Valued.{weight_of, Ready, SeesExpression}
-use Rattle.sym_invariants.proofs.Forms.{element_first, const_fits, const_sees, scalar_typed, var_sees, none_sees, unary_first, unary_side, unary_step, cast_first, cast_side, cast_step, void_step, binary_first, binary_next, binary_sides, binary_defined, binary_step, logic_first, logic_next, logic_sides, logic_defined, logic_step, comma_first, comma_next, comma_defined, comma_room, comma_step, choice_first, choice_yes, choice_no, yes_in, yes_fits, no_in, no_fits, chosen_sides, choice_step, element_side, element_step}
+use Rattle.sym_invariants.proofs.Forms.{element_first, const_fits, const_sees, scalar_typed, var_sees, none_sees, unary_first, unary_side, unary_step, cast_first, cast_side, cast_step, void_step, binary_first, binary_next, binary_sides, binary_defined, binary_step, logic_first, logic_next, logic_sides, logic_defined, logic_step, comma_first, comma_next, comma_defined, comma_room, comma_step, choice_first, choice_yes, choice_no, yes_in, yes_fits, no_in, no_fits, chosen_sides, choice_step, element_side, element_step, row_next, row_sides, row_defined, row_step}
 use Rattle.sym_invariants.proofs.values.+value.Goals as goal
 
 pub value_bits-element-requires : goal.value_bits-element-requires
 value_bits-element-requires t c =
-    let e : node_view c.args.e.now.node ≡ Index c.in-Index.object (expr_view c.deref.result.now) = rw (c.in-Index.is, c.deref.ensures) refl in
+    let e : node_view c.args.e.now.node ≡ Index c.in-Index.object (exprs_view c.as_slice.result.now) =
+    ap node_view c.in-Index.is ∙ view_of_index c.in-Index.object c.in-Index.at ∙ ap (λ es. Index c.in-Index.object (exprs_view es)) (sym c.as_slice.ensures) in
     (omega (arith, c.decreases, ap (λ k. weight_of (program_view c.args.program.now) (Expr c.args.e.now.spot c.args.e.now.ty k)) e), subst (λ k. Ready (program_view c.args.program.now) c.args.sym.now (Expr c.args.e.now.spot c.args.e.now.ty k)) e c.requires)
 
 pub value_bits-returns-in_ok-r-in-Index : goal.value_bits-returns-in_ok-r-in-Index
 value_bits-returns-in_ok-r-in-Index t c =
-    let e : node_view c.args.e.now.node ≡ Index c.in-Index.object (expr_view c.deref.result.now) = rw (c.in-Index.is, c.deref.ensures) refl in
+    let e : node_view c.args.e.now.node ≡ Index c.in-Index.object (exprs_view c.as_slice.result.now) =
+    ap node_view c.in-Index.is ∙ view_of_index c.in-Index.object c.in-Index.at ∙ ap (λ es. Index c.in-Index.object (exprs_view es)) (sym c.as_slice.ensures) in
     subst (λ k. SeesExpression (program_view c.args.program.now) (Expr c.args.e.now.spot c.args.e.now.ty k) c.args.sym.now c.element.new.sym c.in_ok-r-in-Index.r.bits.bits c.in_ok-r-in-Index.r.defined) (sym e) c.in_ok-r-in-Index.ensures
 
 pub value_bits-unary-requires : goal.value_bits-unary-requires
 value_bits-unary-requires t c =
-    let e : node_view c.args.e.now.node ≡ Unary c.in-Unary.op (expr_view c.deref-in-Unary.result.now) = rw (c.in-Unary.is, c.deref-in-Unary.ensures) refl in
+    let e : node_view c.args.e.now.node ≡ Unary c.in-Unary.op (expr_view c.deref.result.now) = rw (c.in-Unary.is, c.deref.ensures) refl in
     (omega (arith, c.decreases, ap (λ k. weight_of (program_view c.args.program.now) (Expr c.args.e.now.spot c.args.e.now.ty k)) e), subst (λ k. Ready (program_view c.args.program.now) c.args.sym.now (Expr c.args.e.now.spot c.args.e.now.ty k)) e c.requires)
 
 pub value_bits-returns-in_ok-r-in-Unary : goal.value_bits-returns-in_ok-r-in-Unary
 value_bits-returns-in_ok-r-in-Unary t c =
-    let e : node_view c.args.e.now.node ≡ Unary c.in-Unary.op (expr_view c.deref-in-Unary.result.now) = rw (c.in-Unary.is, c.deref-in-Unary.ensures) refl in
+    let e : node_view c.args.e.now.node ≡ Unary c.in-Unary.op (expr_view c.deref.result.now) = rw (c.in-Unary.is, c.deref.ensures) refl in
     subst (λ k. SeesExpression (program_view c.args.program.now) (Expr c.args.e.now.spot c.args.e.now.ty k) c.args.sym.now c.unary.new.sym c.in_ok-r-in-Unary.r.bits.bits c.in_ok-r-in-Unary.r.defined) (sym e) c.in_ok-r-in-Unary.ensures
 
 pub value_bits-cast-requires : goal.value_bits-cast-requires
@@ -124,9 +126,6 @@ value_bits-returns-in_ok-r-in-Call t c =
     let e : node_view c.args.e.now.node ≡ Call c.in-Call.callee (exprs_view c.in-Call.args) c.in-Call.close = ap node_view c.in-Call.is ∙ view_of_call c.in-Call.callee c.in-Call.args c.in-Call.close in
     none_sees (program_view c.args.program.now) c.args.sym.now c.in_ok-r-in-Call.r.bits.bits c.in_ok-r-in-Call.r.defined c.args.e.now.spot c.args.e.now.ty (node_view c.args.e.now.node) c.type_of-in-Call.result c.type_of-in-Call.ensures c.requires.fits
     (λ cs. subst (λ k. value_of (program_view c.args.program.now) (Expr c.args.e.now.spot c.args.e.now.ty k) cs ≡ None) (sym e) (call_gives (program_view c.args.program.now) c.args.e.now.spot c.args.e.now.ty cs c.in-Call.callee (exprs_view c.in-Call.args) c.in-Call.close)) c.in_ok-r-in-Call.ensures
-
-pub element-value_bits-requires : goal.element-value_bits-requires
-element-value_bits-requires t c = (omega (arith, c.decreases), element_first (program_view c.args.program.now) c.args.spot c.args.ty c.args.object (expr_view c.args.at.now) c.requires)
 
 pub unary-value_bits-requires : goal.unary-value_bits-requires
 unary-value_bits-requires t c = (omega (arith, c.decreases), unary_first (program_view c.args.program.now) c.args.spot c.args.ty c.args.op (expr_view c.args.of.now) c.requires)
@@ -260,14 +259,41 @@ choice-chosen-requires-clause-room t c = (chosen_sides (program_view c.args.prog
 pub choice-returns : goal.choice-returns
 choice-returns t c = choice_step (program_view c.args.program.now) c.args.spot c.args.mark c.args.ty (expr_view c.args.condition.now) (expr_view c.args.yes.now) (expr_view c.args.no.now) c.requires c.in_ok-e.ensures c.in_ok-x.ensures c.in_ok-y.ensures c.type_of.result c.type_of.ensures c.in_ok-u.ensures c.type_of-2.result c.type_of-3.result c.type_of-2.ensures c.type_of-3.ensures c.in_ok-w.ensures c.in_ok-r.ensures
 
-pub element-element_at-requires-clause-index_in : goal.element-element_at-requires-clause-index_in
-element-element_at-requires-clause-index_in t c = (element_side (program_view c.args.program.now) c.args.spot c.args.ty c.args.object (expr_view c.args.at.now) c.type_of.result c.type_of.ensures c.requires c.in_ok-index.ensures).0
+pub indexed-value_bits-requires : goal.indexed-value_bits-requires
+indexed-value_bits-requires t c = (omega (arith, c.decreases), element_first (program_view c.args.program.now) c.args.spot c.args.ty c.args.object (expr_view c.args.index.now) NoExp c.requires)
 
-pub element-element_at-requires-clause-index_defined : goal.element-element_at-requires-clause-index_defined
-element-element_at-requires-clause-index_defined t c = (element_side (program_view c.args.program.now) c.args.spot c.args.ty c.args.object (expr_view c.args.at.now) c.type_of.result c.type_of.ensures c.requires c.in_ok-index.ensures).1
+pub indexed-element_at-requires-clause-index_in : goal.indexed-element_at-requires-clause-index_in
+indexed-element_at-requires-clause-index_in t c = (element_side (program_view c.args.program.now) c.args.spot c.args.ty c.args.object (expr_view c.args.index.now) c.type_of.result c.type_of.ensures c.requires c.in_ok-x.ensures).0
 
-pub element-element_at-requires-clause-room : goal.element-element_at-requires-clause-room
-element-element_at-requires-clause-room t c = (element_side (program_view c.args.program.now) c.args.spot c.args.ty c.args.object (expr_view c.args.at.now) c.type_of.result c.type_of.ensures c.requires c.in_ok-index.ensures).2
+pub indexed-element_at-requires-clause-index_defined : goal.indexed-element_at-requires-clause-index_defined
+indexed-element_at-requires-clause-index_defined t c = (element_side (program_view c.args.program.now) c.args.spot c.args.ty c.args.object (expr_view c.args.index.now) c.type_of.result c.type_of.ensures c.requires c.in_ok-x.ensures).1
 
-pub element-returns : goal.element-returns
-element-returns t c = element_step (program_view c.args.program.now) c.args.spot c.args.ty c.args.object (expr_view c.args.at.now) c.type_of.result c.type_of.ensures c.requires c.in_ok-index.ensures c.in_ok-r.ensures
+pub indexed-element_at-requires-clause-room : goal.indexed-element_at-requires-clause-room
+indexed-element_at-requires-clause-room t c = (element_side (program_view c.args.program.now) c.args.spot c.args.ty c.args.object (expr_view c.args.index.now) c.type_of.result c.type_of.ensures c.requires c.in_ok-x.ensures).2
+
+pub indexed-returns : goal.indexed-returns
+indexed-returns t c = element_step (program_view c.args.program.now) c.args.spot c.args.ty c.args.object (expr_view c.args.index.now) c.type_of.result c.type_of.ensures c.requires c.in_ok-x.ensures c.in_ok-r.ensures
+
+pub indexed_twice-value_bits-requires : goal.indexed_twice-value_bits-requires
+indexed_twice-value_bits-requires t c = (omega (arith, c.decreases), element_first (program_view c.args.program.now) c.args.spot c.args.ty c.args.object (expr_view c.args.row.now) (MoreExp (expr_view c.args.column.now) NoExp) c.requires)
+
+pub indexed_twice-value_bits-requires-2 : goal.indexed_twice-value_bits-requires-2
+indexed_twice-value_bits-requires-2 t c = (omega (arith, c.decreases), row_next (program_view c.args.program.now) c.args.spot c.args.ty c.args.object (expr_view c.args.row.now) (expr_view c.args.column.now) c.requires c.in_ok-x.ensures)
+
+pub indexed_twice-element_in_row-requires-clause-row_in : goal.indexed_twice-element_in_row-requires-clause-row_in
+indexed_twice-element_in_row-requires-clause-row_in t c = (row_sides (program_view c.args.program.now) c.args.spot c.args.ty c.args.object (expr_view c.args.row.now) (expr_view c.args.column.now) c.type_of.result c.type_of-2.result c.type_of.ensures c.type_of-2.ensures c.requires c.in_ok-x.ensures c.in_ok-y.ensures).0
+
+pub indexed_twice-element_in_row-requires-clause-row_defined : goal.indexed_twice-element_in_row-requires-clause-row_defined
+indexed_twice-element_in_row-requires-clause-row_defined t c = row_defined (program_view c.args.program.now) c.args.spot c.args.ty c.args.object (expr_view c.args.row.now) (expr_view c.args.column.now) c.requires c.in_ok-x.ensures c.in_ok-y.ensures
+
+pub indexed_twice-element_in_row-requires-clause-column_in : goal.indexed_twice-element_in_row-requires-clause-column_in
+indexed_twice-element_in_row-requires-clause-column_in t c = (row_sides (program_view c.args.program.now) c.args.spot c.args.ty c.args.object (expr_view c.args.row.now) (expr_view c.args.column.now) c.type_of.result c.type_of-2.result c.type_of.ensures c.type_of-2.ensures c.requires c.in_ok-x.ensures c.in_ok-y.ensures).1
+
+pub indexed_twice-element_in_row-requires-clause-column_defined : goal.indexed_twice-element_in_row-requires-clause-column_defined
+indexed_twice-element_in_row-requires-clause-column_defined t c = c.in_ok-y.ensures.seen.defined.inside
+
+pub indexed_twice-element_in_row-requires-clause-room : goal.indexed_twice-element_in_row-requires-clause-room
+indexed_twice-element_in_row-requires-clause-room t c = (row_sides (program_view c.args.program.now) c.args.spot c.args.ty c.args.object (expr_view c.args.row.now) (expr_view c.args.column.now) c.type_of.result c.type_of-2.result c.type_of.ensures c.type_of-2.ensures c.requires c.in_ok-x.ensures c.in_ok-y.ensures).2
+
+pub indexed_twice-returns : goal.indexed_twice-returns
+indexed_twice-returns t c = row_step (program_view c.args.program.now) c.args.spot c.args.ty c.args.object (expr_view c.args.row.now) (expr_view c.args.column.now) c.type_of.result c.type_of-2.result c.type_of.ensures c.type_of-2.ensures c.requires c.in_ok-x.ensures c.in_ok-y.ensures c.in_ok-r.ensures

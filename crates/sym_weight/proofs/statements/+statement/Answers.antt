@@ -1,19 +1,23 @@
-use Rattle.std.proofs.Common.{◌≡◌, ◌++◌, Option, None, Some, refl, ap, sym, ◌∙◌}
+use Rattle.std.proofs.Common.{◌≡◌, ◌++◌, Option, None, Some, refl, ap, sym, ◌∙◌, append_assoc}
 use Rattle.std.specs.declared.alloc.Global.{Global}
 use Rattle.std.specs.declared.boxed.Box.{Box}
 use Rattle.c_calls.specs.Loops.{changed_if, loop_of}
-use Rattle.c_core.specs.Tree.{Block, DoWhile, For, If, While}
-use Rattle.c_core.specs.View.{expr_view, expr_view_if, first_view, form_view, program_view, stmt_view, stmts_view}
+use Rattle.c_core.specs.Tree.{Block, DoWhile, For, If, Switch, While}
+use Rattle.c_core.specs.View.{expr_view, expr_view_if, first_view, form_view, program_view, stmt_view, stmts_view, switch_view}
 use Rattle.c_core.specs.declared.tree.Expr.{Expr}
 use Rattle.c_core.specs.declared.tree.Form as tree
 use Rattle.c_core.specs.declared.tree.Stmt.{Stmt}
-use Rattle.c_core.proofs.View.{view_of_block}
+use Rattle.c_core.proofs.View.{view_of_block, view_of_switch}
+use Rattle.c_core.specs.Typing.{labels_in}
 use Rattle.c_meaning.specs.Changed.{changed_by}
 use Rattle.c_meaning.specs.Meaning.{WhileLoop, DoLoop, ForLoop}
-use Rattle.sym_weight.specs.Sum.{control, control_if, expression_if, first, form, head, otherwise, statement, statements}
-use Rattle.sym_weight.specs.Tally.{cost, placed_of, plus, tallying}
+use Rattle.c_meaning.specs.Objects.{type_of}
+use Rattle.sym_weight.specs.Sum.{control, control_if, expression, expression_if, first, form, head, otherwise, statement, statements}
+use Rattle.sym_weight.specs.Table.{chooses}
+use Rattle.sym_weight.specs.Tally.{capped, cost, placed_of, plus, tallying}
 use Rattle.sym_weight.specs.Views.{else_of}
-use Rattle.sym_weight.proofs.Costs.{statements_alone, three, five}
+use Rattle.sym_weight.proofs.Arms.{calls_on, costs_on, settled_on}
+use Rattle.sym_weight.proofs.Costs.{capped_twice, statements_alone, three, five}
 use Rattle.sym_weight.proofs.statements.+statement.Goals as goal
 
 view_of_if : (e : Expr) (a : Box Stmt Global) (b : Option (Box Stmt Global)) → form_view (tree.If e a b) ≡ If (expr_view e) (stmt_view a.value) (else_of b)
@@ -101,3 +105,52 @@ statements-loop-s-init t c = record {
       ∙ statements_alone (program_view c.args.weigher.program.now) (placed_of c.args.weigher) c.args.returns (stmts_view c.args.body.now);
   calls = refl;
 }
+
+pub statements_of_arms-loop-arm-init : goal.statements_of_arms-loop-arm-init
+statements_of_arms-loop-arm-init t c = record {
+  settled = ap (λ s. plus s (cost 0 0)) c.nothing-sum.ensures ∙ sym c.nothing-sum.ensures;
+  value = ap (λ s. plus s (statements (program_view c.args.weigher.program.now) tallying (placed_of c.args.weigher) c.args.returns (switch_view c.args.arms.now)).cost) c.nothing-sum.ensures
+      ∙ statements_alone (program_view c.args.weigher.program.now) (placed_of c.args.weigher) c.args.returns (switch_view c.args.arms.now);
+  calls = refl;
+}
+
+pub statements_of_arms-loop-arm-preserved : goal.statements_of_arms-loop-arm-preserved
+statements_of_arms-loop-arm-preserved t c =
+    let p = program_view c.args.weigher.program.now in
+    let P = placed_of c.args.weigher in
+    let i = c.loop-arm.arm-index in
+    let a = c.arm-item.result in
+    record {
+      settled = settled_on p P c.args.returns c.loop-arm.sum c.in_ok-cost.cost _ c.plus-sum.ensures;
+      value = costs_on p P c.args.returns c.args.arms.now i a c.as_slice.result.now c.loop-arm.sum c.in_ok-cost.cost _ _ c.loop-arm-test.true c.arm-item.is c.as_slice.ensures c.in_ok-cost.ensures.cost c.plus-sum.ensures c.loop-arm.invariant.value;
+      calls = calls_on p P c.args.returns c.args.arms.now i a c.as_slice.result.now c.loop-arm.calls.items _ _ c.loop-arm-test.true c.arm-item.is c.as_slice.ensures c.in_ok-cost.ensures.calls c.loop-arm.invariant.calls;
+    }
+
+pub form-returns-in_ok-inner-in-Switch-clause-cost : goal.form-returns-in_ok-inner-in-Switch-clause-cost
+form-returns-in_ok-inner-in-Switch-clause-cost t c =
+    let p = program_view c.args.weigher.program.now in
+    let e : form_view c.args.form.now ≡ Switch (expr_view c.in-Switch.test) (switch_view c.in-Switch.arms) = ap form_view c.in-Switch.is ∙ view_of_switch c.in-Switch.test c.in-Switch.arms in
+    three (expression p tallying (expr_view c.in-Switch.test)).cost
+    (cost (chooses p.model (type_of (expr_view c.in-Switch.test)) (labels_in (switch_view c.in-Switch.arms))) 0)
+    (statements p tallying (placed_of c.args.weigher) c.args.returns (switch_view c.in-Switch.arms)).cost
+    c.in_ok-test-in-Switch.test c.weighs-choice.result c.in_ok-inner-in-Switch.inner _ _ _
+    c.in_ok-test-in-Switch.ensures.cost
+    (c.weighs-choice.ensures
+    ∙ ap (λ w. cost w 0)
+    (c.chooses.ensures ∙ ap (λ ty. capped (chooses p.model ty (labels_in (switch_view c.as_slice-arms.result.now)))) c.type_of.ensures
+    ∙ ap (λ arms. capped (chooses p.model (type_of (expr_view c.in-Switch.test)) (labels_in (switch_view arms)))) c.as_slice-arms.ensures)
+    ∙ ap (λ w. record { weight = w; bits = capped 0 }) (capped_twice (chooses p.model (type_of (expr_view c.in-Switch.test)) (labels_in (switch_view c.in-Switch.arms)))))
+    (c.in_ok-inner-in-Switch.ensures.cost ∙ ap (λ arms. (statements p tallying (placed_of c.args.weigher) c.args.returns (switch_view arms)).cost) c.as_slice-arms.ensures)
+    c.plus-in-Switch.ensures c.plus-in-Switch-2.ensures
+    (ap (λ f. (form p tallying (placed_of c.args.weigher) c.args.returns c.args.spot f).cost) e)
+
+pub form-returns-in_ok-inner-in-Switch-clause-calls : goal.form-returns-in_ok-inner-in-Switch-clause-calls
+form-returns-in_ok-inner-in-Switch-clause-calls t c =
+    let p = program_view c.args.weigher.program.now in
+    let e : form_view c.args.form.now ≡ Switch (expr_view c.in-Switch.test) (switch_view c.in-Switch.arms) = ap form_view c.in-Switch.is ∙ view_of_switch c.in-Switch.test c.in-Switch.arms in
+    let all = (statements p tallying (placed_of c.args.weigher) c.args.returns (switch_view c.in-Switch.arms)).calls in
+    c.in_ok-inner-in-Switch.ensures.calls
+    ∙ ap (λ arms. c.expression-in-Switch.new.calls.items ++ (statements p tallying (placed_of c.args.weigher) c.args.returns (switch_view arms)).calls) c.as_slice-arms.ensures
+    ∙ ap (λ xs. xs ++ all) c.in_ok-test-in-Switch.ensures.calls
+    ∙ append_assoc c.args.calls.now.items (expression p tallying (expr_view c.in-Switch.test)).calls all
+    ∙ sym (ap (λ f. c.args.calls.now.items ++ (form p tallying (placed_of c.args.weigher) c.args.returns c.args.spot f).calls) e)

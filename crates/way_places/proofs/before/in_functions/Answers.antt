@@ -1,9 +1,10 @@
 use Rattle.std.proofs.Common.{◌+◌, ap, sym, ◌∙◌, drop}
 use Rattle.std.specs.Option.{option_copied, option_map}
-use Rattle.c_core.specs.TreeView.{functions_view, stmt_view}
 use Rattle.c_core.specs.Parts.{statements_of}
+use Rattle.c_core.specs.View.{functions_view, stmt_view}
+use Rattle.c_core.proofs.ArmLaws.{item_first}
 use Rattle.way_places.specs.Seeking.{before_of, statements_of_functions}
-use Rattle.way_places.proofs.SeekingLaws.{before_of_both, item_first}
+use Rattle.way_places.proofs.SeekingLaws.{before_of_both}
 use Rattle.way_places.proofs.before.in_functions.Goals as goal
 
 pub loop-function-preserved : goal.loop-function-preserved

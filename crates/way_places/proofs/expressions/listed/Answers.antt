@@ -1,9 +1,10 @@
 use Rattle.std.proofs.Common.{◌+◌, ap, sym, ◌∙◌, drop}
 use Rattle.std.specs.Option.{option_copied}
-use Rattle.c_core.specs.TreeView.{expr_view, expr_view_if, exprs_view}
-use Rattle.way_places.specs.Sought.{each_in_list, parts_of}
+use Rattle.c_core.specs.View.{expr_view, expr_view_if, exprs_view}
+use Rattle.c_core.proofs.ArmLaws.{item_first}
 use Rattle.way_places.specs.Seeking.{first_of, is_wanted}
-use Rattle.way_places.proofs.SeekingLaws.{first_of_both, item_first}
+use Rattle.way_places.specs.Sought.{each_in_list, parts_of}
+use Rattle.way_places.proofs.SeekingLaws.{first_of_both}
 use Rattle.way_places.proofs.expressions.listed.Goals as goal
 
 pub loop-e-preserved : goal.loop-e-preserved

@@ -1,14 +1,21 @@
 use Rattle.std.proofs.Common.{◌≡◌, ◌++◌, ◌∷◌, [], ap, sym, ◌∙◌}
-use Rattle.c_core.specs.Tree.{Call}
-use Rattle.c_core.specs.TreeView.{exprs_view, node_view}
 use Rattle.c_core.specs.Places.{place, places_in_arguments, places_in_node}
+use Rattle.c_core.specs.Tree.{Call, Index}
+use Rattle.c_core.specs.View.{exprs_view, node_view}
 use Rattle.c_core.specs.declared.place.PlaceKind.TheVariants.{CallEnd}
-use Rattle.c_core.proofs.View.{view_of_call}
+use Rattle.c_core.proofs.View.{view_of_call, view_of_index}
 use Rattle.way_places.proofs.listed.+expression.Goals as goal
 
 pub push_node-returns-in_ok-push_call-in-Call : goal.push_node-returns-in_ok-push_call-in-Call
 push_node-returns-in_ok-push_call-in-Call t c =
     let e : node_view c.args.node.now ≡ Call c.in-Call.callee (exprs_view c.in-Call.args) c.in-Call.close = ap node_view c.in-Call.is ∙ view_of_call c.in-Call.callee c.in-Call.args c.in-Call.close in
     c.in_ok-push_call-in-Call.ensures
-    ∙ ap (λ es. c.args.list.now.items ++ (places_in_arguments (exprs_view es) ++ place CallEnd c.in-Call.close ∷ [])) c.as_slice.ensures
+    ∙ ap (λ es. c.args.list.now.items ++ (places_in_arguments (exprs_view es) ++ place CallEnd c.in-Call.close ∷ [])) c.as_slice-in-Call.ensures
+    ∙ sym (ap (λ n. c.args.list.now.items ++ places_in_node n) e)
+
+pub push_node-returns-in_ok-push_arguments-in-Index : goal.push_node-returns-in_ok-push_arguments-in-Index
+push_node-returns-in_ok-push_arguments-in-Index t c =
+    let e : node_view c.args.node.now ≡ Index c.in-Index.object (exprs_view c.in-Index.at) = ap node_view c.in-Index.is ∙ view_of_index c.in-Index.object c.in-Index.at in
+    c.in_ok-push_arguments-in-Index.ensures
+    ∙ ap (λ es. c.args.list.now.items ++ places_in_arguments (exprs_view es)) c.as_slice.ensures
     ∙ sym (ap (λ n. c.args.list.now.items ++ places_in_node n) e)

@@ -1,6 +1,6 @@
 use Rattle.std.proofs.Common.{◌≡◌, ◌++◌, drop}
-use Rattle.c_core.specs.TreeView.{stmts_view}
 use Rattle.c_core.specs.Parts.{statements_of_block}
+use Rattle.c_core.specs.View.{switch_view, stmts_view}
 use Rattle.way_places.specs.Neighbours.{among, pairs_view}
 use Rattle.way_places.proofs.neighbours.+statement.Given as goal
 
@@ -8,3 +8,7 @@ use Rattle.way_places.proofs.neighbours.+statement.Given as goal
 abbrev pub invariant-push_block-loop-s : goal.invariant-push_block-loop-s
 invariant-push_block-loop-s l =
     (pairs_view l.list.items ++ among (statements_of_block (stmts_view (drop l.s-index l.body))) ≡ pairs_view l.initial.list.items ++ among (statements_of_block (stmts_view l.body)))
+
+abbrev pub invariant-push_arms-loop-arm : goal.invariant-push_arms-loop-arm
+invariant-push_arms-loop-arm l =
+    (pairs_view l.list.items ++ among (statements_of_block (switch_view (drop l.arm-index l.arms))) ≡ pairs_view l.initial.list.items ++ among (statements_of_block (switch_view l.arms)))

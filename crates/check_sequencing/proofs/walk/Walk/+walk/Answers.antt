@@ -1,7 +1,7 @@
 use Rattle.std.proofs.Common.{◌≡◌, ap, subst, sym, refl, ◌∙◌, [], ◌∷◌}
-use Rattle.c_core.specs.Tree.{Expr, Const, Var, Binary, Logic, Choose, Comma, Assign, Call}
+use Rattle.c_core.specs.Tree.{Expr, Const, Var, Binary, Logic, Choose, Comma, Assign, Index, Call}
 use Rattle.c_core.specs.TreeView.{expr_view, exprs_view, node_view}
-use Rattle.c_core.proofs.View.{view_of_call}
+use Rattle.c_core.proofs.View.{view_of_index, view_of_call}
 use Rattle.check_sequencing.specs.Typed.{Operands, tested, tested_all, tested_in}
 use Rattle.check_sequencing.specs.Walking.{IsGone}
 use Rattle.check_sequencing.proofs.WalkLaws.{gone_all, gone_both, gone_nothing, gone_one_more, gone_three, same_after}
@@ -56,8 +56,14 @@ parts-returns-in_ok-expression-in-Choose-3-clause-gone t c =
 pub parts-returns-in_ok-arguments-in-Call-clause-gone : goal.parts-returns-in_ok-arguments-in-Call-clause-gone
 parts-returns-in_ok-arguments-in-Call-clause-gone t c =
     let e : node_view c.args.node.now ≡ Call c.in-Call.callee (exprs_view c.in-Call.args) c.in-Call.close = ap node_view c.in-Call.is ∙ view_of_call c.in-Call.callee c.in-Call.args c.in-Call.close in
+    subst (λ n. IsGone c.args.self.now c.arguments-in-Call.new.self (tested_in n)) (sym e)
+    (subst (λ es. IsGone c.args.self.now c.arguments-in-Call.new.self (tested_all (exprs_view es))) c.as_slice-in-Call.ensures c.in_ok-arguments-in-Call.ensures.gone)
+
+pub parts-returns-in_ok-arguments-in-Index-clause-gone : goal.parts-returns-in_ok-arguments-in-Index-clause-gone
+parts-returns-in_ok-arguments-in-Index-clause-gone t c =
+    let e : node_view c.args.node.now ≡ Index c.in-Index.object (exprs_view c.in-Index.at) = ap node_view c.in-Index.is ∙ view_of_index c.in-Index.object c.in-Index.at in
     subst (λ n. IsGone c.args.self.now c.arguments.new.self (tested_in n)) (sym e)
-    (subst (λ es. IsGone c.args.self.now c.arguments.new.self (tested_all (exprs_view es))) c.as_slice.ensures c.in_ok-arguments-in-Call.ensures.gone)
+    (subst (λ es. IsGone c.args.self.now c.arguments.new.self (tested_all (exprs_view es))) c.as_slice.ensures c.in_ok-arguments-in-Index.ensures.gone)
 
 pub arguments-loop-arg-init : goal.arguments-loop-arg-init
 arguments-loop-arg-init t c = record {

@@ -13,6 +13,7 @@ use Rattle.way_places.specs.Maps.{first_in}
 use Rattle.way_places.specs.Neighbours.{pairs_view}
 use Rattle.way_places.proofs.IndexLaws.{aim_is_leftmost, aims_are_found, call_is_found, first_before, first_call}
 use Rattle.way_places.proofs.NeighbourLaws.{before_is_neighbour}
+use Rattle.way_places.proofs.SwitchLaws.{switch_is_listed}
 use Rattle.way_places.proofs.index.Index.new.Goals as goal
 
 pub invariant_of-result : goal.invariant_of-result
@@ -41,4 +42,5 @@ invariant_of-result c =
       befores = λ q.
           ap (λ o. option_map stmt_view (option_copied o)) (c.in_ok-befores.ensures q) ∙ first_before c.as_slice-2.result.now q
           ∙ ap (λ cs. first_in cs q) (ap pairs_view c.as_slice-2.ensures.value ∙ c.in_ok-pairs.ensures) ∙ before_is_neighbour p q;
+      switches = λ q. c.in_ok-switches.ensures q ∙ ap (λ cs. first_in cs q) (c.as_slice-3.ensures.value ∙ c.in_ok-typed.ensures) ∙ switch_is_listed p q;
     }

@@ -1,8 +1,9 @@
 use Rattle.std.proofs.Common.{◌+◌, ap, sym, ◌∙◌, drop}
-use Rattle.c_core.specs.TreeView.{functions_view, stmt_view}
 use Rattle.c_core.specs.Places.{places_of_body}
+use Rattle.c_core.specs.View.{functions_view, stmt_view}
+use Rattle.c_core.proofs.ArmLaws.{item_first}
 use Rattle.way_places.specs.Seeking.{best_of, places_of_functions}
-use Rattle.way_places.proofs.SeekingLaws.{best_of_both, item_first}
+use Rattle.way_places.proofs.SeekingLaws.{best_of_both}
 use Rattle.way_places.proofs.place.Location.functions.Goals as goal
 
 pub loop-function-preserved : goal.loop-function-preserved

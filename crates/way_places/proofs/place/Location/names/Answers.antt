@@ -1,8 +1,9 @@
 use Rattle.std.proofs.Common.{◌+◌, ap, sym, ◌∙◌, drop}
-use Rattle.c_core.specs.TreeView.{init_view, names_view}
 use Rattle.c_core.specs.Places.{places_in_init, places_in_names}
+use Rattle.c_core.specs.View.{init_view, names_view}
+use Rattle.c_core.proofs.ArmLaws.{item_first}
 use Rattle.way_places.specs.Seeking.{best_of}
-use Rattle.way_places.proofs.SeekingLaws.{best_of_both, item_first}
+use Rattle.way_places.proofs.SeekingLaws.{best_of_both}
 use Rattle.way_places.proofs.place.Location.names.Goals as goal
 
 pub loop-name-preserved : goal.loop-name-preserved

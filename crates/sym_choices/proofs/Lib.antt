@@ -1,0 +1,4 @@
+pub mod ArmLaws
+pub mod CaseLaws
+pub mod Held
+pub mod Labels

@@ -1,0 +1,33 @@
+use Rattle.std.proofs.Common.{◌≡◌, ◌+◌, ◌++◌, ap, sym, ◌∙◌, drop, append_assoc}
+use Rattle.c_core.specs.Parts.{statements_of_block, statements_of_form}
+use Rattle.c_core.specs.Tree.{Block, Switch}
+use Rattle.c_core.specs.View.{expr_view, form_view, stmts_view, switch_view}
+use Rattle.c_core.specs.declared.tree.Arm.{out-Arm}
+use Rattle.c_core.proofs.View.{view_of_block, view_of_switch}
+use Rattle.way_places.specs.Switches.{tests_among}
+use Rattle.way_places.proofs.ArmLaws.{statements_from}
+use Rattle.way_places.proofs.SwitchLaws.{tests_both}
+use Rattle.way_places.proofs.tests.+statement.Goals as goal
+
+pub push_form-returns-in_ok-push_block-in-Block : goal.push_form-returns-in_ok-push_block-in-Block
+push_form-returns-in_ok-push_block-in-Block t c =
+    let e : form_view c.args.form.now ≡ Block (stmts_view c.in-Block.body) = ap form_view c.in-Block.is ∙ view_of_block c.in-Block.body in
+    c.in_ok-push_block-in-Block.ensures
+    ∙ ap (λ ss. c.args.list.now.items ++ tests_among (statements_of_block (stmts_view ss))) c.as_slice.ensures
+    ∙ sym (ap (λ f. c.args.list.now.items ++ tests_among (statements_of_form f)) e)
+
+pub push_form-returns-in_ok-push_arms-in-Switch : goal.push_form-returns-in_ok-push_arms-in-Switch
+push_form-returns-in_ok-push_arms-in-Switch t c =
+    let e : form_view c.args.form.now ≡ Switch (expr_view c.in-Switch.test) (switch_view c.in-Switch.arms) = ap form_view c.in-Switch.is ∙ view_of_switch c.in-Switch.test c.in-Switch.arms in
+    c.in_ok-push_arms-in-Switch.ensures
+    ∙ ap (λ ss. c.args.list.now.items ++ tests_among (statements_of_block (switch_view ss))) c.as_slice-in-Switch.ensures
+    ∙ sym (ap (λ f. c.args.list.now.items ++ tests_among (statements_of_form f)) e)
+
+pub push_arms-loop-arm-preserved : goal.push_arms-loop-arm-preserved
+push_arms-loop-arm-preserved t c =
+    let rest = statements_of_block (switch_view (drop (c.loop-arm.arm-index + 1) c.args.arms.now)) in
+    let body = statements_of_block (stmts_view (out-Arm c.arm-item.result).body) in
+    ap (λ xs. xs ++ tests_among rest) (c.in_ok-push_block.ensures ∙ ap (λ ss. c.loop-arm.list.items ++ tests_among (statements_of_block (stmts_view ss))) c.as_slice.ensures)
+    ∙ append_assoc c.loop-arm.list.items (tests_among body) (tests_among rest)
+    ∙ ap (λ xs. c.loop-arm.list.items ++ xs) (sym (ap tests_among (statements_from c.args.arms.now c.loop-arm.arm-index c.arm-item.result c.loop-arm-test.true c.arm-item.is) ∙ tests_both body rest))
+    ∙ c.loop-arm.invariant
