@@ -66,14 +66,24 @@ module _ (p : Program) where
 
   fresh_by : (reach : List ℕ) (s : Stm) (es : List ℕ) → Fresh p reach (declared_in s ++ es)
       → Fresh p (reach ++ declared_by s) es
-  fresh_by reach s es f x = omega (arith, f x, times-append x (declared_in s) es, times-append x reach (declared_by s),
-      times_by x s)
+  fresh_by reach s es f x = omega (
+    arith,
+    f x,
+    times-append x (declared_in s) es,
+    times-append x reach (declared_by s),
+    times_by x s,
+  )
 
   fresh_in : (reach : List ℕ) (i : First) (es : List ℕ) → Fresh p reach (own.objects_of_first i ++ es)
       → Fresh p (reach ++ parts.objects_of_first i) es
   fresh_in reach i es f x =
-      omega (arith, f x, times-append x (own.objects_of_first i) es, times-append x reach (parts.objects_of_first i),
-          ap (times_in x) (same_named_first i))
+      omega (
+        arith,
+        f x,
+        times-append x (own.objects_of_first i) es,
+        times-append x reach (parts.objects_of_first i),
+        ap (times_in x) (same_named_first i),
+      )
 
   module _ (h : IsProgram p) (result : Option IntType) where
     abbrev test : Stm → Bool
@@ -85,22 +95,22 @@ module _ (p : Program) where
         → IsFramedTurn p at l
     turn_of reach at l f d sound n ty s t q =
         turn_framed p l h Seen keep (λ q. some_of (some_node q) (fulls_of_loop l) ≡ true) sound reach
-            (record { result = result; fits = f; fresh = d; seen = λ q g. g }) n ty at s t q
+        (record { result = result; fits = f; fresh = d; seen = λ q g. g }) n ty at s t q
 
     mutual
       turns_s : (reach : List ℕ) (s : Stm) → IsTrue (every_statement test s) → IsTrue (statement_reaches p reach s)
           → IsTrue (every_statement statement_nests s) → Fresh p reach (declared_in s) → Each (statements_of s)
       turns_s reach (Stmt at f) t r n d =
           turns_f reach at f (fits_s p h (named p) (asks p h) result reach reach (sees_itself p h reach)
-              (Stmt at f) t r n) (λ b. true≢false (sym b ∙ targets_s p result (Stmt at f) t))
+          (Stmt at f) t r n) (λ b. true≢false (sym b ∙ targets_s p result (Stmt at f) t))
           (both (test (Stmt at f)) (every_statement_in test f) t).1 r
-              (both (statement_nests (Stmt at f)) (every_statement_in statement_nests f) n).1 d
+          (both (statement_nests (Stmt at f)) (every_statement_in statement_nests f) n).1 d
 
       turns_f : (reach : List ℕ) (at : Spot) (f : Form) → FitsF p (named p) result reach at f
           → (some_of (some_node assigns_no_target) (fulls_of_form f) ≡ true → ⊥)
           → IsTrue (every_statement_in test f) → IsTrue (form_reaches p reach f)
-              → IsTrue (every_statement_in statement_nests f) → Fresh p reach (declared_in_form f)
-              → Each (Stmt at f ∷ statements_of_form f)
+          → IsTrue (every_statement_in statement_nests f) → Fresh p reach (declared_in_form f)
+          → Each (Stmt at f ∷ statements_of_form f)
       turns_f reach at Empty g w t r n d = with_parts at Empty tt (All-nil Q)
       turns_f reach at (Do e) g w t r n d = with_parts at (Do e) tt (All-nil Q)
       turns_f reach at (Declare ns) g w t r n d = with_parts at (Declare ns) tt (All-nil Q)
@@ -108,32 +118,32 @@ module _ (p : Program) where
       turns_f reach at (If e a b) g w t r n d =
           let u = both (every_statement test a) (every_statement_else test b) t in
           let k = both (statement_reaches p reach a) (else_reaches p reach b)
-              (both (reaches p reach e) (statement_reaches p reach a && else_reaches p reach b) r).1 in
+          (both (reaches p reach e) (statement_reaches p reach a && else_reaches p reach b) r).1 in
           let m = both (every_statement statement_nests a) (every_statement_else statement_nests b) n in
           with_parts at (If e a b) tt
           (All-append Q (statements_of a) (statements_of_else b)
-              (turns_s reach a u.0 k.0 m.0 (fresh_left p reach (declared_in a) (declared_in_else b) d))
-              (turns_else reach b u.1 k.1 m.1 (fresh_right p reach (declared_in a) (declared_in_else b) d)))
+          (turns_s reach a u.0 k.0 m.0 (fresh_left p reach (declared_in a) (declared_in_else b) d))
+          (turns_else reach b u.1 k.1 m.1 (fresh_right p reach (declared_in a) (declared_in_else b) d)))
       turns_f reach at (While e b) g w t r n d =
           with_parts at (While e b) (turn_of reach at (WhileLoop e b) (g.1, g.2) d w)
-              (turns_s reach b t (both (reaches p reach e) (statement_reaches p reach b) r).1 n d)
+          (turns_s reach b t (both (reaches p reach e) (statement_reaches p reach b) r).1 n d)
       turns_f reach at (DoWhile b e) g w t r n d =
           with_parts at (DoWhile b e) (turn_of reach at (DoLoop b e) (g.1, g.2) d w)
-              (turns_s reach b t (both (statement_reaches p reach b) (reaches p reach e) r).0 n d)
+          (turns_s reach b t (both (statement_reaches p reach b) (reaches p reach e) r).0 n d)
       turns_f reach at (For i e s b) g w t r n d =
           let first = own.fulls_of_first i in
           let k = both (first_reaches p reach i) (list_all (reaches p (reach ++ parts.objects_of_first i))
-              (parts.exp_if e ++ parts.exp_if s) && statement_reaches p (reach ++ parts.objects_of_first i) b) r in
+          (parts.exp_if e ++ parts.exp_if s) && statement_reaches p (reach ++ parts.objects_of_first i) b) r in
           let j = both (list_all (reaches p (reach ++ parts.objects_of_first i)) (parts.exp_if e ++ parts.exp_if s))
-              (statement_reaches p (reach ++ parts.objects_of_first i) b) k.1 in
+          (statement_reaches p (reach ++ parts.objects_of_first i) b) k.1 in
           let whole = ap (λ es. es ++ fulls_of b) (append_assoc first (exp_if e) (exp_if s))
-              ∙ append_assoc first (exp_if e ++ exp_if s) (fulls_of b) in
+          ∙ append_assoc first (exp_if e ++ exp_if s) (fulls_of b) in
           with_parts at (For i e s b)
           (turn_of (after_first p (named p) reach i) at (ForLoop e s b) (g.2, g.3, g.4)
-              (fresh_first p reach i (declared_in b) d)
+          (fresh_first p reach i (declared_in b) d)
           (λ x. w (ap (some_of (some_node assigns_no_target)) whole
-              ∙ some-append (some_node assigns_no_target) first (exp_if e ++ exp_if s ++ fulls_of b)
-              ∙ or_right (some_of (some_node assigns_no_target) first) _ x)))
+          ∙ some-append (some_node assigns_no_target) first (exp_if e ++ exp_if s ++ fulls_of b)
+          ∙ or_right (some_of (some_node assigns_no_target) first) _ x)))
           (turns_s (reach ++ parts.objects_of_first i) b t j.1 n (fresh_in reach i (declared_in b) d))
       turns_f reach at Break g w t r n d = with_parts at Break tt (All-nil Q)
       turns_f reach at Continue g w t r n d = with_parts at Continue tt (All-nil Q)
@@ -157,8 +167,8 @@ module _ (p : Program) where
           let k = both (statement_reaches p reach s) (block_reaches p (reach ++ declared_by s) b) r in
           let m = both (every_statement statement_nests s) (every_statement_of statement_nests b) n in
           All-append Q (statements_of s) (statements_of_block b)
-              (turns_s reach s u.0 k.0 m.0 (fresh_left p reach (declared_in s) (declared_in_block b) d))
-              (turns_b (reach ++ declared_by s) b u.1 k.1 m.1 (fresh_by reach s (declared_in_block b) d))
+          (turns_s reach s u.0 k.0 m.0 (fresh_left p reach (declared_in s) (declared_in_block b) d))
+          (turns_b (reach ++ declared_by s) b u.1 k.1 m.1 (fresh_by reach s (declared_in_block b) d))
       turns_b reach (MoreCase spot l b) t r n d = turns_b reach b t r n d
 
   in_functions : (fs : List Function) → ((i : ℕ) (fn : Function) → slice_get fs i ≡ Some fn
@@ -174,7 +184,7 @@ module _ (p : Program) where
   pub turns_framed : IsProgram p → Each (statements_of_program p)
   turns_framed h =
       in_functions p.functions (λ i fn e. turns_s h fn.result fn.params fn.body
-          (at_every (function_fits p) p.functions i fn h.types e)
-          (at_every (function_reaches p) p.functions i fn h.reach e)
+      (at_every (function_fits p) p.functions i fn h.types e)
+      (at_every (function_reaches p) p.functions i fn h.reach e)
       (both (is_block fn.body) (every_statement statement_nests fn.body)
-          (at_every function_nests p.functions i fn h.blocks e)).1 (fresh_of h i fn e))
+      (at_every function_nests p.functions i fn h.blocks e)).1 (fresh_of h i fn e))

@@ -43,7 +43,7 @@ behind_two : {E T A B C D : Type 0} (r : Res E T A) (m : A → T → Res E T B) 
 behind_two r m f g =
     bind_behind r (λ v t. bind (m v t) (λ w q. f v w q)) g
     ∙ bind_alike r (λ v t. bind (bind (m v t) (λ w q. f v w q)) g) (λ v t. bind (m v t) (λ w q. bind (f v w q) g))
-        (λ v t. bind_behind (m v t) (f v) g)
+    (λ v t. bind_behind (m v t) (f v) g)
 
 -- more than two indexes name no cell
 too_many : (n c m : ℕ) (js : List (ℤ × IntType)) → length js ≡ suc (suc (suc m)) → cell_among n c js ≡ None
@@ -74,7 +74,7 @@ module _ (p : Program) (c : Code) (S : Type 0) (after : Event → List Cell → 
   found_again : {B : Type 0} (spot : Spot) (o : ℕ) (x : Option ℕ) (f : Key → State S → Res End (State S) B)
       (t : State S) → ((k : ℕ) → x ≡ Some k → k < size_of_object p o)
       → bind (bind (KeyOf spot 0 x t) (λ i u. Go (pos i.index) u))
-          (λ v u. bind (KeyOf spot o (index_below (size_of_object p o) v) u) f) ≡ bind (KeyOf spot o x t) f
+      (λ v u. bind (KeyOf spot o (index_below (size_of_object p o) v) u) f) ≡ bind (KeyOf spot o x t) f
   found_again spot o None f t h = refl
   found_again spot o (Some k) f t h = ap (λ b. bind (KeyOf spot o (cond b (Some k) None) t) f)
       (lt-ltb k (size_of_object p o) (h k refl))
@@ -100,15 +100,15 @@ module _ (p : Program) (c : Code) (S : Type 0) (after : Event → List Cell → 
         let K = λ (js : List (ℤ × IntType)) (t : State S). Among spot o js t in
         subst (Comes p c S after (standing κ i s))
         (paying_alike p c S after k (λ u. bind (index u) (λ v t. bind (K ((v, type_of a) ∷ []) t) F))
-            (λ u. bind (ElementOf at spot o (MoreExp a NoExp) u) F) s
+        (λ u. bind (ElementOf at spot o (MoreExp a NoExp) u) F) s
         (λ u. sym (ap (λ r. bind r F) (one_index (index u) (type_of a) K)
-            ∙ bind_behind (index u) (λ v t. K ((v, type_of a) ∷ []) t) F)))
+        ∙ bind_behind (index u) (λ v t. K ((v, type_of a) ∷ []) t) F)))
         (operand_comes p c S after n a ih f (λ v κ t. bind (KeyOf spot o (index_below (size_of_object p o) v) t)
-            (λ key u. G key κ u)) finds at i k κ s h below)
+        (λ key u. G key κ u)) finds at i k κ s h below)
 
     two_found : (a b : Exp) → Values p c S after n a → Values p c S after n b → (i k : ℕ) (κ : Control) (s : State S)
         → HasCode c i (taken (element_code p at i k spot o (MoreExp a (MoreExp b NoExp))) f) → s.steps ≤ n
-            → Found (MoreExp a (MoreExp b NoExp)) i k κ s
+        → Found (MoreExp a (MoreExp b NoExp)) i k κ s
     two_found a b iha ihb i k κ s h below =
         let rows = rows_of_object p o in
         let columns = columns_of_object p o in
@@ -118,14 +118,14 @@ module _ (p : Program) (c : Code) (S : Type 0) (after : Event → List Cell → 
         let one = λ (u : State S). Eval p c S after n at Used a u in
         let two = λ (v : ℤ) (t : State S). Eval p c S after n at Used b t in
         let cell_at = λ (v w : ℤ) (q : State S). KeyOf spot 0
-            (in_row columns (index_below rows v) (index_below columns w)) q in
+        (in_row columns (index_below rows v) (index_below columns w)) q in
         let number = λ (v w : ℤ) (q : State S). bind (cell_at v w q) (λ i u. Go (pos i.index) u) in
         let numbered = λ (u : State S). bind (one u) (λ v t. bind (two v t) (λ w q. number v w q)) in
         let to = λ (x : ℤ) (u : State S). control_at (record κ { stack = x ∷ κ.stack }) (i + z) in
         let last = λ (x : ℤ) (u : State S). bind (KeyOf spot o (index_below (size_of_object p o) x) u) F in
         let K = λ (js : List (ℤ × IntType)) (t : State S). Among spot o js t in
         let both = paired_at i (prepared (operand_of a) k (code p at i k Used a Push)) (operand_of b)
-            (λ j l. code p at j l Used b Push) in
+        (λ j l. code p at j l Used b Push) in
         let first = taken_both both (λ y z. Row rows columns y z spot) in
         let whole = element_size p at i k spot o (MoreExp a (MoreExp b NoExp)) f in
         let sized : length first ≡ z = omega (arith, whole, length-append first (op 0 (f Top) ∷ [])) in
@@ -135,37 +135,37 @@ module _ (p : Program) (c : Code) (S : Type 0) (after : Event → List Cell → 
         let reached : Comes p c S after (standing κ i s) (bind r (λ x u. Go (to x u) u)) =
         subst (Comes p c S after (standing κ i s))
         (paying_alike p c S after k (λ u. bind (one u) (λ v t. bind (two v t)
-            (λ w q. bind (cell_at v w q) (λ i u. Go (to (pos i.index) u) u))))
-            (λ u. bind (numbered u) (λ x u. Go (to x u) u)) s
+        (λ w q. bind (cell_at v w q) (λ i u. Go (to (pos i.index) u) u))))
+        (λ u. bind (numbered u) (λ x u. Go (to x u) u)) s
         (λ u. sym (behind_two (one u) two number (λ x u. Go (to x u) u)
         ∙ bind_alike (one u) (λ v t. bind (two v t) (λ w q. bind (number v w q) (λ x u. Go (to x u) u)))
-            (λ v t. bind (two v t) (λ w q. bind (cell_at v w q) (λ i u. Go (to (pos i.index) u) u)))
+        (λ v t. bind (two v t) (λ w q. bind (cell_at v w q) (λ i u. Go (to (pos i.index) u) u)))
         (λ v t. bind_alike (two v t) (λ w q. bind (number v w q) (λ x u. Go (to x u) u))
-            (λ w q. bind (cell_at v w q) (λ i u. Go (to (pos i.index) u) u))
+        (λ w q. bind (cell_at v w q) (λ i u. Go (to (pos i.index) u) u))
         (λ w q. bind_behind (cell_at v w q) (λ i u. Go (pos i.index) u) (λ x u. Go (to x u) u)))))
         ∙ sym (paying_behind p c S after k numbered (λ x u. Go (to x u) u) s))
         (both_comes p c S after n a b iha ihb (λ y z. Row rows columns y z spot)
-            (λ v w κ t. bind (cell_at v w t) (λ i u. Go (record κ { stack = pos i.index ∷ κ.stack }) u))
+        (λ v w κ t. bind (cell_at v w t) (λ i u. Go (record κ { stack = pos i.index ∷ κ.stack }) u))
         (row_takes p c S after n rows columns spot) at i k κ s parts.0 below) in
         let done = comes_then p c S after (standing κ i s) r to (λ x u. u) last reached
         (λ x u d. subst (Comes p c S after (standing (record κ { stack = x ∷ κ.stack }) (i + z) u))
         (finds Top (control_at (record κ { stack = x ∷ κ.stack }) (suc (i + z))) u
-            ∙ ap (λ l. bind (KeyOf spot o (index_below (size_of_object p o) x) u)
-            (λ key w. G key (control_at κ l) w)) j)
+        ∙ ap (λ l. bind (KeyOf spot o (index_below (size_of_object p o) x) u)
+        (λ key w. G key (control_at κ l) w)) j)
         (op_comes p c S after (i + z) (op 0 (f Top)) (record κ { stack = x ∷ κ.stack }) u parts.1.0)) in
         subst (Comes p c S after (standing κ i s))
         (paying_behind p c S after k numbered last s
         ∙ paying_alike p c S after k (λ u. bind (numbered u) last)
-            (λ u. bind (ElementOf at spot o (MoreExp a (MoreExp b NoExp)) u) F) s
+        (λ u. bind (ElementOf at spot o (MoreExp a (MoreExp b NoExp)) u) F) s
         (λ u. behind_two (one u) two number last
         ∙ bind_alike (one u) (λ v t. bind (two v t) (λ w q. bind (number v w q) last))
-            (λ v t. bind (two v t) (λ w q. bind (K ((v, type_of a) ∷ ((w, type_of b) ∷ [])) q) F))
+        (λ v t. bind (two v t) (λ w q. bind (K ((v, type_of a) ∷ ((w, type_of b) ∷ [])) q) F))
         (λ v t. bind_alike (two v t) (λ w q. bind (number v w q) last)
-            (λ w q. bind (K ((v, type_of a) ∷ ((w, type_of b) ∷ [])) q) F)
+        (λ w q. bind (K ((v, type_of a) ∷ ((w, type_of b) ∷ [])) q) F)
         (λ w q. found_again spot o (in_row columns (index_below rows v) (index_below columns w)) F q
-            (among_is (size_of_object p o) columns ((v, type_of a) ∷ ((w, type_of b) ∷ [])))))
+        (among_is (size_of_object p o) columns ((v, type_of a) ∷ ((w, type_of b) ∷ [])))))
         ∙ sym (ap (λ r. bind r F) (two_indexes (one u) (λ t. two (pos 0) t) (type_of a) (type_of b) K)
-            ∙ behind_two (one u) two (λ v w q. K ((v, type_of a) ∷ ((w, type_of b) ∷ [])) q) F)))
+        ∙ behind_two (one u) two (λ v w q. K ((v, type_of a) ∷ ((w, type_of b) ∷ [])) q) F)))
         done
 
     none_found : (i k : ℕ) (κ : Control) (s : State S) → HasCode c i (taken (element_code p at i k spot o NoExp) f)
@@ -174,13 +174,13 @@ module _ (p : Program) (c : Code) (S : Type 0) (after : Event → List Cell → 
         let F = λ (key : Key) (w : State S). G key (control_at κ (i + 1)) w in
         subst (Comes p c S after (standing κ i s))
         (paying_alike p c S after k _ (λ u. bind (ElementOf at spot o NoExp u) F) s
-            (λ u. finds (Number (negsuc 0)) (control_at κ (suc i)) u))
+        (λ u. finds (Number (negsuc 0)) (control_at κ (suc i)) u))
         (op_comes p c S after i (op k (f (Number (negsuc 0)))) κ s h.0)
 
     many_found : (a b d : Exp) (es : Exps) → InArgs p c S after n (MoreExp a (MoreExp b (MoreExp d es)))
         → (i k : ℕ) (κ : Control) (s : State S)
         → HasCode c i (taken (element_code p at i k spot o (MoreExp a (MoreExp b (MoreExp d es)))) f) → s.steps ≤ n
-            → Found (MoreExp a (MoreExp b (MoreExp d es))) i k κ s
+        → Found (MoreExp a (MoreExp b (MoreExp d es))) i k κ s
     many_found a b d es ih i k κ s h below =
         let is = MoreExp a (MoreExp b (MoreExp d es)) in
         let z = size_of_all is in
@@ -189,20 +189,20 @@ module _ (p : Program) (c : Code) (S : Type 0) (after : Event → List Cell → 
         let K = λ (js : List (ℤ × IntType)) (t : State S). Among spot o js t in
         let indexes = λ (u : State S). ArgsOf p c S after n at is u in
         let parts = code_parts c i z (args_code p at i k Drop is) (op 0 (f (Number (negsuc 0))) ∷ [])
-            (args_size p at i k Drop is) h in
+        (args_size p at i k Drop is) h in
         let j : suc (i + z) ≡ J = omega arith in
         subst (Comes p c S after (standing κ i s))
         (paying_behind p c S after k indexes (λ js t. bind (K js t) F) s
         ∙ paying_alike p c S after k (λ u. bind (indexes u) (λ js t. bind (K js t) F))
-            (λ u. bind (ElementOf at spot o is u) F) s (λ u. sym (bind_behind (indexes u) K F)))
+        (λ u. bind (ElementOf at spot o is u) F) s (λ u. sym (bind_behind (indexes u) K F)))
         (comes_on p c S after (λ (js : List (ℤ × IntType)). length js ≡ _) (standing κ i s)
-            (paying p c S after k indexes s) (λ js u. control_at κ (i + z)) (λ js u. u) (λ js t. bind (K js t) F)
+        (paying p c S after k indexes s) (λ js u. control_at κ (i + z)) (λ js u. u) (λ js t. bind (K js t) F)
         (gives_behind (λ (js : List (ℤ × IntType)). length js ≡ _)
-            (ticks p (meaning p c S after) AStatement k s) indexes (λ u. counted p c S after n at is u))
+        (ticks p (meaning p c S after) AStatement k s) indexes (λ u. counted p c S after n at is u))
         (listed_drop p c S after n is ih at i k κ s parts.0 below)
         (λ js u q l. subst (Comes p c S after (standing κ (i + z) u))
         (finds (Number (negsuc 0)) (control_at κ (suc (i + z))) u
-            ∙ sym (ap (λ x. bind (KeyOf spot o x u) F) (too_many (size_of_object p o) (columns_of_object p o) _ js q)))
+        ∙ sym (ap (λ x. bind (KeyOf spot o x u) F) (too_many (size_of_object p o) (columns_of_object p o) _ js q)))
         (op_comes p c S after (i + z) (op 0 (f (Number (negsuc 0)))) κ u parts.1.0)))
 
     -- the indexes of an element, and the operation that takes its cell's number
@@ -223,11 +223,11 @@ module _ (p : Program) (c : Code) (S : Type 0) (after : Event → List Cell → 
       let look : Key → State S → Res End (State S) ℤ = λ l w. Go (read l w.cells) w in
       subst (Comes p c S after (standing κ i s))
       (paying_alike p c S after k (λ u. bind (ElementOf at spot o is u) (λ l w. F (read l w.cells) w))
-          (λ u. bind (NodeOf p c S after n at want spot ty (Index o is) u) F) s
+      (λ u. bind (NodeOf p c S after n at want spot ty (Index o is) u) F) s
       (λ u. bind_behind (indexes u) K (λ l w. F (read l w.cells) w)
       ∙ sym (bind_behind (indexes u) (λ js t. bind (K js t) look) F
-          ∙ bind_alike (indexes u) (λ js t. bind (bind (K js t) look) F)
-          (λ js t. bind (K js t) (λ l w. F (read l w.cells) w)) (λ js t. bind_behind (K js t) look F))))
+      ∙ bind_alike (indexes u) (λ js t. bind (bind (K js t) look) F)
+      (λ js t. bind (K js t) (λ l w. F (read l w.cells) w)) (λ js t. bind_behind (K js t) look F))))
       (element_found o (λ y. Look o (size_of_object p o) y spot into)
-          (λ l κ w. finished c S after (read l w.cells) (read l w.cells) into κ w) at spot
-          (look_takes p c S after n o (size_of_object p o) spot into) is ih i k κ s h below)
+      (λ l κ w. finished c S after (read l w.cells) (read l w.cells) into κ w) at spot
+      (look_takes p c S after n o (size_of_object p o) spot into) is ih i k κ s h below)

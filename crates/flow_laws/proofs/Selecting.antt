@@ -52,19 +52,21 @@ module _ (p : Program) (c : Code) (S : Type 0) (after : Event → List Cell → 
       → slice_get c.ops i ≡ Some (op 0 (ToCase at v to))
       → Compares d (suc i) to b (list_any (is_case x) (labels_in b)) (first_label (is_case x) (labels_in b))
       → Compares d i to (MoreCase spot (Case v) b) (t || list_any (is_case x) (labels_in b))
-          (cond t 0 (suc (first_label (is_case x) (labels_in b))))
+      (cond t 0 (suc (first_label (is_case x) (labels_in b))))
   compared true d i to spot v b e h rest =
       let same : x ≡ v = (Decides-int_eq x v).0 e in
       let l = control_at (record k { stack = x ∷ k.stack }) (suc i) in
       let acts : acted c S after (ToCase at v to) l s ≡ Go (control_at k to) (reported (ByCase x)) =
       ap (λ t. cond t (sent c S after at (ByCase v) to l s) (Go l s)) e
-          ∙ ap (λ z. Go (control_at k to) (reported (ByCase z))) (sym same) in
-      (λ _. op_goes c S after p i (record k { stack = x ∷ k.stack }) (control_at k to) s (reported (ByCase x))
-          (ToCase at v to) h acts, λ f. absurd (cc))
+      ∙ ap (λ z. Go (control_at k to) (reported (ByCase z))) (sym same) in (
+        λ _. op_goes c S after p i (record k { stack = x ∷ k.stack }) (control_at k to) s (reported (ByCase x))
+            (ToCase at v to) h acts,
+        λ f. absurd (cc),
+      )
   compared false d i to spot v b e h rest =
       let l = control_at (record k { stack = x ∷ k.stack }) (suc i) in
       let acts : acted c S after (ToCase at v to) l s ≡ Go l s =
-          ap (λ t. cond t (sent c S after at (ByCase v) to l s) (Go l s)) e in
+      ap (λ t. cond t (sent c S after at (ByCase v) to l s) (Go l s)) e in
       let on = op_goes c S after p i (record k { stack = x ∷ k.stack }) l s s (ToCase at v to) h acts in
       let n = length (cases_code d at to b) in
       let j : suc i + n ≡ i + suc n = omega arith in (
@@ -77,9 +79,11 @@ module _ (p : Program) (c : Code) (S : Type 0) (after : Event → List Cell → 
   -- the comparisons with the constants of arms
   compares : (d : Depth) (i to : ℕ) (b : Stms) → HasCode c i (cases_code d at to b)
       → Compares d i to b (list_any (is_case x) (labels_in b)) (first_label (is_case x) (labels_in b))
-  compares d i to NoStm h = let j : i ≡ i + 0 = omega arith in
-      (λ f. absurd (cc), λ f. subst (λ m. Reaches c S after (holding i) (holding m)) j
-      (reaches_itself c S after (holding i)))
+  compares d i to NoStm h = let j : i ≡ i + 0 = omega arith in (
+    λ f. absurd (cc),
+    λ f. subst (λ m. Reaches c S after (holding i) (holding m)) j
+        (reaches_itself c S after (holding i)),
+  )
   compares d i to (MoreStm st b) h = compares d i (to + size_of_statement d st) b h
   compares d i to (MoreCase spot (Case v) b) h = compared (int_eq x v) d i to spot v b refl h.0
       (compares d (suc i) to b h.1)
@@ -89,7 +93,7 @@ module _ (p : Program) (c : Code) (S : Type 0) (after : Event → List Cell → 
   abbrev Chooses : Depth → ℕ → ℕ → Stms → Bool → Type 0
   Chooses d i to b t =
       Reaches c S after (holding i) (AtArm d to (cond t (first_label (is_case x) (labels_in b))
-          (first_label is_default (labels_in b))) b (cond t (ByCase x) ByDefault))
+      (first_label is_default (labels_in b))) b (cond t (ByCase x) ByDefault))
 
   chosen : (t : Bool) (d : Depth) (i to : ℕ) (b : Stms) → list_any (is_case x) (labels_in b) ≡ t
       → HasCode c i (selection_code d at to b) → Chooses d i to b t
@@ -110,10 +114,10 @@ module _ (p : Program) (c : Code) (S : Type 0) (after : Event → List Cell → 
           let j = i + length (cases_code d at to b) in
           reaches_on c S after (holding i) (holding j) (standing k last (reported ByDefault)) (rest.1 e)
           (op_goes c S after p j (record k { stack = x ∷ k.stack }) (control_at k last) s (reported ByDefault)
-              (ToDefault at last) parts.1.0 refl)
+          (ToDefault at last) parts.1.0 refl)
 
   -- the value leads to its arm, and the way is reported
   pub selects : (d : Depth) (i to : ℕ) (b : Stms) → HasCode c i (selection_code d at to b)
       → Reaches c S after (holding i) (standing k (arm_at d to (arm_for x (labels_in b)) b)
-          (reported (way_for x (labels_in b))))
+      (reported (way_for x (labels_in b))))
   selects d i to b h = chosen (list_any (is_case x) (labels_in b)) d i to b refl h

@@ -2,8 +2,8 @@
 // statement that is a part; or the place where it fits no form.
 use c_core::{BinOp, IntType, StepOp, UnOp};
 use c_parser::{
-    Item, ParseFault, RawArm, RawDeclared, RawExpr, RawFirst, RawForm, RawInit, RawLabel, RawNode, RawRow, RawStmt, Source,
-    parse,
+    Item, ParseFault, RawArm, RawDeclared, RawExpr, RawFirst, RawForm, RawInit, RawLabel, RawNode,
+    RawRow, RawStmt, Source, parse,
 };
 use c_tokens::tokens;
 use row_files::{Files, NotTried, Row, program};

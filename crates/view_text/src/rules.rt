@@ -56,7 +56,8 @@ pub fn wanted_place(kind: &str) -> &'static str {
         "assumption" | "location_invariant" =>
             "the first character of a statement or of a declaration in a block",
         "loop_invariant" => "the first character of while, for or do",
-        "branching" => "the first character of if, while, for, do or switch, or the ? of a conditional",
+        "branching" =>
+            "the first character of if, while, for, do or switch, or the ? of a conditional",
         "function_enter" | "function_return" => "the closing parenthesis of a call",
         _ => "the first character of a statement, of a full expression or of a call of reach_error",
     }
