@@ -58,15 +58,15 @@ none_holds test (x ∷ xs) h = (first_fails (test x) _ h, none_holds test xs (se
 
 one_of_all : {A : Type 0} (P : A → Type 0) (xs : List A) → AllOf P xs → (x : A) → Contains xs x → P x
 one_of_all P [] h x c = absurd (omega (arith, c))
-one_of_all P (y ∷ xs) h x c = by (Contains-append_cases (y ∷ []) xs x c)
+one_of_all P (y ∷ xs) h x c = by (λ k. one_of_all P xs h.1 x k) (Contains-append_cases (y ∷ []) xs x c)
   where
     first : Contains [] x ⊎ (y ≡ x) → P x
     first (inl k) = absurd (omega (arith, k))
     first (inr e) = subst P e h.0
 
-    by : Contains (y ∷ []) x ⊎ Contains xs x → P x
-    by (inl k) = first (Contains-push_cases [] y x k)
-    by (inr k) = one_of_all P xs h.1 x k
+    by : (Contains xs x → P x) → Contains (y ∷ []) x ⊎ Contains xs x → P x
+    by later (inl k) = first (Contains-push_cases [] y x k)
+    by later (inr k) = later k
 
 -- an operand is there for its value or its effect
 abbrev IsRead : Role → Type 0
@@ -183,7 +183,7 @@ module _ (p : t.Program) (numbers : List ℕ) where
     node_goods r x q (Binary op a b) h t u =
         let ha = goods Value tt a (fit_first a b h.effectless h.scope h.constants) (all_front _ (parts es Value a) _ u) in
         let hb = goods Value tt b (fit_second a b h.effectless h.scope h.constants) (all_behind _ (parts es Value a) _ u) in
-        (head r x q _ h t refl refl (apart (parts es Value a ∷ parts es Value b ∷ []) (ha, hb, tt)), all_then Checked (parts es Value a) _ ha hb)
+        (head r x q _ h t refl refl (apart (parts es Value a ∷ parts es Value b ∷ []) (ha, (hb, tt))), all_then Checked (parts es Value a) _ ha hb)
     node_goods r x q (Logic both a b) h t u =
         let ha = goods Value tt a (fit_first a b h.effectless h.scope h.constants) (all_front _ (parts es Value a) _ u) in
         let hb = goods Value tt b (fit_second a b h.effectless h.scope h.constants) (all_behind _ (parts es Value a) _ u) in
