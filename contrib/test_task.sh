@@ -29,6 +29,9 @@ answers 'a list in the viewer' 7 '' --data-model LP64 view --list list
 answers 'a list by =' 7 '' --data-model LP64 view --list=list
 
 answers 'another model, as JSON' 3 '{"answer":"refused","code":"task-model","detail":"\"ILP32\""}' --data-model LP64 validate "${files[@]}" --json
+sed 's/data_model:.*/data_model: "a \\\\ \\" \\t b"/' w.yml >stated.yml
+answers 'any text' 3 'refused task-model "a \\ \" \t b"' --data-model LP64 validate "${files[@]:0:5}" stated.yml
+answers 'any text, as JSON' 3 '{"answer":"refused","code":"task-model","detail":"\"a \\\\ \\\" \\t b\""}' --data-model LP64 validate --json "${files[@]:0:5}" stated.yml
 answers 'no witness, as JSON' 4 '{"answer":"fault","detail":"read witness"}' --data-model LP64 validate "${files[@]:0:5}" nosuch.yml --json
 
 # a wrong `true`: in LP64 the sum can't overflow, in ILP32 it can

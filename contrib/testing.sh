@@ -18,6 +18,7 @@ run() { found=$("$@" 2>"$room/complaint" </dev/null) && status=0 || status=$?; }
 
 # same WHAT FOUND WANTED
 same() {
+  if [ -n "${WATCH-}" ]; then echo "$SECONDS s: $1" >&2; fi
   tried=$((tried + 1))
   if [ "$2" != "$3" ]; then
     failed=$((failed + 1))
@@ -33,7 +34,7 @@ holds() {
 }
 
 # The value of a key of a line of JSON, as Python prints it.
-key() { python3 -c 'import json, sys; print(json.loads(sys.argv[1]).get(sys.argv[2]))' "$1" "$2"; }
+key() { python3 -c 'import json, sys; print(json.load(sys.stdin).get(sys.argv[1]))' "$2" <<<"$1"; }
 
 told() {
   echo "$1: $((tried - failed)) of $tried passed"
