@@ -18,7 +18,7 @@ run() { found=$("$@" 2>"$room/complaint" </dev/null) && status=0 || status=$?; }
 
 # same WHAT FOUND WANTED
 same() {
-  if [ -n "${WATCH-}" ]; then echo "$SECONDS s: $1" >&2; fi
+
   tried=$((tried + 1))
   if [ "$2" != "$3" ]; then
     failed=$((failed + 1))
