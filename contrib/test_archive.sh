@@ -56,7 +56,7 @@ same 'the machine has Python' "$found" True
 run alone contrib/cluster/make-tasks 4 "$room/tasks"
 run bash -c 'cd tasks && env -i PATH=/usr/bin:/bin "$0" --list list' "$there/contrib/witval-line"
 same 'a list' "$(grep -c '"outcome": "judged"' <<<"$found")" 4
-mkdir "$room/as_installed" && cp "$there"/contrib/witval.py "$top/contrib/test_toolinfo.py" "$room/as_installed/" && cp -R "$top/examples" "$there/release" "$room/"
+mkdir "$room/as_installed" && cp -R "$there"/contrib/{witval.py,cluster} "$top/contrib/test_toolinfo.py" "$room/as_installed/" && cp -R "$top/examples" "$there/release" "$room/"
 run env WITVAL="$there/witval" python3 "$room/as_installed/test_toolinfo.py"
 same 'its module over the examples' "$status$(cat "$room/complaint")" 0
 holds 'no program of another machine' bash -c 'cd "$1" && rm release/witval-x86_64-linux && ! ./witval --build 2>/dev/null && ./witval show --witness w.yml 2>/dev/null; [ $? = 8 ]' - writable

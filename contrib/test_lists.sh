@@ -71,6 +71,22 @@ cp slurm.1 strange.2
 part 2 strange
 same 'the answers of another part' "$status $(answers strange.2)" "1 $(answers slurm.1)"
 
+# a real Slurm, where one answers: an array job that is cancelled, and goes on by the number of one task and then by all
+if command -v sbatch >/dev/null && timeout 10 sinfo >/dev/null 2>&1; then
+  by_slurm() { sbatch --parsable --mem=900 "$@" "$cluster/by-slurm.sbatch" 4 "$(dirname "$cluster")" list "$PWD/real" --seconds 600; }
+  job=$(by_slurm --array=1-4)
+  for _ in {1..300}; do [ -s real.1 ] || sleep 0.1; done
+  scancel "$job"
+  while squeue --noheader --jobs "$job" 2>/dev/null | grep -q .; do sleep 0.5; done
+  echo "Slurm: cancelled when $(cat real.* | wc -l) of 8 lines were judged"
+  by_slurm --array=3 --wait >/dev/null
+  same 'one task of the array' "$(answers real.3)" "$(sed -n '3~4p' one | answers /dev/stdin)"
+  by_slurm --array=1-4 --wait >/dev/null
+  same 'Slurm, cancelled and gone on' "$(answers real.* | sort)" "$(answers one | sort)"
+else
+  echo 'no Slurm answers here'
+fi
+
 if ! command -v parallel >/dev/null; then
   echo 'GNU parallel is not here'
   told lists
@@ -115,7 +131,7 @@ same 'no list' "$status" 2
 run "$by_parallel" short one
 same 'the answers of another list' "$status" 1
 
-if here=$("$cluster/ssh-here" "$room/ssh" 2>/dev/null); then
+if "$cluster/ssh-here" "$room/ssh" >/dev/null 2>&1; then
   export PARALLEL_SSH="ssh -F $room/ssh/config"
   HOSTS=one,two run "$by_parallel" list by_hosts --seconds 60
   same 'two hosts by ssh' "$status $(answers by_hosts)" "0 $(answers one)"

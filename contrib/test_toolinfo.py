@@ -11,6 +11,7 @@ import os
 import subprocess
 import sys
 import types
+import xml.etree.ElementTree
 from pathlib import Path
 
 sys.dont_write_bytecode = True
@@ -162,10 +163,17 @@ plain = TOOL.cmdline("/x/witval", ["--witness=w.yml", witval.NAME_PROPERTY], Tas
 hold("the option without others", plain, ["/x/witval-task", witval.NAME_PROPERTY, "validate", "--program", "p.c", "--property", "u.prp", "--witness=w.yml"])
 hold("the URL of the project", TOOL.project_url(), witval.PROJECT_URL)
 refused("another data model", ["--witness=w.yml"], Task(["p.c"], "u.prp", {"data_model": "LP32"}))
+refused("a list of data models", ["--witness=w.yml"], Task(["p.c"], "u.prp", {"data_model": ["ILP32"]}))
+refused("a number as data model", ["--witness=w.yml"], Task(["p.c"], "u.prp", {"data_model": 32}))
+refused("a list of languages", ["--witness=w.yml"], Task(["p.c"], "u.prp", {"language": ["C"]}))
+definition = xml.etree.ElementTree.parse(HERE / "cluster/witval.xml").getroot()
+hold("the benchmark definition's tool", definition.get("tool"), "witval")
+hold("its witness is an option", [it.get("name") for it in definition.iter("option")], ["--witness"])
+hold("it requires the file", [it.text for it in definition.iter("option")], [it.text for it in definition.iter("requiredfiles")])
 refused("another language", ["--witness=w.yml"], Task(["p.c"], "u.prp", {"language": "Java"}))
 hold("a task without options", TOOL.cmdline("/x/witval", ["--witness=w.yml"], Task(["p.c"], "u.prp", {}), None)[0], "/x/witval")
 hold("the version", TOOL.version(WITVAL), (HERE.parent / "release/VERSION").read_text().strip())
 for it in failed:
     print(it)
-print(f"{tried} runs and {len(REPLIES) + 15} replies and misuses tried, {len(failed)} failed")
+print(f"{tried} runs and {len(REPLIES) + 21} replies and misuses tried, {len(failed)} failed")
 sys.exit(bool(failed))

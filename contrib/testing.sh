@@ -1,3 +1,4 @@
+# shellcheck shell=bash disable=SC2034
 # For the tests of contrib/, which read it: a room of its own in which the scripts and the release stand as an archive has them, and a count of what
 # was tried. A test ends with `told NAME`.
 set -euo pipefail
@@ -18,7 +19,6 @@ run() { found=$("$@" 2>"$room/complaint" </dev/null) && status=0 || status=$?; }
 
 # same WHAT FOUND WANTED
 same() {
-
   tried=$((tried + 1))
   if [ "$2" != "$3" ]; then
     failed=$((failed + 1))
