@@ -1,6 +1,7 @@
 #!/usr/bin/env bash
-# Makes the archive and unpacks it in a folder of its own, where nothing of the toolchain or the repository is reached: the smoke test, the terminal
-# transcripts of its README, its links, the entry, one text of all licences, a list.
+# Makes the archive and unpacks it in a folder of its own, where nothing of the toolchain or the repository is
+# reached: the smoke test, the terminal transcripts of its README, its links, the entry, one text of all licences, a
+# list.
 . "$(dirname "$(readlink -f "$0")")/testing.sh"
 version=$(cat "$top/release/VERSION")
 archive=$top/witval-$version.zip

@@ -1,5 +1,6 @@
 #!/usr/bin/env bash
-# Tries witval-line: one line of JSON for a line of a list, whatever its bytes are and whatever becomes of the validator.
+# Tries witval-line: one line of JSON for a line of a list, whatever its bytes are and whatever becomes of the
+# validator.
 . "$(dirname "$(readlink -f "$0")")/testing.sh"
 fields='p.c unreach.prp w.yml'
 

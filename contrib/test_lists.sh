@@ -1,6 +1,7 @@
 #!/usr/bin/env bash
-# Tries lists by GNU parallel (where it stands here) and by the array job's script as Slurm calls it: order, answers, a call that was cut at any
-# moment, a list of any bytes, a full disk, a closed pipe, several hosts by ssh over loopback (where sshd stands here).
+# Tries lists by GNU parallel (where it stands here) and by the array job's script as Slurm calls it: order, answers,
+# a call that was cut at any moment, a list of any bytes, a full disk, a closed pipe, several hosts by ssh over
+# loopback (where sshd stands here).
 . "$(dirname "$(readlink -f "$0")")/testing.sh"
 "$cluster/make-tasks" 8 tasks
 cd tasks

@@ -1,6 +1,6 @@
 #!/usr/bin/env bash
-# Makes the package, installs it by dpkg into a folder of its own, tries what is installed there without the toolchain, removes it, and looks that
-# nothing is left. Needs dpkg and, as dpkg does, root.
+# Makes the package, installs it by dpkg into a folder of its own, tries what is installed there without the
+# toolchain, removes it, and looks that nothing is left. Needs dpkg and, as dpkg does, root.
 . "$(dirname "$(readlink -f "$0")")/testing.sh"
 version=$(cat "$top/release/VERSION")
 package=$top/witval_${version}_amd64.deb

@@ -1,5 +1,6 @@
 #!/usr/bin/env bash
-# Whether the table of docs/TASKS.md is what contrib/styles-table prints: each program in the style of a folder is judged by the release.
+# Whether the table of docs/TASKS.md is what contrib/styles-table prints: each program in the style of a folder is
+# judged by the release.
 . "$(dirname "$(readlink -f "$0")")/testing.sh"
 run "$top/contrib/styles-table"
 same 'status' "$status" 0

@@ -1,5 +1,6 @@
 #!/usr/bin/env bash
-# Tries witval-task: a witness that states another data model or language than the task gets no verdict, by `validate` and in the viewer.
+# Tries witval-task: a witness that states another data model or language than the task gets no verdict, by `validate`
+# and in the viewer.
 . "$(dirname "$(readlink -f "$0")")/testing.sh"
 files=(--program p.c --property unreach.prp --witness w.yml)
 confirmed=$(cat "$top/examples/first/answer")

@@ -1,5 +1,6 @@
 #!/usr/bin/env bash
-# Tries what ./witval and ./witval-view say of their words: help, versions, and at a terminal what is wrong; the program's own answer stays.
+# Tries what ./witval and ./witval-view say of their words: help, versions, and at a terminal what is wrong; the
+# program's own answer stays.
 . "$(dirname "$(readlink -f "$0")")/testing.sh"
 files='--program p.c --property unreach.prp --witness w.yml'
 
@@ -75,5 +76,25 @@ run bash -c '"$0" validate '"$files"' >/dev/full' "$witval"
 same 'a full disk' "$status" 5
 run bash -c '"$0" validate '"$files"' >&-' "$witval"
 same 'no standard output' "$status" 5
-holds 'a closed pipe ends it' bash -c 'set +o pipefail; timeout 20 "$0" demo --number 7 | true; s=${PIPESTATUS[0]}; [ $s = 5 ] || [ $s = 141 ] || [ $s = 0 ]' "$witval"
+run bash -c 'set +o pipefail; (sleep 0.5; exec timeout 20 "$0" demo --number 7) | true; exit "${PIPESTATUS[0]}"' "$witval"
+holds 'a closed pipe ends it' [ "$status" = 5 -o "$status" = 141 ]
+viewer=$room/witval/witval-view
+echo 'p.c unreach.prp w.yml' >list
+for it in "$files" "$files --html" "$files --sarif" '--list list'; do
+  run bash -c '"$0" '"$it"' >/dev/full' "$viewer"
+  same "the viewer, a full disk: $it" "$status" 5
+done
+run bash -c '"$0" --list list >/dev/full' "$viewer"
+holds 'it says so' grep -q "couldn't be written" "$room/complaint"
+
+# lists of the viewer: a mark in front is a part of the name, other bytes than UTF-8 are no list, a line that is none ends it
+printf '\xef\xbb\xbf' | cat - list >marked
+run "$viewer" --list marked
+same 'a byte order mark' "$status $(grep -c 'fault read program' <<<"$found")" '4 1'
+printf 'p\xff.c unreach.prp w.yml\n' >bytes
+run "$viewer" --list bytes
+same 'no UTF-8' "$status $found $(cat "$room/complaint")" "4  witval-view: the list can't be read, or isn't UTF-8"
+{ cat list; echo 'p.c unreach.prp w.yml ILP32'; cat list; } >longer
+run "$viewer" --list longer
+same 'four words' "$status $(wc -l <<<"$found")" '7 1'
 told words

@@ -1,6 +1,6 @@
 # shellcheck shell=bash disable=SC2034
-# For the tests of contrib/, which read it: a room of its own in which the scripts and the release stand as an archive has them, and a count of what
-# was tried. A test ends with `told NAME`.
+# For the tests of contrib/, which read it: a room of its own in which the scripts and the release stand as an archive
+# has them, and a count of what was tried. A test ends with `told NAME`.
 set -euo pipefail
 export LC_ALL=C.UTF-8
 top=$(dirname "$(dirname "$(readlink -f "${BASH_SOURCE[0]}")")")

@@ -4,8 +4,9 @@
 #SBATCH --cpus-per-task=1
 #SBATCH --mem=8G
 #SBATCH --output=/dev/null
-# An array job over a list: task K of N judges each N-th line from line K on and writes OUT.K, a line of JSON for each of its lines, in their order.
-# A task that runs again, by itself or by a call with its numbers (--array=3,7), goes on after the lines that its file has.
+# An array job over a list: task K of N judges each N-th line from line K on and writes OUT.K, a line of JSON for each
+# of its lines, in their order. A task that runs again, by itself or by a call with its numbers (--array=3,7), goes on
+# after the lines that its file has.
 #
 #     sbatch --array=1-200 contrib/cluster/by-slurm.sbatch 200 /path/of/contrib LIST OUT [witval-line's options]
 set -euo pipefail
