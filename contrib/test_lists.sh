@@ -80,9 +80,9 @@ if command -v sbatch >/dev/null && timeout 10 sinfo >/dev/null 2>&1; then
   scancel "$job"
   while squeue --noheader --jobs "$job" 2>/dev/null | grep -q .; do sleep 0.5; done
   echo "Slurm: cancelled when $(cat real.* | wc -l) of 8 lines were judged"
-  by_slurm --array=3 --wait >/dev/null
+  by_slurm --array=3 --wait >/dev/null || true
   same 'one task of the array' "$(answers real.3)" "$(sed -n '3~4p' one | answers /dev/stdin)"
-  by_slurm --array=1-4 --wait >/dev/null
+  by_slurm --array=1-4 --wait >/dev/null || true
   same 'Slurm, cancelled and gone on' "$(answers real.* | sort)" "$(answers one | sort)"
 else
   echo 'no Slurm answers here'

@@ -13,5 +13,8 @@ set -euo pipefail
 parts=$1 contrib=$2 list=$3 part=$SLURM_ARRAY_TASK_ID out=$4.$SLURM_ARRAY_TASK_ID
 shift 4
 [ "$part" -ge 1 ] && [ "$part" -le "$parts" ] || { echo "by-slurm: there is no part $part of $parts" >&2; exit 2; }
+# what writes to it still, of a task that was cancelled, is waited for
+exec 9>>"$out"
+flock 9
 ready=$("$contrib/cluster/whole-lines" "$list" "$out" "$part" "$parts")
 exec "$contrib/witval-line" "$@" --list "$list" --from "$((part + ready * parts))" --step "$parts" >>"$out"
