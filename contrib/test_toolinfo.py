@@ -11,6 +11,7 @@ import os
 import subprocess
 import sys
 import types
+import xml.etree.ElementTree
 from pathlib import Path
 
 sys.dont_write_bytecode = True
@@ -45,7 +46,7 @@ import witval  # noqa: E402
 from benchexec.tools.template import UnsupportedFeatureException  # noqa: E402
 
 Task = collections.namedtuple("Task", "input_files_or_identifier property_file options", defaults=(None,))
-Run = collections.namedtuple("Run", "output exit_code was_timeout")
+Run = collections.namedtuple("Run", "output exit_code was_timeout cmdline", defaults=((),))
 ExitCode = collections.namedtuple("ExitCode", "value signal")
 TOOL = witval.Tool()
 
@@ -116,7 +117,7 @@ def words_of(folder):
 def run(folder, words):
     ran = subprocess.run(words, cwd=folder, stdout=subprocess.PIPE, stderr=subprocess.STDOUT, text=True)
     code = ExitCode(ran.returncode, None) if ran.returncode >= 0 else ExitCode(None, -ran.returncode)
-    return TOOL.determine_result(Run(ran.stdout.splitlines(), code, False))
+    return TOOL.determine_result(Run(ran.stdout.splitlines(), code, False, words))
 
 
 def refused(what, options, task):
@@ -140,6 +141,10 @@ for folder in sorted(it.parent for it in HERE.parent.glob("examples/*/words")):
     for words in (by_option, by_file, by_task):
         hold(f"{folder.name}: {words}", run(folder, words), WANTED.get(folder.name))
         tried += 1
+    naming = TOOL.cmdline(WITVAL, ["--witness", given["--witness"], witval.NAME_PROPERTY, *more], Task([given["--program"]], given["--property"], task), None)
+    name = f"false({Path(given['--property']).stem})"
+    hold(f"{folder.name}: {naming}", run(folder, naming), name if WANTED.get(folder.name) == "false" else WANTED.get(folder.name))
+    tried += 1
     other = TOOL.cmdline(WITVAL, ["--witness", given["--witness"], *more], Task([given["--program"]], given["--property"], {"data_model": "LP64"}), None)
     hold(f"{folder.name}: {other}", run(folder, other), "ERROR (invalid witness: task-model)")
     tried += 1
@@ -153,11 +158,24 @@ refused("no witness", [], Task(["p.c"], "u.prp"))
 refused("two witnesses", ["--witness=w.yml"], Task(["p.c", "v.yml"], "u.prp"))
 refused("two programs", ["--witness=w.yml"], Task(["p.c", "q.c"], "u.prp"))
 refused("no property", ["--witness=w.yml"], Task(["p.c"], None))
+named = ["witval-task", witval.NAME_PROPERTY, "validate", "--program", "p.c", "--property", "../properties/unreach-call.prp"]
+for line, wanted in (("violation confirmed", "false(unreach-call)"), ("correctness confirmed", "true"), ("violation not confirmed", "unknown")):
+    hold(f"{line}, named", TOOL.determine_result(Run([line], ExitCode(0, None), False, named)), wanted)
+plain = TOOL.cmdline("/x/witval", ["--witness=w.yml", witval.NAME_PROPERTY], Task(["p.c"], "u.prp", {}), None)
+hold("the option without others", plain, ["/x/witval-task", witval.NAME_PROPERTY, "validate", "--program", "p.c", "--property", "u.prp", "--witness=w.yml"])
+hold("the URL of the project", TOOL.project_url(), witval.PROJECT_URL)
 refused("another data model", ["--witness=w.yml"], Task(["p.c"], "u.prp", {"data_model": "LP32"}))
+refused("a list of data models", ["--witness=w.yml"], Task(["p.c"], "u.prp", {"data_model": ["ILP32"]}))
+refused("a number as data model", ["--witness=w.yml"], Task(["p.c"], "u.prp", {"data_model": 32}))
+refused("a list of languages", ["--witness=w.yml"], Task(["p.c"], "u.prp", {"language": ["C"]}))
+definition = xml.etree.ElementTree.parse(HERE / "cluster/witval.xml").getroot()
+hold("the benchmark definition's tool", definition.get("tool"), "witval")
+hold("its witness is an option", [it.get("name") for it in definition.iter("option")], ["--witness"])
+hold("it requires the file", [it.text for it in definition.iter("option")], [it.text for it in definition.iter("requiredfiles")])
 refused("another language", ["--witness=w.yml"], Task(["p.c"], "u.prp", {"language": "Java"}))
 hold("a task without options", TOOL.cmdline("/x/witval", ["--witness=w.yml"], Task(["p.c"], "u.prp", {}), None)[0], "/x/witval")
-hold("the version", TOOL.version(str(HERE.parent / "witval")), (HERE.parent / "release/VERSION").read_text().strip())
+hold("the version", TOOL.version(WITVAL), (HERE.parent / "release/VERSION").read_text().strip())
 for it in failed:
     print(it)
-print(f"{tried} runs and {len(REPLIES) + 10} replies and misuses tried, {len(failed)} failed")
+print(f"{tried} runs and {len(REPLIES) + 21} replies and misuses tried, {len(failed)} failed")
 sys.exit(bool(failed))

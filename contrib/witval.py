@@ -10,6 +10,13 @@ import benchexec.result as result
 import benchexec.tools.template
 from benchexec.tools.template import UnsupportedFeatureException
 
+# Only a person can state it: contrib/CONTACT has it, and tools/archive writes it here.
+PROJECT_URL = None
+
+# An option of this module, not of witval: a violation is answered as false(NAME), NAME being the property file's without .prp, as other modules of
+# SV-COMP answer it: false(unreach-call). Without it the answer is false, which is meant for the task's one property.
+NAME_PROPERTY = "--name-property"
+
 # The codes of `refused CODE` by what has to be changed (docs/FORMATS.md has the table); `too-long` goes by its detail.
 OF_WITNESS = (
     "yaml-bytes yaml-grammar yaml-duplicate schema-missing schema-kind schema-value schema-version schema-shape schema-entries"
@@ -44,6 +51,9 @@ class Tool(benchexec.tools.template.BaseTool2):
     def name(self):
         return "witval"
 
+    def project_url(self):
+        return PROJECT_URL
+
     def cmdline(self, executable, options, task, rlimits):
         """The witness is an option (--witness FILE) or an input file. Where the task has a data model or a language, witval-task is
         called: a witness that states another gets no verdict."""
@@ -57,12 +67,13 @@ class Tool(benchexec.tools.template.BaseTool2):
             raise UnsupportedFeatureException("witval needs a property file")
         if len(witnesses) + is_option != 1:
             raise UnsupportedFeatureException("witval needs one witness, as an option or as an input file")
-        words = self._start(executable, task) + ["validate", "--program", programs[0], "--property", task.property_file]
+        words = self._start(executable, task, NAME_PROPERTY in options) + ["validate", "--program", programs[0], "--property", task.property_file]
         words += [word for it in witnesses for word in ("--witness", it)]
-        return words + list(options)
+        return words + [it for it in options if it != NAME_PROPERTY]
 
-    def _start(self, executable, task):
-        """The executable for a task, with the options of the task that it compares with those of the witness."""
+    def _start(self, executable, task, names_property):
+        """The executable for a task, with the options of the task that it compares with those of the witness. (witval-task passes the module's own
+        option over, so that it stands on the command that determine_result sees.)"""
         given = task.options if isinstance(getattr(task, "options", None), dict) else {}
         model, language = given.get("data_model"), given.get("language")
         if model not in (None, "ILP32", "LP64"):
@@ -70,6 +81,7 @@ class Tool(benchexec.tools.template.BaseTool2):
         if language not in (None, "C"):
             raise UnsupportedFeatureException(f"witval judges no programs in {language!r}")
         words = [word for name, value in (("--data-model", model), ("--language", language)) if value for word in (name, value)]
+        words += [NAME_PROPERTY] if names_property else []
         return [os.path.join(os.path.dirname(executable), "witval-task"), *words] if words else [executable]
 
     def determine_result(self, run):
@@ -81,8 +93,15 @@ class Tool(benchexec.tools.template.BaseTool2):
         for line in run.output:
             found = self._result_of(line.rstrip("\r\n"))
             if found:
-                return found
+                return self._named(found, getattr(run, "cmdline", ()))
         return {6: "OUT OF MEMORY", 8: f"{result.RESULT_ERROR} (not built)"}.get(run.exit_code.value, result.RESULT_ERROR)
+
+    def _named(self, found, words):
+        """false(NAME) for false, where the command has the module's option and a property."""
+        if found != result.RESULT_FALSE_PROP or NAME_PROPERTY not in words or "--property" not in words:
+            return found
+        name = os.path.basename(words[words.index("--property") + 1])
+        return f"{found}({name[:-4] if name.endswith('.prp') else name})"
 
     def _result_of(self, line):
         """What the first line of a reply comes to, or None where the line is none."""

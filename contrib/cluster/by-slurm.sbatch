@@ -4,14 +4,17 @@
 #SBATCH --cpus-per-task=1
 #SBATCH --mem=8G
 #SBATCH --output=/dev/null
-# An array job over a list: task k of the array judges each N-th line from line k on, N being the size of the array (--array=1-N), and writes
-# OUT.k, a line of JSON for each of its lines, in their order. A task that is run again goes on behind the lines that its file has.
+# An array job over a list: task K of N judges each N-th line from line K on and writes OUT.K, a line of JSON for each
+# of its lines, in their order. A task that runs again, by itself or by a call with its numbers (--array=3,7), goes on
+# after the lines that its file has.
 #
-#     sbatch --array=1-200 contrib/cluster/by-slurm.sbatch /path/of/contrib/witval-line LIST OUT [witval-line's options]
+#     sbatch --array=1-200 contrib/cluster/by-slurm.sbatch 200 /path/of/contrib LIST OUT [witval-line's options]
 set -euo pipefail
-line=$1 list=$2 out=$3.$SLURM_ARRAY_TASK_ID
-shift 3
-touch "$out"
-done_before=$(wc -l <"$out")
-awk -v k="$SLURM_ARRAY_TASK_ID" -v n="$SLURM_ARRAY_TASK_COUNT" -v d="$done_before" '(NR - k) % n == 0 && ++seen > d' "$list" |
-  while IFS= read -r task; do "$line" "$@" "$task" >>"$out"; done
+parts=$1 contrib=$2 list=$3 part=$SLURM_ARRAY_TASK_ID out=$4.$SLURM_ARRAY_TASK_ID
+shift 4
+[ "$part" -ge 1 ] && [ "$part" -le "$parts" ] || { echo "by-slurm: there is no part $part of $parts" >&2; exit 2; }
+# what writes to it still, of a task that was cancelled, is waited for
+exec 9>>"$out"
+flock 9
+ready=$("$contrib/cluster/whole-lines" "$list" "$out" "$part" "$parts")
+exec "$contrib/witval-line" "$@" --list "$list" --from "$((part + ready * parts))" --step "$parts" >>"$out"
