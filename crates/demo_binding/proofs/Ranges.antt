@@ -44,11 +44,11 @@ tree b at w ty =
     (t.Logic true (t.Expr (at 0) (Some Int) (t.Binary op.Le (constant 0 (at 0)) (t.Expr (at 2) (Some (type_named w)) (t.Var (number_named w)))))
     (t.Expr (at 4) (Some Int) (t.Binary op.Le (t.Expr (at 4) (Some (type_named w)) (t.Var (number_named w))) (t.Expr (at 6) (Some (valued ty)) (t.Const (pos b))))))
 
-range_typed : (es : List Entry) (x : List ℕ) (o b : ℕ) (at : ℕ → Spot) → named es x ≡ Some (Object o Int false false) → b < 2 ^ 31 → typed Ilp32 [] es (range_exp x b at) ≡ range_test o b at
+range_typed : (es : List Entry) (x : List ℕ) (o b : ℕ) (at : ℕ → Spot) → named es x ≡ Some (Object o Int 0 false) → b < 2 ^ 31 → typed Ilp32 [] es (range_exp x b at) ≡ range_test o b at
 range_typed es x o b at e small =
-    ap (λ w. tree b at w (constant_type Ilp32 b (not (nat_eq b 0)) false 0)) e ∙ ap (tree b at (Some (Object o Int false false))) (constant_is_int b (not (nat_eq b 0)) small)
+    ap (λ w. tree b at w (constant_type Ilp32 b (not (nat_eq b 0)) false 0)) e ∙ ap (tree b at (Some (Object o Int 0 false))) (constant_is_int b (not (nat_eq b 0)) small)
 
-range_fits : (es : List Entry) (x : List ℕ) (o b : ℕ) (at : ℕ → Spot) → named es x ≡ Some (Object o Int false false) → b < 2 ^ 31 → is_refused Ilp32 es (range_exp x b at) ≡ false
+range_fits : (es : List Entry) (x : List ℕ) (o b : ℕ) (at : ℕ → Spot) → named es x ≡ Some (Object o Int 0 false) → b < 2 ^ 31 → is_refused Ilp32 es (range_exp x b at) ≡ false
 range_fits es x o b at e small =
     ap (λ w. (is_no_scalar w || false) || ((is_no_scalar w || false) || ((is_none (constant_type Ilp32 b (not (nat_eq b 0)) false 0) || false) || false))) e
     ∙ ap (λ ty. (is_none ty || false) || false) (constant_is_int b (not (nat_eq b 0)) small)
@@ -97,7 +97,7 @@ module _ (bs : List ℕ) where
     entries_end : es ≡ entries p.objects h.names ++ variable (name k) o ∷ []
     entries_end = loop_entries bs l k o b cs h
 
-    means : named es (name k) ≡ Some (Object o Int false false)
+    means : named es (name k) ≡ Some (Object o Int 0 false)
     means = ap (λ xs. named xs (name k)) entries_end ∙ named_last (entries p.objects h.names) (name k) o
 
     known : in_scope es e ≡ true

@@ -40,7 +40,7 @@ module _ (ss : List Stm) where
   no_order (inl p) = all_in_any_order Ilp32 (items ss) [] tt p
   no_order (inr none) = none
 
-  pub variable_fine : (es : List Entry) (x : List ℕ) (n : ℕ) (p w : Spot) → named es x ≡ Some (Object n Int false false) → IsFine ss (Expression es Value (Expr p (Var x w)))
+  pub variable_fine : (es : List Entry) (x : List ℕ) (n : ℕ) (p w : Spot) → named es x ≡ Some (Object n Int 0 false) → IsFine ss (Expression es Value (Expr p (Var x w)))
   variable_fine es x n p w e = record {
     known = ap is_none e;
     once = refl;
@@ -51,7 +51,7 @@ module _ (ss : List Stm) where
     few = refl;
   }
 
-  pub target_fine : (es : List Entry) (x : List ℕ) (n : ℕ) (p w : Spot) → named es x ≡ Some (Object n Int false false) → IsFine ss (Expression es Target (Expr p (Var x w)))
+  pub target_fine : (es : List Entry) (x : List ℕ) (n : ℕ) (p w : Spot) → named es x ≡ Some (Object n Int 0 false) → IsFine ss (Expression es Target (Expr p (Var x w)))
   target_fine es x n p w e = record {
     known = ap is_none e;
     once = refl;
@@ -91,7 +91,7 @@ module _ (ss : List Stm) where
       (variable_quiet es x q w, (number_quiet es v d r, tt)) pair
   compared_order es x v d q r w (inr none) = none
 
-  pub compared_fine : (o : BinOp) (es : List Entry) (x : List ℕ) (n v : ℕ) (d : Bool) (p q r w : Spot) → named es x ≡ Some (Object n Int false false) → v < 2 ^ 31 →
+  pub compared_fine : (o : BinOp) (es : List Entry) (x : List ℕ) (n v : ℕ) (d : Bool) (p q r w : Spot) → named es x ≡ Some (Object n Int 0 false) → v < 2 ^ 31 →
       AllByRecursion (IsFine ss) (parts es Value (compared o x v d p q r w))
   compared_fine o es x n v d p q r w e small = (
     record { known = refl; once = refl; typed = refl; sized = refl; ordered = compared_order es x v d q r w; bodied = refl; few = refl },
@@ -109,7 +109,7 @@ module _ (ss : List Stm) where
   step_order es x p q r (inr (inr h)) =
       none_passes (changes (is_object h.object)) (parts es Value (compared op.Add x 1 true q q r q)) ((compared_quiet op.Add es x 1 true q q r q).stores (is_object h.object)) h.changed
 
-  pub step_fine : (es : List Entry) (x : List ℕ) (n : ℕ) (p q r : Spot) → named es x ≡ Some (Object n Int false false) → AllByRecursion (IsFine ss) (parts es Effect (step x p q r))
+  pub step_fine : (es : List Entry) (x : List ℕ) (n : ℕ) (p q r : Spot) → named es x ≡ Some (Object n Int 0 false) → AllByRecursion (IsFine ss) (parts es Effect (step x p q r))
   step_fine es x n p q r e = (
     record { known = refl; once = refl; typed = refl; sized = refl; ordered = step_order es x p q r; bodied = refl; few = refl },
     (target_fine es x n p p e, compared_fine op.Add es x n 1 true q q r q e (omega arith)),

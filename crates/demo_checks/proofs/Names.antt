@@ -19,7 +19,7 @@ outside = entry_of_prototype (codes "__VERIFIER_nondet_int") (Some Int) None ∷
 
 -- a variable, with the number of its object
 abbrev pub variable : List ℕ → ℕ → Entry
-variable x n = entry x (Object n Int false false)
+variable x n = entry x (Object n Int 0 false)
 
 -- ---- texts
 
@@ -35,21 +35,21 @@ names_differ j k low small =
 
 -- ---- what a word stands for
 
-later_object : (o : Option Kind) (n : ℕ) → later o (Some (Object n Int false false)) ≡ Some (Object n Int false false)
+later_object : (o : Option Kind) (n : ℕ) → later o (Some (Object n Int 0 false)) ≡ Some (Object n Int 0 false)
 later_object None n = refl
 later_object (Some k) n = refl
 
-or_object : (n : ℕ) (o : Option Callee) → or_built_in (Some (Object n Int false false)) o ≡ Some (Object n Int false false)
+or_object : (n : ℕ) (o : Option Callee) → or_built_in (Some (Object n Int 0 false)) o ≡ Some (Object n Int 0 false)
 or_object n None = refl
 or_object n (Some c) = refl
 
 -- the last declaration counts
-declared_last : (es : List Entry) (x : List ℕ) (n : ℕ) → declared_as (es ++ variable x n ∷ []) x ≡ Some (Object n Int false false)
-declared_last [] x n = ap (λ b. later (cond b (Some (Object n Int false false)) None) None) (bytes_same x)
+declared_last : (es : List Entry) (x : List ℕ) (n : ℕ) → declared_as (es ++ variable x n ∷ []) x ≡ Some (Object n Int 0 false)
+declared_last [] x n = ap (λ b. later (cond b (Some (Object n Int 0 false)) None) None) (bytes_same x)
 declared_last (e ∷ es) x n =
     ap (λ o. later (cond (bytes_eq e.name x) (Some e.kind) None) o) (declared_last es x n) ∙ later_object (cond (bytes_eq e.name x) (Some e.kind) None) n
 
-pub named_last : (es : List Entry) (x : List ℕ) (n : ℕ) → named (es ++ variable x n ∷ []) x ≡ Some (Object n Int false false)
+pub named_last : (es : List Entry) (x : List ℕ) (n : ℕ) → named (es ++ variable x n ∷ []) x ≡ Some (Object n Int 0 false)
 named_last es x n = ap (λ o. or_built_in o (built_in x)) (declared_last es x n) ∙ or_object n (built_in x)
 
 -- none of these declares the word

@@ -55,7 +55,7 @@ module _ (ss : List Stm) where
       let declare : Stm = declaration_statement x (declared_at l k) in
       let loop : Stm = while_statement x b (looped_at (l + 1) k b) in
       let test : Stm = test_statement x b (tested_at (l + 1 + 1 + 1 + 1) k b) in
-      let is_x : named (outside ++ ys) x ≡ Some (Object (length os) Int false false) = named_last (outside ++ xs) x (length os) in
+      let is_x : named (outside ++ ys) x ≡ Some (Object (length os) Int 0 false) = named_last (outside ++ xs) x (length os) in
       let others : AreOthers (codes "reach_error") ys = one_more_other (codes "reach_error") x (length os) xs refl (others_before k xs os before) in
       let reach : named (outside ++ ys) (codes "reach_error") ≡ Some (kind_of_callee ReachError) = reach_named ys others in
       let cells : cells_in os < 100000 = omega (arith, before.cells) in
@@ -99,7 +99,7 @@ module _ (ss : List Stm) where
       let no_input : AreOthers (codes "__VERIFIER_nondet_int") ys = are_others k (codes "__VERIFIER_nondet_int") ys (λ j. refl) h.names in
       let input = input_named zs (one_more_other (codes "__VERIFIER_nondet_int") y (length ps) ys refl no_input) in
       let reach = reach_named zs (one_more_other (codes "reach_error") y (length ps) ys refl (others_before k ys ps h)) in
-      let is_y : named (outside ++ zs) y ≡ Some (Object (length ps) Int false false) = named_last (outside ++ ys) y (length ps) in
+      let is_y : named (outside ++ zs) y ≡ Some (Object (length ps) Int 0 false) = named_last (outside ++ ys) y (length ps) in
       let drawn = drawn_fine ss ys ps (drawn_at l) (are_others k y ys (λ j. refl) h.names) (omega (arith, h.cells)) input in
       let tested = guard_fine ss op.Eq zs qs y (length ps) n (not (nat_eq n 0)) (chosen_at (l + 1) n) is_y small reach in
       let returned = return_fine ss zs qs (ended_at (l + 1 + 1 + 1 + 1)) in

@@ -13,7 +13,7 @@ use Rattle.c_parser.specs.Tree.{Exp, Expr, Number, Binary, Call, NoExp, Stm, Stm
 use Rattle.check_rules.specs.Codes.{cells_in}
 use Rattle.check_rules.specs.Names.{Object, Entry, kind_of_callee, named}
 use Rattle.check_rules.specs.Order.{is_object, reads}
-use Rattle.check_rules.specs.Parts.{Part, Declaring, Initializing, Value, Effect, bodies_of, parts, parts_of_block, parts_of_statement}
+use Rattle.check_rules.specs.Parts.{Part, Declaring, Initializing, Value, Effect, bodies_of, in_body, parts, parts_of_block, parts_of_statement}
 use Rattle.check_rules.specs.Scopes.{Scope, scope, seen}
 use Rattle.demo_laws.specs.Shapes.{declaration_statement, input_statement, name_exp, return_statement, while_statement}
 use Rattle.demo_checks.proofs.Expressions.{compared, compared_fine, input_fine, input_quiet, number_fine, number_quiet, reach_fine, step, step_fine}
@@ -42,17 +42,17 @@ guard o x v d at =
 module _ (ss : List Stm) where
   -- the parts of a statement of `main`, and of those behind it
   abbrev pub parts_at : Scope → Stm → List Part
-  parts_at s x = parts_of_statement Ilp32 (bodies_of (items ss)) (Some Int) false s x
+  parts_at s x = parts_of_statement Ilp32 (bodies_of (items ss)) (Some Int) in_body s x
 
   abbrev pub parts_behind : Scope → List Stm → List Part
-  parts_behind s rest = parts_of_block Ilp32 (bodies_of (items ss)) (Some Int) false s (stms rest)
+  parts_behind s rest = parts_of_block Ilp32 (bodies_of (items ss)) (Some Int) in_body s (stms rest)
 
   -- a variable that is new is declared
   declared_fine : (xs : List Entry) (os : List Stored) (x : List ℕ) (p : Spot) (e : Exp) → AreOthers x xs → cells_in os < 100000 →
-      IsFine ss (Declaring false (scope outside xs os) (record { spot = p; name = x; ty = Int; size = None; init = One e }))
+      IsFine ss (Declaring false (scope outside xs os) (record { spot = p; name = x; ty = Int; sizes = []; init = One e }))
   declared_fine xs os x p e new few = record {
     known = refl;
-    once = no_clash xs x (Object (length os) Int false false) new;
+    once = no_clash xs x (Object (length os) Int 0 false) new;
     typed = refl;
     sized = refl;
     ordered = λ none. none;
@@ -81,15 +81,15 @@ module _ (ss : List Stm) where
       (declared_fine xs os x (at 1) zero_exp new few, (initial_fine s zero_exp (number_quiet ss (seen s) 0 false (at 3)) (λ o. (refl, tt)), (number_fine ss (seen s) 0 false (at 3) (omega arith), tt)))
 
   -- `while (x < b) { x = x + 1; }`
-  pub while_fine : (xs : List Entry) (os : List Stored) (x : List ℕ) (n b : ℕ) (at : ℕ → Spot) → named (outside ++ xs) x ≡ Some (Object n Int false false) → b < 2 ^ 31 →
+  pub while_fine : (xs : List Entry) (os : List Stored) (x : List ℕ) (n b : ℕ) (at : ℕ → Spot) → named (outside ++ xs) x ≡ Some (Object n Int 0 false) → b < 2 ^ 31 →
       AllByRecursion (IsFine ss) (parts_at (scope outside xs os) (while_statement x b at))
   while_fine xs os x n b at e small =
       let inside = ((outside ++ xs) ++ []) ++ [] in
       joined (IsFine ss) (parts (outside ++ xs) Value (compared op.Lt x b true (at 2) (at 2) (at 4) (at 2))) (parts inside Effect (step x (at 7) (at 9) (at 11)))
       (compared_fine ss op.Lt (outside ++ xs) x n b true (at 2) (at 2) (at 4) (at 2) e small)
-      (step_fine ss inside x n (at 7) (at 9) (at 11) (named_inside (outside ++ xs) x (Some (Object n Int false false)) e))
+      (step_fine ss inside x n (at 7) (at 9) (at 11) (named_inside (outside ++ xs) x (Some (Object n Int 0 false)) e))
 
-  pub guard_fine : (o : BinOp) (xs : List Entry) (os : List Stored) (x : List ℕ) (n v : ℕ) (d : Bool) (at : ℕ → Spot) → named (outside ++ xs) x ≡ Some (Object n Int false false) → v < 2 ^ 31 →
+  pub guard_fine : (o : BinOp) (xs : List Entry) (os : List Stored) (x : List ℕ) (n v : ℕ) (d : Bool) (at : ℕ → Spot) → named (outside ++ xs) x ≡ Some (Object n Int 0 false) → v < 2 ^ 31 →
       named (outside ++ xs) (codes "reach_error") ≡ Some (kind_of_callee ReachError) → AllByRecursion (IsFine ss) (parts_at (scope outside xs os) (guard o x v d at))
   guard_fine o xs os x n v d at e small reach =
       let inside = ((outside ++ xs) ++ []) ++ [] in

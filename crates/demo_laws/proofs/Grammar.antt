@@ -6,7 +6,7 @@ use Rattle.c_tokens.specs.declared.token.Punct.TheVariants as sign
 use Rattle.c_parser.specs.Signs.{◌>>=◌, is_sign, is_word}
 use Rattle.c_parser.specs.Tree.{Stm}
 use Rattle.c_parser.specs.ReadExpressions.{Read, level, within}
-use Rattle.c_parser.specs.ReadStatements.{elements, statement_level, braced_within, header_within}
+use Rattle.c_parser.specs.ReadStatements.{elements, statement_level, braced_within, armed_within, header_within, rows_within}
 use Rattle.demo_laws.specs.DemoLines.{name, loop_pieces, loops_pieces}
 use Rattle.demo_laws.specs.Lines.{Piece, tokens_from}
 use Rattle.demo_laws.specs.Shapes.{while_tokens, while_statement, test_tokens, test_statement, declaration_tokens, declaration_statement}
@@ -14,20 +14,20 @@ use Rattle.demo_laws.specs.Source.{declared_at, looped_at, tested_at, loop_token
 
 -- a statement of a function's body
 abbrev pub one : List Token → Read Stm
-one = statement_level 199 (braced_within 199) 199 true
+one = statement_level 199 (braced_within 199) (armed_within 199) 199 true
 
 while_read : (k : List ℕ) (b : ℕ) (at : ℕ → Spot) (rest : List Token) → one (while_tokens (120 ∷ k) b at ++ rest) ≡ Some (while_statement (120 ∷ k) b at, rest)
-unfolding statement_level braced_within header_within level within
+unfolding statement_level braced_within header_within rows_within level within
 while_read k b at rest = refl
 
 declaration_read : (k : List ℕ) (at : ℕ → Spot) (rest : List Token) → one (declaration_tokens (120 ∷ k) at ++ rest) ≡ Some (declaration_statement (120 ∷ k) at, rest)
-unfolding statement_level braced_within header_within level within
+unfolding statement_level braced_within header_within rows_within level within
 declaration_read k at rest = refl
 
 -- no `else` follows
 test_read : (k : List ℕ) (b : ℕ) (at : ℕ → Spot) (rest : List Token) → is_word (codes "else") rest ≡ false →
     one (test_tokens (120 ∷ k) b at ++ rest) ≡ Some (test_statement (120 ∷ k) b at, rest)
-unfolding statement_level braced_within header_within level within
+unfolding statement_level braced_within header_within rows_within level within
 test_read k b at rest other = rw other refl
 
 -- statements before those that are read

@@ -9,7 +9,7 @@ use Rattle.c_parser.specs.Sources.{IsSource, IsSyntax}
 use Rattle.c_parser.specs.Tree.{Stm, Item}
 use Rattle.c_parser.specs.ReadExpressions.{Read, level, within}
 use Rattle.c_parser.specs.ReadItems.{Outcome, Source, Syntax, onto_outcome, read_item, read_items}
-use Rattle.c_parser.specs.ReadStatements.{elements, statement_level, braced_within, header_within}
+use Rattle.c_parser.specs.ReadStatements.{elements, statement_level, braced_within, header_within, rows_within}
 use Rattle.c_parser.specs.declared.item.Source.{Source as Parsed}
 use Rattle.c_parser.specs.declared.fault.ParseFault.{ParseFault}
 use Rattle.c_parser.specs.declared.fault.ParseFault.TheVariants.{Syntax as Refused, OutOfMemory}
@@ -24,15 +24,15 @@ use Rattle.demo_laws.proofs.Grammar.{one, one_more, onto, loops_lexed}
 -- ---- the statements behind the loops
 
 end_read : (at : ℕ → Spot) → one (end_tokens at) ≡ Some (return_statement at, mark sign.BraceClose (at 3) ∷ [])
-unfolding statement_level braced_within header_within level within
+unfolding statement_level braced_within header_within rows_within level within
 end_read at = refl
 
 input_read : (at : ℕ → Spot) (rest : List Token) → one (input_tokens at ++ rest) ≡ Some (input_statement at, rest)
-unfolding statement_level braced_within header_within level within
+unfolding statement_level braced_within header_within rows_within level within
 input_read at rest = refl
 
 chosen_read : (n : ℕ) (d : Bool) (at : ℕ → Spot) (rest : List Token) → is_word (codes "else") rest ≡ false → one (chosen_tokens n d at ++ rest) ≡ Some (chosen_statement n d at, rest)
-unfolding statement_level braced_within header_within level within
+unfolding statement_level braced_within header_within rows_within level within
 chosen_read n d at rest other = rw other refl
 
 -- nothing stands before the brace that closes

@@ -67,7 +67,7 @@ declaration_tokens x at =
 -- the declaration as a statement
 abbrev pub declaration_statement : List ℕ → (ℕ → Spot) → Stm
 declaration_statement x at =
-    Stmt (at 0) (t.Declare (record { spot = at 1; name = x; ty = Int; size = None; init = t.One (Expr (at 3) (t.Number 0 false false 0)) } ∷ []))
+    Stmt (at 0) (t.Declare (record { spot = at 1; name = x; ty = Int; sizes = []; init = t.One (Expr (at 3) (t.Number 0 false false 0)) } ∷ []))
 
 -- `return 0; }`
 abbrev pub end_tokens : (ℕ → Spot) → List Token
@@ -88,7 +88,7 @@ input_tokens at =
 abbrev pub input_statement : (ℕ → Spot) → Stm
 input_statement at =
     Stmt (at 0)
-    (t.Declare (record { spot = at 1; name = codes "y"; ty = Int; size = None; init = t.One (Expr (at 3) (t.Call (codes "__VERIFIER_nondet_int") (at 3) NoExp (at 5))) } ∷ []))
+    (t.Declare (record { spot = at 1; name = codes "y"; ty = Int; sizes = []; init = t.One (Expr (at 3) (t.Call (codes "__VERIFIER_nondet_int") (at 3) NoExp (at 5))) } ∷ []))
 
 -- `if (y == n) { reach_error(); }`; 0 counts as octal
 abbrev pub chosen_tokens : ℕ → Bool → (ℕ → Spot) → List Token

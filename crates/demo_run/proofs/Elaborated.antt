@@ -29,12 +29,12 @@ bodies = codes "main" ∷ []
 
 -- ---- expressions
 
-operation_typed : (es : List Entry) (op : BinOp) (x : List ℕ) (o v : ℕ) (decimal : Bool) (p r : Spot) → named es x ≡ Some (AnObject o Int false false) → v < 2 ^ 31 → binary_type Ilp32 op Int Int ≡ Int →
+operation_typed : (es : List Entry) (op : BinOp) (x : List ℕ) (o v : ℕ) (decimal : Bool) (p r : Spot) → named es x ≡ Some (AnObject o Int 0 false) → v < 2 ^ 31 → binary_type Ilp32 op Int Int ≡ Int →
     typed Ilp32 bodies es (raw.Expr p (raw.Binary op (name_exp x p) (raw.Expr r (raw.Number v decimal false 0)))) ≡ operation op o v p r
 operation_typed es op x o v decimal p r is small ty = rw (is, constant_is_int v decimal small, ty) refl
 
 -- `x = x + 1`
-step_typed : (es : List Entry) (x : List ℕ) (o : ℕ) (p q r : Spot) → named es x ≡ Some (AnObject o Int false false) →
+step_typed : (es : List Entry) (x : List ℕ) (o : ℕ) (p q r : Spot) → named es x ≡ Some (AnObject o Int 0 false) →
     typed Ilp32 bodies es (raw.Expr p (raw.Assign None (name_exp x p) (raw.Expr q (raw.Binary binary.Add (name_exp x q) (raw.Expr r (raw.Number 1 true false 0))))))
     ≡ Expr p (Some Int) (Assign None (variable o p) (operation binary.Add o 1 q r))
 step_typed es x o p q r is = rw is refl
@@ -49,15 +49,15 @@ twice_inside es = append-nil (es ++ []) ∙ append-nil es
 
 -- ---- statements
 
-counting_typed : (s : Scope) (x : List ℕ) (o b : ℕ) (w : ℕ → Spot) → named (seen s) x ≡ Some (AnObject o Int false false) → b < 2 ^ 31 →
+counting_typed : (s : Scope) (x : List ℕ) (o b : ℕ) (w : ℕ → Spot) → named (seen s) x ≡ Some (AnObject o Int 0 false) → b < 2 ^ 31 →
     typed_statement Ilp32 bodies s (while_statement x b w) ≡ counting o b w
 counting_typed s x o b w is few =
     let inner : List Entry = (seen s ++ []) ++ [] in
-    let there : named inner x ≡ Some (AnObject o Int false false) = ap (λ es. named es x) (twice_inside (seen s)) ∙ is in
+    let there : named inner x ≡ Some (AnObject o Int 0 false) = ap (λ es. named es x) (twice_inside (seen s)) ∙ is in
     ap₂ (λ e f. Stmt (w 0) (While e (Stmt (w 6) (Block (MoreStm (Stmt (w 7) (Do f)) NoStm)))))
     (operation_typed (seen s) binary.Lt x o b true (w 2) (w 4) is few refl) (step_typed inner x o (w 7) (w 9) (w 11) there)
 
-error_if_typed : (s : Scope) (op : BinOp) (x : List ℕ) (o v : ℕ) (decimal : Bool) (w : ℕ → Spot) → named (seen s) x ≡ Some (AnObject o Int false false) → declared_as (seen s) reach_name ≡ None → v < 2 ^ 31 →
+error_if_typed : (s : Scope) (op : BinOp) (x : List ℕ) (o v : ℕ) (decimal : Bool) (w : ℕ → Spot) → named (seen s) x ≡ Some (AnObject o Int 0 false) → declared_as (seen s) reach_name ≡ None → v < 2 ^ 31 →
     binary_type Ilp32 op Int Int ≡ Int →
     typed_statement Ilp32 bodies s (raw.Stmt (w 0) (raw.If (raw.Expr (w 2) (raw.Binary op (name_exp x (w 2)) (raw.Expr (w 4) (raw.Number v decimal false 0)))) (
     raw.Stmt (w 6) (raw.Block (raw.MoreStm (raw.Stmt (w 7) (raw.Do (raw.Expr (w 7) (raw.Call reach_name (w 7) raw.NoExp (w 9))))) raw.NoStm))) raw.NoElse))
@@ -89,8 +89,8 @@ pub record IsReady (s : Scope) (o : ℕ) : Type 0 where
 seen_grown : (s : Scope) (x : List ℕ) (at : Spot) → seen (grown s x at) ≡ seen s ++ object_entry x (length s.objects) ∷ []
 seen_grown s x at = sym (append_assoc s.outer s.inner (object_entry x (length s.objects) ∷ []))
 
-named_grown : (s : Scope) (x : List ℕ) (at : Spot) (o : ℕ) → length s.objects ≡ o → named (seen (grown s x at)) x ≡ Some (AnObject o Int false false)
-named_grown s x at o count = ap (λ es. named es x) (seen_grown s x at) ∙ named_last (seen s) x (length s.objects) ∙ ap (λ i. Some (AnObject i Int false false)) count
+named_grown : (s : Scope) (x : List ℕ) (at : Spot) (o : ℕ) → length s.objects ≡ o → named (seen (grown s x at)) x ≡ Some (AnObject o Int 0 false)
+named_grown s x at o count = ap (λ es. named es x) (seen_grown s x at) ∙ named_last (seen s) x (length s.objects) ∙ ap (λ i. Some (AnObject i Int 0 false)) count
 
 still_grown : (s : Scope) (x z : List ℕ) (at : Spot) → bytes_eq x z ≡ false → declared_as (seen (grown s x at)) z ≡ declared_as (seen s) z
 still_grown s x z at other = ap (λ es. declared_as es z) (seen_grown s x at) ∙ declared_still (seen s) x z (length s.objects) other

@@ -14,14 +14,14 @@ same_bytes (x ∷ xs) = rw (eq-eqb x x refl) (same_bytes xs)
 
 -- an object's name
 abbrev pub object_entry : List ℕ → ℕ → Entry
-object_entry x o = entry x (Object o Int false false)
+object_entry x o = entry x (Object o Int 0 false)
 
-object_counts : (earlier : Option Kind) (o : ℕ) → later earlier (Some (Object o Int false false)) ≡ Some (Object o Int false false)
+object_counts : (earlier : Option Kind) (o : ℕ) → later earlier (Some (Object o Int 0 false)) ≡ Some (Object o Int 0 false)
 object_counts None o = refl
 object_counts (Some k) o = refl
 
 -- the last declaration of an object counts
-declared_last : (es : List Entry) (x : List ℕ) (o : ℕ) → declared_as (es ++ object_entry x o ∷ []) x ≡ Some (Object o Int false false)
+declared_last : (es : List Entry) (x : List ℕ) (o : ℕ) → declared_as (es ++ object_entry x o ∷ []) x ≡ Some (Object o Int 0 false)
 declared_last [] x o = rw (same_bytes x) refl
 declared_last (e ∷ es) x o =
     let earlier : Option Kind = cond (bytes_eq e.name x) (Some e.kind) None in
@@ -32,7 +32,7 @@ pub declared_still : (es : List Entry) (x z : List ℕ) (o : ℕ) → bytes_eq x
 declared_still [] x z o other = rw other refl
 declared_still (e ∷ es) x z o other = ap (later (cond (bytes_eq e.name z) (Some e.kind) None)) (declared_still es x z o other)
 
-pub named_last : (es : List Entry) (x : List ℕ) (o : ℕ) → named (es ++ object_entry x o ∷ []) x ≡ Some (Object o Int false false)
+pub named_last : (es : List Entry) (x : List ℕ) (o : ℕ) → named (es ++ object_entry x o ∷ []) x ≡ Some (Object o Int 0 false)
 named_last es x o = ap (λ k. or_built_in k (built_in x)) (declared_last es x o)
 
 -- ---- functions
