@@ -63,7 +63,7 @@ module _ (v x : ℤ) (to : ℕ) where
       nested (int_eq x e.0) (Some to) (Some e.1) (address_in es x)
       ∙ ap (λ k. cond (int_eq x k) (Some to) (address_in (e ∷ es) x)) (sym (exact_signed v e.0 h))
   put_by Greater e es h rest =
-      ap (cond (int_eq x e.0) (Some e.1)) rest
+      ap (λ o. cond (int_eq x e.0) (Some e.1) o) rest
       ∙ swapped (int_eq x e.0) (int_eq x v) (Some e.1) (Some to) (address_in es x) (not_both e.0 h)
 
   put : (es : List (ℤ × ℕ))
@@ -116,7 +116,7 @@ module _ (x : ℤ) where
   cases_are t d to (MoreStm s b) = cases_are t d (to + size_of_statement d s) b
   cases_are t d to (MoreCase spot (Case v) b) =
       cases_are (added t v to) d to b ∙ added_is t v to (case_at d to b)
-      ∙ ap (first_of (address_in t x)) (case_more d to spot (Case v) b (int_eq x v) (list_any (is_case x) (labels_in b))
+      ∙ ap (λ o. first_of (address_in t x) o) (case_more d to spot (Case v) b (int_eq x v) (list_any (is_case x) (labels_in b))
       (first_label (is_case x) (labels_in b)))
   cases_are t d to (MoreCase spot Default b) = cases_are t d to b
 

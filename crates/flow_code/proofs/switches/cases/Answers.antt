@@ -6,8 +6,8 @@ use Rattle.flow_code.specs.Statements.{with_cases}
 use Rattle.flow_code.proofs.Arms.{cases_from}
 use Rattle.flow_code.proofs.switches.cases.Goals as goal
 
-pub loop-arm-start : goal.loop-arm-start
-loop-arm-start c = ap (λ t. with_cases t c.args.depth c.args.start (switch_view c.args.arms.now)) c.new-table.ensures
+pub loop-arm-init : goal.loop-arm-init
+loop-arm-init c = ap (λ t. with_cases t c.args.depth c.args.start (switch_view c.args.arms.now)) c.new-table.ensures
 
 pub loop-arm-preserved : goal.loop-arm-preserved
 loop-arm-preserved c =

@@ -9,7 +9,7 @@ use Rattle.flow_code.proofs.tables.Table.add.Goals as goal
 
 pub returns : goal.returns
 returns c =
-    let same = to_z-of_z w128 c.args.value c.ranges.value.sfits in
+    let same = to_z-of_z w128 c.args.value c.ranges.value in
     let first = c.unwrap_or-first.ensures ∙ ap (λ o. unwrap_or o c.args.to) (c.get.ensures ∙ ap (λ v. address_in c.args.self.now v) same) in
     c.in_ok-insert.ensures.entries
     ∙ ap (λ v. insert_entry int_cmp c.self.inside.addresses.entries v c.unwrap_or-first.result) same

@@ -7,4 +7,4 @@ use Rattle.flow_code.proofs.tables.Table.get.Goals as goal
 pub returns : goal.returns
 returns c =
     c.copied.ensures ∙ c.get.ensures.value
-    ∙ ap₂ (λ t v. address_in t v) c.self.view_is (to_z-of_z w128 c.args.value c.ranges.value.sfits)
+    ∙ ap₂ (λ t v. address_in t v) c.self.view_is (to_z-of_z w128 c.args.value c.ranges.value)
