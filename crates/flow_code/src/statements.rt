@@ -132,7 +132,9 @@ pub fn form(
         Form::Return(None) => leave(ops, inside.depth.scopes),
         Form::Return(Some(e)) => give_back(program, ops, inside, at, e),
         Form::Label(s) => statement(alloc, program, ops, inside, s),
-        Form::Switch { test, arms } => { switch(alloc, program, ops, inside, at, test, arms.as_slice()) }
+        Form::Switch { test, arms } => {
+            switch(alloc, program, ops, inside, at, test, arms.as_slice())
+        }
     }
 }
 

@@ -169,7 +169,7 @@ module _ (p : Program) (c : Code) (S : Type 0) (after : Event → List Cell → 
       let cases = with_cases [] d to b in
       let other = arm_at d to (first_label is_default (labels_in b)) b in
       let acts : acted c S after (Select at cases other) (control_at l (suc i)) s
-          ≡ Go (control_at k (arm_at d to (arm_for x (labels_in b)) b)) (reported (way_for x (labels_in b))) =
+      ≡ Go (control_at k (arm_at d to (arm_for x (labels_in b)) b)) (reported (way_for x (labels_in b))) =
       ap₂ (λ w n. sent c S after at w n (control_at l (suc i)) s) (chosen_way x d to b) (chosen_arm x d to b) in
       op_goes c S after p i l (control_at k (arm_at d to (arm_for x (labels_in b)) b)) s
       (reported (way_for x (labels_in b))) (Select at cases other) h.0 acts

@@ -79,8 +79,8 @@ module _ (P : ℕ → Type 0) where
   selection_leads : (d : Depth) (at : Spot) (i : ℕ) (b : Stms) → LeadOn P i (selection_code d at (i + 1) b)
   selection_leads d at i b = (
     λ v. let to = chosen_arm v d (i + 1) b in
-      let beyond = arm_beyond d (i + 1) (arm_for v (labels_in b)) b in
-      inl (omega (arith, to, beyond)),
+        let beyond = arm_beyond d (i + 1) (arm_for v (labels_in b)) b in
+        inl (omega (arith, to, beyond)),
     tt,
   )
 
