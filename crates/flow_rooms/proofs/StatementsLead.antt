@@ -77,12 +77,8 @@ module _ (P : ℕ → Type 0) where
 
   -- the operation that chooses an arm, before the arms
   selection_leads : (d : Depth) (at : Spot) (i : ℕ) (b : Stms) → LeadOn P i (selection_code d at (i + 1) b)
-  selection_leads d at i b = (
-    λ v. let to = chosen_arm v d (i + 1) b in
-        let beyond = arm_beyond d (i + 1) (arm_for v (labels_in b)) b in
-        inl (omega (arith, to, beyond)),
-    tt,
-  )
+  selection_leads d at i b =
+      (λ v. inl (subst (λ j. suc i ≤ j) (sym (chosen_arm v d (i + 1) b)) (omega (arith, arm_beyond d (i + 1) (arm_for v (labels_in b)) b))), tt)
 
   module _ (p : Program) where
     initial_leads : (i : ℕ) (at : Spot) (o j : ℕ) (e : Exp) → LeadOn P i (initial_code p i at o j e)
