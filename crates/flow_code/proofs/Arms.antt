@@ -1,5 +1,5 @@
 -- The arms of a switch, one behind another.
-use Rattle.std.proofs.Common.{◌≡◌, ℕ, ◌+◌, ◌<◌, Bool, true, false, ◌||◌, List, [], ◌∷◌, ◌++◌, length, drop, get_or, refl, sym, ap, ◌∙◌, arith, length-append, append_assoc}
+use Rattle.std.proofs.Common.{◌≡◌, ℕ, ℤ, ◌+◌, ◌<◌, Bool, true, false, ◌||◌, List, [], ◌∷◌, ◌++◌, length, drop, get_or, refl, sym, ap, ◌∙◌, arith, length-append, append_assoc}
 use Rattle.c_core.specs.Tree.{Stms, NoStm, MoreStm, MoreCase, Program}
 use Rattle.c_core.specs.Typing.{is_default, labels_in}
 use Rattle.c_core.specs.View.{joined, stmt_view, stmts_view, switch_view}
@@ -13,8 +13,8 @@ use Rattle.c_meaning.specs.Run.{first_label}
 use Rattle.flow_code.specs.declared.sizes.Depth.{Depth}
 use Rattle.flow_code.specs.declared.statements.Inside.{Inside}
 use Rattle.flow_code.specs.Preparing.{followed}
-use Rattle.flow_code.specs.Sizes.{leaks, any_leaks, size_of_statement, size_of_block, size_of_label, size_of_selection}
-use Rattle.flow_code.specs.Statements.{statement_code, block_code, case_code, cases_code, arm_at}
+use Rattle.flow_code.specs.Sizes.{leaks, any_leaks, size_of_statement, size_of_block}
+use Rattle.flow_code.specs.Statements.{statement_code, block_code, with_case, with_cases, arm_at}
 
 or_assoc : (a b c : Bool) → (a || (b || c)) ≡ ((a || b) || c)
 or_assoc true b c = refl
@@ -31,10 +31,6 @@ size_joined d (MoreStm s b) c = let h = size_joined d b c in omega (arith, h)
 size_joined d (MoreCase spot l b) c = size_joined d b c
 
 -- labels stand before the statements of arms, not among them
-selection_behind : (ss : List Stmt) (c : Stms) → size_of_selection (joined (stmts_view ss) c) ≡ size_of_selection c
-selection_behind [] c = refl
-selection_behind (s ∷ ss) c = selection_behind ss c
-
 labels_behind : (ss : List Stmt) (c : Stms) → labels_in (joined (stmts_view ss) c) ≡ labels_in c
 labels_behind [] c = refl
 labels_behind (s ∷ ss) c = labels_behind ss c
@@ -77,12 +73,8 @@ module _ (arms : List Arm) (i : ℕ) (a : Arm) (inside : i < length arms) (is : 
   pub size_from : (d : Depth) → size_of_block d from_here ≡ size_of_block d (stmts_view body) + size_of_block d rest
   size_from d = ap (size_of_block d) shown ∙ size_joined d (stmts_view body) rest
 
-  pub selection_from : size_of_selection from_here ≡ size_of_label (out-Arm a).label + size_of_selection rest
-  selection_from = ap size_of_selection shown ∙ ap (λ n. size_of_label (out-Arm a).label + n) (selection_behind body rest)
-
-  pub cases_from : (d : Depth) (at : Spot) (to : ℕ) → cases_code d at to from_here ≡ case_code at to (out-Arm a).label ++ cases_code d at (to + size_of_block d (stmts_view body)) rest
-  cases_from d at to =
-      ap (cases_code d at to) shown ∙ ap (λ l. case_code at to (out-Arm a).label ++ l) (at_behind (cases_code d at) d (λ n s b. refl) to body rest)
+  pub cases_from : (t : List (ℤ × ℕ)) (d : Depth) (to : ℕ) → with_cases t d to from_here ≡ with_cases (with_case t (out-Arm a).label to) d (to + size_of_block d (stmts_view body)) rest
+  cases_from t d to = ap (with_cases t d to) shown ∙ at_behind (with_cases (with_case t (out-Arm a).label to) d) d (λ n s b. refl) to body rest
 
   by_label : (d : Depth) (to : ℕ) (spot : Spot) (l : Label) → is_default l ≡ false
       → default_from d to (MoreCase spot l (joined (stmts_view body) rest)) ≡ default_from d (to + size_of_block d (stmts_view body)) rest

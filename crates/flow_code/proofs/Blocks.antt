@@ -16,7 +16,7 @@ use Rattle.flow_code.specs.declared.code.Then.TheVariants.{Branch}
 use Rattle.flow_code.specs.declared.code.Op.{Op}
 use Rattle.flow_code.specs.declared.statements.Inside.{Inside}
 use Rattle.flow_code.specs.Preparing.{followed, op, opened, closed, scope}
-use Rattle.flow_code.specs.Sizes.{size, size_if, size_of_arm, size_of_selection, size_of_arms, size_of_test, leaks, any_leaks, first_leaks, in_turn}
+use Rattle.flow_code.specs.Sizes.{size, size_if, size_of_arm, size_of_arms, size_of_test, leaks, any_leaks, first_leaks, in_turn}
 use Rattle.flow_code.specs.Expressions.{code}
 use Rattle.flow_code.specs.Statements.{full_of, deeper, in_loop, in_switch, else_jump, selection_code, switch_test_code, arms_code, statement_code, form_code, block_code, scoped_block, arm_code, else_code, first_code, only_if, test_code, turns_code}
 use Rattle.flow_code.proofs.Gluing.{glued, scoped}
@@ -126,11 +126,11 @@ module _ (p : Program) where
       let inner = glued one (first_code p (length one) at i) two three turns k (l ∙ ap (λ x. two ++ turns_code p (length two) x at e s b) (within (first_leaks i) c w v d h)) in
       scoped (first_leaks i) old one three new (λ j. followed j (first_code p j at i) turns) (g ∙ ap (λ x. old ++ opened x) d) inner (m ∙ ap (λ x. three ++ closed x) d)
 
-  -- arms behind the choice of one
-  pub arms_are : (w : Inside) (at : Spot) (b : Stms) (start : ℕ) (old one new : List Op) → start ≡ length old + size_of_selection b
+  -- arms, after the operation that chooses one
+  pub arms_are : (w : Inside) (at : Spot) (b : Stms) (start : ℕ) (old one new : List Op) → start ≡ length old + 1
       → one ≡ old ++ selection_code w.depth at start b → new ≡ one ++ block_code p (length one) w b → new ≡ old ++ arms_code p (length old) w at b
   arms_are w at b start old one new s h g =
-      glued old (selection_code w.depth at (length old + size_of_selection b) b) one new (λ j. block_code p j w b) (h ∙ ap (λ n. old ++ selection_code w.depth at n b) s) g
+      glued old (selection_code w.depth at (length old + 1) b) one new (λ j. block_code p j w b) (h ∙ ap (λ n. old ++ selection_code w.depth at n b) s) g
 
   -- `switch` by its test and its arms
   pub switch_is : (w u v : Inside) (at : Spot) (e : Exp) (b : Stms) (c : Bool) (broken : ℕ) (old one two three new : List Op)

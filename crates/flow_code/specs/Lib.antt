@@ -5,4 +5,5 @@ pub mod Preparing
 pub mod Making
 pub mod Expressions
 pub mod Statements
+pub mod Tables
 pub mod Programs

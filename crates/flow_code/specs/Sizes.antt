@@ -4,8 +4,6 @@ use Rattle.c_core.specs.Tree.{Exp, Expr, Node, Const, Var, Index, Unary, Cast, S
 use Rattle.c_core.specs.declared.number.IntType.{IntType}
 use Rattle.c_core.specs.declared.tree.Callee.{Callee}
 use Rattle.c_core.specs.declared.tree.Callee.TheVariants.{Defined}
-use Rattle.c_core.specs.declared.tree.Label.{Label as ArmLabel}
-use Rattle.c_core.specs.declared.tree.Label.TheVariants.{Case, Default}
 use Rattle.flow_code.specs.Choosing.{by_some}
 use Rattle.flow_code.specs.declared.code.Operand.{Operand}
 use Rattle.flow_code.specs.declared.code.Operand.TheVariants.{Cell, Number}
@@ -190,16 +188,6 @@ in_turn d = record { inner = 0; turn = 0; scopes = d.scopes }
 abbrev pub in_arms : Depth → Depth
 in_arms d = record { inner = 0; turn = d.turn; scopes = d.scopes }
 
--- the operations that compare a value with the constant of an arm, and the one for any other value
-abbrev pub size_of_label : ArmLabel → ℕ
-size_of_label (Case v) = 1
-size_of_label Default = 0
-
-abbrev pub size_of_selection : Stms → ℕ
-size_of_selection NoStm = 1
-size_of_selection (MoreStm s b) = size_of_selection b
-size_of_selection (MoreCase spot l b) = size_of_label l + size_of_selection b
-
 -- where so many scopes are open
 abbrev mutual
   -- a statement's code: its form's, behind its step and its event
@@ -224,7 +212,7 @@ abbrev mutual
   size_of_form d (Return (Some e)) = size e + d.scopes + 1
   size_of_form d (Label b) = size_of_statement d b
   size_of_form d (Switch e b) =
-      with_one (operand_of e) (size e) + with_scope (any_leaks b) (size_of_selection b + size_of_block (deep (any_leaks b) (in_arms d)) b)
+      with_one (operand_of e) (size e) + with_scope (any_leaks b) (1 + size_of_block (deep (any_leaks b) (in_arms d)) b)
 
   -- the code of the second arm, with the way around it
   pub size_of_else : Depth → Else → ℕ
@@ -241,6 +229,6 @@ abbrev mutual
 abbrev pub size_of_arm : Depth → Stm → ℕ
 size_of_arm d s = with_scope (leaks s) (size_of_statement (deep (leaks s) d) s)
 
--- the arms of a `switch` behind the choice of one
+-- the arms of a `switch`, after the operation that chooses one
 abbrev pub size_of_arms : Depth → Stms → ℕ
-size_of_arms d b = with_scope (any_leaks b) (size_of_selection b + size_of_block (deep (any_leaks b) (in_arms d)) b)
+size_of_arms d b = with_scope (any_leaks b) (1 + size_of_block (deep (any_leaks b) (in_arms d)) b)

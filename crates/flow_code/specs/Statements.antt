@@ -1,5 +1,5 @@
 -- The code of a statement.
-use Rattle.std.specs.Prelude.{ℕ, zero, suc, ◌+◌, Bool, true, false, List, [], ◌∷◌, ◌++◌, Option, Some, None}
+use Rattle.std.specs.Prelude.{ℕ, zero, suc, ◌+◌, ℤ, Bool, true, false, List, [], ◌∷◌, ◌++◌, Option, Some, None}
 use Rattle.c_core.specs.Tree.{Exp, Expr, Exps, NoExp, MoreExp, Init, Absent, One, Many, Rows, Names, NoName, MoreName, First, NoFirst, FirstExp, FirstNames, Stm, Stmt, Form, Empty, Do, Declare, Block, If, While, DoWhile, For, Break, Continue, Return, Label, Switch, Else, NoElse, OrElse, Stms, NoStm, MoreStm, MoreCase, Program}
 use Rattle.c_core.specs.Types.{promote_of}
 use Rattle.c_core.specs.Typing.{is_default, labels_in}
@@ -13,13 +13,14 @@ use Rattle.c_meaning.specs.Run.{first_label}
 use Rattle.run_state.specs.declared.machine.Around.{Around}
 use Rattle.flow_code.specs.declared.code.Place.TheVariants.{Fixed}
 use Rattle.flow_code.specs.declared.code.Then.TheVariants.{Push, Drop, Branch}
-use Rattle.flow_code.specs.declared.code.Action.TheVariants.{Arrive, Convert, Jump, ToCase, ToDefault, Leave, Declare as DeclareOf, Return as ReturnOf}
+use Rattle.flow_code.specs.declared.code.Action.TheVariants.{Arrive, Convert, Jump, Select, Leave, Declare as DeclareOf, Return as ReturnOf}
 use Rattle.flow_code.specs.declared.code.Op.{Op}
 use Rattle.flow_code.specs.declared.sizes.Depth.{Depth}
 use Rattle.flow_code.specs.declared.statements.Inside.{Inside}
 use Rattle.flow_code.specs.Preparing.{followed, op, only, stored_in, with_operand, scope, all_closed}
-use Rattle.flow_code.specs.Sizes.{operand_of, size, size_if, size_of_statement, size_of_arm, size_of_selection, size_of_arms, size_of_test, leaks, any_leaks, first_leaks, deep, in_turn, in_arms}
+use Rattle.flow_code.specs.Sizes.{operand_of, size, size_if, size_of_statement, size_of_arm, size_of_arms, size_of_test, leaks, any_leaks, first_leaks, deep, in_turn, in_arms}
 use Rattle.flow_code.specs.Expressions.{code, stored_code}
+use Rattle.flow_code.specs.Tables.{added}
 use Rattle.flow_code.specs.Words.{native}
 
 -- the full expression of a statement
@@ -63,20 +64,20 @@ arm_at d to n (MoreStm s b) = arm_at d (to + size_of_statement d s) n b
 arm_at d to zero (MoreCase spot l b) = to
 arm_at d to (suc n) (MoreCase spot l b) = arm_at d to n b
 
--- a value that an arm's constant equals leads to an address
-abbrev pub case_code : Spot → ℕ → ArmLabel → List Op
-case_code at to (Case v) = op 0 (ToCase at v to) ∷ []
-case_code at to Default = []
+-- a table with the address of an arm's constant
+abbrev pub with_case : List (ℤ × ℕ) → ArmLabel → ℕ → List (ℤ × ℕ)
+with_case t (Case v) to = added t v to
+with_case t Default to = t
 
--- the value on the stack is compared with each constant in turn
-abbrev pub cases_code : Depth → Spot → ℕ → Stms → List Op
-cases_code d at to NoStm = []
-cases_code d at to (MoreStm s b) = cases_code d at (to + size_of_statement d s) b
-cases_code d at to (MoreCase spot l b) = case_code at to l ++ cases_code d at to b
+-- a table with the addresses of the constants of arms that begin at an address
+abbrev pub with_cases : List (ℤ × ℕ) → Depth → ℕ → Stms → List (ℤ × ℕ)
+with_cases t d to NoStm = t
+with_cases t d to (MoreStm s b) = with_cases t d (to + size_of_statement d s) b
+with_cases t d to (MoreCase spot l b) = with_cases (with_case t l to) d to b
 
--- the value on the stack chooses one of the arms that begin at an address; any other goes to the `default`, or behind them all
+-- the value on the stack chooses one of the arms that begin at an address; any other goes to the `default`, or after them all
 abbrev pub selection_code : Depth → Spot → ℕ → Stms → List Op
-selection_code d at to b = cases_code d at to b ++ op 0 (ToDefault at (arm_at d to (first_label is_default (labels_in b)) b)) ∷ []
+selection_code d at to b = op 0 (Select at (with_cases [] d to b) (arm_at d to (first_label is_default (labels_in b)) b)) ∷ []
 
 module _ (p : Program) where
   -- the test of a `switch`, which stays on the stack in its promoted type
@@ -176,7 +177,7 @@ module _ (p : Program) where
     form_code i w at (Label b) = statement_code i w b
     form_code i w at (Switch e b) = followed i (switch_test_code i at e) (λ j.
         let v = deeper (any_leaks b) (in_switch (j + size_of_arms w.depth b) w) in
-        scope (any_leaks b) j (λ l. followed l (selection_code v.depth at (l + size_of_selection b) b) (λ m. block_code m v b)))
+        scope (any_leaks b) j (λ l. followed l (selection_code v.depth at (l + 1) b) (λ m. block_code m v b)))
 
     -- the second arm, and before it the way of the first around it
     pub else_code : ℕ → ℕ → Inside → Else → List Op
@@ -205,6 +206,6 @@ module _ (p : Program) where
       let head = again + size_if s in
       turns i (i + 1) head at e s (λ j. arm_code j (in_loop again (head + size_of_test e) w) b)
 
-  -- the arms of a `switch`, behind the operations that choose one
+  -- the arms of a `switch`, after the operation that chooses one
   abbrev pub arms_code : ℕ → Inside → Spot → Stms → List Op
-  arms_code i v at b = followed i (selection_code v.depth at (i + size_of_selection b) b) (λ m. block_code m v b)
+  arms_code i v at b = followed i (selection_code v.depth at (i + 1) b) (λ m. block_code m v b)

@@ -1,4 +1,5 @@
 // The operations of a machine that runs programs.
+use crate::tables::Table;
 use c_core::{BinOp, DataModel, IntType, Property, Spot, UnOp};
 use run_state::{Around, CallSite};
 use wv_base::Seq;
@@ -60,7 +61,7 @@ pub struct Source {
 }
 
 /// What an operation does after its steps.
-#[derive(Clone, Copy)]
+#[derive(Drop)]
 pub enum Action {
     /// Nothing.
     Rest,
@@ -124,16 +125,12 @@ pub enum Action {
         into: Into,
     },
     Jump(u32),
-    /// At a `switch`: where the value on top of the stack is this one, the machine takes it off, reports the way, and goes on at an address.
-    ToCase {
+    /// At a `switch`: the machine takes the value on top of the stack off, reports the way, and goes on at the value's address, or at
+    /// the one for all others.
+    Select {
         at: Spot,
-        value: i128,
-        to: u32,
-    },
-    /// The same whatever the value, by the way of the `default`.
-    ToDefault {
-        at: Spot,
-        to: u32,
+        cases: Table,
+        other: u32,
     },
     /// A scope begins; the innermost one ends.
     Open,
@@ -173,7 +170,7 @@ pub enum Action {
 }
 
 /// An action and the steps that it takes.
-#[derive(Clone, Copy)]
+#[derive(Drop)]
 pub struct Op {
     pub steps: u32,
     pub action: Action,

@@ -55,7 +55,7 @@ fn functions(alloc: Global, program: &Program, ops: &mut Seq<Op>) -> Result<Seq<
     let mut found = Seq::new(alloc);
     for function in program.functions.as_slice() {
         let entry = here(ops)?;
-        add_body(program, ops, function)?;
+        add_body(alloc, program, ops, function)?;
         let parameters = parameters(alloc, program, function.params.as_slice())?;
         found.push(Body { entry, parameters })?;
     }
@@ -63,7 +63,12 @@ fn functions(alloc: Global, program: &Program, ops: &mut Seq<Op>) -> Result<Seq<
 }
 
 // A function's body: its step, its statements, and the way back.
-fn add_body(program: &Program, ops: &mut Seq<Op>, function: &Function) -> Result<(), OutOfMemory>
+fn add_body(
+    alloc: Global,
+    program: &Program,
+    ops: &mut Seq<Op>,
+    function: &Function,
+) -> Result<(), OutOfMemory>
     ensures { OnOk result (ops.new ≡ ops.old ++ function_code (program_view program.now) (length ops.old) (function_view function.now)) }
 {
     let depth = outermost();
@@ -78,7 +83,7 @@ fn add_body(program: &Program, ops: &mut Seq<Op>, function: &Function) -> Result
         result,
     };
     let at = function.body.spot;
-    form(program, ops, inside, at, &function.body.form)?;
+    form(alloc, program, ops, inside, at, &function.body.form)?;
     emit(ops, 0, Action::Leave)?;
     Ok(())
 }

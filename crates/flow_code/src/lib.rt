@@ -15,6 +15,7 @@ mod sizes;
 mod statements;
 mod statics;
 mod switches;
+mod tables;
 mod targets;
 mod words;
 
@@ -22,4 +23,5 @@ pub use code::{
     Action, Body, Code, First, Into, Op, Operand, Parameter, Place, Source, Store, Then, Word,
 };
 pub use compiled::compile;
+pub use tables::Table;
 pub use words::type_of_word;

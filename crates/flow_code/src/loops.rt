@@ -12,6 +12,7 @@ use crate::expressions::expression;
 use crate::sizes::{first_leaks, in_turn, size, size_if, size_of_arm, size_of_test};
 use crate::statements::{Inside, arm, close_scope, deeper, full_of, open_scope};
 use c_core::{Expr, First, Program, Spot, Stmt};
+use std::alloc::Global;
 use wv_base::{OutOfMemory, Seq};
 
 // In a loop whose body `continue` goes on to an address, and `break` to another.
@@ -45,6 +46,7 @@ fn test_at(
 /// `while`: `continue` goes on at the test.
 #[cycle(statement)]
 pub fn while_loop(
+    alloc: Global,
     program: &Program,
     ops: &mut Seq<Op>,
     inside: Inside,
@@ -61,7 +63,7 @@ pub fn while_loop(
     let broken = more(again, tested)?;
     let within = in_loop(inside, again, broken);
     emit(ops, 0, Action::Jump(again))?;
-    arm(program, ops, within, body)?;
+    arm(alloc, program, ops, within, body)?;
     test_at(program, ops, at, test, start)?;
     Ok(())
 }
@@ -69,6 +71,7 @@ pub fn while_loop(
 /// `do`: the body comes first.
 #[cycle(statement)]
 pub fn do_loop(
+    alloc: Global,
     program: &Program,
     ops: &mut Seq<Op>,
     inside: Inside,
@@ -84,7 +87,7 @@ pub fn do_loop(
     let again = more(start, turn)?;
     let broken = more(again, tested)?;
     let within = in_loop(inside, again, broken);
-    arm(program, ops, within, body)?;
+    arm(alloc, program, ops, within, body)?;
     test_at(program, ops, at, test, start)?;
     Ok(())
 }
@@ -103,6 +106,7 @@ fn begin(program: &Program, ops: &mut Seq<Op>, at: Spot, first: &First) -> Resul
 /// `for`: a scope around it, if its first part declares names.
 #[cycle(statement)]
 pub fn for_loop(
+    alloc: Global,
     program: &Program,
     ops: &mut Seq<Op>,
     inside: Inside,
@@ -118,7 +122,7 @@ pub fn for_loop(
     let within = deeper(inside, there)?;
     open_scope(ops, there)?;
     begin(program, ops, at, first)?;
-    turns(program, ops, within, at, test, step, body)?;
+    turns(alloc, program, ops, within, at, test, step, body)?;
     close_scope(ops, there)?;
     Ok(())
 }
@@ -157,6 +161,7 @@ fn test_if(
 // What a `for` does again and again: its body, its last part, its test.
 #[cycle(statement)]
 fn turns(
+    alloc: Global,
     program: &Program,
     ops: &mut Seq<Op>,
     inside: Inside,
@@ -176,7 +181,7 @@ fn turns(
     let broken = more(head, tested)?;
     let within = in_loop(inside, again, broken);
     emit(ops, 0, Action::Jump(head))?;
-    arm(program, ops, within, body)?;
+    arm(alloc, program, ops, within, body)?;
     evaluate_if(program, ops, at, step)?;
     test_if(program, ops, at, test, start)?;
     Ok(())

@@ -7,7 +7,7 @@ ghost use Rattle.run_state.specs.Interpreting.{else_part};
 ghost use Rattle.flow_code.specs.Sizes as spec;
 
 use crate::emit::{more, one_if, operand_of};
-use c_core::{Arm, BinOp, Callee, Declared, Expr, First, Form, Init, Label, Node, Row, Stmt};
+use c_core::{Arm, BinOp, Callee, Declared, Expr, First, Form, Init, Node, Row, Stmt};
 use wv_base::OutOfMemory;
 
 /// The scopes that are open: in what `break` leaves, in a turn of the innermost loop, in the function.
@@ -548,27 +548,6 @@ fn size_of_for(
     Ok(sum)
 }
 
-// The operation that compares a value with a label's constant.
-fn size_of_label(label: Label) -> u32
-    ensures { result ≡ spec.size_of_label label }
-{
-    match label {
-        Label::Case(_) => 1,
-        Label::Default => 0,
-    }
-}
-
-/// The operations that choose one of these arms.
-pub fn size_of_selection(arms: &[Arm]) -> Result<u32, OutOfMemory>
-    ensures { IfOk result (λ n. n ≡ spec.size_of_selection (switch_view arms.now)) }
-{
-    let mut sum = 1;
-    for arm in arms {
-        sum = more(sum, size_of_label(arm.label))?;
-    }
-    Ok(sum)
-}
-
 #[cycle(size_of_statement)]
 fn size_of_switch(test: &Expr, arms: &[Arm], depth: Depth) -> Result<u32, OutOfMemory>
     ensures { IfOk result (λ n. n ≡ spec.size_of_form depth (t.Switch (expr_view test.now) (switch_view arms.now))) }
@@ -579,16 +558,15 @@ fn size_of_switch(test: &Expr, arms: &[Arm], depth: Depth) -> Result<u32, OutOfM
     Ok(sum)
 }
 
-/// Arms, behind the operations that choose one.
+/// Arms, after the operation that chooses one.
 #[cycle(size_of_statement)]
 pub fn size_of_arms(arms: &[Arm], depth: Depth) -> Result<u32, OutOfMemory>
     ensures { IfOk result (λ n. n ≡ spec.size_of_arms depth (switch_view arms.now)) }
 {
     let there = any_arm_leaks(arms);
     let within = deep(there, in_arms(depth))?;
-    let selection = size_of_selection(arms)?;
     let bodies = size_of_bodies(arms, within)?;
-    let inner = more(selection, bodies)?;
+    let inner = more(1, bodies)?;
     let sum = with_scope(there, inner)?;
     Ok(sum)
 }

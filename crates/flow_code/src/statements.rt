@@ -16,6 +16,7 @@ use crate::sizes::{Depth, any_leaks, deep, leaks, size, size_of_arm};
 use crate::switches::switch;
 use c_core::{Expr, Form, IntType, Program, Spot, Stmt};
 use run_state::Around;
+use std::alloc::Global;
 use wv_base::{OutOfMemory, Seq};
 
 /// Where a statement stands: the addresses at which `break` and `continue` go on, the scopes that are open, and the function's result.
@@ -87,6 +88,7 @@ pub fn full_of(at: Spot, e: &Expr) -> Around
 /// A statement: its step and its event, then its form.
 #[cycle(statement)]
 pub fn statement(
+    alloc: Global,
     program: &Program,
     ops: &mut Seq<Op>,
     inside: Inside,
@@ -95,13 +97,14 @@ pub fn statement(
     ensures { OnOk result (ops.new ≡ ops.old ++ statement_code (program_view program.now) (length ops.old) inside (stmt_view s.now)) }
 {
     emit(ops, 1, Action::Arrive(s.spot))?;
-    form(program, ops, inside, s.spot, &s.form)?;
+    form(alloc, program, ops, inside, s.spot, &s.form)?;
     Ok(())
 }
 
 /// What a statement does by its form.
 #[cycle(statement)]
 pub fn form(
+    alloc: Global,
     program: &Program,
     ops: &mut Seq<Op>,
     inside: Inside,
@@ -114,22 +117,24 @@ pub fn form(
         Form::Empty => Ok(()),
         Form::Expr(e) => expression(program, ops, 0, full_of(at, e), false, e, Then::Drop),
         Form::Declare(names) => declare(program, ops, at, names.as_slice()),
-        Form::Block(body) => block(program, ops, inside, body.as_slice()),
-        Form::If { test, yes, no } => choose(program, ops, inside, at, test, yes, no),
-        Form::While { test, body } => while_loop(program, ops, inside, at, test, body),
-        Form::Do { body, test } => do_loop(program, ops, inside, at, body, test),
+        Form::Block(body) => block(alloc, program, ops, inside, body.as_slice()),
+        Form::If { test, yes, no } => choose(alloc, program, ops, inside, at, test, yes, no),
+        Form::While { test, body } => while_loop(alloc, program, ops, inside, at, test, body),
+        Form::Do { body, test } => do_loop(alloc, program, ops, inside, at, body, test),
         Form::For {
             first,
             test,
             step,
             body,
-        } => for_loop(program, ops, inside, at, first, test, step, body),
+        } => for_loop(alloc, program, ops, inside, at, first, test, step, body),
         Form::Break => jump_out(ops, inside.depth.inner, inside.broken),
         Form::Continue => jump_out(ops, inside.depth.turn, inside.again),
         Form::Return(None) => leave(ops, inside.depth.scopes),
         Form::Return(Some(e)) => give_back(program, ops, inside, at, e),
-        Form::Label(s) => statement(program, ops, inside, s),
-        Form::Switch { test, arms } => { switch(program, ops, inside, at, test, arms.as_slice()) }
+        Form::Label(s) => statement(alloc, program, ops, inside, s),
+        Form::Switch { test, arms } => {
+            switch(alloc, program, ops, inside, at, test, arms.as_slice())
+        }
     }
 }
 
@@ -171,6 +176,7 @@ fn give_back(
 // A block, which is a scope if it declares names.
 #[cycle(statement)]
 fn block(
+    alloc: Global,
     program: &Program,
     ops: &mut Seq<Op>,
     inside: Inside,
@@ -181,7 +187,7 @@ fn block(
     let there = any_leaks(body);
     let within = deeper(inside, there)?;
     open_scope(ops, there)?;
-    sequence(program, ops, within, body)?;
+    sequence(alloc, program, ops, within, body)?;
     close_scope(ops, there)?;
     Ok(())
 }
@@ -189,6 +195,7 @@ fn block(
 /// The statements of a block in their order.
 #[cycle(statement)]
 pub fn sequence(
+    alloc: Global,
     program: &Program,
     ops: &mut Seq<Op>,
     inside: Inside,
@@ -197,7 +204,7 @@ pub fn sequence(
     ensures { OnOk result (ops.new ≡ ops.old ++ block_code (program_view program.now) (length ops.old) inside (stmts_view body.now)) }
 {
     for s in body {
-        statement(program, ops, inside, s)?;
+        statement(alloc, program, ops, inside, s)?;
     }
     Ok(())
 }
@@ -205,6 +212,7 @@ pub fn sequence(
 /// A statement that is a scope of its own, if it declares names.
 #[cycle(statement)]
 pub fn arm(
+    alloc: Global,
     program: &Program,
     ops: &mut Seq<Op>,
     inside: Inside,
@@ -215,7 +223,7 @@ pub fn arm(
     let there = leaks(s);
     let within = deeper(inside, there)?;
     open_scope(ops, there)?;
-    statement(program, ops, within, s)?;
+    statement(alloc, program, ops, within, s)?;
     close_scope(ops, there)?;
     Ok(())
 }
@@ -233,6 +241,7 @@ fn else_jump(no: &Option<Box<Stmt>>) -> u32
 // `if`: its test, which leads to the second arm where it doesn't hold.
 #[cycle(statement)]
 fn choose(
+    alloc: Global,
     program: &Program,
     ops: &mut Seq<Op>,
     inside: Inside,
@@ -252,14 +261,15 @@ fn choose(
     let branch = Then::Branch { at, way: false, to };
     let around = full_of(at, test);
     expression(program, ops, 0, around, true, test, branch)?;
-    arm(program, ops, inside, yes)?;
-    otherwise(program, ops, inside, to, no)?;
+    arm(alloc, program, ops, inside, yes)?;
+    otherwise(alloc, program, ops, inside, to, no)?;
     Ok(())
 }
 
 // The second arm, and before it the way of the first around it.
 #[cycle(statement)]
 fn otherwise(
+    alloc: Global,
     program: &Program,
     ops: &mut Seq<Op>,
     inside: Inside,
@@ -270,12 +280,13 @@ fn otherwise(
 {
     match no {
         None => Ok(()),
-        Some(no) => second_arm(program, ops, inside, to, no),
+        Some(no) => second_arm(alloc, program, ops, inside, to, no),
     }
 }
 
 #[cycle(statement)]
 fn second_arm(
+    alloc: Global,
     program: &Program,
     ops: &mut Seq<Op>,
     inside: Inside,
@@ -287,6 +298,6 @@ fn second_arm(
     let taken = size_of_arm(s, inside.depth)?;
     let end = more(to, taken)?;
     emit(ops, 0, Action::Jump(end))?;
-    arm(program, ops, inside, s)?;
+    arm(alloc, program, ops, inside, s)?;
     Ok(())
 }

@@ -1,23 +1,23 @@
-// The code of `switch`: its test, operations that choose an arm by it, and the arms, each running into the next.
-ghost use Rattle.std.specs.Prelude.{◌≡◌, ◌++◌, length, OnOk, IfOk};
+// The code of `switch`: its test, an operation that chooses an arm by it, and the arms, each running into the next.
+ghost use Rattle.std.specs.Prelude.{◌≡◌, ◌++◌, [], length, OnOk, IfOk};
 ghost use Rattle.c_core.specs.Tree as t;
 ghost use Rattle.c_core.specs.Typing as typing;
 ghost use Rattle.c_core.specs.Typing.{labels_in};
 ghost use Rattle.c_core.specs.View.{program_view, expr_view, switch_view};
 ghost use Rattle.c_meaning.specs.Run.{first_label};
-ghost use Rattle.flow_code.specs.Statements.{form_code, block_code, arm_at, case_code, cases_code, selection_code, arms_code, switch_test_code};
+ghost use Rattle.flow_code.specs.Statements.{form_code, block_code, arm_at, with_case, with_cases, selection_code, arms_code, switch_test_code};
 ghost use Rattle.flow_code.specs.Statements as spec;
 
 use crate::code::{Action, Op, Then};
 use crate::emit::{ahead, emit, more, only};
 use crate::operands::prepare;
-use crate::sizes::{
-    Depth, any_arm_leaks, in_arms, size_of_arms, size_of_selection, size_of_statements,
-};
+use crate::sizes::{Depth, any_arm_leaks, in_arms, size_of_arms, size_of_statements};
 use crate::statements::{Inside, close_scope, deeper, full_of, open_scope, sequence};
+use crate::tables::Table;
 use crate::words::native;
 use c_core::{Arm, Expr, Label, Program, Spot, promote};
 use c_meaning::type_of;
+use std::alloc::Global;
 use wv_base::{OutOfMemory, Seq};
 
 // Among the arms of a `switch`, where `break` goes on at an address.
@@ -35,6 +35,7 @@ fn in_switch(inside: Inside, broken: u32) -> Inside
 /// `switch`: a scope around its arms, if one of their statements declares names.
 #[cycle(statement)]
 pub fn switch(
+    alloc: Global,
     program: &Program,
     ops: &mut Seq<Op>,
     inside: Inside,
@@ -50,7 +51,7 @@ pub fn switch(
     let broken = ahead(ops, size)?;
     let within = deeper(in_switch(inside, broken), there)?;
     open_scope(ops, there)?;
-    selected_arms(program, ops, within, at, arms)?;
+    selected_arms(alloc, program, ops, within, at, arms)?;
     close_scope(ops, there)?;
     Ok(())
 }
@@ -81,9 +82,10 @@ fn switch_test(
     Ok(())
 }
 
-// The arms, behind the operations that choose one.
+// The arms, after the operation that chooses one.
 #[cycle(statement)]
 fn selected_arms(
+    alloc: Global,
     program: &Program,
     ops: &mut Seq<Op>,
     inside: Inside,
@@ -92,15 +94,15 @@ fn selected_arms(
 ) -> Result<(), OutOfMemory>
     ensures { OnOk result (ops.new ≡ ops.old ++ arms_code (program_view program.now) (length ops.old) inside at (switch_view arms.now)) }
 {
-    let size = size_of_selection(arms)?;
-    let start = ahead(ops, size)?;
-    select(ops, inside.depth, at, start, arms)?;
-    bodies(program, ops, inside, arms)?;
+    let start = ahead(ops, 1)?;
+    select(alloc, ops, inside.depth, at, start, arms)?;
+    bodies(alloc, program, ops, inside, arms)?;
     Ok(())
 }
 
 // The choice of one of the arms that begin at an address.
 fn select(
+    alloc: Global,
     ops: &mut Seq<Op>,
     depth: Depth,
     at: Spot,
@@ -109,38 +111,33 @@ fn select(
 ) -> Result<(), OutOfMemory>
     ensures { OnOk result (ops.new ≡ ops.old ++ selection_code depth at start (switch_view arms.now)) }
 {
-    cases(ops, depth, at, start, arms)?;
-    let to = default_at(depth, start, arms)?;
-    emit(ops, 0, Action::ToDefault { at, to })?;
+    let cases = cases(alloc, depth, start, arms)?;
+    let other = default_at(depth, start, arms)?;
+    emit(ops, 0, Action::Select { at, cases, other })?;
     Ok(())
 }
 
-// The value on the stack is compared with each constant in turn.
-fn cases(
-    ops: &mut Seq<Op>,
-    depth: Depth,
-    at: Spot,
-    start: u32,
-    arms: &[Arm],
-) -> Result<(), OutOfMemory>
-    ensures { OnOk result (ops.new ≡ ops.old ++ cases_code depth at start (switch_view arms.now)) }
+// Where each constant leads.
+fn cases(alloc: Global, depth: Depth, start: u32, arms: &[Arm]) -> Result<Table, OutOfMemory>
+    ensures { IfOk result (λ table. table ≡ with_cases [] depth start (switch_view arms.now)) }
 {
+    let mut table = Table::new(alloc);
     let mut to = start;
     for arm in arms {
-        case(ops, at, to, arm.label)?;
+        case(&mut table, arm.label, to)?;
         let size = size_of_statements(arm.body.as_slice(), depth)?;
         to = more(to, size)?;
     }
-    Ok(())
+    Ok(table)
 }
 
-// A value that an arm's constant equals leads to an address.
-fn case(ops: &mut Seq<Op>, at: Spot, to: u32, label: Label) -> Result<(), OutOfMemory>
-    ensures { OnOk result (ops.new ≡ ops.old ++ case_code at to label) }
+// An arm's constant leads to an address.
+fn case(table: &mut Table, label: Label, to: u32) -> Result<(), OutOfMemory>
+    ensures { OnOk result (table.new ≡ with_case table.old label to) }
 {
     match label {
         Label::Case(value) => {
-            emit(ops, 0, Action::ToCase { at, value, to })?;
+            table.add(value, to)?;
             Ok(())
         }
         Label::Default => Ok(()),
@@ -175,6 +172,7 @@ fn default_at(depth: Depth, start: u32, arms: &[Arm]) -> Result<u32, OutOfMemory
 // The statements of all arms.
 #[cycle(statement)]
 fn bodies(
+    alloc: Global,
     program: &Program,
     ops: &mut Seq<Op>,
     inside: Inside,
@@ -183,7 +181,7 @@ fn bodies(
     ensures { OnOk result (ops.new ≡ ops.old ++ block_code (program_view program.now) (length ops.old) inside (switch_view arms.now)) }
 {
     for arm in arms {
-        sequence(program, ops, inside, arm.body.as_slice())?;
+        sequence(alloc, program, ops, inside, arm.body.as_slice())?;
     }
     Ok(())
 }

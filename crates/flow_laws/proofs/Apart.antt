@@ -1,6 +1,5 @@
 -- An action looks neither at the steps that are left nor at what was seen, and ends no run as spent.
 use Rattle.std.proofs.Common.{◌≡◌, ℕ, zero, suc, ◌+◌, ◌-◌, ℤ, pos, Bool, true, false, cond, not, List, [], ◌∷◌, ◌++◌, length, take, drop, Option, Some, None, slice_get, nat_le, refl, sym, ap, ◌∙◌}
-use Rattle.std.specs.Ordering.{int_eq}
 use Rattle.c_core.specs.Types.{fit, is_zero, number_of}
 use Rattle.c_core.specs.Operators.{apply_of, apply_one_of}
 use Rattle.c_core.specs.declared.number.DataModel.TheVariants.{Lp64}
@@ -17,7 +16,6 @@ use Rattle.c_meaning.specs.declared.run.End.TheVariants.{Spent, Undefined, Viola
 use Rattle.c_meaning.specs.declared.run.Event.{Event}
 use Rattle.c_meaning.specs.declared.run.Event.TheVariants.{At, Branch as Branched, Enter as Entered, Return as Returned, Fail}
 use Rattle.c_meaning.specs.declared.run.Way.{Way}
-use Rattle.c_meaning.specs.declared.run.Way.TheVariants.{Case as ByCase, Default as ByDefault}
 use Rattle.c_meaning.specs.Acts.{Res, Go, Stop, bind}
 use Rattle.c_meaning.specs.Cells.{Cell, Key, put, read, cells_from}
 use Rattle.c_meaning.specs.Meaning.{Site, Where}
@@ -27,7 +25,7 @@ use Rattle.c_meaning.specs.Watching.{seen_by}
 use Rattle.run_state.specs.declared.machine.CallSite.{CallSite}
 use Rattle.run_state.specs.Interpreting.{where_of, site_of}
 use Rattle.flow_code.specs.declared.code.Action.{Action}
-use Rattle.flow_code.specs.declared.code.Action.TheVariants.{Rest, Arrive, Give, Truth, Convert, Look, Aim, Row, Operate, OperateOne, Jump, ToCase, ToDefault, Open, Close, Declare, Enter, Call, Input, Reach, End as EndHere, Leave, Return}
+use Rattle.flow_code.specs.declared.code.Action.TheVariants.{Rest, Arrive, Give, Truth, Convert, Look, Aim, Row, Operate, OperateOne, Jump, Select, Open, Close, Declare, Enter, Call, Input, Reach, End as EndHere, Leave, Return}
 use Rattle.flow_code.specs.declared.code.Body.{Body}
 use Rattle.flow_code.specs.declared.code.Code.{Code}
 use Rattle.flow_code.specs.declared.code.Into.{Into}
@@ -36,9 +34,10 @@ use Rattle.flow_code.specs.declared.code.Store.{Store}
 use Rattle.flow_code.specs.declared.code.Then.{Then}
 use Rattle.flow_code.specs.declared.code.Then.TheVariants.{Push, Drop, Skip, Branch}
 use Rattle.flow_code.specs.Words.{type_of_word}
+use Rattle.flow_code.specs.Tables.{address_in, address_or}
 use Rattle.flow_laws.specs.declared.frame.Frame.{Frame}
 use Rattle.flow_laws.specs.Machines.{Control}
-use Rattle.flow_laws.specs.Acting.{program_in, cell, right_of, top, below, value_of, stack_of, key_at, stack_at, kept_value, arguments, with_parameters, told, passed_on, stored, finished, cells_drawn, drawn_if, declared, input_given, called, left_by, aimed, sent, reached_at, converted, acted, scope_closed}
+use Rattle.flow_laws.specs.Acting.{program_in, cell, right_of, top, below, value_of, stack_of, key_at, stack_at, kept_value, arguments, with_parameters, told, passed_on, stored, finished, cells_drawn, drawn_if, declared, input_given, called, left_by, aimed, way_by, sent, reached_at, converted, acted, scope_closed}
 
 -- a state with other steps left and another sight
 abbrev pub state_by : {S T : Type 0} → (S → T) → ℕ → State S → State T
@@ -226,9 +225,7 @@ module _ (S T : Type 0) (after : Event → List Cell → S → S) (later : Event
         (λ w u. finished c S after old w x (record k { stack = stack_of a k.stack }) u) (λ w u. finished c T later old w x (record k { stack = stack_of a k.stack }) u)
         (apart_answered (program_in c) (where_of from.around) from.spot z) (λ w u. apart_finished old w x (record k { stack = stack_of a k.stack }) u) s
     apart_acted (Jump to) k s = (refl, tt)
-    apart_acted (ToCase at v to) k s =
-        alike_if (int_eq (top k.stack) v) (sent c S after at (ByCase v) to k s) (Go k s) (sent c T later at (ByCase v) to k (state_by h n s)) (Go k (state_by h n s)) (apart_sent at (ByCase v) to k s) (refl, tt)
-    apart_acted (ToDefault at to) k s = apart_sent at ByDefault to k s
+    apart_acted (Select at cases other) k s = apart_sent at (way_by (address_in cases (top k.stack)) (top k.stack)) (address_or cases other (top k.stack)) k s
     apart_acted Open k s = (refl, tt)
     apart_acted Close k s = apart_scope k.scopes k s
     apart_acted (Declare spot o m ty draws) k s =

@@ -5,11 +5,8 @@ use Rattle.c_core.specs.declared.number.IntType.{IntType}
 use Rattle.c_core.specs.declared.number.Spot.{Spot}
 use Rattle.c_meaning.specs.Meaning.{Used, Unused}
 use Rattle.c_core.specs.Types.{promote_of}
-use Rattle.c_core.specs.Typing.{is_default, labels_in}
-use Rattle.c_core.specs.declared.tree.Label.TheVariants.{Case, Default}
-use Rattle.c_meaning.specs.Run.{first_label}
 use Rattle.c_meaning.specs.Objects.{type_of, type_of_object, size_of_object, columns_of_object}
-use Rattle.flow_code.specs.declared.code.Action.TheVariants.{Arrive, Convert, Jump, ToDefault, Open, Close, Leave, Declare as DeclareOf, Return as ReturnOf}
+use Rattle.flow_code.specs.declared.code.Action.TheVariants.{Arrive, Convert, Jump, Open, Close, Leave, Declare as DeclareOf, Return as ReturnOf}
 use Rattle.flow_code.specs.declared.code.Action.{Action}
 use Rattle.flow_code.specs.declared.code.Op.{Op}
 use Rattle.flow_code.specs.declared.code.Operand.{Operand}
@@ -20,8 +17,8 @@ use Rattle.flow_code.specs.declared.sizes.Depth.{Depth}
 use Rattle.flow_code.specs.declared.statements.Inside.{Inside}
 use Rattle.flow_code.specs.Expressions.{code}
 use Rattle.flow_code.specs.Preparing.{followed, op, only, stored_in, with_operand, scope, all_closed}
-use Rattle.flow_code.specs.Sizes.{operand_of, with_one, size, size_if, size_stored, size_of_values, size_of_rows, size_of_init, size_of_names, size_of_first, size_of_test, size_of_arm, size_of_selection, size_of_arms, size_of_statement, size_of_form, size_of_else, size_of_block, with_scope, leaks, any_leaks, first_leaks, in_turn}
-use Rattle.flow_code.specs.Statements.{full_of, deeper, in_loop, in_switch, draws, else_jump, arm_at, cases_code, selection_code, switch_test_code, initial_code, initials_code, rows_code, init_code, name_code, names_code, first_code, only_if, test_code, return_code, turns, statement_code, form_code, else_code, block_code, arm_code, turns_code}
+use Rattle.flow_code.specs.Sizes.{operand_of, with_one, size, size_if, size_stored, size_of_values, size_of_rows, size_of_init, size_of_names, size_of_first, size_of_test, size_of_arm, size_of_arms, size_of_statement, size_of_form, size_of_else, size_of_block, with_scope, leaks, any_leaks, first_leaks, in_turn}
+use Rattle.flow_code.specs.Statements.{full_of, deeper, in_loop, in_switch, draws, else_jump, selection_code, switch_test_code, initial_code, initials_code, rows_code, init_code, name_code, names_code, first_code, only_if, test_code, return_code, turns, statement_code, form_code, else_code, block_code, arm_code, turns_code}
 use Rattle.flow_code.specs.Words.{native}
 use Rattle.flow_code.proofs.Lengths.{code_size, stored_code_size, followed_size}
 
@@ -72,16 +69,6 @@ for_sum n m = omega arith
 
 else_sum : (n : ℕ) → 1 + n ≡ n + 1
 else_sum n = omega arith
-
--- the comparisons with the constants of arms, and the operation behind them
-cases_size : (d : Depth) (at : Spot) (to : ℕ) (b : Stms) → length (cases_code d at to b) + 1 ≡ size_of_selection b
-cases_size d at to NoStm = refl
-cases_size d at to (MoreStm s b) = cases_size d at (to + size_of_statement d s) b
-cases_size d at to (MoreCase spot (Case v) b) = let h = cases_size d at to b in omega (arith, h)
-cases_size d at to (MoreCase spot Default b) = let h = cases_size d at to b in omega (arith, h)
-
-pub selection_size : (d : Depth) (at : Spot) (to : ℕ) (b : Stms) → length (selection_code d at to b) ≡ size_of_selection b
-selection_size d at to b = length-append (cases_code d at to b) (op 0 (ToDefault at (arm_at d to (first_label is_default (labels_in b)) b)) ∷ []) ∙ cases_size d at to b
 
 -- the test of a `switch`
 pub switch_test_size : (p : Program) (i : ℕ) (at : Spot) (e : Exp) → length (switch_test_code p i at e) ≡ with_one (operand_of e) (size e)
@@ -209,11 +196,11 @@ module _ (p : Program) where
     form_size i w at (Label b) = statement_size i w b
     form_size i w at (Switch e b) =
         let v = λ (j : ℕ). deeper (any_leaks b) (in_switch (j + size_of_arms w.depth b) w) in
-        let arms = λ (j l : ℕ). followed l (selection_code (v j).depth at (l + size_of_selection b) b) (λ m. block_code p m (v j) b) in
+        let arms = λ (j l : ℕ). followed l (selection_code (v j).depth at (l + 1) b) (λ m. block_code p m (v j) b) in
         followed_size i (switch_test_code p i at e) (λ j. scope (any_leaks b) j (arms j)) (with_one (operand_of e) (size e)) (size_of_arms w.depth b) (switch_test_size p i at e)
-        (λ j. scope_size (any_leaks b) j (arms j) (size_of_selection b + size_of_block (v j).depth b)
-        (λ l. followed_size l (selection_code (v j).depth at (l + size_of_selection b) b) (λ m. block_code p m (v j) b) (size_of_selection b) (size_of_block (v j).depth b)
-        (selection_size (v j).depth at (l + size_of_selection b) b) (λ m. block_size m (v j) b)))
+        (λ j. scope_size (any_leaks b) j (arms j) (1 + size_of_block (v j).depth b)
+        (λ l. followed_size l (selection_code (v j).depth at (l + 1) b) (λ m. block_code p m (v j) b) 1 (size_of_block (v j).depth b)
+        refl (λ m. block_size m (v j) b)))
 
     pub else_size : (i to : ℕ) (w : Inside) (b : Else) → length (else_code p i to w b) ≡ size_of_else w.depth b
     else_size i to w NoElse = refl

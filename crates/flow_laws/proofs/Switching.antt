@@ -23,7 +23,7 @@ use Rattle.flow_code.specs.declared.code.Into.{Into}
 use Rattle.flow_code.specs.declared.code.Then.TheVariants.{Push}
 use Rattle.flow_code.specs.declared.statements.Inside.{Inside}
 use Rattle.flow_code.specs.Preparing.{only, scope}
-use Rattle.flow_code.specs.Sizes.{operand_of, with_one, size, leaks, any_leaks, size_of_statement, size_of_block, size_of_selection, size_of_arms}
+use Rattle.flow_code.specs.Sizes.{operand_of, with_one, size, leaks, any_leaks, size_of_statement, size_of_block, size_of_arms}
 use Rattle.flow_code.specs.Statements.{full_of, deeper, in_switch, arm_at, selection_code, switch_test_code, statement_code, block_code, arms_code}
 use Rattle.flow_code.specs.Words.{native, native_if}
 use Rattle.flow_code.proofs.Lengths.{followed_size}
@@ -40,7 +40,7 @@ use Rattle.flow_laws.proofs.Operands.{Eval, goes_to, Values, operand_comes}
 use Rattle.flow_laws.proofs.Answering.{convert_takes}
 use Rattle.flow_laws.proofs.Scopes.{scope_takes}
 use Rattle.flow_laws.proofs.Selecting.{reported, selects}
-use Rattle.flow_laws.proofs.Sized.{statement_size, block_size, selection_size, switch_test_size}
+use Rattle.flow_laws.proofs.Sized.{statement_size, block_size, switch_test_size}
 use Rattle.flow_laws.proofs.Standing.{has_followed, does_on, does_so, does_made, reaches_made, jumps}
 
 -- the statements behind the label of a number, none where there are fewer labels
@@ -156,13 +156,13 @@ module _ (p : Program) (c : Code) (S : Type 0) (after : Event → List Cell → 
       → (v : Inside) (l : Control) (j : ℕ) (s : State S) → v.result ≡ native_if p.model result
       → HasCode c j (arms_code p j v at b) → s.steps ≤ n
       → Does c S after (standing (record l { stack = x ∷ l.stack }) j s) (taken_by at x b s)
-      (λ f u y. LeavesAs p c S after v l (j + (size_of_selection b + size_of_block v.depth b)) f u y × Unit {0})
+      (λ f u y. LeavesAs p c S after v l (j + (1 + size_of_block v.depth b)) f u y × Unit {0})
   arms_from at x b runs v l j s e h m =
-      let first = size_of_selection b in
+      let first : ℕ = 1 in
       let z = first + size_of_block v.depth b in
       let chosen = arm_for x (labels_in b) in
       let q = has_followed c j first (selection_code v.depth at (j + first) b) (λ i. block_code p i v b)
-      (selection_size v.depth at (j + first) b) h in
+      refl h in
       let t = reported p c S after at x l s (way_for x (labels_in b)) in
       let there = standing l (arm_at v.depth (j + first) chosen b) t in
       let part = execs p M call result (behind_label_of chosen b) in
@@ -186,7 +186,7 @@ module _ (p : Program) (c : Code) (S : Type 0) (after : Event → List Cell → 
       (LeavesAs p c S after w k end)
   arms_do at x b runs i end w k s e g h m =
       let v = deeper (any_leaks b) (in_switch end w) in
-      let first = size_of_selection b in
+      let first : ℕ = 1 in
       let z = first + size_of_block v.depth b in
       let part = taken_by at x b in
       let selected = λ (j : ℕ). selection_code v.depth at (j + first) b in
@@ -197,7 +197,7 @@ module _ (p : Program) (c : Code) (S : Type 0) (after : Event → List Cell → 
       (LeavesAs p c S after w k end)
       (scope_takes p c S after (λ _. Unit {0}) (any_leaks b) (in_switch end w) k (x ∷ k.stack) i z arms part s h
       (λ j. followed_size j (selected j) (λ l. block_code p l v b) first (size_of_block v.depth b)
-      (selection_size v.depth at (j + first) b) (λ l. block_size p l v b))
+      refl (λ l. block_size p l v b))
       (taken_neutral at x b)
       (λ j l o q. subst (λ vs. Does c S after (standing (record l { stack = x ∷ vs }) j s) (part s)
       (λ f u y. LeavesAs p c S after v l (j + z) f u y × Unit {0})) o (arms_from at x b runs v l j s e q m)))

@@ -1,6 +1,5 @@
 -- What each action does: it changes where the machine stands and the state of its run, or ends the run.
 use Rattle.std.specs.Prelude.{ℕ, zero, suc, ◌-◌, ℤ, pos, negsuc, Bool, false, cond, not, nat_lt, List, [], ◌∷◌, ◌++◌, length, take, drop, reverse, Option, Some, None, slice_get}
-use Rattle.std.specs.Ordering.{int_eq}
 use Rattle.c_core.specs.Types.{fit, is_zero, number_of}
 use Rattle.c_core.specs.Operators.{is_shift, apply_of, apply_one_of}
 use Rattle.c_core.specs.declared.number.BinOp.{BinOp}
@@ -34,10 +33,11 @@ use Rattle.flow_code.specs.declared.code.Then.{Then}
 use Rattle.flow_code.specs.declared.code.Then.TheVariants.{Push, Drop, Skip, Branch}
 use Rattle.flow_code.specs.declared.code.Into.{Into}
 use Rattle.flow_code.specs.declared.code.Action.{Action}
-use Rattle.flow_code.specs.declared.code.Action.TheVariants.{Rest, Arrive, Give, Truth, Convert, Look, Aim, Row, Operate, OperateOne, Jump, ToCase, ToDefault, Open, Close, Declare, Enter, Call, Input, Reach, End as EndHere, Leave, Return}
+use Rattle.flow_code.specs.declared.code.Action.TheVariants.{Rest, Arrive, Give, Truth, Convert, Look, Aim, Row, Operate, OperateOne, Jump, Select, Open, Close, Declare, Enter, Call, Input, Reach, End as EndHere, Leave, Return}
 use Rattle.flow_code.specs.declared.code.Parameter.{Parameter}
 use Rattle.flow_code.specs.declared.code.Body.{Body}
 use Rattle.flow_code.specs.declared.code.Code.{Code}
+use Rattle.flow_code.specs.Tables.{address_in, address_or}
 use Rattle.flow_laws.specs.declared.frame.Frame.{Frame}
 use Rattle.flow_laws.specs.Machines.{Control}
 
@@ -108,6 +108,11 @@ abbrev pub with_parameters : List Parameter → List ℤ → List Cell → List 
 with_parameters [] vs cs = cs
 with_parameters (o ∷ os) [] cs = with_parameters os [] (cs ++ cells_from o.object 0 1 [])
 with_parameters (o ∷ os) (v ∷ vs) cs = with_parameters os vs (cs ++ cells_from o.object 0 1 (fit Lp64 o.ty v ∷ []))
+
+-- the way of a value by its address in a table
+abbrev pub way_by : Option ℕ → ℤ → Way
+way_by None v = ByDefault
+way_by (Some to) v = ByCase v
 
 -- the innermost scope ends
 abbrev pub scope_closed : {S : Type 0} → List ℕ → Control → State S → Res End (State S) Control
@@ -233,8 +238,7 @@ module _ (c : Code) (S : Type 0) (after : Event → List Cell → S → S) where
       bind (run.answered (program_in c) S (seen_by after) (where_of from.around) from.spot (apply_one_of Lp64 o (type_of_word word) (fit Lp64 (type_of_word word) v)) s) (λ z u.
       finished v z x (record k { stack = stack_of a k.stack }) u)
   acted (Jump to) k s = Go (record k { at = to }) s
-  acted (ToCase at v to) k s = cond (int_eq (top k.stack) v) (sent at (ByCase v) to k s) (Go k s)
-  acted (ToDefault at to) k s = sent at ByDefault to k s
+  acted (Select at cases other) k s = sent at (way_by (address_in cases (top k.stack)) (top k.stack)) (address_or cases other (top k.stack)) k s
   acted Open k s = Go (record k { scopes = length s.cells ∷ k.scopes }) s
   acted Close k s = scope_closed k.scopes k s
   acted (Declare spot o n ty draws) k s = bind (declared spot o n ty draws s) (λ _ u. Go k u)

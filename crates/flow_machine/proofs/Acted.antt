@@ -1,5 +1,6 @@
 -- Actions that do several parts in turn.
-use Rattle.std.proofs.Common.{◌≡◌, ℤ, List, Result}
+use Rattle.std.proofs.Common.{◌≡◌, ℕ, ℤ, List, Option, Result, ap, ap₂, ◌∙◌, subst}
+use Rattle.std.specs.Option.{unwrap_or}
 use Rattle.c_core.specs.Types.{fit}
 use Rattle.c_core.specs.Operators.{apply_of, apply_one_of}
 use Rattle.c_core.specs.declared.number.BinOp.{BinOp}
@@ -16,15 +17,16 @@ use Rattle.c_meaning.specs.Run as runs
 use Rattle.c_meaning.specs.Watching.{seen_by}
 use Rattle.run_state.specs.Interpreting.{where_of, same}
 use Rattle.run_state.specs.declared.machine.Halt.{Halt}
-use Rattle.flow_code.specs.declared.code.Action.TheVariants.{Operate, OperateOne, Input}
+use Rattle.flow_code.specs.declared.code.Action.TheVariants.{Operate, OperateOne, Select, Input}
 use Rattle.flow_code.specs.declared.code.Code.{Code}
 use Rattle.flow_code.specs.declared.code.Into.{Into}
 use Rattle.flow_code.specs.declared.code.Operand.{Operand}
 use Rattle.flow_code.specs.declared.code.Source.{Source}
 use Rattle.flow_code.specs.declared.code.Word.{Word}
+use Rattle.flow_code.specs.Tables.{address_in}
 use Rattle.flow_code.specs.Words.{type_of_word}
 use Rattle.flow_laws.specs.Machines.{Control}
-use Rattle.flow_laws.specs.Acting.{program_in, right_of, value_of, stack_of, finished, input_given, acted}
+use Rattle.flow_laws.specs.Acting.{program_in, right_of, value_of, stack_of, finished, input_given, top, way_by, sent, acted}
 use Rattle.flow_machine.specs.Views.{Acts, answer_finished}
 use Rattle.flow_machine.proofs.Giving.{goes_there}
 
@@ -52,3 +54,9 @@ module _ (c : Code) (S : Type 0) (after : Event → List Cell → S → S) where
   pub input_finished : (spot close : Spot) (ty : IntType) (x : Into) (k n : Control) (s t u : State S) (v : ℤ) (q : Result (Unit {0}) Halt)
       → input_given c S after spot close ty s ≡ Go v t → Acts q n u (finished c S after v v x k t) → Acts q n u (acted c S after (Input spot close ty x) k s)
   input_finished spot close ty x k n s t u v q r g = goes_there same v n t u (input_given c S after spot close ty s) (λ y p. finished c S after y y x k p) q r g
+
+  -- a value off the stack leads to its address in a table, if it has one there
+  pub selected : (at : Spot) (cases : List (ℤ × ℕ)) (other : ℕ) (k n : Control) (s u : State S) (v : ℤ) (o : Option ℕ) (q : Result (Unit {0}) Halt)
+      → v ≡ top k.stack → o ≡ address_in cases v → Acts q n u (sent c S after at (way_by o v) (unwrap_or o other) k s) → Acts q n u (acted c S after (Select at cases other) k s)
+  selected at cases other k n s u v o q ev eo g =
+      subst (λ r. Acts q n u r) (ap₂ (λ w p. sent c S after at (way_by p w) (unwrap_or p other) k s) ev (eo ∙ ap (λ w. address_in cases w) ev)) g

@@ -1,6 +1,5 @@
 -- No more draws take no choice than are made.
 use Rattle.std.proofs.Common.{◌≤◌, ℕ, zero, suc, ◌+◌, ◌-◌, ℤ, pos, nat_le, Bool, true, false, cond, not, List, [], ◌∷◌, ◌++◌, length, take, drop, Option, Some, None, slice_get, arith, length-append}
-use Rattle.std.specs.Ordering.{int_eq}
 use Rattle.c_core.specs.Types.{fit, is_zero, number_of}
 use Rattle.c_core.specs.Operators.{apply_of, apply_one_of}
 use Rattle.c_core.specs.declared.number.DataModel.TheVariants.{Lp64}
@@ -18,7 +17,6 @@ use Rattle.c_meaning.specs.declared.run.End.{End}
 use Rattle.c_meaning.specs.declared.run.End.TheVariants.{Undefined, Deep}
 use Rattle.c_meaning.specs.declared.run.Event.{Event}
 use Rattle.c_meaning.specs.declared.run.Event.TheVariants.{Return as Returned}
-use Rattle.c_meaning.specs.declared.run.Way.TheVariants.{Case as ByCase}
 use Rattle.c_meaning.specs.Acts.{Res, Go, Stop, bind}
 use Rattle.c_meaning.specs.Cells.{Cell, put, read, cells_from}
 use Rattle.c_meaning.specs.Meaning.{Site, Where}
@@ -29,7 +27,7 @@ use Rattle.run_state.specs.Interpreting.{where_of, site_of}
 use Rattle.run_state.specs.declared.machine.CallSite.{CallSite}
 use Rattle.flow_code.specs.Words.{type_of_word}
 use Rattle.flow_code.specs.declared.code.Action.{Action}
-use Rattle.flow_code.specs.declared.code.Action.TheVariants.{Rest, Arrive, Give, Truth, Convert, Look, Aim, Row, Operate, OperateOne, Jump, ToCase, ToDefault, Open, Close, Declare, Enter, Call, Input, Reach, End as EndHere, Leave, Return}
+use Rattle.flow_code.specs.declared.code.Action.TheVariants.{Rest, Arrive, Give, Truth, Convert, Look, Aim, Row, Operate, OperateOne, Jump, Select, Open, Close, Declare, Enter, Call, Input, Reach, End as EndHere, Leave, Return}
 use Rattle.flow_code.specs.declared.code.Body.{Body}
 use Rattle.flow_code.specs.declared.code.Code.{Code}
 use Rattle.flow_code.specs.declared.code.Into.{Into}
@@ -161,10 +159,6 @@ module _ (c : Code) (S : Type 0) (after : Event → List Cell → S → S) where
   counts_closed [] k s h = h
   counts_closed (n ∷ ns) k s h = h
 
-  counts_either : (b : Bool) (x y : Res End (State S) Control) → Counts x → Counts y → Counts (cond b x y)
-  counts_either true x y h g = h
-  counts_either false x y h g = g
-
   -- each action leaves it so
   counts_acted : (a : Action) (k : Control) (s : State S) → Few s → Counts (acted c S after a k s)
   counts_acted Rest k s h = h
@@ -199,8 +193,7 @@ module _ (c : Code) (S : Type 0) (after : Event → List Cell → S → S) where
       counts_then (run.answered (program_in c) S (seen_by after) (where_of from.around) from.spot z s) (λ q u. finished c S after v q x (record k { stack = stack_of a k.stack }) u)
       (counts_answered (program_in c) S (seen_by after) (where_of from.around) from.spot z s h) (λ q u g. counts_finished v q x (record k { stack = stack_of a k.stack }) u g)
   counts_acted (Jump to) k s h = h
-  counts_acted (ToCase at v to) k s h = counts_either (int_eq (top k.stack) v) (sent c S after at (ByCase v) to k s) (Go k s) h h
-  counts_acted (ToDefault at to) k s h = h
+  counts_acted (Select at cases other) k s h = h
   counts_acted Open k s h = h
   counts_acted Close k s h = counts_closed k.scopes k s h
   counts_acted (Declare spot o n ty draws) k s h = counts_then (declared c S after spot o n ty draws s) (λ _ u. Go k u) (counts_declared spot o n ty draws s h) (λ _ u g. g)

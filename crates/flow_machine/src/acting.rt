@@ -5,7 +5,7 @@ ghost use Rattle.c_meaning.specs.Acts.{Go};
 ghost use Rattle.c_meaning.specs.Run as runs;
 ghost use Rattle.c_meaning.specs.Watching.{seen_by};
 ghost use Rattle.run_state.specs.Interpreting.{same, where_of};
-ghost use Rattle.flow_code.specs.declared.code.Action.TheVariants.{Row, ToCase, Input, Reach};
+ghost use Rattle.flow_code.specs.declared.code.Action.TheVariants.{Row, Select, Input, Reach};
 ghost use Rattle.flow_code.specs.declared.code.Code.{Code};
 ghost use Rattle.flow_laws.specs.Acting.{program_in, acted, scope_closed, aimed_at, sent, reached_at};
 ghost use Rattle.flow_machine.specs.Rooms.{GoesInRoom, HasSpare, IsCounted, KeepsRooms, KeepsStacks, Lasts};
@@ -19,7 +19,7 @@ use crate::operands::{in_row, index_below, look, take};
 use crate::results::finish;
 use c_core::{Done, IntType, Property, Spot};
 use c_meaning::{End, Event, Watcher, Way};
-use flow_code::{Action, Code, Into, Operand, Source};
+use flow_code::{Action, Code, Into, Operand, Source, Table};
 use run_state::{Around, Halt};
 
 // The violation: its event, and the end of the run.
@@ -233,23 +233,24 @@ fn send<W: Watcher>(
     Ok(())
 }
 
-// The value on the stack is compared with the constant of an arm.
-fn compare<W: Watcher>(
+// The value on the stack leads to its address in a table, or to the one for all others.
+fn select<W: Watcher>(
     control: &mut Control,
     run: &Running,
     watcher: &mut W,
     at: Spot,
-    value: i128,
-    to: u32,
+    cases: &Table,
+    other: u32,
 ) -> Result<(), Halt>
-    ensures acts { (c : Code) → Acts result (control_of control.new) (state_of run.now (W.seen watcher.new)) (acted c W.Seen W.after (ToCase at value to) (control_of control.old) (state_of run.now (W.seen watcher.old))) }
+    ensures acts { (c : Code) → Acts result (control_of control.new) (state_of run.now (W.seen watcher.new)) (acted c W.Seen W.after (Select at cases.now other) (control_of control.old) (state_of run.now (W.seen watcher.old))) }
     ensures kept { KeepsStacks control.old control.new }
     ensures lasting { W.sure → Lasts result }
 {
-    if control.top() == value {
-        return send(control, run, watcher, at, Way::Case(value), to);
+    let value = control.top();
+    match cases.get(value) {
+        Some(to) => send(control, run, watcher, at, Way::Case(value), to),
+        None => send(control, run, watcher, at, Way::Default, other),
     }
-    Ok(())
 }
 
 // A scope begins: how many cells live now.
@@ -364,8 +365,7 @@ pub fn act<W: Watcher>(
             control.at = *to as usize;
             Ok(())
         }
-        Action::ToCase { at, value, to } => compare(control, run, watcher, *at, *value, *to),
-        Action::ToDefault { at, to } => { send(control, run, watcher, *at, Way::Default, *to) }
+        Action::Select { at, cases, other } => select(control, run, watcher, *at, cases, *other),
         Action::Open => open_scope(control, run),
         Action::Close => {
             close_scope::<W>(control, run);

@@ -12,7 +12,6 @@ use Rattle.c_core.specs.declared.number.IntType.TheVariants.{Int}
 use Rattle.c_core.specs.declared.number.Spot.{Spot}
 use Rattle.c_core.specs.declared.tree.Callee.{Callee}
 use Rattle.c_core.specs.declared.tree.Callee.TheVariants.{Defined, Input as InputOf, ReachError, Abort, Exit}
-use Rattle.c_core.specs.declared.tree.Label.TheVariants.{Case, Default}
 use Rattle.c_meaning.specs.Meaning.{Use, Used, Unused}
 use Rattle.c_meaning.specs.Objects.{type_of, type_of_object, size_of_object, columns_of_object}
 use Rattle.c_meaning.specs.Parts.{some_of, some_node, some_part, some_argument, calls, calls_callee, exps_in, exp_if, fulls_of_init, fulls_of_names, fulls_of_first, fulls_of, fulls_of_form, fulls_of_else, fulls_of_block}
@@ -32,8 +31,8 @@ use Rattle.flow_code.specs.declared.statements.Inside.{Inside}
 use Rattle.flow_code.specs.Expressions.{left_by, count_of, argument_to, source, constant, as_type, call_of, stored_at, site_at, operator, callee_code, stored_by, code, node_code, stored_code, aim_code, place_code, element_code, rows_of_object, args_code, conditional_arm}
 use Rattle.flow_code.specs.Preparing.{followed, op, only, stored_in, Ready, prepared, taken, taken_both, with_operand, kept, rest, paired, paired_at, opened, closed, scope, all_closed}
 use Rattle.flow_code.specs.Programs.{in_function, body_code, function_code}
-use Rattle.flow_code.specs.Sizes.{operand_in, operand_of, is_binary, size, with_one, size_if, size_of_arm, size_of_selection, size_of_arms, size_of_test, size_of_statement, size_of_form, leaks, any_leaks, first_leaks, in_turn, outermost}
-use Rattle.flow_code.specs.Statements.{full_of, deeper, in_loop, in_switch, jump_out, leaving, draws, else_jump, cases_code, selection_code, switch_test_code, initial_code, initials_code, rows_code, init_code, name_code, names_code, first_code, only_if, test_code, return_code, turns, statement_code, form_code, else_code, block_code, arm_code, turns_code, arms_code}
+use Rattle.flow_code.specs.Sizes.{operand_in, operand_of, is_binary, size, with_one, size_if, size_of_arm, size_of_arms, size_of_test, size_of_statement, size_of_form, leaks, any_leaks, first_leaks, in_turn, outermost}
+use Rattle.flow_code.specs.Statements.{full_of, deeper, in_loop, in_switch, jump_out, leaving, draws, else_jump, selection_code, switch_test_code, initial_code, initials_code, rows_code, init_code, name_code, names_code, first_code, only_if, test_code, return_code, turns, statement_code, form_code, else_code, block_code, arm_code, turns_code, arms_code}
 use Rattle.flow_code.specs.Words.{native, word_of}
 
 or_assoc : (q r s : Bool) → (q || (r || s)) ≡ ((q || r) || s)
@@ -142,14 +141,8 @@ module _ (Q : ℕ → Type 0) where
   leaving_only : (n : ℕ) → OnlyCalls Q (leaving n)
   leaving_only n = both (all_closed n) (op 0 Leave ∷ []) (all_closed_only n) (tt, tt)
 
-  cases_only : (d : Depth) (at : Spot) (to : ℕ) (b : Stms) → OnlyCalls Q (cases_code d at to b)
-  cases_only d at to NoStm = tt
-  cases_only d at to (MoreStm s b) = cases_only d at (to + size_of_statement d s) b
-  cases_only d at to (MoreCase spot (Case v) b) = (tt, cases_only d at to b)
-  cases_only d at to (MoreCase spot Default b) = cases_only d at to b
-
   selection_only : (d : Depth) (at : Spot) (to : ℕ) (b : Stms) → OnlyCalls Q (selection_code d at to b)
-  selection_only d at to b = both (cases_code d at to b) _ (cases_only d at to b) (tt, tt)
+  selection_only d at to b = (tt, tt)
 
   module _ (p : Program) where
     stored_only : (t : Bool) (y : Option Operand) (k : ℕ) (x : Into) (V W : List Op) → OnlyCalls Q V → OnlyCalls Q W → OnlyCalls Q (stored_by p t y k x V W)
@@ -414,7 +407,7 @@ module _ (Q : ℕ → Type 0) where
           (one_only (operand_of e) 0 (code p (full_of at e) i 0 Used e Push) (λ y. Convert (native p.model (promote_of (type_of e))) y (only Push))
           (code_only (full_of at e) i 0 Used e Push (first (within e) (in_all (fulls_of_block b)) h)) (λ y. tt))
           (λ j. scope_only (any_leaks b) j (λ l. arms_code p l (v j) at b)
-          (λ l. followed_only l (selection_code (v j).depth at (l + size_of_selection b) b) (λ m. block_code p m (v j) b) (selection_only (v j).depth at (l + size_of_selection b) b)
+          (λ l. followed_only l (selection_code (v j).depth at (l + 1) b) (λ m. block_code p m (v j) b) (selection_only (v j).depth at (l + 1) b)
           (λ m. block_only m (v j) b (second (within e) (in_all (fulls_of_block b)) h))))
 
       else_only : (i to : ℕ) (w : Inside) (b : Else) → Comes (in_all (fulls_of_else b)) → OnlyCalls Q (else_code p i to w b)

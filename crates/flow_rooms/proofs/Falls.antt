@@ -1,5 +1,5 @@
 -- Each operation lowers a number, where code is paced; so a machine's steps pay only so many of them.
-use Rattle.std.proofs.Common.{◌≡◌, ◌≤◌, ◌<◌, ◌⊎◌, inl, inr, ℕ, zero, suc, ◌+◌, ◌*◌, ◌-◌, nat_le, nat_lt, Bool, true, false, cond, ◌&&◌, ◌||◌, List, length, Option, Some, None, slice_get, leb-true, ltb-true, ltb-false, refl, sym, ap, ◌∙◌, subst, arith}
+use Rattle.std.proofs.Common.{◌≡◌, ◌≤◌, ◌<◌, ◌⊎◌, inl, inr, ℕ, ℤ, zero, suc, ◌+◌, ◌*◌, ◌-◌, nat_le, nat_lt, Bool, true, false, cond, ◌&&◌, ◌||◌, List, length, Option, Some, None, slice_get, leb-true, ltb-true, ltb-false, refl, sym, ap, ◌∙◌, subst, arith}
 use Rattle.std.proofs.Math.Nat.{suc-mul, mul-le-mul_right}
 use Rattle.std.proofs.lemmas.Option.{slice_get_within}
 use Rattle.c_meaning.specs.declared.run.Choices.{Choices}
@@ -11,7 +11,7 @@ use Rattle.c_meaning.specs.Run.{State, most_cells}
 use Rattle.flow_code.specs.declared.code.Code.{Code}
 use Rattle.flow_code.specs.declared.code.Op.{Op}
 use Rattle.flow_laws.specs.Machines.{Control, Machine, first_machine}
-use Rattle.flow_laws.specs.Acting.{acted}
+use Rattle.flow_laws.specs.Acting.{acted, top}
 use Rattle.flow_laws.specs.Stepping.{Turn, On, Short, Over, onward, moved, due, paid_all, behind, done_if, step, steps}
 use Rattle.flow_laws.proofs.Budgets.{acted_leaves, Leaves}
 use Rattle.flow_rooms.specs.Paces.{target_of, opens, takes_step, opens_scope, takes_soon, IsPaced, ahead_by, ahead_at, ahead, pace, still, IsInOrder}
@@ -59,13 +59,13 @@ call_less n d e i j h = let one = ap (λ k. k * (n + 3)) h ∙ suc-mul e (n + 3)
 
 module _ (c : Code) (paced : IsPaced c) where
   -- where a scope is opened, an operation that takes a step is next
-  next_takes : (o : Op) (i d n i' d' n' : ℕ) → opens o.action ≡ true → takes_step (slice_get c.ops (suc i)) ≡ true → Move c (opens o.action) (target_of o.action) (i + 1) d n i' d' n' → ahead_at c i' d' ≡ 0
-  next_takes o i d n i' d' n' h t (Along a e f) =
+  next_takes : (o : Op) (v : ℤ) (i d n i' d' n' : ℕ) → opens o.action ≡ true → takes_step (slice_get c.ops (suc i)) ≡ true → Move c (opens o.action) (target_of o.action v) (i + 1) d n i' d' n' → ahead_at c i' d' ≡ 0
+  next_takes o v i d n i' d' n' h t (Along a e f) =
       let same : suc i ≡ i' = omega (arith, a) in
       ahead_now (takes_step (slice_get c.ops i')) (takes_soon c.ops i') (d' * (length c.ops + 3) + (length c.ops - i' + 2)) (subst (λ j. takes_step (slice_get c.ops j) ≡ true) same t)
-  next_takes o i d n i' d' n' h t (Led z a e f) = absurd (cc)
-  next_takes o i d n i' d' n' h t (Entered g b z a e f k l) = absurd (cc)
-  next_takes o i d n i' d' n' h t (Left z a e) = absurd (cc)
+  next_takes o v i d n i' d' n' h t (Led z a e f) = absurd (cc)
+  next_takes o v i d n i' d' n' h t (Entered g b z a e f k l) = absurd (cc)
+  next_takes o v i d n i' d' n' h t (Left z a e) = absurd (cc)
 
   led_on : (i d i' d' : ℕ) → i < length c.ops → d' ≡ d → (i < i') ⊎ (takes_soon c.ops i' ≡ true) → ahead_at c i' d' < d * (length c.ops + 3) + (length c.ops - i + 2)
   led_on i d i' d' l e (inl h) =
@@ -78,31 +78,31 @@ module _ (c : Code) (paced : IsPaced c) where
       omega (arith, one)
 
   -- elsewhere there is less ahead
-  leads_on : (o : Op) (i d n i' d' n' : ℕ) → slice_get c.ops i ≡ Some o → Move c (opens o.action) (target_of o.action) (i + 1) d n i' d' n' → ahead_at c i' d' < d * (length c.ops + 3) + (length c.ops - i + 2)
-  leads_on o i d n i' d' n' h (Along a e f) = led_on i d i' d' (slice_get_within c.ops i o h) e (inl (omega (arith, a)))
-  leads_on o i d n i' d' n' h (Led z a e f) = led_on i d i' d' (slice_get_within c.ops i o h) e (paced.leads i i' o h a)
-  leads_on o i d n i' d' n' h (Entered g b z a e f k l) =
+  leads_on : (o : Op) (v : ℤ) (i d n i' d' n' : ℕ) → slice_get c.ops i ≡ Some o → Move c (opens o.action) (target_of o.action v) (i + 1) d n i' d' n' → ahead_at c i' d' < d * (length c.ops + 3) + (length c.ops - i + 2)
+  leads_on o v i d n i' d' n' h (Along a e f) = led_on i d i' d' (slice_get_within c.ops i o h) e (inl (omega (arith, a)))
+  leads_on o v i d n i' d' n' h (Led z a e f) = led_on i d i' d' (slice_get_within c.ops i o h) e (paced.leads i i' o v h a)
+  leads_on o v i d n i' d' n' h (Entered g b z a e f k l) =
       let starts = subst (λ j. takes_step (slice_get c.ops j) ≡ true) (sym e) (paced.begins g b a) in
       let now = ahead_now (takes_step (slice_get c.ops i')) (takes_soon c.ops i') (d' * (length c.ops + 3) + (length c.ops - i' + 2)) starts in
       omega (arith, now)
-  leads_on o i d n i' d' n' h (Left z a e) =
+  leads_on o v i d n i' d' n' h (Left z a e) =
       let most = ahead_most (takes_step (slice_get c.ops i')) (takes_soon c.ops i') (d' * (length c.ops + 3) + (length c.ops - i' + 2)) (omega arith) in
       let less = call_less (length c.ops) d d' i i' a in
       omega (arith, most, less)
 
   -- by what comes soon
-  free_by : (t b : Bool) (o : Op) (i d n i' d' n' : ℕ) → slice_get c.ops i ≡ Some o → takes_step (slice_get c.ops i) ≡ t → t ≡ false → takes_soon c.ops i ≡ b
-      → Move c (opens o.action) (target_of o.action) (i + 1) d n i' d' n' → ahead_at c i' d' < ahead_by t b (d * (length c.ops + 3) + (length c.ops - i + 2))
-  free_by true b o i d n i' d' n' h e z s move = absurd (cc)
-  free_by false true o i d n i' d' n' h e z s move =
+  free_by : (t b : Bool) (o : Op) (v : ℤ) (i d n i' d' n' : ℕ) → slice_get c.ops i ≡ Some o → takes_step (slice_get c.ops i) ≡ t → t ≡ false → takes_soon c.ops i ≡ b
+      → Move c (opens o.action) (target_of o.action v) (i + 1) d n i' d' n' → ahead_at c i' d' < ahead_by t b (d * (length c.ops + 3) + (length c.ops - i + 2))
+  free_by true b o v i d n i' d' n' h e z s move = absurd (cc)
+  free_by false true o v i d n i' d' n' h e z s move =
       let two = and_both (opens_scope (slice_get c.ops i)) (takes_step (slice_get c.ops (suc i))) (sym (ap (λ t. t || (opens_scope (slice_get c.ops i) && takes_step (slice_get c.ops (suc i)))) e) ∙ s) in
-      let none = next_takes o i d n i' d' n' (sym (ap opens_scope h) ∙ two.0) two.1 move in
+      let none = next_takes o v i d n i' d' n' (sym (ap opens_scope h) ∙ two.0) two.1 move in
       omega (arith, none)
-  free_by false false o i d n i' d' n' h e z s move = leads_on o i d n i' d' n' h move
+  free_by false false o v i d n i' d' n' h e z s move = leads_on o v i d n i' d' n' h move
 
   -- an operation that takes no step leaves less ahead
-  free_falls : (o : Op) (i d n i' d' n' : ℕ) → slice_get c.ops i ≡ Some o → nat_lt 0 o.steps ≡ false → Move c (opens o.action) (target_of o.action) (i + 1) d n i' d' n' → ahead_at c i' d' < ahead_at c i d
-  free_falls o i d n i' d' n' h z move = free_by (takes_step (slice_get c.ops i)) (takes_soon c.ops i) o i d n i' d' n' h refl (ap takes_step h ∙ z) refl move
+  free_falls : (o : Op) (v : ℤ) (i d n i' d' n' : ℕ) → slice_get c.ops i ≡ Some o → nat_lt 0 o.steps ≡ false → Move c (opens o.action) (target_of o.action v) (i + 1) d n i' d' n' → ahead_at c i' d' < ahead_at c i d
+  free_falls o v i d n i' d' n' h z move = free_by (takes_step (slice_get c.ops i)) (takes_soon c.ops i) o v i d n i' d' n' h refl (ap takes_step h ∙ z) refl move
 
   -- what is ahead is less than the pace
   pub ahead_below : (i d : ℕ) → d ≤ most_cells → ahead_at c i d < pace c
@@ -112,11 +112,11 @@ module _ (c : Code) (paced : IsPaced c) where
       omega (arith, most, less)
 
   -- behind a move the calls are noted as before
-  still_noted : (o : Op) (at d n i' d' n' : ℕ) → n ≡ d → n ≤ most_cells → Move c (opens o.action) (target_of o.action) at d n i' d' n' → (n' ≡ d') × (n' ≤ most_cells)
-  still_noted o at d n i' d' n' h l (Along a e f) = (f ∙ h ∙ sym e, omega (arith, f, l))
-  still_noted o at d n i' d' n' h l (Led z a e f) = (f ∙ h ∙ sym e, omega (arith, f, l))
-  still_noted o at d n i' d' n' h l (Entered g b z a e f k q) = (omega (arith, f, k, h), omega (arith, k, q))
-  still_noted o at d n i' d' n' h l (Left z a e) = (omega (arith, a, e, h), omega (arith, e, l))
+  still_noted : (o : Op) (v : ℤ) (at d n i' d' n' : ℕ) → n ≡ d → n ≤ most_cells → Move c (opens o.action) (target_of o.action v) at d n i' d' n' → (n' ≡ d') × (n' ≤ most_cells)
+  still_noted o v at d n i' d' n' h l (Along a e f) = (f ∙ h ∙ sym e, omega (arith, f, l))
+  still_noted o v at d n i' d' n' h l (Led z a e f) = (f ∙ h ∙ sym e, omega (arith, f, l))
+  still_noted o v at d n i' d' n' h l (Entered g b z a e f k q) = (omega (arith, f, k, h), omega (arith, k, q))
+  still_noted o v at d n i' d' n' h l (Left z a e) = (omega (arith, a, e, h), omega (arith, e, l))
 
   module _ (S : Type 0) (after : Event → List Cell → S → S) where
     moved_is : (r : Res End (State S) Control) (y : Machine S) → moved r ≡ On y → r ≡ Go y.control y.run
@@ -134,7 +134,7 @@ module _ (c : Code) (paced : IsPaced c) where
       enough : due m op ≤ m.run.steps
       left : y.run.steps ≡ m.run.steps - due m op
       paid : y.control.paid ≡ 0
-      move : Move c (opens op.action) (target_of op.action) (m.control.at + 1) (length m.control.frames) m.run.active y.control.at (length y.control.frames) y.run.active
+      move : Move c (opens op.action) (target_of op.action (top m.control.stack)) (m.control.at + 1) (length m.control.frames) m.run.active y.control.at (length y.control.frames) y.run.active
 
     behind_if : (m y : Machine S) (o : Option Op) → slice_get c.ops m.control.at ≡ o → done_if c S after m o ≡ On y → Behind m y
     behind_if m y None h e = absurd (cc)
@@ -143,7 +143,7 @@ module _ (c : Code) (paced : IsPaced c) where
         let s : State S = record m.run { steps = m.run.steps - due m o } in
         let r = acted c S after o.action k s in
         let d = done_is (nat_le (due m o) m.run.steps) r (paid_all m) y e in
-        let q = subst (λ z. Moves c (opens o.action) (target_of o.action) (m.control.at + 1) 0 (length m.control.frames) m.run.active z) d.1 (acted_moves c S after o.action k s) in
+        let q = subst (λ z. Moves c (opens o.action) (target_of o.action (top m.control.stack)) (m.control.at + 1) 0 (length m.control.frames) m.run.active z) d.1 (acted_moves c S after o.action k s) in
         record {
           op = o;
           found = h;
@@ -170,7 +170,7 @@ module _ (c : Code) (paced : IsPaced c) where
         let left = b.left in
         let same : y.run.steps ≡ m.run.steps = omega (arith, left, none) in
         let all = ap (λ n. n * pace c) same in
-        let less = free_falls b.op m.control.at (length m.control.frames) m.run.active y.control.at (length y.control.frames) y.run.active b.found t b.move in
+        let less = free_falls b.op (top m.control.stack) m.control.at (length m.control.frames) m.run.active y.control.at (length y.control.frames) y.run.active b.found t b.move in
         omega (arith, all, less)
 
     -- an operation leaves a machine in order, and lowers the number
@@ -178,7 +178,7 @@ module _ (c : Code) (paced : IsPaced c) where
     step_falls m y order e =
         let b = behind_step m y e in
         let paid = b.paid in
-        let q = still_noted b.op (m.control.at + 1) (length m.control.frames) m.run.active y.control.at (length y.control.frames) y.run.active order.noted order.few b.move in
+        let q = still_noted b.op (top m.control.stack) (m.control.at + 1) (length m.control.frames) m.run.active y.control.at (length y.control.frames) y.run.active order.noted order.few b.move in
         (record { unpaid = λ o h l. omega (arith, paid, l); noted = q.0; few = q.1 }, falls_by m y order b q.0 q.1 (nat_lt 0 b.op.steps) refl)
 
     onward_on : (t : Turn S) (f : Machine S → Turn S) (y : Machine S) → onward t f ≡ On y → (m : Machine S) × (t ≡ On m) × (f m ≡ On y)

@@ -1,6 +1,5 @@
 -- A machine's stacks are no higher than its shapes say, and stay so by each action.
 use Rattle.std.proofs.Common.{◌≡◌, ◌≤◌, ℕ, zero, suc, ◌+◌, ◌-◌, ℤ, pos, Bool, true, false, cond, not, List, [], ◌∷◌, length, take, drop, Option, Some, None, slice_get, refl, ap, subst, arith}
-use Rattle.std.specs.Ordering.{int_eq}
 use Rattle.c_core.specs.Types.{fit, is_zero, number_of}
 use Rattle.c_core.specs.Operators.{apply_of, apply_one_of}
 use Rattle.c_core.specs.Tree.{Program}
@@ -12,7 +11,6 @@ use Rattle.c_meaning.specs.declared.run.End.{End}
 use Rattle.c_meaning.specs.declared.run.Event.{Event}
 use Rattle.c_meaning.specs.declared.run.Event.TheVariants.{At, Branch as Branched, Enter as Entering}
 use Rattle.c_meaning.specs.declared.run.Way.{Way}
-use Rattle.c_meaning.specs.declared.run.Way.TheVariants.{Case as ByCase, Default as ByDefault}
 use Rattle.c_meaning.specs.Acts.{Res, Go, Stop, bind}
 use Rattle.c_meaning.specs.Cells.{Key, Cell, read, put}
 use Rattle.c_meaning.specs.Run.{State, index_below, in_row, with_cells}
@@ -22,7 +20,7 @@ use Rattle.run_state.specs.Interpreting.{where_of, site_of}
 use Rattle.run_state.specs.declared.machine.Around.{Around}
 use Rattle.run_state.specs.declared.machine.CallSite.{CallSite}
 use Rattle.flow_code.specs.declared.code.Action.{Action}
-use Rattle.flow_code.specs.declared.code.Action.TheVariants.{Rest, Arrive, Give, Truth, Convert, Look, Aim, Row, Operate, OperateOne, Jump, ToCase, ToDefault, Open, Close, Declare, Enter, Call, Input, Reach, End as EndHere, Leave, Return}
+use Rattle.flow_code.specs.declared.code.Action.TheVariants.{Rest, Arrive, Give, Truth, Convert, Look, Aim, Row, Operate, OperateOne, Jump, Select, Open, Close, Declare, Enter, Call, Input, Reach, End as EndHere, Leave, Return}
 use Rattle.flow_code.specs.declared.code.Body.{Body}
 use Rattle.flow_code.specs.declared.code.Code.{Code}
 use Rattle.flow_code.specs.declared.code.Into.{Into}
@@ -34,9 +32,10 @@ use Rattle.flow_code.specs.declared.code.Store.{Store}
 use Rattle.flow_code.specs.declared.code.Then.{Then}
 use Rattle.flow_code.specs.declared.code.Then.TheVariants.{Push, Drop, Skip, Branch}
 use Rattle.flow_code.specs.Words.{type_of_word}
+use Rattle.flow_code.specs.Tables.{address_in, address_or}
 use Rattle.flow_laws.specs.declared.frame.Frame.{Frame}
 use Rattle.flow_laws.specs.Machines.{Control}
-use Rattle.flow_laws.specs.Acting.{program_in, right_of, top, below, value_of, stack_of, key_at, stack_at, kept_value, arguments, with_parameters, scope_closed, tell, told, passed_on, finished, input_given, called, left_by, sent, converted, acted}
+use Rattle.flow_laws.specs.Acting.{program_in, right_of, top, below, value_of, stack_of, key_at, stack_at, kept_value, arguments, with_parameters, scope_closed, tell, told, passed_on, finished, input_given, called, left_by, way_by, sent, converted, acted}
 use Rattle.flow_laws.specs.Acting as acting
 use Rattle.flow_rooms.specs.Shapes.{Shape, lower, lowered, pushed, popped, all_popped, opened, closed, taken, placed, stored, passed, flat, Has, Leads, Settles, aimed, Keeps}
 use Rattle.flow_rooms.specs.Rooms.{IsCalledIn}
@@ -197,11 +196,6 @@ module _ (p : Program) (ts : List Shape) where
         let l = record k { at = to; stack = below k.stack } in
         holds_then (Good p ts) (tell c S after (Branched at way) s) (λ _ u. Go l u) (λ _ u. stays (popped x) l there (is_at to (popped x) (record k { stack = below k.stack }) (is_popped x k h)))
 
-    case_good : (b : Bool) (at : Spot) (v : ℤ) (to : ℕ) (x : Shape) (k : Control) (s : State S) → Has ts k.at x → Has ts to (popped x) → Stands p ts x k
-        → Holds (Good p ts) (cond b (sent c S after at (ByCase v) to k s) (Go k s))
-    case_good true at v to x k s here there h = sent_good at (ByCase v) to x k s there h
-    case_good false at v to x k s here there h = stays x k here h
-
     -- an action, of a machine that already stands behind it
     pub acted_good : (a : Action) (x : Shape) (k : Control) (s : State S) → Entered → ((f n : ℕ) (site : CallSite) → a ≡ Call f n site → IsCalledIn p x.function f) → Keeps ts k.at a x → Stands p ts x k
         → Holds (Good p ts) (acted c S after a k s)
@@ -235,8 +229,7 @@ module _ (p : Program) (ts : List Shape) where
         (λ z u. finished c S after v z into (record k { stack = stack_of a k.stack }) u)
         (λ z u. finished_good into v z (taken a x) (record k { stack = stack_of a k.stack }) u here (is_taken a x k h))
     acted_good (Jump to) x k s enter calls here h = stays x (record k { at = to }) here (is_at to x k h)
-    acted_good (ToCase at v to) x k s enter calls here h = case_good (int_eq (top k.stack) v) at v to x k s here.0 here.1 h
-    acted_good (ToDefault at to) x k s enter calls here h = sent_good at ByDefault to x k s here h
+    acted_good (Select at cases other) x k s enter calls here h = sent_good at (way_by (address_in cases (top k.stack)) (top k.stack)) (address_or cases other (top k.stack)) x k s (here (top k.stack)) h
     acted_good Open x k s enter calls here h =
         stays (opened x) (record k { scopes = length s.cells ∷ k.scopes }) here (record { height = h.height; scoped = h.scoped; below = h.below; stack = h.stack; scopes = omega (arith, h.scopes) })
     acted_good Close x k s enter calls here h = close_good k.scopes x k s refl here h

@@ -1,5 +1,5 @@
 -- Where the code of an expression leads: to what is behind it, or to where its value is to lead.
-use Rattle.std.proofs.Common.{◌≡◌, ◌≤◌, ◌⊎◌, inl, inr, ℕ, suc, ◌+◌, negsuc, Bool, true, false, cond, not, List, [], ◌∷◌, ◌++◌, length, Option, Some, None, slice_get, refl, ap, ◌∙◌, subst, arith, length-append}
+use Rattle.std.proofs.Common.{◌≡◌, ◌≤◌, ◌⊎◌, inl, inr, ℕ, ℤ, suc, ◌+◌, negsuc, Bool, true, false, cond, not, List, [], ◌∷◌, ◌++◌, length, Option, Some, None, slice_get, refl, ap, ◌∙◌, subst, arith, length-append}
 use Rattle.c_core.specs.Types.{promote_of}
 use Rattle.c_core.specs.Tree.{Exp, Expr, Node, Const, Var, Index, Unary, Cast, Step, Binary, Logic, Choose, Comma, Assign, Call, Exps, NoExp, MoreExp, Function, Program}
 use Rattle.c_core.specs.declared.number.DataModel.{DataModel}
@@ -34,7 +34,7 @@ Beyond P n (Some j) = (n ≤ j) ⊎ P j
 -- operations from an address on lead to higher addresses, or to some that are let
 abbrev pub LeadOn : (ℕ → Type 0) → ℕ → List Op → Type 0
 LeadOn P i [] = Unit {0}
-LeadOn P i (o ∷ os) = Beyond P (suc i) (target_of o.action) × LeadOn P (suc i) os
+LeadOn P i (o ∷ os) = ((v : ℤ) → Beyond P (suc i) (target_of o.action v)) × LeadOn P (suc i) os
 
 -- operands, and one operation behind them
 one_length : (y : Option Operand) (k : ℕ) (ops : List Op) (m : ℕ) (o : Op) → length ops ≡ m → length ((prepared y k ops).ops ++ o ∷ []) ≡ with_one y m
@@ -60,10 +60,10 @@ module _ (P : ℕ → Type 0) where
   on_followed i n xs f e h g = on_append i xs (f (i + length xs)) h (g (i + length xs) (ap (λ l. i + l) e))
 
   -- one operation behind
-  pub on_last : (i n : ℕ) (xs : List Op) (o : Op) → length (xs ++ o ∷ []) ≡ n → LeadOn P i xs → Beyond P (i + n) (target_of o.action) → LeadOn P i (xs ++ o ∷ [])
+  pub on_last : (i n : ℕ) (xs : List Op) (o : Op) → length (xs ++ o ∷ []) ≡ n → LeadOn P i xs → ((v : ℤ) → Beyond P (i + n) (target_of o.action v)) → LeadOn P i (xs ++ o ∷ [])
   on_last i n xs o e h b =
       let all = length-append xs (o ∷ []) in
-      on_append i xs (o ∷ []) h (beyond_less (i + n) (suc (i + length xs)) (target_of o.action) (omega (arith, all, e)) b, tt)
+      on_append i xs (o ∷ []) h (λ v. beyond_less (i + n) (suc (i + length xs)) (target_of o.action v) (omega (arith, all, e)) (b v), tt)
 
   -- operands that are ready
   on_prepared : (y : Option Operand) (i k : ℕ) (ops : List Op) → LeadOn P i ops → LeadOn P i (prepared y k ops).ops
@@ -71,15 +71,15 @@ module _ (P : ℕ → Type 0) where
   on_prepared None i k ops h = h
 
   pub on_operand : (y : Option Operand) (i k m : ℕ) (ops : List Op) (f : Operand → Action) → length ops ≡ m → LeadOn P i ops
-      → ((x : Operand) → Beyond P (i + with_one y m) (target_of (f x))) → LeadOn P i (with_operand y k ops f)
+      → ((x : Operand) (v : ℤ) → Beyond P (i + with_one y m) (target_of (f x) v)) → LeadOn P i (with_operand y k ops f)
   on_operand y i k m ops f e h b =
       let r = prepared y k ops in
       on_last i (with_one y m) r.ops (op r.steps (f r.operand)) (one_length y k ops m (op r.steps (f r.operand)) e) (on_prepared y i k ops h) (b r.operand)
 
   on_kept : (x : Operand) (i k : ℕ) → LeadOn P i (kept x k)
   on_kept Top i k = tt
-  on_kept (Cell o) i k = (tt, tt)
-  on_kept (Number v) i k = (tt, tt)
+  on_kept (Cell o) i k = (λ v. tt, tt)
+  on_kept (Number n) i k = (λ v. tt, tt)
 
   on_paired : (x : Operand) (i k : ℕ) (y : Option Operand) (ops : List Op) → LeadOn P (i + length (kept x k)) ops → LeadOn P i (paired x k y ops).ops
   on_paired x i k (Some y) ops h = tt
@@ -94,25 +94,25 @@ module _ (P : ℕ → Type 0) where
   on_stored : (p : Program) (t : Bool) (y : Option Operand) (i k m : ℕ) (x : Into) (v w : List Op) → length v ≡ m → LeadOn P i v
       → (Beyond P (i + m) (target_in x.then) → LeadOn P i w) → Beyond P (i + cond t m (with_one y m)) (target_in x.then) → LeadOn P i (stored_by p t y k x v w)
   on_stored p true y i k m x v w e h g b = g b
-  on_stored p false y i k m x v w e h g b = on_operand y i k m v (λ z. Give z x) e h (λ z. b)
+  on_stored p false y i k m x v w e h g b = on_operand y i k m v (λ z. Give z x) e h (λ z n. b)
 
-  on_call : (l f n : ℕ) (site : CallSite) (o : Option Function) → Beyond P l (target_of (call_of f n site o).action)
-  on_call l f n site None = tt
-  on_call l f n site (Some g) = tt
+  on_call : (l f n : ℕ) (site : CallSite) (o : Option Function) (v : ℤ) → Beyond P l (target_of (call_of f n site o).action v)
+  on_call l f n site None v = tt
+  on_call l f n site (Some g) v = tt
 
   -- what a call does behind its arguments
   on_callee : (p : Program) (at : Around) (site : CallSite) (l n : ℕ) (then : Then) (f : Callee) → Beyond P (l + length (callee_code p at site n then f)) (target_in then) → LeadOn P l (callee_code p at site n then f)
   on_callee p at site l n then (Defined f) b =
       let e : suc (suc l) ≤ l + 2 = omega arith in
-      (on_call (suc l) f n site (slice_get p.functions f), (beyond_less (l + 2) (suc (suc l)) (target_in then) e b, tt))
-  on_callee p at site l n then (InputOf ty) b = let e : suc l ≤ l + 1 = omega arith in (beyond_less (l + 1) (suc l) (target_in then) e b, tt)
-  on_callee p at site l n then ReachError b = (tt, tt)
-  on_callee p at site l n then Abort b = (tt, tt)
-  on_callee p at site l n then Exit b = (tt, tt)
+      (on_call (suc l) f n site (slice_get p.functions f), (λ v. beyond_less (l + 2) (suc (suc l)) (target_in then) e b, tt))
+  on_callee p at site l n then (InputOf ty) b = let e : suc l ≤ l + 1 = omega arith in (λ v. beyond_less (l + 1) (suc l) (target_in then) e b, tt)
+  on_callee p at site l n then ReachError b = (λ v. tt, tt)
+  on_callee p at site l n then Abort b = (λ v. tt, tt)
+  on_callee p at site l n then Exit b = (λ v. tt, tt)
 
-  on_as_type : (m : DataModel) (ty : Option IntType) (x : Into) (l : ℕ) → Beyond P l (target_in x.then) → Beyond P l (target_of (as_type m ty x).action)
-  on_as_type m None x l b = b
-  on_as_type m (Some ty) x l b = b
+  on_as_type : (m : DataModel) (ty : Option IntType) (x : Into) (l : ℕ) → Beyond P l (target_in x.then) → (v : ℤ) → Beyond P l (target_of (as_type m ty x).action v)
+  on_as_type m None x l b v = b
+  on_as_type m (Some ty) x l b v = b
 
   -- an argument leads nowhere
   argument_leads : (f : Callee) (n : ℕ) → Beyond P n (target_in (argument_to f))
@@ -137,20 +137,20 @@ module _ (P : ℕ → Type 0) where
 
       -- the same by its form
       pub node_leads : (i k : ℕ) (want : Use) (spot : Spot) (ty : Option IntType) (n : Node) (x : Into) → Beyond P (i + size_of_node ty n) (target_in x.then) → LeadOn P i (node_code p at i k want spot ty n x)
-      node_leads i k want spot ty (Const v) x b = let e : suc i ≤ i + 1 = omega arith in (beyond_less (i + 1) (suc i) (target_in x.then) e b, tt)
-      node_leads i k want spot ty (Var o) x b = let e : suc i ≤ i + 1 = omega arith in (beyond_less (i + 1) (suc i) (target_in x.then) e b, tt)
-      node_leads i k want spot ty (Index o is) x b = element_leads i k spot o is (λ y. Look o (size_of_object p o) y spot x) (λ y. b)
-      node_leads i k want spot ty (Unary o a) x b = on_operand (operand_of a) i k (size a) (code p at i k Used a Push) (λ y. OperateOne o (word_of p.model (promote_of (type_of a))) y (source at spot) x) (code_size p at i k Used a Push) (code_leads i k Used a Push tt) (λ y. b)
+      node_leads i k want spot ty (Const v) x b = let e : suc i ≤ i + 1 = omega arith in (λ n. beyond_less (i + 1) (suc i) (target_in x.then) e b, tt)
+      node_leads i k want spot ty (Var o) x b = let e : suc i ≤ i + 1 = omega arith in (λ n. beyond_less (i + 1) (suc i) (target_in x.then) e b, tt)
+      node_leads i k want spot ty (Index o is) x b = element_leads i k spot o is (λ y. Look o (size_of_object p o) y spot x) (λ y v. b)
+      node_leads i k want spot ty (Unary o a) x b = on_operand (operand_of a) i k (size a) (code p at i k Used a Push) (λ y. OperateOne o (word_of p.model (promote_of (type_of a))) y (source at spot) x) (code_size p at i k Used a Push) (code_leads i k Used a Push tt) (λ y v. b)
       node_leads i k want spot None (Cast a) x b = code_leads i k Unused a x.then b
-      node_leads i k want spot (Some to) (Cast a) x b = on_operand (operand_of a) i k (size a) (code p at i k Used a Push) (λ y. Convert (native p.model to) y x) (code_size p at i k Used a Push) (code_leads i k Used a Push tt) (λ y. b)
+      node_leads i k want spot (Some to) (Cast a) x b = on_operand (operand_of a) i k (size a) (code p at i k Used a Push) (λ y. Convert (native p.model to) y x) (code_size p at i k Used a Push) (code_leads i k Used a Push tt) (λ y v. b)
       node_leads i k want spot ty (Step o (Expr s u n)) x b =
           let j = place_code p at i (k + 1) s n true in
-          on_last i (size_of_place n + 1) j.ops _ (node_size p at i k want spot ty (Step o (Expr s u n)) x) (place_leads i (k + 1) s n true) b
+          on_last i (size_of_place n + 1) j.ops _ (node_size p at i k want spot ty (Step o (Expr s u n)) x) (place_leads i (k + 1) s n true) (λ v. b)
       node_leads i k want spot ty (Binary o a c) x b =
           let q = paired_at i (prepared (operand_of a) k (code p at i k Used a Push)) (operand_of c) (λ j l. code p at j l Used c Push) in
           on_last i (size_of_node ty (Binary o a c)) q.ops _ (node_size p at i k want spot ty (Binary o a c) x)
           (on_paired_at i (prepared (operand_of a) k (code p at i k Used a Push)) (operand_of c) (λ j l. code p at j l Used c Push)
-          (on_prepared (operand_of a) i k (code p at i k Used a Push) (code_leads i k Used a Push tt)) (λ j l. code_leads j l Used c Push tt)) b
+          (on_prepared (operand_of a) i k (code p at i k Used a Push) (code_leads i k Used a Push tt)) (λ j l. code_leads j l Used c Push tt)) (λ v. b)
       node_leads i k want spot ty (Logic both a c) x b =
           let n = size a in
           let m = with_one (operand_of c) (size c) in
@@ -163,8 +163,8 @@ module _ (P : ℕ → Type 0) where
           on_append i (followed i first second) (op 0 (Jump (decided + 1)) ∷ op 0 (Give (constant both) x) ∷ [])
           (on_followed i n first second (code_size p at i k Used a (Skip (not both) decided)) (code_leads i k Used a (Skip (not both) decided) (inl over))
           (λ j e. on_operand (operand_of c) j 0 (size c) (code p at j 0 Used c Push) (λ y. Truth y x) (code_size p at j 0 Used c Push) (code_leads j 0 Used c Push tt)
-          (λ y. beyond_less (i + (n + m + 2)) (j + m) (target_in x.then) (omega (arith, e)) b)))
-          (inl (omega (arith, all)), (beyond_less (i + (n + m + 2)) (suc (suc (i + length (followed i first second)))) (target_in x.then) (omega (arith, all)) b, tt))
+          (λ y v. beyond_less (i + (n + m + 2)) (j + m) (target_in x.then) (omega (arith, e)) b)))
+          (λ v. inl (omega (arith, all)), (λ v. beyond_less (i + (n + m + 2)) (suc (suc (i + length (followed i first second)))) (target_in x.then) (omega (arith, all)) b, tt))
       node_leads i k want spot ty (Choose mark e a c) x b =
           let n = size e in
           let m = size a in
@@ -183,7 +183,7 @@ module _ (P : ℕ → Type 0) where
           (on_followed i n test yes (code_size p at i k Used e (Branch mark false second)) (code_leads i k Used e (Branch mark false second) (inl over))
           (λ j h. on_arm j m ty x (code p at j 0 Used a Push) (code_size p at j 0 Used a Push) (code_leads j 0 Used a Push tt)
           (beyond_less (i + (n + (m + l + 3))) (j + m + 1) (target_in x.then) (omega (arith, h)) b)))
-          (λ j h. (inl (omega (arith, h)), tt)))
+          (λ j h. (λ v. inl (omega (arith, h)), tt)))
           (λ j h. on_arm j l ty x (code p at j 0 Used c Push) (code_size p at j 0 Used c Push) (code_leads j 0 Used c Push tt)
           (beyond_less (i + (n + (m + l + 3))) (j + l + 1) (target_in x.then) (omega (arith, h)) b))
       node_leads i k want spot ty (Comma a c) x b =
@@ -198,7 +198,7 @@ module _ (P : ℕ → Type 0) where
           let j = place_code p at i (k + 1) s n true in
           let q = paired_at i j (operand_of e) (λ l h. code p at l h Used e Push) in
           on_last i (size_of_node ty (Assign (Some o) (Expr s u n) e)) q.ops _ (node_size p at i k want spot ty (Assign (Some o) (Expr s u n) e) x)
-          (on_paired_at i j (operand_of e) (λ l h. code p at l h Used e Push) (place_leads i (k + 1) s n true) (λ l h. code_leads l h Used e Push tt)) b
+          (on_paired_at i j (operand_of e) (λ l h. code p at l h Used e Push) (place_leads i (k + 1) s n true) (λ l h. code_leads l h Used e Push tt)) (λ v. b)
       node_leads i k want spot ty (Call callee es close) x b =
           let args = args_code p at i k (argument_to callee) es in
           let enter = op (left_by es k) (Enter close) in
@@ -206,7 +206,7 @@ module _ (P : ℕ → Type 0) where
           let all = node_size p at i k want spot ty (Call callee es close) x in
           let sum = length-append args (enter ∷ behind) in
           on_append i args (enter ∷ behind) (args_leads i k (argument_to callee) es (argument_leads callee)) (
-            tt,
+            λ v. tt,
             on_callee p at (site_at spot close want ty) (suc (i + length args)) (count_of es) x.then callee
                 (beyond_less (i + size_of_node ty (Call callee es close)) (suc (i + length args) + length behind) (target_in x.then) (omega (arith, all, sum)) b),
           )
@@ -218,12 +218,12 @@ module _ (P : ℕ → Type 0) where
           (node_size p at i (k + 1) Used s u n (only Push)) (node_leads i (k + 1) Used s u n (only Push) tt) (λ h. node_leads i (k + 1) Used s u n x h) b
 
       place_leads : (i k : ℕ) (spot : Spot) (n : Node) (reads : Bool) → LeadOn P i (place_code p at i k spot n reads).ops
-      place_leads i k spot (Index o is) reads = element_leads i k spot o is (λ y. Aim o (size_of_object p o) y spot reads) (λ y. tt)
+      place_leads i k spot (Index o is) reads = element_leads i k spot o is (λ y. Aim o (size_of_object p o) y spot reads) (λ y v. tt)
       place_leads i k spot _ reads = tt
 
       -- the indexes of an element, and the operation that takes its cell
-      element_leads : (i k : ℕ) (spot : Spot) (o : ℕ) (is : Exps) (f : Operand → Action) → ((y : Operand) → Beyond P (i + size_of_element is) (target_of (f y))) → LeadOn P i (taken (element_code p at i k spot o is) f)
-      element_leads i k spot o NoExp f b = let e : suc i ≤ i + 1 = omega arith in (beyond_less (i + 1) (suc i) (target_of (f (Number (negsuc 0)))) e (b (Number (negsuc 0))), tt)
+      element_leads : (i k : ℕ) (spot : Spot) (o : ℕ) (is : Exps) (f : Operand → Action) → ((y : Operand) (v : ℤ) → Beyond P (i + size_of_element is) (target_of (f y) v)) → LeadOn P i (taken (element_code p at i k spot o is) f)
+      element_leads i k spot o NoExp f b = let e : suc i ≤ i + 1 = omega arith in (λ v. beyond_less (i + 1) (suc i) (target_of (f (Number (negsuc 0))) v) e (b (Number (negsuc 0)) v), tt)
       element_leads i k spot o (MoreExp a NoExp) f b = on_operand (operand_of a) i k (size a) (code p at i k Used a Push) f (code_size p at i k Used a Push) (code_leads i k Used a Push tt) b
       element_leads i k spot o (MoreExp a (MoreExp c NoExp)) f b =
           let q = paired_at i (prepared (operand_of a) k (code p at i k Used a Push)) (operand_of c) (λ j l. code p at j l Used c Push) in
@@ -231,7 +231,7 @@ module _ (P : ℕ → Type 0) where
           on_last i (size_of_element (MoreExp a (MoreExp c NoExp))) (taken_both q row) (op 0 (f Top)) (element_size p at i k spot o (MoreExp a (MoreExp c NoExp)) f)
           (on_append i q.ops (op q.steps (row q.left q.right) ∷ [])
           (on_paired_at i (prepared (operand_of a) k (code p at i k Used a Push)) (operand_of c) (λ j l. code p at j l Used c Push)
-          (on_prepared (operand_of a) i k (code p at i k Used a Push) (code_leads i k Used a Push tt)) (λ j l. code_leads j l Used c Push tt)) (tt, tt)) (b Top)
+          (on_prepared (operand_of a) i k (code p at i k Used a Push) (code_leads i k Used a Push tt)) (λ j l. code_leads j l Used c Push tt)) (λ v. tt, tt)) (b Top)
       element_leads i k spot o (MoreExp a (MoreExp c (MoreExp d es))) f b =
           let is = MoreExp a (MoreExp c (MoreExp d es)) in
           on_last i (size_of_element is) (args_code p at i k Drop is) (op 0 (f (Number (negsuc 0)))) (element_size p at i k spot o is f)

@@ -1,6 +1,5 @@
 -- Where an action leads.
 use Rattle.std.proofs.Common.{◌≡◌, ◌≤◌, ℕ, zero, suc, ◌+◌, ◌-◌, ℤ, pos, nat_le, Bool, true, false, cond, not, List, [], ◌∷◌, ◌++◌, length, take, drop, Option, Some, None, slice_get, leb-true, refl, subst, arith}
-use Rattle.std.specs.Ordering.{int_eq}
 use Rattle.c_core.specs.Types.{fit, is_zero, number_of}
 use Rattle.c_core.specs.Operators.{apply_of, apply_one_of}
 use Rattle.c_core.specs.declared.number.DataModel.TheVariants.{Lp64}
@@ -16,7 +15,7 @@ use Rattle.c_meaning.specs.declared.run.End.{End}
 use Rattle.c_meaning.specs.declared.run.End.TheVariants.{Undefined, Deep}
 use Rattle.c_meaning.specs.declared.run.Event.{Event}
 use Rattle.c_meaning.specs.declared.run.Event.TheVariants.{Branch as Branched, Return as Returned}
-use Rattle.c_meaning.specs.declared.run.Way.TheVariants.{Truth as ByTruth, Case as ByCase}
+use Rattle.c_meaning.specs.declared.run.Way.TheVariants.{Truth as ByTruth}
 use Rattle.c_meaning.specs.Acts.{Res, Go, Stop, bind}
 use Rattle.c_meaning.specs.Cells.{Cell, put, read, cells_from}
 use Rattle.c_meaning.specs.Meaning.{Site, Where}
@@ -27,7 +26,7 @@ use Rattle.run_state.specs.Interpreting.{where_of, site_of}
 use Rattle.run_state.specs.declared.machine.CallSite.{CallSite}
 use Rattle.flow_code.specs.Words.{type_of_word}
 use Rattle.flow_code.specs.declared.code.Action.{Action}
-use Rattle.flow_code.specs.declared.code.Action.TheVariants.{Rest, Arrive, Give, Truth, Convert, Look, Aim, Row, Operate, OperateOne, Jump, ToCase, ToDefault, Open, Close, Declare, Enter, Call, Input, Reach, End as EndHere, Leave, Return}
+use Rattle.flow_code.specs.declared.code.Action.TheVariants.{Rest, Arrive, Give, Truth, Convert, Look, Aim, Row, Operate, OperateOne, Jump, Select, Open, Close, Declare, Enter, Call, Input, Reach, End as EndHere, Leave, Return}
 use Rattle.flow_code.specs.declared.code.Body.{Body}
 use Rattle.flow_code.specs.declared.code.Code.{Code}
 use Rattle.flow_code.specs.declared.code.Into.{Into}
@@ -36,7 +35,7 @@ use Rattle.flow_code.specs.declared.code.Then.{Then}
 use Rattle.flow_code.specs.declared.code.Then.TheVariants.{Push, Drop, Skip, Branch}
 use Rattle.flow_laws.specs.declared.frame.Frame.{Frame}
 use Rattle.flow_laws.specs.Machines.{Control}
-use Rattle.flow_laws.specs.Acting.{program_in, cell, right_of, top, below, value_of, stack_of, key_at, stack_at, kept_value, arguments, with_parameters, passed_on, stored, finished, cells_drawn, drawn_if, declared, input_given, called, left_by, aimed, sent, reached_at, converted, acted, scope_closed}
+use Rattle.flow_laws.specs.Acting.{program_in, cell, right_of, top, below, value_of, stack_of, key_at, stack_at, kept_value, arguments, with_parameters, passed_on, stored, finished, cells_drawn, drawn_if, declared, input_given, called, left_by, aimed, reached_at, converted, acted, scope_closed}
 use Rattle.flow_rooms.specs.Paces.{target_in, target_of, opens}
 
 -- from an address, with so many calls noted and so many active, to another: on, or to an address of the same function, or into a function, or out of one
@@ -173,13 +172,8 @@ module _ (c : Code) (S : Type 0) (after : Event → List Cell → S → S) where
   closed_moves [] k s = (refl, Along refl refl refl)
   closed_moves (n ∷ ns) k s = (refl, Along refl refl refl)
 
-  -- on at an arm, or at the next constant
-  case_moves : (b : Bool) (at : Spot) (v : ℤ) (to : ℕ) (k : Control) (s : State S) → Moves c false (Some to) k.at k.paid (length k.frames) s.active (cond b (sent c S after at (ByCase v) to k s) (Go k s))
-  case_moves true at v to k s = (refl, Led refl refl refl refl)
-  case_moves false at v to k s = (refl, Along refl refl refl)
-
   -- each action leads along, to its target, into a function that it calls, or out of its own
-  pub acted_moves : (a : Action) (k : Control) (s : State S) → Moves c (opens a) (target_of a) k.at k.paid (length k.frames) s.active (acted c S after a k s)
+  pub acted_moves : (a : Action) (k : Control) (s : State S) → Moves c (opens a) (target_of a (top k.stack)) k.at k.paid (length k.frames) s.active (acted c S after a k s)
   acted_moves Rest k s = (refl, Along refl refl refl)
   acted_moves (Arrive at) k s = (refl, Along refl refl refl)
   acted_moves (Give y x) k s = let v = value_of y k.stack s.cells in finished_moves v v x (record k { stack = stack_of y k.stack }) s
@@ -217,8 +211,7 @@ module _ (c : Code) (S : Type 0) (after : Event → List Cell → S → S) where
       (calm_answered (program_in c) S (seen_by after) (where_of from.around) from.spot z s)
       (λ q u. finished_moves v q x (record k { stack = stack_of a k.stack }) u)
   acted_moves (Jump to) k s = (refl, Led refl refl refl refl)
-  acted_moves (ToCase at v to) k s = case_moves (int_eq (top k.stack) v) at v to k s
-  acted_moves (ToDefault at to) k s = (refl, Led refl refl refl refl)
+  acted_moves (Select at cases other) k s = (refl, Led refl refl refl refl)
   acted_moves Open k s = (refl, Along refl refl refl)
   acted_moves Close k s = closed_moves k.scopes k s
   acted_moves (Declare spot o n ty draws) k s =

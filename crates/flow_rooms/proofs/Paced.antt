@@ -1,5 +1,5 @@
 -- The code of a program is paced, so a machine's steps pay only so many operations.
-use Rattle.std.proofs.Common.{◌≡◌, ℕ, zero, suc, ◌+◌, true, List, [], ◌∷◌, length, Some, slice_get, refl, sym, ap, ◌∙◌, subst, arith}
+use Rattle.std.proofs.Common.{◌≡◌, ℕ, ℤ, zero, suc, ◌+◌, true, List, [], ◌∷◌, length, Some, slice_get, refl, sym, ap, ◌∙◌, subst, arith}
 use Rattle.c_core.specs.Tree.{Stm, Stmt, Function, Program}
 use Rattle.flow_code.specs.declared.code.Action.TheVariants.{Rest, End as EndHere, Leave}
 use Rattle.flow_code.specs.declared.code.Body.{Body}
@@ -20,13 +20,13 @@ use Rattle.flow_rooms.proofs.Leads.{Beyond, LeadOn, on_append}
 use Rattle.flow_rooms.proofs.StatementsLead.{Soon, on_behind, form_leads}
 
 -- an operation among operations that lead on
-led_at : (P : ℕ → Type 0) (i k n : ℕ) (xs : List Op) (o : Op) → n ≡ i + k → LeadOn P i xs → slice_get xs k ≡ Some o → Beyond P (suc n) (target_of o.action)
-led_at P i k n [] o at h e = absurd (cc)
-led_at P i zero n (x ∷ xs) o at h e =
+led_at : (P : ℕ → Type 0) (i k n : ℕ) (xs : List Op) (o : Op) → n ≡ i + k → LeadOn P i xs → slice_get xs k ≡ Some o → (v : ℤ) → Beyond P (suc n) (target_of o.action v)
+led_at P i k n [] o at h e v = absurd (cc)
+led_at P i zero n (x ∷ xs) o at h e v =
     let same : x ≡ o = cc in
     let here : i ≡ n = omega (arith, at) in
-    subst (λ j. Beyond P (suc j) (target_of o.action)) here (subst (λ (y : Op). Beyond P (suc i) (target_of y.action)) same h.0)
-led_at P i (suc k) n (x ∷ xs) o at h e = let further : n ≡ suc i + k = omega (arith, at) in led_at P (suc i) k n xs o further h.1 e
+    subst (λ j. Beyond P (suc j) (target_of o.action v)) here (subst (λ (y : Op). Beyond P (suc i) (target_of y.action v)) same (h.0 v))
+led_at P i (suc k) n (x ∷ xs) o at h e v = let further : n ≡ suc i + k = omega (arith, at) in led_at P (suc i) k n xs o further h.1 e v
 
 module _ (p : Program) (c : Code) where
   body_leads : (i : ℕ) (g : Function) (s : Stm) → HasCode c i (body_code p i g s) → LeadOn (Soon c) i (body_code p i g s)
@@ -35,7 +35,7 @@ module _ (p : Program) (c : Code) where
       let f = λ (j : ℕ). form_code p j (in_function p.model (j + size_of_form outermost x) g) at x in
       let inner = (has_followed c i 1 rest f refl (code_split c i (followed i rest f) (op 0 Leave ∷ []) h).0).1 in
       on_append (Soon c) i (followed i rest f) (op 0 Leave ∷ [])
-      (on_behind (Soon c) i 1 rest f refl (tt, tt) (form_leads p c x (i + 1) (in_function p.model (i + 1 + size_of_form outermost x) g) at inner (omega arith) (omega arith))) (tt, tt)
+      (on_behind (Soon c) i 1 rest f refl (λ v. tt, tt) (form_leads p c x (i + 1) (in_function p.model (i + 1 + size_of_form outermost x) g) at inner (omega arith) (omega arith))) (λ v. tt, tt)
 
   body_starts : (i : ℕ) (g : Function) (s : Stm) → HasCode c i (body_code p i g s) → slice_get c.ops i ≡ Some (op 1 Rest)
   body_starts i g (Stmt at x) h = h.0
@@ -65,9 +65,9 @@ module _ (p : Program) (c : Code) where
 pub code_paced : (p : Program) (c : Code) → IsCodeOf p c → IsPaced c
 code_paced p c is =
     let behind = code_behind c (op 0 EndHere ∷ []) (functions_code p 1 p.functions) is.ops in
-    let all : LeadOn (Soon c) 0 c.ops = subst (λ os. LeadOn (Soon c) 0 os) (sym is.ops) (tt, functions_lead p c 1 p.functions behind) in
+    let all : LeadOn (Soon c) 0 c.ops = subst (λ os. LeadOn (Soon c) 0 os) (sym is.ops) (λ v. tt, functions_lead p c 1 p.functions behind) in
     record {
-      leads = λ i j o h e. subst (λ t. Beyond (Soon c) (suc i) t) e (led_at (Soon c) 0 i i c.ops o (omega arith) all h);
+      leads = λ i j o v h e. subst (λ t. Beyond (Soon c) (suc i) t) e (led_at (Soon c) 0 i i c.ops o (omega arith) all h v);
       begins = λ f b h. functions_start p c 1 p.functions f b behind (sym (ap (λ bs. slice_get bs f) is.functions) ∙ h);
     }
 

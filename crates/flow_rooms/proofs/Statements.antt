@@ -6,11 +6,10 @@ use Rattle.c_core.specs.Typing.{is_default, labels_in}
 use Rattle.c_core.specs.declared.number.IntType.{IntType}
 use Rattle.c_core.specs.declared.number.Spot.{Spot}
 use Rattle.c_core.specs.declared.tree.Label.{Label as ArmLabel}
-use Rattle.c_core.specs.declared.tree.Label.TheVariants.{Case, Default}
 use Rattle.c_meaning.specs.Meaning.{Used, Unused}
 use Rattle.c_meaning.specs.Objects.{type_of, type_of_object, size_of_object, columns_of_object}
-use Rattle.c_meaning.specs.Run.{first_label}
-use Rattle.flow_code.specs.declared.code.Action.TheVariants.{Arrive, Convert, Jump, ToCase, ToDefault, Open, Close, Leave, Declare as DeclareOf, Return as ReturnOf}
+use Rattle.c_meaning.specs.Run.{first_label, arm_for}
+use Rattle.flow_code.specs.declared.code.Action.TheVariants.{Arrive, Convert, Jump, Select, Open, Close, Leave, Declare as DeclareOf, Return as ReturnOf}
 use Rattle.flow_code.specs.declared.code.Op.{Op}
 use Rattle.flow_code.specs.declared.code.Place.TheVariants.{Fixed}
 use Rattle.flow_code.specs.declared.code.Then.TheVariants.{Push, Drop, Branch}
@@ -18,11 +17,12 @@ use Rattle.flow_code.specs.declared.sizes.Depth.{Depth}
 use Rattle.flow_code.specs.declared.statements.Inside.{Inside}
 use Rattle.flow_code.specs.Expressions.{code}
 use Rattle.flow_code.specs.Preparing.{followed, op, only, stored_in, scope, all_closed}
-use Rattle.flow_code.specs.Sizes.{operand_of, size, size_if, size_of_test, size_of_statement, size_of_arm, size_of_selection, size_of_arms, one_if, leaks, any_leaks, first_leaks, in_turn}
-use Rattle.flow_code.specs.Statements.{full_of, deeper, in_loop, in_switch, jump_out, leaving, draws, arm_at, cases_code, selection_code, switch_test_code, initial_code, initials_code, rows_code, init_code, name_code, names_code, first_code, only_if, test_code, return_code, turns, statement_code, form_code, block_code, arm_code, turns_code, arms_code}
+use Rattle.flow_code.specs.Sizes.{operand_of, size, size_if, size_of_test, size_of_statement, size_of_arm, size_of_arms, one_if, leaks, any_leaks, first_leaks, in_turn}
+use Rattle.flow_code.specs.Statements.{full_of, deeper, in_loop, in_switch, jump_out, leaving, draws, arm_at, with_cases, selection_code, switch_test_code, initial_code, initials_code, rows_code, init_code, name_code, names_code, first_code, only_if, test_code, return_code, turns, statement_code, form_code, block_code, arm_code, turns_code, arms_code}
 use Rattle.flow_code.specs.Words.{native}
 use Rattle.flow_code.proofs.Lengths.{code_size}
-use Rattle.flow_laws.proofs.Sized.{selection_size, switch_test_size, only_size, test_size, statement_size, form_size, arm_size}
+use Rattle.flow_laws.proofs.Selecting.{chosen_arm}
+use Rattle.flow_laws.proofs.Sized.{switch_test_size, only_size, test_size, statement_size, form_size, arm_size}
 use Rattle.flow_rooms.specs.Shapes.{Shape, flat, Has, HasAll}
 use Rattle.flow_rooms.proofs.Fitting.{Fits, one, nothing, joined, seq, seq_middle, all_parts, Free, relabeled}
 use Rattle.flow_rooms.proofs.Operations.{under_itself, near_itself, plain, operand_fits, away}
@@ -215,38 +215,23 @@ module _ (p : Program) (f : ℕ) where
       (λ ts l q end. (subst (λ k. Has ts k x) d (t.enters ts q end), subst (λ k. Has ts k x) h end))
       (λ ts l q middle end. seq_middle L L L i J A x x x j b ts (all_parts ts i (length (J ++ A)) turn.shapes g.shapes turn.same q).0 (seq_middle L K K i (J ++ A) S x x x turn g ts q middle))
 
-  -- each constant leads to its arm
-  cases_fit : (d : Depth) (at : Spot) (i to n : ℕ) (b : Stms) → Fits (AtArms d to b (flat f n)) i (cases_code d at to b) (with_open f 1 n) (with_open f 1 n)
-  cases_fit d at i to n NoStm = nothing (AtArms d to NoStm (flat f n)) i (with_open f 1 n)
-  cases_fit d at i to n (MoreStm s b) = cases_fit d at i (to + size_of_statement d s) n b
-  cases_fit d at i to n (MoreCase spot (Case v) b) =
-      let x = with_open f 1 n in
-      let L = AtArms d to (MoreCase spot (Case v) b) (flat f n) in
-      seq L i (op 0 (ToCase at v to) ∷ []) (cases_code d at to b) x x x (one L i (op 0 (ToCase at v to)) x x (λ ts l e. (e, l zero)) (near_itself x))
-      (relabeled (AtArms d to b (flat f n)) L (i + 1) (cases_code d at to b) x x (λ ts l m. l (suc m)) (cases_fit d at (i + 1) to n b))
-  cases_fit d at i to n (MoreCase spot Default b) =
-      relabeled (AtArms d to b (flat f n)) (AtArms d to (MoreCase spot Default b) (flat f n)) i (cases_code d at to b) (with_open f 1 n) (with_open f 1 n) (λ ts l m. l (suc m)) (cases_fit d at i to n b)
-
   -- the value on the stack chooses an arm
   selection_fits : (d : Depth) (at : Spot) (i to n : ℕ) (b : Stms) → Fits (AtArms d to b (flat f n)) i (selection_code d at to b) (with_open f 1 n) (flat f n)
   selection_fits d at i to n b =
-      let x = with_open f 1 n in
-      let L = AtArms d to b (flat f n) in
-      let C = cases_code d at to b in
       let default = first_label is_default (labels_in b) in
-      let last = op 0 (ToDefault at (arm_at d to default b)) in
-      seq L i C (last ∷ []) x x (flat f n) (cases_fit d at i to n b)
-      (one L (i + length C) last x (flat f n) (λ ts l e. l default) (record { function = refl; height = omega arith; scopes = omega arith }))
+      let choice = op 0 (Select at (with_cases [] d to b) (arm_at d to default b)) in
+      one (AtArms d to b (flat f n)) i choice (with_open f 1 n) (flat f n) (λ ts l e v. subst (λ j. Has ts j (flat f n)) (sym (chosen_arm v d to b)) (l (arm_for v (labels_in b))))
+      (record { function = refl; height = omega arith; scopes = omega arith })
 
-  -- the arms of a `switch`, behind the operations that choose one
+  -- the arms of a `switch`, after the operation that chooses one
   arms_fit : (i : ℕ) (v : Inside) (outer around : ℕ) (at : Spot) (b : Stms)
-      → FitsArms (Ways v f outer around) v.depth (i + size_of_selection b) (block_code p (i + size_of_selection b) v b) (flat f v.depth.scopes) b
+      → FitsArms (Ways v f outer around) v.depth (i + 1) (block_code p (i + 1) v b) (flat f v.depth.scopes) b
       → Fits (Ways v f outer around) i (arms_code p i v at b) (with_open f 1 v.depth.scopes) (flat f v.depth.scopes)
   arms_fit i v outer around at b rest =
       let n = v.depth.scopes in
-      let to = i + size_of_selection b in
+      let to = i + 1 in
       let C = selection_code v.depth at to b in
-      let here : to ≡ i + length C = ap (λ k. i + k) (sym (selection_size v.depth at to b)) in
+      let here : to ≡ i + length C = refl in
       let L = Ways v f outer around in
       let block = λ (k : ℕ). block_code p k v b in
       let moved_rest = subst (λ k. FitsArms L v.depth k (block k) (flat f n) b) here rest in
@@ -386,7 +371,7 @@ module _ (p : Program) (f : ℕ) where
         let z' : n + one_if t ≡ w.depth.turn + one_if t + around = omega (arith, g) in
         let test = operand_fits (operand_of x) i 0 (code p (full_of at x) i 0 Used x Push) (λ y. Convert (native p.model (promote_of (type_of x))) y (only Push)) (only Push) y (plain x) (λ ts i y x h. h)
         (code_fits p (full_of at x) i 0 Used x Push y) in
-        let inner = scope_over t (Ways v f n around) j (λ l. arms_code p l (deeper t v) at b) f 1 n (λ l. arms_fit l (deeper t v) n around at b (block_fits (l + size_of_selection b) (deeper t v) n around b z z')) in
+        let inner = scope_over t (Ways v f n around) j (λ l. arms_code p l (deeper t v) at b) f 1 n (λ l. arms_fit l (deeper t v) n around at b (block_fits (l + 1) (deeper t v) n around b z z')) in
         let long : j + length S ≡ end = omega (arith, length-append T S, form_size p i w at (Switch x b), switch_test_size p i at x) in
         joined Free (Ways v f n around) (Ways w f outer around) i T S y (with_open f 1 n) y test inner (λ ts l q last. tt) (λ ts l q middle last. (subst (λ k. Has ts k y) long last, l.1))
 

@@ -2,14 +2,13 @@
 use Rattle.std.proofs.Common.{◌≡◌, ◌≤◌, inl, inr, ℕ, zero, suc, ◌+◌, Bool, true, false, ◌&&◌, ◌||◌, List, [], ◌∷◌, ◌++◌, length, Option, Some, None, slice_get, refl, sym, ap, ap₂, ◌∙◌, subst, arith, length-append}
 use Rattle.c_core.specs.Tree.{Exp, Expr, Exps, NoExp, MoreExp, Init, Absent, One, Many, Rows, Names, NoName, MoreName, First, NoFirst, FirstExp, FirstNames, Stm, Stmt, Form, Empty, Do, Declare, Block, If, While, DoWhile, For, Break, Continue, Return, Label, Switch, Else, NoElse, OrElse, Stms, NoStm, MoreStm, MoreCase, Program}
 use Rattle.c_core.specs.Types.{promote_of}
-use Rattle.c_core.specs.Typing.{is_default, labels_in}
+use Rattle.c_core.specs.Typing.{labels_in}
 use Rattle.c_core.specs.declared.number.IntType.{IntType}
 use Rattle.c_core.specs.declared.number.Spot.{Spot}
-use Rattle.c_core.specs.declared.tree.Label.TheVariants.{Case, Default}
 use Rattle.c_meaning.specs.Meaning.{Used, Unused}
 use Rattle.c_meaning.specs.Objects.{type_of, type_of_object, size_of_object, columns_of_object}
-use Rattle.c_meaning.specs.Run.{first_label}
-use Rattle.flow_code.specs.declared.code.Action.TheVariants.{Arrive, Convert, Jump, ToDefault, Open, Close, Leave, Declare as DeclareOf, Return as ReturnOf}
+use Rattle.c_meaning.specs.Run.{arm_for}
+use Rattle.flow_code.specs.declared.code.Action.TheVariants.{Arrive, Convert, Jump, Open, Close, Leave, Declare as DeclareOf, Return as ReturnOf}
 use Rattle.flow_code.specs.declared.code.Code.{Code}
 use Rattle.flow_code.specs.declared.code.Op.{Op}
 use Rattle.flow_code.specs.declared.code.Place.TheVariants.{Fixed}
@@ -18,13 +17,14 @@ use Rattle.flow_code.specs.declared.sizes.Depth.{Depth}
 use Rattle.flow_code.specs.declared.statements.Inside.{Inside}
 use Rattle.flow_code.specs.Expressions.{code}
 use Rattle.flow_code.specs.Preparing.{followed, op, only, stored_in, scope, all_closed}
-use Rattle.flow_code.specs.Sizes.{operand_of, with_one, size, size_if, size_of_init, size_of_values, size_stored, size_of_first, size_of_test, size_of_arm, size_of_selection, size_of_arms, size_of_statement, size_of_form, size_of_else, size_of_block, with_scope, one_if, leaks, any_leaks, first_leaks, in_turn}
-use Rattle.flow_code.specs.Statements.{full_of, deeper, in_loop, in_switch, draws, else_jump, jump_out, leaving, arm_at, cases_code, selection_code, switch_test_code, initial_code, initials_code, rows_code, init_code, name_code, names_code, first_code, only_if, test_code, return_code, turns, statement_code, form_code, else_code, block_code, arm_code, turns_code, arms_code}
+use Rattle.flow_code.specs.Sizes.{operand_of, with_one, size, size_if, size_of_init, size_of_values, size_stored, size_of_first, size_of_test, size_of_arm, size_of_arms, size_of_statement, size_of_form, size_of_else, size_of_block, with_scope, one_if, leaks, any_leaks, first_leaks, in_turn}
+use Rattle.flow_code.specs.Statements.{full_of, deeper, in_loop, in_switch, draws, else_jump, jump_out, leaving, arm_at, selection_code, switch_test_code, initial_code, initials_code, rows_code, init_code, name_code, names_code, first_code, only_if, test_code, return_code, turns, statement_code, form_code, else_code, block_code, arm_code, turns_code, arms_code}
 use Rattle.flow_code.specs.Words.{native}
 use Rattle.flow_code.proofs.Lengths.{code_size, followed_size}
 use Rattle.flow_laws.specs.inside.Simulating.{HasCode}
 use Rattle.flow_laws.proofs.Operations.{code_split}
-use Rattle.flow_laws.proofs.Sized.{closed_size, selection_size, switch_test_size, initial_size, initials_size, only_size, first_size, name_size, statement_size, arm_size}
+use Rattle.flow_laws.proofs.Selecting.{chosen_arm}
+use Rattle.flow_laws.proofs.Sized.{closed_size, switch_test_size, initial_size, initials_size, only_size, first_size, name_size, statement_size, arm_size}
 use Rattle.flow_laws.proofs.Standing.{has_followed}
 use Rattle.flow_rooms.specs.Paces.{takes_step, opens_scope, takes_soon}
 use Rattle.flow_rooms.proofs.Leads.{LeadOn, on_append, on_last, on_operand, code_leads, stored_leads}
@@ -50,23 +50,23 @@ module _ (P : ℕ → Type 0) where
   on_behind i n xs f e h g = on_append P i xs (f (i + length xs)) h (subst (λ l. LeadOn P (i + l) (f (i + l))) (sym e) g)
 
   on_scope : (b : Bool) (i : ℕ) (f : ℕ → List Op) → LeadOn P (i + one_if b) (f (i + one_if b)) → LeadOn P i (scope b i f)
-  on_scope true i f h = on_append P i (followed i (op 0 Open ∷ []) f) (op 0 Close ∷ []) (on_behind i 1 (op 0 Open ∷ []) f refl (tt, tt) h) (tt, tt)
+  on_scope true i f h = on_append P i (followed i (op 0 Open ∷ []) f) (op 0 Close ∷ []) (on_behind i 1 (op 0 Open ∷ []) f refl (λ v. tt, tt) h) (λ v. tt, tt)
   on_scope false i f h =
       let none : List Op = [] in
       on_append P i (followed i none f) none (on_behind i 0 none f refl tt h) tt
 
   on_closed : (n i : ℕ) → LeadOn P i (all_closed n)
   on_closed zero i = tt
-  on_closed (suc n) i = (tt, on_closed n (suc i))
+  on_closed (suc n) i = (λ v. tt, on_closed n (suc i))
 
   closed_then : (n : ℕ) (o : Op) → length (all_closed n ++ o ∷ []) ≡ n + 1
   closed_then n o = length-append (all_closed n) (o ∷ []) ∙ ap (λ m. m + 1) (closed_size n)
 
   on_jump : (n i to : ℕ) → i + (n + 1) ≤ to → LeadOn P i (jump_out n to)
-  on_jump n i to h = on_last P i (n + 1) (all_closed n) (op 0 (Jump to)) (closed_then n (op 0 (Jump to))) (on_closed n i) (inl h)
+  on_jump n i to h = on_last P i (n + 1) (all_closed n) (op 0 (Jump to)) (closed_then n (op 0 (Jump to))) (on_closed n i) (λ v. inl h)
 
   on_leave : (n i : ℕ) → LeadOn P i (leaving n)
-  on_leave n i = on_append P i (all_closed n) (op 0 Leave ∷ []) (on_closed n i) (tt, tt)
+  on_leave n i = on_append P i (all_closed n) (op 0 Leave ∷ []) (on_closed n i) (λ v. tt, tt)
 
   -- an arm begins where the first of the statements does, or further on
   arm_beyond : (d : Depth) (to n : ℕ) (b : Stms) → to ≤ arm_at d to n b
@@ -75,23 +75,10 @@ module _ (P : ℕ → Type 0) where
   arm_beyond d to zero (MoreCase spot l b) = omega arith
   arm_beyond d to (suc n) (MoreCase spot l b) = arm_beyond d to n b
 
-  cases_lead : (d : Depth) (at : Spot) (i to : ℕ) (b : Stms) → i + length (cases_code d at to b) ≤ to → LeadOn P i (cases_code d at to b)
-  cases_lead d at i to NoStm h = tt
-  cases_lead d at i to (MoreStm s b) h = cases_lead d at i (to + size_of_statement d s) b (omega (arith, h))
-  cases_lead d at i to (MoreCase spot (Case v) b) h = (inl (omega (arith, h)), cases_lead d at (suc i) to b (omega (arith, h)))
-  cases_lead d at i to (MoreCase spot Default b) h = cases_lead d at i to b h
-
-  -- the operations that choose an arm, before the arms
-  selection_leads : (d : Depth) (at : Spot) (i : ℕ) (b : Stms) → LeadOn P i (selection_code d at (i + size_of_selection b) b)
+  -- the operation that chooses an arm, before the arms
+  selection_leads : (d : Depth) (at : Spot) (i : ℕ) (b : Stms) → LeadOn P i (selection_code d at (i + 1) b)
   selection_leads d at i b =
-      let to = i + size_of_selection b in
-      let cases = cases_code d at to b in
-      let n = first_label is_default (labels_in b) in
-      let last = op 0 (ToDefault at (arm_at d to n b)) in
-      let whole = selection_size d at to b in
-      let sum = length-append cases (last ∷ []) in
-      let beyond = arm_beyond d to n b in
-      on_append P i cases (last ∷ []) (cases_lead d at i to b (omega (arith, whole, sum))) (inl (omega (arith, whole, sum, beyond)), tt)
+      (λ v. inl (subst (λ j. suc i ≤ j) (sym (chosen_arm v d (i + 1) b)) (omega (arith, arm_beyond d (i + 1) (arm_for v (labels_in b)) b))), tt)
 
   module _ (p : Program) where
     initial_leads : (i : ℕ) (at : Spot) (o j : ℕ) (e : Exp) → LeadOn P i (initial_code p i at o j e)
@@ -117,7 +104,7 @@ module _ (P : ℕ → Type 0) where
 
     name_leads : (i : ℕ) (at spot : Spot) (o : ℕ) (j : Init) → LeadOn P i (name_code p i at spot o j)
     name_leads i at spot o j =
-        on_behind i 1 (op (size_of_object p o) (DeclareOf spot o (size_of_object p o) (type_of_object p o) (draws j)) ∷ []) (λ l. init_code p l at o j) refl (tt, tt) (init_leads (i + 1) at o j)
+        on_behind i 1 (op (size_of_object p o) (DeclareOf spot o (size_of_object p o) (type_of_object p o) (draws j)) ∷ []) (λ l. init_code p l at o j) refl (λ v. tt, tt) (init_leads (i + 1) at o j)
 
     names_lead : (i : ℕ) (at : Spot) (ns : Names) → LeadOn P i (names_code p i at ns)
     names_lead i at NoName = tt
@@ -134,13 +121,13 @@ module _ (P : ℕ → Type 0) where
     only_leads i at (Some e) = code_leads P p (full_of at e) i 0 Unused e Drop tt
 
     test_leads : (i : ℕ) (at : Spot) (e : Option Exp) (to : ℕ) → P to → LeadOn P i (test_code p i at e to)
-    test_leads i at None to h = (inr h, tt)
+    test_leads i at None to h = (λ v. inr h, tt)
     test_leads i at (Some e) to h = code_leads P p (full_of at e) i 0 Used e (Branch at true to) (inr h)
 
     return_leads : (i : ℕ) (at : Spot) (ty : Option IntType) (e : Exp) (n : ℕ) → LeadOn P i (return_code p i at ty e n)
     return_leads i at ty e n =
         let value = code p (full_of at e) i 0 Used e Push in
-        on_append P i (value ++ all_closed n) (op 0 (ReturnOf ty) ∷ []) (on_append P i value (all_closed n) (code_leads P p (full_of at e) i 0 Used e Push tt) (on_closed n (i + length value))) (tt, tt)
+        on_append P i (value ++ all_closed n) (op 0 (ReturnOf ty) ∷ []) (on_append P i value (all_closed n) (code_leads P p (full_of at e) i 0 Used e Push tt) (on_closed n (i + length value))) (λ v. tt, tt)
 
     -- the turns of a loop, around the code of a body of this size
     turns_lead : (i start head : ℕ) (at : Spot) (e s : Option Exp) (body : ℕ → List Op) (n : ℕ) → length (body (i + 1)) ≡ n → i + 1 ≤ head → P start → LeadOn P (i + 1) (body (i + 1))
@@ -152,7 +139,7 @@ module _ (P : ℕ → Type 0) where
         let one : length (followed i jump body) ≡ 1 + n = length-append jump (body (i + 1)) ∙ ap (λ m. 1 + m) z in
         let two : length (followed i (followed i jump body) only) ≡ 1 + n + size_if s = followed_size i (followed i jump body) only (1 + n) (size_if s) one (λ j. only_size p j at s) in
         on_behind i (1 + n + size_if s) (followed i (followed i jump body) only) (λ j. test_code p j at e start) two
-        (on_behind i (1 + n) (followed i jump body) only one (on_behind i 1 jump body refl (inl more, tt) g) (only_leads (i + (1 + n)) at s))
+        (on_behind i (1 + n) (followed i jump body) only one (on_behind i 1 jump body refl (λ v. inl more, tt) g) (only_leads (i + (1 + n)) at s))
         (test_leads (i + (1 + n + size_if s)) at e start h)
 
 module _ (p : Program) (c : Code) where
@@ -179,7 +166,7 @@ module _ (p : Program) (c : Code) where
     statement_leads (Stmt at f) i w h a b =
         let one : i + 1 + size_of_form w.depth f ≤ w.broken = omega (arith, a) in
         let two : i + 1 + size_of_form w.depth f ≤ w.again = omega (arith, b) in
-        on_behind (Soon c) i 1 (op 1 (Arrive at) ∷ []) (λ j. form_code p j w at f) refl (tt, tt) (form_leads f (i + 1) w at (has_followed c i 1 (op 1 (Arrive at) ∷ []) (λ j. form_code p j w at f) refl h).1 one two)
+        on_behind (Soon c) i 1 (op 1 (Arrive at) ∷ []) (λ j. form_code p j w at f) refl (λ v. tt, tt) (form_leads f (i + 1) w at (has_followed c i 1 (op 1 (Arrive at) ∷ []) (λ j. form_code p j w at f) refl h).1 one two)
 
     -- the same by its form
     pub form_leads : (f : Form) (i : ℕ) (w : Inside) (at : Spot) → HasCode c i (form_code p i w at f) → i + size_of_form w.depth f ≤ w.broken → i + size_of_form w.depth f ≤ w.again
@@ -216,7 +203,7 @@ module _ (p : Program) (c : Code) where
         let body = (has_followed c i 1 jump arm refl parts.0).1 in
         let over : suc i ≤ again = omega arith in
         on_behind (Soon c) i (1 + n) (followed i jump arm) (λ j. test_code p j at (Some e) (i + 1)) all
-        (on_behind (Soon c) i 1 jump arm refl (inl over, tt) (arm_leads s (statement_leads s) (i + 1) u body (omega arith) (omega arith)))
+        (on_behind (Soon c) i 1 jump arm refl (λ v. inl over, tt) (arm_leads s (statement_leads s) (i + 1) u body (omega arith) (omega arith)))
         (test_leads (Soon c) p (i + (1 + n)) at (Some e) (i + 1) (arm_soon (leaks s) (i + 1) (deeper (leaks s) u) s body))
     form_leads (DoWhile s e) i w at h a b =
         let n = size_of_arm (in_turn w.depth) s in
@@ -259,16 +246,16 @@ module _ (p : Program) (c : Code) where
         let f = λ (l : ℕ). arms_code p l v at s in
         let m = size_of_block v.depth s in
         let l = j + one_if (any_leaks s) in
-        let first = size_of_selection s in
+        let first : ℕ = 1 in
         let parts = has_followed c i n (switch_test_code p i at e) (λ j. scope (any_leaks s) j (λ l. arms_code p l (deeper (any_leaks s) (in_switch (j + arms) w)) at s)) (switch_test_size p i at e) h in
-        let block = (has_followed c l first (selection_code v.depth at (l + first) s) (λ k. block_code p k v s) (selection_size v.depth at (l + first) s) (has_inner c (any_leaks s) j f parts.1)).1 in
+        let block = (has_followed c l first (selection_code v.depth at (l + first) s) (λ k. block_code p k v s) refl (has_inner c (any_leaks s) j f parts.1)).1 in
         let one = scope_within (any_leaks s) j (first + m) (j + arms) (omega arith) in
         let two = scope_within (any_leaks s) j (first + m) w.again (omega (arith, b)) in
         on_behind (Soon c) i n (switch_test_code p i at e) (λ j. scope (any_leaks s) j (λ l. arms_code p l (deeper (any_leaks s) (in_switch (j + arms) w)) at s)) (switch_test_size p i at e)
         (on_operand (Soon c) (operand_of e) i 0 (size e) (code p (full_of at e) i 0 Used e Push) (λ y. Convert (native p.model (promote_of (type_of e))) y (only Push)) (code_size p (full_of at e) i 0 Used e Push)
-        (code_leads (Soon c) p (full_of at e) i 0 Used e Push tt) (λ y. tt))
+        (code_leads (Soon c) p (full_of at e) i 0 Used e Push tt) (λ y v. tt))
         (on_scope (Soon c) (any_leaks s) j f
-        (on_behind (Soon c) l first (selection_code v.depth at (l + first) s) (λ k. block_code p k v s) (selection_size v.depth at (l + first) s)
+        (on_behind (Soon c) l first (selection_code v.depth at (l + first) s) (λ k. block_code p k v s) refl
         (selection_leads (Soon c) v.depth at l s) (block_leads s (l + first) v block (omega (arith, one)) (omega (arith, two)))))
 
     else_leads : (o : Else) (i to : ℕ) (w : Inside) → HasCode c i (else_code p i to w o) → i + else_jump o ≤ to → i + size_of_else w.depth o ≤ w.broken → i + size_of_else w.depth o ≤ w.again
@@ -279,7 +266,7 @@ module _ (p : Program) (c : Code) where
         let jump : List Op = op 0 (Jump (to + n)) ∷ [] in
         let arm = λ (j : ℕ). arm_code p j w s in
         let over : suc i ≤ to + n = omega (arith, l) in
-        on_behind (Soon c) i 1 jump arm refl (inl over, tt) (arm_leads s (statement_leads s) (i + 1) w (has_followed c i 1 jump arm refl h).1 (omega (arith, a)) (omega (arith, b)))
+        on_behind (Soon c) i 1 jump arm refl (λ v. inl over, tt) (arm_leads s (statement_leads s) (i + 1) w (has_followed c i 1 jump arm refl h).1 (omega (arith, a)) (omega (arith, b)))
 
     block_leads : (s : Stms) (i : ℕ) (w : Inside) → HasCode c i (block_code p i w s) → i + size_of_block w.depth s ≤ w.broken → i + size_of_block w.depth s ≤ w.again
         → LeadOn (Soon c) i (block_code p i w s)

@@ -1,14 +1,15 @@
 -- How many operations a machine does at most with its steps.
-use Rattle.std.specs.Prelude.{◌≡◌, ◌≤◌, ◌<◌, ◌⊎◌, ℕ, suc, ◌+◌, ◌*◌, ◌-◌, nat_lt, Bool, true, false, ◌&&◌, ◌||◌, List, [], length, Option, Some, None, slice_get}
+use Rattle.std.specs.Prelude.{◌≡◌, ◌≤◌, ◌<◌, ◌⊎◌, ℕ, ℤ, suc, ◌+◌, ◌*◌, ◌-◌, nat_lt, Bool, true, false, ◌&&◌, ◌||◌, List, [], length, Option, Some, None, slice_get}
 use Rattle.c_meaning.specs.declared.run.Choices.{Choices}
 use Rattle.c_meaning.specs.Run.{most_cells}
 use Rattle.flow_code.specs.declared.code.Action.{Action}
-use Rattle.flow_code.specs.declared.code.Action.TheVariants.{Give, Truth, Convert, Look, Operate, OperateOne, Jump, ToCase, ToDefault, Open, Input}
+use Rattle.flow_code.specs.declared.code.Action.TheVariants.{Give, Truth, Convert, Look, Operate, OperateOne, Jump, Select, Open, Input}
 use Rattle.flow_code.specs.declared.code.Body.{Body}
 use Rattle.flow_code.specs.declared.code.Code.{Code}
 use Rattle.flow_code.specs.declared.code.Op.{Op}
 use Rattle.flow_code.specs.declared.code.Then.{Then}
 use Rattle.flow_code.specs.declared.code.Then.TheVariants.{Push, Drop, Skip, Branch}
+use Rattle.flow_code.specs.Tables.{address_or}
 use Rattle.flow_laws.specs.Machines.{Control, Machine, first_machine}
 use Rattle.flow_laws.specs.Runs.{Sight, noted}
 use Rattle.flow_laws.specs.Stepping.{On, steps}
@@ -20,19 +21,18 @@ target_in Drop = None
 target_in (Skip way to) = Some to
 target_in (Branch at way to) = Some to
 
--- the address of its function to which an action may lead, besides the next one
-abbrev pub target_of : Action → Option ℕ
-target_of (Give y x) = target_in x.then
-target_of (Truth y x) = target_in x.then
-target_of (Convert ty y x) = target_in x.then
-target_of (Look o n y spot x) = target_in x.then
-target_of (Operate o word count a b from x) = target_in x.then
-target_of (OperateOne o word a from x) = target_in x.then
-target_of (Jump to) = Some to
-target_of (ToCase at v to) = Some to
-target_of (ToDefault at to) = Some to
-target_of (Input spot close ty x) = target_in x.then
-target_of _ = None
+-- the address of its function to which an action may lead, besides the next one, where a value is on top of the stack
+abbrev pub target_of : Action → ℤ → Option ℕ
+target_of (Give y x) v = target_in x.then
+target_of (Truth y x) v = target_in x.then
+target_of (Convert ty y x) v = target_in x.then
+target_of (Look o n y spot x) v = target_in x.then
+target_of (Operate o word count a b from x) v = target_in x.then
+target_of (OperateOne o word a from x) v = target_in x.then
+target_of (Jump to) v = Some to
+target_of (Select at cases other) v = Some (address_or cases other v)
+target_of (Input spot close ty x) v = target_in x.then
+target_of _ v = None
 
 -- an action opens a scope
 abbrev pub opens : Action → Bool
@@ -55,7 +55,7 @@ takes_soon ops i = takes_step (slice_get ops i) || (opens_scope (slice_get ops i
 
 -- an action leads to higher addresses only, or to operations that take a step soon; a function begins with an operation that takes one
 pub record IsPaced (c : Code) : Type 0 where
-  pub leads : (i j : ℕ) (o : Op) → slice_get c.ops i ≡ Some o → target_of o.action ≡ Some j → (i < j) ⊎ (takes_soon c.ops j ≡ true)
+  pub leads : (i j : ℕ) (o : Op) (v : ℤ) → slice_get c.ops i ≡ Some o → target_of o.action v ≡ Some j → (i < j) ⊎ (takes_soon c.ops j ≡ true)
   pub begins : (f : ℕ) (b : Body) → slice_get c.functions f ≡ Some b → takes_step (slice_get c.ops b.entry) ≡ true
 
 -- an operation that takes a step: nothing; one that takes one soon: one; else so many

@@ -1,5 +1,5 @@
 -- Shapes: how many values and how many open scopes of a function's own there are before each operation of its code, at most.
-use Rattle.std.specs.Prelude.{◌≡◌, ℕ, zero, suc, Bool, cond, List, [], ◌∷◌, Option, Some, None, slice_get}
+use Rattle.std.specs.Prelude.{◌≡◌, ℕ, ℤ, zero, suc, Bool, cond, List, [], ◌∷◌, Option, Some, None, slice_get}
 use Rattle.flow_code.specs.declared.code.Operand.{Operand}
 use Rattle.flow_code.specs.declared.code.Operand.TheVariants.{Top, Cell, Number}
 use Rattle.flow_code.specs.declared.code.Place.{Place}
@@ -9,8 +9,9 @@ use Rattle.flow_code.specs.declared.code.Then.{Then}
 use Rattle.flow_code.specs.declared.code.Then.TheVariants.{Push, Drop, Skip, Branch}
 use Rattle.flow_code.specs.declared.code.Into.{Into}
 use Rattle.flow_code.specs.declared.code.Action.{Action}
-use Rattle.flow_code.specs.declared.code.Action.TheVariants.{Rest, Arrive, Give, Truth, Convert, Look, Aim, Row, Operate, OperateOne, Jump, ToCase, ToDefault, Open, Close, Declare, Enter, Call, Input, Reach, End as EndHere, Leave, Return}
+use Rattle.flow_code.specs.declared.code.Action.TheVariants.{Rest, Arrive, Give, Truth, Convert, Look, Aim, Row, Operate, OperateOne, Jump, Select, Open, Close, Declare, Enter, Call, Input, Reach, End as EndHere, Leave, Return}
 use Rattle.flow_code.specs.declared.code.Op.{Op}
+use Rattle.flow_code.specs.Tables.{address_or}
 
 -- the function, by its number, the values on the stack that are its own, and its open scopes
 pub record Shape : Type 0 where
@@ -112,8 +113,7 @@ Keeps ts i (Row rows columns a b spot) x = Has ts i (pushed (taken a (taken b x)
 Keeps ts i (Operate o word count a b from into) x = Settles ts i into (taken a (taken b x))
 Keeps ts i (OperateOne o word a from into) x = Settles ts i into (taken a x)
 Keeps ts i (Jump to) x = Has ts to x
-Keeps ts i (ToCase at v to) x = Has ts i x × Has ts to (popped x)
-Keeps ts i (ToDefault at to) x = Has ts to (popped x)
+Keeps ts i (Select at cases other) x = (v : ℤ) → Has ts (address_or cases other v) (popped x)
 Keeps ts i Open x = Has ts i (opened x)
 Keeps ts i Close x = Has ts i (closed x)
 Keeps ts i (Declare spot o n ty draws) x = Has ts i x

@@ -206,7 +206,7 @@ switches::switch-returns t c =
 pub switches::selected_arms-returns : goal.switches::selected_arms-returns
 switches::selected_arms-returns t c =
     arms_are (program_view c.args.program.now) c.args.inside c.args.at (switch_view c.args.arms.now) c.in_ok-start.start c.args.ops.now c.select.new.ops c.bodies.new.ops
-    (c.in_ok-start.ensures ∙ ap (λ n. length c.args.ops.now + n) c.in_ok-size.ensures) c.in_ok-select.ensures c.in_ok-bodies.ensures
+    c.in_ok-start.ensures c.in_ok-select.ensures c.in_ok-bodies.ensures
 
 pub switches::bodies-sequence-requires : goal.switches::bodies-sequence-requires
 switches::bodies-sequence-requires t c =

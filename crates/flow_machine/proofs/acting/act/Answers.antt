@@ -16,14 +16,8 @@ returns-in-Aim-clause-acts g c = rw c.in-Aim.is (c.aim.ensures.acts c.args.code.
 pub returns-in-Row-clause-acts : goal.returns-in-Row-clause-acts
 returns-in-Row-clause-acts g c = rw c.in-Row.is (c.find_in_row.ensures.acts c.args.code.now (g.W.Watcher.seen c.args.watcher.now))
 
-pub returns-in-ToDefault-clause-acts : goal.returns-in-ToDefault-clause-acts
-returns-in-ToDefault-clause-acts g c = rw c.in-ToDefault.is (c.send.ensures.acts c.args.code.now)
-
-pub returns-in-ToCase-clause-acts : goal.returns-in-ToCase-clause-acts
-returns-in-ToCase-clause-acts g c =
-    let z : SFits w128 c.in-ToCase.value = search rules in
-    let f = rw (to_z-of_z w128 c.in-ToCase.value z) at (c.compare.ensures.acts c.args.code.now) in
-    rw c.in-ToCase.is f
+pub returns-in-Select-clause-acts : goal.returns-in-Select-clause-acts
+returns-in-Select-clause-acts g c = rw c.in-Select.is (c.select.ensures.acts c.args.code.now)
 
 pub returns-in-Some-settle-clause-acts : goal.returns-in-Some-settle-clause-acts
 returns-in-Some-settle-clause-acts g c =
