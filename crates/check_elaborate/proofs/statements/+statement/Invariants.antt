@@ -29,5 +29,5 @@ abbrev pub invariant-arms-loop-arm : goal.invariant-arms-loop-arm
 invariant-arms-loop-arm l = record {
   typed : arms_before l.all (typed_arms l.context.model (bodies_in l.context) l.ty (scope_at l.walk) (arms (map raw_arm_view (drop l.arm-index l.arms)))) ≡ typed_arms l.context.model (bodies_in l.context) l.ty (scope_at l.fn.walk) (arms (map raw_arm_view l.arms));
   scope : after_arms l.context.model (bodies_in l.context) (scope_at l.walk) (arms (map raw_arm_view (drop l.arm-index l.arms))) ≡ after_arms l.context.model (bodies_in l.context) (scope_at l.fn.walk) (arms (map raw_arm_view l.arms));
-  noted : with_parts l.context.model (items_in l.context) (found_at l.walk) (parts_of_arms l.context.model (bodies_in l.context) l.gives l.within l.ty l.before (scope_at l.walk) (arms (map raw_arm_view (drop l.arm-index l.arms)))) ≡ with_parts l.context.model (items_in l.context) (found_at l.fn.walk) (parts_of_arms l.context.model (bodies_in l.context) l.gives l.within l.ty [] (scope_at l.fn.walk) (arms (map raw_arm_view l.arms)));
+  noted : with_parts l.context.model (items_in l.context) (found_at l.walk) (parts_of_arms l.context.model (bodies_in l.context) l.gives l.within l.ty l.before.all.items (scope_at l.walk) (arms (map raw_arm_view (drop l.arm-index l.arms)))) ≡ with_parts l.context.model (items_in l.context) (found_at l.fn.walk) (parts_of_arms l.context.model (bodies_in l.context) l.gives l.within l.ty [] (scope_at l.fn.walk) (arms (map raw_arm_view l.arms)));
 }
