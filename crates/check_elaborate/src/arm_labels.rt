@@ -1,67 +1,84 @@
 // The labels of the arms of a `switch`, of which none may stand twice (C11 6.8.4.2p3).
-ghost use Rattle.std.specs.Prelude.{◌≡◌, ◌∷◌, ◌++◌, ℤ, [], OnOk};
+ghost use Rattle.std.specs.Prelude.{◌≡◌, ◌∷◌, ◌++◌, ◌||◌, ℤ, [], Some, OnOk};
 ghost use Rattle.std.specs.BTreeSet.{contains};
-ghost use Rattle.std.specs.List.{list_any};
-ghost use Rattle.std.specs.Ordering.{int_cmp};
-ghost use Rattle.c_core.specs.declared.tree.Label.TheVariants.{Case, Default};
+ghost use Rattle.std.specs.Ordering.{int_cmp, int_eq};
+ghost use Rattle.c_core.specs.declared.tree.Label.{Label as ArmLabel};
 ghost use Rattle.check_rules.specs.Codes as codes;
+ghost use Rattle.check_elaborate.specs.ArmLabels.{AreFound, has};
 
 use c_core::Label;
 use std::alloc::Global;
 use std::collections::BTreeSet;
-use wv_base::OutOfMemory;
+use wv_base::{OutOfMemory, Seq};
 
-/// The labels of the arms of a `switch` so far, those of constants as a set besides. What is no constant is none.
+/// The labels of the arms so far, with the constants among them as a set. What is no constant is none.
 #[derive(Drop)]
 pub struct ArmLabels {
-    pub all: Vec<Option<Label>>,
-    constants: BTreeSet<i128>,
-    has_default: bool,
-    ghost known: { (c : ℤ) → contains int_cmp constants c ≡ list_any (codes.same_label (Case c)) all.items },
-    ghost default: { has_default ≡ list_any (codes.same_label Default) all.items },
+    pub all: Seq<Option<Label>>,
+    pub constants: BTreeSet<i128>,
+    pub has_default: bool,
+}
+
+fn add_constant(constants: &mut BTreeSet<i128>, constant: i128) -> Result<(), OutOfMemory>
+    ensures { OnOk result ((c : ℤ) → contains int_cmp constants.new c ≡ (contains int_cmp constants.old c || int_eq c constant)) }
+{
+    constants.insert(constant)?;
+    Ok(())
 }
 
 impl ArmLabels {
     pub fn new(alloc: Global) -> ArmLabels
-        ensures { result.all.items ≡ [] }
+        ensures all { result.all ≡ [] }
+        ensures found { AreFound result }
     {
         ArmLabels {
-            all: Vec::new(alloc),
+            all: Seq::new(alloc),
             constants: BTreeSet::new(alloc),
             has_default: false,
         }
     }
 
-    /// Is this label among them?
-    pub fn has(&self, label: Option<Label>) -> bool
-        ensures { result ≡ codes.is_chosen self.now.all.items label }
+    fn has_label(&self, label: Label) -> bool
+        ensures { result ≡ has self.now label }
     {
         match label {
-            None => false,
-            Some(Label::Case(constant)) => self.constants.contains(&constant),
-            Some(Label::Default) => self.has_default,
+            Label::Case(constant) => self.constants.contains(&constant),
+            Label::Default => self.has_default,
         }
     }
 
-    /// Adds a label; nothing changes where memory runs out.
-    pub fn push(&mut self, label: Option<Label>) -> Result<(), OutOfMemory>
-        ensures { OnOk result (self.new.all.items ≡ self.old.all.items ++ label ∷ []) }
+    /// Is this label among them?
+    pub fn has(&self, label: Option<Label>) -> bool
+        requires { AreFound self.now }
+        ensures { result ≡ codes.is_chosen self.now.all label }
     {
-        let len = self.all.len();
-        self.all.push(label)?;
         match label {
-            None => Ok(()),
-            Some(Label::Default) => {
-                self.has_default = true;
-                Ok(())
-            }
-            Some(Label::Case(constant)) => match self.constants.insert(constant) {
-                Ok(_) => Ok(()),
-                Err(_) => {
-                    self.all.truncate(len);
-                    Err(OutOfMemory)
-                }
-            },
+            None => false,
+            Some(label) => self.has_label(label),
         }
+    }
+
+    fn add_label(&mut self, label: Label) -> Result<(), OutOfMemory>
+        ensures has { OnOk result ((l : ArmLabel) → has self.new l ≡ (has self.old l || codes.same_label l (Some label))) }
+        ensures all { self.new.all ≡ self.old.all }
+    {
+        match label {
+            Label::Case(constant) => add_constant(&mut self.constants, constant)?,
+            Label::Default => self.has_default = true,
+        }
+        Ok(())
+    }
+
+    /// Adds a label.
+    pub fn push(&mut self, label: Option<Label>) -> Result<(), OutOfMemory>
+        requires { AreFound self.old }
+        ensures all { OnOk result (self.new.all ≡ self.old.all ++ label ∷ []) }
+        ensures found { OnOk result (AreFound self.new) }
+    {
+        if let Some(label) = label {
+            self.add_label(label)?;
+        }
+        self.all.push(label)?;
+        Ok(())
     }
 }

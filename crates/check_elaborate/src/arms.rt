@@ -11,6 +11,7 @@ ghost use Rattle.check_rules.specs.Noting.{noted_part};
 ghost use Rattle.check_rules.specs.Parts as part;
 ghost use Rattle.check_rules.specs.Scopes.{seen};
 ghost use Rattle.check_rules.specs.Typed as typing;
+ghost use Rattle.check_elaborate.specs.ArmLabels.{AreFound};
 ghost use Rattle.check_elaborate.specs.Walks.{scope_at, bodies_in, items_in, IsNoted, labelling};
 
 use crate::arm_labels::ArmLabels;
@@ -41,8 +42,9 @@ fn note_label(
     label: Option<Label>,
     spot: Spot,
 )
+    requires { AreFound before.now }
     ensures scope { scope_at walk.new ≡ scope_at walk.old }
-    ensures noted { walk.new.best ≡ noted_part context.now.model (items_in context.now) walk.old.best (part.ArmLabelling before.now.all.items label spot) }
+    ensures noted { walk.new.best ≡ noted_part context.now.model (items_in context.now) walk.old.best (part.ArmLabelling before.now.all label spot) }
     ensures kept { walk.new.kept ≡ walk.old.kept }
 {
     let _ = context;
@@ -124,10 +126,12 @@ pub fn label(
     spot: Spot,
     label: &RawLabel,
 ) -> Result<Label, OutOfMemory>
+    requires { AreFound before.old }
     ensures typed { IfOk result (λ r. r ≡ checked.typed_label context.now.model (bodies_in context.now) (seen (scope_at walk.old)) ty (label_view label.now)) }
-    ensures before { OnOk result (before.new.all.items ≡ before.old.all.items ++ arm.label_of context.now.model (bodies_in context.now) (seen (scope_at walk.old)) ty (label_view label.now) ∷ []) }
+    ensures found { OnOk result (AreFound before.new) }
+    ensures before { OnOk result (before.new.all ≡ before.old.all ++ arm.label_of context.now.model (bodies_in context.now) (seen (scope_at walk.old)) ty (label_view label.now) ∷ []) }
     ensures scope { OnOk result (scope_at walk.new ≡ scope_at walk.old) }
-    ensures noted { OnOk result (IsNoted context.now walk.old walk.new (labelling before.old.all.items (arm.label_of context.now.model (bodies_in context.now) (seen (scope_at walk.old)) ty (label_view label.now)) spot (seen (scope_at walk.old)) (label_view label.now))) }
+    ensures noted { OnOk result (IsNoted context.now walk.old walk.new (labelling before.old.all (arm.label_of context.now.model (bodies_in context.now) (seen (scope_at walk.old)) ty (label_view label.now)) spot (seen (scope_at walk.old)) (label_view label.now))) }
 {
     let label = chosen(context, walk, ty, label)?;
     note_label(context, walk, before, label, spot);
