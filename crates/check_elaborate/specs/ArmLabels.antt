@@ -1,4 +1,4 @@
--- The labels of the arms of a `switch`, of which those of constants are found in a set.
+-- The labels of the arms of a `switch`, with the constants among them in a set.
 use Rattle.std.specs.Prelude.{◌≡◌, ℤ, Bool, List, Option}
 use Rattle.std.specs.List.{list_any}
 use Rattle.std.specs.Ordering.{int_cmp}

@@ -28,7 +28,7 @@ use Rattle.check_rules.specs.First.{IsUnrefused, wrong_main}
 abbrev pub padded : ℕ → List ℤ → List ℤ
 padded cells values = values ++ replicate (cells - length values) (pos 0)
 
--- the sizes to which a list is filled behind so many cells of other objects: none where they are refused or over the limit
+-- the sizes to which values are filled, after so many cells: of one cell where they are refused or over the limit
 abbrev pub filled_sizes : ℕ → raw.Init → Sizes → Sizes
 filled_sizes before init sizes = cond (is_wrong_size sizes init || exceeds_limit before (cells_in sizes)) Scalar sizes
 
@@ -163,7 +163,7 @@ module _ (m : DataModel) (bodies : List (List ℕ)) where
   abbrev pub filled_for : Scope → raw.Declared → Sizes
   filled_for s d = filled_sizes (cells_of_all s.objects) d.init (sizes_of m bodies (seen s) d.sizes)
 
-  -- the initial values of a declared name, which its initializer sees
+  -- the initial values of a declared name, which is in scope in its initializer
   abbrev pub start_of_name : Scope → raw.Declared → List Start
   start_of_name s d = start_of_init (seen (after_name m bodies true s d)) (length s.objects) d.ty (filled_for s d) d.init
 

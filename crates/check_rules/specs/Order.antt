@@ -65,7 +65,7 @@ arguments es (MoreExp e gs) = parts es Value e ∷ arguments es gs
 abbrev pub parts_below : List Entry → Exp → List Part
 parts_below es (Expr p n) = parts_in es n
 
--- what is done at the left side of an assignment before the store: what stands in it, and a call of its own, which names no object
+-- what is done at the left of an assignment before the store: all in it, and a call that stands there itself
 abbrev pub left_side : List Entry → Exp → List Part
 left_side es (Expr p (Call f w gs close)) = parts es Target (Expr p (Call f w gs close))
 left_side es e = parts_below es e

@@ -71,7 +71,7 @@ module _ (objects : List Object) (count : ℕ) where
   arguments NoExp = []
   arguments (MoreExp e es) = effects false e ∷ arguments es
 
-  -- what is done at the left side of an assignment before the store: what stands in it, and a call of its own, which names no object
+  -- what is done at the left of an assignment before the store: all in it, and a call that stands there itself
   abbrev pub left_side : Exp → List Effect
   left_side (Expr p ty (Call callee es close)) = effects true (Expr p ty (Call callee es close))
   left_side e = below e

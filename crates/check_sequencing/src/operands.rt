@@ -90,7 +90,7 @@ impl<'a> Source<'a> {
         Ok(told)
     }
 
-    /// What is done at the left side of an assignment before the store.
+    /// What is done at the left of an assignment before the store.
     fn left_side(&self, e: &Expr) -> Result<Vec<Effect>, OutOfMemory>
         ensures { IfOk result (λ list. list.items ≡ left_side_by self.now (expr_view e.now)) }
     {
