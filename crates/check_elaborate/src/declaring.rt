@@ -40,25 +40,25 @@ fn is_wrong_init(dims: u8, init: &RawInit) -> bool
     }
 }
 
-// Are there more cells than the limit with those of this object?
-fn exceeds_limit(walk: &Walk, cells: u32) -> bool
-    ensures { result ≡ codes.exceeds_limit (codes.cells_of_all walk.now.objects) cells }
-{
-    MOST_DECLARED_CELLS < walk.cells || MOST_DECLARED_CELLS < walk.cells + u64::from(cells)
-}
-
 /// Does this object bring the cells of all over the limit?
 pub fn is_crowded(walk: &Walk, cells: u32) -> bool
     ensures { result ≡ codes.passes_limit (codes.cells_of_all walk.now.objects) cells }
 {
-    walk.cells <= MOST_DECLARED_CELLS && exceeds_limit(walk, cells)
+    walk.cells <= MOST_DECLARED_CELLS && MOST_DECLARED_CELLS < walk.cells + u64::from(cells)
+}
+
+// Was the limit passed before, or is it with this object?
+fn is_over_limit(walk: &Walk, cells: u32) -> bool
+    ensures { result ≡ codes.is_over_limit (codes.cells_of_all walk.now.objects) cells }
+{
+    MOST_DECLARED_CELLS < walk.cells || is_crowded(walk, cells)
 }
 
 // The sizes to which values are filled: what is refused takes no room beside that of its values.
 fn filled_sizes(walk: &Walk, init: &RawInit, sizes: Sizes) -> Sizes
     ensures { result ≡ checked.filled_sizes (codes.cells_of_all walk.now.objects) (init_view init.now) sizes }
 {
-    if is_wrong_size(sizes, init) || exceeds_limit(walk, cells(sizes)) {
+    if is_wrong_size(sizes, init) || is_over_limit(walk, cells(sizes)) {
         Sizes::Scalar
     } else {
         sizes

@@ -21,7 +21,7 @@ use Rattle.check_rules.specs.Typed.{typed, typed_all}
 use Rattle.check_rules.specs.Arms.{switch_type, label_of}
 use Rattle.check_rules.specs.Scopes.{Scope, seen, opened, closed, cells_in, columns_in, sizes_of, after_name, after_first, after_statement, after_item, after_items, after_parameters, inside, statements_of, outermost}
 use Rattle.check_rules.specs.Parts.{bodies_of}
-use Rattle.check_rules.specs.Codes.{cells_of_all, exceeds_limit, is_wrong_size}
+use Rattle.check_rules.specs.Codes.{cells_of_all, is_over_limit, is_wrong_size}
 use Rattle.check_rules.specs.First.{IsUnrefused, wrong_main}
 
 -- values, and zeros for the cells that are left (C11 6.7.9p10, p21)
@@ -30,7 +30,7 @@ padded cells values = values ++ replicate (cells - length values) (pos 0)
 
 -- the sizes to which values are filled, after so many cells: of one cell where they are refused or over the limit
 abbrev pub filled_sizes : ℕ → raw.Init → Sizes → Sizes
-filled_sizes before init sizes = cond (is_wrong_size sizes init || exceeds_limit before (cells_in sizes)) Scalar sizes
+filled_sizes before init sizes = cond (is_wrong_size sizes init || is_over_limit before (cells_in sizes)) Scalar sizes
 
 -- 0 where there is no value
 abbrev pub or_zero : Option ℤ → ℤ

@@ -230,13 +230,13 @@ closed_names (item ∷ rest) = closed_names rest
 abbrev pub cells_of_all : List Object → ℕ
 cells_of_all objects = sum_by (λ o. o.cells) objects
 
--- with this object there are more cells than the limit
-abbrev pub exceeds_limit : ℕ → ℕ → Bool
-exceeds_limit before cells = nat_lt most_declared_cells (before + cells)
-
 -- the limit on cells is passed with this object
 abbrev pub passes_limit : ℕ → ℕ → Bool
-passes_limit before cells = nat_le before most_declared_cells && exceeds_limit before cells
+passes_limit before cells = nat_le before most_declared_cells && nat_lt most_declared_cells (before + cells)
+
+-- it was passed before, or is passed with this object
+abbrev pub is_over_limit : ℕ → ℕ → Bool
+is_over_limit before cells = nat_lt most_declared_cells before || passes_limit before cells
 
 module _ (m : DataModel) (items : List raw.Item) where
   -- ---- types

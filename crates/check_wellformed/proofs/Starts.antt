@@ -1,5 +1,5 @@
 -- Initializers of static storage fit their objects, and no object has two.
-use Rattle.std.proofs.Common.{◌≡◌, ℕ, zero, suc, ◌+◌, ◌*◌, ◌-◌, ◌<◌, ◌≤◌, Bool, true, false, cond, not, ◌||◌, List, [], ◌∷◌, ◌++◌, length, replicate, ℤ, pos, refl, sym, subst, ap, ◌∙◌, Some, arith, length-append, eqb-true, eq-eqb, nat_eq, nat_le, add-one}
+use Rattle.std.proofs.Common.{◌≡◌, ℕ, zero, suc, ◌+◌, ◌*◌, ◌-◌, ◌<◌, ◌≤◌, Bool, true, false, cond, not, ◌||◌, List, [], ◌∷◌, ◌++◌, length, replicate, ℤ, pos, refl, sym, subst, ap, ◌∙◌, Some, arith, length-append, eqb-true, eq-eqb, nat_eq, nat_le, nat_lt, add-one}
 use Rattle.std.proofs.lemmas.Bool.{false≢true}
 use Rattle.std.proofs.lemmas.Bool.Decides.{nat_tests}
 use Rattle.std.proofs.Math.Nat.{suc-mul, zero-mul, add_comm}
@@ -21,7 +21,7 @@ use Rattle.check_rules.specs.declared.sizes.Sizes.TheVariants.{Scalar}
 use Rattle.check_rules.specs.Names.{Entry}
 use Rattle.check_rules.specs.Scopes.{Scope, seen, cells_in, dims_of, sizes_of, cells_of, columns_of, object_of, after_name, after_names, after_item, after_items}
 use Rattle.check_rules.specs.Parts.{Part, parts_of_name, parts_of_names, parts_of_item, parts_of_items, bodies_of, parts_of}
-use Rattle.check_rules.specs.Codes.{cells_of_all, count, exceeds_limit, is_wrong_init, is_wrong_size, passes_limit}
+use Rattle.check_rules.specs.Codes.{cells_of_all, count, is_over_limit, is_wrong_init, is_wrong_size, passes_limit}
 use Rattle.check_rules.specs.Checked.{padded, filled_sizes, filled_for, start_values, row_values, start_of_init, start_of_name, starts_of_names, starts_of}
 use Rattle.check_wellformed.proofs.Lists.{AllOf, both, left, right, all_front, all_behind, all_weaker}
 use Rattle.check_wellformed.proofs.Ranges.{zero_in_range}
@@ -42,12 +42,19 @@ last_chosen false false one other h k = refl
 last_chosen false true one other h k = absurd (false≢true (sym k))
 last_chosen true b one other h k = absurd (false≢true (sym h))
 
-within : (before cells : ℕ) → before ≤ most_declared_cells → passes_limit before cells ≡ false → exceeds_limit before cells ≡ false
-within before cells h p = grind (arith, nat_tests)
+not_over : (before : ℕ) → before ≤ most_declared_cells → nat_lt most_declared_cells before ≡ false
+not_over before h = grind (arith, nat_tests)
+
+neither : (a b : Bool) → a ≡ false → b ≡ false → (a || b) ≡ false
+neither false b h k = k
+neither true b h k = absurd (false≢true (sym h))
 
 -- what isn't refused is filled
-all_filled : (before : ℕ) (i : raw.Init) (sizes : Sizes) → before ≤ most_declared_cells → is_wrong_size sizes i ≡ false → passes_limit before (cells_in sizes) ≡ false → filled_sizes before i sizes ≡ sizes
-all_filled before i sizes h k p = last_chosen (is_wrong_size sizes i) (exceeds_limit before (cells_in sizes)) Scalar sizes k (within before (cells_in sizes) h p)
+all_filled : (before : ℕ) (i : raw.Init) (sizes : Sizes) → before ≤ most_declared_cells → is_wrong_size sizes i ≡ false → passes_limit before (cells_in sizes) ≡ false
+    → filled_sizes before i sizes ≡ sizes
+all_filled before i sizes h k p =
+    last_chosen (is_wrong_size sizes i) (is_over_limit before (cells_in sizes)) Scalar sizes k
+    (neither (nat_lt most_declared_cells before) (passes_limit before (cells_in sizes)) (not_over before h) p)
 
 module _ (p : t.Program) (items : List raw.Item) (entries : List Entry) where
   abbrev Goods : List Part → Type 0
