@@ -133,9 +133,9 @@ module _ (p : t.Program) (items : List raw.Item) (entries : List Entry) where
       let here = all_behind (IsGood p items entries) (parts_of (seen s) (exps d.sizes)) _ (all_front (IsGood p items entries) pd _ g) in
       let o = object_of p.model (bodies_of items) true (seen s) d in
       let sizes = sizes_of p.model (bodies_of items) (seen s) d.sizes in
-      let filled : filled_for p.model (bodies_of items) s d ≡ sizes = all_filled (cells_of_all s.objects) d.init sizes few here.0.fair.sized here.0.fair.fits in
+      let whole : filled_for p.model (bodies_of items) s d ≡ sizes = all_filled (cells_of_all s.objects) d.init sizes few here.0.fair.sized here.0.fair.fits in
       all_pass_then Fits (start_of_name p.model (bodies_of items) s d) _
-      (subst (λ z. list_all Fits (start_of_init p.model (bodies_of items) (seen s') (length s.objects) d.ty z d.init) ≡ true) (sym filled)
+      (subst (λ z. list_all Fits (start_of_init p.model (bodies_of items) (seen s') (length s.objects) d.ty z d.init) ≡ true) (sym whole)
       (init_fits s (seen s') d d.init here.0.placed here.0.fair.typed here.0.fair.sized))
       (names_fit s' ds (one_more p.model items s.objects o few here.0.fair.fits) (all_behind (IsGood p items entries) pd _ g))
 
