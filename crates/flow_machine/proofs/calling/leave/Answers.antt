@@ -1,4 +1,6 @@
-use Rattle.std.proofs.Common.{rules, ◌≡◌, Err, arith}
+use Rattle.std.proofs.Common.{rules, ◌≡◌, Err, ◌∷◌, reverse, take, arith}
+use Rattle.flow_machine.specs.Views.{control_of}
+use Rattle.flow_machine.proofs.Fronting.{on_broken, none_broken, leaving_broken}
 use Rattle.flow_machine.proofs.calling.leave.Goals as goal
 
 pub returns-in_err-tell-clause-lasting : goal.returns-in_err-tell-clause-lasting
@@ -11,3 +13,8 @@ returns-in-Some-value-clause-lasting g c = λ sure spare. c.push.ensures.lasting
 
 pub returns-else-frame-clause-lasting : goal.returns-else-frame-clause-lasting
 returns-else-frame-clause-lasting g c = λ sure spare. c.push-in-None.ensures.lasting (omega (arith, spare.stack))
+
+pub returns-in_err-tell-clause-front : goal.returns-in_err-tell-clause-front
+returns-in_err-tell-clause-front g c = λ code.
+    let e : c.from_residual.result ≡ Err c.in_err-tell.field-0.0 = search rules in
+    rw e (none_broken g.W.Watcher.after (Err c.in_err-tell.field-0.0) _ _ _ c.in_err-tell.ensures.still)
