@@ -37,14 +37,16 @@ parted : (ms : List Moment) (xs ys : List Sight) → sights_of ms ≡ xs ++ ys �
 parted ms [] ys h = record { front = []; rest = ms; split = refl; same = refl }
 parted [] (x ∷ xs) ys h = absurd (cc)
 parted (Told e cs ∷ ms) (x ∷ xs) ys h =
-    let first : record { event = e; cells = cs } ≡ x = cc in
+    let d : Sight = record { event = e; cells = cs } in
+    let whole : d ∷ sights_of ms ≡ x ∷ (xs ++ ys) = h in
+    let first : d ≡ x = cc in
     let others : sights_of ms ≡ xs ++ ys = cc in
     let q = parted ms xs ys others in
     record {
       front = Told e cs ∷ q.front;
       rest = q.rest;
       split = ap (λ l. Told e cs ∷ l) q.split;
-      same = ap (λ (d : Sight). d ∷ sights_of q.front) first ∙ ap (λ l. x ∷ l) q.same;
+      same = ap (λ (u : Sight). u ∷ sights_of q.front) first ∙ ap (λ l. x ∷ l) q.same;
     }
 parted (Here spot cs ∷ ms) (x ∷ xs) ys h =
     let q = parted ms (x ∷ xs) ys h in
@@ -92,7 +94,7 @@ module _ (c : Code) where
       ∙ ap noted_in (steps_as (List Sight) (List Sight) noted noted (λ ys. m.run.seen ++ ys) (λ e cs ys. sym (append_assoc m.run.seen ys (record { event = e; cells = cs } ∷ []))) c n z)
       ∙ noted_before (noting n z) m.run.seen
 
-  more_onward : (t : Turn (List Sight)) (n : ℕ) → (more : List Sight) × (noted_in (onward t (noting n)) ≡ noted_in t ++ more)
+  more_onward : (t : Turn (List Sight)) (n : ℕ) → (more : List Sight) × (noted_in (onward t (steps c (List Sight) noted n)) ≡ noted_in t ++ more)
   more_onward (On m) n = (noted_in (noting n (machine_as (λ _. []) m)), noted_after n m)
   more_onward (Short m) n = ([], sym (append-nil m.run.seen))
   more_onward (Over e s) n = ([], sym (append-nil s.seen))
@@ -101,7 +103,7 @@ module _ (c : Code) where
   ends_with_more : (m : Machine (List Sight)) (e : End) (s : State (List Sight)) (n : ℕ) → Ends c (List Sight) noted m e s → (more : List Sight) × (s.seen ≡ noted_in (noting n m) ++ more)
   ends_with_more m e s n g =
       let swap : n + g.count ≡ g.count + n = omega arith in
-      let end : noted_in (noting (g.count + n) m) ≡ s.seen = ap noted_in (steps_on c (List Sight) noted g.count n m) ∙ stopped (noting g.count m) (noting n) e s g.is in
+      let end : noted_in (noting (g.count + n) m) ≡ s.seen = ap noted_in (steps_on c (List Sight) noted g.count n m) ∙ stopped (noting g.count m) (steps c (List Sight) noted n) e s g.is in
       let more = more_onward (noting n m) g.count in
       (more.0, sym end ∙ sym (ap (λ k. noted_in (noting k m)) swap) ∙ ap noted_in (steps_on c (List Sight) noted n g.count m) ∙ more.1)
 
