@@ -88,7 +88,7 @@ module _ (c : Code) where
       passed_after (kept_value y old w) then (record k { stack = stack_at y.place k.stack }) (with_cells (put (key_at y.place k.stack) w s.cells) s)
 
   given_or_not : (b : Bool) (spot : Spot) (f : Frame) (fs : List Frame) (k : Control) (s : State (List Moment))
-      → kept_by (bind (cond b (λ (u : State (List Moment)). Stop (Undefined spot) u) (λ u. Go (pos 0) u) s) (λ w u. Go (record k { at = f.back; stack = w ∷ k.stack; frames = fs }) u)) ≡ s.seen
+      → kept_by (bind (cond {A = State (List Moment) → Res End (State (List Moment)) ℤ} b (λ (u : State (List Moment)). Stop (Undefined spot) u) (λ u. Go (pos 0) u) s) (λ w u. Go (record k { at = f.back; stack = w ∷ k.stack; frames = fs }) u)) ≡ s.seen
   given_or_not true spot f fs k s = refl
   given_or_not false spot f fs k s = refl
 

@@ -1,6 +1,6 @@
 use Rattle.std.proofs.Common.{rules, ◌≡◌, Err, ◌∷◌, reverse, take, arith}
 use Rattle.flow_machine.specs.Views.{control_of}
-use Rattle.flow_machine.proofs.Fronting.{on_broken, none_broken, leaving_broken}
+use Rattle.flow_machine.proofs.Fronting.{on_broken, then_broken, saw_none, leaving_broken}
 use Rattle.flow_machine.proofs.calling.leave.Goals as goal
 
 pub returns-in_err-tell-clause-lasting : goal.returns-in_err-tell-clause-lasting
@@ -17,4 +17,10 @@ returns-else-frame-clause-lasting g c = λ sure spare. c.push-in-None.ensures.la
 pub returns-in_err-tell-clause-front : goal.returns-in_err-tell-clause-front
 returns-in_err-tell-clause-front g c = λ code.
     let e : c.from_residual.result ≡ Err c.in_err-tell.field-0.0 = search rules in
-    rw e (none_broken g.W.Watcher.after (Err c.in_err-tell.field-0.0) _ _ _ c.in_err-tell.ensures.still)
+    rw e (then_broken c.in_err-tell.field-0.0 (saw_none g.W.Watcher.after _ _ _) c.in_err-tell.ensures.still)
+
+pub returns-in-Some-value-clause-front : goal.returns-in-Some-value-clause-front
+returns-in-Some-value-clause-front g c = ?some
+
+pub returns-else-frame-clause-front : goal.returns-else-frame-clause-front
+returns-else-frame-clause-front g c = ?none
