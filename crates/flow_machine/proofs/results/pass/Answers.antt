@@ -1,6 +1,5 @@
 use Rattle.std.proofs.Common.{rules, ◌≡◌, Err, refl, arith}
 use Rattle.flow_machine.proofs.Fronting.{on_broken}
-use Rattle.flow_machine.proofs.Breaking.{breaks_off}
 use Rattle.flow_machine.proofs.results.pass.Goals as goal
 
 pub returns-in-Push-clause-lasting : goal.returns-in-Push-clause-lasting
