@@ -5,9 +5,11 @@ use c_calls::changed;
 use c_core::{PlaceKind, Program, Spot};
 use row_files::{Files, NotTried, Row};
 use std::alloc::{AllocError, Global};
+use way_bind::place_named;
 use way_names::names_at;
-use way_places::{place_at, places};
+use way_places::{Index, places};
 use wv_base::{OutOfMemory, Seq};
+use wv_schema::Location;
 
 fn word(kind: PlaceKind) -> &'static str {
     match kind {
@@ -68,17 +70,17 @@ fn objects_told(alloc: Global, program: &Program, objects: &[u32]) -> Result<Str
     Ok(or_none(alloc, text)?)
 }
 
-fn at_statement(alloc: Global, program: &Program, at: Spot) -> Result<Seq<u32>, NotTried> {
-    match place_at(program, PlaceKind::Statement, at.line, Some(at.column)) {
-        Some(spot) => Ok(names_at(alloc, program, PlaceKind::Statement, spot)?),
+fn at_statement(alloc: Global, index: &Index, location: &Location) -> Result<Seq<u32>, NotTried> {
+    match place_named(index, PlaceKind::Statement, location) {
         None => Err(NotTried::Lacks("a statement there")),
+        Some(spot) => Ok(names_at(alloc, index.program(), PlaceKind::Statement, spot)?),
     }
 }
 
-fn at_loop(alloc: Global, program: &Program, at: Spot) -> Result<Seq<u32>, NotTried> {
-    match place_at(program, PlaceKind::Loop, at.line, Some(at.column)) {
-        Some(spot) => Ok(names_at(alloc, program, PlaceKind::Loop, spot)?),
+fn at_loop(alloc: Global, index: &Index, location: &Location) -> Result<Seq<u32>, NotTried> {
+    match place_named(index, PlaceKind::Loop, location) {
         None => Err(NotTried::Lacks("a loop there")),
+        Some(spot) => Ok(names_at(alloc, index.program(), PlaceKind::Loop, spot)?),
     }
 }
 
@@ -90,9 +92,16 @@ pub fn visible(files: &Files<'_>, row: &Row) -> Result<String, NotTried> {
         return Err(NotTried::Lacks("a kind of places and a place"));
     };
     let spot = spot_of(place)?;
+    let location = Location {
+        file_name: None,
+        line: spot.line,
+        column: Some(spot.column),
+        function: None,
+    };
+    let index = Index::new(alloc, &program)?;
     let objects = match kind {
-        "statement" => at_statement(alloc, &program, spot)?,
-        "loop" => at_loop(alloc, &program, spot)?,
+        "statement" => at_statement(alloc, &index, &location)?,
+        "loop" => at_loop(alloc, &index, &location)?,
         _ => return Err(NotTried::Lacks("a kind of places at which names are visible")),
     };
     Ok(objects_told(alloc, &program, objects.as_slice())?)
