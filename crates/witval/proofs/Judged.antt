@@ -1,5 +1,5 @@
 -- The reply to the bytes read is the reply that the files call for.
-use Rattle.std.proofs.Common.{◌≡◌, Result, Ok, Err, IfOk, ℕ, List, Bool, true, false, Option, Some, None, IfSome, codes, refl, sym, subst, inl}
+use Rattle.std.proofs.Common.{◌≡◌, ◌≤◌, length, Result, Ok, Err, IfOk, ℕ, List, Bool, true, false, Option, Some, None, codes, refl, sym, subst, inl}
 use Rattle.std.proofs.lemmas.List.Elements.{All-nil}
 use Rattle.std.specs.Str.{bytes_eq}
 use Rattle.c_core.specs.declared.number.DataModel.{DataModel}
@@ -28,7 +28,7 @@ use Rattle.way_bind.specs.declared.fault.BindFault.{BindFault}
 use Rattle.way_bind.specs.declared.fault.BindFault.TheVariants as bind
 use Rattle.way_match.specs.Points.{BoundSegment}
 use Rattle.way_match.specs.View.{segments_view}
-use Rattle.wv_base.specs.Shelf.{ShelfState, Files, file_of}
+use Rattle.wv_base.specs.Shelf.{ShelfState}
 use Rattle.wv_report.specs.Json.{HasJsonIntegers, IsJsonInteger}
 use Rattle.wv_report.specs.declared.reply.Reply.{Reply}
 use Rattle.wv_report.specs.declared.reply.Reply.TheVariants.{Verdict as Judged, Refused, ReadFault}
@@ -44,16 +44,18 @@ use Rattle.wv_arguments.specs.Words.{Budgets, Command}
 use Rattle.wv_yaml.specs.declared.tree.Tree.{Tree}
 use Rattle.yaml_scalars.specs.declared.fault.YamlFault.{YamlFault}
 use Rattle.yaml_scalars.specs.declared.fault.YamlFault.TheVariants.{Bytes, Grammar, Duplicate, OutOfMemory}
-use Rattle.witval.specs.Inputs.{OfFiles, AreInputs, IsWitness, ToldOne}
+use Rattle.witval.specs.Inputs.{AreInputs, AreWithin, Told, ToldOne, limit_of}
 use Rattle.witval.specs.Refusals.{IsBindRefusal, IsCheckRefusal, IsObligationRefusal, IsRefusal, IsSchemaRefusal, IsSyntaxRefusal, IsTaskRefusal, IsTokenRefusal, check_code, place_text, plain}
 use Rattle.witval.specs.Stages.{given, known, choosing, itself}
 use Rattle.witval.specs.Tasks.{JudgesSets, RightOnInputs, RightOnPlaced, RightOnProgram, RightOnSegments, RightOnSequence, RightOnSets, Tells, holds_sets}
 use Rattle.witval.specs.inside.Rests.{RightOnSource, RightOnText, RightOnTokens, RightOnTree, RightOnWitness, RightUnder}
-use Rattle.witval.specs.Replies.{CanonicalIn, NoReply, NoTreeReply, NoWitnessReply, OnWitness, SummaryIn, RightAlone, RightOnBytes, RightFor, too_long}
+use Rattle.witval.specs.Replies.{CanonicalIn, NoReply, NoTreeReply, NoWitnessReply, SummaryIn, RightAlone, RightFor, too_long}
+use Rattle.witval.specs.declared.input.File.TheVariants.{Witness as WitnessFile}
 use Rattle.witval.specs.declared.input.Inputs.{Inputs}
 use Rattle.witval.specs.declared.demonstration.Demonstration.{Demonstration}
 use Rattle.witval.specs.declared.output.Output.{Output}
 use Rattle.witval.specs.declared.output.Output.TheVariants.{Report, Canonical, Summary, Demo as Demonstrated}
+use Rattle.witval.proofs.OfBytes.{of_one, of_read}
 use Rattle.witval.proofs.ShownValues.{sets_show_integers, shows_integers}
 
 -- a reply that is neither a read fault nor the refusal of a long file; a verdict shows no number beyond 64 bits
@@ -208,32 +210,19 @@ unfolding NotOfLength
 inputs_not_of_length budgets program property witness reply right =
     given_kept (plain (codes "property")) (property_of property) (RightUnder budgets program witness) refl (under budgets program witness) reply right
 
--- the files hold the bytes that were read
-on_files : (budgets : Budgets) (program property witness : List ℕ) (inputs : Inputs) (reply : Reply) → AreInputs inputs program property witness
-    → RightOnInputs budgets inputs.program.items inputs.property.items inputs.witness.items reply → RightOnBytes budgets reply program property witness
-on_files budgets program property witness inputs reply a right =
-    rw a.lengths
-    (subst (λ x. RightOnInputs budgets x property witness reply) a.program_read
-    (subst (λ x. RightOnInputs budgets inputs.program.items x witness reply) a.property_read
-    (subst (λ x. RightOnInputs budgets inputs.program.items inputs.property.items x reply) a.witness_read right)))
-
-told : (command : Command) (budgets : Budgets) (files : Option Files) (inputs : Inputs) (reply : Reply) → IfSome files (λ files. OfFiles command files (AreInputs inputs))
-    → RightOnInputs budgets inputs.program.items inputs.property.items inputs.witness.items reply → IfSome files (λ files. OfFiles command files (RightOnBytes budgets reply))
-told command budgets None inputs reply a right = tt
-told command budgets (Some files) inputs reply a right = on_files budgets _ _ _ inputs reply a right
-
-judged : (command : Command) (budgets : Budgets) (old new : ShelfState) (inputs : Inputs) (reply : Reply) → IfSome old.files (λ files. OfFiles command files (AreInputs inputs))
+judged : (command : Command) (budgets : Budgets) (old new : ShelfState) (inputs : Inputs) (reply : Reply) → AreWithin inputs → Told command old (AreInputs inputs)
     → RightOnInputs budgets inputs.program.items inputs.property.items inputs.witness.items reply → NotOfLength reply → RightFor command budgets old new reply
 unfolding NotOfLength
-judged command budgets old new inputs (Refused code detail) a right other = (told command budgets old.files inputs (Refused code detail) a right, inl other)
-judged command budgets old new inputs (Judged verdict) a right other = told command budgets old.files inputs (Judged verdict) a right
-judged command budgets old new inputs (ReadFault file) a right other = absurd other
+judged command budgets old new inputs (Refused code detail) short a right other = (of_read command budgets old inputs (Refused code detail) short a right, inl other)
+judged command budgets old new inputs (Judged verdict) short a right other = of_read command budgets old inputs (Judged verdict) short a right
+judged command budgets old new inputs (ReadFault file) short a right other = absurd other
 
 -- the answer of the judge, for the files that the command names
-pub judged_if : {E : Type 0} (command : Command) (budgets : Budgets) (old new : ShelfState) (inputs : Inputs) (result : Result Reply E) → IfSome old.files (λ files. OfFiles command files (AreInputs inputs))
+pub judged_if : {E : Type 0} (command : Command) (budgets : Budgets) (old new : ShelfState) (inputs : Inputs) (result : Result Reply E) → AreWithin inputs → Told command old (AreInputs inputs)
     → IfOk result (RightOnInputs budgets inputs.program.items inputs.property.items inputs.witness.items) → IfOk result (RightFor command budgets old new)
-judged_if command budgets old new inputs (Ok reply) a right = judged command budgets old new inputs reply a right (inputs_not_of_length budgets inputs.program.items inputs.property.items inputs.witness.items reply right)
-judged_if command budgets old new inputs (Err e) a right = tt
+judged_if command budgets old new inputs (Ok reply) short a right =
+    judged command budgets old new inputs reply short a right (inputs_not_of_length budgets inputs.program.items inputs.property.items inputs.witness.items reply right)
+judged_if command budgets old new inputs (Err e) short a right = tt
 
 -- it shows no number beyond 64 bits
 integers : (reply : Reply) → NotOfLength reply → HasJsonIntegers reply
@@ -289,31 +278,22 @@ RefusesOnly Within bytes = (reply : Reply) → Within (Report reply) bytes → I
 abbrev NoDemo : (Output → List ℕ → Type 0) → List ℕ → Type 0
 NoDemo Within bytes = (demo : Demonstration) → Within (Demonstrated demo) bytes → ⊥
 
--- the file holds the bytes that were read
-on_file : (Within : Output → List ℕ → Type 0) (witness bytes : List ℕ) (output : Output) → IsWitness bytes witness → Within output bytes → OnWitness Within output witness
-on_file Within witness bytes output a right = rw (a.not_long, ← a.read) right
-
-told_one : (Within : Output → List ℕ → Type 0) (name : List ℕ) (files : Option Files) (bytes : List ℕ) (output : Output) → IfSome files (λ files. IsWitness bytes (file_of files name))
-    → Within output bytes → IfSome files (λ files. OnWitness Within output (file_of files name))
-told_one Within name None bytes output a right = tt
-told_one Within name (Some files) bytes output a right = on_file Within _ bytes output a right
-
 alone : (Within : Output → List ℕ → Type 0) (name : List ℕ) (old new : ShelfState) (bytes : List ℕ) (output : Output) → RefusesOnly Within bytes → NoDemo Within bytes
-    → ToldOne name old (IsWitness bytes) → Within output bytes → RightAlone Within name old new output
+    → length bytes ≤ limit_of WitnessFile → ToldOne name old (λ told. bytes ≡ told) → Within output bytes → RightAlone Within name old new output
 unfolding IsRefused NotOfLength
-alone Within name old new bytes (Report (Refused code detail)) only none a right = (told_one Within name old.files bytes _ a right, inl (only _ right).1)
-alone Within name old new bytes (Report (ReadFault file)) only none a right = absurd (only _ right).0
-alone Within name old new bytes (Report (Judged verdict)) only none a right = absurd (only _ right).0
-alone Within name old new bytes (Canonical text) only none a right = told_one Within name old.files bytes _ a right
-alone Within name old new bytes (Summary text) only none a right = told_one Within name old.files bytes _ a right
-alone Within name old new bytes (Demonstrated demo) only none a right = absurd (none demo right)
+alone Within name old new bytes (Report (Refused code detail)) only none short a right = (of_one Within name old bytes _ short a right, inl (only _ right).1)
+alone Within name old new bytes (Report (ReadFault file)) only none short a right = absurd (only _ right).0
+alone Within name old new bytes (Report (Judged verdict)) only none short a right = absurd (only _ right).0
+alone Within name old new bytes (Canonical text) only none short a right = of_one Within name old bytes _ short a right
+alone Within name old new bytes (Summary text) only none short a right = of_one Within name old bytes _ short a right
+alone Within name old new bytes (Demonstrated demo) only none short a right = absurd (none demo right)
 
-pub canonical_if : {E : Type 0} (name : List ℕ) (old new : ShelfState) (bytes : List ℕ) (result : Result Output E) → ToldOne name old (IsWitness bytes)
-    → IfOk result (λ output. CanonicalIn output bytes) → IfOk result (RightAlone CanonicalIn name old new)
-canonical_if name old new bytes (Ok output) a right = alone CanonicalIn name old new bytes output (λ reply r. no_tree r.0 reply r.2) (λ demo r. r) a right
-canonical_if name old new bytes (Err e) a right = tt
+pub canonical_if : {E : Type 0} (name : List ℕ) (old new : ShelfState) (bytes : List ℕ) (result : Result Output E) → length bytes ≤ limit_of WitnessFile
+    → ToldOne name old (λ told. bytes ≡ told) → IfOk result (λ output. CanonicalIn output bytes) → IfOk result (RightAlone CanonicalIn name old new)
+canonical_if name old new bytes (Ok output) short a right = alone CanonicalIn name old new bytes output (λ reply r. no_tree r.0 reply r.2) (λ demo r. r) short a right
+canonical_if name old new bytes (Err e) short a right = tt
 
-pub shown_if : {E : Type 0} (name : List ℕ) (old new : ShelfState) (bytes : List ℕ) (result : Result Output E) → ToldOne name old (IsWitness bytes)
-    → IfOk result (λ output. SummaryIn output bytes) → IfOk result (RightAlone SummaryIn name old new)
-shown_if name old new bytes (Ok output) a right = alone SummaryIn name old new bytes output (λ reply r. no_summary r.0 reply r.2) (λ demo r. r) a right
-shown_if name old new bytes (Err e) a right = tt
+pub shown_if : {E : Type 0} (name : List ℕ) (old new : ShelfState) (bytes : List ℕ) (result : Result Output E) → length bytes ≤ limit_of WitnessFile
+    → ToldOne name old (λ told. bytes ≡ told) → IfOk result (λ output. SummaryIn output bytes) → IfOk result (RightAlone SummaryIn name old new)
+shown_if name old new bytes (Ok output) short a right = alone SummaryIn name old new bytes output (λ reply r. no_summary r.0 reply r.2) (λ demo r. r) short a right
+shown_if name old new bytes (Err e) short a right = tt

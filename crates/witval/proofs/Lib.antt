@@ -1,4 +1,6 @@
 pub mod ShownValues
+pub mod OfBytes
+pub mod Completed
 pub mod Judged
 pub mod JudgedTask
 pub mod FewWaypoints

@@ -80,6 +80,16 @@ Told command shelf P = IfSome shelf.files (λ files. OfFiles command files P)
 abbrev pub ToldOne : List ℕ → ShelfState → (List ℕ → Type 0) → Type 0
 ToldOne name shelf P = IfSome shelf.files (λ files. P (file_of files name))
 
+-- this holds of some bytes of the three files; where the files are told, these are theirs
+abbrev pub OfBytes : Command → ShelfState → (List ℕ → List ℕ → List ℕ → Type 0) → Type 0
+OfBytes command shelf P =
+    (program : List ℕ) × (property : List ℕ) × (witness : List ℕ) × P program property witness
+    × Told command shelf (λ told_program told_property told_witness. (program ≡ told_program) × (property ≡ told_property) × (witness ≡ told_witness))
+
+-- the same of one file
+abbrev pub OfOne : List ℕ → ShelfState → (List ℕ → Type 0) → Type 0
+OfOne name shelf P = (bytes : List ℕ) × P bytes × ToldOne name shelf (λ told. bytes ≡ told)
+
 -- why reading stopped
 abbrev pub RightStop : Command → ShelfState → ShelfState → Stop → Type 0
 RightStop command old new (Fault file) = FaultedAt command file old new
@@ -92,20 +102,14 @@ RightStopAlone name old new (Fault file) = (file ≡ Witness) × Faulted 1 name 
 RightStopAlone name old new (TooLong file) = (file ≡ Witness) × (TookTooMuch 1 name (limit_of Witness) old new × ToldOne name old (λ witness. too_long_alone witness ≡ Some Witness))
 RightStopAlone name old new OutOfMemory = Unit {0}
 
--- the bytes of a witness that isn't too long
-pub record IsWitness (bytes witness : List ℕ) : Type 0 where
-  pub read : bytes ≡ witness
-  pub not_long : too_long_alone witness ≡ None
-
 -- none of them is longer than its limit
 pub record AreWithin (inputs : Inputs) : Type 0 where
   pub program_within : length inputs.program.items ≤ limit_of Program
   pub property_within : length inputs.property.items ≤ limit_of Property
   pub witness_within : length inputs.witness.items ≤ limit_of Witness
 
--- the bytes of the three files, none of which is too long
+-- the bytes of the three files
 pub record AreInputs (inputs : Inputs) (program property witness : List ℕ) : Type 0 where
   pub program_read : inputs.program.items ≡ program
   pub property_read : inputs.property.items ≡ property
   pub witness_read : inputs.witness.items ≡ witness
-  pub lengths : first_too_long program property witness ≡ None

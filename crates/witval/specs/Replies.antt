@@ -11,7 +11,7 @@ use Rattle.wv_arguments.specs.Words.{Command, Budgets, Wanted, Validate, Show, N
 use Rattle.wv_yaml.specs.declared.tree.Tree.{Tree}
 use Rattle.wv_yaml.specs.Canon.{canon}
 use Rattle.wv_yaml.specs.Reading.{IsAnswer}
-use Rattle.witval.specs.Inputs.{Told, ToldOne, Faulted, FaultedAt, TookTooMuch, TookTooMuchOf, word_of, limit_of, first_too_long, too_long_alone}
+use Rattle.witval.specs.Inputs.{OfBytes, OfOne, Faulted, FaultedAt, TookTooMuch, TookTooMuchOf, word_of, limit_of, first_too_long, too_long_alone}
 use Rattle.witval.specs.Refusals.{IsRefusal, IsSchemaRefusal, plain}
 use Rattle.witval.specs.Stages.{known, answered, itself}
 use Rattle.witval.specs.Tasks.{RightOnInputs}
@@ -38,11 +38,12 @@ RightOnBytes budgets reply program property witness = RightAfter (first_too_long
 abbrev pub TooLongBy : Command → ShelfState → ShelfState → List ℕ → List ℕ → Type 0
 TooLongBy command old new code detail = (bytes_eq code too_long ≡ false) ⊎ ((file : File) × (detail ≡ word_of file) × TookTooMuchOf command file old new)
 
--- the reply to a command: a read fault by the shelf's counts, or else what the files call for, where they are told
+-- the reply to a command: a read fault by the shelf's counts, or else what the bytes of three files call for, which are the told ones
+-- where the files are told
 abbrev pub RightFor : Command → Budgets → ShelfState → ShelfState → Reply → Type 0
 RightFor command budgets old new (ReadFault text) = (file : File) × (text ≡ word_of file) × FaultedAt command file old new
-RightFor command budgets old new (Refused code detail) = Told command old (RightOnBytes budgets (Refused code detail)) × TooLongBy command old new code detail
-RightFor command budgets old new (Judged verdict) = Told command old (RightOnBytes budgets (Judged verdict))
+RightFor command budgets old new (Refused code detail) = OfBytes command old (RightOnBytes budgets (Refused code detail)) × TooLongBy command old new code detail
+RightFor command budgets old new (Judged verdict) = OfBytes command old (RightOnBytes budgets (Judged verdict))
 
 -- where a verdict is asked for, a report is written and nothing else
 abbrev pub RightVerdict : Command → Budgets → ShelfState → ShelfState → Output → Type 0
@@ -97,13 +98,14 @@ OnWitness Within output witness = AfterLength (too_long_alone witness) Within ou
 abbrev pub TooLongAlone : List ℕ → ShelfState → ShelfState → List ℕ → List ℕ → Type 0
 TooLongAlone name old new code detail = (bytes_eq code too_long ≡ false) ⊎ ((detail ≡ word_of WitnessFile) × TookTooMuch 1 name (limit_of WitnessFile) old new)
 
--- the output for a witness's name: a read fault by the shelf's counts, or else what the file calls for, where it is told
+-- the output for a witness's name: a read fault by the shelf's counts, or else what the bytes of a file call for, which are the told
+-- ones where the files are told
 abbrev pub RightAlone : (Output → List ℕ → Type 0) → List ℕ → ShelfState → ShelfState → Output → Type 0
 RightAlone Within name old new (Report (ReadFault text)) = (text ≡ word_of WitnessFile) × Faulted 1 name old new
-RightAlone Within name old new (Report (Refused code detail)) = ToldOne name old (OnWitness Within (Report (Refused code detail))) × TooLongAlone name old new code detail
+RightAlone Within name old new (Report (Refused code detail)) = OfOne name old (OnWitness Within (Report (Refused code detail))) × TooLongAlone name old new code detail
 RightAlone Within name old new (Report (Judged verdict)) = ⊥
-RightAlone Within name old new (Canonical text) = ToldOne name old (OnWitness Within (Canonical text))
-RightAlone Within name old new (Summary text) = ToldOne name old (OnWitness Within (Summary text))
+RightAlone Within name old new (Canonical text) = OfOne name old (OnWitness Within (Canonical text))
+RightAlone Within name old new (Summary text) = OfOne name old (OnWitness Within (Summary text))
 RightAlone Within name old new (Demonstrated demo) = ⊥
 
 -- words that ask for nothing

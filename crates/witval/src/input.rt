@@ -1,5 +1,6 @@
-ghost use Rattle.std.specs.Prelude.{◌≡◌, IfOk, IfErr};
-ghost use Rattle.witval.specs.Inputs.{AreInputs, AreWithin, IsWitness, RightStop, RightStopAlone, Told, ToldOne};
+ghost use Rattle.std.specs.Prelude.{◌≡◌, ◌≤◌, length, IfOk, IfErr};
+ghost use Rattle.witval.specs.Inputs.{AreInputs, AreWithin, RightStop, RightStopAlone, Told, ToldOne, limit_of};
+ghost use Rattle.witval.specs.declared.input.File.TheVariants as file;
 ghost use Rattle.wv_arguments.specs.Requests.{named};
 
 use std::alloc::Global;
@@ -69,7 +70,8 @@ pub fn read_three<S: Shelf>(alloc: Global, names: &Names<'_>, shelf: &mut S) -> 
 
 /// Reads a witness alone.
 pub fn read_one<S: Shelf>(alloc: Global, name: &str, shelf: &mut S) -> Result<Vec<u8>, Stop>
-    ensures witness { IfOk result (λ bytes. ToldOne name.now (S.state shelf.old) (IsWitness bytes.items)) }
+    ensures witness { IfOk result (λ bytes. ToldOne name.now (S.state shelf.old) (λ told. bytes.items ≡ told)) }
+    ensures within { IfOk result (λ bytes. length bytes.items ≤ limit_of file.Witness) }
     ensures stop { IfErr result (RightStopAlone name.now (S.state shelf.old) (S.state shelf.new)) }
     ensures same_files { (S.state shelf.new).files ≡ (S.state shelf.old).files }
 {
