@@ -2,4 +2,4 @@ use Rattle.witval.proofs.Judged.{canonical_if}
 use Rattle.witval.proofs.answer.normalise.Goals as goal
 
 pub returns-in-Ok-clause-right : goal.returns-in-Ok-clause-right
-returns-in-Ok-clause-right g c = canonical_if _ _ _ c.in-Ok.bytes.items _ c.in-Ok.ensures.witness (rw c.deref.ensures.value at c.canonical.ensures)
+returns-in-Ok-clause-right g c = canonical_if _ _ _ c.in-Ok.bytes.items _ c.in-Ok.ensures.within c.in-Ok.ensures.witness (rw c.deref.ensures.value at c.canonical.ensures)
