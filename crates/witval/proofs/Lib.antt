@@ -1,6 +1,5 @@
 pub mod ShownValues
 pub mod OfBytes
-pub mod Completed
 pub mod Judged
 pub mod JudgedTask
 pub mod FewWaypoints
