@@ -7,10 +7,6 @@ use Rattle.clauses.specs.declared.log.Chain.{Chain}
 use Rattle.clauses.specs.declared.log.Refutation.{Refutation}
 use Rattle.clauses.specs.declared.log.Resolve.{Resolve}
 
--- a line feed ends each line
-abbrev pub line : List ℕ → List ℕ
-line text = text ++ 10 ∷ []
-
 -- a resolution: the clause, a colon, the variable
 abbrev pub step_text : Resolve → List ℕ
 step_text step = codes " " ++ decimal step.with ++ codes ":" ++ decimal step.on
@@ -19,13 +15,21 @@ step_text step = codes " " ++ decimal step.with ++ codes ":" ++ decimal step.on
 abbrev pub number_text : ℤ → List ℕ
 number_text number = codes " " ++ signed_decimal number
 
--- a chain: the clause that it starts from, its resolutions, an equals sign, the numbers of the clause that it gives
+-- resolutions in a row, and an equals sign
+abbrev pub steps_text : List Resolve → List ℕ
+steps_text steps = flat_map step_text steps ++ codes " ="
+
+-- the numbers of a clause, and the line's end
+abbrev pub clause_text : List ℤ → List ℕ
+clause_text numbers = flat_map number_text numbers ++ codes "\n"
+
+-- a chain: the clause that it starts from, its resolutions, and the clause that it gives
 abbrev pub chain_line : Chain → List ℕ
-chain_line chain = line (decimal chain.start ++ flat_map step_text chain.steps ++ codes " =" ++ flat_map number_text chain.gives)
+chain_line chain = decimal chain.start ++ steps_text chain.steps ++ clause_text chain.gives
 
 -- the first line of a log: the number of its obligation and of its chains
 abbrev pub log_line : ℕ → ℕ → List ℕ
-log_line obligation chains = line (codes "obligation " ++ decimal obligation ++ codes " chains " ++ decimal chains)
+log_line obligation chains = codes "obligation " ++ decimal obligation ++ codes " chains " ++ decimal chains ++ codes "\n"
 
 -- a log: its first line, and a line for each chain
 abbrev pub log_text : ℕ → Refutation → List ℕ
@@ -38,7 +42,7 @@ log_texts obligation (log ∷ logs) = log_text obligation log ++ log_texts (obli
 
 -- what stands before the logs: the format and how many they are
 abbrev pub heading : ℕ → List ℕ
-heading obligations = line (codes "witval certificate 1") ++ line (codes "obligations " ++ decimal obligations)
+heading obligations = codes "witval certificate 1\nobligations " ++ decimal obligations ++ codes "\n"
 
 -- the whole text
 unfoldable pub certificate_text : List Refutation → List ℕ
@@ -60,10 +64,13 @@ pub record IsChain (chain : Chain) : Type 0 where
   pub steps : All IsStep chain.steps
   pub gives : IsClause chain.gives
 
-abbrev pub IsLog : Refutation → Type 0
-IsLog log = All IsChain log.chains
+-- as many chains as a list in memory can have
+pub record IsLog (log : Refutation) : Type 0 where
+  pub many : length log.chains < 2 ^ 64
+  pub chains : All IsChain log.chains
 
 -- the bytes are the text of these logs
 pub record IsCertificate (logs : List Refutation) (bytes : List ℕ) : Type 0 where
+  pub many : length logs < 2 ^ 64
   pub fine : All IsLog logs
   pub text : bytes ≡ certificate_text logs

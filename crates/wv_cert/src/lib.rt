@@ -2,6 +2,14 @@
 //! `read_certificate` reads exactly it.
 #![tactic(auto)]
 
+mod cursor;
 mod fault;
+mod laws;
+mod numbers;
+mod reading;
+mod writing;
 
 pub use fault::CertFault;
+pub use laws::{one_list, read_back};
+pub use reading::read_certificate;
+pub use writing::certify;

@@ -1,0 +1,7 @@
+mod Digits
+mod Words
+mod Items
+mod Shapes
+mod Chains
+mod Logs
+mod Faults
