@@ -1,8 +1,8 @@
 -- A fault that is handed on.
-use Rattle.std.proofs.Common.{◌≡◌, ◌++◌, ℕ, List, Result, Err}
+use Rattle.std.proofs.Common.{◌≡◌, ◌++◌, ℕ, List, Result, Err, refl}
 use Rattle.wv_cert.specs.declared.fault.CertFault.{CertFault}
 use Rattle.wv_cert.specs.declared.fault.CertFault.TheVariants.{Form, OutOfMemory}
-use Rattle.wv_cert.specs.Reading.{AnswersFor, Gets}
+use Rattle.wv_cert.specs.Reading.{AnswersFor, Gets, ReadsBack}
 use Rattle.wv_cert.specs.Text.{IsCertificate}
 use Rattle.clauses.specs.declared.log.Refutation.{Refutation}
 
@@ -18,3 +18,8 @@ pub failed_at_all : {A : Type 0} (IsPart : A → Type 0) (part_text : A → List
     → (((a : A) (rest : List ℕ) → IsPart a → mid ≡ part_text a ++ rest → ⊥) → (logs : List Refutation) → IsCertificate logs bytes → ⊥) → AnswersFor bytes (Err e)
 failed_at_all IsPart part_text bytes mid last Form h k = k h
 failed_at_all IsPart part_text bytes mid last OutOfMemory h k = tt
+
+-- the certificate of logs is some certificate
+pub only_memory : (logs : List Refutation) (bytes : List ℕ) (e : CertFault) → IsCertificate logs bytes → AnswersFor bytes (Err e) → ReadsBack logs (Err e)
+only_memory logs bytes Form is none = absurd (none logs is)
+only_memory logs bytes OutOfMemory is none = refl

@@ -1,4 +1,4 @@
--- Texts of lists: things in a row up to a word, and so many lines.
+-- Texts of lists: things in a row up to a word, and lines in a number.
 use Rattle.std.proofs.Common.{◌≡◌, ◌<◌, ◌≤◌, ◌+◌, ◌-◌, ℕ, List, [], ◌∷◌, ◌++◌, ◌⊎◌, inl, inr, zero, suc, length, append_assoc, arith, refl, sym, ap, subst, ◌∙◌}
 use Rattle.std.specs.List.{All, flat_map}
 use Rattle.std.proofs.lemmas.List.{append-nil, append_cancel_left, length-append}
@@ -32,7 +32,7 @@ ends_between IsFine text_of word are [] now ends = ends
 ends_between IsFine text_of word are (a ∷ these) now ends =
     subst EndsNumber (sym (append_assoc (text_of a) (flat_map text_of these) now)) (are.parted a (flat_map text_of these ++ now))
 
-ends_less : {A : Type 0} (these : List A) (now : List ℕ) → EndsNumber now → Ends these now
+pub ends_less : {A : Type 0} (these : List A) (now : List ℕ) → EndsNumber now → Ends these now
 ends_less [] now ends = tt
 ends_less (a ∷ these) now ends = ends
 
@@ -43,18 +43,18 @@ pub record Left {A : Type 0} (IsFine : A → Type 0) (text_of : A → List ℕ) 
   pub fine : All IsFine more
   pub text : now ≡ flat_map text_of more ++ end
 
-pub left : {A : Type 0} (IsFine : A → Type 0) (text_of : A → List ℕ) (word : List ℕ) → AreItems IsFine text_of word → (done these : List A) (now rest : List ℕ)
+pub left_of : {A : Type 0} (IsFine : A → Type 0) (text_of : A → List ℕ) (word : List ℕ) → AreItems IsFine text_of word → (done these : List A) (now rest : List ℕ)
     → All IsFine done → All IsFine these → Ends done now → flat_map text_of done ++ now ≡ flat_map text_of these ++ (word ++ rest)
     → Left IsFine text_of these done now (word ++ rest)
-left IsFine text_of word are [] these now rest fine good ends is = record { more = these; all = refl; fine = good; text = is }
-left IsFine text_of word are (d ∷ done) [] now rest fine good ends is =
+left_of IsFine text_of word are [] these now rest fine good ends is = record { more = these; all = refl; fine = good; text = is }
+left_of IsFine text_of word are (d ∷ done) [] now rest fine good ends is =
     absurd (are.apart d rest (flat_map text_of done ++ now) (All-head IsFine d done fine) (sym is ∙ append_assoc (text_of d) (flat_map text_of done) now))
-left IsFine text_of word are (d ∷ done) (a ∷ these) now rest fine good ends is =
+left_of IsFine text_of word are (d ∷ done) (a ∷ these) now rest fine good ends is =
     let regrouped : text_of d ++ (flat_map text_of done ++ now) ≡ text_of a ++ (flat_map text_of these ++ (word ++ rest))
     = sym (append_assoc (text_of d) (flat_map text_of done) now) ∙ is ∙ append_assoc (text_of a) (flat_map text_of these) (word ++ rest) in
     let same = are.one d a _ _ (All-head IsFine d done fine) (All-head IsFine a these good) (ends_between IsFine text_of word are done now ends)
     (ends_after IsFine text_of word are these rest) regrouped in
-    let further = left IsFine text_of word are done these now rest (All-tail IsFine d done fine) (All-tail IsFine a these good) (ends_less done now ends) same.1 in
+    let further = left_of IsFine text_of word are done these now rest (All-tail IsFine d done fine) (All-tail IsFine a these good) (ends_less done now ends) same.1 in
     record { more = further.more; all = ap (λ b. b ∷ these) (sym same.0) ∙ ap (λ those. d ∷ those) further.all; fine = further.fine; text = further.text }
 
 next_of : {A : Type 0} (IsFine : A → Type 0) (text_of : A → List ℕ) (word : List ℕ) → AreItems IsFine text_of word → (now rest : List ℕ)
@@ -70,7 +70,7 @@ pub stuck : {A : Type 0} (IsFine : A → Type 0) (text_of : A → List ℕ) (wor
     → All IsFine done → All IsFine these → Ends done now → flat_map text_of done ++ now ≡ flat_map text_of these ++ (word ++ rest)
     → ((rest : List ℕ) → now ≡ word ++ rest → ⊥) → ((a : A) (rest : List ℕ) → IsFine a → EndsNumber rest → now ≡ text_of a ++ rest → ⊥) → ⊥
 stuck IsFine text_of word are done these now rest fine good ends is no_word no_item =
-    let here = left IsFine text_of word are done these now rest fine good ends is in
+    let here = left_of IsFine text_of word are done these now rest fine good ends is in
     next_of IsFine text_of word are now rest no_word no_item here.more here.fine here.text
 
 last : {A : Type 0} (IsFine : A → Type 0) (text_of : A → List ℕ) (word : List ℕ) → AreItems IsFine text_of word → (these those : List A) (x y : List ℕ)
@@ -83,10 +83,10 @@ last IsFine text_of word are these those x y (a ∷ more) all fine is =
 pub one_list : {A : Type 0} (IsFine : A → Type 0) (text_of : A → List ℕ) (word : List ℕ) → AreItems IsFine text_of word → (these those : List A) (x y : List ℕ)
     → All IsFine these → All IsFine those → flat_map text_of these ++ (word ++ x) ≡ flat_map text_of those ++ (word ++ y) → (these ≡ those) × (x ≡ y)
 one_list IsFine text_of word are these those x y fine good is =
-    let here = left IsFine text_of word are these those (word ++ x) y fine good (ends_less these (word ++ x) (are.ended x)) is in
+    let here = left_of IsFine text_of word are these those (word ++ x) y fine good (ends_less these (word ++ x) (are.ended x)) is in
     last IsFine text_of word are these those x y here.more here.all here.fine here.text
 
--- ---- so many lines
+-- ---- lines in a number
 
 -- a text begins with one such line at most
 abbrev pub AreLines : {A : Type 0} → (A → Type 0) → (A → List ℕ) → Type 0
@@ -118,7 +118,7 @@ lines_stuck IsFine text_of are done these now rest fine good few is no_line =
     let here = lines_left IsFine text_of are done these now rest fine good (omega arith) is in
     next_line IsFine text_of now rest no_line here.more here.fine here.text (omega (arith, ap length here.all, length-append done here.more))
 
--- a text begins with one list of so many lines at most
+-- a text begins with one list of lines in a number at most
 pub one_list_of_lines : {A : Type 0} (IsFine : A → Type 0) (text_of : A → List ℕ) → AreLines IsFine text_of → (these those : List A) (x y : List ℕ)
     → All IsFine these → All IsFine those → length these ≡ length those → flat_map text_of these ++ x ≡ flat_map text_of those ++ y → (these ≡ those) × (x ≡ y)
 one_list_of_lines IsFine text_of are [] [] x y fine good many is = (refl, is)

@@ -1,5 +1,5 @@
 -- Logs, and the whole text.
-use Rattle.std.proofs.Common.{◌≡◌, ◌<◌, ◌≤◌, ◌^◌, ◌+◌, ◌*◌, ◌-◌, ℕ, List, [], ◌∷◌, ◌++◌, Bool, true, false, zero, suc, length, codes, decimal, append_assoc, arith, refl, sym, ap, subst, ◌∙◌}
+use Rattle.std.proofs.Common.{◌≡◌, ◌<◌, ◌≤◌, ◌^◌, ◌+◌, ◌*◌, ◌-◌, ◌==◌, ℕ, List, [], ◌∷◌, ◌++◌, Bool, true, false, zero, suc, length, codes, decimal, append_assoc, arith, refl, sym, ap, subst, ◌∙◌}
 use Rattle.std.specs.List.{All, flat_map}
 use Rattle.std.proofs.lemmas.List.{append_cancel_left, append-nil, nil_from_length}
 use Rattle.std.proofs.lemmas.List.Elements.{All-push, All-head, All-tail}
@@ -7,7 +7,7 @@ use Rattle.clauses.specs.declared.log.Chain.{Chain}
 use Rattle.clauses.specs.declared.log.Refutation.{Refutation}
 use Rattle.wv_cert.specs.Reading.{EndsNumber, Passes, HasChains, HasLogs, OneList, between}
 use Rattle.wv_cert.specs.Text.{IsChain, IsLog, IsCertificate, certificate_text, chain_line, heading, log_line, log_text, log_texts}
-use Rattle.wv_cert.proofs.Digits.{one_number}
+use Rattle.wv_cert.proofs.Digits.{never, one_number}
 use Rattle.wv_cert.proofs.Items.{lines_stuck, one_list_of_lines}
 use Rattle.wv_cert.proofs.Chains.{one_chain}
 
@@ -196,3 +196,13 @@ one_text bytes these those cert other =
     let after = after_top bytes (log_texts 1 these) (length these) those cert.many (whole bytes these cert) other in
     (one_row 1 these those [] [] (omega (arith, cert.many)) cert.fine other.fine after.0
     (append-nil (log_texts 1 these) ∙ after.1 ∙ sym (append-nil (log_texts 1 those)))).0
+
+-- ---- the end of a text
+
+pub not_at_end : (n : ℕ) → (n == 0) ≡ false → n ≡ 0 → ⊥
+not_at_end zero h e = never (sym h)
+not_at_end (suc n) h e = omega arith
+
+pub at_end : (n : ℕ) → (n == 0) ≡ true → n ≡ 0
+at_end zero h = refl
+at_end (suc n) h = never h

@@ -8,8 +8,8 @@ use Rattle.wv_cert.proofs.reading.clause.Goals as goal
 
 pub returns-in_err-numbers : goal.returns-in_err-numbers
 returns-in_err-numbers c =
-    let e : c.from_residual.result ≡ Err c.in_err-numbers.field-0 = search rules in
-    let all = failed (All IsNumber) clause_text IsClause clause_text c.args.text.now c.args.text.now c.numbers.new.text c.numbers.new.text c.in_err-numbers.field-0 c.in_err-numbers.ensures
+    let e : c.from_residual.result ≡ Err c.in_err-numbers.field-0.0 = search rules in
+    let all = failed (All IsNumber) clause_text IsClause clause_text c.args.text.now c.args.text.now c.numbers.new.text c.numbers.new.text c.in_err-numbers.field-0.0 c.in_err-numbers.ensures
     (λ none b rest fine is. none b rest fine.real is) in
     rw e all
 

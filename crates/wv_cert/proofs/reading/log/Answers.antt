@@ -11,9 +11,9 @@ returns-in_default-heading c = no_log c.args.text.now c.args.obligation c.in_def
 
 pub returns-in_err-chains : goal.returns-in_err-chains
 returns-in_err-chains c =
-    let e : c.from_residual.result ≡ Err c.in_err-chains.field-0 = search rules in
+    let e : c.from_residual.result ≡ Err c.in_err-chains.field-0.0 = search rules in
     let line = c.in-Some.ensures in
-    let all = failed (HasChains c.in-Some.count) (flat_map chain_line) IsLog (log_text c.args.obligation) c.args.text.now c.heading.new.text c.chains.new.text c.chains.new.text c.in_err-chains.field-0
+    let all = failed (HasChains c.in-Some.count) (flat_map chain_line) IsLog (log_text c.args.obligation) c.args.text.now c.heading.new.text c.chains.new.text c.chains.new.text c.in_err-chains.field-0.0
     c.in_err-chains.ensures (no_chains c.args.text.now c.heading.new.text c.args.obligation c.in-Some.count c.ranges.obligation line.0 line.1) in
     rw e all
 

@@ -9,9 +9,9 @@ use Rattle.wv_cert.proofs.reading.logs.Goals as goal
 
 pub returns-in_err-log : goal.returns-in_err-log
 returns-in_err-log c =
-    let e : c.from_residual.result ≡ Err c.in_err-log.field-0 = search rules in
+    let e : c.from_residual.result ≡ Err c.in_err-log.field-0.0 = search rules in
     let at = c.loop-index.index + 1 in
-    let all = failed IsLog (log_text at) (HasLogs c.args.count) (log_texts 1) c.args.text.now c.loop-index.text c.log.new.text c.log.new.text c.in_err-log.field-0 c.in_err-log.ensures
+    let all = failed IsLog (log_text at) (HasLogs c.args.count) (log_texts 1) c.args.text.now c.loop-index.text c.log.new.text c.log.new.text c.in_err-log.field-0.0 c.in_err-log.ensures
     (λ none these rest has is. logs_stuck 1 at c.loop-index.logs these c.loop-index.text rest (omega (arith, has.many)) (omega (arith, c.loop-index.invariant.many))
     c.loop-index.invariant.fine has.fine (omega (arith, has.many)) (c.loop-index.invariant.so_far ∙ is) none) in
     rw e all
