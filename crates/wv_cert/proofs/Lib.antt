@@ -5,3 +5,4 @@ mod Shapes
 mod Chains
 mod Logs
 mod Faults
+mod Refuted

@@ -2,6 +2,7 @@
 //! `read_certificate` reads exactly it.
 #![tactic(auto)]
 
+mod checking;
 mod cursor;
 mod fault;
 mod laws;
@@ -9,7 +10,9 @@ mod numbers;
 mod reading;
 mod writing;
 
+pub use checking::{Rechecked, recheck_bits};
 pub use fault::CertFault;
 pub use laws::{one_list, read_back};
 pub use reading::read_certificate;
 pub use writing::certify;
+
