@@ -1,8 +1,10 @@
 -- Lines of chains, and what stands between them.
-use Rattle.std.proofs.Common.{◌≡◌, ◌<◌, ◌≤◌, ◌^◌, ◌+◌, ◌*◌, ◌-◌, ℕ, List, [], ◌∷◌, ◌++◌, ℤ, Bool, true, false, zero, suc, length, codes, decimal, append_assoc, arith, refl, sym, ap, subst, ◌∙◌}
+use Rattle.std.proofs.Common.{◌≡◌, ◌<◌, ◌≤◌, ◌^◌, ◌+◌, ◌*◌, ◌-◌, ℕ, List, [], ◌∷◌, ◌++◌, ℤ, Bool, true, false, zero, suc, length, drop, take, get_or, codes, decimal, to_z, of_z, w32, append_assoc, arith, refl, sym, ap, subst, ◌∙◌}
+use Rattle.std.specs.Fmt.{signed_decimal}
 use Rattle.std.specs.List.{All, flat_map}
-use Rattle.std.proofs.lemmas.List.{append_cancel_left, append-nil, flat_map_more, length-append}
-use Rattle.std.proofs.lemmas.List.Elements.{All-push}
+use Rattle.std.proofs.lemmas.Int.{fits_signed_from_abs, to_z-of_z}
+use Rattle.std.proofs.lemmas.List.{append_cancel_left, append-nil, drop_more, flat_map_more, length-append, take_all}
+use Rattle.std.proofs.lemmas.List.Elements.{All-more, All-push}
 use Rattle.clauses.specs.Clause.{IsNumber, IsClause}
 use Rattle.clauses.specs.declared.log.Chain.{Chain}
 use Rattle.clauses.specs.declared.log.Resolve.{Resolve}
@@ -126,3 +128,34 @@ row_shorter text_of a now mid after some same more = shorter now (text_of a) aft
 pub lines_read : {A : Type 0} (text_of : A → List ℕ) (done new : List A) (a : A) (before now after : List ℕ) → new ≡ done ++ a ∷ []
     → flat_map text_of done ++ now ≡ before → now ≡ text_of a ++ after → flat_map text_of new ++ after ≡ before
 lines_read text_of done new a before now after is so_far more = row_so_far text_of done new a before now now after is so_far refl more
+
+pub step_some : (s : Resolve) → 0 < length (step_text s)
+step_some s = let more : length (step_text s) ≡ suc (length ((decimal s.with ++ 58 ∷ []) ++ decimal s.on)) = refl in omega (arith, more)
+
+pub number_some : (z : ℤ) → 0 < length (number_text z)
+number_some z = let more : length (number_text z) ≡ suc (length (signed_decimal z)) = refl in omega (arith, more)
+
+-- the machine's form of a number of a clause
+pub as_kept : (done new : List ℤ) (z : ℤ) → new ≡ done ++ to_z w32 (of_z w32 z) ∷ [] → IsNumber z → new ≡ done ++ z ∷ []
+as_kept done new z is fine = is ∙ ap (λ x. done ++ x ∷ []) (to_z-of_z w32 z (fits_signed_from_abs w32 z fine.1))
+
+-- ---- loops that write
+
+pub written_more : {A : Type 0} (text_of : A → List ℕ) (list : List A) (i : ℕ) (d : A) (out before more : List ℕ) → i < length list
+    → out ++ flat_map text_of (drop i list) ≡ before → more ≡ out ++ text_of (get_or list i d) → more ++ flat_map text_of (drop (i + 1) list) ≡ before
+written_more text_of list i d out before more inside so_far written =
+    ap (λ t. t ++ flat_map text_of (drop (i + 1) list)) written ∙ append_assoc out (text_of (get_or list i d)) (flat_map text_of (drop (i + 1) list))
+    ∙ ap (λ rest. out ++ flat_map text_of rest) (sym (drop_more list i d inside)) ∙ so_far
+
+pub item_written : {A : Type 0} (text_of : A → List ℕ) (list : List A) (i : ℕ) (x : A) (out before more : List ℕ) → i < length list → x ≡ get_or list i x
+    → out ++ flat_map text_of (drop i list) ≡ before → more ≡ out ++ text_of x → more ++ flat_map text_of (drop (i + 1) list) ≡ before
+item_written text_of list i x out before more inside is so_far written =
+    written_more text_of list i x out before more inside so_far (written ∙ ap (λ y. out ++ text_of y) is)
+
+pub fine_more : {A : Type 0} (IsFine : A → Type 0) (items list : List A) (i : ℕ) (x : A) → items ≡ list → i < length items → x ≡ get_or items i x
+    → All IsFine (take i list) → IsFine x → All IsFine (take (i + 1) list)
+fine_more IsFine items list i x same inside is all one =
+    All-more IsFine list i x (omega (arith, inside, ap length same)) all (subst IsFine (is ∙ ap (λ l. get_or l i x) same) one)
+
+pub fine_all : {A : Type 0} (IsFine : A → Type 0) (items list : List A) (i : ℕ) → items ≡ list → length items ≤ i → All IsFine (take i items) → All IsFine list
+fine_all IsFine items list i same past all = subst (All IsFine) (take_all i items past ∙ same) all

@@ -1,7 +1,8 @@
 -- Logs, and the whole text.
-use Rattle.std.proofs.Common.{◌≡◌, ◌<◌, ◌≤◌, ◌^◌, ◌+◌, ◌*◌, ◌-◌, ◌==◌, ℕ, List, [], ◌∷◌, ◌++◌, Bool, true, false, zero, suc, length, codes, decimal, append_assoc, arith, refl, sym, ap, subst, ◌∙◌}
+use Rattle.std.proofs.Common.{◌≡◌, ◌<◌, ◌≤◌, ◌^◌, ◌+◌, ◌*◌, ◌-◌, ◌==◌, ℕ, List, [], ◌∷◌, ◌++◌, Bool, true, false, zero, suc, length, drop, get_or, codes, decimal, append_assoc, arith, refl, sym, ap, subst, ◌∙◌}
 use Rattle.std.specs.List.{All, flat_map}
-use Rattle.std.proofs.lemmas.List.{append_cancel_left, append-nil, nil_from_length}
+use Rattle.std.proofs.lemmas.List.{append_cancel_left, append-nil, drop_all, drop_more, nil_from_length}
+use Rattle.std.proofs.lemmas.Bool.{eqb-true}
 use Rattle.std.proofs.lemmas.List.Elements.{All-push, All-head, All-tail}
 use Rattle.clauses.specs.declared.log.Chain.{Chain}
 use Rattle.clauses.specs.declared.log.Refutation.{Refutation}
@@ -204,5 +205,18 @@ not_at_end zero h e = never (sym h)
 not_at_end (suc n) h e = omega arith
 
 pub at_end : (n : ℕ) → (n == 0) ≡ true → n ≡ 0
-at_end zero h = refl
-at_end (suc n) h = never h
+at_end n h = eqb-true n 0 h
+
+-- ---- logs written one after the other
+
+pub logs_written : (items logs : List Refutation) (i : ℕ) (log : Refutation) (out before more : List ℕ) → items ≡ logs → i < length items → log ≡ get_or items i log
+    → out ++ log_texts (i + 1) (drop i logs) ≡ before → more ≡ out ++ log_text (i + 1) log → more ++ log_texts (i + 1 + 1) (drop (i + 1) logs) ≡ before
+logs_written items logs i log out before more same inside is so_far written =
+    let here : drop i logs ≡ log ∷ drop (i + 1) logs =
+    drop_more logs i log (omega (arith, inside, ap length same)) ∙ ap (λ l. l ∷ drop (i + 1) logs) (sym (is ∙ ap (λ list. get_or list i log) same)) in
+    ap (λ t. t ++ log_texts (i + 1 + 1) (drop (i + 1) logs)) written ∙ append_assoc out (log_text (i + 1) log) (log_texts (i + 1 + 1) (drop (i + 1) logs))
+    ∙ ap (λ list. out ++ log_texts (i + 1) list) (sym here) ∙ so_far
+
+pub logs_all_written : (logs : List Refutation) (i k : ℕ) (out all : List ℕ) → length logs ≤ i → out ++ log_texts k (drop i logs) ≡ all → out ≡ all
+logs_all_written logs i k out all past so_far =
+    sym (append-nil out) ∙ ap (λ list. out ++ log_texts k list) (sym (drop_all i logs past)) ∙ so_far

@@ -1,5 +1,5 @@
 -- Texts of the parts of a certificate, and what they begin with.
-use Rattle.std.proofs.Common.{◌≡◌, ◌<◌, ◌≤◌, ◌^◌, ◌+◌, ◌*◌, ◌-◌, ℕ, List, [], ◌∷◌, ◌++◌, ℤ, pos, negsuc, neg_ℤ, unsigned_abs, Bool, true, false, zero, suc, length, get_or, codes, decimal, append_assoc, arith, refl, sym, ap, subst, ◌∙◌}
+use Rattle.std.proofs.Common.{◌≡◌, ◌<◌, ◌≤◌, ◌^◌, ◌+◌, ◌*◌, ◌-◌, ℕ, List, [], ◌∷◌, ◌++◌, ℤ, pos, negsuc, neg_ℤ, unsigned_abs, Bool, true, false, zero, suc, Option, Some, None, SomeIff, length, get_or, codes, decimal, append_assoc, arith, refl, sym, ap, subst, ◌∙◌}
 use Rattle.std.specs.Char.{is_ascii_digit}
 use Rattle.std.specs.Fmt.{signed_decimal}
 use Rattle.std.specs.List.{All, flat_map}
@@ -9,7 +9,7 @@ use Rattle.clauses.specs.Clause.{IsNumber, IsClause}
 use Rattle.clauses.specs.Tseitin.{number_of}
 use Rattle.clauses.specs.declared.log.Chain.{Chain}
 use Rattle.clauses.specs.declared.log.Resolve.{Resolve}
-use Rattle.wv_cert.specs.Reading.{EndsNumber, Passes}
+use Rattle.wv_cert.specs.Reading.{EndsNumber, Passes, Reads}
 use Rattle.wv_cert.specs.Text.{IsSmall, IsStep, number_text, step_text, steps_text, clause_text, chain_line}
 use Rattle.wv_cert.proofs.Digits.{own, each_is_digit, never, one_number}
 use Rattle.wv_cert.proofs.Items.{AreItems}
@@ -21,10 +21,10 @@ head_same : (b c : ℕ) (x y : List ℕ) → b ∷ x ≡ c ∷ y → b ≡ c
 head_same b c x y e = cc
 
 digits_first : (b : ℕ) (ds x y : List ℕ) → all_ascii_digits ds ≡ true → 0 < length ds → is_ascii_digit b ≡ false → b ∷ x ≡ ds ++ y → ⊥
-digits_first b [] x y all some no e = omega arith
-digits_first b (d ∷ ds) x y all some no e =
+digits_first b [] x y all some blank e = omega arith
+digits_first b (d ∷ ds) x y all some blank e =
     let first : is_ascii_digit d ≡ true = each_is_digit (d ∷ ds) 0 all (omega arith) in
-    never (sym no ∙ ap is_ascii_digit (head_same b d x (ds ++ y) e) ∙ first)
+    never (sym blank ∙ ap is_ascii_digit (head_same b d x (ds ++ y) e) ∙ first)
 
 pub passed_not : (word before after : List ℕ) (b : Bool) → b ≡ false → Passes word before b after → Passes word before false after
 passed_not word before after b e h = subst (λ t. Passes word before t after) e h
@@ -34,7 +34,7 @@ passed word before after b e h = subst (λ t. Passes word before t after) e h
 
 -- a number begins with a digit
 pub not_first : (b n : ℕ) (x y : List ℕ) → n < 2 ^ 64 → is_ascii_digit b ≡ false → b ∷ x ≡ decimal n ++ y → ⊥
-not_first b n x y small no e = digits_first b (decimal n) x y (digits_decimal own n small) (decimal_nonempty n small) no e
+not_first b n x y small blank e = digits_first b (decimal n) x y (digits_decimal own n small) (decimal_nonempty n small) blank e
 
 -- ---- numbers that are too large for their type
 
@@ -86,6 +86,18 @@ other_size before mid after negated size passed fits is ends other z rest fine s
     let same = one_number size (unsigned_abs z) after rest fits (omega (arith, fine.1)) ends stops
     (sym is ∙ literal_left before mid rest negated z passed fine spelled) in
     other (omega (arith, same.0, fine.0), omega (arith, same.0, fine.1))
+
+-- what is read of a sign and a size
+pub literal_answer : (before mid after : List ℕ) (negated : Bool) (size : ℕ) (r : Option ℤ) → Passes (codes "-") before negated mid → size < 2 ^ 64
+    → mid ≡ decimal size ++ after → EndsNumber after → SomeIff r ((0 < size) × (size < 2 ^ 31)) (number_of negated size) → Reads IsNumber signed_decimal before r after
+literal_answer before mid after negated size None passed fits is ends none = other_size before mid after negated size passed fits is ends none
+literal_answer before mid after negated size (Some z) passed fits is ends read = literal_is before mid after negated size z passed is ends read.0 read.1
+
+-- and of a blank and that
+pub number_answer : (before mid after : List ℕ) (r : Option ℤ) → before ≡ 32 ∷ mid → Reads IsNumber signed_decimal mid r after → Reads IsNumber number_text before r after
+number_answer before mid after None blank none = λ z rest fine ends is.
+    none z rest fine ends (tail_same 32 32 mid (signed_decimal z ++ rest) (sym blank ∙ is))
+number_answer before mid after (Some z) blank read = (read.0, blank ∙ ap (λ t. 32 ∷ t) read.1, read.2)
 
 one_literal : (a b : ℤ) (x y : List ℕ) → IsNumber a → IsNumber b → EndsNumber x → EndsNumber y → signed_decimal a ++ x ≡ signed_decimal b ++ y → (a ≡ b) × (x ≡ y)
 one_literal (pos m) (pos n) x y fine good ends stops is =

@@ -48,8 +48,7 @@ fn literal(text: &mut Cursor<'_>) -> Option<i32>
 {
     let negated = text.passes(b"-");
     let size = text.number()?;
-    let literal = to_literal(negated, size)?;
-    Some(literal)
+    to_literal(negated, size)
 }
 
 /// A blank and a number of a clause.
@@ -59,8 +58,7 @@ pub fn number(text: &mut Cursor<'_>) -> Option<i32>
     if !text.passes(b" ") {
         return None;
     }
-    let number = literal(text)?;
-    Some(number)
+    literal(text)
 }
 
 /// A blank and a resolution.

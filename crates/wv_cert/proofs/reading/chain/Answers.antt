@@ -6,8 +6,8 @@ use Rattle.wv_cert.proofs.Chains.{chain_read, chain_second, chain_third, no_star
 use Rattle.wv_cert.proofs.Faults.{failed}
 use Rattle.wv_cert.proofs.reading.chain.Goals as goal
 
-pub returns-in_default-small : goal.returns-in_default-small
-returns-in_default-small c = no_start c.args.text.now c.in_default-small.ensures
+pub returns-in_default : goal.returns-in_default
+returns-in_default c = no_start c.args.text.now c.in_default.ensures
 
 pub returns-in_err-steps : goal.returns-in_err-steps
 returns-in_err-steps c =

@@ -8,8 +8,8 @@ use Rattle.wv_cert.proofs.reading.read_certificate.Goals as goal
 pub between-requires : goal.between-requires
 between-requires c = λ rest. refl
 
-pub returns-in_default-between : goal.returns-in_default-between
-returns-in_default-between c = no_top c.args.bytes.now (λ n rest small is. c.in_default-between.ensures n rest small (c.of-text.ensures ∙ is))
+pub returns-in_default : goal.returns-in_default
+returns-in_default c = no_top c.args.bytes.now (λ n rest small is. c.in_default.ensures n rest small (c.of-text.ensures ∙ is))
 
 pub returns-in_err-logs : goal.returns-in_err-logs
 returns-in_err-logs c =
