@@ -220,3 +220,10 @@ logs_written items logs i log out before more same inside is so_far written =
 pub logs_all_written : (logs : List Refutation) (i k : ℕ) (out all : List ℕ) → length logs ≤ i → out ++ log_texts k (drop i logs) ≡ all → out ≡ all
 logs_all_written logs i k out all past so_far =
     sym (append-nil out) ∙ ap (λ list. out ++ log_texts k list) (sym (drop_all i logs past)) ∙ so_far
+
+pub log_begun : (out now : List ℕ) (items : List Chain) (obligation n : ℕ) (log : Refutation) → now ≡ out ++ log_line obligation n → n ≡ length log.chains
+    → items ≡ log.chains → now ++ flat_map chain_line items ≡ out ++ log_text obligation log
+log_begun out now items obligation n log written count same =
+    ap (λ t. t ++ flat_map chain_line items) written ∙ append_assoc out (log_line obligation n) (flat_map chain_line items)
+    ∙ ap (λ k. out ++ (log_line obligation k ++ flat_map chain_line items)) count
+    ∙ ap (λ list. out ++ (log_line obligation (length log.chains) ++ flat_map chain_line list)) same

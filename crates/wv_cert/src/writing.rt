@@ -59,12 +59,20 @@ fn add_chain(out: &mut String, chain: &Chain) -> Result<(), OutOfMemory>
     Ok(())
 }
 
+/// The first line of a log.
+fn add_log_line(out: &mut String, obligation: usize, chains: usize) -> Result<(), OutOfMemory>
+    ensures { OnOk result (string_bytes out.new ≡ string_bytes out.old ++ log_line obligation chains) }
+{
+    write!(out, "obligation {obligation} chains {chains}\n")?;
+    Ok(())
+}
+
 fn add_log(out: &mut String, obligation: usize, log: &Refutation) -> Result<(), OutOfMemory>
     ensures text { OnOk result (string_bytes out.new ≡ string_bytes out.old ++ log_text obligation log.now) }
     ensures fine { OnOk result (IsLog log.now) }
 {
     let chains = log.chains.len();
-    write!(out, "obligation {obligation} chains {chains}\n")?;
+    add_log_line(out, obligation, chains)?;
     for chain in log.chains.as_slice() {
         add_chain(out, chain)?;
     }

@@ -1,4 +1,4 @@
-use Rattle.std.proofs.Common.{◌≡◌, ◌+◌, ◌++◌, length, string_bytes, arith, refl, sym, ap, ◌∙◌}
+use Rattle.std.proofs.Common.{◌≡◌, ◌≤◌, ◌+◌, ◌++◌, length, string_bytes, arith, refl, sym, ap, ◌∙◌}
 use Rattle.wv_cert.specs.Text.{IsLog, certificate_text, log_texts}
 use Rattle.wv_cert.proofs.Chains.{fine_all, fine_more}
 use Rattle.wv_cert.proofs.Logs.{logs_all_written, logs_written}
