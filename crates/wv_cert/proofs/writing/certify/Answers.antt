@@ -16,9 +16,10 @@ loop-index-preserved c =
 pub returns : goal.returns
 returns c =
     let past : length c.args.logs.now ≤ c.loop-index.index = omega (arith, ap length c.as_slice-log-items.ensures) in
+    let done : string_bytes c.loop-index.out ≡ certificate_text c.args.logs.now =
+    logs_all_written c.args.logs.now c.loop-index.index (c.loop-index.index + 1) (string_bytes c.loop-index.out) (certificate_text c.args.logs.now) past c.loop-index.invariant.text in
     record {
       many = omega arith;
       fine = fine_all IsLog c.args.logs.now c.args.logs.now c.loop-index.index refl past c.loop-index.invariant.fine;
-      text = c.into_bytes.ensures.value ∙ logs_all_written c.args.logs.now c.loop-index.index (c.loop-index.index + 1) (string_bytes c.loop-index.out)
-      (certificate_text c.args.logs.now) past c.loop-index.invariant.text;
+      text = rw c.into_bytes.ensures.value done;
     }
