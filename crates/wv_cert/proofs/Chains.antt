@@ -1,9 +1,9 @@
 -- Lines of chains, and what stands between them.
-use Rattle.std.proofs.Common.{◌≡◌, ◌<◌, ◌≤◌, ◌^◌, ◌+◌, ◌*◌, ◌-◌, ℕ, List, [], ◌∷◌, ◌++◌, ℤ, Bool, true, false, zero, suc, length, drop, take, get_or, codes, decimal, to_z, of_z, w32, append_assoc, arith, refl, sym, ap, subst, ◌∙◌}
+use Rattle.std.proofs.Common.{◌≡◌, ◌<◌, ◌≤◌, ◌+◌, ℕ, List, [], ◌∷◌, ◌++◌, ℤ, false, suc, length, drop, take, get_or, codes, decimal, to_z, of_z, w32, append_assoc, arith, refl, sym, ap, subst, ◌∙◌}
 use Rattle.std.specs.Fmt.{signed_decimal}
 use Rattle.std.specs.List.{All, flat_map}
 use Rattle.std.proofs.lemmas.Int.{fits_signed_from_abs, to_z-of_z}
-use Rattle.std.proofs.lemmas.List.{append_cancel_left, append-nil, drop_more, flat_map_more, length-append, take_all}
+use Rattle.std.proofs.lemmas.List.{drop_more, flat_map_more, length-append, take_all}
 use Rattle.std.proofs.lemmas.List.Elements.{All-more, All-push}
 use Rattle.clauses.specs.Clause.{IsNumber, IsClause}
 use Rattle.clauses.specs.declared.log.Chain.{Chain}
@@ -11,7 +11,7 @@ use Rattle.clauses.specs.declared.log.Resolve.{Resolve}
 use Rattle.wv_cert.specs.Reading.{EndsNumber, Passes}
 use Rattle.wv_cert.specs.Text.{IsSmall, IsStep, IsChain, number_text, step_text, steps_text, clause_text, chain_line}
 use Rattle.wv_cert.proofs.Digits.{one_number}
-use Rattle.wv_cert.proofs.Items.{AreItems, AreLines, Ends, ends_after, ends_less, stuck, one_list}
+use Rattle.wv_cert.proofs.Items.{AreItems, AreLines, Ends, ends_after, stuck, one_list}
 use Rattle.wv_cert.proofs.Shapes.{numbers_are, steps_are}
 
 -- ---- things in a row, read one after the other

@@ -1,5 +1,5 @@
 -- A fault that is handed on.
-use Rattle.std.proofs.Common.{◌≡◌, ◌++◌, ℕ, List, Result, Err, refl}
+use Rattle.std.proofs.Common.{◌≡◌, ◌++◌, ℕ, List, Err, refl}
 use Rattle.wv_cert.specs.declared.fault.CertFault.{CertFault}
 use Rattle.wv_cert.specs.declared.fault.CertFault.TheVariants.{Form, OutOfMemory}
 use Rattle.wv_cert.specs.Reading.{AnswersFor, Gets, ReadsBack}

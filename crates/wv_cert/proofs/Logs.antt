@@ -1,15 +1,15 @@
 -- Logs, and the whole text.
-use Rattle.std.proofs.Common.{◌≡◌, ◌<◌, ◌≤◌, ◌^◌, ◌+◌, ◌*◌, ◌-◌, ◌==◌, ℕ, List, [], ◌∷◌, ◌++◌, Bool, true, false, zero, suc, length, drop, get_or, codes, decimal, append_assoc, arith, refl, sym, ap, subst, ◌∙◌}
+use Rattle.std.proofs.Common.{◌≡◌, ◌<◌, ◌≤◌, ◌^◌, ◌+◌, ◌==◌, ℕ, List, [], ◌∷◌, ◌++◌, true, false, zero, suc, length, drop, get_or, codes, decimal, append_assoc, arith, refl, sym, ap, ◌∙◌}
 use Rattle.std.specs.List.{All, flat_map}
 use Rattle.std.proofs.lemmas.List.{append_cancel_left, append-nil, drop_all, drop_more, nil_from_length}
 use Rattle.std.proofs.lemmas.Bool.{eqb-true}
-use Rattle.std.proofs.lemmas.List.Elements.{All-push, All-head, All-tail}
+use Rattle.std.proofs.lemmas.List.Elements.{All-head, All-tail}
 use Rattle.clauses.specs.declared.log.Chain.{Chain}
 use Rattle.clauses.specs.declared.log.Refutation.{Refutation}
-use Rattle.wv_cert.specs.Reading.{EndsNumber, Passes, HasChains, HasLogs, OneList, between}
-use Rattle.wv_cert.specs.Text.{IsChain, IsLog, IsCertificate, certificate_text, chain_line, heading, log_line, log_text, log_texts}
+use Rattle.wv_cert.specs.Reading.{EndsNumber, HasChains, HasLogs, OneList, between}
+use Rattle.wv_cert.specs.Text.{IsChain, IsLog, IsCertificate, certificate_text, chain_line, log_line, log_text, log_texts}
 use Rattle.wv_cert.proofs.Digits.{never, one_number}
-use Rattle.wv_cert.proofs.Items.{lines_stuck, one_list_of_lines}
+use Rattle.wv_cert.proofs.Items.{one_list_of_lines}
 use Rattle.wv_cert.proofs.Chains.{one_chain}
 
 -- ---- a number between two words
@@ -90,7 +90,7 @@ pub log_read : (before mid rest : List ℕ) (obligation count : ℕ) (log : Refu
     → HasChains count log.chains → mid ≡ flat_map chain_line log.chains ++ rest → IsLog log × (before ≡ log_text obligation log ++ rest)
 log_read before mid rest obligation count log few is has ended = (
   record { many = omega (arith, has.many); chains = has.fine },
-  is ∙ ap (λ n. log_line obligation n ++ mid) (sym has.many) ∙ ap (λ t. log_line obligation (length log.chains) ++ t) ended ∙ sym (log_shape obligation log rest)
+  is ∙ ap (λ n. log_line obligation n ++ mid) (sym has.many) ∙ ap (λ t. log_line obligation (length log.chains) ++ t) ended ∙ sym (log_shape obligation log rest),
 )
 
 same_log : (a b : Refutation) → a.chains ≡ b.chains → a ≡ b
@@ -189,7 +189,7 @@ read bytes mid rest count logs small is has ended none =
       many = omega (arith, has.many);
       fine = has.fine;
       text = is ∙ ap (λ n. top n ++ mid) (sym has.many)
-      ∙ ap (λ t. top (length logs) ++ t) (ended ∙ ap (λ t. log_texts 1 logs ++ t) nothing ∙ append-nil (log_texts 1 logs));
+          ∙ ap (λ t. top (length logs) ++ t) (ended ∙ ap (λ t. log_texts 1 logs ++ t) nothing ∙ append-nil (log_texts 1 logs));
     }
 
 pub one_text : OneList

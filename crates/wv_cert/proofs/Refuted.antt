@@ -1,15 +1,15 @@
 -- What a log that was checked says of a bit.
-use Rattle.std.proofs.Common.{◌≡◌, ℕ, ◌+◌, ◌-◌, ◌<◌, ◌≤◌, Bool, true, false, List, [], ◌∷◌, ◌++◌, ℤ, length, get_or, Some, inl, inr, arith, refl, sym, ap, subst, ◌∙◌}
-use Rattle.std.specs.Prelude.{IsTrue, slice_get, ◌↔◌}
+use Rattle.std.proofs.Common.{◌≡◌, ℕ, ◌+◌, ◌-◌, ◌<◌, Bool, true, false, List, [], ◌∷◌, ◌++◌, ℤ, length, get_or, Some, inl, inr, arith, refl, sym, ap, subst, ◌∙◌}
+use Rattle.std.specs.Prelude.{slice_get}
 use Rattle.std.proofs.lemmas.Bool.{cases_lt, false_from_ne_true}
 use Rattle.std.proofs.lemmas.List.{ext_get_or}
 use Rattle.std.proofs.lemmas.Option.{same_Some, get_or_from_slice_get, slice_get_within}
 use Rattle.circuits.specs.declared.net.Bit.{Bit}
 use Rattle.circuits.specs.declared.net.NetNode.{NetNode}
-use Rattle.circuits.specs.Net.{holds, count_inputs, IsIn}
+use Rattle.circuits.specs.Net.{holds, IsIn}
 use Rattle.circuits.specs.Numbers.{AreIn}
 use Rattle.clauses.specs.Log.{Refutes}
-use Rattle.clauses.specs.Tseitin.{ClausesOf, Flags, Fulfils, flag_at, clauses_below, literal}
+use Rattle.clauses.specs.Tseitin.{ClausesOf, Flags, Fulfils, clauses_below, literal}
 use Rattle.clauses.specs.Within.{AreOf}
 use Rattle.clauses.specs.declared.log.Chain.{Chain}
 use Rattle.clauses.specs.declared.log.Refutation.{Refutation}
@@ -26,8 +26,8 @@ same_truth false false f g = refl
 same_flags : (net : List NetNode) (b : Bit) (f g : List Bool) → Flags net b f → Flags net b g → f ≡ g
 same_flags net b f g these those =
     ext_get_or false f g (these.many ∙ sym those.many) (λ at lt.
-      let inside : at < length net = omega (arith, these.many) in
-      same_truth (get_or f at false) (get_or g at false) (λ on. (those.is at inside).1 ((these.is at inside).0 on)) (λ on. (these.is at inside).1 ((those.is at inside).0 on)))
+    let inside : at < length net = omega (arith, these.many) in
+    same_truth (get_or f at false) (get_or g at false) (λ on. (those.is at inside).1 ((these.is at inside).0 on)) (λ on. (these.is at inside).1 ((those.is at inside).0 on)))
 
 -- a bit has one clause form
 pub one_form : (net : List NetNode) (b : Bit) (m n : ℕ) (these those : List (List ℤ)) → ClausesOf net b m these → ClausesOf net b n those → these ≡ those

@@ -1,16 +1,14 @@
 -- Texts of the parts of a certificate, and what they begin with.
-use Rattle.std.proofs.Common.{◌≡◌, ◌<◌, ◌≤◌, ◌^◌, ◌+◌, ◌*◌, ◌-◌, ℕ, List, [], ◌∷◌, ◌++◌, ℤ, pos, negsuc, neg_ℤ, unsigned_abs, Bool, true, false, zero, suc, Option, Some, None, SomeIff, length, get_or, codes, decimal, append_assoc, arith, refl, sym, ap, subst, ◌∙◌}
+use Rattle.std.proofs.Common.{◌≡◌, ◌<◌, ◌^◌, ℕ, List, [], ◌∷◌, ◌++◌, ℤ, pos, negsuc, unsigned_abs, Bool, true, false, zero, suc, Option, Some, None, SomeIff, length, codes, decimal, append_assoc, arith, refl, sym, ap, subst, ◌∙◌}
 use Rattle.std.specs.Char.{is_ascii_digit}
 use Rattle.std.specs.Fmt.{signed_decimal}
-use Rattle.std.specs.List.{All, flat_map}
 use Rattle.std.specs.Str.{all_ascii_digits}
 use Rattle.std.proofs.lemmas.Fmt.{digits_decimal, decimal_nonempty}
-use Rattle.clauses.specs.Clause.{IsNumber, IsClause}
+use Rattle.clauses.specs.Clause.{IsNumber}
 use Rattle.clauses.specs.Tseitin.{number_of}
-use Rattle.clauses.specs.declared.log.Chain.{Chain}
 use Rattle.clauses.specs.declared.log.Resolve.{Resolve}
 use Rattle.wv_cert.specs.Reading.{EndsNumber, Passes, Reads}
-use Rattle.wv_cert.specs.Text.{IsSmall, IsStep, number_text, step_text, steps_text, clause_text, chain_line}
+use Rattle.wv_cert.specs.Text.{IsSmall, IsStep, number_text, step_text}
 use Rattle.wv_cert.proofs.Digits.{own, each_is_digit, never, one_number}
 use Rattle.wv_cert.proofs.Items.{AreItems}
 

@@ -1,9 +1,8 @@
 -- Worked texts.
-use Rattle.std.specs.Prelude.{◌≡◌, List, [], ◌∷◌, ℤ, pos, negsuc, codes, refl}
+use Rattle.std.specs.Prelude.{◌≡◌, [], ◌∷◌, pos, negsuc, codes, refl}
 use Rattle.std.specs.Fmt.{digits}
 use Rattle.clauses.specs.declared.log.Chain.{Chain}
 use Rattle.clauses.specs.declared.log.Refutation.{Refutation}
-use Rattle.clauses.specs.declared.log.Resolve.{Resolve}
 use Rattle.wv_cert.specs.Text.{certificate_text}
 
 -- one resolution to the empty clause

@@ -42,9 +42,7 @@ fn digit_run(text: &[u8]) -> usize
     ensures run { result ≡ prefix_len is_ascii_digit text.now }
     ensures within { result ≤ length text.now }
 {
-    text.iter()
-        .take_while(|byte| byte.is_ascii_digit())
-        .count()
+    text.iter().take_while(|byte| byte.is_ascii_digit()).count()
 }
 
 /// Whether a zero stands before other digits.

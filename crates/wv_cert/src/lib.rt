@@ -15,4 +15,3 @@ pub use fault::CertFault;
 pub use laws::{one_list, read_back};
 pub use reading::read_certificate;
 pub use writing::certify;
-

@@ -1,4 +1,4 @@
-use Rattle.std.proofs.Common.{◌≡◌, ◌+◌, ◌-◌, length, arith, sym, ap, subst, ◌∙◌, true, false}
+use Rattle.std.proofs.Common.{◌≡◌, ◌+◌, length, arith, sym, subst, ◌∙◌}
 use Rattle.wv_cert.specs.Accepted.{AreNeverTrue}
 use Rattle.wv_cert.proofs.Digits.{never}
 use Rattle.wv_cert.proofs.Refuted.{accepted, inside, never_more, refused_at, refuted_more}
@@ -17,9 +17,9 @@ pub loop-at-preserved : goal.loop-at-preserved
 loop-at-preserved c =
     record {
       refuted = refuted_more c.args.net.now c.args.failing.now c.args.logs.now c.loop-at.at c.bit_at-bit.result c.log_at-log.result.now c.loop-at.invariant.refuted
-      (sym c.bit_at-bit.ensures) (sym c.log_at-log.ensures) (c.in_ok-refuted.ensures.exact.0 c.if-not-refuted.false);
+          (sym c.bit_at-bit.ensures) (sym c.log_at-log.ensures) (c.in_ok-refuted.ensures.exact.0 c.if-not-refuted.false);
       none = never_more c.args.net.now c.args.failing.now c.loop-at.at c.bit_at-bit.result c.loop-at.invariant.none (sym c.bit_at-bit.ensures)
-      (c.in_ok-refuted.ensures.sound c.if-not-refuted.false);
+          (c.in_ok-refuted.ensures.sound c.if-not-refuted.false);
     }
 
 pub returns-clause-exact : goal.returns-clause-exact

@@ -1,6 +1,4 @@
-use Rattle.std.proofs.Common.{◌≡◌, ◌≤◌, ◌^◌, ◌+◌, ◌*◌, ◌-◌, get_or, take, sym, ◌∙◌, arith}
-use Rattle.std.specs.Str.Parse.{digits_value}
-use Rattle.std.proofs.lemmas.List.{take_all}
+use Rattle.std.proofs.Common.{◌^◌, sym, ◌∙◌, arith}
 use Rattle.wv_cert.proofs.Digits.{each_is_digit, one_more, too_large}
 use Rattle.wv_cert.proofs.cursor.value_of.Goals as goal
 

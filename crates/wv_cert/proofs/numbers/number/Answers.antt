@@ -1,4 +1,4 @@
-use Rattle.std.proofs.Common.{◌≡◌, ◌++◌, codes}
+use Rattle.std.proofs.Common.{◌++◌, codes}
 use Rattle.std.specs.Fmt.{signed_decimal}
 use Rattle.wv_cert.proofs.Shapes.{number_answer, passed, passed_not}
 use Rattle.wv_cert.proofs.numbers.number.Goals as goal

@@ -1,4 +1,4 @@
-use Rattle.std.proofs.Common.{◌≡◌, ◌++◌, decimal, arith, sym, ap, ◌∙◌}
+use Rattle.std.proofs.Common.{◌++◌, decimal, arith, sym, ap, ◌∙◌}
 use Rattle.wv_cert.proofs.Shapes.{too_many}
 use Rattle.wv_cert.proofs.numbers.small.Goals as goal
 

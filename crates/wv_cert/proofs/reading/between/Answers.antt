@@ -1,4 +1,4 @@
-use Rattle.std.proofs.Common.{◌≡◌, ◌++◌, decimal, refl, sym, ap, ◌∙◌}
+use Rattle.std.proofs.Common.{◌++◌, decimal, ◌∙◌}
 use Rattle.wv_cert.proofs.Logs.{between_read, between_second, between_shape, between_third}
 use Rattle.wv_cert.proofs.Shapes.{passed, passed_not}
 use Rattle.wv_cert.proofs.reading.between.Goals as goal
@@ -12,7 +12,7 @@ pub returns-in_err-number : goal.returns-in_err-number
 returns-in_err-number c =
     let first = passed c.args.first.now c.args.text.now c.passes.new.self c.passes.result c.if-not-passes.false c.passes.ensures in
     rw c.from_residual.ensures (λ n rest small is. c.in_err-number.ensures n (c.args.last.now ++ rest) small (c.requires rest)
-      (between_second c.args.text.now c.passes.new.self rest c.args.first.now c.args.last.now n first is))
+    (between_second c.args.text.now c.passes.new.self rest c.args.first.now c.args.last.now n first is))
 
 pub returns-then-not-passes-2 : goal.returns-then-not-passes-2
 returns-then-not-passes-2 c = λ n rest small is.

@@ -1,4 +1,4 @@
-use Rattle.std.proofs.Common.{◌≡◌, ◌++◌, Err, rules, refl, sym, ap, ◌∙◌}
+use Rattle.std.proofs.Common.{◌≡◌, ◌++◌, Err, rules}
 use Rattle.std.specs.List.{All}
 use Rattle.clauses.specs.Clause.{IsClause}
 use Rattle.wv_cert.specs.Text.{IsChain, IsStep, chain_line, clause_text, steps_text}
@@ -32,7 +32,8 @@ pub returns : goal.returns
 returns c =
     let start = c.in-Some.ensures in
     let steps = c.in_ok-steps.ensures in
-    let gives = c.in_ok-gives.ensures in
-    (record { start = start.0; steps = steps.0; gives = gives.0 },
-    chain_read c.args.text.now c.small.new.text c.steps.new.text c.clause.new.text
-    (record { start = c.in-Some.start; steps = c.in_ok-steps.steps; gives = c.in_ok-gives.gives }) start.1 steps.1 gives.1)
+    let gives = c.in_ok-gives.ensures in (
+      record { start = start.0; steps = steps.0; gives = gives.0 },
+      chain_read c.args.text.now c.small.new.text c.steps.new.text c.clause.new.text
+          (record { start = c.in-Some.start; steps = c.in_ok-steps.steps; gives = c.in_ok-gives.gives }) start.1 steps.1 gives.1,
+    )

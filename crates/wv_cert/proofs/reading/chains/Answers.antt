@@ -1,4 +1,4 @@
-use Rattle.std.proofs.Common.{◌≡◌, ◌++◌, Err, length, rules, arith, refl, sym, ap, ◌∙◌}
+use Rattle.std.proofs.Common.{◌≡◌, Err, length, rules, arith, sym, ap, ◌∙◌}
 use Rattle.std.specs.List.{flat_map}
 use Rattle.std.proofs.lemmas.List.{length_push}
 use Rattle.wv_cert.specs.Reading.{HasChains}
@@ -23,7 +23,7 @@ loop-read-preserved c =
       many = ap length c.in_ok-push.ensures.ok ∙ length_push c.loop-read.chains c.in_ok-chain.chain ∙ omega (arith, c.loop-read.invariant.many);
       fine = row_fine IsChain c.loop-read.chains c.push.new.self c.in_ok-chain.chain c.in_ok-push.ensures.ok c.loop-read.invariant.fine read.0;
       so_far = lines_read chain_line c.loop-read.chains c.push.new.self c.in_ok-chain.chain c.args.text.now c.loop-read.text c.chain.new.text c.in_ok-push.ensures.ok
-      c.loop-read.invariant.so_far read.1;
+          c.loop-read.invariant.so_far read.1;
     }
 
 pub returns : goal.returns

@@ -1,5 +1,4 @@
-use Rattle.std.proofs.Common.{◌≡◌, ◌++◌, [], codes, arith, refl, sym, ap, ◌∙◌}
-use Rattle.wv_cert.specs.Reading.{between}
+use Rattle.std.proofs.Common.{arith, refl}
 use Rattle.wv_cert.proofs.Logs.{line_read, line_second, no_line}
 use Rattle.wv_cert.proofs.reading.heading.Goals as goal
 
@@ -23,11 +22,13 @@ pub returns-in_err-count : goal.returns-in_err-count
 returns-in_err-count c =
     let read = c.in_ok-number.ensures in
     rw c.from_residual-in_err-count.ensures (λ n rest small is. c.in_err-count.ensures n rest small
-      (line_second c.args.text.now c.between.new.text rest c.in_ok-number.number c.args.obligation n read.0 read.1 (omega arith) is).1)
+    (line_second c.args.text.now c.between.new.text rest c.in_ok-number.number c.args.obligation n read.0 read.1 (omega arith) is).1)
 
 pub returns : goal.returns
 returns c =
     let read = c.in_ok-number.ensures in
-    let count = c.in_ok-count.ensures in
-    (count.0, line_read c.args.text.now c.between.new.text c.between-2.new.text c.in_ok-number.number c.args.obligation c.in_ok-count.count read.1
-    c.if-number-obligation.false count.1)
+    let count = c.in_ok-count.ensures in (
+      count.0,
+      line_read c.args.text.now c.between.new.text c.between-2.new.text c.in_ok-number.number c.args.obligation c.in_ok-count.count read.1
+          c.if-number-obligation.false count.1,
+    )

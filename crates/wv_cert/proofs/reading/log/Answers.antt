@@ -1,4 +1,4 @@
-use Rattle.std.proofs.Common.{◌≡◌, ◌++◌, Err, arith, rules, refl, sym, ap, ◌∙◌}
+use Rattle.std.proofs.Common.{◌≡◌, Err, arith, rules}
 use Rattle.std.specs.List.{flat_map}
 use Rattle.wv_cert.specs.Reading.{HasChains}
 use Rattle.wv_cert.specs.Text.{IsLog, chain_line, log_text}

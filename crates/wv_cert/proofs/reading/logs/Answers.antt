@@ -1,4 +1,4 @@
-use Rattle.std.proofs.Common.{◌≡◌, ◌++◌, ◌+◌, Err, length, rules, arith, refl, sym, ap, ◌∙◌}
+use Rattle.std.proofs.Common.{◌≡◌, ◌++◌, ◌+◌, Err, length, rules, arith, sym, ap, ◌∙◌}
 use Rattle.std.proofs.lemmas.List.{length_push}
 use Rattle.wv_cert.specs.Reading.{HasLogs}
 use Rattle.wv_cert.specs.Text.{IsLog, log_text, log_texts}
@@ -23,8 +23,8 @@ loop-index-preserved c =
       many = ap length c.in_ok-push.ensures.ok ∙ length_push c.loop-index.logs c.in_ok-log.log ∙ omega (arith, c.loop-index.invariant.many);
       fine = row_fine IsLog c.loop-index.logs c.push.new.self c.in_ok-log.log c.in_ok-push.ensures.ok c.loop-index.invariant.fine read.0;
       so_far = ap (λ list. log_texts 1 list ++ c.log.new.text) c.in_ok-push.ensures.ok
-      ∙ logs_read c.args.text.now c.loop-index.text c.log.new.text 1 (c.loop-index.index + 1) c.loop-index.logs c.in_ok-log.log (omega (arith, c.loop-index.invariant.many))
-      c.loop-index.invariant.so_far read.1;
+          ∙ logs_read c.args.text.now c.loop-index.text c.log.new.text 1 (c.loop-index.index + 1) c.loop-index.logs c.in_ok-log.log (omega (arith, c.loop-index.invariant.many))
+          c.loop-index.invariant.so_far read.1;
     }
 
 pub returns : goal.returns

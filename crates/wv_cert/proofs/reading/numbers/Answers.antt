@@ -1,4 +1,4 @@
-use Rattle.std.proofs.Common.{◌≡◌, ◌++◌, codes, sym, ap, subst}
+use Rattle.std.proofs.Common.{◌++◌, codes, sym, ap, subst}
 use Rattle.std.specs.List.{All, flat_map}
 use Rattle.std.proofs.lemmas.List.Elements.{All-nil}
 use Rattle.clauses.specs.Clause.{IsNumber}
@@ -30,7 +30,7 @@ loop-text-preserved c =
       fine = row_fine IsNumber c.loop-text.numbers c.push.new.self c.in-Some.number (as_kept c.loop-text.numbers c.push.new.self c.in-Some.number c.in_ok-push.ensures.ok read.0) c.loop-text.invariant.fine read.0;
       ends = ends_less c.push.new.self c.number.new.text read.2;
       so_far = row_so_far number_text c.loop-text.numbers c.push.new.self c.in-Some.number c.args.text.now c.loop-text.text c.passes.new.self c.number.new.text
-      (as_kept c.loop-text.numbers c.push.new.self c.in-Some.number c.in_ok-push.ensures.ok read.0) c.loop-text.invariant.so_far word.0 read.1;
+          (as_kept c.loop-text.numbers c.push.new.self c.in-Some.number c.in_ok-push.ensures.ok read.0) c.loop-text.invariant.so_far word.0 read.1;
     }
 
 pub loop-text-smaller : goal.loop-text-smaller

@@ -1,4 +1,4 @@
-use Rattle.std.proofs.Common.{◌≡◌, ◌++◌, Err, length, rules, arith, refl, sym, ap, ◌∙◌}
+use Rattle.std.proofs.Common.{◌≡◌, Err, length, rules, refl, sym, ◌∙◌}
 use Rattle.wv_cert.specs.Reading.{HasLogs}
 use Rattle.wv_cert.specs.Text.{log_texts}
 use Rattle.wv_cert.proofs.Faults.{failed_at_all}

@@ -1,7 +1,6 @@
-use Rattle.std.proofs.Common.{◌≡◌, ◌++◌, codes, sym, ap, subst}
+use Rattle.std.proofs.Common.{◌++◌, codes, sym, ap, subst}
 use Rattle.std.specs.List.{All, flat_map}
 use Rattle.std.proofs.lemmas.List.Elements.{All-nil}
-use Rattle.clauses.specs.Clause.{IsNumber}
 use Rattle.wv_cert.specs.Text.{IsStep, step_text}
 use Rattle.wv_cert.proofs.Chains.{step_some, items_done, items_stuck, row_fine, row_so_far, row_shorter}
 use Rattle.wv_cert.proofs.Items.{Ends, ends_less}
@@ -30,7 +29,7 @@ loop-text-preserved c =
       fine = row_fine IsStep c.loop-text.steps c.push.new.self c.in-Some.step c.in_ok-push.ensures.ok c.loop-text.invariant.fine read.0;
       ends = ends_less c.push.new.self c.step.new.text read.2;
       so_far = row_so_far step_text c.loop-text.steps c.push.new.self c.in-Some.step c.args.text.now c.loop-text.text c.passes.new.self c.step.new.text
-      c.in_ok-push.ensures.ok c.loop-text.invariant.so_far word.0 read.1;
+          c.in_ok-push.ensures.ok c.loop-text.invariant.so_far word.0 read.1;
     }
 
 pub loop-text-smaller : goal.loop-text-smaller

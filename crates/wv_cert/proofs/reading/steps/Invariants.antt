@@ -1,6 +1,5 @@
 use Rattle.std.proofs.Common.{◌≡◌, ◌++◌, length}
 use Rattle.std.specs.List.{All, flat_map}
-use Rattle.clauses.specs.Clause.{IsNumber}
 use Rattle.wv_cert.specs.Text.{IsStep, step_text}
 use Rattle.wv_cert.proofs.Items.{Ends}
 use Rattle.wv_cert.proofs.reading.steps.Given as goal

@@ -1,4 +1,4 @@
-use Rattle.std.proofs.Common.{◌≡◌, ◌++◌, drop, length, string_bytes, take}
+use Rattle.std.proofs.Common.{◌≡◌, ◌++◌, drop, string_bytes, take}
 use Rattle.std.specs.List.{All, flat_map}
 use Rattle.wv_cert.specs.Text.{IsChain, chain_line, log_text}
 use Rattle.wv_cert.proofs.writing.add_log.Given as goal

@@ -1,4 +1,4 @@
-use Rattle.std.proofs.Common.{◌≡◌, ◌++◌, append_assoc, string_bytes}
+use Rattle.std.proofs.Common.{append_assoc}
 use Rattle.wv_cert.proofs.writing.add_log_line.Goals as goal
 
 pub returns : goal.returns
