@@ -6,3 +6,4 @@ mod Chains
 mod Logs
 mod Faults
 mod Refuted
+mod Obliged
