@@ -18,3 +18,6 @@ pub use laws::{one_list, read_back};
 pub use reading::read_certificate;
 pub use rechecking::recheck;
 pub use writing::certify;
+
+#[cfg(test)]
+mod tests;
