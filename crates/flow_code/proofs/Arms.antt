@@ -1,4 +1,4 @@
--- The arms of a switch, one behind another.
+-- The arms of a switch, one after another.
 use Rattle.std.proofs.Common.{◌≡◌, ℕ, ◌+◌, ◌<◌, Bool, true, false, ◌||◌, List, [], ◌∷◌, ◌++◌, length, drop, get_or, refl, sym, ap, ◌∙◌, arith, length-append, append_assoc}
 use Rattle.c_core.specs.Tree.{Stms, NoStm, MoreStm, MoreCase, Program}
 use Rattle.c_core.specs.Typing.{is_default, labels_in}

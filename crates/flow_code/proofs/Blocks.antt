@@ -126,7 +126,7 @@ module _ (p : Program) where
       let inner = glued one (first_code p (length one) at i) two three turns k (l ∙ ap (λ x. two ++ turns_code p (length two) x at e s b) (within (first_leaks i) c w v d h)) in
       scoped (first_leaks i) old one three new (λ j. followed j (first_code p j at i) turns) (g ∙ ap (λ x. old ++ opened x) d) inner (m ∙ ap (λ x. three ++ closed x) d)
 
-  -- arms behind the choice of one
+  -- arms after the choice of one
   pub arms_are : (w : Inside) (at : Spot) (b : Stms) (start : ℕ) (old one new : List Op) → start ≡ length old + size_of_selection b
       → one ≡ old ++ selection_code w.depth at start b → new ≡ one ++ block_code p (length one) w b → new ≡ old ++ arms_code p (length old) w at b
   arms_are w at b start old one new s h g =

@@ -200,7 +200,7 @@ size_of_selection NoStm = 1
 size_of_selection (MoreStm s b) = size_of_selection b
 size_of_selection (MoreCase spot l b) = size_of_label l + size_of_selection b
 
--- where so many scopes are open
+-- where these scopes are open
 abbrev mutual
   -- a statement's code: its form's, behind its step and its event
   pub size_of_statement : Depth → Stm → ℕ
@@ -241,6 +241,6 @@ abbrev mutual
 abbrev pub size_of_arm : Depth → Stm → ℕ
 size_of_arm d s = with_scope (leaks s) (size_of_statement (deep (leaks s) d) s)
 
--- the arms of a `switch` behind the choice of one
+-- the arms of a `switch` after the choice of one
 abbrev pub size_of_arms : Depth → Stms → ℕ
 size_of_arms d b = with_scope (any_leaks b) (size_of_selection b + size_of_block (deep (any_leaks b) (in_arms d)) b)

@@ -56,7 +56,7 @@ abbrev pub else_jump : Else → ℕ
 else_jump NoElse = 0
 else_jump (OrElse b) = 1
 
--- where the statements begin behind the label of a number, or end if there are fewer labels, where the first statements begin at an address
+-- where the statements of the arm with this number begin, if those of the first begin at an address; where all end, if there are fewer arms
 abbrev pub arm_at : Depth → ℕ → ℕ → Stms → ℕ
 arm_at d to n NoStm = to
 arm_at d to n (MoreStm s b) = arm_at d (to + size_of_statement d s) n b
@@ -74,7 +74,7 @@ cases_code d at to NoStm = []
 cases_code d at to (MoreStm s b) = cases_code d at (to + size_of_statement d s) b
 cases_code d at to (MoreCase spot l b) = case_code at to l ++ cases_code d at to b
 
--- the value on the stack chooses one of the arms that begin at an address; any other goes to the `default`, or behind them all
+-- the value on the stack chooses one of the arms that begin at an address; any other leads to the `default`, or to the end of them all
 abbrev pub selection_code : Depth → Spot → ℕ → Stms → List Op
 selection_code d at to b = cases_code d at to b ++ op 0 (ToDefault at (arm_at d to (first_label is_default (labels_in b)) b)) ∷ []
 
@@ -205,6 +205,6 @@ module _ (p : Program) where
       let head = again + size_if s in
       turns i (i + 1) head at e s (λ j. arm_code j (in_loop again (head + size_of_test e) w) b)
 
-  -- the arms of a `switch`, behind the operations that choose one
+  -- the arms of a `switch`, after the operations that choose one
   abbrev pub arms_code : ℕ → Inside → Spot → Stms → List Op
   arms_code i v at b = followed i (selection_code v.depth at (i + size_of_selection b) b) (λ m. block_code m v b)

@@ -81,7 +81,7 @@ fn switch_test(
     Ok(())
 }
 
-// The arms, behind the operations that choose one.
+// The arms, after the operations that choose one.
 #[cycle(statement)]
 fn selected_arms(
     program: &Program,

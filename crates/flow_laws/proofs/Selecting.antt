@@ -43,7 +43,7 @@ module _ (p : Program) (c : Code) (S : Type 0) (after : Event → List Cell → 
   abbrev AtArm : Depth → ℕ → ℕ → Stms → Way → Machine S
   AtArm d to n b way = standing k (arm_at d to n b) (reported way)
 
-  -- the first constant that equals the value leads to its arm; where there is none, the value stays behind the comparisons
+  -- the first constant that equals the value leads to its arm; where there is none, the value is still there after the comparisons
   abbrev Compares : Depth → ℕ → ℕ → Stms → Bool → ℕ → Type 0
   Compares d i to b t n = (t ≡ true → Reaches c S after (holding i) (AtArm d to n b (ByCase x))) ×
       (t ≡ false → Reaches c S after (holding i) (holding (i + length (cases_code d at to b))))

@@ -73,7 +73,7 @@ for_sum n m = omega arith
 else_sum : (n : ℕ) → 1 + n ≡ n + 1
 else_sum n = omega arith
 
--- the comparisons with the constants of arms, and the operation behind them
+-- the comparisons with the constants of arms, and the operation after them
 cases_size : (d : Depth) (at : Spot) (to : ℕ) (b : Stms) → length (cases_code d at to b) + 1 ≡ size_of_selection b
 cases_size d at to NoStm = refl
 cases_size d at to (MoreStm s b) = cases_size d at (to + size_of_statement d s) b
