@@ -57,11 +57,13 @@ WANTED = {
     "undecided": "unknown",
     "unmatched": "unknown",
     "loop": "true",
+    "state_machine": "true",
+    "matrix": "true",
     "not_kept": "unknown",
     "too_weak": "unknown",
     "too_heavy": "ERROR (unsupported: weight)",
 }
-CONFIRMED = "first overflow assert_loop array bits assume preprocessed cpachecker automizer".split()
+CONFIRMED = "first overflow assert_loop array bits assume preprocessed cpachecker automizer switch".split()
 WANTED.update(dict.fromkeys(CONFIRMED, "false"))
 
 # Replies of each form: the first line, the status, and the answer.
