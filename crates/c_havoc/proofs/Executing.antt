@@ -49,7 +49,7 @@ abbrev state_in : {E T A : Type 0} → T → Res E T A → T
 state_in d (Go a s) = s
 state_in d (Stop e s) = d
 
--- a statement that a jump leaves: what stands behind it isn't done
+-- a statement that a jump leaves: what stands after it isn't done
 pub left_by : (k : Left → Res Stopped Left acts.Flow) (f : Flow) (u : Left) → (f ≡ Next → ⊥) → go_on k (flow_of f) u ≡ Go (flow_of f) u
 left_by k Next u h = absurd (h refl)
 left_by k Broken u h = refl

@@ -51,7 +51,7 @@ bound_twice : {S A B C D : Type 0} (r : Ran S A) (q : State S → Ran S B) (k : 
     → bound (bound r (λ _ u. bound (q u) (λ _ v. k v))) l ≡ bound r (λ _ u. bound (q u) (λ _ v. bound (k v) l))
 bound_twice r q k l = bound_on r (λ _ u. bound (q u) (λ _ v. k v)) l ∙ bound_alike r _ _ (λ _ u. bound_on (q u) (λ _ v. k v) l)
 
--- a statement that a jump leaves: what stands behind it isn't done
+-- a statement that a jump leaves: what stands after it isn't done
 pub left_by : (p : Program) (S : Type 0) (after : Event → List Cell → S → S) (k : State S → Ran S acts.Flow) (f : Flow) (u : State S) → (f ≡ Next → ⊥)
     → (wy.go_on p S (seen_by after) k (flow_of f) u).result ≡ Go (flow_of f) u
 left_by p S after k Next u h = absurd (h refl)

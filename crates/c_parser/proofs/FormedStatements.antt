@@ -131,7 +131,7 @@ module _ (q : Node → Bool) (passes : (n : Node) → IsSpelled n → q n ≡ tr
     elements_pass ts ss rest NoMoreElements = nothing_passed
     elements_pass ts ss rest (MoreElements d ds) = both (element_pass _ _ _ d) (elements_pass _ _ _ ds)
 
-    -- the statements of an arm, and what stands behind them
+    -- the statements of an arm, and what stands after them
     body_pass : (ts : List Token) (ss : List Stm) (mid : List Token) (c : Stms) (rest : List Token) → Body (Spells b conditional) One ts ss mid → Passing (every_in_block q c) mid rest → Passing (every_in_block q (joined (stms ss) c)) ts rest
     body_pass ts ss mid c rest NoMoreStatements others = others
     body_pass ts ss mid c rest (MoreStatements d ds) others = both (statement_pass _ _ _ d) (body_pass _ _ _ c rest ds others)

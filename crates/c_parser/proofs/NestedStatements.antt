@@ -57,7 +57,7 @@ module _ (Whole Paren : List Token → Exp → List Token → Type 0) (Declares 
   elements_nest ts ss rest (MoreElements {s = s} {ss = more} d ds) = and_true (nests true s) (block_nests true (stms more)) (element_nests _ _ _ d) (elements_nest _ _ _ ds)
 
   module _ (Constant : List Token → Exp → List Token → Type 0) where
-    -- the statements of an arm, and what stands behind them
+    -- the statements of an arm, and what stands after them
     body_nests : (ts : List Token) (ss : List Stm) (rest : List Token) (b : Stms) → Body Constant (Statement Whole Paren Declares Header Braced Armed) ts ss rest → block_nests false b ≡ true → block_nests false (joined (stms ss) b) ≡ true
     body_nests ts ss rest b NoMoreStatements h = h
     body_nests ts ss rest b (MoreStatements {s = s} {ss = more} d ds) h = and_true (nests false s) (block_nests false (joined (stms more) b)) (statement_nests _ _ _ d) (body_nests _ _ _ b ds h)

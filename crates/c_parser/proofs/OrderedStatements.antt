@@ -157,7 +157,7 @@ module _ (b : ℕ) (Braced : List Token → List Stm → List Token → Type 0) 
   elements_along ts ss rest NoMoreElements = AtEnd
   elements_along ts ss rest (MoreElements d ds) = then (element_along _ _ _ d) (elements_along _ _ _ ds)
 
-  -- the statements of an arm, and what stands behind them
+  -- the statements of an arm, and what stands after them
   body_along : (ts : List Token) (ss : List Stm) (mid : List Token) (c : Stms) (rest : List Token) → Body (Spells b conditional) One ts ss mid → Along (spots_of_block c) mid rest → Along (spots_of_block (joined (stms ss) c)) ts rest
   body_along ts ss mid c rest NoMoreStatements others = others
   body_along ts ss mid c rest (MoreStatements d ds) others = then (statement_along _ _ _ d) (body_along _ _ _ c rest ds others)

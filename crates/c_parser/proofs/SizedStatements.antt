@@ -66,7 +66,7 @@ module _ (b : ℕ) (Braced : List Token → List Stm → List Token → Type 0) 
   elements_sized ts ss rest NoMoreElements = refl
   elements_sized ts ss rest (MoreElements {s = s} {ss = more} d ds) = and_true (every_declared sizes_fit s) (every_declared_block sizes_fit (stms more)) (element_sized _ _ _ d) (elements_sized _ _ _ ds)
 
-  -- the statements of an arm, and what stands behind them
+  -- the statements of an arm, and what stands after them
   body_sized : (ts : List Token) (ss : List Stm) (rest : List Token) (c : Stms) → Body (Spells b conditional) One ts ss rest → every_declared_block sizes_fit c ≡ true → every_declared_block sizes_fit (joined (stms ss) c) ≡ true
   body_sized ts ss rest c NoMoreStatements h = h
   body_sized ts ss rest c (MoreStatements {s = s} {ss = more} d ds) h = and_true (every_declared sizes_fit s) (every_declared_block sizes_fit (joined (stms more) c)) (statement_sized _ _ _ d) (body_sized _ _ _ c ds h)

@@ -41,8 +41,9 @@ module _ (Pair : List Token → List Token → Type 0) where
 abbrev pub declared : Spot → List ℕ → IntType → List Exp → Init → Declared
 declared p w ty sizes init = record { spot = p; name = w; ty = ty; sizes = sizes; init = init }
 
--- values or rows parted by commas, up to the brace that closes them; a comma may stand before it
+-- `One` is one of them
 module _ (X : Type 0) (One : List Token → X → List Token → Type 0) where
+  -- values or rows parted by commas, up to the brace that closes them; a comma may stand before it
   pub data UpToBrace : List Token → List X → List Token → Type 0 where
     LastOne : {ts rest : List Token} {x : X} {q : Spot} →
         One ts x (sign_token sign.BraceClose q ∷ rest) → UpToBrace ts (x ∷ []) (sign_token sign.BraceClose q ∷ rest)
@@ -193,7 +194,7 @@ module _ (inner : ℕ → List Token → Read Exp) where
   read_rows n ts = up_to_brace read_row n ts
 
 module _ (b : ℕ) (whole inner : ℕ → List Token → Read Exp) (rows : List Token → Read (List Exps)) where
-  -- behind a brace: rows, where another one follows
+  -- after a brace: rows, where another one follows
   abbrev pub read_list : List Token → Read Init
   read_list ts = elim (is_sign sign.BraceOpen ts) [
     | true ↦ (rows ts >>= λ r. closing sign.BraceClose (Rows r.0) r.1)

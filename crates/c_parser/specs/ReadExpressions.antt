@@ -62,7 +62,7 @@ joint_at k ts = at_least k (sign_at ts >>= joins)
 abbrev pub bracketed : (List Token → Read Exp) → List Token → Read Exp
 bracketed inside ts = inside (drop 1 ts) >>= λ e. closing sign.BracketClose e.0 e.1
 
--- the same, and what stands in a second pair behind it, if there is one
+-- the same, and what stands in a second pair after it, if there is one
 abbrev pub dimensions : (List Token → Read Exp) → List Token → Read (List Exp)
 dimensions inside ts = bracketed inside ts >>= λ e.
     elim (is_sign sign.BracketOpen e.1) [ true ↦ (bracketed inside e.1 >>= λ u. Some (e.0 ∷ u.0 ∷ [], u.1)) | false ↦ Some (e.0 ∷ [], e.1) ]

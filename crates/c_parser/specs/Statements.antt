@@ -119,12 +119,12 @@ HeaderWithin zero ts parts rest = ⊥
 HeaderWithin (suc b) ts parts rest = ForParts (Spells b expr) (Declares b false) ts parts rest
 
 unfoldable mutual
-  -- the statements up to a block's `}`, within so many open brackets more
+  -- the statements up to a block's `}`; its brace is one of the b brackets
   pub BracedWithin : ℕ → List Token → List Stm → List Token → Type 0
   BracedWithin zero ts ss rest = ⊥
   BracedWithin (suc b) ts ss rest = Elements (Spells b expr) (Within b expr) (Declares b false) (HeaderWithin b) (BracedWithin b) (ArmedWithin b) ts ss rest
 
-  -- the arms up to the `}` of a `switch`, within so many open brackets more
+  -- the arms up to the `}` of a `switch`; its brace is one of the b brackets
   pub ArmedWithin : ℕ → List Token → List Arm → List Token → Type 0
   ArmedWithin zero ts more rest = ⊥
   ArmedWithin (suc b) ts more rest =

@@ -83,7 +83,7 @@ mutual
     Continue : Form
     Return : Option Exp → Form
     Label : List ℕ → Stm → Form
-    -- the arms one behind the other, each behind its label
+    -- the arms one after the other, each after its label
     Switch : Exp → Stms → Form
 
   -- the second arm of `if`

@@ -36,7 +36,7 @@ fn sizes_at<'a>(
     Ok((sizes.exprs, rest))
 }
 
-/// The values of a list or row, up to the brace that closes it; at most so many.
+/// At most `most` values of a list or row, up to the brace that closes it.
 fn values_at<'a>(
     alloc: Global,
     tokens: &'a [Token],
@@ -118,7 +118,7 @@ fn rows_at<'a>(
     Err(Unread::Unspelled)
 }
 
-/// What stands behind the brace of a list: rows, where another brace follows.
+/// What stands after the brace of a list: rows, where another brace follows.
 fn list_at<'a>(
     alloc: Global,
     tokens: &'a [Token],

@@ -494,7 +494,7 @@ fn named_at<'a>(
     Ok((leaf(spot, node), tokens))
 }
 
-/// What stands in square brackets, and in a second pair behind it, if there is one: the indexes of an element or the sizes of
+/// What stands in square brackets, and in a second pair after it, if there is one: the indexes of an element or the sizes of
 /// an array.
 #[cycle(expressions)]
 pub fn dimensions_at<'a>(

@@ -114,7 +114,7 @@ impl<'a> Source<'a> {
         Ok(unsequenced || in_index || beside)
     }
 
-    /// Whether an argument or index has no order with those before it; behind that it counts among them.
+    /// Whether an argument or index has no order with those before it; after that it counts among them.
     fn joins_unordered(
         &mut self,
         seen: &mut Seen,

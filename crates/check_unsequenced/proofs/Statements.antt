@@ -68,7 +68,7 @@ module _ (m : DataModel) (items : List raw.Item) (objects : List Object) where
   fixed_init s (raw.Many gs) = fixed_values s gs
   fixed_init s (raw.Rows all) = fixed_rows s all
 
-  -- the sizes in front, the initializer behind
+  -- the sizes first, then the initializer
   name_of : (fixed : Bool) (s : Scope) (d : raw.Declared) (fs : List Full) → Are (parts_of_init fixed (after_name m names fixed s d) d.init) fs → Are (parts_of_name m names fixed s d) fs
   name_of fixed s d fs x =
       let sizes = parts_of (seen s) (raw.exps d.sizes) in

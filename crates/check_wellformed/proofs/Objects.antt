@@ -34,7 +34,7 @@ some_cells zero b h k = absurd (false≢true h)
 some_cells (suc n) zero h k = absurd (false≢true k)
 some_cells (suc n) (suc l) h k = grind (arith, nat_tests)
 
--- so many rows of so many columns
+-- `a` rows of `b` columns
 whole_rows : (a b : ℕ) → nat_le 1 a ≡ true → nat_le 1 b ≡ true → shape_fits 2 (a * b) b ≡ true
 whole_rows a b h k = both (some_cells a b h k) (both k (eq-eqb (a * b % b) 0 (mul-mod_left a b)))
 

@@ -150,7 +150,7 @@ module _ (p : t.Program) (items : List raw.Item) (entries : List Entry) where
 
   -- ---- statements
 
-  -- behind arms the same is in scope
+  -- after arms the same is in scope
   arms_see : (s : Scope) (b : raw.Stms) → seen (after_arms p.model (bodies_of items) s b) ≡ seen s
   arms_see s raw.NoStm = refl
   arms_see s (raw.MoreStm x b) = arms_see (closed s (after_statement p.model (bodies_of items) (opened s) x)) b

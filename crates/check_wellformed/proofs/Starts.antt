@@ -67,7 +67,7 @@ module _ (p : t.Program) (items : List raw.Item) (entries : List Entry) where
   one_cell es (e ∷ []) h = absurd (false≢true (sym h))
   one_cell es (e ∷ f ∷ more) h = absurd (false≢true (sym h))
 
-  -- so many whole rows
+  -- each row of values fills all its columns
   rows_fill : (es : List Entry) (ty : IntType) (columns : ℕ) (rows : List Exps) → list_all (λ row. nat_le (count row) columns) rows ≡ true
       → length (row_values p.model (bodies_of items) es ty columns rows) ≡ length rows * columns
   rows_fill es ty columns [] h = sym (zero-mul columns)

@@ -47,7 +47,7 @@ large_enough n (Some k) h = not_below n k h
 within_rows : (a b n : ℕ) → nat_le n a ≡ true → nat_le (n * b) (a * b) ≡ true
 within_rows a b n h = le-leb (n * b) (a * b) (mul-le-mul_right b (leb-true n a h))
 
--- what rows leave room for: so many cells, so many of each row
+-- there are no more rows than the cells allow, and none is longer than the columns
 pub record HaveRoom (cells columns : ℕ) (rows : List Exps) : Type 0 where
   pub all : nat_le (length rows * columns) cells ≡ true
   pub each : list_all (λ row. nat_le (count row) columns) rows ≡ true
@@ -204,7 +204,7 @@ module _ (p : t.Program) (items : List raw.Item) (entries : List Entry) where
     labels_fit ty s (raw.MoreCase q raw.Default b) = labels_fit ty s b
 
     module _ (result : Option IntType) (within : Within) (ty : IntType) where
-      -- behind a `default` there is none
+      -- after a `default` there is none
       none_behind : (before : List (Option ArmLabel)) (s : Scope) (b : raw.Stms) → is_chosen before (Some Default) ≡ true → Goods (parts_of_arms p.model (bodies_of items) result within ty before s b)
           → count_by is_default (labels_in (typed_arms p.model (bodies_of items) ty s b)) ≡ 0
       none_behind before s raw.NoStm h g = refl

@@ -57,7 +57,7 @@ abbrev pub else_jump : Else → ℕ
 else_jump NoElse = 0
 else_jump (OrElse b) = 1
 
--- where the statements begin behind the label of a number, or end if there are fewer labels, where the first statements begin at an address
+-- where the statements of the arm with this number begin, if those of the first begin at an address; where all end, if there are fewer arms
 abbrev pub arm_at : Depth → ℕ → ℕ → Stms → ℕ
 arm_at d to n NoStm = to
 arm_at d to n (MoreStm s b) = arm_at d (to + size_of_statement d s) n b

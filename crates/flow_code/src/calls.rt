@@ -23,7 +23,7 @@ fn argument_goes(callee: Callee) -> Then
     }
 }
 
-/// Arguments from left to right, whose values go there; the answer is the steps that are left to take behind them.
+/// Arguments from left to right, whose values go there; the answer is the steps that are left to take after them.
 #[cycle(expression)]
 pub fn arguments(
     program: &Program,

@@ -99,7 +99,7 @@ pub enum Action {
         spot: Spot,
         reads: bool,
     },
-    /// The cell of a row and a column among so many rows and columns, which is left on the stack.
+    /// The cell of a row and a column of an array with these numbers of rows and columns; it is left on the stack.
     Row {
         rows: u32,
         columns: u32,

@@ -403,7 +403,7 @@ fn size_of_first(first: &First) -> Result<u32, OutOfMemory>
     }
 }
 
-/// A statement's code, where so many scopes are open.
+/// A statement's code, where these scopes are open.
 #[cycle(size_of_statement)]
 pub fn size_of_statement(s: &Stmt, depth: Depth) -> Result<u32, OutOfMemory>
     ensures { IfOk result (λ n. n ≡ spec.size_of_statement depth (stmt_view s.now)) }

@@ -36,7 +36,7 @@ use Rattle.flow_laws.proofs.Answering.{look_takes, row_takes}
 use Rattle.flow_laws.proofs.Nodes.{Noded, both_comes}
 use Rattle.flow_laws.proofs.Invoking.{ArgsOf, InArgs, listed_drop, counted}
 
--- two parts and what comes behind them
+-- two parts and what comes after them
 behind_two : {E T A B C D : Type 0} (r : Res E T A) (m : A → T → Res E T B) (f : A → B → T → Res E T C)
     (g : C → T → Res E T D)
     → bind (bind r (λ v t. bind (m v t) (λ w q. f v w q))) g ≡ bind r (λ v t. bind (m v t) (λ w q. bind (f v w q) g))

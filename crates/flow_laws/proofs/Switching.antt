@@ -118,7 +118,7 @@ module _ (p : Program) (c : Code) (S : Type 0) (after : Event → List Cell → 
   from_arm_as zero (MoreCase spot l b) s = refl
   from_arm_as (suc j) (MoreCase spot l b) s = from_arm_as j b s
 
-  -- the statements that a value chooses, behind the report of the way
+  -- the statements that a value chooses, after the report of the way
   abbrev taken_by : Spot → ℤ → Stms → Part p c S after n known result
   taken_by at x b s = bind (run.selected p S (seen_by after) at x (labels_in b) s)
       (λ j u. execs p M call result (behind_label_of j b) u)
@@ -136,7 +136,7 @@ module _ (p : Program) (c : Code) (S : Type 0) (after : Event → List Cell → 
       (λ j. execs_neutral p S (seen_by after) call (calls_neutral p S (seen_by after) n) result (behind_label_of j b)
       (few_leak j b e))
 
-  -- behind the arms: `break` jumps from there, since no scope of the `switch` is open
+  -- after the arms: `break` jumps from there, since no scope of the `switch` is open
   held_left : (w : Inside) (k : Control) (end : ℕ) (f : Flow) (u : State S) (y : Machine S)
       → LeavesAs p c S after (in_switch end w) k end f u y → Does c S after y (Go (held f) u)
       (LeavesAs p c S after w k end)
@@ -210,7 +210,7 @@ module _ (p : Program) (c : Code) (S : Type 0) (after : Event → List Cell → 
   comes_as m (Go v s) κ j x d = subst (Comes p c S after m) (sym d.2) (d.0, d.1, (refl, refl))
   comes_as m (Stop e s) κ j x d = d
 
-  -- expressions, in the words of machines that come to a control
+  -- expressions, stated by the control that the machine comes to
   values : (e : Exp) → Values p c S after n e
   values e at i k want then κ s h below =
       subst (Comes p c S after (standing κ i s)) (paying_behind p c S after k (Eval p c S after n at want e)
@@ -219,7 +219,7 @@ module _ (p : Program) (c : Code) (S : Type 0) (after : Event → List Cell → 
       (only then)
       (known.evaluated e at i k want then (standing κ i s) h (record { at = refl; paid = refl }) below))
 
-  -- a value, and what comes behind it
+  -- a value, and what comes after it
   comes_to : {A : Type 0} (m : Machine S) (r : Res End (State S) ℤ) (h : ℤ → Control)
       (f : ℤ → State S → Res End (State S) A) (L : A → State S → Machine S → Type 0)
       → Comes p c S after m (bind r (λ v u. Go (h v) u)) → ((v : ℤ) (u : State S) → u.steps ≤ m.run.steps

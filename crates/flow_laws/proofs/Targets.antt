@@ -76,7 +76,7 @@ module _ (p : Program) (c : Code) (S : Type 0) (after : Event → List Cell → 
   found spot o size columns (Go js t) h = found_at spot o size (cell_among size columns js) t (among_is size columns js) h
   found spot o size columns (Stop e t) h = tt
 
-  -- the cell of an element, and what the machine does behind it
+  -- the cell of an element, and what the machine does after it
   pub aim_then : (o : ℕ) (is : Exps) → InArgs p c S after n is → AreSmall p → (at : Around) (i k : ℕ) (spot : Spot) (reads : Bool) (κ : Control) (s : State S)
       → HasCode c i (place_code p at i k spot (Index o is) reads).ops → s.steps ≤ n
       → (f : Key → State S → Res End (State S) Control)

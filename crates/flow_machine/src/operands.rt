@@ -47,7 +47,7 @@ pub fn index_below(size: u32, index: i128) -> Option<u32>
     }
 }
 
-/// The cell of a row and a column, where there are both among so many rows and columns.
+/// The cell of a row and a column, where an array with these numbers of rows and columns has both.
 #[tactic(auto, using(crate::proofs::Fitting::cell_fits))]
 pub fn in_row(rows: u32, columns: u32, row: i128, column: i128) -> Option<u64>
     ensures { result ≡ cell_in_row columns (index_of_array rows row) (index_of_array columns column) }

@@ -47,7 +47,7 @@ closes labels i f h (suc n) (suc k) m e =
 moved : (labels : List Shape → Type 0) (i j : ℕ) (ops : List Op) (x y : Shape) → i ≡ j → Fits labels i ops x y → Fits labels j ops x y
 moved labels i j ops x y e a = subst (λ l. Fits labels l ops x y) e a
 
--- a scope around operations, where it is there, which take so many values
+-- a scope, where it is there, around operations that take values from the stack
 scope_over : (b : Bool) (labels : List Shape → Type 0) (i : ℕ) (g : ℕ → List Op) (f h n : ℕ) → ((j : ℕ) → Fits labels j (g j) (with_open f h (n + one_if b)) (flat f (n + one_if b)))
     → Fits labels i (scope b i g) (with_open f h n) (flat f n)
 scope_over true labels i g f h n a =
@@ -73,7 +73,7 @@ scope_fits b labels i g f n a = scope_over b labels i g f 0 n a
 abbrev AtArms : Depth → ℕ → Stms → Shape → List Shape → Type 0
 AtArms d to b y ts = (n : ℕ) → Has ts (arm_at d to n b) y
 
--- a block's operations keep shapes right, and its arms begin with the shape that is before and behind it
+-- a block's operations keep shapes right, and its arms begin with the shape that is before and after it
 pub record FitsArms (labels : List Shape → Type 0) (d : Depth) (i : ℕ) (ops : List Op) (y : Shape) (b : Stms) : Type 0 where
   pub fits : Fits labels i ops y y
   pub arms : (n : ℕ) (ts : List Shape) → HasAll ts i fits.shapes → Has ts (i + length ops) y → Has ts (arm_at d i n b) y

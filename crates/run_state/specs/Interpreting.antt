@@ -224,7 +224,7 @@ module _ (p : Program) (S : Type 0) (after : Event → List Cell → S → S) wh
   abbrev pub branching : Spot → ℤ → State S → Ran S Bool
   branching spot v s = bound (telling (Branch spot (Truth (not (is_zero v)))) s) (λ _ u. done (not (is_zero v)) u)
 
-  -- the number of the arm that a value chooses by the labels, told as a branching
+  -- the number of the arm that a value chooses by the labels, reported as a branching
   abbrev pub selecting : Spot → ℤ → List ArmLabel → State S → Ran S ℕ
   selecting spot v ls s = w.wanting p S (seen_by after) (run.selected p S (seen_by after) spot v ls) s
 

@@ -64,7 +64,7 @@ pub fn arm_for(value: i128, arms: &[Arm]) -> usize
     }
 }
 
-/// The number of the arm that a value chooses, told as a branching.
+/// The number of the arm that a value chooses, reported as a branching.
 pub fn select<W: Watcher>(
     program: &Program,
     machine: &Machine,

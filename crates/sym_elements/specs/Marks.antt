@@ -29,7 +29,7 @@ pub record IsDecoded (old new : List NetNode) (here : Bit) (digits : List Bit) (
   pub grown : Grown (2 * (n + length digits)) old new
   pub marks_of : AreMarks new bits n (λ v. cond (holds v old here) (suc (number v old digits)) 0)
 
--- of the first k cells of so many columns: is the row's true, and the column's?
+-- of the first k cells, in rows of this width: is the row's true, and the column's?
 abbrev pub crossing : List Bool → List Bool → ℕ → ℕ → List Bool
 crossing rows columns width zero = []
 crossing rows columns width (suc k) = crossing rows columns width k ++ (get_or rows (k / width) false && get_or columns (k % width) false) ∷ []

@@ -32,7 +32,7 @@ pub record Spells (v : ℕ → Bool) (net : List NetNode) (places : Places) (k :
   pub column : number v net (take places.inner places.digits) < places.columns
   pub is : cell_number v net places.inner places.columns places.digits ≡ k
 
--- places among at most so many cells: under inputs that of the cell is true alone, and the digits spell it
+-- a place for each of `count` cells: under inputs that of the cell is true alone, and the digits spell it
 pub record ArePlaced (old new : List NetNode) (ands count : ℕ) (cell : MaybeCell) (places : Places) : Type 0 where
   pub grown : Grown ands old new
   pub inside : AreIn new places.bits
@@ -54,15 +54,15 @@ abbrev pub row_where : List NetNode → Bit → ℕ → ℕ → Bool → List Bi
 row_where net here rows columns signed_row row signed_column column v =
     cond (holds v net here) (in_row columns (index_of net rows signed_row row v) (index_of net columns signed_column column v)) None
 
--- and-nodes of the places of an index of this width among so many cells
+-- and-nodes of the places of an index of this width among `count` cells
 abbrev pub index_cost : ℕ → ℕ → ℕ
 index_cost count width = 1 + 2 * (count + width)
 
--- of those of a row and a column among so many rows and columns
+-- of those of a row and a column, by the numbers of rows and columns
 abbrev pub crossed_cost : ℕ → ℕ → ℕ → ℕ → ℕ
 crossed_cost rows columns row_width column_width = index_cost rows row_width + (index_cost columns column_width + rows * columns)
 
--- of those of a row and a column among so many cells
+-- of those of a row and a column, by the number of cells
 abbrev pub row_cost : ℕ → ℕ → ℕ → ℕ
 row_cost cells row_width column_width = 5 * cells + (2 * (row_width + column_width) + 2)
 

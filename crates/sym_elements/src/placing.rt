@@ -47,7 +47,7 @@ fn not_negative(net: &Net, ty: IntType, digits: &[Bit]) -> Bit
     net.yes()
 }
 
-/// The places of an index among so many cells, where `here` is true.
+/// The places of an index among `count` cells, where `here` is true.
 pub fn place_index(
     alloc: Global,
     net: &mut Net,
@@ -76,7 +76,7 @@ pub fn place_index(
     })
 }
 
-// The places of a row and a column among so many of both, where `here` is true.
+// The places of a row and a column among these rows and columns, where `here` is true.
 fn place_among(
     alloc: Global,
     net: &mut Net,

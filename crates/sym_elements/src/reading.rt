@@ -27,7 +27,7 @@ fn numbers(digits: usize) -> u32
     u32::MAX
 }
 
-// How many cells so many digits tell apart, of which the first `inner` are those of a column; at most the largest u32.
+// How many cells this number of digits tells apart, of which the first `inner` are those of a column; at most the largest u32.
 fn told(digits: usize, inner: usize, columns: u32) -> u32
     ensures { result ≡ min (told_by inner columns digits) (2 ^ 32 - 1) }
 {

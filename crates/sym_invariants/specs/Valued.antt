@@ -95,7 +95,7 @@ module _ (p : Program) where
   abbrev pub seen_cell : ℕ → (ℕ → Bool) → Sym → ℕ → Option ℤ
   seen_cell o v s k = seen_at p (key o k) (stand p v s).cells
 
-  -- and-nodes of an element behind its places: the tree of choices, and 3 for each cell that tell whether it is live
+  -- and-nodes of an element after its places: the tree of choices, and 3 for each cell that say whether it is live
   abbrev pub cell_cost : ℕ → ℕ
   cell_cost o = size_of_object p o * (4 * width_of p.model (type_of_object p o) + 3)
 

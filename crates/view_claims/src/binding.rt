@@ -234,7 +234,7 @@ fn ways_there(index: &Index, location: &Location) -> &'static str {
     }
 }
 
-/// A branching that states no way that there is at its place.
+/// A branching that states a way that its place doesn't have.
 fn explain_way(
     alloc: Global,
     files: &Files<'_>,

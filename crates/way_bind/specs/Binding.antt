@@ -1,6 +1,8 @@
 -- Violation witnesses bound to the places and the typed expressions of a program. A waypoint passes four tests, in this order: its
 -- place exists; its expression is in the grammar; its names are in scope, and a `\result` constraint isn't at a call of a void
--- function; its expression types. The least waypoint that fails one is told, by the first test that it fails.
+-- function; its expression types. A branching passes them where its place exists and its value is a way there: an integer or `default`
+-- at a switch, `true` or `false` elsewhere; another value fails as an expression does. The least waypoint that fails a test is
+-- reported, by the first that it fails.
 use Rattle.std.specs.Prelude.{◌≡◌, ◌⊎◌, ℕ, Bool, true, false, cond, is_some, List, [], ◌∷◌, ◌++◌, Option, Some, None, Result, Ok, Err}
 use Rattle.std.specs.List.{flat_map}
 use Rattle.c_core.specs.Tree.{Exp, Expr, Program}

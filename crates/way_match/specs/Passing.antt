@@ -53,7 +53,7 @@ meets_at p close None v = true
 meets_at p close (Some t) None = false
 meets_at p close (Some t) (Some v) = meets p t (type_of_call (call_at p close)) v
 
--- of two truths
+-- both are true, or both false
 abbrev pub same_truth : Bool → Bool → Bool
 same_truth true way = way
 same_truth false true = false

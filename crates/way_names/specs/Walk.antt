@@ -102,7 +102,7 @@ abbrev mutual
       walked_block (with_names (walked w scope s) scope (declared_by s)) (innermost (walked w scope s) scope (declared_by s)) b
   walked_block w scope (MoreCase spot l b) = walked_block w scope b
 
--- the scope behind statements
+-- the scope after statements
 abbrev pub scope_behind : Walk → Option ℕ → Stms → Option ℕ
 scope_behind w scope NoStm = scope
 scope_behind w scope (MoreStm s b) =

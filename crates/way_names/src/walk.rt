@@ -197,7 +197,7 @@ fn inside(walk: &mut Walk, scope: Option<usize>, form: &Form) -> Result<(), OutO
     Ok(())
 }
 
-/// The scope behind statements.
+/// The scope after statements.
 #[cycle(statement)]
 fn block(walk: &mut Walk, outer: Option<usize>, body: &[Stmt]) -> Result<Option<usize>, OutOfMemory>
     ensures scope { IfOk result (λ scope. scope ≡ scope_behind (walk_view walk.old) outer (stmts_view body.now)) }

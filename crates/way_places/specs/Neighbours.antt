@@ -1,4 +1,4 @@
--- The statements of blocks and arms, each under the place of the one behind it.
+-- The statements of blocks and arms, each under the place of the one after it.
 use Rattle.std.specs.Prelude.{List, [], ◌∷◌, ◌++◌, Option, Some, None, map}
 use Rattle.std.specs.List.{flat_map}
 use denote.Ref.{Bor}

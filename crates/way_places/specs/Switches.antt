@@ -31,6 +31,7 @@ abbrev pub typed_at : Spot → Option IntType → List (Spot × IntType)
 typed_at at None = []
 typed_at at (Some ty) = (at, ty) ∷ []
 
+-- that of a statement, if it is a switch
 abbrev pub tests_of : Stm → List (Spot × IntType)
 tests_of (Stmt at f) = typed_at at (switch_of f)
 

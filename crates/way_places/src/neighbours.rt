@@ -1,4 +1,4 @@
-// The statements of blocks and arms, each under the place of the one behind it.
+// The statements of blocks and arms, each under the place of the one after it.
 ghost use Rattle.std.specs.Prelude.{◌≡◌, ◌∷◌, ◌++◌, [], OnOk, IfOk};
 ghost use Rattle.c_core.specs.Parts.{statements_of, statements_of_block, statements_of_form, statements_of_program};
 ghost use Rattle.c_core.specs.View.{form_view, functions_view, program_view, stmt_view, stmts_view, switch_view};

@@ -86,7 +86,7 @@ module _ (p : Program) (c : Code) (S : Type 0) (after : Event → List Cell → 
       → slice_get c.ops m.control.at ≡ Some (call_op f (length vs) site (Some g)) → m.control.paid ≡ 0 → m.control.stack ≡ reverse (values_of vs) ++ rest → m.run.steps ≤ n
       → Does c S after m (calls n (site_of site) f vs m.run) (λ v s y. (y.control ≡ record m.control { at = suc m.control.at; stack = v ∷ rest }) × (y.run ≡ s))
 
-  -- how a statement inside others is left: behind its code; before the way out of the scopes of what `break` leaves, of the turn's, of the function's, with the value
+  -- how a statement inside others is left: after its code; before the way out of the scopes of what `break` leaves, of the turn's, of the function's, with the value
   -- that is given, not yet converted to the function's type, on the stack
   abbrev pub LeavesAs : Inside → Control → ℕ → Flow → State S → Machine S → Type 0
   LeavesAs w k j Next s y = (y.run ≡ s) × (y.control ≡ control_at k j)

@@ -1,0 +1,5 @@
+pub mod Text
+pub mod Reading
+pub mod Accepted
+pub mod Certified
+pub mod Examples
