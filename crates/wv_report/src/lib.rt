@@ -6,6 +6,7 @@ mod lines;
 mod reply;
 mod report;
 mod values;
+mod written;
 
 pub use reply::{Reply, status};
 pub use report::{json, text};

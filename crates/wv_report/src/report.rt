@@ -6,7 +6,7 @@ use crate::Reply;
 use crate::lines::{
     add_obligation, add_reason_line, add_refusal, add_segments, add_undecided, add_values,
 };
-use crate::values::reply_value;
+use crate::written::add_reply;
 use c_meaning::Verdict;
 use std::alloc::Global;
 use wv_base::OutOfMemory;
@@ -28,12 +28,13 @@ pub fn text(alloc: Global, reply: &Reply) -> Result<Vec<u8>, OutOfMemory>
 }
 
 /// The whole JSON report of a reply.
+#[tactic(auto, unfolding(crate::specs::Json::json_of))]
 pub fn json(alloc: Global, reply: &Reply) -> Result<Vec<u8>, OutOfMemory>
     requires { HasJsonIntegers reply.now }
     ensures { IfOk result (λ bytes. bytes.items ≡ json_of reply.now) }
 {
-    let value = reply_value(alloc, reply)?;
-    let mut out = value.to_string(alloc)?;
+    let mut out = String::new(alloc);
+    add_reply(alloc, &mut out, reply)?;
     out.push_str("\n")?;
     Ok(out.into_bytes())
 }
