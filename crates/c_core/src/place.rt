@@ -10,6 +10,7 @@ pub enum PlaceKind {
     CallEnd,
 }
 
+/// A place of a program at which a waypoint or an invariant may stand.
 #[derive(Clone, Copy, Debug, PartialEq, Eq)]
 pub struct Place {
     pub kind: PlaceKind,

@@ -31,6 +31,7 @@ fn exec(
     form(program, invariants, machine, depth, wanted, s.spot, &s.form)
 }
 
+/// Does a statement's form.
 #[cycle(run)]
 pub fn form(
     program: &Program,

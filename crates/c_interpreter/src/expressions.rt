@@ -15,6 +15,7 @@ use run_state::{
 };
 use wv_base::Seq;
 
+/// The value of an expression, after its effects.
 #[cycle(run)]
 pub fn eval<W: Watcher>(
     program: &Program,

@@ -30,6 +30,7 @@ fn exec<W: Watcher>(
     form(program, machine, watcher, depth, wanted, s.spot, &s.form)
 }
 
+/// Does a statement's form.
 #[cycle(run)]
 pub fn form<W: Watcher>(
     program: &Program,

@@ -48,6 +48,7 @@ pub fn is_sign(tokens: &[Token], sign: Punct) -> bool
     }
 }
 
+/// Whether two signs are the same.
 pub fn is_same(sign: Punct, other: Punct) -> bool
     ensures { result ≡ same_sign sign other }
 {

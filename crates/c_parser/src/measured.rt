@@ -23,6 +23,7 @@ pub struct Measured {
     pub height: usize,
 }
 
+/// An expression in a box.
 pub fn boxed(alloc: Global, expr: RawExpr) -> Result<Box<RawExpr>, OutOfMemory>
     ensures { IfOk result (λ b. b.value ≡ expr) }
 {
@@ -181,6 +182,7 @@ pub struct MeasuredRow {
 }
 
 impl MeasuredRow {
+    /// No expressions.
     pub fn new(alloc: Global) -> MeasuredRow
         ensures { (result.exprs ≡ []) × (result.height ≡ 0) }
     {
@@ -190,6 +192,7 @@ impl MeasuredRow {
         }
     }
 
+    /// Adds an expression; the height is that of the highest.
     pub fn push(&mut self, last: Measured) -> Result<(), OutOfMemory>
         ensures exprs { OnOk result (self.new.exprs ≡ self.old.exprs ++ last.expr ∷ []) }
         ensures height { OnOk result (self.new.height ≡ max self.old.height last.height) }

@@ -89,6 +89,7 @@ pub struct RawStmt {
     pub form: RawForm,
 }
 
+/// The forms of statements as they are spelled (ISO C11 6.8).
 #[cycle(stmt)]
 #[derive(Drop)]
 pub enum RawForm {
@@ -162,6 +163,7 @@ pub struct RawDeclared {
     pub init: RawInit,
 }
 
+/// An initializer as it is spelled (ISO C11 6.7.9).
 #[derive(Drop)]
 pub enum RawInit {
     Absent,

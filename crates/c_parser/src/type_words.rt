@@ -6,6 +6,7 @@ ghost use Rattle.c_parser.specs.TypeCounts.{word_view, counted, number_of, first
 
 use c_core::IntType;
 
+/// A word of a type (ISO C11 6.7.2).
 #[derive(Clone, Copy, Debug)]
 pub enum TypeWord {
     Void,

@@ -4,24 +4,28 @@ ghost use Rattle.std.specs.List.{prefix_len};
 ghost use Rattle.c_tokens.specs.Bytes;
 ghost use Rattle.c_tokens.specs.Gaps;
 
+/// A space, a tab, a vertical tab or a form feed (ISO C11 5.1.1.2).
 pub fn is_blank(byte: u8) -> bool
     ensures { result ≡ Bytes.is_blank byte }
 {
     matches!(byte, b' ' | b'\t')
 }
 
+/// A letter of an identifier, or an underscore (ISO C11 6.4.2.1).
 pub fn is_letter(byte: u8) -> bool
     ensures { result ≡ Bytes.is_letter byte }
 {
     matches!(byte, b'a'..=b'z' | b'A'..=b'Z' | b'_')
 }
 
+/// A decimal digit.
 pub fn is_digit(byte: u8) -> bool
     ensures { result ≡ Bytes.is_digit byte }
 {
     matches!(byte, b'0'..=b'9')
 }
 
+/// An octal digit.
 pub fn is_octal_digit(byte: u8) -> bool
     ensures { result ≡ Bytes.is_octal_digit byte }
 {
@@ -46,12 +50,14 @@ fn is_number_byte(byte: u8) -> bool
     is_word_byte(byte) || byte == b'.'
 }
 
+/// A byte that may stand in a character constant or string as itself.
 pub fn is_plain(byte: u8) -> bool
     ensures { result ≡ Bytes.is_plain byte }
 {
     matches!(byte, b' '..=b'~') && byte != b'\'' && byte != b'\\'
 }
 
+/// The value of a digit, hexadecimal ones included.
 pub fn digit_value(digit: u8) -> u8
     ensures { result ≡ Bytes.digit_value digit }
 {
@@ -62,6 +68,7 @@ pub fn digit_value(digit: u8) -> u8
     }
 }
 
+/// Whether a text begins with this byte.
 pub fn begins_with(byte: u8, text: &[u8]) -> bool
     ensures here { result ≡ Gaps.begins_with byte text.now }
     ensures within { IsTrue result → 0 < length text.now }
@@ -72,6 +79,7 @@ pub fn begins_with(byte: u8, text: &[u8]) -> bool
     }
 }
 
+/// How many blanks a text begins with.
 pub fn blank_run(text: &[u8]) -> usize
     ensures run { result ≡ prefix_len Bytes.is_blank text.now }
     ensures within { result ≤ length text.now }
@@ -79,6 +87,7 @@ pub fn blank_run(text: &[u8]) -> usize
     text.iter().take_while(|byte| is_blank(**byte)).count()
 }
 
+/// How many bytes of a word a text begins with.
 pub fn word_run(text: &[u8]) -> usize
     ensures run { result ≡ prefix_len Bytes.is_word_byte text.now }
     ensures within { result ≤ length text.now }
@@ -86,6 +95,7 @@ pub fn word_run(text: &[u8]) -> usize
     text.iter().take_while(|byte| is_word_byte(**byte)).count()
 }
 
+/// How many bytes of a number a text begins with.
 pub fn number_run(text: &[u8]) -> usize
     ensures run { result ≡ prefix_len Bytes.is_number_byte text.now }
     ensures within { result ≤ length text.now }
@@ -95,6 +105,7 @@ pub fn number_run(text: &[u8]) -> usize
         .count()
 }
 
+/// How many decimal digits a text begins with.
 pub fn digit_run(text: &[u8]) -> usize
     ensures run { result ≡ prefix_len Bytes.is_digit text.now }
     ensures within { result ≤ length text.now }
@@ -102,6 +113,7 @@ pub fn digit_run(text: &[u8]) -> usize
     text.iter().take_while(|byte| is_digit(**byte)).count()
 }
 
+/// How many octal digits a text begins with.
 pub fn octal_run(text: &[u8]) -> usize
     ensures run { result ≡ prefix_len Bytes.is_octal_digit text.now }
     ensures within { result ≤ length text.now }
@@ -111,6 +123,7 @@ pub fn octal_run(text: &[u8]) -> usize
         .count()
 }
 
+/// How many hexadecimal digits a text begins with.
 pub fn hexadecimal_run(text: &[u8]) -> usize
     ensures run { result ≡ prefix_len Bytes.is_hexadecimal_digit text.now }
     ensures within { result ≤ length text.now }

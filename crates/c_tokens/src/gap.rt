@@ -18,6 +18,8 @@ pub enum Gap {
     Absent,
 }
 
+/// What stands between two tokens here: a blank, a comment, a line passed over, or none of these. A
+/// directive stands only on a fresh line.
 pub fn gap_at(fresh: bool, text: &[u8]) -> Gap
     ensures here { result ≡ Gaps.gap fresh text.now }
     ensures within { Within result (length text.now) }

@@ -11,6 +11,7 @@ pub struct Place {
     pub fresh: bool,
 }
 
+/// Line 1, column 1.
 pub fn first_place() -> Place
     ensures { result ≡ start }
 {

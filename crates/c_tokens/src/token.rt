@@ -8,6 +8,7 @@ pub struct Token {
     pub spot: Spot,
 }
 
+/// What a token is (ISO C11 6.4).
 #[derive(Debug, Drop)]
 pub enum TokenKind {
     /// An identifier or a keyword.

@@ -8,18 +8,21 @@ use c_core::{Arm, Expr, First, Form, Label, Spot, Stmt};
 use std::alloc::Global;
 use wv_base::{OutOfMemory, Seq};
 
+/// A block.
 pub fn block_of(statements: Seq<Stmt>) -> Form
     ensures { form_view result ≡ t.Block (stmts_view statements) }
 {
     Form::Block(statements)
 }
 
+/// A statement in a box.
 pub fn boxed(alloc: Global, s: Stmt) -> Result<Box<Stmt>, OutOfMemory>
     ensures { IfOk result (λ r. r.value ≡ s) }
 {
     Ok(Box::new(alloc, s)?)
 }
 
+/// An `if`.
 pub fn choice_of(
     alloc: Global,
     test: Expr,
@@ -32,6 +35,7 @@ pub fn choice_of(
     Ok(Form::If { test, yes, no })
 }
 
+/// A `while`.
 pub fn while_of(alloc: Global, test: Expr, body: Stmt) -> Result<Form, OutOfMemory>
     ensures { IfOk result (λ r. form_view r ≡ t.While (expr_view test) (stmt_view body)) }
 {
@@ -39,6 +43,7 @@ pub fn while_of(alloc: Global, test: Expr, body: Stmt) -> Result<Form, OutOfMemo
     Ok(Form::While { test, body })
 }
 
+/// A `do`.
 pub fn do_of(alloc: Global, body: Stmt, test: Expr) -> Result<Form, OutOfMemory>
     ensures { IfOk result (λ r. form_view r ≡ t.DoWhile (stmt_view body) (expr_view test)) }
 {
@@ -46,6 +51,7 @@ pub fn do_of(alloc: Global, body: Stmt, test: Expr) -> Result<Form, OutOfMemory>
     Ok(Form::Do { body, test })
 }
 
+/// A `for`.
 pub fn for_of(
     alloc: Global,
     first: First,
@@ -64,18 +70,21 @@ pub fn for_of(
     })
 }
 
+/// A `switch`.
 pub fn switch_of(test: Expr, arms: Seq<Arm>) -> Form
     ensures { form_view result ≡ t.Switch (expr_view test) (switch_view arms) }
 {
     Form::Switch { test, arms }
 }
 
+/// An arm of a `switch`.
 pub fn arm_of(spot: Spot, label: Label, body: Seq<Stmt>) -> Arm
     ensures { (rest : t.Stms) → arm_view result rest ≡ t.MoreCase spot label (joined (stmts_view body) rest) }
 {
     Arm { spot, label, body }
 }
 
+/// A labelled statement.
 pub fn label_of(alloc: Global, of: Stmt) -> Result<Form, OutOfMemory>
     ensures { IfOk result (λ r. form_view r ≡ t.Label (stmt_view of)) }
 {

@@ -24,6 +24,7 @@ pub struct Log<'a> {
 }
 
 impl<'a> Log<'a> {
+    /// No lines.
     pub fn new(alloc: Global) -> Log<'a>
         ensures { result.lines.items ≡ [] }
     {

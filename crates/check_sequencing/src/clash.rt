@@ -59,6 +59,7 @@ fn one_touches(effects: &[Effect], object: u32) -> bool
 }
 
 impl<'a> Source<'a> {
+    /// The effects of all bodies, beside what is declared.
     pub fn new(alloc: Global, declared: Declarations<'a>, bodies: &'a [Seq<Effect>]) -> Source<'a>
         ensures bodies { bodies_of result ≡ bodies.now }
         ensures objects { objects_of result ≡ declared.entry.objects.now }

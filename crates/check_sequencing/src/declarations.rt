@@ -18,6 +18,7 @@ pub struct Declarations<'a> {
 }
 
 impl<'a> Declarations<'a> {
+    /// Whether this is the number of an object.
     pub fn is_object(&self, object: u32) -> bool
         ensures { result ≡ is_some (slice_get self.now.objects.now object) }
     {

@@ -6,6 +6,7 @@ use crate::effect::Effect;
 use std::alloc::Global;
 use wv_base::{OutOfMemory, Seq};
 
+/// Whether an effect changes an object.
 pub fn changes(effect: Effect, object: u32) -> bool
     ensures { result ≡ changes object effect }
 {
@@ -15,6 +16,7 @@ pub fn changes(effect: Effect, object: u32) -> bool
     }
 }
 
+/// Whether an effect reads or changes an object.
 pub fn touches(effect: Effect, object: u32) -> bool
     ensures { result ≡ touches object effect }
 {
@@ -35,6 +37,7 @@ fn is_wanted(effect: Effect, only_changes: bool, object: u32) -> bool
     }
 }
 
+/// Whether a function is marked.
 pub fn is_marked(marks: &[bool], function: u32) -> bool
     ensures { result ≡ is_marked marks.now function }
 {

@@ -17,6 +17,7 @@ pub struct Memo<'a> {
 }
 
 impl<'a> Memo<'a> {
+    /// Nothing is known yet of what the bodies do.
     pub fn new(alloc: Global, bodies: &'a [Seq<Effect>], only_changes: bool) -> Memo<'a>
         ensures bodies { result.bodies.now ≡ bodies.now }
         ensures only_changes { result.only_changes ≡ only_changes }

@@ -15,6 +15,7 @@ pub struct Seen {
 }
 
 impl Seen {
+    /// Nothing was seen.
     pub fn new(alloc: Global) -> Seen
         ensures { IsSeen result [] }
     {

@@ -44,6 +44,7 @@ pub fn character(spot: Spot, value: i32) -> Expr
     }
 }
 
+/// An object by its name.
 pub fn variable(spot: Spot, word: Word) -> Expr
     ensures { expr_view result ≡ t.Expr spot (Some word.ty) (t.Var word.number) }
 {
@@ -54,6 +55,7 @@ pub fn variable(spot: Spot, word: Word) -> Expr
     }
 }
 
+/// An element of an array.
 pub fn index(spot: Spot, word: Word, at: Seq<Expr>) -> Expr
     ensures { expr_view result ≡ t.Expr spot (Some word.ty) (t.Index word.number (exprs_view at)) }
 {
@@ -67,6 +69,7 @@ pub fn index(spot: Spot, word: Word, at: Seq<Expr>) -> Expr
     }
 }
 
+/// A unary operator, with the type of its value.
 pub fn unary(
     alloc: Global,
     model: DataModel,
@@ -88,6 +91,7 @@ pub fn unary(
     })
 }
 
+/// A cast.
 pub fn cast(alloc: Global, spot: Spot, to: Option<IntType>, of: Expr) -> Result<Expr, OutOfMemory>
     ensures { IfOk result (λ r. expr_view r ≡ t.Expr spot to (t.Cast (expr_view of))) }
 {
@@ -95,6 +99,7 @@ pub fn cast(alloc: Global, spot: Spot, to: Option<IntType>, of: Expr) -> Result<
     Ok(Expr { spot, ty: to, node })
 }
 
+/// A step of a target.
 pub fn step(alloc: Global, spot: Spot, op: StepOp, target: Expr) -> Result<Expr, OutOfMemory>
     ensures { IfOk result (λ r. expr_view r ≡ t.Expr spot (Some (constants.valued target.ty)) (t.Step op (expr_view target))) }
 {
@@ -110,6 +115,7 @@ pub fn step(alloc: Global, spot: Spot, op: StepOp, target: Expr) -> Result<Expr,
     })
 }
 
+/// A binary operator, with the type of its value.
 pub fn binary(
     alloc: Global,
     model: DataModel,
@@ -133,6 +139,7 @@ pub fn binary(
     })
 }
 
+/// `&&`, where `both` is true, or `||`.
 pub fn logic(
     alloc: Global,
     spot: Spot,
@@ -154,6 +161,7 @@ pub fn logic(
     })
 }
 
+/// A conditional, with the common type of its arms.
 pub fn choose(
     alloc: Global,
     model: DataModel,
@@ -175,6 +183,7 @@ pub fn choose(
     Ok(Expr { spot, ty, node })
 }
 
+/// A comma operator.
 pub fn comma(alloc: Global, spot: Spot, first: Expr, last: Expr) -> Result<Expr, OutOfMemory>
     ensures { IfOk result (λ r. expr_view r ≡ t.Expr spot last.ty (t.Comma (expr_view first) (expr_view last))) }
 {
@@ -186,6 +195,7 @@ pub fn comma(alloc: Global, spot: Spot, first: Expr, last: Expr) -> Result<Expr,
     Ok(Expr { spot, ty, node })
 }
 
+/// An assignment, plain or compound.
 pub fn assign(
     alloc: Global,
     spot: Spot,
@@ -208,6 +218,7 @@ pub fn assign(
     })
 }
 
+/// A call.
 pub fn call(spot: Spot, ty: Option<IntType>, callee: Callee, args: Seq<Expr>, close: Spot) -> Expr
     ensures { expr_view result ≡ t.Expr spot ty (t.Call callee (exprs_view args) close) }
 {

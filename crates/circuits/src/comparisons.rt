@@ -15,6 +15,7 @@ use c_core::{DataModel, IntType};
 use std::alloc::Global;
 use wv_base::OutOfMemory;
 
+/// Whether one number is less than another.
 pub fn less(
     alloc: Global,
     net: &mut Net,
@@ -35,6 +36,7 @@ pub fn less(
     Ok(out)
 }
 
+/// Whether one number is at most another.
 pub fn at_most(
     alloc: Global,
     net: &mut Net,
@@ -55,6 +57,7 @@ pub fn at_most(
     Ok(out)
 }
 
+/// Whether two numbers are equal.
 pub fn equal(
     alloc: Global,
     net: &mut Net,
@@ -74,6 +77,7 @@ pub fn equal(
     Ok(out)
 }
 
+/// Whether two numbers differ.
 pub fn unequal(
     alloc: Global,
     net: &mut Net,

@@ -13,6 +13,7 @@ use c_core::{DataModel, IntType};
 use std::alloc::Global;
 use wv_base::OutOfMemory;
 
+/// A bit that is this constant under every input.
 pub fn constant(net: &Net, value: bool) -> Bit
     ensures { Means net.now result (λ v. value) }
 {
@@ -60,6 +61,7 @@ fn residue_in(model: DataModel, ty: IntType, v: i128) -> u128
     v.rem_euclid(modulus(model, ty)) as u128
 }
 
+/// The digits of a constant in a type, the lowest first; no node is added.
 pub fn constant_bits(
     alloc: Global,
     net: &Net,
@@ -113,6 +115,7 @@ fn resized(
     Ok(out)
 }
 
+/// The digits of a number after its conversion to another type (ISO C11 6.3.1.3).
 pub fn converted(
     alloc: Global,
     net: &mut Net,

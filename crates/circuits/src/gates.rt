@@ -21,6 +21,7 @@ pub struct Sum {
     pub high: Bit,
 }
 
+/// A disjunction, as one and-node.
 pub fn or(net: &mut Net, a: Bit, b: Bit) -> Result<Bit, OutOfMemory>
     requires a_in { IsIn net.old a }
     requires b_in { IsIn net.old b }
@@ -47,6 +48,7 @@ fn half(net: &mut Net, a: Bit, b: Bit) -> Result<Sum, OutOfMemory>
     Ok(Sum { low, high: both })
 }
 
+/// An exclusive disjunction, as three and-nodes.
 pub fn xor(net: &mut Net, a: Bit, b: Bit) -> Result<Bit, OutOfMemory>
     requires a_in { IsIn net.old a }
     requires b_in { IsIn net.old b }
@@ -108,6 +110,7 @@ pub fn compared(net: &mut Net, a: Bit, b: Bit, lower: Bit) -> Result<Bit, OutOfM
     Ok(compared)
 }
 
+/// The gate of a bitwise operator on one digit of each operand.
 pub fn apply_gate(net: &mut Net, kind: Gate, a: Bit, b: Bit) -> Result<Bit, OutOfMemory>
     requires a_in { IsIn net.old a }
     requires b_in { IsIn net.old b }

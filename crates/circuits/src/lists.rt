@@ -32,6 +32,7 @@ pub fn flipped(alloc: Global, a: &[Bit]) -> Result<Vec<Bit>, OutOfMemory>
     Ok(out)
 }
 
+/// A copy of a list of bits.
 pub fn copied(alloc: Global, a: &[Bit]) -> Result<Vec<Bit>, OutOfMemory>
     ensures { IfOk result (λ r. r.items ≡ a.now) }
 {
@@ -40,6 +41,7 @@ pub fn copied(alloc: Global, a: &[Bit]) -> Result<Vec<Bit>, OutOfMemory>
     Ok(out)
 }
 
+/// A list of bits after another, the low digits first.
 pub fn joined(alloc: Global, low: &[Bit], high: &[Bit]) -> Result<Vec<Bit>, OutOfMemory>
     ensures { IfOk result (λ r. r.items ≡ low.now ++ high.now) }
 {

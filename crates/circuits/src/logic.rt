@@ -66,6 +66,7 @@ pub fn bit_operator(
     })
 }
 
+/// The bitwise complement (ISO C11 6.5.3.3); no node is added.
 pub fn complement(
     alloc: Global,
     net: &Net,

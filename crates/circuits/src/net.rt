@@ -100,6 +100,7 @@ impl Net {
         self.nodes.len() as u64
     }
 
+    /// How many inputs there are.
     pub fn inputs(&self) -> u64
         ensures { result ≡ count_inputs self.now }
     {
@@ -115,6 +116,7 @@ impl Net {
         nodes - 1 - u64::from(self.inputs)
     }
 
+    /// The node with this number.
     pub fn node(&self, at: u32) -> NetNode
         requires { at < length self.now }
         ensures { Some result ≡ slice_get self.now at }

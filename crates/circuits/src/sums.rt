@@ -31,6 +31,7 @@ fn turned(net: &mut Net, a: Bit, b: Bit, total: Bit) -> Result<Bit, OutOfMemory>
     Ok(turned)
 }
 
+/// A sum, and whether it overflows.
 pub fn add(
     alloc: Global,
     net: &mut Net,
@@ -61,6 +62,7 @@ pub fn add(
     })
 }
 
+/// A difference, and whether it overflows.
 pub fn subtract(
     alloc: Global,
     net: &mut Net,

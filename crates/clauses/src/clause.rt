@@ -27,6 +27,7 @@ impl Model for Clause {
 }
 
 impl Clause {
+    /// The clause's numbers, rising by their variables.
     pub fn numbers(&self) -> &Seq<i32>
         ensures same { result.now ≡ self.now }
         ensures fine { IsClause self.now }
@@ -62,6 +63,7 @@ pub fn number(negated: bool, variable: u32) -> i32
     if negated { -number } else { number }
 }
 
+/// A clause of one number.
 pub fn one(alloc: Global, x: i32) -> Result<Clause, OutOfMemory>
     requires { IsNumber x }
     ensures { IfOk result (λ c. c ≡ x ∷ []) }
@@ -72,6 +74,7 @@ pub fn one(alloc: Global, x: i32) -> Result<Clause, OutOfMemory>
     })
 }
 
+/// A clause of two numbers.
 pub fn two(alloc: Global, x: i32, y: i32) -> Result<Clause, OutOfMemory>
     requires { IsClause (x ∷ y ∷ []) }
     ensures { IfOk result (λ c. c ≡ x ∷ y ∷ []) }
@@ -82,6 +85,7 @@ pub fn two(alloc: Global, x: i32, y: i32) -> Result<Clause, OutOfMemory>
     })
 }
 
+/// A clause of three numbers.
 pub fn three(alloc: Global, x: i32, y: i32, z: i32) -> Result<Clause, OutOfMemory>
     requires { IsClause (x ∷ y ∷ z ∷ []) }
     ensures { IfOk result (λ c. c ≡ x ∷ y ∷ z ∷ []) }

@@ -18,6 +18,7 @@ pub struct Chain {
     pub gives: Clause,
 }
 
+/// A log: chains, each of which gives a clause; a refutation where the last clause is empty.
 #[derive(Drop)]
 pub struct Refutation {
     pub chains: Seq<Chain>,

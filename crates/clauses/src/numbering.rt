@@ -13,6 +13,7 @@ pub struct Numbering {
     pub variables: u32,
 }
 
+/// Numbers the nodes that have a variable.
 pub fn number_nodes(alloc: Global, net: &Net, flags: &[bool]) -> Result<Numbering, OutOfMemory>
     requires same { length flags.now ≡ length net.now }
     requires room { length net.now < 2 ^ 28 }

@@ -21,6 +21,7 @@ pub struct Derived {
     pub seen: Vec<bool>,
 }
 
+/// No mark for each of these variables.
 pub fn unseen(alloc: Global, variables: usize) -> Result<Vec<bool>, OutOfMemory>
     ensures { IfOk result (λ r. r.items ≡ replicate variables false) }
 {
@@ -31,7 +32,7 @@ pub fn unseen(alloc: Global, variables: usize) -> Result<Vec<bool>, OutOfMemory>
     Ok(seen)
 }
 
-// marks the variables of a clause
+/// Marks the variables of a clause.
 pub fn mark(seen: &mut [bool], clause: &Clause)
     requires { AreNumbersOf (length seen.old) (clause.now ∷ []) }
     ensures { AreMarked seen.old clause.now seen.new }
@@ -41,7 +42,7 @@ pub fn mark(seen: &mut [bool], clause: &Clause)
     }
 }
 
-// resolves with the reason of one value, where its variable is marked
+/// Resolves with the reason of one value, where its variable is marked.
 pub fn resolve_at(
     given: &Seq<Clause>,
     chains: &Seq<Chain>,

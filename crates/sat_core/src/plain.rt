@@ -42,7 +42,7 @@ pub fn search(
     }
 }
 
-// the values of all variables
+/// The values of all variables.
 pub fn model(alloc: Global, trail: &Trail) -> Result<Seq<bool>, OutOfMemory>
     requires { 0 < length trail.now.values.items }
     ensures { IfOk result (λ r. AreValues trail.now.values.items r) }
@@ -55,7 +55,7 @@ pub fn model(alloc: Global, trail: &Trail) -> Result<Seq<bool>, OutOfMemory>
     Ok(values)
 }
 
-// derives a clause from a conflict, logs it and takes back values: whether the clause is empty
+/// Derives a clause from a conflict, logs it and takes back values: whether the clause is empty.
 pub fn learn(
     alloc: Global,
     given: &Seq<Clause>,

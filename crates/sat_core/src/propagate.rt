@@ -18,6 +18,7 @@ pub enum ClauseState {
     Other,
 }
 
+/// What a clause is under the trail.
 pub fn look(trail: &Trail, clause: &Clause) -> ClauseState
     requires told { Told trail.now.values.items trail.now.entries.items }
     requires numbers { AreNumbersOf (length trail.now.values.items) (clause.now ∷ []) }
@@ -48,6 +49,7 @@ pub enum Scanned {
     Quiet,
 }
 
+/// Gives units their values until none is left, or a clause is false.
 pub fn scan(
     given: &Seq<Clause>,
     chains: &Seq<Chain>,

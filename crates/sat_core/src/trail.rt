@@ -16,6 +16,7 @@ pub struct Assigned {
     pub reason: Option<u32>,
 }
 
+/// The variables in the order in which they got their values.
 #[derive(Drop)]
 pub struct Trail {
     pub values: Vec<Option<bool>>,
@@ -51,6 +52,7 @@ impl Trail {
         }
     }
 
+    /// Gives an open variable its value.
     pub fn assign(
         &mut self,
         variable: u32,

@@ -5,6 +5,7 @@ ghost use Rattle.sat_newness.specs.Clauses.{clauses_of};
 use clauses::{Chain, Clause};
 use wv_base::Seq;
 
+/// A clause by its index: first the given ones, then those of the chains.
 pub fn clause_at<'a>(given: &'a Seq<Clause>, chains: &'a Seq<Chain>, at: usize) -> &'a Clause
     requires { at < length given.now + length chains.now }
     ensures { slice_get (clauses_of given.now chains.now) at ≡ Some result.now }

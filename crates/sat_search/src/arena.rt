@@ -15,6 +15,7 @@ pub struct Span {
 /// No clause has this index.
 pub const NO_CLAUSE: u32 = 0xffff_ffff;
 
+/// The literals of all clauses, one after another.
 #[derive(Drop)]
 pub struct Arena {
     literals: Vec<Lit>,
@@ -24,6 +25,7 @@ pub struct Arena {
 const NONE: Lit = Lit { code: 0 };
 
 impl Arena {
+    /// No clauses.
     pub fn new(alloc: Global) -> Arena {
         Arena {
             literals: Vec::new(alloc),
@@ -36,16 +38,19 @@ impl Arena {
         self.spans.len()
     }
 
+    /// Where the literals of a clause stand.
     #[inline(always)]
     pub fn span(&self, clause: u32) -> Span {
         at(&self.spans, clause as usize, Span { start: 0, count: 0 })
     }
 
+    /// The literal at a place.
     #[inline(always)]
     pub fn literal(&self, place: usize) -> Lit {
         at(&self.literals, place, NONE)
     }
 
+    /// Writes a literal to a place.
     #[inline(always)]
     pub fn set_literal(&mut self, place: usize, literal: Lit) {
         put(&mut self.literals, place, literal);

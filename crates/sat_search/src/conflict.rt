@@ -19,6 +19,7 @@ pub enum Mark {
     Resolved,
 }
 
+/// A conflict on its way to a learnt clause: marks, the clause so far, the steps of its resolution.
 #[derive(Drop)]
 pub struct Conflict {
     marks: Vec<Mark>,
@@ -42,6 +43,7 @@ pub struct Conflict {
 }
 
 impl Conflict {
+    /// Room for the marks of these variables.
     pub fn new(alloc: Global, variables: u32) -> Result<Conflict, OutOfMemory> {
         Ok(Conflict {
             marks: filled(alloc, variables as usize + 1, Mark::Unseen)?,
@@ -57,11 +59,13 @@ impl Conflict {
         })
     }
 
+    /// The mark of a variable.
     #[inline(always)]
     pub fn mark_of(&self, variable: usize) -> Mark {
         at(&self.marks, variable, Mark::Unseen)
     }
 
+    /// Whether a variable has no mark.
     #[inline(always)]
     pub fn is_unseen(&self, variable: usize) -> bool {
         matches!(self.mark_of(variable), Mark::Unseen)
@@ -79,6 +83,7 @@ impl Conflict {
         put(&mut self.marks, variable, mark);
     }
 
+    /// Notes a resolution with a clause on a variable.
     pub fn step(&mut self, with: u32, on: u32) -> Result<(), OutOfMemory> {
         self.steps.push(Resolve { with, on })?;
         Ok(())

@@ -92,6 +92,7 @@ pub struct Hints {
 }
 
 impl Hints {
+    /// Which variables the clauses define, from an asserted literal down.
     pub fn new(alloc: Global, cnf: &Cnf, asserting: Vec<i32>) -> Result<Hints, OutOfMemory> {
         let mut search = Search::new(alloc, cnf.variables, true)?;
         let _ = search.add_all(&cnf.clauses)?;

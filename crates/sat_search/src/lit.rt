@@ -14,6 +14,7 @@ impl Lit {
         }
     }
 
+    /// The literal as a clause has it: a variable's number from 1, negative where it is negated.
     pub fn number(self) -> i32 {
         let variable = (self.code / 2) as i32;
         if self.is_negative() {
@@ -31,6 +32,7 @@ impl Lit {
         }
     }
 
+    /// The negated literal.
     #[inline(always)]
     pub fn opposite(self) -> Lit {
         Lit {
@@ -38,11 +40,13 @@ impl Lit {
         }
     }
 
+    /// The variable's number from 0.
     #[inline(always)]
     pub fn variable(self) -> usize {
         (self.code / 2) as usize
     }
 
+    /// Whether the variable is negated.
     pub fn is_negative(self) -> bool {
         self.code & 1 == 1
     }

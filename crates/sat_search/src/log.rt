@@ -13,6 +13,7 @@ struct Derivation {
     end: usize,
 }
 
+/// The chains of the learnt clauses, in the order in which they were learnt.
 #[derive(Drop)]
 pub struct Log {
     chains: Vec<Derivation>,
@@ -20,6 +21,7 @@ pub struct Log {
 }
 
 impl Log {
+    /// No chains.
     pub fn new(alloc: Global) -> Log {
         Log {
             chains: Vec::new(alloc),
@@ -27,6 +29,7 @@ impl Log {
         }
     }
 
+    /// How many chains there are.
     pub fn count(&self) -> usize {
         self.chains.len()
     }

@@ -13,6 +13,7 @@ pub struct Use {
     pub dropped: bool,
 }
 
+/// A learnt clause that no conflict has used yet.
 pub const UNUSED: Use = Use {
     levels: 0,
     last: 0,
@@ -37,6 +38,7 @@ pub struct Reduction {
 }
 
 impl Reduction {
+    /// No clause was reduced yet.
     pub fn new(alloc: Global) -> Reduction {
         Reduction {
             uses: Vec::new(alloc),
@@ -52,6 +54,7 @@ impl Reduction {
         self.since = self.since.saturating_add(1);
     }
 
+    /// Whether enough clauses were learnt since the last reduction.
     pub fn is_due(&self) -> bool {
         self.since >= self.interval
     }

@@ -1,5 +1,6 @@
 // When the search starts again: after 100 conflicts times a term of Luby's sequence 1 1 2 1 1 2 4 ..
 
+/// When the search goes back to its first level.
 #[derive(Clone, Copy)]
 pub struct Restart {
     /// the sequence by Knuth's two counters
@@ -11,6 +12,7 @@ pub struct Restart {
 const UNIT: u64 = 100;
 
 impl Restart {
+    /// Before the first conflict.
     pub fn new() -> Restart {
         Restart {
             turn: 1,

@@ -13,6 +13,7 @@ use clauses::{Clause, Cnf, Refutation};
 use std::alloc::Global;
 use wv_base::{OutOfMemory, Seq};
 
+/// The whole state of a search: clauses, watches, trail, order, log.
 #[derive(Drop)]
 pub struct Search {
     pub alloc: Global,
@@ -41,6 +42,7 @@ enum Visit {
 }
 
 impl Search {
+    /// A search over these variables, before any clause; `keeps` says whether chains are kept.
     pub fn new(alloc: Global, variables: u32, keeps: bool) -> Result<Search, OutOfMemory> {
         Ok(Search {
             alloc,
@@ -109,7 +111,7 @@ impl Search {
         Ok(None)
     }
 
-    // all given clauses: one whose literals are all false
+    /// Adds all given clauses; the number of one whose literals are all false, if there is one.
     pub fn add_all(&mut self, given: &Seq<Clause>) -> Result<Option<u32>, OutOfMemory> {
         let mut conflict = None;
         for clause in given.as_slice() {

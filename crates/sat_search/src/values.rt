@@ -5,6 +5,7 @@ use crate::lit::Lit;
 use std::alloc::Global;
 use wv_base::OutOfMemory;
 
+/// What a literal is under the trail.
 #[derive(Clone, Copy)]
 pub enum Value {
     Open,
@@ -26,6 +27,7 @@ const NO_CAUSE: Cause = Cause {
     place: 0,
 };
 
+/// The trail: the variables in the order in which they got their values, with reasons and levels.
 #[derive(Drop)]
 pub struct Values {
     values: Vec<Value>,
@@ -40,6 +42,7 @@ pub struct Values {
 }
 
 impl Values {
+    /// No variable has a value.
     pub fn new(alloc: Global, variables: u32) -> Result<Values, OutOfMemory> {
         let many = variables as usize + 1;
         Ok(Values {
@@ -52,16 +55,19 @@ impl Values {
         })
     }
 
+    /// The value of a literal.
     #[inline(always)]
     pub fn value(&self, literal: Lit) -> Value {
         at(&self.values, literal.index(), Value::Open)
     }
 
+    /// Whether a literal is false.
     #[inline(always)]
     pub fn is_false(&self, literal: Lit) -> bool {
         matches!(self.value(literal), Value::False)
     }
 
+    /// Whether a literal is true.
     #[inline(always)]
     pub fn is_true(&self, literal: Lit) -> bool {
         matches!(self.value(literal), Value::True)
@@ -85,11 +91,13 @@ impl Values {
         }
     }
 
+    /// Why a variable has its value.
     #[inline(always)]
     pub fn cause(&self, variable: usize) -> Cause {
         at(&self.causes, variable, NO_CAUSE)
     }
 
+    /// The value that a variable had last.
     pub fn phase(&self, variable: usize) -> bool {
         at(&self.phases, variable, false)
     }

@@ -11,17 +11,20 @@ pub struct Watch {
     pub blocker: Lit,
 }
 
+/// Fills places that no watch has.
 pub const NO_WATCH: Watch = Watch {
     clause: 0,
     blocker: Lit { code: 0 },
 };
 
+/// For each literal, the clauses that watch it.
 #[derive(Drop)]
 pub struct Watches {
     lists: Vec<Vec<Watch>>,
 }
 
 impl Watches {
+    /// No clause watches a literal of these variables.
     pub fn new(alloc: Global, variables: u32) -> Result<Watches, OutOfMemory> {
         let mut lists = Vec::new(alloc);
         for _ in 0..2 * (variables as usize + 1) {
@@ -30,6 +33,7 @@ impl Watches {
         Ok(Watches { lists })
     }
 
+    /// Has a clause watch a literal.
     #[inline(always)]
     pub fn add(&mut self, literal: Lit, watch: Watch) -> Result<(), OutOfMemory> {
         let at = literal.index();
@@ -49,10 +53,12 @@ impl Watches {
         self.take_at(alloc, literal.index())
     }
 
+    /// Puts the list of a literal back.
     pub fn give_back(&mut self, literal: Lit, list: Vec<Watch>) {
         self.give_back_at(literal.index(), list);
     }
 
+    /// Takes the list at an index out.
     pub fn take_at(&mut self, alloc: Global, at: usize) -> Vec<Watch> {
         let mut list = Vec::new(alloc);
         if at < self.lists.len() {
@@ -61,6 +67,7 @@ impl Watches {
         list
     }
 
+    /// Puts the list at an index back.
     pub fn give_back_at(&mut self, at: usize, list: Vec<Watch>) {
         if at < self.lists.len() {
             self.lists[at] = list;

@@ -76,6 +76,7 @@ fn called(
     }
 }
 
+/// What an expression weighs; its calls are noted.
 #[cycle(expression)]
 pub fn expression(program: &Program, calls: &mut Vec<u32>, e: &Expr) -> Result<Cost, OutOfMemory>
     ensures cost { IfOk result (λ c. c ≡ (sums.expression (program_view program.now) tallying (expr_view e.now)).cost) }

@@ -20,6 +20,7 @@ use wv_base::OutOfMemory;
 /// Weights by line and column.
 pub type Weights = BTreeMap<(u32, u32), u64>;
 
+/// What the invariants at a place weigh.
 pub fn weight_at(weights: &Weights, spot: Spot) -> u64
     ensures { result ≡ tally.weight_at weights.now spot }
 {

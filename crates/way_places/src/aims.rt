@@ -12,6 +12,7 @@ use c_core::{Callee, Expr, Node, Place, PlaceKind, Property, Spot};
 use std::alloc::Global;
 use wv_base::OutOfMemory;
 
+/// Adds the places of a kind.
 pub fn push_of_kind(
     spots: &mut Vec<Spot>,
     kind: PlaceKind,

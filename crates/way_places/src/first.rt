@@ -10,6 +10,7 @@ use std::alloc::Global;
 use std::collections::BTreeMap;
 use wv_base::OutOfMemory;
 
+/// What a map has at a place.
 pub fn found_at<V: Copy>(map: &BTreeMap<(u32, u32), V>, spot: Spot) -> Option<V>
     ensures { result ≡ found_at map.now spot }
 {

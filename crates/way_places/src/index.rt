@@ -60,6 +60,7 @@ fn spots_of_kind(alloc: Global, kind: PlaceKind, places: &[Place]) -> Result<Spo
 }
 
 impl<'a> Index<'a> {
+    /// The places of a program, found by place and by line.
     pub fn new(alloc: Global, program: &'a Program) -> Result<Index<'a>, OutOfMemory>
         ensures { IfOk result (λ index. index ≡ program.now) }
     {
@@ -93,6 +94,7 @@ impl<'a> Index<'a> {
         })
     }
 
+    /// The program whose places these are.
     pub fn program(&self) -> &'a Program
         ensures { result.now ≡ self.now }
     {

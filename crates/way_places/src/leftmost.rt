@@ -13,6 +13,7 @@ use wv_base::OutOfMemory;
 /// The leftmost spot of each line, and each spot under its column.
 pub type Spots = BTreeMap<(u32, Option<u32>), Spot>;
 
+/// The place that a line, and maybe a column, names: without a column the leftmost on the line.
 pub fn named_in(spots: &Spots, line: u32, column: Option<u32>) -> Option<Spot>
     ensures { result ≡ named_in spots.now line column }
 {

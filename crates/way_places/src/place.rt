@@ -20,6 +20,7 @@ pub fn names(line: u32, column: Option<u32>, spot: Spot) -> bool
     }
 }
 
+/// Whether two kinds of places are the same.
 pub fn is_same(a: PlaceKind, b: PlaceKind) -> bool
     ensures { result ≡ same_kind a b }
 {

@@ -17,6 +17,7 @@ fn promoted(model: DataModel, ty: Option<IntType>) -> Option<IntType>
     }
 }
 
+/// The type that a `switch` compares in, where the form is one.
 pub fn switch_of(model: DataModel, form: &Form) -> Option<IntType>
     ensures { result ≡ switch_of (form_view form.now) }
 {

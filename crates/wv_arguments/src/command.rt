@@ -7,10 +7,13 @@ use clap::builder::ValueParser;
 use clap::{Arg, ArgAction, Command};
 use std::alloc::{AllocError, Global};
 
+/// The most that `--steps` takes.
 pub const MOST_STEPS: u64 = 100_000_000;
 
+/// The most that `--conflicts` takes.
 pub const MOST_CONFLICTS: u64 = 1_000_000;
 
+/// The most that `--number` takes.
 pub const MOST_NUMBER: u64 = 999_999;
 
 fn mode<'a>(alloc: Global) -> Arg<'a>

@@ -74,12 +74,14 @@ fn value_of(digits: &[u8]) -> Option<u64>
 }
 
 impl<'a> Cursor<'a> {
+    /// A cursor before the first byte.
     pub fn of(text: &'a [u8]) -> Cursor<'a>
         ensures { result ≡ text.now }
     {
         Cursor { left: text }
     }
 
+    /// Whether no byte is left.
     pub fn is_at_end(&self) -> bool
         ensures { result ≡ (length self.now == 0) }
     {

@@ -12,6 +12,7 @@ pub struct OutSink<'a> {
 }
 
 impl<'a> OutSink<'a> {
+    /// The standard output of the process.
     pub fn new(rt: &'a HostRuntime) -> OutSink<'a> {
         OutSink { rt, faults: 0 }
     }

@@ -5,6 +5,7 @@ ghost use Rattle.wv_schema.specs.Paths.{text_in, items_in, pairs_in, value_of};
 
 use wv_yaml::{Pair, Tree};
 
+/// The text of a scalar.
 pub fn text_of(tree: &Tree) -> Option<&str>
     ensures { option_copied result ≡ text_in tree.now }
 {
@@ -15,6 +16,7 @@ pub fn text_of(tree: &Tree) -> Option<&str>
     }
 }
 
+/// The items of a sequence.
 pub fn items_of(tree: &Tree) -> Option<&[Tree]>
     ensures { option_copied result ≡ items_in tree.now }
 {
@@ -25,6 +27,7 @@ pub fn items_of(tree: &Tree) -> Option<&[Tree]>
     }
 }
 
+/// The pairs of a mapping.
 pub fn pairs_of(tree: &Tree) -> Option<&[Pair]>
     ensures { option_copied result ≡ pairs_in tree.now }
 {

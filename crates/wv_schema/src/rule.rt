@@ -52,6 +52,7 @@ fn is_format(text: &str) -> bool
     text == "c_expression" || text == "acsl_expression" || text == "ext_c_expression"
 }
 
+/// Whether all bytes are decimal digits.
 pub fn are_digits(bytes: &[u8]) -> bool
     ensures { result ≡ all_ascii_digits bytes.now }
 {
@@ -90,6 +91,7 @@ pub fn count_in(text: &str) -> u32
     number_of(text)
 }
 
+/// Whether a text meets a rule.
 pub fn is_met(rule: TextRule, text: &str) -> bool
     ensures { result ≡ meets (rule_of rule) text.now }
 {

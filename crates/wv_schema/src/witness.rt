@@ -49,6 +49,7 @@ pub struct Segment {
     pub follow: Waypoint,
 }
 
+/// A waypoint of a segment (format 2.0).
 #[derive(Debug, Drop)]
 pub struct Waypoint {
     pub kind: WayKind,
@@ -67,6 +68,7 @@ pub enum WayKind {
     Branching,
 }
 
+/// What has to hold, and in which format it is written.
 #[derive(Debug, Drop)]
 pub struct Constraint {
     pub value: Text,
@@ -83,6 +85,7 @@ pub struct Location {
     pub function: Option<Text>,
 }
 
+/// An invariant of a set (format 2.0).
 #[derive(Debug, Drop)]
 pub struct Invariant {
     pub kind: InvariantKind,

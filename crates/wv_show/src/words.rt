@@ -8,6 +8,7 @@ use wv_base::{OutOfMemory, Text};
 use wv_schema::{Content, InvariantKind, WayKind};
 use wv_yaml::quote;
 
+/// The type of an entry, as the format spells it.
 pub fn word_of_content(content: &Content) -> &'static str
     ensures { result.now ≡ content_word content.now }
 {
@@ -17,6 +18,7 @@ pub fn word_of_content(content: &Content) -> &'static str
     }
 }
 
+/// The type of a waypoint, as the format spells it.
 pub fn word_of_way(kind: WayKind) -> &'static str
     ensures { result.now ≡ way_word kind }
 {
@@ -29,6 +31,7 @@ pub fn word_of_way(kind: WayKind) -> &'static str
     }
 }
 
+/// The type of an invariant, as the format spells it.
 pub fn word_of_invariant(kind: InvariantKind) -> &'static str
     ensures { result.now ≡ invariant_word kind }
 {

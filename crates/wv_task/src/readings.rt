@@ -33,6 +33,7 @@ pub fn identifier(alloc: Global, uuid: &Text) -> Result<Option<Text>, OutOfMemor
     }
 }
 
+/// Whether `uuid` reads the text.
 pub fn is_identifier(text: &str) -> bool
     ensures { result ≡ is_some (parsed text.now) }
 {

@@ -154,6 +154,7 @@ fn push_scalar(
     push_plain(out, indent, &Characters::of(text), body)
 }
 
+/// Whether a text begins with a flow collection.
 pub fn does_begin_flow(text: &str) -> bool
     ensures { result ≡ begins_flow (chars text.now) }
 {

@@ -16,6 +16,7 @@ pub fn is_end(text: &str) -> bool
     text.is_empty()
 }
 
+/// The first character of a text that has one.
 #[inline(always)]
 pub fn first_of(text: &str) -> char
     requires { 0 < length (chars text.now) }
@@ -54,6 +55,7 @@ pub fn slice_from(text: &str, count: usize) -> &str
     left
 }
 
+/// A space or a tab (YAML 1.2.2, 5.5).
 #[inline(always)]
 pub fn is_blank(c: char) -> bool
     ensures { result ≡ blank c }
@@ -127,6 +129,7 @@ impl<'a, 'b> Model for Characters<'a, 'b> {
 }
 
 impl<'a, 'b> Characters<'a, 'b> {
+    /// The characters of a text of one line.
     pub fn of(text: &'a str) -> Characters<'a, 'b>
         ensures { result ≡ chars text.now }
     {
@@ -164,6 +167,7 @@ impl<'a, 'b> Characters<'a, 'b> {
         }
     }
 
+    /// Whether no character is left.
     #[inline(always)]
     pub fn is_empty(&self) -> bool
         ensures { result ≡ (length self.now == 0) }
@@ -171,6 +175,7 @@ impl<'a, 'b> Characters<'a, 'b> {
         is_end(self.here) && self.lines.is_empty()
     }
 
+    /// The next character, where one is left.
     #[inline(always)]
     pub fn first(&self) -> char
         requires { 0 < length self.now }

@@ -25,6 +25,7 @@ impl<'a> Model for Line<'a> {
 }
 
 impl<'a> Line<'a> {
+    /// A line by its indentation, the text after that, and whether a line end stands after it.
     pub fn new(indent: usize, text: &'a str, ended: bool) -> Line<'a>
         ensures { result ≡ line_at indent (chars text.now) ended }
     {
@@ -35,12 +36,14 @@ impl<'a> Line<'a> {
         }
     }
 
+    /// How many spaces the line begins with.
     pub fn indent(&self) -> usize
         ensures { result ≡ self.now.indent }
     {
         self.spaces
     }
 
+    /// The characters after the indentation.
     pub fn text<'b>(&self) -> Characters<'a, 'b>
         ensures { result ≡ self.now.text }
     {
@@ -54,6 +57,7 @@ impl<'a> Line<'a> {
         self.rest
     }
 
+    /// Whether a line end stands after the line.
     pub fn is_ended(&self) -> bool
         ensures { result ≡ self.now.ended }
     {

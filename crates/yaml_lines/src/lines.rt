@@ -22,6 +22,7 @@ fn does_begin(text: &str, c: char) -> bool
     !is_end(text) && first_of(text) == c
 }
 
+/// A text without its byte order mark.
 pub fn without_mark(text: &str) -> &str
     ensures { chars result.now ≡ unmarked (chars text.now) }
 {
@@ -32,6 +33,7 @@ pub fn without_mark(text: &str) -> &str
     }
 }
 
+/// Whether a character lies between two others, both included.
 pub fn is_within(low: char, high: char, c: char) -> bool
     ensures { result ≡ within low high c }
 {

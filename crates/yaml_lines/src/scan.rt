@@ -19,12 +19,14 @@ pub fn from_place<'a, 'b>(text: &Characters<'a, 'b>, at: usize) -> Characters<'a
     left
 }
 
+/// Whether a text begins with a blank.
 pub fn does_begin_blank(text: &Characters<'_, '_>) -> bool
     ensures { result ≡ begins_blank text.now }
 {
     !text.is_empty() && is_blank(text.first())
 }
 
+/// Whether a text begins with this character.
 pub fn does_begin_with(text: &Characters<'_, '_>, c: char) -> bool
     ensures { result ≡ begins_with c text.now }
 {
@@ -47,6 +49,7 @@ pub fn gap_len(text: &Characters<'_, '_>) -> usize
     at
 }
 
+/// A text without the blanks that it begins with.
 pub fn without_gap<'a, 'b>(text: &Characters<'a, 'b>) -> Characters<'a, 'b>
     ensures { result ≡ trimmed text.now }
 {
@@ -57,30 +60,35 @@ pub fn without_gap<'a, 'b>(text: &Characters<'a, 'b>) -> Characters<'a, 'b>
     left
 }
 
+/// Whether nothing but blanks is left.
 pub fn is_nothing(text: &Characters<'_, '_>) -> bool
     ensures { result ≡ nothing text.now }
 {
     text.is_empty() || text.first() == '#'
 }
 
+/// Whether nothing but blanks and a comment is left.
 pub fn is_quiet(text: &Characters<'_, '_>) -> bool
     ensures { result ≡ quiet text.now }
 {
     is_nothing(&without_gap(text))
 }
 
+/// Whether what is left may follow a token: nothing, or a blank and then a comment or blanks.
 pub fn is_tail_text(text: &Characters<'_, '_>) -> bool
     ensures { result ≡ is_tail text.now }
 {
     text.is_empty() || (is_blank(text.first()) && is_quiet(&text.rest()))
 }
 
+/// Whether a text ends or begins with a blank.
 pub fn is_parted(text: &Characters<'_, '_>) -> bool
     ensures { result ≡ parted text.now }
 {
     text.is_empty() || is_blank(text.first())
 }
 
+/// Whether a text begins with the indicator of an item: `-` and then a blank or the end.
 pub fn is_dash(text: &Characters<'_, '_>) -> bool
     ensures { result ≡ dash text.now }
 {
@@ -108,6 +116,7 @@ pub fn len_without_end(text: &Characters<'_, '_>, len: usize) -> usize
     end
 }
 
+/// Whether all lines have nothing but blanks and comments.
 pub fn are_quiet(lines: &[Line<'_>]) -> bool
     ensures { result ≡ all_quiet lines.now }
 {
@@ -127,6 +136,7 @@ pub fn lines_from<'a, 'b>(lines: &'b [Line<'a>], at: usize) -> &'b [Line<'a>]
     &lines[at..]
 }
 
+/// The lines before an index.
 pub fn lines_to<'a, 'b>(lines: &'b [Line<'a>], end: usize) -> &'b [Line<'a>]
     requires { end ≤ length lines.now }
     ensures { result.now ≡ take end lines.now }

@@ -13,6 +13,7 @@ use yaml_lines::{
     lines_from, without_gap,
 };
 
+/// A sign of flow collections, which ends a plain scalar there (YAML 1.2.2, 5.3).
 pub fn is_flow_sign(c: char) -> bool
     ensures { result ≡ flow_sign c }
 {
@@ -129,6 +130,7 @@ pub fn push_chars(
     Ok(())
 }
 
+/// Adds line feeds.
 pub fn push_breaks(out: &mut String, count: usize) -> Result<(), AllocError>
     ensures { OnOk result (string_bytes out.new ≡ string_bytes out.old ++ encode_utf8_all (breaks count)) }
 {

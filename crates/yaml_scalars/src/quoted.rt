@@ -11,6 +11,7 @@ use crate::plain::{push_breaks, push_chars, push_fold};
 use std::alloc::AllocError;
 use yaml_lines::{Characters, does_begin_with, from_place, is_blank};
 
+/// A space or a tab.
 pub fn is_white(c: char) -> bool
     ensures { result ≡ white c }
 {

@@ -37,6 +37,7 @@ fn sign_token(c: char) -> Token
     }
 }
 
+/// A single or a double quote.
 pub fn is_quote_char(c: char) -> bool
     ensures { result ≡ is_quote c }
 {
@@ -113,6 +114,7 @@ pub fn is_short(text: &str) -> bool
     text.chars().count() <= 1024
 }
 
+/// Whether a text begins with a quote.
 pub fn is_quoted_start(text: &Characters<'_, '_>) -> bool
     ensures { result ≡ first_quote text.now }
 {
