@@ -1,4 +1,4 @@
-// A net of one and-node; the clauses of its bit.
+// A net of two and-nodes: the clauses of a bit, and the values of both.
 use circuits::{Net, not};
 use clauses::{Cnf, cnf_of};
 use std::alloc::Global;
@@ -29,5 +29,10 @@ fn one_conjunction(rt: HostRuntime) -> Result<(), Fail> {
     assert_eq!(rt; cnf.variables, 4);
     let wanted = [3, 0, -4, 1, 0, -4, -2, 0, -1, 2, 4, 0, -4, 0];
     assert!(rt; numbers.as_slice() == wanted.as_slice());
+    if net.inputs() != 2 {
+        return Err(Fail::new("not two inputs"));
+    }
+    assert!(rt; net.value(rt.alloc(), both, &[true, false])?);
+    assert!(rt; !net.value(rt.alloc(), unused, &[true, false])?);
     Ok(())
 }

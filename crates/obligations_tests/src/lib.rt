@@ -16,6 +16,8 @@ mod conjunction;
 #[cfg(test)]
 mod examples;
 #[cfg(test)]
+mod havoc;
+#[cfg(test)]
 mod inputs;
 #[cfg(test)]
 mod logs;

@@ -11,10 +11,11 @@
 //!
 //! The fields: `program` names files of `data/`, and `source` is a program's text (behind those files); `witness` names files of
 //! witnesses, in which `hash` stands for HASH and `formula` for FORMULA and `edits` are made (`OLD | NEW | OLD | NEW ..`, the first
-//! occurrence of each), `segments` are put behind them, and `yaml` is a witness's text. Segments stand between the words `then`, the
-//! waypoints of one between semicolons, and a waypoint is its action, its type, its line or `line:column`, and its constraint.
-//! `property` is a property, `words` is a command line over the files `p`, `q` and `w`, `model` is a data model or `both`, `text` is a
-//! list, and `fails` is the device of which a call fails, `shelf` or `sink`, and the number of that call.
+//! occurrence of each) and of which the first `lines` are taken, `segments` are put after them, and `yaml` is a witness's text. Segments
+//! stand between the words `then`, the waypoints of one between semicolons, and a waypoint is its action, its type, its line or
+//! `line:column`, and its constraint. `property` is a property, `words` is a command line over the files `p`, `q` and `w`, `model` is a
+//! data model or `both`, `text` is a list, an expression or a place, and `fails` is the device that fails: `shelf` or `sink` and the
+//! number of the call that fails, or `room` and the number of bytes that the sink takes.
 //!
 //! `escapes.rt` says how control characters, bytes and repeated texts are written.
 #![tactic(auto)]

@@ -50,6 +50,19 @@ fn edited(alloc: Global, text: String, edits: &str) -> Result<String, NotTried> 
     Ok(text)
 }
 
+/// The first lines of a text, as many as a row wants.
+fn first_lines(alloc: Global, text: &str, count: &str) -> Result<String, NotTried> {
+    let Ok(count) = count.parse::<usize>() else {
+        return Err(NotTried::Lacks("a number of lines"));
+    };
+    let mut front = String::new(alloc);
+    for line in text.lines().take(count) {
+        front.push_str(line)?;
+        front.push_str("\n")?;
+    }
+    Ok(front)
+}
+
 /// What stands before a blank, and behind it.
 fn parted(text: &str) -> (&str, &str) {
     text.split_once(' ').unwrap_or((text, ""))
@@ -115,7 +128,7 @@ fn push_segments(alloc: Global, out: &mut String, segments: &str) -> Result<(), 
     Ok(())
 }
 
-/// A row's witness: files with what is replaced in them, its own lines, and its segments.
+/// A row's witness: files with what is replaced in them, or their first lines, and its segments and own lines.
 pub fn witness(files: &Files<'_>, row: &Row) -> Result<Option<Vec<u8>>, NotTried> {
     let alloc = files.alloc();
     let names = row.text("witness")?;
@@ -131,6 +144,9 @@ pub fn witness(files: &Files<'_>, row: &Row) -> Result<Option<Vec<u8>>, NotTried
         text = replaced(alloc, text.as_str(), "FORMULA", formula)?;
     }
     text = edited(alloc, text, row.text("edits")?.unwrap_or(""))?;
+    if let Some(count) = row.text("lines")? {
+        text = first_lines(alloc, text.as_str(), count)?;
+    }
     if let Some(segments) = row.text("segments")? {
         push_segments(alloc, &mut text, segments)?;
     }

@@ -7,6 +7,7 @@ mod check;
 mod expressions;
 mod few;
 mod lexing;
+mod places;
 mod schema;
 mod sources;
 
@@ -36,6 +37,10 @@ impl Trial for Rows {
             "bind" => bind::told(files, row),
             "values" => bind::values(files, row),
             "calls" => bind::calls(files, row),
+            // All places of a program; the objects that are visible at one; the objects that the loop there changes.
+            "places" => places::listed(files, row),
+            "visible" => places::visible(files, row),
+            "changed" => places::changes(files, row),
             // The tree of a witness, read and made again.
             "same" => schema::tree_again(files, row),
             _ => Err(NotTried::Lacks("a kind, or it is no row")),

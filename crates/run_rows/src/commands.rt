@@ -6,9 +6,12 @@ use std::str;
 use witval::run;
 use wv_base::{MemoryShelf, MemorySink, OutOfMemory};
 
+/// A sink with this room has room for each report.
+pub const AMPLE: usize = 5000;
+
 /// A sink of which a write takes few bytes, so that a report is written in several.
-pub fn sink(alloc: Global) -> Result<MemorySink, OutOfMemory> {
-    let sink = MemorySink::new(alloc, 5000, 7)?;
+pub fn sink(alloc: Global, room: usize) -> Result<MemorySink, OutOfMemory> {
+    let sink = MemorySink::new(alloc, room, 5)?;
     Ok(sink)
 }
 
@@ -31,7 +34,7 @@ pub fn told_over(
 pub fn told(files: &Files<'_>, row: &Row) -> Result<String, NotTried> {
     let alloc = files.alloc();
     let mut shelf = shelf(files, row)?;
-    let mut out = sink(alloc)?;
+    let mut out = sink(alloc, AMPLE)?;
     told_over(alloc, row, &mut shelf, &mut out)
 }
 

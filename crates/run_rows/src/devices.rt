@@ -1,38 +1,42 @@
-// Rows of devices of which a call fails: a command line and its files, and behind them its status and what was written till then.
+// Rows of devices that fail: a command line and its files, and after them its status and what was written till then.
 use crate::command_lines::shelf;
-use crate::commands::{sink, told_over};
+use crate::commands::{AMPLE, sink, told_over};
 use row_files::{Files, NotTried, Row};
 
-/// The call that fails, counted from 1: one of the shelf, which begins files and reads them, or a write to the sink.
+/// What fails: a call of the shelf, which begins files and reads them, or a write to the sink, both counted from 1; or each write after
+/// as many bytes as the sink has room for.
 #[derive(Clone, Copy)]
 enum Failing {
     Shelf(u64),
     Sink(u64),
+    Room(u64),
 }
 
-/// The device that a row names, and the number of the call.
-fn call_of(row: &Row) -> Result<Failing, NotTried> {
+/// The device that a row names, and its number.
+fn failing_of(row: &Row) -> Result<Failing, NotTried> {
     let Some((device, number)) = row.wanted_text("fails")?.split_once(' ') else {
-        return Err(NotTried::Lacks("a device and the number of its call"));
+        return Err(NotTried::Lacks("a device and its number"));
     };
-    let Ok(call) = number.parse::<u64>() else {
-        return Err(NotTried::Lacks("the number of a call"));
+    let Ok(number) = number.parse::<u64>() else {
+        return Err(NotTried::Lacks("the number of a call or of bytes"));
     };
     match device {
-        "shelf" => Ok(Failing::Shelf(call)),
-        "sink" => Ok(Failing::Sink(call)),
+        "shelf" => Ok(Failing::Shelf(number)),
+        "sink" => Ok(Failing::Sink(number)),
+        "room" => Ok(Failing::Room(number)),
         _ => Err(NotTried::Lacks("a device that is known")),
     }
 }
 
-/// The status, and behind a blank what was written.
+/// The status, and after a blank what was written.
 pub fn told(files: &Files<'_>, row: &Row) -> Result<String, NotTried> {
     let alloc = files.alloc();
     let mut shelf = shelf(files, row)?;
-    let mut out = sink(alloc)?;
-    match call_of(row)? {
+    let mut out = sink(alloc, AMPLE)?;
+    match failing_of(row)? {
         Failing::Shelf(call) => shelf.fail_at(call)?,
         Failing::Sink(call) => out.fail_at(call)?,
+        Failing::Room(bytes) => out = sink(alloc, bytes as usize)?,
     }
     told_over(alloc, row, &mut shelf, &mut out)
 }

@@ -1,6 +1,6 @@
 // Where an expression of a witness stops to be one.
 use c_parser::{ExprFault, parse_expr, parse_result};
-use c_tokens::{Token, TokenKind, plain_tokens};
+use c_tokens::{Token, TokenFault, TokenKind, plain_tokens};
 use std::alloc::Global;
 use wv_base::{OutOfMemory, Text};
 
@@ -138,6 +138,7 @@ fn words_in(alloc: Global, tokens: &[Token]) -> Result<Vec<Text>, OutOfMemory> {
 pub fn words_of(alloc: Global, text: &str) -> Result<Vec<Text>, OutOfMemory> {
     match plain_tokens(alloc, text.as_bytes()) {
         Ok(tokens) => words_in(alloc, tokens.as_slice()),
+        Err(TokenFault::OutOfMemory) => Err(OutOfMemory),
         Err(_) => Ok(Vec::new(alloc)),
     }
 }

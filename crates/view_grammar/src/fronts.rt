@@ -1,7 +1,8 @@
 // Fronts of an item, and whether something completes them to items.
 use crate::brackets::Walk;
 use crate::sources::{Spelling, read_source};
-use c_tokens::{Punct, Token, TokenKind};
+use c_parser::ParseFault;
+use c_tokens::{Punct, Token, TokenFault, TokenKind};
 use std::alloc::Global;
 use wv_base::OutOfMemory;
 
@@ -51,6 +52,8 @@ fn is_spelled(
     push_part(&mut text, outer)?;
     match read_source(alloc, text.as_slice()) {
         Spelling::Source(_) => Ok(true),
+        Spelling::NoTokens(TokenFault::OutOfMemory) => Err(OutOfMemory),
+        Spelling::NoSource(ParseFault::OutOfMemory) => Err(OutOfMemory),
         Spelling::NoTokens(_) | Spelling::NoSource(_) => Ok(false),
     }
 }

@@ -224,7 +224,7 @@ fn untaken_among(
 
 /// The place of the token of an item that the grammar can't take; of none where the item isn't ended by the text's end.
 pub fn untaken(alloc: Global, text: &[u8], item: Spot) -> Result<Option<Spot>, OutOfMemory> {
-    let all = tokens_of(alloc, text);
+    let all = tokens_of(alloc, text)?;
     let before = tokens_before(all.as_slice(), item);
     let tokens = all.as_slice().get(before..).unwrap_or(&[]);
     untaken_among(alloc, part_of(text, item), tokens)

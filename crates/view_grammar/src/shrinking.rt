@@ -66,7 +66,7 @@ fn largest(objects: &[Object]) -> Option<&Object> {
 }
 
 fn note_line(alloc: Global, files: &Files<'_>, out: &mut Messages) -> Result<(), OutOfMemory> {
-    let tokens = tokens_of(alloc, files.text(File::Program));
+    let tokens = tokens_of(alloc, files.text(File::Program))?;
     let load = heaviest_line(tokens.as_slice());
     let count = load.count;
     if count == 0 {

@@ -2,7 +2,7 @@
 use c_parser::{ParseFault, Source, parse};
 use c_tokens::{Token, TokenFault, tokens};
 use std::alloc::Global;
-use wv_base::Seq;
+use wv_base::{OutOfMemory, Seq};
 
 /// No text that is read here is longer.
 const MAX_LENGTH: usize = 1 << 21;
@@ -29,10 +29,11 @@ pub fn read_source(alloc: Global, text: &[u8]) -> Spelling {
     }
 }
 
-/// The tokens alone; none where there are none.
-pub fn tokens_of(alloc: Global, text: &[u8]) -> Seq<Token> {
+/// The tokens alone; an empty list where the text has none.
+pub fn tokens_of(alloc: Global, text: &[u8]) -> Result<Seq<Token>, OutOfMemory> {
     match tokens(alloc, text) {
-        Ok(found) => found,
-        Err(_) => Seq::new(alloc),
+        Ok(found) => Ok(found),
+        Err(TokenFault::OutOfMemory) => Err(OutOfMemory),
+        Err(_) => Ok(Seq::new(alloc)),
     }
 }
