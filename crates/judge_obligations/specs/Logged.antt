@@ -6,7 +6,7 @@ use Rattle.c_meaning.specs.declared.verdict.Verdict.{Verdict}
 use Rattle.c_meaning.specs.declared.verdict.Verdict.TheVariants.{CorrectnessConfirmed}
 use Rattle.c_meaning.specs.Duties.{Placed}
 use Rattle.circuits.specs.declared.net.Bit.{Bit}
-use Rattle.clauses.specs.Accepted.{Accepted}
+use Rattle.clauses.specs.Accepted.{Accepted, AreRefuted}
 use Rattle.clauses.specs.declared.log.Refutation.{Refutation}
 use Rattle.sym_duties.specs.declared.obligations.Obligations.{Obligations}
 use Rattle.judge_obligations.specs.declared.judging.Judged.{Judged}
@@ -14,7 +14,7 @@ use Rattle.judge_obligations.specs.declared.judging.Settled.{Settled}
 use Rattle.judge_obligations.specs.declared.judging.Settled.TheVariants.{Holds, Ends}
 use Rattle.judge_obligations.specs.declared.logged.Logged.{Logged}
 use Rattle.judge_obligations.specs.declared.logged.Logged.TheVariants.{Proved, Other}
-use Rattle.judge_obligations.specs.Deciding.{IsShort, IsShownBy}
+use Rattle.judge_obligations.specs.Deciding.{AreNeverTrue, IsShort, IsShownBy}
 use Rattle.judge_obligations.specs.Verdicts.{AllHold, IsRightOnInvariants, IsKept, IsDecided}
 
 -- a short log for each obligation, which refutes the clauses of its failing bit; and the obligations hold
@@ -45,6 +45,13 @@ IsUnspent (Proved logs) = Unit {0}
 IsUnspent (Other judged) = IsDecided judged.verdict
 
 -- ---- on the way
+
+-- a short log for each of the first n obligations, and their failing bits are never true
+pub record AreKept (N : ℕ) (o : Obligations) (n : ℕ) (logs : List Refutation) : Type 0 where
+  pub many : length logs ≡ n
+  pub refuted : AreRefuted o.net o.failing logs n
+  pub short : All (IsShort N) logs
+  pub none : AreNeverTrue o.net o.failing n
 
 -- the obligation at an index holds by a log, or the verdict ends there
 abbrev pub IsSettledAs : ℕ → Program → List Placed → Obligations → ℕ → Settled → Type 0

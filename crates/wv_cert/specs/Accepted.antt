@@ -25,6 +25,10 @@ IsAnswer net failing logs (Count expected found) = (expected ≡ length failing)
 IsAnswer net failing logs (No index) = IsRefusedAt net failing logs index
 IsAnswer net failing logs (Yes count) = (count ≡ length failing) × Accepted net failing logs
 
+-- logs that are accepted are answered with yes
+abbrev pub AcceptedIsYes : Type 0
+AcceptedIsYes = (net : List NetNode) (failing : List Bit) (logs : List Refutation) (answer : Rechecked) → Accepted net failing logs → IsAnswer net failing logs answer → answer ≡ Yes (length failing)
+
 -- no inputs make the bit true
 abbrev pub IsNeverTrue : List NetNode → Bit → Type 0
 IsNeverTrue net b = (v : ℕ → Bool) → holds v net b ≡ false
