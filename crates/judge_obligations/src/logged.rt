@@ -36,7 +36,8 @@ pub fn judge_logged(
     ensures decided { IfOk result (λ r. 2 ^ (count_inputs obligations.now.net + 1) - 2 < conflicts → IsUnspent r) }
 {
     let mut logs = Seq::new(alloc);
-    for at in 0..obligations.failing.len() {
+    let many = obligations.failing.len();
+    for at in 0..many {
         match settle(alloc, program, invariants, obligations, at, conflicts)? {
             Settled::Holds(log) => logs.push(log)?,
             Settled::Ends(judged) => return Ok(Logged::Other(judged)),

@@ -24,13 +24,14 @@ hints_more before out after steps at j d lt e so_far written =
     ∙ sym (ap (λ l. before ++ hints_text l) next)
 
 -- one more line
-pub lines_more : (items chains : List Chain) (i number : ℕ) (chain : Chain) (out before more : List ℕ) → items ≡ chains → i < length items → chain ≡ get_or items i chain
-    → out ++ lrat_lines number (drop i chains) ≡ before → more ≡ out ++ lrat_line number chain → more ++ lrat_lines (number + 1) (drop (i + 1) chains) ≡ before
+pub lines_more : (items chains : List Chain) (i number next : ℕ) (chain : Chain) (out before more : List ℕ) → next ≡ number + 1 → items ≡ chains → i < length items → chain ≡ get_or items i chain
+    → out ++ lrat_lines number (drop i chains) ≡ before → more ≡ out ++ lrat_line number chain → more ++ lrat_lines next (drop (i + 1) chains) ≡ before
 unfolding lrat_lines
-lines_more items chains i number chain out before more same inside is so_far written =
+lines_more items chains i number next chain out before more e same inside is so_far written =
     let here : drop i chains ≡ chain ∷ drop (i + 1) chains =
     drop_more chains i chain (omega (arith, inside, ap length same)) ∙ ap (λ l. l ∷ drop (i + 1) chains) (sym (is ∙ ap (λ list. get_or list i chain) same)) in
-    ap (λ t. t ++ lrat_lines (number + 1) (drop (i + 1) chains)) written ∙ append_assoc out (lrat_line number chain) (lrat_lines (number + 1) (drop (i + 1) chains))
+    ap (λ k. more ++ lrat_lines k (drop (i + 1) chains)) e
+    ∙ ap (λ t. t ++ lrat_lines (number + 1) (drop (i + 1) chains)) written ∙ append_assoc out (lrat_line number chain) (lrat_lines (number + 1) (drop (i + 1) chains))
     ∙ ap (λ list. out ++ lrat_lines number list) (sym here) ∙ so_far
 
 -- all lines

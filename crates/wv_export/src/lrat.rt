@@ -15,6 +15,7 @@ fn add_hint(out: &mut String, clause: usize) -> Result<(), OutOfMemory>
 }
 
 /// The clauses of resolutions, the last one first.
+#[tactic(auto, using(crate::proofs::Texts::hints_more))]
 fn add_hints(out: &mut String, steps: &[Resolve]) -> Result<(), OutOfMemory>
     ensures { OnOk result (string_bytes out.new ≡ string_bytes out.old ++ hints_text steps.now) }
 {
@@ -38,6 +39,7 @@ fn add_line(out: &mut String, number: usize, chain: &Chain) -> Result<(), OutOfM
 }
 
 /// The text of a log over so many clauses.
+#[tactic(auto, using(crate::proofs::Texts::lines_done))]
 pub fn lrat(alloc: Global, clauses: usize, log: &Refutation) -> Result<Vec<u8>, OutOfMemory>
     requires numbered { clauses + length log.now.chains < 2 ^ 64 }
     ensures { IfOk result (λ bytes. bytes.items ≡ lrat_text clauses log.now.chains) }

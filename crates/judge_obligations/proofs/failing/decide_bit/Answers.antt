@@ -1,11 +1,11 @@
-use Rattle.std.proofs.Common.{◌∙◌, not, ap, subst}
+use Rattle.std.proofs.Common.{◌∙◌, subst}
 use Rattle.sat_core.specs.Answers.{IsAnswer}
 use Rattle.judge_obligations.proofs.Found.{constant_is, refuted_never}
 use Rattle.judge_obligations.specs.Deciding.{inputs_of}
 use Rattle.judge_obligations.proofs.failing.decide_bit.Goals as goal
 
 pub returns-then-not-bit : goal.returns-then-not-bit
-returns-then-not-bit c = constant_is c.args.net.now c.args.bit (inputs_of c.new.result) c.nodes.ensures.fine c.if-bit-eq0.true ∙ ap not c.if-not-bit.true
+returns-then-not-bit c = constant_is c.args.net.now c.args.bit (inputs_of c.new.result) c.nodes.ensures.fine c.if-bit-eq0.true ∙ c.if-not-bit.true
 
 pub returns-in-Refuted : goal.returns-in-Refuted
 returns-in-Refuted c =
