@@ -6,7 +6,7 @@ use Rattle.clauses.specs.Tseitin.{ClausesOf}
 use Rattle.clauses.specs.declared.log.Refutation.{Refutation}
 use Rattle.wv_export.specs.Dimacs.{dimacs_text}
 use Rattle.wv_export.specs.Lrat.{lrat_text}
-use Rattle.wv_export.specs.declared.export.Exported.{Exported}
+use Rattle.wv_export.specs.declared.exporting.Exported.{Exported}
 
 -- the clauses of a failing bit, and a log over them, as texts
 pub record IsExport (net : List NetNode) (b : Bit) (log : Refutation) (e : Exported) : Type 0 where

@@ -2,13 +2,13 @@
 //! are exactly these texts. A chain's clauses from its end to its start are the hints of its line.
 #![tactic(auto)]
 
-mod dimacs;
-mod export;
-mod lrat;
+mod chain_lines;
+mod clause_lines;
+mod exporting;
 
-pub use dimacs::dimacs;
-pub use export::{Exported, export};
-pub use lrat::lrat;
+pub use chain_lines::lrat;
+pub use clause_lines::dimacs;
+pub use exporting::{Exported, export};
 
 #[cfg(test)]
 mod tests;

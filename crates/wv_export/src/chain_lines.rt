@@ -2,7 +2,7 @@
 ghost use Rattle.std.specs.Prelude.{◌≡◌, ◌+◌, ◌-◌, ◌<◌, ◌^◌, ◌++◌, IfOk, OnOk, length, string_bytes};
 ghost use Rattle.wv_export.specs.Lrat.{hint_text, hints_text, lrat_line, lrat_text};
 
-use crate::dimacs::add_numbers;
+use crate::clause_lines::add_numbers;
 use clauses::{Chain, Refutation, Resolve};
 use std::alloc::Global;
 use wv_base::OutOfMemory;
@@ -15,7 +15,6 @@ fn add_hint(out: &mut String, clause: usize) -> Result<(), OutOfMemory>
 }
 
 /// The clauses of resolutions, the last one first.
-#[tactic(auto, using(crate::proofs::Texts::hints_more))]
 fn add_hints(out: &mut String, steps: &[Resolve]) -> Result<(), OutOfMemory>
     ensures { OnOk result (string_bytes out.new ≡ string_bytes out.old ++ hints_text steps.now) }
 {
@@ -39,7 +38,6 @@ fn add_line(out: &mut String, number: usize, chain: &Chain) -> Result<(), OutOfM
 }
 
 /// The text of a log over so many clauses.
-#[tactic(auto, using(crate::proofs::Texts::lines_done))]
 pub fn lrat(alloc: Global, clauses: usize, log: &Refutation) -> Result<Vec<u8>, OutOfMemory>
     requires numbered { clauses + length log.now.chains < 2 ^ 64 }
     ensures { IfOk result (λ bytes. bytes.items ≡ lrat_text clauses log.now.chains) }

@@ -3,8 +3,8 @@ ghost use Rattle.std.specs.Prelude.{◌<◌, ◌^◌, IfOk, length};
 ghost use Rattle.circuits.specs.Net.{IsIn};
 ghost use Rattle.wv_export.specs.Exported.{IsExport};
 
-use crate::dimacs::dimacs;
-use crate::lrat::lrat;
+use crate::chain_lines::lrat;
+use crate::clause_lines::dimacs;
 use circuits::{Bit, Net};
 use clauses::{Refutation, cnf_of};
 use std::alloc::Global;
