@@ -3,3 +3,4 @@ mod Numbers
 mod Drawn
 mod Chosen
 mod Verdicted
+mod Kept

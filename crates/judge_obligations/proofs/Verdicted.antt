@@ -8,6 +8,8 @@ use Rattle.c_core.specs.Tree.{Program}
 use Rattle.c_meaning.specs.declared.run.Draw.{Draw}
 use Rattle.c_meaning.specs.declared.run.Duty.{Duty}
 use Rattle.c_meaning.specs.declared.run.HavocEnd.TheVariants.{Failed}
+use Rattle.c_meaning.specs.declared.verdict.Verdict.TheVariants.{CorrectnessNot, Undecided}
+use Rattle.c_meaning.specs.declared.verdict.Cause.TheVariants.{Conflicts}
 use Rattle.c_meaning.specs.Duties.{Placed, Duties}
 use Rattle.c_meaning.specs.Havoc.{Havoc}
 use Rattle.c_meaning.specs.Replay.{values_of}
@@ -20,7 +22,10 @@ use Rattle.sym_state.specs.declared.state.DrawSite.{DrawSite}
 use Rattle.sym_state.specs.Standing.{draws_at}
 use Rattle.sym_duties.specs.declared.obligations.Obligations.{Obligations}
 use Rattle.judge_obligations.specs.Deciding.{AreNeverTrue, IsNeverTrue, IsSpentOn, IsWide}
-use Rattle.judge_obligations.specs.Verdicts.{AreObligationsOf, HoldUpTo, AllHold, FailsFirst, IsSpentOver, IsUndecidedAt}
+use Rattle.judge_obligations.specs.Answering.{IsShown, IsLeftOpen}
+use Rattle.judge_obligations.specs.Logged.{IsOther, IsUnconfirmed}
+use Rattle.judge_obligations.specs.Verdicts.{AreObligationsOf, HoldUpTo, AllHold, FailsFirst, IsSpentOver, IsUndecidedAt, IsRightOnInvariants, IsKept}
+use Rattle.judge_obligations.specs.declared.judging.Judged.{Judged}
 use Rattle.judge_obligations.proofs.Found.{clash}
 use Rattle.judge_obligations.proofs.Numbers.{sites_wide}
 
@@ -98,4 +103,22 @@ module _ (p : Program) (I : List Placed) (o : Obligations) (h : AreObligationsOf
     promised = h;
     spent = s;
     over = spent_over N n b s some at on;
+  }
+
+  -- the obligation at n fails
+  pub other_shown : (N n : ℕ) (b : Bit) (v : ℕ → Bool) (draws : List Draw) (judged : Judged) → AreNeverTrue o.net o.failing n → n < length o.failing → slice_get o.failing n ≡ Some b → holds v o.net b ≡ true
+      → draws ≡ draws_at p v o.net o.sites → IsShown o.list n draws judged → IsOther N p I o judged
+  other_shown N n b v draws judged none lt at on drawn s = record {
+    right = subst (IsRightOnInvariants N p I) (sym s.verdict) (first_fails n b v s.duty draws none lt at on s.named drawn);
+    kept = subst (λ x. IsKept N o x judged.spent) (sym s.verdict) (subst (IsKept N o (CorrectnessNot (n + 1) s.duty draws)) (sym s.spent) tt);
+    unconfirmed = subst IsUnconfirmed (sym s.verdict) tt;
+  }
+
+  -- the budget was spent on it
+  pub other_open : (N n : ℕ) (b : Bit) (s : SpentAt) (judged : Judged) → 1 ≤ N → AreNeverTrue o.net o.failing n → n < length o.failing → slice_get o.failing n ≡ Some b → IsSpentOn N o.net b s
+      → IsLeftOpen n N s judged → IsOther N p I o judged
+  other_open N n b s judged some none lt at on left = record {
+    right = subst (IsRightOnInvariants N p I) (sym left.verdict) (undecided N n b s some none lt at on);
+    kept = subst (λ x. IsKept N o x judged.spent) (sym left.verdict) (subst (IsKept N o (Undecided (Conflicts (n + 1) N))) (sym left.spent) (spent_over N n b s some at on));
+    unconfirmed = subst IsUnconfirmed (sym left.verdict) tt;
   }

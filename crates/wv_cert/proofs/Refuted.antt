@@ -8,13 +8,15 @@ use Rattle.circuits.specs.declared.net.Bit.{Bit}
 use Rattle.circuits.specs.declared.net.NetNode.{NetNode}
 use Rattle.circuits.specs.Net.{holds, IsIn}
 use Rattle.circuits.specs.Numbers.{AreIn}
+use Rattle.clauses.specs.Accepted.{Accepted, AreRefuted, RefutesBit}
 use Rattle.clauses.specs.Log.{Refutes}
 use Rattle.clauses.specs.Tseitin.{ClausesOf, Flags, Fulfils, clauses_below, literal}
 use Rattle.clauses.specs.Within.{AreOf}
 use Rattle.clauses.specs.declared.log.Chain.{Chain}
 use Rattle.clauses.specs.declared.log.Refutation.{Refutation}
 use Rattle.clauses.proofs.Soundness.{refuted}
-use Rattle.wv_cert.specs.Accepted.{Accepted, AreNeverTrue, AreRefuted, IsNeverTrue, IsRefusedAt, RefutesBit}
+use Rattle.wv_cert.specs.Accepted.{AcceptedIsYes, AreNeverTrue, IsNeverTrue, IsRefusedAt}
+use Rattle.wv_cert.specs.declared.checking.Rechecked.TheVariants.{Yes, No, Count}
 use Rattle.wv_cert.proofs.Digits.{never}
 
 same_truth : (a b : Bool) → (a ≡ true → b ≡ true) → (b ≡ true → a ≡ true) → a ≡ b
@@ -84,3 +86,8 @@ refused_at net failing logs at number b log e many all bit_at log_at none =
 pub accepted : (net : List NetNode) (failing : List Bit) (logs : List Refutation) (at : ℕ) → at ≡ length failing → length logs ≡ length failing
     → AreRefuted net failing logs at → Accepted net failing logs
 accepted net failing logs at e many all = record { many = many; each = subst (AreRefuted net failing logs) e all }
+
+pub accepted_yes : AcceptedIsYes
+accepted_yes net failing logs (Yes count) all is = ap Yes is.0
+accepted_yes net failing logs (No index) all is = absurd (is.refused (all.each (index - 1) is.bit is.log (slice_get_within failing (index - 1) is.bit is.bit_named) is.bit_named is.log_named))
+accepted_yes net failing logs (Count expected found) all is = absurd (is.2 all.many)

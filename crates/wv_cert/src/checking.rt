@@ -2,7 +2,8 @@
 ghost use Rattle.std.specs.Prelude.{◌≡◌, ◌+◌, ◌<◌, ◌^◌, ◌↔◌, IfOk, IsTrue, Some, length, slice_get};
 ghost use Rattle.circuits.specs.Net.{IsIn};
 ghost use Rattle.circuits.specs.Numbers.{AreIn};
-ghost use Rattle.wv_cert.specs.Accepted.{IsAnswer, IsNeverTrue, IsSound, RefutesBit};
+ghost use Rattle.clauses.specs.Accepted.{RefutesBit};
+ghost use Rattle.wv_cert.specs.Accepted.{IsAnswer, IsNeverTrue, IsSound};
 
 use circuits::{Bit, Net};
 use clauses::{Refutation, accepts, cnf_of};

@@ -1,4 +1,5 @@
 // Laws of certificates.
+ghost use Rattle.wv_cert.specs.Accepted.{AcceptedIsYes};
 ghost use Rattle.wv_cert.specs.Reading.{OneList, ReadsBack};
 
 use crate::fault::CertFault;
@@ -22,3 +23,8 @@ pub fn read_back(alloc: Global, logs: &Seq<Refutation>) -> Result<Seq<Refutation
     let read = read_certificate(alloc, &bytes)?;
     Ok(read)
 }
+
+/// Logs that refute the clauses of each failing bit are answered with yes, as those of a judge that promises just this.
+pub fn accepted_is_yes()
+    ensures { AcceptedIsYes }
+{}

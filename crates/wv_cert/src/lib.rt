@@ -14,7 +14,7 @@ mod writing;
 
 pub use checking::{Rechecked, recheck_bits};
 pub use fault::CertFault;
-pub use laws::{one_list, read_back};
+pub use laws::{accepted_is_yes, one_list, read_back};
 pub use reading::read_certificate;
 pub use rechecking::recheck;
 pub use writing::certify;

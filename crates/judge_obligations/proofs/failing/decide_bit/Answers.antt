@@ -1,17 +1,18 @@
-use Rattle.std.proofs.Common.{◌∙◌, not, ap, subst}
+use Rattle.std.proofs.Common.{◌∙◌, subst}
 use Rattle.sat_core.specs.Answers.{IsAnswer}
-use Rattle.judge_obligations.specs.Deciding.{inputs_of}
 use Rattle.judge_obligations.proofs.Found.{constant_is, refuted_never}
+use Rattle.judge_obligations.specs.Deciding.{inputs_of}
 use Rattle.judge_obligations.proofs.failing.decide_bit.Goals as goal
 
-pub returns-then-bit : goal.returns-then-bit
-returns-then-bit c v = constant_is c.args.net.now c.args.bit v c.nodes.ensures.fine c.if-bit-eq0.true ∙ ap not c.if-bit.true
-
-pub returns-then-bit-eq0 : goal.returns-then-bit-eq0
-returns-then-bit-eq0 c = constant_is c.args.net.now c.args.bit (inputs_of c.new.result) c.nodes.ensures.fine c.if-bit-eq0.true ∙ ap not c.if-bit.false
+pub returns-then-not-bit : goal.returns-then-not-bit
+returns-then-not-bit c = constant_is c.args.net.now c.args.bit (inputs_of c.new.result) c.nodes.ensures.fine c.if-bit-eq0.true ∙ c.if-not-bit.true
 
 pub returns-in-Refuted : goal.returns-in-Refuted
 returns-in-Refuted c =
     let k = c.in_ok-clauses.clauses in
     let right = subst (IsAnswer k.variables k.clauses c.args.conflicts) c.in-Refuted.is c.in_ok-values.ensures in
-    refuted_never c.args.net.now c.args.bit c.in_ok-clauses.ensures.fulfils k.within right.refutes
+    record {
+      never = refuted_never c.args.net.now c.args.bit c.in_ok-clauses.ensures.fulfils k.within right.refutes;
+      refutes = record { variables = k.variables; clauses = k.clauses; are = c.in_ok-clauses.ensures.exact; refuted = right.refutes };
+      short = record { few = right.few; once = right.once };
+    }

@@ -1,4 +1,5 @@
-use Rattle.wv_cert.specs.Accepted.{AreNeverTrue, AreRefuted}
+use Rattle.clauses.specs.Accepted.{AreRefuted}
+use Rattle.wv_cert.specs.Accepted.{AreNeverTrue}
 use Rattle.wv_cert.proofs.checking.recheck_bits.Given as goal
 
 abbrev pub invariant-loop-at : goal.invariant-loop-at

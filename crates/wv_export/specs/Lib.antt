@@ -1,0 +1,4 @@
+pub mod Dimacs
+pub mod Lrat
+pub mod Exported
+pub mod Examples
