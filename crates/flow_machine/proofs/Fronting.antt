@@ -21,7 +21,7 @@ use Rattle.c_meaning.specs.Watching.{seen_by, seen_after}
 use Rattle.run_state.specs.Fronts.{SawFront}
 use Rattle.run_state.specs.declared.machine.Halt.{Halt}
 use Rattle.run_state.specs.declared.machine.Halt.TheVariants.{Ends, NoMemory}
-use Rattle.flow_code.specs.declared.code.Action.TheVariants.{Input}
+use Rattle.flow_code.specs.declared.code.Action.TheVariants.{Input, Return}
 use Rattle.flow_code.specs.declared.code.Code.{Code}
 use Rattle.flow_code.specs.declared.code.Into.{Into}
 use Rattle.flow_code.specs.declared.code.Op.{Op}
@@ -30,7 +30,7 @@ use Rattle.flow_code.specs.declared.code.Then.{Then}
 use Rattle.flow_code.specs.declared.code.Then.TheVariants.{Push, Drop, Skip, Branch}
 use Rattle.flow_laws.specs.declared.frame.Frame.{Frame}
 use Rattle.flow_laws.specs.Machines.{Control, Machine}
-use Rattle.flow_laws.specs.Acting.{acted, input_given, kept_value, key_at, stack_at, passed_on, stored, left_by}
+use Rattle.flow_laws.specs.Acting.{acted, top, below, converted, input_given, kept_value, key_at, stack_at, passed_on, stored, left_by}
 use Rattle.flow_laws.specs.Stepping.{Turn, On, Short, Over, moved, due, paid_all, behind, done_if, step, steps}
 use Rattle.flow_laws.proofs.Seeing.{machine_as, turn_as, step_as, steps_as}
 use Rattle.flow_machine.specs.Fronts.{IfBroken, OnBroken, kept, kept_by, kept_in, events_of, events_leaving, events_next, events_in, SawSome}
@@ -100,6 +100,17 @@ module _ (c : Code) where
       (record s { cells = take f.cells s.cells; active = s.active - 1; seen = s.seen ++ Told (Returned f.site.close None) (take f.cells s.cells) ∷ [] })
 
   module _ {S : Type 0} (after : Event → List Cell → S → S) where
+    same_converted : (ty : Option IntType) (v : ℤ) → converted c S after ty v ≡ converted c (List Moment) kept ty v
+    same_converted None v = refl
+    same_converted (Some t) v = refl
+
+    -- the events of a way out with the value on top of the stack
+    pub returned_events : (ty : Option IntType) (k l : Control) (s : State (List Moment)) (v w : ℤ) → v ≡ top k.stack → l ≡ record k { stack = below k.stack } → w ≡ converted c S after ty v
+        → events_leaving c l.frames (Some w) l s ≡ events_of c (Return ty) k s
+    returned_events ty k l s v w ev el ew =
+        let e : w ≡ converted c (List Moment) kept ty v = ew ∙ same_converted ty v in
+        rw (e, ev, el) refl
+
     -- memory ran out after the event of an input call
     pub input_broken : (spot close : Spot) (ty : IntType) (x : Into) (k : Control) (r : Running) (v : ℤ) (u : State S) (old new : S) → input_given c S after spot close ty (state_of r old) ≡ Go v u → new ≡ u.seen
         → SawFront after (events_of c (Input spot close ty x) k (state_of r [])) old new

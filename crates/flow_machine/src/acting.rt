@@ -6,9 +6,9 @@ ghost use Rattle.c_meaning.specs.Run as runs;
 ghost use Rattle.c_meaning.specs.Watching.{seen_by};
 ghost use Rattle.run_state.specs.Fronts.{SawFront};
 ghost use Rattle.run_state.specs.Interpreting.{same, where_of};
-ghost use Rattle.flow_code.specs.declared.code.Action.TheVariants.{Row, Select, Input, Reach};
+ghost use Rattle.flow_code.specs.declared.code.Action.TheVariants.{Row, Select, Input, Reach, Return};
 ghost use Rattle.flow_code.specs.declared.code.Code.{Code};
-ghost use Rattle.flow_laws.specs.Acting.{program_in, acted, scope_closed, aimed_at, sent, reached_at};
+ghost use Rattle.flow_laws.specs.Acting.{program_in, acted, scope_closed, aimed_at, sent, reached_at, converted};
 ghost use Rattle.flow_machine.specs.Fronts.{OnBroken, events_of};
 ghost use Rattle.flow_machine.specs.Rooms.{GoesInRoom, HasSpare, IsCounted, KeepsRooms, KeepsStacks, Lasts};
 ghost use Rattle.flow_machine.specs.Views.{Acts, Gives, answer_finished, control_of, state_of};
@@ -288,6 +288,35 @@ fn close_scope<W: Watcher>(control: &mut Control, run: &mut Running)
     }
 }
 
+// A value as a function gives it back.
+#[inline(always)]
+fn given_back<W: Watcher>(ty: &Option<IntType>, value: i128) -> i128
+    ensures { (c : Code) → result ≡ converted c W.Seen W.after ty.now value }
+{
+    match ty {
+        None => value,
+        Some(ty) => convert(*ty, value),
+    }
+}
+
+// The innermost function is left with the value on top of the stack.
+#[inline(always)]
+fn give_back<W: Watcher>(
+    control: &mut Control,
+    run: &mut Running,
+    watcher: &mut W,
+    ty: &Option<IntType>,
+) -> Result<(), Halt>
+    ensures acts { (c : Code) → Acts result (control_of control.new) (state_of run.new (W.seen watcher.new)) (acted c W.Seen W.after (Return ty.now) (control_of control.old) (state_of run.old (W.seen watcher.old))) }
+    ensures front { (c : Code) → OnBroken result (SawFront W.after (events_of c (Return ty.now) (control_of control.old) (state_of run.old [])) (W.seen watcher.old) (W.seen watcher.new)) }
+    ensures kept { KeepsStacks control.old control.new }
+    ensures rooms { KeepsRooms run.old run.new }
+    ensures lasting { W.sure → HasSpare control.old → Lasts result }
+{
+    let value = given_back::<W>(ty, control.pop());
+    leave(control, run, watcher, Some(value))
+}
+
 /// Does an action; `control.at` is the address behind it.
 #[inline(always)]
 pub fn act<W: Watcher>(
@@ -407,13 +436,6 @@ pub fn act<W: Watcher>(
         ),
         Action::End => Err(Halt::Ends(End::Ended)),
         Action::Leave => leave(control, run, watcher, None),
-        Action::Return(ty) => {
-            let value = control.pop();
-            let given = match ty {
-                None => value,
-                Some(ty) => convert(*ty, value),
-            };
-            leave(control, run, watcher, Some(given))
-        }
+        Action::Return(ty) => give_back(control, run, watcher, ty),
     }
 }

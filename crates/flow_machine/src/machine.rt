@@ -106,10 +106,11 @@ impl<'a> Machine<'a> {
         Ok(())
     }
 
-    /// Takes at most so many further steps, and says how the run with all steps so far ends: it is spent and goes on with the next call, or later calls give
-    /// its end again. An error is want of memory: the watcher has seen the first of the events that follow, and none twice, and the machine is only to be dropped;
-    /// a further call shows none. There is no error where a `reserve` has answered Ok, the program has
-    /// no recursion, the watcher never refuses, and the cells and draws of the run from here on are within the machine's rooms.
+    /// Takes at most so many further steps, and says how the run with all steps so far ends: it is spent and goes on with
+    /// the next call, or later calls give its end again. Where memory runs out, the watcher has seen the first of the
+    /// events that follow, each once; the machine is then only to be dropped, and a further call shows nothing. Memory
+    /// suffices where a `reserve` has answered Ok, the program has no recursion, the watcher never runs out of memory, and
+    /// the cells and draws of the run from here on are within the machine's rooms.
     pub fn advance<W: Watcher>(&mut self, steps: u64, watcher: &mut W) -> Result<End, OutOfMemory>
         requires within { self.old.sum + steps < 2 ^ 64 }
         ensures same { (self.new.code ≡ self.old.code) × (self.new.choices ≡ self.old.choices) × (self.new.reserved ≡ self.old.reserved) × (self.new.sum ≡ self.old.sum + steps) }

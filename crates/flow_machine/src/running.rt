@@ -12,8 +12,8 @@ use c_meaning::{Choices, Run, Watcher};
 use std::alloc::Global;
 use wv_base::OutOfMemory;
 
-/// Runs a program as code with choices and at most so many steps; the watcher sees each event, with the memory of that moment. Out of memory, it has seen the
-/// first of them, and none twice.
+/// Runs a program as code with choices and at most so many steps; the watcher sees each event, with the memory of that
+/// moment. Where memory runs out, it has seen the first of them, each once.
 pub fn run_machine<W: Watcher>(
     alloc: Global,
     program: &Program,

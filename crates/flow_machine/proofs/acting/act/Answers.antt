@@ -104,11 +104,8 @@ returns-in_default-settle-clause-kept g c =
 pub returns-in_default-settle-clause-lasting : goal.returns-in_default-settle-clause-lasting
 returns-in_default-settle-clause-lasting g c = λ sure spare counted fits. c.conclude.ensures.lasting sure (c.take-a.ensures.spare (c.take-b.ensures.spare spare))
 
-pub returns-after-ty-clause-kept : goal.returns-after-ty-clause-kept
-returns-after-ty-clause-kept g c = stacks_kept c.args.control.now c.pop-value.new.self c.leave-in-Return.new.control c.pop-value.ensures.kept c.leave-in-Return.ensures.kept
-
-pub returns-after-ty-clause-lasting : goal.returns-after-ty-clause-lasting
-returns-after-ty-clause-lasting g c = λ sure spare counted fits. c.leave-in-Return.ensures.lasting sure (c.pop-value.ensures.spare spare)
+pub returns-in-Return-clause-acts : goal.returns-in-Return-clause-acts
+returns-in-Return-clause-acts g c = rw c.in-Return.is (c.give_back.ensures.acts c.args.code.now)
 
 pub returns-in-Arrive-clause-front : goal.returns-in-Arrive-clause-front
 returns-in-Arrive-clause-front g c = none_broken g.W.Watcher.after c.tell.result _ _ _ c.tell.ensures.still
@@ -134,11 +131,8 @@ returns-in_default-settle-clause-front g c = none_broken g.W.Watcher.after c.con
 pub returns-in-OperateOne-clause-front : goal.returns-in-OperateOne-clause-front
 returns-in-OperateOne-clause-front g c = none_broken g.W.Watcher.after c.conclude-in-OperateOne.result _ _ _ c.conclude-in-OperateOne.ensures.still
 
-pub returns-in-ToCase-clause-front : goal.returns-in-ToCase-clause-front
-returns-in-ToCase-clause-front g c = none_broken g.W.Watcher.after c.compare.result _ _ _ c.compare.ensures.still
-
-pub returns-in-ToDefault-clause-front : goal.returns-in-ToDefault-clause-front
-returns-in-ToDefault-clause-front g c = none_broken g.W.Watcher.after c.send.result _ _ _ c.send.ensures.still
+pub returns-in-Select-clause-front : goal.returns-in-Select-clause-front
+returns-in-Select-clause-front g c = none_broken g.W.Watcher.after c.select.result _ _ _ c.select.ensures.still
 
 pub returns-in-Enter-clause-front : goal.returns-in-Enter-clause-front
 returns-in-Enter-clause-front g c = none_broken g.W.Watcher.after c.tell-in-Enter.result _ _ _ c.tell-in-Enter.ensures.still
@@ -166,3 +160,6 @@ returns-in-Input-clause-front g c = rw c.in-Input.is c.take_input.ensures.front
 
 pub returns-in-Leave-clause-front : goal.returns-in-Leave-clause-front
 returns-in-Leave-clause-front g c = rw c.in-Leave.is (c.leave.ensures.front c.args.code.now)
+
+pub returns-in-Return-clause-front : goal.returns-in-Return-clause-front
+returns-in-Return-clause-front g c = rw c.in-Return.is (c.give_back.ensures.front c.args.code.now)
