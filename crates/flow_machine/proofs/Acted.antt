@@ -1,5 +1,5 @@
 -- Actions that do several parts in turn.
-use Rattle.std.proofs.Common.{◌≡◌, ℕ, ℤ, List, Option, Result, ap, ap₂, ◌∙◌, subst}
+use Rattle.std.proofs.Common.{◌≡◌, ℕ, ℤ, List, Option, Some, Result, ap, ap₂, ◌∙◌, subst}
 use Rattle.std.specs.Option.{unwrap_or}
 use Rattle.c_core.specs.Types.{fit}
 use Rattle.c_core.specs.Operators.{apply_of, apply_one_of}
@@ -17,7 +17,7 @@ use Rattle.c_meaning.specs.Run as runs
 use Rattle.c_meaning.specs.Watching.{seen_by}
 use Rattle.run_state.specs.Interpreting.{where_of, same}
 use Rattle.run_state.specs.declared.machine.Halt.{Halt}
-use Rattle.flow_code.specs.declared.code.Action.TheVariants.{Operate, OperateOne, Select, Input}
+use Rattle.flow_code.specs.declared.code.Action.TheVariants.{Operate, OperateOne, Select, Input, Return}
 use Rattle.flow_code.specs.declared.code.Code.{Code}
 use Rattle.flow_code.specs.declared.code.Into.{Into}
 use Rattle.flow_code.specs.declared.code.Operand.{Operand}
@@ -26,7 +26,7 @@ use Rattle.flow_code.specs.declared.code.Word.{Word}
 use Rattle.flow_code.specs.Tables.{address_in}
 use Rattle.flow_code.specs.Words.{type_of_word}
 use Rattle.flow_laws.specs.Machines.{Control}
-use Rattle.flow_laws.specs.Acting.{program_in, right_of, value_of, stack_of, finished, input_given, top, way_by, sent, acted}
+use Rattle.flow_laws.specs.Acting.{program_in, right_of, value_of, stack_of, finished, input_given, top, below, way_by, sent, converted, left_by, acted}
 use Rattle.flow_machine.specs.Views.{Acts, answer_finished}
 use Rattle.flow_machine.proofs.Giving.{goes_there}
 
@@ -60,3 +60,8 @@ module _ (c : Code) (S : Type 0) (after : Event → List Cell → S → S) where
       → v ≡ top k.stack → o ≡ address_in cases v → Acts q n u (sent c S after at (way_by o v) (unwrap_or o other) k s) → Acts q n u (acted c S after (Select at cases other) k s)
   selected at cases other k n s u v o q ev eo g =
       subst (λ r. Acts q n u r) (ap₂ (λ w p. sent c S after at (way_by p w) (unwrap_or p other) k s) ev (eo ∙ ap (λ w. address_in cases w) ev)) g
+
+  -- a function is left with the value on top of the stack, converted
+  pub returned : (ty : Option IntType) (k l n : Control) (s u : State S) (v w : ℤ) (q : Result (Unit {0}) Halt) → v ≡ top k.stack → l ≡ record k { stack = below k.stack } → w ≡ converted c S after ty v
+      → Acts q n u (left_by c S after l.frames (Some w) l s) → Acts q n u (acted c S after (Return ty) k s)
+  returned ty k l n s u v w q ev el ew g = rw (ew, ev, el) at g

@@ -7,7 +7,9 @@ pub mod Passed
 pub mod Acted
 pub mod Exact
 pub mod Going
+pub mod Fronting
 pub mod Lasting
 pub mod Counting
 pub mod Reserving
 pub mod Advancing
+pub mod Breaking

@@ -1,3 +1,4 @@
 pub mod Views
 pub mod Rooms
 pub mod Runs
+pub mod Fronts

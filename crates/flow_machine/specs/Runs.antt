@@ -43,7 +43,7 @@ pub record Advances (p : Program) (c : Choices) (n m : ℕ) {S : Type 0} (after 
   pub follows : Follows p c n m after old new
 
 -- f n is what n operations come to. Where they ended with e, the machine is `Short` of steps behind some number of them, and e is `Spent`, or the run is
--- `Over` with e, in the state of m; where memory is wanting, nothing is said
+-- `Over` with e, in the state of m; out of memory, `Fronts.antt` says what its watcher has seen
 abbrev pub Halts : {S : Type 0} → Halt → Machine S → (ℕ → Turn S) → Type 0
 Halts (HaltEnds e) m f = (n : ℕ) × (((f n ≡ Short m) × (e ≡ Spent)) ⊎ (f n ≡ Over e m.run))
 Halts NoMemory m f = Unit {0}

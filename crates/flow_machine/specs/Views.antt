@@ -41,19 +41,19 @@ state_of r x = record {
 abbrev pub machine_of : {S : Type 0} → Here → Running → S → Machine S
 machine_of k r x = record { control = control_of k; run = state_of r x }
 
--- a part gave what it is to give, and left the state so; where memory is wanting, nothing is said
+-- a part gave what it is to give, and left the state so; out of memory, `Fronts.antt` says what its watcher has seen
 abbrev pub Gives : {A B S : Type 0} → (A → B) → Result A Halt → State S → Res End (State S) B → Type 0
 Gives view (Ok a) s r = r ≡ Go (view a) s
 Gives view (Err (Ends e)) s r = r ≡ Stop e s
 Gives view (Err NoMemory) s r = Unit {0}
 
--- a part gave what it is to give, and left the machine so; where memory is wanting, nothing is said
+-- a part gave what it is to give, and left the machine so; out of memory, `Fronts.antt` says what its watcher has seen
 abbrev pub Acts : {S : Type 0} → Result (Unit {0}) Halt → Control → State S → Res End (State S) Control → Type 0
 Acts (Ok u) k s r = r ≡ Go k s
 Acts (Err (Ends e)) k s r = r ≡ Stop e s
 Acts (Err NoMemory) k s r = Unit {0}
 
--- one operation did what it is to do; where memory is wanting, nothing is said
+-- one operation did what it is to do; out of memory, `Fronts.antt` says what its watcher has seen
 abbrev pub Steps : {S : Type 0} → Result (Unit {0}) Halt → Machine S → Turn S → Type 0
 Steps (Ok u) m r = r ≡ On m
 Steps (Err (Ends e)) m r = ((r ≡ Short m) × (e ≡ Spent)) ⊎ (r ≡ Over e m.run)

@@ -1,13 +1,15 @@
 // One operation.
-ghost use Rattle.std.specs.Prelude.{◌≡◌, ◌<◌, ◌∷◌, reverse, length, vec_len, vec_capacity, OnOk, IsOkUnless};
+ghost use Rattle.std.specs.Prelude.{◌≡◌, ◌<◌, [], ◌∷◌, reverse, length, vec_len, vec_capacity, OnOk, IsOkUnless};
 ghost use Rattle.c_core.specs.Tree.{Program as Tree};
 ghost use Rattle.c_meaning.specs.Acts.{Go};
 ghost use Rattle.c_meaning.specs.Run as runs;
 ghost use Rattle.c_meaning.specs.Watching.{seen_by};
+ghost use Rattle.run_state.specs.Fronts.{SawFront};
 ghost use Rattle.run_state.specs.Interpreting.{same, where_of};
-ghost use Rattle.flow_code.specs.declared.code.Action.TheVariants.{Row, Select, Input, Reach};
+ghost use Rattle.flow_code.specs.declared.code.Action.TheVariants.{Row, Select, Input, Reach, Return};
 ghost use Rattle.flow_code.specs.declared.code.Code.{Code};
-ghost use Rattle.flow_laws.specs.Acting.{program_in, acted, scope_closed, aimed_at, sent, reached_at};
+ghost use Rattle.flow_laws.specs.Acting.{program_in, acted, scope_closed, aimed_at, sent, reached_at, converted};
+ghost use Rattle.flow_machine.specs.Fronts.{OnBroken, events_of};
 ghost use Rattle.flow_machine.specs.Rooms.{GoesInRoom, HasSpare, IsCounted, KeepsRooms, KeepsStacks, Lasts};
 ghost use Rattle.flow_machine.specs.Views.{Acts, Gives, answer_finished, control_of, state_of};
 
@@ -31,6 +33,7 @@ fn violate<W: Watcher>(
     call: Option<Spot>,
 ) -> Result<i128, Halt>
     ensures gives { (p : Tree) → Gives same result (state_of run.now (W.seen watcher.new)) (runs.violated p W.Seen (seen_by W.after) (where_of around) spot call (state_of run.now (W.seen watcher.old))) }
+    ensures still { OnBroken result (W.seen watcher.new ≡ W.seen watcher.old) }
     ensures lasting { W.sure → Lasts result }
 {
     tell(
@@ -55,6 +58,7 @@ fn answer<W: Watcher>(
     done: Done,
 ) -> Result<i128, Halt>
     ensures gives { Gives same result (state_of run.now (W.seen watcher.new)) (runs.answered (program_in code.now) W.Seen (seen_by W.after) (where_of from.now.around) from.now.spot done (state_of run.now (W.seen watcher.old))) }
+    ensures still { OnBroken result (W.seen watcher.new ≡ W.seen watcher.old) }
     ensures lasting { W.sure → Lasts result }
 {
     match done {
@@ -76,6 +80,7 @@ fn reach<W: Watcher>(
     spot: Spot,
 ) -> Result<i128, Halt>
     ensures gives { Gives same result (state_of run.now (W.seen watcher.new)) (reached_at code.now W.Seen W.after around spot (state_of run.now (W.seen watcher.old))) }
+    ensures still { OnBroken result (W.seen watcher.new ≡ W.seen watcher.old) }
     ensures lasting { W.sure → Lasts result }
 {
     match code.property {
@@ -95,6 +100,7 @@ fn come_to_error<W: Watcher>(
     spot: Spot,
 ) -> Result<(), Halt>
     ensures acts { Acts result (control_of control.now) (state_of run.now (W.seen watcher.new)) (acted code.now W.Seen W.after (Reach around spot) (control_of control.now) (state_of run.now (W.seen watcher.old))) }
+    ensures still { OnBroken result (W.seen watcher.new ≡ W.seen watcher.old) }
     ensures lasting { W.sure → Lasts result }
 {
     reach(code, run, watcher, around, spot)?;
@@ -114,6 +120,7 @@ fn take_input<W: Watcher>(
     into: &Into,
 ) -> Result<(), Halt>
     ensures acts { Acts result (control_of control.new) (state_of run.new (W.seen watcher.new)) (acted code.now W.Seen W.after (Input spot close ty into.now) (control_of control.old) (state_of run.old (W.seen watcher.old))) }
+    ensures front { OnBroken result (SawFront W.after (events_of code.now (Input spot close ty into.now) (control_of control.old) (state_of run.old [])) (W.seen watcher.old) (W.seen watcher.new)) }
     ensures kept { KeepsStacks control.old control.new }
     ensures rooms { KeepsRooms run.old run.new }
     ensures lasting { W.sure → HasSpare control.old → IsCounted run.old → vec_len run.old.draws < vec_capacity run.old.draws → Lasts result }
@@ -135,6 +142,7 @@ fn finish_answer<W: Watcher>(
     into: &Into,
 ) -> Result<(), Halt>
     ensures acts { Acts result (control_of control.new) (state_of run.new (W.seen watcher.new)) (answer_finished code.now W.Seen W.after from.now left done into.now (control_of control.old) (state_of run.old (W.seen watcher.old))) }
+    ensures still { OnBroken result (W.seen watcher.new ≡ W.seen watcher.old) }
     ensures kept { KeepsStacks control.old control.new }
     ensures rooms { KeepsRooms run.old run.new }
     ensures lasting { W.sure → HasSpare control.old → Lasts result }
@@ -156,6 +164,7 @@ fn conclude<W: Watcher>(
     into: &Into,
 ) -> Result<(), Halt>
     ensures acts { Acts result (control_of control.new) (state_of run.new (W.seen watcher.new)) (answer_finished code.now W.Seen W.after from.now left done into.now (control_of control.old) (state_of run.old (W.seen watcher.old))) }
+    ensures still { OnBroken result (W.seen watcher.new ≡ W.seen watcher.old) }
     ensures kept { KeepsStacks control.old control.new }
     ensures rooms { KeepsRooms run.old run.new }
     ensures lasting { W.sure → HasSpare control.old → Lasts result }
@@ -224,6 +233,7 @@ fn send<W: Watcher>(
     to: u32,
 ) -> Result<(), Halt>
     ensures acts { (c : Code) → Acts result (control_of control.new) (state_of run.now (W.seen watcher.new)) (sent c W.Seen W.after at way to (control_of control.old) (state_of run.now (W.seen watcher.old))) }
+    ensures still { OnBroken result (W.seen watcher.new ≡ W.seen watcher.old) }
     ensures kept { KeepsStacks control.old control.new }
     ensures lasting { W.sure → Lasts result }
 {
@@ -243,6 +253,7 @@ fn select<W: Watcher>(
     other: u32,
 ) -> Result<(), Halt>
     ensures acts { (c : Code) → Acts result (control_of control.new) (state_of run.now (W.seen watcher.new)) (acted c W.Seen W.after (Select at cases.now other) (control_of control.old) (state_of run.now (W.seen watcher.old))) }
+    ensures still { OnBroken result (W.seen watcher.new ≡ W.seen watcher.old) }
     ensures kept { KeepsStacks control.old control.new }
     ensures lasting { W.sure → Lasts result }
 {
@@ -277,6 +288,35 @@ fn close_scope<W: Watcher>(control: &mut Control, run: &mut Running)
     }
 }
 
+// A value as a function gives it back.
+#[inline(always)]
+fn given_back<W: Watcher>(ty: &Option<IntType>, value: i128) -> i128
+    ensures { (c : Code) → result ≡ converted c W.Seen W.after ty.now value }
+{
+    match ty {
+        None => value,
+        Some(ty) => convert(*ty, value),
+    }
+}
+
+// The innermost function is left with the value on top of the stack.
+#[inline(always)]
+fn give_back<W: Watcher>(
+    control: &mut Control,
+    run: &mut Running,
+    watcher: &mut W,
+    ty: &Option<IntType>,
+) -> Result<(), Halt>
+    ensures acts { (c : Code) → Acts result (control_of control.new) (state_of run.new (W.seen watcher.new)) (acted c W.Seen W.after (Return ty.now) (control_of control.old) (state_of run.old (W.seen watcher.old))) }
+    ensures front { (c : Code) → OnBroken result (SawFront W.after (events_of c (Return ty.now) (control_of control.old) (state_of run.old [])) (W.seen watcher.old) (W.seen watcher.new)) }
+    ensures kept { KeepsStacks control.old control.new }
+    ensures rooms { KeepsRooms run.old run.new }
+    ensures lasting { W.sure → HasSpare control.old → Lasts result }
+{
+    let value = given_back::<W>(ty, control.pop());
+    leave(control, run, watcher, Some(value))
+}
+
 /// Does an action; `control.at` is the address behind it.
 #[inline(always)]
 pub fn act<W: Watcher>(
@@ -287,6 +327,7 @@ pub fn act<W: Watcher>(
     action: &Action,
 ) -> Result<(), Halt>
     ensures acts { Acts result (control_of control.new) (state_of run.new (W.seen watcher.new)) (acted code.now W.Seen W.after action.now (control_of control.old) (state_of run.old (W.seen watcher.old))) }
+    ensures front { OnBroken result (SawFront W.after (events_of code.now action.now (control_of control.old) (state_of run.old [])) (W.seen watcher.old) (W.seen watcher.new)) }
     ensures kept { KeepsStacks control.old control.new }
     ensures rooms { KeepsRooms run.old run.new }
     ensures lasting { W.sure → HasSpare control.old → IsCounted run.old → GoesInRoom run.old (acted code.now W.Seen W.after action.now (control_of control.old) (state_of run.old (W.seen watcher.old))) → Lasts result }
@@ -395,13 +436,6 @@ pub fn act<W: Watcher>(
         ),
         Action::End => Err(Halt::Ends(End::Ended)),
         Action::Leave => leave(control, run, watcher, None),
-        Action::Return(ty) => {
-            let value = control.pop();
-            let given = match ty {
-                None => value,
-                Some(ty) => convert(*ty, value),
-            };
-            leave(control, run, watcher, Some(given))
-        }
+        Action::Return(ty) => give_back(control, run, watcher, ty),
     }
 }

@@ -1,7 +1,9 @@
 // Calls of the program's functions, and the way back.
-ghost use Rattle.std.specs.Prelude.{◌≡◌, ◌≤◌, ◌<◌, ◌+◌, ◌∷◌, Some, drop, length, reverse, slice_get, vec_len, vec_capacity, IsOkUnless, OnOk};
+ghost use Rattle.std.specs.Prelude.{◌≡◌, ◌≤◌, ◌<◌, ◌+◌, [], ◌∷◌, Some, drop, length, reverse, slice_get, vec_len, vec_capacity, IsOkUnless, OnOk};
+ghost use Rattle.run_state.specs.Fronts.{SawFront};
 ghost use Rattle.flow_code.specs.declared.code.Code.{Code};
 ghost use Rattle.flow_laws.specs.Acting.{called, left_by, arguments, with_parameters};
+ghost use Rattle.flow_machine.specs.Fronts.{OnBroken, events_leaving};
 ghost use Rattle.flow_machine.specs.Rooms.{GoesInRoom, HasSpare, KeepsRooms, KeepsStacks, Lasts};
 ghost use Rattle.flow_machine.specs.Views.{Acts, argument_of, control_of, state_of};
 
@@ -134,6 +136,7 @@ pub fn leave<W: Watcher>(
     value: Option<i128>,
 ) -> Result<(), Halt>
     ensures acts { (c : Code) → Acts result (control_of control.new) (state_of run.new (W.seen watcher.new)) (left_by c W.Seen W.after (reverse control.old.frames.items) value (control_of control.old) (state_of run.old (W.seen watcher.old))) }
+    ensures front { (c : Code) → OnBroken result (SawFront W.after (events_leaving c (reverse control.old.frames.items) value (control_of control.old) (state_of run.old [])) (W.seen watcher.old) (W.seen watcher.new)) }
     ensures kept { KeepsStacks control.old control.new }
     ensures rooms { KeepsRooms run.old run.new }
     ensures lasting { W.sure → HasSpare control.old → Lasts result }

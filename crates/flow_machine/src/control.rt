@@ -5,6 +5,7 @@ ghost use Rattle.c_meaning.specs.Run.{room as room_for};
 ghost use Rattle.c_meaning.specs.Watching.{seen_by};
 ghost use Rattle.run_state.specs.Interpreting.{same};
 ghost use Rattle.flow_laws.specs.Acting.{top, below};
+ghost use Rattle.flow_machine.specs.Fronts.{OnBroken};
 ghost use Rattle.flow_machine.specs.Rooms.{HasSpare, KeepsStacks, Lasts};
 ghost use Rattle.flow_machine.specs.Views.{Gives, control_of, state_of};
 
@@ -77,6 +78,7 @@ impl Control {
 pub fn tell<W: Watcher>(run: &Running, watcher: &mut W, event: Event) -> Result<(), Halt>
     ensures seen { OnOk result (W.seen watcher.new ≡ W.after event run.now.memory.cells (W.seen watcher.old)) }
     ensures refused { IsOkUnless result Halt.NoMemory }
+    ensures still { OnBroken result (W.seen watcher.new ≡ W.seen watcher.old) }
     ensures lasting { W.sure → Lasts result }
 {
     match watcher.see(event, &run.memory) {

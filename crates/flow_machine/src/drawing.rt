@@ -1,5 +1,5 @@
 // Drawn values, and the cells of declared names.
-ghost use Rattle.std.specs.Prelude.{◌≡◌, ◌≤◌, ◌<◌, ◌+◌, vec_len, vec_capacity, IfOk, IsOk, OnOk};
+ghost use Rattle.std.specs.Prelude.{◌≡◌, ◌≤◌, ◌<◌, ◌+◌, vec_len, vec_capacity, IfOk, IsOk, OnErr, OnOk};
 ghost use Rattle.c_meaning.specs.Acts.{Go};
 ghost use Rattle.c_meaning.specs.Run as runs;
 ghost use Rattle.c_meaning.specs.Watching.{seen_by};
@@ -55,6 +55,7 @@ pub fn input<W: Watcher>(
     ty: IntType,
 ) -> Result<i128, OutOfMemory>
     ensures gives { IfOk result (λ v. input_given code.now W.Seen W.after spot close ty (state_of run.old (W.seen watcher.old)) ≡ Go v (state_of run.new (W.seen watcher.new))) }
+    ensures still { OnErr result (W.seen watcher.new ≡ W.seen watcher.old) }
     ensures rooms { KeepsRooms run.old run.new }
     ensures within { W.sure → IsCounted run.old → vec_len run.old.draws < vec_capacity run.old.draws → IsOk result }
 {

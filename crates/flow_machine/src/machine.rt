@@ -5,6 +5,7 @@ ghost use Rattle.c_core.specs.Tree.{Program};
 ghost use Rattle.c_meaning.specs.Run as runs;
 ghost use Rattle.c_meaning.specs.declared.run.End.TheVariants.{Spent};
 ghost use Rattle.flow_code.specs.Programs.{IsCodeOf};
+ghost use Rattle.flow_machine.specs.Fronts.{BreaksOff};
 ghost use Rattle.flow_machine.specs.Rooms.{NeedsAtMost};
 ghost use Rattle.flow_machine.specs.Runs.{Advances};
 
@@ -105,9 +106,11 @@ impl<'a> Machine<'a> {
         Ok(())
     }
 
-    /// Takes at most so many further steps, and says how the run with all steps so far ends: it is spent and goes on with the next call, or later calls give
-    /// its end again. An error is want of memory, and then the machine is only to be dropped. There is none where a `reserve` has answered Ok, the program has
-    /// no recursion, the watcher never refuses, and the cells and draws of the run from here on are within the machine's rooms.
+    /// Takes at most so many further steps, and says how the run with all steps so far ends: it is spent and goes on with
+    /// the next call, or later calls give its end again. Where memory runs out, the watcher has seen the first of the
+    /// events that follow, each once; the machine is then only to be dropped, and a further call shows nothing. Memory
+    /// suffices where a `reserve` has answered Ok, the program has no recursion, the watcher never runs out of memory, and
+    /// the cells and draws of the run from here on are within the machine's rooms.
     pub fn advance<W: Watcher>(&mut self, steps: u64, watcher: &mut W) -> Result<End, OutOfMemory>
         requires within { self.old.sum + steps < 2 ^ 64 }
         ensures same { (self.new.code ≡ self.old.code) × (self.new.choices ≡ self.old.choices) × (self.new.reserved ≡ self.old.reserved) × (self.new.sum ≡ self.old.sum + steps) }
@@ -116,6 +119,8 @@ impl<'a> Machine<'a> {
         ensures lost { OnErr result (self.new.whole ≡ false) }
         ensures gone { self.old.whole ≡ false → IsErr result }
         ensures run { IfOk result (λ end. self.old.whole ≡ true → (p : Program) → IsCodeOf p self.old.code → Advances p self.old.choices self.old.sum self.new.sum W.after (W.seen watcher.old) (W.seen watcher.new) end) }
+        ensures front { OnErr result (self.old.whole ≡ true → (p : Program) → IsCodeOf p self.old.code → BreaksOff p self.old.choices self.old.sum self.new.sum W.after (W.seen watcher.old) (W.seen watcher.new)) }
+        ensures silent { self.old.whole ≡ false → W.seen watcher.new ≡ W.seen watcher.old }
         ensures again { self.old.whole ≡ true → (p : Program) → IsCodeOf p self.old.code → ((runs.Run p self.old.choices self.old.sum).end ≡ Spent → ⊥) → IsOk result }
         ensures enough { W.sure → self.old.reserved ≡ true → self.old.whole ≡ true → (p : Program) → IsCodeOf p self.old.code → IsFirstRecursion p None → NeedsAtMost self.old.code self.old.choices (self.old.sum + steps) steps self.old.cells self.old.draws → IsOk result }
     {

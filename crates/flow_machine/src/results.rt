@@ -5,6 +5,7 @@ ghost use Rattle.c_core.specs.declared.number.DataModel.TheVariants.{Lp64};
 ghost use Rattle.c_meaning.specs.Cells.{put};
 ghost use Rattle.flow_code.specs.declared.code.Code.{Code};
 ghost use Rattle.flow_laws.specs.Acting.{top, below, index_of, skipped, kept_value, stack_at, key_at, passed_on, finished};
+ghost use Rattle.flow_machine.specs.Fronts.{OnBroken};
 ghost use Rattle.flow_machine.specs.Rooms.{HasSpare, KeepsRooms, KeepsStacks, Lasts};
 ghost use Rattle.flow_machine.specs.Views.{Acts, control_of, state_of};
 
@@ -71,6 +72,7 @@ fn pass<W: Watcher>(
     then: &Then,
 ) -> Result<(), Halt>
     ensures acts { (c : Code) → Acts result (control_of control.new) (state_of run.now (W.seen watcher.new)) (passed_on c W.Seen W.after value then.now (control_of control.old) (state_of run.now (W.seen watcher.old))) }
+    ensures still { OnBroken result (W.seen watcher.new ≡ W.seen watcher.old) }
     ensures kept { KeepsStacks control.old control.new }
     ensures lasting { W.sure → HasSpare control.old → Lasts result }
 {
@@ -100,6 +102,7 @@ pub fn finish<W: Watcher>(
     into: &Into,
 ) -> Result<(), Halt>
     ensures acts { (c : Code) → Acts result (control_of control.new) (state_of run.new (W.seen watcher.new)) (finished c W.Seen W.after left value into.now (control_of control.old) (state_of run.old (W.seen watcher.old))) }
+    ensures still { OnBroken result (W.seen watcher.new ≡ W.seen watcher.old) }
     ensures kept { KeepsStacks control.old control.new }
     ensures rooms { KeepsRooms run.old run.new }
     ensures lasting { W.sure → HasSpare control.old → Lasts result }

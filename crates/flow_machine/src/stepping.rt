@@ -1,6 +1,8 @@
 // Operations, one after another.
-ghost use Rattle.std.specs.Prelude.{◌≡◌, ◌+◌, ◌-◌, nat_le, true, false};
+ghost use Rattle.std.specs.Prelude.{◌≡◌, ◌+◌, ◌-◌, nat_le, true, false, []};
 ghost use Rattle.flow_laws.specs.Stepping.{step as step_of, steps as steps_of};
+ghost use Rattle.run_state.specs.Fronts.{SawFront};
+ghost use Rattle.flow_machine.specs.Fronts.{IfBroken, OnBroken, SawSome, events_in, events_next};
 ghost use Rattle.flow_machine.specs.Runs.{Halts};
 ghost use Rattle.flow_rooms.specs.Paces.{IsPaced, IsInOrder};
 ghost use Rattle.flow_machine.specs.Rooms.{HasSpare, IsCounted, IsEnd, KeepsRooms, KeepsStacks, Lasts, StaysWithin, TurnsInRoom};
@@ -41,6 +43,7 @@ fn step<W: Watcher>(
     watcher: &mut W,
 ) -> Result<(), Halt>
     ensures steps { Steps result (machine_of control.new run.new (W.seen watcher.new)) (step_of code.now W.Seen W.after (machine_of control.old run.old (W.seen watcher.old))) }
+    ensures front { OnBroken result (SawFront W.after (events_next code.now (machine_of control.old run.old [])) (W.seen watcher.old) (W.seen watcher.new)) }
     ensures kept { KeepsStacks control.old control.new }
     ensures rooms { KeepsRooms run.old run.new }
     ensures lasting { W.sure → HasSpare control.old → IsCounted run.old → TurnsInRoom run.old (step_of code.now W.Seen W.after (machine_of control.old run.old (W.seen watcher.old))) → Lasts result }
@@ -65,6 +68,7 @@ pub fn go<W: Watcher>(
     requires paced { IsPaced code.now }
     requires order { IsInOrder code.now (machine_of control.old run.old (W.seen watcher.old)) }
     ensures halts { Halts result (machine_of control.new run.new (W.seen watcher.new)) (λ n. steps_of code.now W.Seen W.after n (machine_of control.old run.old (W.seen watcher.old))) }
+    ensures front { IfBroken result (SawSome W.after (events_in code.now (machine_of control.old run.old [])) (W.seen watcher.old) (W.seen watcher.new)) }
     ensures kept { KeepsStacks control.old control.new }
     ensures rooms { KeepsRooms run.old run.new }
     ensures lasting { W.sure → StaysWithin control.old run.old (λ n. steps_of code.now W.Seen W.after n (machine_of control.old run.old (W.seen watcher.old))) → IsEnd result }

@@ -1,4 +1,4 @@
-use Rattle.std.proofs.Common.{rules, sym, arith}
+use Rattle.std.proofs.Common.{rules, refl, sym, arith}
 use Rattle.std.specs.Prelude.{vec_capacity}
 use mir.Val.{SFits}
 use mir.Syntax.{w128}
@@ -7,6 +7,7 @@ use Rattle.c_core.specs.declared.number.Done.TheVariants.{Value}
 use Rattle.flow_machine.specs.Views.{control_of, state_of}
 use Rattle.flow_laws.specs.Acting.{declared}
 use Rattle.flow_machine.proofs.Acted.{operated}
+use Rattle.flow_machine.proofs.Fronting.{on_broken, none_broken, saw_none}
 use Rattle.flow_machine.proofs.Lasting.{stacks_kept, first_within, input_within}
 use Rattle.flow_machine.proofs.acting.act.Goals as goal
 
@@ -103,8 +104,62 @@ returns-in_default-settle-clause-kept g c =
 pub returns-in_default-settle-clause-lasting : goal.returns-in_default-settle-clause-lasting
 returns-in_default-settle-clause-lasting g c = λ sure spare counted fits. c.conclude.ensures.lasting sure (c.take-a.ensures.spare (c.take-b.ensures.spare spare))
 
-pub returns-after-ty-clause-kept : goal.returns-after-ty-clause-kept
-returns-after-ty-clause-kept g c = stacks_kept c.args.control.now c.pop-value.new.self c.leave-in-Return.new.control c.pop-value.ensures.kept c.leave-in-Return.ensures.kept
+pub returns-in-Return-clause-acts : goal.returns-in-Return-clause-acts
+returns-in-Return-clause-acts g c = rw c.in-Return.is (c.give_back.ensures.acts c.args.code.now)
 
-pub returns-after-ty-clause-lasting : goal.returns-after-ty-clause-lasting
-returns-after-ty-clause-lasting g c = λ sure spare counted fits. c.leave-in-Return.ensures.lasting sure (c.pop-value.ensures.spare spare)
+pub returns-in-Arrive-clause-front : goal.returns-in-Arrive-clause-front
+returns-in-Arrive-clause-front g c = none_broken g.W.Watcher.after c.tell.result _ _ _ c.tell.ensures.still
+
+pub returns-in-Give-clause-front : goal.returns-in-Give-clause-front
+returns-in-Give-clause-front g c = none_broken g.W.Watcher.after c.finish.result _ _ _ c.finish.ensures.still
+
+pub returns-in-Truth-clause-front : goal.returns-in-Truth-clause-front
+returns-in-Truth-clause-front g c = none_broken g.W.Watcher.after c.finish-in-Truth.result _ _ _ c.finish-in-Truth.ensures.still
+
+pub returns-in-Convert-clause-front : goal.returns-in-Convert-clause-front
+returns-in-Convert-clause-front g c = none_broken g.W.Watcher.after c.finish-in-Convert.result _ _ _ c.finish-in-Convert.ensures.still
+
+pub returns-in-Some-clause-front : goal.returns-in-Some-clause-front
+returns-in-Some-clause-front g c = none_broken g.W.Watcher.after c.finish-in-Look.result _ _ _ c.finish-in-Look.ensures.still
+
+pub returns-in-Some-settle-clause-front : goal.returns-in-Some-settle-clause-front
+returns-in-Some-settle-clause-front g c = none_broken g.W.Watcher.after c.finish-in-Some-settle.result _ _ _ c.finish-in-Some-settle.ensures.still
+
+pub returns-in_default-settle-clause-front : goal.returns-in_default-settle-clause-front
+returns-in_default-settle-clause-front g c = none_broken g.W.Watcher.after c.conclude.result _ _ _ c.conclude.ensures.still
+
+pub returns-in-OperateOne-clause-front : goal.returns-in-OperateOne-clause-front
+returns-in-OperateOne-clause-front g c = none_broken g.W.Watcher.after c.conclude-in-OperateOne.result _ _ _ c.conclude-in-OperateOne.ensures.still
+
+pub returns-in-Select-clause-front : goal.returns-in-Select-clause-front
+returns-in-Select-clause-front g c = none_broken g.W.Watcher.after c.select.result _ _ _ c.select.ensures.still
+
+pub returns-in-Enter-clause-front : goal.returns-in-Enter-clause-front
+returns-in-Enter-clause-front g c = none_broken g.W.Watcher.after c.tell-in-Enter.result _ _ _ c.tell-in-Enter.ensures.still
+
+pub returns-in-Reach-clause-front : goal.returns-in-Reach-clause-front
+returns-in-Reach-clause-front g c = none_broken g.W.Watcher.after c.come_to_error.result _ _ _ c.come_to_error.ensures.still
+
+pub returns-in-Aim-clause-front : goal.returns-in-Aim-clause-front
+returns-in-Aim-clause-front g c = on_broken c.aim.result (saw_none g.W.Watcher.after _ _ _ refl)
+
+pub returns-in-Row-clause-front : goal.returns-in-Row-clause-front
+returns-in-Row-clause-front g c = on_broken c.find_in_row.result (saw_none g.W.Watcher.after _ _ _ refl)
+
+pub returns-in-Open-clause-front : goal.returns-in-Open-clause-front
+returns-in-Open-clause-front g c = on_broken c.open_scope.result (saw_none g.W.Watcher.after _ _ _ refl)
+
+pub returns-in-Declare-clause-front : goal.returns-in-Declare-clause-front
+returns-in-Declare-clause-front g c = on_broken c.declare.result (saw_none g.W.Watcher.after _ _ _ refl)
+
+pub returns-in-Call-clause-front : goal.returns-in-Call-clause-front
+returns-in-Call-clause-front g c = on_broken c.call.result (saw_none g.W.Watcher.after _ _ _ refl)
+
+pub returns-in-Input-clause-front : goal.returns-in-Input-clause-front
+returns-in-Input-clause-front g c = rw c.in-Input.is c.take_input.ensures.front
+
+pub returns-in-Leave-clause-front : goal.returns-in-Leave-clause-front
+returns-in-Leave-clause-front g c = rw c.in-Leave.is (c.leave.ensures.front c.args.code.now)
+
+pub returns-in-Return-clause-front : goal.returns-in-Return-clause-front
+returns-in-Return-clause-front g c = rw c.in-Return.is (c.give_back.ensures.front c.args.code.now)

@@ -4,6 +4,7 @@ use mir.Syntax.{w128}
 use Rattle.std.proofs.lemmas.Int.{to_z-of_z}
 use Rattle.flow_machine.specs.Views.{control_of, state_of}
 use Rattle.flow_machine.proofs.Acted.{input_finished}
+use Rattle.flow_machine.proofs.Fronting.{on_broken, then_on_broken, saw_none, input_broken}
 use Rattle.flow_machine.proofs.acting.take_input.Goals as goal
 
 pub returns-clause-acts : goal.returns-clause-acts
@@ -16,3 +17,13 @@ returns-clause-acts g c =
 
 pub returns-clause-lasting : goal.returns-clause-lasting
 returns-clause-lasting g c = λ sure spare counted room. c.finish.ensures.lasting sure spare
+
+pub returns-in_err-value-clause-front : goal.returns-in_err-value-clause-front
+returns-in_err-value-clause-front g c = on_broken c.from_residual.result (saw_none g.W.Watcher.after _ _ _ c.in_err-value.ensures.still)
+
+pub returns-clause-front : goal.returns-clause-front
+returns-clause-front g c =
+    let w = g.W.Watcher.seen in
+    then_on_broken c.finish.result
+    (input_broken c.args.code.now g.W.Watcher.after c.args.spot c.args.close c.args.ty c.args.into.now (control_of c.args.control.now) c.args.run.now c.in_ok-value.value
+    (state_of c.input.new.run (w c.input.new.watcher)) (w c.args.watcher.now) (w c.finish.new.watcher) c.in_ok-value.ensures.gives) c.finish.ensures.still

@@ -1,6 +1,7 @@
 use Rattle.std.proofs.Common.{refl, arith}
 use Rattle.flow_laws.proofs.Reaching.{one_step, reaches_on}
 use Rattle.flow_machine.specs.Views.{machine_of}
+use Rattle.flow_machine.proofs.Fronting.{then_broken, saw_some}
 use Rattle.flow_machine.proofs.Going.{leaves_off}
 use Rattle.flow_machine.proofs.Lasting.{stacks_kept, rooms_kept}
 use Rattle.flow_machine.proofs.Reserving.{lasts_there}
@@ -21,6 +22,13 @@ returns-in-Err-clause-halts g c =
     leaves_off c.args.code.now g.W.Watcher.Seen g.W.Watcher.after c.in-Err.halt c.turns.invariant.reaches.count
     (machine_of c.args.control.now c.args.run.now (w c.args.watcher.now)) (machine_of c.turns.control c.turns.run (w c.turns.watcher))
     (machine_of c.step.new.control c.step.new.run (w c.step.new.watcher)) c.turns.invariant.reaches.is c.in-Err.ensures.steps
+
+pub returns-in-Err-clause-front : goal.returns-in-Err-clause-front
+returns-in-Err-clause-front g c =
+    let w = g.W.Watcher.seen in
+    let m = machine_of c.args.control.now c.args.run.now (w c.args.watcher.now) in
+    let y = machine_of c.turns.control c.turns.run (w c.turns.watcher) in
+    then_broken c.in-Err.halt (saw_some c.args.code.now g.W.Watcher.Seen g.W.Watcher.after c.turns.invariant.reaches.count m y (w c.step.new.watcher) c.turns.invariant.reaches.is) c.in-Err.ensures.front
 
 pub returns-in-Err-clause-kept : goal.returns-in-Err-clause-kept
 returns-in-Err-clause-kept g c = stacks_kept c.args.control.now c.turns.control c.step.new.control c.turns.invariant.kept c.step.ensures.kept

@@ -3,9 +3,11 @@ use Rattle.c_core.specs.Tree.{Program}
 use Rattle.c_meaning.specs.declared.run.End.TheVariants.{Spent}
 use Rattle.c_meaning.specs.declared.run.Run.{Run as GivenRun}
 use Rattle.flow_code.specs.Programs.{IsCodeOf}
+use Rattle.flow_machine.specs.Fronts.{BreaksOff}
 use Rattle.flow_machine.specs.Runs.{Advances, Held, Rests, Waits}
 use Rattle.flow_machine.specs.Views.{machine_of}
 use Rattle.flow_machine.proofs.Advancing.{rests_on, rests_still, comes_short, comes_to_end, now_rests, went_on, fewer_left, in_order_with, spent_in_order, end_at, run_at_rest}
+use Rattle.flow_machine.proofs.Breaking.{breaks_off}
 use Rattle.flow_machine.proofs.Reserving.{stays_within, still_reserved, spent_reached, spent_counted}
 use Rattle.flow_machine.proofs.machine.Machine.advance.Goals as goal
 
@@ -70,6 +72,16 @@ invariant_of-self-in-NoMemory g c =
       counted = λ whole none. absurd (cc);
       room = λ reserved. still_reserved m.code.now m.control c.go-halt.new.control c.go-halt.ensures.kept (i.room reserved);
     }
+
+pub returns-in-NoMemory-clause-front : goal.returns-in-NoMemory-clause-front
+returns-in-NoMemory-clause-front g c =
+    let m = c.self.inside in
+    let old = g.W.Watcher.seen c.args.watcher.now in
+    let new = g.W.Watcher.seen c.go-halt.new.watcher in
+    subst (λ (v : Held). v.whole ≡ true → (p : Program) → IsCodeOf p v.code → BreaksOff p v.choices v.sum (m.sum + c.args.steps) g.W.Watcher.after old new) c.self.view_is
+    (λ whole p h.
+    breaks_off p m.code.now m.choices.now (c.code_is_simulated.ensures p m.code.now h) g.W.Watcher.after m.sum m.taken c.args.steps m.ended m.control m.run old new c.in_default.is
+    (c.larger_budget_continues.ensures p m.choices.now m.sum (m.sum + c.args.steps) (omega arith)) (c.self.invariant.at_rest whole) c.in-NoMemory.ensures.front)
 
 pub returns-in-NoMemory-clause-enough : goal.returns-in-NoMemory-clause-enough
 returns-in-NoMemory-clause-enough g c =
