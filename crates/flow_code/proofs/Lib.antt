@@ -8,3 +8,4 @@ pub mod Arms
 pub mod Indexes
 pub mod Lengths
 pub mod Objects
+pub mod Placing

@@ -7,3 +7,4 @@ pub mod Expressions
 pub mod Statements
 pub mod Tables
 pub mod Programs
+pub mod Statics

@@ -18,7 +18,8 @@ loop-object-preserved c =
     let is = rw c.as_slice-object-items.ensures at c.object-item.is in
     let d = drop-cons objects i c.object-item.result lt ∙ ap (λ x. x ∷ drop (suc i) objects) (sym is) in
     let e : c.loop-object.number + 1 ≡ suc i = omega (arith, at) in
+    let added = rw c.start_values-values.ensures at c.in_ok-add_static.ensures in
     record {
       at = omega (arith, at);
-      cells = rw e (objects_left c.args.program.now.starts objects i c.object-item.result _ _ _ d (rw at at c.loop-object.invariant.cells) (rw at at c.in_ok-add_static.ensures));
+      cells = rw e (objects_left c.args.program.now.starts objects i c.object-item.result _ _ _ d (rw at at c.loop-object.invariant.cells) (rw at at added));
     }
