@@ -5,6 +5,7 @@ pub mod Units
 pub mod Tseitin
 pub mod Marks
 pub mod Log
+pub mod Accepted
 pub mod Spent
 pub mod Table
 pub mod Cnf

@@ -3,9 +3,12 @@ use Rattle.std.specs.Prelude.{◌≡◌, ℕ, ◌+◌, ◌-◌, ◌≤◌, ◌<�
 use Rattle.circuits.specs.declared.net.Bit.{Bit}
 use Rattle.circuits.specs.declared.net.NetNode.{NetNode}
 use Rattle.circuits.specs.Net.{holds, count_inputs}
+use Rattle.clauses.specs.declared.log.Refutation.{Refutation}
 use Rattle.clauses.specs.declared.log.SpentAt.{SpentAt}
+use Rattle.clauses.specs.Accepted.{RefutesBit}
 use Rattle.clauses.specs.Tseitin.{ClausesOf}
 use Rattle.clauses.specs.Spent.{IsSpent}
+use Rattle.sat_core.specs.Answers.{AreAllOnce}
 use Rattle.c_core.specs.declared.number.DataModel.{DataModel}
 use Rattle.c_core.specs.Types.{width_of}
 use Rattle.sym_state.specs.declared.state.DrawSite.{DrawSite}
@@ -26,9 +29,20 @@ pub record IsSpentOn (N : ℕ) (net : List NetNode) (b : Bit) (s : SpentAt) : Ty
   pub log : IsSpent s.clauses.variables s.clauses.clauses s.log.chains N
   pub bounded : N ≤ 2 ^ (count_inputs net + 1) - 2
 
+-- a log of at most so many chains, none of which resolves on a variable twice
+pub record IsShort (budget : ℕ) (log : Refutation) : Type 0 where
+  pub few : length log.chains ≤ budget
+  pub once : AreAllOnce log.chains
+
+-- no inputs make the bit true, which the log shows
+pub record IsShownBy (N : ℕ) (net : List NetNode) (b : Bit) (log : Refutation) : Type 0 where
+  pub never : IsNeverTrue net b
+  pub refutes : RefutesBit net b log
+  pub short : IsShort N log
+
 -- what a finding says of a failing bit, with a budget of N conflicts
 abbrev pub IsDecidedAs : ℕ → List NetNode → Bit → Finding → Type 0
-IsDecidedAs N net b Holds = IsNeverTrue net b
+IsDecidedAs N net b (Holds log) = IsShownBy N net b log
 IsDecidedAs N net b (Fails values) = holds (inputs_of values) net b ≡ true
 IsDecidedAs N net b (Spent s) = IsSpentOn N net b s
 

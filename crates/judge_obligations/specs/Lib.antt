@@ -1,3 +1,4 @@
 pub mod Verdicts
 pub mod Deciding
 pub mod Answering
+pub mod Logged

@@ -1,24 +1,32 @@
 // One obligation: can its failing bit be true?
-ghost use Rattle.std.specs.Prelude.{◌≤◌, ◌<◌, ◌^◌, IfOk, length};
+ghost use Rattle.std.specs.Prelude.{◌≤◌, ◌<◌, ◌^◌, IfOk, IsTrue, length};
 ghost use Rattle.circuits.specs.Net.{IsIn};
-ghost use Rattle.judge_obligations.specs.Deciding.{IsDecidedAs};
+ghost use Rattle.judge_obligations.specs.Deciding.{IsDecidedAs, IsNeverTrue};
 
 use circuits::{Bit, Net};
-use clauses::{SpentAt, cnf_of};
+use clauses::{Refutation, SpentAt, cnf_of};
 use sat_core::{Answer, solve};
 use std::alloc::Global;
 use wv_base::{OutOfMemory, Seq};
 
-/// What is known of an obligation: it holds; it fails where the inputs of the net have the first of these values; or the
-/// budget was spent.
+/// What is known of an obligation: it holds, by this log; it fails where the inputs of the net have the first of these
+/// values; or the budget was spent.
 #[derive(Drop)]
 pub enum Finding {
-    Holds,
+    Holds(Refutation),
     Fails(Seq<bool>),
     Spent(SpentAt),
 }
 
-/// Decides a failing bit by its clauses, with a budget of conflicts; the constant and its opposite without any.
+/// Whether a bit is the opposite of the constant, which no inputs make true.
+pub fn is_false(net: &Net, bit: Bit) -> bool
+    ensures { IsTrue result → IsNeverTrue net.now bit }
+{
+    let _ = net.nodes();
+    bit.node == 0 && bit.negated
+}
+
+/// Decides a failing bit by its clauses, with a budget of conflicts; the constant without any.
 pub fn decide_bit(
     alloc: Global,
     net: &Net,
@@ -32,16 +40,13 @@ pub fn decide_bit(
     ensures { IfOk result (IsDecidedAs conflicts net.now bit) }
 {
     let _ = net.nodes();
-    if bit.node == 0 {
-        if bit.negated {
-            return Ok(Finding::Holds);
-        }
+    if bit.node == 0 && !bit.negated {
         return Ok(Finding::Fails(Seq::new(alloc)));
     }
     let clauses = cnf_of(alloc, net, bit)?;
     match solve(alloc, &clauses, conflicts)? {
         Answer::Model(values) => Ok(Finding::Fails(values)),
-        Answer::Refuted(_) => Ok(Finding::Holds),
+        Answer::Refuted(log) => Ok(Finding::Holds(log)),
         Answer::Spent(log) => Ok(Finding::Spent(SpentAt { clauses, log })),
     }
 }

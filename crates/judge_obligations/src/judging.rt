@@ -4,14 +4,16 @@ ghost use Rattle.c_core.specs.View.{program_view};
 ghost use Rattle.c_meaning.specs.Placing.{placed_view};
 ghost use Rattle.circuits.specs.Net.{count_inputs};
 ghost use Rattle.judge_obligations.specs.Answering.{IsShown, IsLeftOpen};
+ghost use Rattle.judge_obligations.specs.Deciding.{AreNeverTrue};
+ghost use Rattle.judge_obligations.specs.Logged.{IsSettledAs, IsSettledUnspent};
 ghost use Rattle.judge_obligations.specs.Verdicts.{AreObligationsOf, IsRightOnInvariants, IsKept, IsDecided};
 
 use crate::draws::draws_under;
-use crate::failing::{Finding, decide_bit};
+use crate::failing::{Finding, decide_bit, is_false};
 use c_core::Program;
 use c_meaning::{Cause, Draw, PlacedInvariant, Verdict};
 use circuits::Bit;
-use clauses::SpentAt;
+use clauses::{Refutation, SpentAt};
 use std::alloc::Global;
 use sym_duties::Obligations;
 use wv_base::{OutOfMemory, Seq};
@@ -70,6 +72,44 @@ fn undecided(at: usize, conflicts: u64, spent: SpentAt) -> Judged
     }
 }
 
+// One obligation: it holds, by its log; or the verdict that it gives, where those before it hold.
+#[derive(Drop)]
+pub enum Settled {
+    Holds(Refutation),
+    Ends(Judged),
+}
+
+/// Decides the obligation at an index, where those before it hold.
+pub fn settle(
+    alloc: Global,
+    program: &Program,
+    invariants: &Seq<PlacedInvariant>,
+    obligations: &Obligations,
+    at: usize,
+    conflicts: u64,
+) -> Result<Settled, OutOfMemory>
+    requires promised { AreObligationsOf (program_view program.now) (placed_view invariants.now) obligations.now }
+    requires within { at < length obligations.now.failing }
+    requires before { AreNeverTrue obligations.now.net obligations.now.failing at }
+    requires some { 1 ≤ conflicts }
+    requires bounded { conflicts ≤ 1000000 }
+    ensures settled { IfOk result (IsSettledAs conflicts (program_view program.now) (placed_view invariants.now) obligations.now at) }
+    ensures decided { IfOk result (λ r. 2 ^ (count_inputs obligations.now.net + 1) - 2 < conflicts → IsSettledUnspent r) }
+{
+    let net = &obligations.net;
+    let _ = net.nodes();
+    let bit = failing_at(obligations, at);
+    match decide_bit(alloc, net, bit, conflicts)? {
+        Finding::Holds(log) => Ok(Settled::Holds(log)),
+        Finding::Fails(values) => {
+            let sites = obligations.sites.as_slice();
+            let draws = draws_under(alloc, program, net, sites, values.as_slice())?;
+            Ok(Settled::Ends(failed(obligations, at, draws)))
+        }
+        Finding::Spent(spent) => Ok(Settled::Ends(undecided(at, conflicts, spent))),
+    }
+}
+
 /// Decides the obligations one after the other, each with a budget of conflicts, up to the first that doesn't hold.
 pub fn decide(
     alloc: Global,
@@ -86,18 +126,14 @@ pub fn decide(
     ensures decided { IfOk result (λ r. 2 ^ (count_inputs obligations.now.net + 1) - 2 < conflicts → IsDecided r.verdict) }
 {
     let net = &obligations.net;
-    let _ = net.nodes();
     let many = obligations.failing.len();
     for at in 0..many {
-        let bit = failing_at(obligations, at);
-        match decide_bit(alloc, net, bit, conflicts)? {
-            Finding::Holds => {}
-            Finding::Fails(values) => {
-                let sites = obligations.sites.as_slice();
-                let draws = draws_under(alloc, program, net, sites, values.as_slice())?;
-                return Ok(failed(obligations, at, draws));
-            }
-            Finding::Spent(spent) => return Ok(undecided(at, conflicts, spent)),
+        if is_false(net, failing_at(obligations, at)) {
+            continue;
+        }
+        match settle(alloc, program, invariants, obligations, at, conflicts)? {
+            Settled::Holds(_) => {}
+            Settled::Ends(judged) => return Ok(judged),
         }
     }
     Ok(Judged {
