@@ -1,9 +1,11 @@
 pub mod ShownValues
 pub mod OfBytes
+pub mod Refusing
 pub mod Judged
 pub mod JudgedTask
 pub mod FewWaypoints
 pub mod AllowedBudgets
 pub mod JudgedSets
+pub mod Certified
 pub mod MadeWitness
 pub mod FirstLine

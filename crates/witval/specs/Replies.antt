@@ -18,6 +18,8 @@ use Rattle.witval.specs.Stages.{known, answered, choosing, itself}
 use Rattle.witval.specs.Demos.{IsDemonstration}
 use Rattle.witval.specs.declared.input.File.{File}
 use Rattle.witval.specs.declared.input.File.TheVariants.{Witness as WitnessFile}
+use Rattle.witval.specs.declared.input.Stop.{Stop}
+use Rattle.witval.specs.declared.input.Stop.TheVariants as stop
 use Rattle.witval.specs.declared.output.Output.{Output}
 use Rattle.witval.specs.declared.output.Output.TheVariants.{Report, Canonical, Summary, Demo as Demonstrated, Certificate, Rechecked}
 
@@ -66,6 +68,12 @@ RightCertificate command conflicts old new (Canonical text) = ⊥
 RightCertificate command conflicts old new (Summary text) = ⊥
 RightCertificate command conflicts old new (Demonstrated demo) = ⊥
 RightCertificate command conflicts old new (Rechecked answer) = ⊥
+
+-- the reply where reading one of three files stopped; want of memory is no reply
+abbrev pub IsStopped : Stop → Reply → Type 0
+IsStopped (stop.Fault file) reply = reply ≡ ReadFault (word_of file)
+IsStopped (stop.TooLong file) reply = reply ≡ Refused too_long (word_of file)
+IsStopped stop.OutOfMemory reply = ⊥
 
 -- ---- a certificate that is checked again
 

@@ -8,13 +8,14 @@ use Rattle.c_parser.specs.Parsing.{Answers as ParserAnswers, source_view}
 use Rattle.c_parser.specs.Tree.{Item}
 use Rattle.c_tokens.specs.Reading.{Answers as TokensAnswers}
 use Rattle.c_tokens.specs.declared.token.Token.{Token}
+use Rattle.wv_cert.specs.Reading.{AnswersFor as CertificateAnswers}
 use Rattle.wv_schema.specs.Schema.{witness_of}
 use Rattle.wv_schema.specs.declared.witness.Witness.{Witness}
 use Rattle.wv_task.specs.Task.{judged}
 use Rattle.wv_yaml.specs.Reading.{IsAnswer}
 use Rattle.wv_yaml.specs.declared.tree.Tree.{Tree}
-use Rattle.witval.specs.Purposes.{Purpose, RightOnWork, Work, working}
-use Rattle.witval.specs.Refusals.{IsRefusal, IsSchemaRefusal, IsTaskRefusal, IsTokenRefusal, IsSyntaxRefusal, IsCheckRefusal}
+use Rattle.witval.specs.Purposes.{Purpose, RightOnWork, ToRecheck, Work, working}
+use Rattle.witval.specs.Refusals.{IsRefusal, IsSchemaRefusal, IsTaskRefusal, IsCertificateRefusal, IsTokenRefusal, IsSyntaxRefusal, IsCheckRefusal}
 use Rattle.witval.specs.Stages.{◌>>=◌, known, answered, itself, refusing}
 use Rattle.witval.specs.declared.output.Output.{Output}
 
@@ -35,6 +36,12 @@ abbrev pub RightOnText : Work → Property → List ℕ → Witness → DataMode
 RightOnText work property program_bytes witness model = do
   tokens ← answered (TokensAnswers program_bytes) itself (refusing IsTokenRefusal)
   RightOnTokens work property witness model tokens
+
+-- with the data model of the task, invariant sets, and the bytes of a certificate
+abbrev pub RightOnLogs : List ℕ → Property → List ℕ → Witness → DataModel → Output → Type 0
+RightOnLogs bytes property program_bytes witness model = do
+  logs ← answered (CertificateAnswers bytes) itself (refusing IsCertificateRefusal)
+  RightOnText (ToRecheck logs) property program_bytes witness model
 
 -- with the data model of the task
 abbrev pub RightOnModel : Purpose → Property → List ℕ → Witness → DataModel → Output → Type 0
