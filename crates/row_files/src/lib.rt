@@ -13,8 +13,9 @@
 //! witnesses, in which `hash` stands for HASH and `formula` for FORMULA and `edits` are made (`OLD | NEW | OLD | NEW ..`, the first
 //! occurrence of each), `segments` are put behind them, and `yaml` is a witness's text. Segments stand between the words `then`, the
 //! waypoints of one between semicolons, and a waypoint is its action, its type, its line or `line:column`, and its constraint.
-//! `property` is a property, `words` is a command line over the files `p`, `q` and `w`, `model` is a data model or `both`, `text` is a
-//! list, and `fails` is the device of which a call fails, `shelf` or `sink`, and the number of that call.
+//! `property` is a property, `words` is a command line over the files `p`, `q`, `w` and `c`, `model` is a data model or `both`, and `fails`
+//! is the device of which a call fails, `shelf` or `sink`, and the number of that call. `text` is a list; or it is a certificate's text,
+//! behind the files of `data/` that `certificate` names.
 //!
 //! `escapes.rt` says how control characters, bytes and repeated texts are written.
 #![tactic(auto)]
@@ -25,5 +26,5 @@ mod texts;
 mod trial;
 
 pub use table::{NotTried, Row};
-pub use texts::{program, witness};
+pub use texts::{certificate, program, witness};
 pub use trial::{Files, Trial, try_rows};

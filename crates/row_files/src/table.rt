@@ -80,7 +80,7 @@ impl Row {
 
 fn is_field(name: &str) -> bool {
     match name {
-        "answer" | "edits" | "fails" | "formula" | "hash" | "model" => true,
+        "answer" | "certificate" | "edits" | "fails" | "formula" | "hash" | "model" => true,
         "program" | "property" | "segments" | "source" | "text" => true,
         "witness" | "words" | "yaml" => true,
         _ => false,
