@@ -10,10 +10,11 @@ use Rattle.wv_report.specs.declared.reply.Reply.{Reply}
 use Rattle.wv_report.specs.declared.reply.Reply.TheVariants.{Refused, ReadFault}
 use Rattle.witval.specs.Inputs.{AreInputs, AreWithin, Faulted, OfBytes, OfFiles, OfOne, RightStop, RightStopAlone, RightStopOfFour, Told, ToldOne, certificate_limit, certificate_word, first_too_long, limit_of, too_long_alone, word_of}
 use Rattle.witval.specs.Purposes.{Purpose, Rechecking, RightOnInputs}
-use Rattle.witval.specs.Replies.{IsStopped, OfFour, OnWitness, RightAfterCertificate, RightAlone, RightFor, RightOnBytes, RightOnFour, RightRecheck, long_certificate, too_long}
+use Rattle.witval.specs.Replies.{IsStopped, IsStoppedOfFour, OfFour, OnWitness, RightAfterCertificate, RightAlone, RightFor, RightOnBytes, RightOnFour, RightRecheck, long_certificate, too_long}
 use Rattle.witval.specs.declared.input.File.{File}
 use Rattle.witval.specs.declared.input.File.TheVariants.{Program, Property, Witness}
 use Rattle.witval.specs.declared.input.FourInputs.{FourInputs}
+use Rattle.witval.specs.declared.input.FourStop.{FourStop}
 use Rattle.witval.specs.declared.input.FourStop.TheVariants as four
 use Rattle.witval.specs.declared.input.Inputs.{Inputs}
 use Rattle.witval.specs.declared.input.Stop.{Stop}
@@ -192,21 +193,22 @@ stopped_of_four command name old new (stop.TooLong file) reply e right =
     subst (λ r. RightRecheck command name old new (Report r)) (sym e) (of_long_four command name old file right.1, inl (inr (file, refl, right.0)))
 stopped_of_four command name old new stop.OutOfMemory reply e right = absurd e
 
-pub stopped_four : (command : Command) (name : List ℕ) (old new : ShelfState) (why : Stop) (reply : Reply) → IsStopped why reply → RightStop command old new why
+at_three : (command : Command) (name : List ℕ) (old new : ShelfState) (why : Stop) (reply : Reply) → IsStopped why reply → RightStop command old new why
     → RightRecheck command name old new (Report reply) × HasJsonIntegers reply
-stopped_four command name old new why reply e right = (stopped_of_four command name old new why reply e right, shows_none why reply e)
+at_three command name old new why reply e right = (stopped_of_four command name old new why reply e right, shows_none why reply e)
 
 -- the output where reading a certificate failed, and where it is too long
-pub certificate_failed : (command : Command) (name : List ℕ) (old new : ShelfState) (reply : Reply) → reply ≡ ReadFault certificate_word → Faulted 4 name old new
+certificate_failed : (command : Command) (name : List ℕ) (old new : ShelfState) (reply : Reply) → reply ≡ ReadFault certificate_word → Faulted 4 name old new
     → RightRecheck command name old new (Report reply) × HasJsonIntegers reply
 certificate_failed command name old new reply e faulted =
     (subst (λ r. RightRecheck command name old new (Report r)) (sym e) (inr (refl, faulted)), subst HasJsonIntegers (sym e) (All-nil (λ draw. IsJsonInteger draw.value)))
 
-pub certificate_long : (command : Command) (name : List ℕ) (old new : ShelfState) (reply : Reply) → reply ≡ Refused too_long certificate_word
+certificate_long : (command : Command) (name : List ℕ) (old new : ShelfState) (reply : Reply) → reply ≡ Refused too_long certificate_word
     → RightStopOfFour command name old new (four.Certificate reading.TooLong) → RightRecheck command name old new (Report reply) × HasJsonIntegers reply
-certificate_long command name old new reply e right =
-    (subst (λ r. RightRecheck command name old new (Report r)) (sym e) (of_long_certificate command name old right.1 right.2, inr (refl, right.0)),
-     subst HasJsonIntegers (sym e) (All-nil (λ draw. IsJsonInteger draw.value)))
+certificate_long command name old new reply e right = (
+  subst (λ r. RightRecheck command name old new (Report r)) (sym e) (of_long_certificate command name old right.1 right.2, inr (refl, right.0)),
+  subst HasJsonIntegers (sym e) (All-nil (λ draw. IsJsonInteger draw.value)),
+)
 
 -- the same of a witness alone
 pub long_alone : (Within : Output → List ℕ → Type 0) (name : List ℕ) (old new : ShelfState) (file : File) (why : Stop) (reply : Reply) → why ≡ stop.TooLong file
@@ -216,3 +218,11 @@ long_alone Within name old new file why reply is e halted =
     let is_right : RightAlone Within name old new (Report (Refused too_long (word_of Witness))) = (of_long_one Within name old found.1.1, inr (refl, found.1.0)) in
     subst (λ r. RightAlone Within name old new (Report r)) (sym e)
     (subst (λ f. RightAlone Within name old new (Report (Refused too_long (word_of f)))) (sym found.0) is_right)
+
+-- the output where reading three files and a certificate stopped
+pub stopped_four : (command : Command) (name : List ℕ) (old new : ShelfState) (why : FourStop) (reply : Reply) → IsStoppedOfFour why reply → RightStopOfFour command name old new why
+    → RightRecheck command name old new (Report reply) × HasJsonIntegers reply
+stopped_four command name old new (four.Three why) reply e right = at_three command name old new why reply e right
+stopped_four command name old new (four.Certificate reading.Fault) reply e right = certificate_failed command name old new reply e right
+stopped_four command name old new (four.Certificate reading.TooLong) reply e right = certificate_long command name old new reply e right
+stopped_four command name old new (four.Certificate reading.OutOfMemory) reply e right = absurd e

@@ -2,6 +2,7 @@
 use Rattle.std.specs.Prelude.{◌≡◌, ℕ, List, length, ◌⊎◌, false, Option, Some, None, Ok, nat_lt, codes}
 use Rattle.std.specs.Str.{bytes_eq}
 use Rattle.wv_base.specs.Shelf.{ShelfState}
+use Rattle.wv_base.specs.declared.reading.ReadFault.TheVariants as reading
 use Rattle.wv_report.specs.declared.reply.Reply.{Reply}
 use Rattle.wv_report.specs.declared.reply.Reply.TheVariants.{Verdict as Judged, Refused, ReadFault}
 use Rattle.wv_schema.specs.Schema.{witness_of}
@@ -18,6 +19,8 @@ use Rattle.witval.specs.Stages.{known, answered, choosing, itself}
 use Rattle.witval.specs.Demos.{IsDemonstration}
 use Rattle.witval.specs.declared.input.File.{File}
 use Rattle.witval.specs.declared.input.File.TheVariants.{Witness as WitnessFile}
+use Rattle.witval.specs.declared.input.FourStop.{FourStop}
+use Rattle.witval.specs.declared.input.FourStop.TheVariants as four
 use Rattle.witval.specs.declared.input.Stop.{Stop}
 use Rattle.witval.specs.declared.input.Stop.TheVariants as stop
 use Rattle.witval.specs.declared.output.Output.{Output}
@@ -112,6 +115,13 @@ RightRecheck command name old new (Canonical text) = ⊥
 RightRecheck command name old new (Summary text) = ⊥
 RightRecheck command name old new (Demonstrated demo) = ⊥
 RightRecheck command name old new (Certificate text) = ⊥
+
+-- the reply where reading three files and a certificate stopped
+abbrev pub IsStoppedOfFour : FourStop → Reply → Type 0
+IsStoppedOfFour (four.Three why) reply = IsStopped why reply
+IsStoppedOfFour (four.Certificate reading.Fault) reply = reply ≡ ReadFault certificate_word
+IsStoppedOfFour (four.Certificate reading.TooLong) reply = reply ≡ Refused too_long certificate_word
+IsStoppedOfFour (four.Certificate reading.OutOfMemory) reply = ⊥
 
 -- ---- the other modes
 

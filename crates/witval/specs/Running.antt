@@ -6,7 +6,7 @@ use Rattle.wv_base.specs.Sink.{SinkState, Gained}
 use Rattle.wv_report.specs.Json.{HasJsonIntegers, json_of}
 use Rattle.wv_cert.specs.declared.checking.Rechecked.{Rechecked as Answer}
 use Rattle.wv_cert.specs.declared.checking.Rechecked.TheVariants as answers
-use Rattle.wv_report.specs.Report.{line, status_of, text_of}
+use Rattle.wv_report.specs.Report.{status_of, text_of}
 use Rattle.wv_report.specs.declared.reply.Reply.{Reply}
 use Rattle.wv_arguments.specs.Words.{Asked, Wanted, Validate, Show, Normalise, Demo, Certify, Recheck, asked_by}
 use Rattle.witval.specs.Demos.{demo_status, demo_text}
@@ -18,10 +18,9 @@ use Rattle.witval.specs.declared.output.Output.TheVariants.{Report, Canonical, S
 
 -- what is written of a certificate that was checked again
 abbrev pub recheck_text : Answer → List ℕ
-recheck_text (answers.Yes count) = line (codes "certificate accepted") ++ line (codes "obligations " ++ decimal count)
-recheck_text (answers.No index) = line (codes "certificate refused") ++ line (codes "obligation " ++ decimal index)
-recheck_text (answers.Count expected found) =
-    line (codes "certificate refused") ++ line (codes "obligations " ++ decimal expected ++ codes " found " ++ decimal found)
+recheck_text (answers.Yes count) = codes "certificate accepted\nobligations " ++ decimal count ++ codes "\n"
+recheck_text (answers.No index) = codes "certificate refused\nobligation " ++ decimal index ++ codes "\n"
+recheck_text (answers.Count expected found) = codes "certificate refused\nobligations " ++ decimal expected ++ codes " found " ++ decimal found ++ codes "\n"
 
 -- and its status
 abbrev pub recheck_status : Answer → ℕ

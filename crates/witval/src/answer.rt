@@ -1,7 +1,7 @@
 ghost use Rattle.std.specs.Prelude.{◌≡◌, ◌≤◌, IfOk};
 ghost use Rattle.witval.specs.Inputs.{AreWithin};
 ghost use Rattle.witval.specs.Purposes.{Rechecking, RightOnInputs};
-ghost use Rattle.witval.specs.Replies.{CanonicalIn, IsStopped, Right, RightAlone, RightCertificate, RightDemo, RightRecheck, RightVerdict, SummaryIn};
+ghost use Rattle.witval.specs.Replies.{CanonicalIn, IsStopped, IsStoppedOfFour, Right, RightAlone, RightCertificate, RightDemo, RightRecheck, RightVerdict, SummaryIn};
 ghost use Rattle.witval.specs.Running.{HasIntegers};
 ghost use Rattle.witval.specs.inside.Allowed.{AreAllowed, IsAllowed, IsBudget};
 ghost use Rattle.wv_arguments.specs.Requests.{limits, named, stated};
@@ -29,6 +29,18 @@ fn stopped(alloc: Global, stop: Stop) -> Result<Reply, OutOfMemory>
         Stop::Fault(file) => read_fault(alloc, file),
         Stop::TooLong(file) => refuse_too_long(alloc, file),
         Stop::OutOfMemory => Err(OutOfMemory),
+    }
+}
+
+/// The reply where reading three files and a certificate stopped.
+fn stopped_of_four(alloc: Global, stop: FourStop) -> Result<Reply, OutOfMemory>
+    ensures { IfOk result (IsStoppedOfFour stop) }
+{
+    match stop {
+        FourStop::Three(stop) => stopped(alloc, stop),
+        FourStop::Certificate(ReadFault::Fault) => certificate_fault(alloc),
+        FourStop::Certificate(ReadFault::TooLong) => refuse_long_certificate(alloc),
+        FourStop::Certificate(ReadFault::OutOfMemory) => Err(OutOfMemory),
     }
 }
 
@@ -90,14 +102,7 @@ fn recheck<S: Shelf>(
 {
     match read_four(alloc, names, certificate, shelf) {
         Ok(four) => recheck_four(alloc, four),
-        Err(FourStop::Three(stop)) => Ok(Output::Report(stopped(alloc, stop)?)),
-        Err(FourStop::Certificate(ReadFault::Fault)) => Ok(Output::Report(certificate_fault(
-            alloc,
-        )?)),
-        Err(FourStop::Certificate(ReadFault::TooLong)) => Ok(Output::Report(refuse_long_certificate(
-            alloc,
-        )?)),
-        Err(FourStop::Certificate(ReadFault::OutOfMemory)) => Err(OutOfMemory),
+        Err(stop) => Ok(Output::Report(stopped_of_four(alloc, stop)?)),
     }
 }
 

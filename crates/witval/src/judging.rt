@@ -5,7 +5,7 @@ ghost use Rattle.c_parser.specs.Parsing.{source_view};
 ghost use Rattle.wv_arguments.specs.Requests.{limits};
 ghost use Rattle.wv_schema.specs.Shapes.{is_set};
 ghost use Rattle.witval.specs.Inputs.{AreWithin};
-ghost use Rattle.witval.specs.Purposes.{RightOnInputs, RightOnWork, meant, planned};
+ghost use Rattle.witval.specs.Purposes.{IsKind, RightOnInputs, RightOnWork, meant, planned};
 ghost use Rattle.witval.specs.Tasks.{RightOnProgram, holds_sets};
 ghost use Rattle.witval.specs.inside.Allowed.{AllowsPurpose, AllowsWork, IsAllowed};
 ghost use Rattle.witval.specs.inside.Rests.{RightOnLogs, RightOnModel, RightOnSource, RightOnText, RightOnTokens, RightOnTree, RightOnWitness, RightUnder};
@@ -121,20 +121,29 @@ fn judge_model(
             judge_text(alloc, property, program, model, witness, work)
         }
         Purpose::Certify(conflicts) => {
-            if !holds_sets(witness) {
-                return Ok(Output::Report(refuse_plainly(alloc, "kind")?));
+            if holds_sets(witness) {
+                let work = Work::Certify(conflicts);
+                judge_text(alloc, property, program, model, witness, work)
+            } else {
+                refuse_kind(alloc)
             }
-            let work = Work::Certify(conflicts);
-            judge_text(alloc, property, program, model, witness, work)
         }
         Purpose::Recheck(certificate) => {
-            if !holds_sets(witness) {
-                return Ok(Output::Report(refuse_plainly(alloc, "kind")?));
+            if holds_sets(witness) {
+                let bytes = certificate.as_slice();
+                judge_certificate(alloc, property, program, model, witness, bytes)
+            } else {
+                refuse_kind(alloc)
             }
-            let bytes = certificate.as_slice();
-            judge_certificate(alloc, property, program, model, witness, bytes)
         }
     }
+}
+
+/// The refusal of a witness without invariant sets.
+fn refuse_kind(alloc: Global) -> Result<Output, OutOfMemory>
+    ensures { IfOk result IsKind }
+{
+    Ok(Output::Report(refuse_plainly(alloc, "kind")?))
 }
 
 /// The output for the text of a program in a data model, invariant sets about it, and the bytes of a certificate.

@@ -33,7 +33,7 @@ fn status_of_recheck(answer: &Rechecked) -> u8
 fn text_of_recheck(alloc: Global, answer: &Rechecked) -> Result<Vec<u8>, OutOfMemory>
     ensures { IfOk result (λ bytes. bytes.items ≡ recheck_text answer.now) }
 {
-    let text = match *answer {
+    let text = match answer {
         Rechecked::Yes { count } => {
             format!(in alloc; "certificate accepted\nobligations {count}\n")?
         }
