@@ -108,7 +108,9 @@ pub fn read_four<S: Shelf>(
             inputs,
             certificate,
         }),
-        Err(fault) => Err(FourStop::Certificate(fault)),
+        Err(ReadFault::Fault) => Err(FourStop::Certificate(ReadFault::Fault)),
+        Err(ReadFault::TooLong) => Err(FourStop::Certificate(ReadFault::TooLong)),
+        Err(ReadFault::OutOfMemory) => Err(FourStop::Certificate(ReadFault::OutOfMemory)),
     }
 }
 
