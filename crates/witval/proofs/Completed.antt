@@ -1,14 +1,15 @@
 -- Where files are told and no fault was counted, a right output is what the files call for.
 use Rattle.std.proofs.Common.{◌≡◌, ◌≤◌, ◌<◌, ◌+◌, ◌-◌, ◌^◌, ℕ, List, Option, Some, IfSome, inl, inr, arith, subst}
-use Rattle.wv_arguments.specs.Words.{Command, Wanted, Validate, Show, Normalise, Demo, Certify, Recheck}
+use Rattle.wv_arguments.specs.Words.{Asked, Command, Wanted, Validate, Show, Normalise, Demo, Certify, Recheck}
 use Rattle.wv_base.specs.Causes.{Rose, next}
 use Rattle.wv_base.specs.Shelf.{ShelfState, Files, file_of}
+use Rattle.wv_base.specs.Sink.{SinkState, Gained}
 use Rattle.wv_report.specs.declared.reply.Reply.{Reply}
 use Rattle.wv_report.specs.declared.reply.Reply.TheVariants.{Verdict as Judged, Refused, ReadFault}
 use Rattle.witval.specs.Inputs.{OfBytes, OfFiles, OfOne}
 use Rattle.witval.specs.Purposes.{Purpose, Judging, Certifying}
 use Rattle.witval.specs.Replies.{OfFour, OnWitness, Right, RightAlone, RightFor, RightOnBytes, RightOnFour, RightRecheck}
-use Rattle.witval.specs.Running.{CallsFor}
+use Rattle.witval.specs.Running.{CallsFor, CompleteFor, bytes_by, status_by}
 use Rattle.witval.specs.declared.output.Output.{Output}
 use Rattle.witval.specs.declared.output.Output.TheVariants.{Report, Canonical, Summary, Demo as Demonstrated, Certificate, Rechecked}
 
@@ -87,3 +88,9 @@ stays old new same below rose = omega (arith, same, below, rose)
 pub called_for : (wanted : Wanted) (old new : ShelfState) (files : Files) (output : Output) → old.files ≡ Some files → new.faults ≡ old.faults → old.faults < 2 ^ 64 - 1
     → Right (Some wanted) old new output → CallsFor wanted files output
 called_for wanted old new files output e same below right = called wanted old new files output e (stays old.faults new.faults same below) right
+
+-- so what is written, with its status, is what the files call for
+pub completed : (asked : Asked) (old new : ShelfState) (before after : SinkState) (status : ℕ) (output : Output) → Right asked.wanted old new output → status ≡ status_by output
+    → Gained before.written after.written (bytes_by asked.json output) → CompleteFor asked old new before after status
+completed asked old new before after status output right is gained wanted files e told calm done =
+    (output, called_for wanted old new files output told calm.shelf calm.shelf_below (subst (λ w. Right w old new output) e right), is, gained)

@@ -1,5 +1,5 @@
 -- What the readers answer decides the reply, step by step.
-use Rattle.std.proofs.Common.{◌≡◌, ℕ, List, Some, Result, Ok, Err, IfOk, refl, sym, subst, ap₂}
+use Rattle.std.proofs.Common.{◌≡◌, ◌∙◌, ℕ, List, Some, Result, Ok, Err, IfOk, codes, refl, sym, subst, ap, ap₂}
 use Rattle.sha2.specs.Sha256.{sha256}
 use Rattle.c_core.specs.declared.number.DataModel.{DataModel}
 use Rattle.c_core.specs.declared.number.Property.{Property}
@@ -8,14 +8,15 @@ use Rattle.wv_schema.specs.Schema.{IsAnswer, judged as schema_judged, schema_fau
 use Rattle.wv_schema.specs.declared.fault.SchemaFault.{SchemaFault}
 use Rattle.wv_schema.specs.declared.fault.SchemaFault.TheVariants as schema
 use Rattle.wv_schema.specs.declared.witness.Witness.{Witness}
+use Rattle.wv_task.specs.PropertyText.{property_of}
 use Rattle.wv_task.specs.Task.{Gives, judged as task_judged}
 use Rattle.wv_task.specs.declared.fault.TaskFault.{TaskFault}
 use Rattle.wv_task.specs.declared.fault.TaskFault.TheVariants as task
 use Rattle.wv_yaml.specs.declared.tree.Tree.{Tree}
-use Rattle.witval.specs.Refusals.{IsSchemaRefusal, IsTaskRefusal}
-use Rattle.witval.specs.Purposes.{Purpose}
-use Rattle.witval.specs.Stages.{known, itself, refusing}
-use Rattle.witval.specs.inside.Rests.{RightOnModel, RightOnTree, RightOnWitness}
+use Rattle.witval.specs.Refusals.{IsSchemaRefusal, IsTaskRefusal, plain}
+use Rattle.witval.specs.Purposes.{Purpose, RightOnInputs}
+use Rattle.witval.specs.Stages.{given, known, itself, refusing}
+use Rattle.witval.specs.inside.Rests.{RightOnModel, RightOnTree, RightOnWitness, RightUnder}
 use Rattle.wv_show.specs.Show.{summary_of}
 use Rattle.witval.specs.Replies.{NoWitnessReply, SummaryOf}
 use Rattle.witval.specs.declared.output.Output.{Output}
@@ -87,3 +88,11 @@ not_shown t schema.Version reply e right = not_shown_by t _ reply e right
 not_shown t (schema.Shape segment) reply e right = not_shown_by t _ reply e right
 not_shown t schema.Entries reply e right = not_shown_by t _ reply e right
 not_shown t schema.OutOfMemory reply e right = absurd right
+
+-- the same with the property
+pub after_property : {E : Type 0} (purpose : Purpose) (program p asked a witness w : List ℕ) (property : Property) (result : Result Output E) → p ≡ program → a ≡ asked → w ≡ witness
+    → Some property ≡ property_of a → IfOk result (RightUnder purpose p w property) → IfOk result (RightOnInputs purpose program asked witness)
+after_property purpose program p asked a witness w property result same_program same_property same_witness e right =
+    let here : IfOk result (RightUnder purpose program w property) = subst (λ x. IfOk result (RightUnder purpose x w property)) same_program right in
+    let there : IfOk result (RightUnder purpose program witness property) = subst (λ x. IfOk result (RightUnder purpose program x property)) same_witness here in
+    subst (λ o. IfOk result (given (Report (plain (codes "property"))) o (RightUnder purpose program witness))) (e ∙ ap property_of same_property) there

@@ -7,5 +7,6 @@ pub mod FewWaypoints
 pub mod AllowedBudgets
 pub mod JudgedSets
 pub mod Certified
+pub mod Completed
 pub mod MadeWitness
 pub mod FirstLine

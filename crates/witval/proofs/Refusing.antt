@@ -29,13 +29,13 @@ use Rattle.wv_cert.specs.declared.fault.CertFault.{CertFault}
 use Rattle.wv_cert.specs.declared.fault.CertFault.TheVariants as cert
 
 -- a reply that is neither a read fault nor the refusal of a long file; a verdict shows no number beyond 64 bits
-pub NotOfLength : Reply → Type 0
+unfoldable pub NotOfLength : Reply → Type 0
 NotOfLength (Refused code detail) = bytes_eq code too_long ≡ false
 NotOfLength (ReadFault file) = ⊥
 NotOfLength (Judged verdict) = HasJsonIntegers (Judged verdict)
 
 -- a refusal, and not that of a long file
-pub Refuses : Reply → Type 0
+unfoldable pub Refuses : Reply → Type 0
 Refuses (Refused code detail) = bytes_eq code too_long ≡ false
 Refuses (ReadFault file) = ⊥
 Refuses (Judged verdict) = ⊥

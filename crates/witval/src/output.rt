@@ -33,18 +33,22 @@ fn status_of_recheck(answer: &Rechecked) -> u8
 fn text_of_recheck(alloc: Global, answer: &Rechecked) -> Result<Vec<u8>, OutOfMemory>
     ensures { IfOk result (λ bytes. bytes.items ≡ recheck_text answer.now) }
 {
-    let text = match answer {
+    match answer {
         Rechecked::Yes { count } => {
-            format!(in alloc; "certificate accepted\nobligations {count}\n")?
+            let text = format!(in alloc; "certificate accepted\nobligations {count}\n")?;
+            Ok(text.into_bytes())
         }
         Rechecked::No { index } => {
-            format!(in alloc; "certificate refused\nobligation {index}\n")?
+            let text = format!(in alloc; "certificate refused\nobligation {index}\n")?;
+            Ok(text.into_bytes())
         }
         Rechecked::Count { expected, found } => {
-            format!(in alloc; "certificate refused\nobligations {expected} found {found}\n")?
+            let text = format!(in alloc;
+                "certificate refused\nobligations {expected} found {found}\n"
+            )?;
+            Ok(text.into_bytes())
         }
-    };
-    Ok(text.into_bytes())
+    }
 }
 
 /// The status that the program ends with where the output is written.

@@ -1,3 +1,4 @@
+use Rattle.std.proofs.Common.{rules}
 use Rattle.c_core.specs.View.{program_view}
 use Rattle.c_meaning.specs.Placing.{placed_view}
 use Rattle.witval.proofs.Certified.{certified, not_certified}
