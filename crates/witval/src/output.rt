@@ -43,9 +43,8 @@ fn text_of_recheck(alloc: Global, answer: &Rechecked) -> Result<Vec<u8>, OutOfMe
             Ok(text.into_bytes())
         }
         Rechecked::Count { expected, found } => {
-            let text = format!(in alloc;
-                "certificate refused\nobligations {expected} found {found}\n"
-            )?;
+            let mut text = format!(in alloc; "certificate refused\nobligations {expected}")?;
+            write!(text, " found {found}\n")?;
             Ok(text.into_bytes())
         }
     }

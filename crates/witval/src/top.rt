@@ -10,7 +10,6 @@ use wv_arguments::{Asked, read_words};
 use wv_base::{Shelf, Sink, write_all};
 
 /// What is asked for is read or made, judged, shown or brought into canonical form, and written.
-#[tactic(auto, using(crate::proofs::Completed::completed))]
 fn run_asked<S: Shelf, O: Sink>(alloc: Global, asked: &Asked<'_>, shelf: &mut S, out: &mut O) -> u8
     requires { AreAllowed (stated asked.now).wanted }
     ensures runs { RunsFor (stated asked.now) (S.state shelf.old) (S.state shelf.new) (O.state out.old) (O.state out.new) result }
