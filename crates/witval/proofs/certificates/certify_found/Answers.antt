@@ -8,7 +8,7 @@ pub returns-in_ok-text-in-Proved : goal.returns-in_ok-text-in-Proved
 returns-in_ok-text-in-Proved c =
     let p = program_view c.args.program.now in
     let I = placed_view c.args.invariants.now in
-    certified c.args.conflicts p I c.args.found.now c.in-Proved.logs c.in_ok-text-in-Proved.text.items (λ h. c.runs_are_lifted.ensures p c.args.program.now.checked c.requires.judged.straight I h) (search rules) (search rules)
+    certified c.args.conflicts p I c.args.found.now c.in-Proved.logs c.from_vec.result (λ h. c.runs_are_lifted.ensures p c.args.program.now.checked c.requires.judged.straight I h) (search rules) (search rules)
 
 pub returns-in-Other : goal.returns-in-Other
 returns-in-Other c =
