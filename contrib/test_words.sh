@@ -16,13 +16,15 @@ explains() {
 
 explains '--bogus' 'there is no option --bogus'
 explains '-x' 'there is no option -x'
-explains 'judge' "there is no mode 'judge': validate, show, normalise or demo"
-explains '--program p.c' 'a mode is missing: validate, show, normalise or demo'
+explains 'judge' "there is no mode 'judge': validate, show, normalise, demo, certify or recheck"
+explains '--program p.c' 'a mode is missing: validate, show, normalise, demo, certify or recheck'
 explains 'validate' 'validate needs --program'
 explains 'validate --program p.c --property unreach.prp' 'validate needs --witness'
 explains 'show' 'show needs --witness'
 explains 'normalise' 'normalise needs --witness'
 explains 'demo' 'demo needs --number'
+explains 'certify --program p.c --property unreach.prp' 'certify needs --witness'
+explains "recheck $files" 'recheck needs --certificate'
 explains "validate show $files" "'show' is one word too many after the mode validate"
 explains "validate $files --steps=3 --steps 3" '--steps stands twice'
 explains "validate $files --witness=w.yml" '--witness stands twice'

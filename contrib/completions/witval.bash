@@ -2,7 +2,7 @@
 _witval() {
   local word=${COMP_WORDS[COMP_CWORD]} before=${COMP_WORDS[COMP_CWORD - 1]} command=${COMP_WORDS[0]##*/} words
   case $before in
-    --program | --property | --witness | --list) COMPREPLY=($(compgen -f -- "$word")); return ;;
+    --program | --property | --witness | --certificate | --list) COMPREPLY=($(compgen -f -- "$word")); return ;;
     --data-model) COMPREPLY=($(compgen -W 'ILP32 LP64' -- "$word")); return ;;
     --language) COMPREPLY=($(compgen -W 'C' -- "$word")); return ;;
     --steps | --conflicts | --number) return ;;
@@ -11,7 +11,7 @@ _witval() {
   case $command in
     witval-view) words+=' --list --sarif --html --help --version validate' ;;
     witval-task) words+=' --data-model --language --json validate' ;;
-    *) words+=' --number --json --help --version validate show normalise demo view' ;;
+    *) words+=' --number --certificate --json --help --version validate show normalise demo certify recheck view' ;;
   esac
   COMPREPLY=($(compgen -W "$words" -- "$word"))
 }

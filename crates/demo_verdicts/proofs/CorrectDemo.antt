@@ -24,7 +24,9 @@ use Rattle.demo_verdicts.proofs.Stages.{OneOutcome, on_tokens, on_items, on_prog
 use Rattle.sym_duties.specs.Answers.{CanBeJudged}
 use Rattle.way_bind.specs.declared.fault.BindFault.{BindFault}
 use Rattle.way_invariants.specs.Invariants.{BindsInvariants}
-use Rattle.witval.specs.Tasks.{RightOnPlaced, RightOnProgram}
+use Rattle.witval.specs.Purposes.{RightOnWork, ToJudge}
+use Rattle.witval.specs.Tasks.{RightOnPlaced}
+use Rattle.witval.specs.declared.output.Output.TheVariants.{Report}
 use Rattle.witval.specs.inside.Rests.{RightOnText, RightOnTokens, RightOnSource}
 use Rattle.wv_arguments.specs.Words.{Budgets}
 use Rattle.wv_author.specs.Programs.{correct_program}
@@ -42,15 +44,15 @@ pub record Laws (n : ℕ) : Type 0 where
   pub bound : (text : List ℕ) (answer : Result (List PlacedInvariant) BindFault) → BindsInvariants (correct_typed (bounds n loop_count)) (invariants n text) answer → ArePlaced (placed_ranges 4 1 0 (bounds n loop_count)) answer
   pub can : CanBeJudged (correct_typed (bounds n loop_count)) (placed_ranges 4 1 0 (bounds n loop_count))
 
-pub correct_judged : (n : ℕ) (budgets : Budgets) (reply : Reply) → Laws n → RightOnText budgets UnreachCall (correct_program n) (invariants n (correct_program n)) Ilp32 reply → IsVerdict reply
+pub correct_judged : (n : ℕ) (budgets : Budgets) (reply : Reply) → Laws n → RightOnText (ToJudge budgets) UnreachCall (correct_program n) (invariants n (correct_program n)) Ilp32 (Report reply) → IsVerdict reply
 correct_judged n budgets reply laws right =
     let witness = invariants n (correct_program n) in
     let ts = tokens_from 1 (correct_pieces (bounds n loop_count)) in
     let items = correct_items (bounds n loop_count) in
     let ranges = placed_ranges 4 1 0 (bounds n loop_count) in
-    let lexed = on_tokens laws.outcome (correct_program n) ts laws.tokens (RightOnTokens budgets UnreachCall witness Ilp32) reply right in
-    let parsed = on_items ts items laws.parsed (RightOnSource budgets UnreachCall witness Ilp32) reply lexed in
-    let checked = on_program Ilp32 UnreachCall items laws.checked (RightOnProgram budgets witness) reply parsed in
+    let lexed = on_tokens laws.outcome (correct_program n) ts laws.tokens (RightOnTokens (ToJudge budgets) UnreachCall witness Ilp32) reply right in
+    let parsed = on_items ts items laws.parsed (RightOnSource (ToJudge budgets) UnreachCall witness Ilp32) reply lexed in
+    let checked = on_program Ilp32 UnreachCall items laws.checked (RightOnWork (ToJudge budgets) witness) reply parsed in
     let same = checked.is ∙ laws.typed in
     let placed : (answer : Result (List PlacedInvariant) BindFault) → BindsInvariants (program_view checked.program) witness answer → ArePlaced ranges answer =
     λ answer is. laws.bound (correct_program n) answer (subst (λ q. BindsInvariants q witness answer) same is) in

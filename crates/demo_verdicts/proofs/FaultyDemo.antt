@@ -29,7 +29,8 @@ use Rattle.way_match.specs.Verdicts.{IsRightOnViolation}
 use Rattle.way_match.specs.declared.point.Bound.{Bound}
 use Rattle.witval.specs.Tasks.{RightOnSegments}
 use Rattle.witval.specs.inside.Rests.{RightOnText, RightOnTokens, RightOnSource}
-use Rattle.witval.specs.Tasks.{RightOnProgram}
+use Rattle.witval.specs.Purposes.{RightOnWork, ToJudge}
+use Rattle.witval.specs.declared.output.Output.TheVariants.{Report}
 use Rattle.wv_arguments.specs.Words.{Budgets}
 use Rattle.wv_author.specs.Programs.{faulty_program}
 use Rattle.wv_author.specs.Sequence.{bounds, loop_count}
@@ -49,15 +50,15 @@ pub record Laws (n : ℕ) : Type 0 where
       IsRightOnViolation (program_of Ilp32 UnreachCall (faulty_items n (bounds n loop_count))) (demo_segments n (spot 1 12)) steps verdict → Confirms n verdict
 
 -- the reply to the segments is a right verdict
-pub faulty_right : (n : ℕ) (budgets : Budgets) (reply : Reply) → Laws n → RightOnText budgets UnreachCall (faulty_program n) (violation n (faulty_program n)) Ilp32 reply →
+pub faulty_right : (n : ℕ) (budgets : Budgets) (reply : Reply) → Laws n → RightOnText (ToJudge budgets) UnreachCall (faulty_program n) (violation n (faulty_program n)) Ilp32 (Report reply) →
     RightOnSegments budgets.steps (program_of Ilp32 UnreachCall (faulty_items n (bounds n loop_count))) (demo_segments n (spot 1 12)) reply
 faulty_right n budgets reply laws right =
     let witness = violation n (faulty_program n) in
     let ts = tokens_from 1 (faulty_pieces n (bounds n loop_count)) in
     let items = faulty_items n (bounds n loop_count) in
-    let lexed = on_tokens laws.outcome (faulty_program n) ts laws.tokens (RightOnTokens budgets UnreachCall witness Ilp32) reply right in
-    let parsed = on_items ts items laws.parsed (RightOnSource budgets UnreachCall witness Ilp32) reply lexed in
-    let checked = on_program Ilp32 UnreachCall items laws.checked (RightOnProgram budgets witness) reply parsed in
+    let lexed = on_tokens laws.outcome (faulty_program n) ts laws.tokens (RightOnTokens (ToJudge budgets) UnreachCall witness Ilp32) reply right in
+    let parsed = on_items ts items laws.parsed (RightOnSource (ToJudge budgets) UnreachCall witness Ilp32) reply lexed in
+    let checked = on_program Ilp32 UnreachCall items laws.checked (RightOnWork (ToJudge budgets) witness) reply parsed in
     let placed : (answer : Result Bound BindFault) → Binds (program_view checked.program) witness answer → AreSegments (demo_segments n (spot 1 12)) answer =
     λ answer is. laws.bound (faulty_program n) answer (subst (λ q. Binds q witness answer) (checked.is ∙ laws.typed) is) in
     let bound = on_segments (Binds (program_view checked.program) witness) (demo_segments n (spot 1 12)) placed (RightOnSegments budgets.steps (program_view checked.program)) reply checked.told in
@@ -68,7 +69,7 @@ judged steps p ss (Judged verdict) right = tt
 judged steps p ss (Refused code detail) right = absurd right
 judged steps p ss (ReadFault file) right = absurd right
 
-pub faulty_judged : (n : ℕ) (budgets : Budgets) (reply : Reply) → Laws n → RightOnText budgets UnreachCall (faulty_program n) (violation n (faulty_program n)) Ilp32 reply → IsVerdict reply
+pub faulty_judged : (n : ℕ) (budgets : Budgets) (reply : Reply) → Laws n → RightOnText (ToJudge budgets) UnreachCall (faulty_program n) (violation n (faulty_program n)) Ilp32 (Report reply) → IsVerdict reply
 faulty_judged n budgets reply laws right = judged _ _ _ reply (faulty_right n budgets reply laws right)
 
 confirmed : (n steps : ℕ) (p : t.Program) (ss : List BoundSegment) → ((verdict : Verdict) → IsRightOnViolation p ss steps verdict → Confirms n verdict) → (reply : Reply) →
@@ -77,6 +78,6 @@ confirmed n steps p ss all (Judged verdict) right = all verdict right.right
 confirmed n steps p ss all (Refused code detail) right = absurd right
 confirmed n steps p ss all (ReadFault file) right = absurd right
 
-pub faulty_confirms : (n : ℕ) (budgets : Budgets) (reply : Reply) → Laws n → 100000 ≤ budgets.steps → RightOnText budgets UnreachCall (faulty_program n) (violation n (faulty_program n)) Ilp32 reply → ConfirmsDemo n reply
+pub faulty_confirms : (n : ℕ) (budgets : Budgets) (reply : Reply) → Laws n → 100000 ≤ budgets.steps → RightOnText (ToJudge budgets) UnreachCall (faulty_program n) (violation n (faulty_program n)) Ilp32 (Report reply) → ConfirmsDemo n reply
 faulty_confirms n budgets reply laws enough right =
     confirmed n budgets.steps _ _ (λ verdict is. laws.confirmed budgets.steps verdict enough is) reply (faulty_right n budgets reply laws right)

@@ -36,44 +36,46 @@ use Rattle.sym_duties.specs.declared.fault.SymFault.{SymFault}
 use Rattle.sym_duties.specs.declared.fault.SymFault.TheVariants as fault
 use Rattle.witval.specs.Refusals.{IsTokenRefusal, IsSyntaxRefusal, IsCheckRefusal, IsBindRefusal, IsObligationRefusal}
 use Rattle.witval.specs.Tasks.{JudgesSets, RightOnPlaced, Tells}
-use Rattle.witval.specs.Stages.{answered, itself, known}
+use Rattle.witval.specs.Stages.{answered, itself, known, refusing}
+use Rattle.witval.specs.declared.output.Output.{Output}
+use Rattle.witval.specs.declared.output.Output.TheVariants.{Report}
 
 -- a text has one outcome
 abbrev pub OneOutcome : Type 0
 OneOutcome = (text : List ℕ) (ts us : List Token) (end other : Ending) → Tokens text ts end → Tokens text us other → (ts ≡ us) × (end ≡ other)
 
 -- the tokens of a text are found
-pub on_tokens : OneOutcome → (text : List ℕ) (ts : List Token) → Tokens text ts Whole → (within : List Token → Reply → Type 0) (reply : Reply) →
-    answered (TokensAnswers text) itself IsTokenRefusal within reply → within ts reply
+pub on_tokens : OneOutcome → (text : List ℕ) (ts : List Token) → Tokens text ts Whole → (within : List Token → Output → Type 0) (reply : Reply) →
+    answered (TokensAnswers text) itself (refusing IsTokenRefusal) within (Report reply) → within ts (Report reply)
 on_tokens one text ts is within reply (answer, right, told) = by answer right told
   where
-    by : (answer : Result (List Token) TokenFault) → TokensAnswers text answer → known itself IsTokenRefusal answer within reply → within ts reply
-    by (Ok found) right told = subst (λ us. within us reply) (one text found ts Whole Whole right is).0 told
+    by : (answer : Result (List Token) TokenFault) → TokensAnswers text answer → known itself (refusing IsTokenRefusal) answer within (Report reply) → within ts (Report reply)
+    by (Ok found) right told = subst (λ us. within us (Report reply)) (one text found ts Whole Whole right is).0 told
     by (Err (token.Token line column)) right told = let both = (one text right.0 ts (NoToken (record { line = line; column = column })) Whole right.1 is).1 in absurd (cc)
     by (Err (token.Directive line)) right told = let both = (one text right.0 ts (BadDirective line) Whole right.1 is).1 in absurd (cc)
     by (Err token.OutOfMemory) right told = absurd told
 
 -- the items of tokens are found
-pub on_items : (ts : List Token) (items : List Item) → ((answer : Result Source ParseFault) → ParserAnswers ts answer → IsFound answer items) → (within : List Item → Reply → Type 0) (reply : Reply) →
-    answered (ParserAnswers ts) source_view IsSyntaxRefusal within reply → within items reply
+pub on_items : (ts : List Token) (items : List Item) → ((answer : Result Source ParseFault) → ParserAnswers ts answer → IsFound answer items) → (within : List Item → Output → Type 0) (reply : Reply) →
+    answered (ParserAnswers ts) source_view (refusing IsSyntaxRefusal) within (Report reply) → within items (Report reply)
 on_items ts items all within reply (answer, right, told) = by answer (all answer right) told
   where
-    by : (answer : Result Source ParseFault) → IsFound answer items → known source_view IsSyntaxRefusal answer within reply → within items reply
-    by (Ok s) found told = subst (λ xs. within xs reply) found told
+    by : (answer : Result Source ParseFault) → IsFound answer items → known source_view (refusing IsSyntaxRefusal) answer within (Report reply) → within items (Report reply)
+    by (Ok s) found told = subst (λ xs. within xs (Report reply)) found told
     by (Err (parse.Syntax line column)) found told = absurd found
     by (Err parse.OutOfMemory) found told = absurd told
 
 -- the program of items is found
-pub record Found (p : t.Program) (within : Program → Reply → Type 0) (reply : Reply) : Type 0 where
+pub record Found (p : t.Program) (within : Program → Output → Type 0) (reply : Reply) : Type 0 where
   pub program : Program
   pub is : program_view program ≡ p
-  pub told : within program reply
+  pub told : within program (Report reply)
 
 pub on_program : (m : DataModel) (property : Property) (items : List Item) → ((answer : Result Program CheckFault) → CheckAnswers m property items answer → IsProgramOf m property items answer) →
-    (within : Program → Reply → Type 0) (reply : Reply) → answered (CheckAnswers m property items) itself IsCheckRefusal within reply → Found (program_of m property items) within reply
+    (within : Program → Output → Type 0) (reply : Reply) → answered (CheckAnswers m property items) itself (refusing IsCheckRefusal) within (Report reply) → Found (program_of m property items) within reply
 on_program m property items all within reply (answer, right, told) = by answer (all answer right) told
   where
-    by : (answer : Result Program CheckFault) → IsProgramOf m property items answer → known itself IsCheckRefusal answer within reply → Found (program_of m property items) within reply
+    by : (answer : Result Program CheckFault) → IsProgramOf m property items answer → known itself (refusing IsCheckRefusal) answer within (Report reply) → Found (program_of m property items) within reply
     by (Ok p) is told = record { program = p; is = is.0; told = told }
     by (Err (check.Refused code spot)) is told = absurd is
     by (Err check.OutOfMemory) is told = absurd told

@@ -5,6 +5,8 @@ ghost use Rattle.c_core.specs.declared.number.Property.TheVariants.{UnreachCall}
 ghost use Rattle.demo_verdicts.specs.Confirming.{ConfirmsDemo, IsConfirmed, IsVerdict};
 ghost use Rattle.witval.specs.Demos.{IsDemonstration};
 ghost use Rattle.witval.specs.declared.demonstration.Demonstration.{Demonstration};
+ghost use Rattle.witval.specs.Purposes.{ToJudge};
+ghost use Rattle.witval.specs.declared.output.Output.TheVariants.{Report};
 ghost use Rattle.witval.specs.inside.Rests.{RightOnText};
 ghost use Rattle.wv_arguments.specs.Words.{Budgets};
 ghost use Rattle.wv_author.specs.Demo.{AreWithin, demo_of};
@@ -21,7 +23,7 @@ use demo_run::{demos_are_confirmed, demos_are_typed};
 /// From the tokens on no stage refuses a demo: the reply to the correct program of a number, with its invariants, is a verdict.
 pub fn correct_demos_are_judged()
     ensures { (n : ℕ) (budgets : Budgets) (reply : Reply) → AreWithin (demo_of n) →
-        RightOnText budgets UnreachCall (correct_program n) (invariants n (correct_program n)) Ilp32 reply → IsVerdict reply }
+        RightOnText (ToJudge budgets) UnreachCall (correct_program n) (invariants n (correct_program n)) Ilp32 (Report reply) → IsVerdict reply }
 {
     one_outcome();
     demos_have_bounds();
@@ -37,9 +39,9 @@ pub fn correct_demos_are_judged()
 /// number is the one value that is drawn.
 pub fn faulty_demos_are_confirmed()
     ensures judged { (n : ℕ) (budgets : Budgets) (reply : Reply) → n ≤ 999999 → AreWithin (demo_of n) →
-        RightOnText budgets UnreachCall (faulty_program n) (violation n (faulty_program n)) Ilp32 reply → IsVerdict reply }
+        RightOnText (ToJudge budgets) UnreachCall (faulty_program n) (violation n (faulty_program n)) Ilp32 (Report reply) → IsVerdict reply }
     ensures confirmed { (n : ℕ) (budgets : Budgets) (reply : Reply) → n ≤ 999999 → AreWithin (demo_of n) → 100000 ≤ budgets.steps →
-        RightOnText budgets UnreachCall (faulty_program n) (violation n (faulty_program n)) Ilp32 reply → ConfirmsDemo n reply }
+        RightOnText (ToJudge budgets) UnreachCall (faulty_program n) (violation n (faulty_program n)) Ilp32 (Report reply) → ConfirmsDemo n reply }
 {
     one_outcome();
     demos_have_bounds();

@@ -13,9 +13,10 @@
 //! witnesses, in which `hash` stands for HASH and `formula` for FORMULA and `edits` are made (`OLD | NEW | OLD | NEW ..`, the first
 //! occurrence of each) and of which the first `lines` are taken, `segments` are put after them, and `yaml` is a witness's text. Segments
 //! stand between the words `then`, the waypoints of one between semicolons, and a waypoint is its action, its type, its line or
-//! `line:column`, and its constraint. `property` is a property, `words` is a command line over the files `p`, `q` and `w`, `model` is a
-//! data model or `both`, `text` is a list, an expression or a place, and `fails` is the device that fails: `shelf` or `sink` and the
-//! number of the call that fails, or `room` and the number of bytes that the sink takes.
+//! `line:column`, and its constraint. `property` is a property, `words` is a command line over the files `p`, `q`, `w` and `c`, `model`
+//! is a data model or `both`, and `fails` is the device that fails: `shelf` or `sink` and the number of the call that fails, or `room`
+//! and the number of bytes that the sink takes. `text` is a list, an expression or a place; or it is a certificate's text, after the
+//! files of `data/` that `certificate` names.
 //!
 //! `escapes.rt` says how control characters, bytes and repeated texts are written.
 #![tactic(auto)]
@@ -26,5 +27,5 @@ mod texts;
 mod trial;
 
 pub use table::{NotTried, Row};
-pub use texts::{program, witness};
+pub use texts::{certificate, program, witness};
 pub use trial::{Files, Trial, try_rows};

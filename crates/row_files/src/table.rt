@@ -80,7 +80,8 @@ impl Row {
 
 fn is_field(name: &str) -> bool {
     match name {
-        "answer" | "edits" | "fails" | "formula" | "hash" | "lines" | "model" => true,
+        "answer" | "certificate" | "edits" | "fails" | "formula" | "hash" => true,
+        "lines" | "model" => true,
         "program" | "property" | "segments" | "source" | "text" => true,
         "witness" | "words" | "yaml" => true,
         _ => false,

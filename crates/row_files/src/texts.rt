@@ -26,6 +26,19 @@ pub fn program(files: &Files<'_>, row: &Row) -> Result<Option<Vec<u8>>, NotTried
     Ok(Some(bytes))
 }
 
+/// A row's certificate: files, and behind them its own lines.
+pub fn certificate(files: &Files<'_>, row: &Row) -> Result<Option<Vec<u8>>, NotTried> {
+    let names = row.text("certificate")?;
+    let text = row.bytes("text");
+    if names.is_none() && text.is_none() {
+        return Ok(None);
+    }
+    let files = read_each(files, names.unwrap_or(""))?;
+    let mut bytes = files.into_bytes();
+    bytes.extend_from_slice(text.unwrap_or(b""))?;
+    Ok(Some(bytes))
+}
+
 /// The text with the first of a part in it replaced.
 fn replaced(alloc: Global, text: &str, old: &str, new: &str) -> Result<String, NotTried> {
     match text.split_once(old) {

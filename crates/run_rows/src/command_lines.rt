@@ -1,5 +1,5 @@
 // Rows of command lines: their words and their files.
-use row_files::{Files, NotTried, Row, program, witness};
+use row_files::{Files, NotTried, Row, certificate, program, witness};
 use std::alloc::Global;
 use wv_base::{MemoryShelf, OutOfMemory};
 
@@ -12,7 +12,7 @@ pub fn words(alloc: Global, line: &str) -> Result<Vec<String>, OutOfMemory> {
     Ok(words)
 }
 
-/// The files that a row gives: its program is `p`, its property is `q`, its witness is `w`.
+/// The files that a row gives: its program is `p`, its property is `q`, its witness is `w`, its certificate is `c`.
 pub fn shelf(files: &Files<'_>, row: &Row) -> Result<MemoryShelf, NotTried> {
     let mut shelf = MemoryShelf::new(files.alloc(), 4096);
     if let Some(program) = program(files, row)? {
@@ -23,6 +23,9 @@ pub fn shelf(files: &Files<'_>, row: &Row) -> Result<MemoryShelf, NotTried> {
     }
     if let Some(witness) = witness(files, row)? {
         shelf.put("w", witness.as_slice())?;
+    }
+    if let Some(certificate) = certificate(files, row)? {
+        shelf.put("c", certificate.as_slice())?;
     }
     Ok(shelf)
 }

@@ -8,7 +8,7 @@ use Rattle.clap.specs.ValueTests.{accepts}
 use Rattle.clap.specs.declared.builder.value_parser.ValueParser.TheVariants.{Unsigned}
 use Rattle.clap.proofs.ValueTestLemmas.{accepts-Accepts}
 use Rattle.wv_arguments.specs.Arguments.{command, most_conflicts, most_number}
-use Rattle.wv_arguments.specs.Words.{Budgets, Command, Wanted, asked_by, asked_of, budgets_in, budgets_of, command_in, demo_of, made_number, mode_in, normalise_of, number_in, show_of, validate_of, wanted_as}
+use Rattle.wv_arguments.specs.Words.{Budgets, Command, Wanted, asked_by, asked_of, budgets_in, budgets_of, certify_of, command_in, conflicts_in, demo_of, made_number, mode_in, normalise_of, number_in, recheck_of, show_of, validate_of, wanted_as}
 use Rattle.witval.specs.inside.Allowed.{AreAllowed, IsAllowed}
 
 abbrev IsWithin : ℕ → ℕ → ℕ → Type 0
@@ -49,6 +49,16 @@ made None b h k = tt
 made (Some n) None h k = tt
 made (Some n) (Some b) h k = (h.1, k)
 
+certified : (c : Option Command) (n : Option ℕ) → IfSome n (IsWithin 1 most_conflicts) → AreAllowed (certify_of c n)
+certified None n h = tt
+certified (Some c) None h = tt
+certified (Some c) (Some n) h = record { some = h.0; bounded = h.1 }
+
+rechecked : (c : Option Command) (o : Option Text) → AreAllowed (recheck_of c o)
+rechecked None o = tt
+rechecked (Some c) None = tt
+rechecked (Some c) (Some name) = tt
+
 either : (b : Bool) (x y : Option Wanted) → AreAllowed x → AreAllowed y → AreAllowed (if b then x else y)
 either true x y h k = h
 either false x y h k = k
@@ -58,7 +68,9 @@ of_mode mode rows =
     either (bytes_eq mode (codes "validate")) _ _ (validated (command_in rows) (budgets_in rows) (both _ _ (read 1 most_conflicts (one_of (codes "conflicts") rows))))
     (either (bytes_eq mode (codes "show")) _ _ (shown (first_of (codes "witness") rows))
     (either (bytes_eq mode (codes "normalise")) _ _ (normalised (first_of (codes "witness") rows))
-    (either (bytes_eq mode (codes "demo")) _ None (made (made_number rows) (budgets_in rows) (read 0 most_number (one_of (codes "number") rows)) (both _ _ (read 1 most_conflicts (one_of (codes "conflicts") rows)))) tt)))
+    (either (bytes_eq mode (codes "demo")) _ _ (made (made_number rows) (budgets_in rows) (read 0 most_number (one_of (codes "number") rows)) (both _ _ (read 1 most_conflicts (one_of (codes "conflicts") rows))))
+    (either (bytes_eq mode (codes "certify")) _ _ (certified (command_in rows) (conflicts_in rows) (read 1 most_conflicts (one_of (codes "conflicts") rows)))
+    (either (bytes_eq mode (codes "recheck")) _ None (rechecked (command_in rows) (first_of (codes "certificate") rows)) tt)))))
 
 of_kinds : (kinds : Kinds) (rows : List Row) → AreAllowed (asked_of kinds rows).wanted
 of_kinds [] rows = of_mode (mode_in rows) rows

@@ -1,9 +1,12 @@
 pub mod ShownValues
 pub mod OfBytes
+pub mod Refusing
 pub mod Judged
 pub mod JudgedTask
 pub mod FewWaypoints
 pub mod AllowedBudgets
 pub mod JudgedSets
+pub mod Certified
+pub mod Completed
 pub mod MadeWitness
 pub mod FirstLine

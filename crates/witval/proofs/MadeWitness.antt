@@ -1,5 +1,5 @@
 -- A witness that is made is read as it was, and it is about its program.
-use Rattle.std.proofs.Common.{◌≡◌, ◌<◌, ℕ, zero, suc, List, [], ◌∷◌, ◌++◌, length, slice_index, true, Result, Ok, Err, IfOk, Some, codes, refl, sym, ap, subst, ◌∙◌, arith, lit<}
+use Rattle.std.proofs.Common.{◌≡◌, ◌<◌, ℕ, zero, suc, List, [], ◌∷◌, ◌++◌, length, slice_index, true, Result, Ok, Err, Some, codes, refl, sym, ap, subst, ◌∙◌, arith, lit<}
 use Rattle.std.specs.Int.{byte_at, bytes_high_first}
 use Rattle.std.specs.List.{AllByRecursion}
 use Rattle.std.proofs.lemmas.Option.{none-some, same_Some}
@@ -33,10 +33,12 @@ use Rattle.yaml_scalars.specs.declared.fault.YamlFault.{YamlFault}
 use Rattle.yaml_scalars.specs.declared.fault.YamlFault.TheVariants.{Bytes, Grammar, Duplicate, OutOfMemory}
 use Rattle.witval.specs.Demos.{IsDemonstration, RightOnMade, RightOnRead, unreach_text}
 use Rattle.witval.specs.declared.demonstration.Demonstration.{Demonstration}
+use Rattle.witval.specs.Purposes.{Judging, RightOnInputs, ToJudge}
 use Rattle.witval.specs.Refusals.{IsRefusal, IsSchemaRefusal, IsTaskRefusal, plain}
-use Rattle.witval.specs.Stages.{given, known, itself}
-use Rattle.witval.specs.Tasks.{RightOnInputs}
-use Rattle.witval.specs.inside.Rests.{RightOnText, RightOnTree, RightOnWitness, RightUnder}
+use Rattle.witval.specs.Stages.{given, known, itself, refusing}
+use Rattle.witval.specs.declared.output.Output.{Output}
+use Rattle.witval.specs.declared.output.Output.TheVariants.{Report}
+use Rattle.witval.specs.inside.Rests.{RightOnModel, RightOnText, RightOnTree, RightOnWitness, RightUnder}
 
 -- ---- the hash
 
@@ -81,17 +83,19 @@ about_its_program program content = rw (hash_spelled program) refl
 
 -- ---- the stages
 
-past_task : (budgets : Budgets) (program : List ℕ) (w : Witness) (reply : Reply) → judged (sha256 program) UnreachCall w.entries ≡ Ok Ilp32
-    → RightOnWitness budgets UnreachCall program w reply → RightOnText budgets UnreachCall program w Ilp32 reply
-past_task budgets program w reply task right = subst (λ a. known itself IsTaskRefusal a (RightOnText budgets UnreachCall program w) reply) task right
+past_task : (budgets : Budgets) (program : List ℕ) (w : Witness) (output : Output) → judged (sha256 program) UnreachCall w.entries ≡ Ok Ilp32
+    → RightOnWitness (Judging budgets) UnreachCall program w output → RightOnText (ToJudge budgets) UnreachCall program w Ilp32 output
+past_task budgets program w output task right =
+    subst (λ a. known itself (refusing IsTaskRefusal) a (RightOnModel (Judging budgets) UnreachCall program w) output) task right
 
-past_schema : (budgets : Budgets) (program : List ℕ) (w : Witness) (reply : Reply) → CanBeWritten w → RightOnTree budgets UnreachCall program (tree_of w) reply
-    → RightOnWitness budgets UnreachCall program w reply
-past_schema budgets program w reply can right = subst (λ a. known itself IsSchemaRefusal a (RightOnWitness budgets UnreachCall program) reply) (read_again w can.meets) right
+past_schema : (budgets : Budgets) (program : List ℕ) (w : Witness) (output : Output) → CanBeWritten w → RightOnTree (Judging budgets) UnreachCall program (tree_of w) output
+    → RightOnWitness (Judging budgets) UnreachCall program w output
+past_schema budgets program w output can right =
+    subst (λ a. known itself (refusing IsSchemaRefusal) a (RightOnWitness (Judging budgets) UnreachCall program) output) (read_again w can.meets) right
 
 past_answer : (budgets : Budgets) (program : List ℕ) (t : Tree) (reply : Reply) (answer : Result Tree YamlFault) → Gives (λ (u : Tree). u) answer (Some t)
-    → known itself IsRefusal answer (RightOnTree budgets UnreachCall program) reply → RightOnTree budgets UnreachCall program t reply
-past_answer budgets program t reply (Ok u) given right = subst (λ x. RightOnTree budgets UnreachCall program x reply) (sym (same_Some t u given)) right
+    → known itself (refusing IsRefusal) answer (RightOnTree (Judging budgets) UnreachCall program) (Report reply) → RightOnTree (Judging budgets) UnreachCall program t (Report reply)
+past_answer budgets program t reply (Ok u) given right = subst (λ x. RightOnTree (Judging budgets) UnreachCall program x (Report reply)) (sym (same_Some t u given)) right
 past_answer budgets program t reply (Err Bytes) given right = absurd given
 past_answer budgets program t reply (Err Grammar) given right = absurd (none-some t (sym given))
 past_answer budgets program t reply (Err Duplicate) given right = absurd given
@@ -99,30 +103,32 @@ past_answer budgets program t reply (Err OutOfMemory) given right = absurd right
 
 -- no refusal of YAML, of the schema or of the task applies to it
 pub read_as_made : (budgets : Budgets) (program bytes : List ℕ) (w : Witness) (reply : Reply) → CanBeWritten w → Spelled (tree_of w) bytes
-    → judged (sha256 program) UnreachCall w.entries ≡ Ok Ilp32 → RightUnder budgets program bytes UnreachCall reply → RightOnText budgets UnreachCall program w Ilp32 reply
+    → judged (sha256 program) UnreachCall w.entries ≡ Ok Ilp32 → RightUnder (Judging budgets) program bytes UnreachCall (Report reply)
+    → RightOnText (ToJudge budgets) UnreachCall program w Ilp32 (Report reply)
 read_as_made budgets program bytes w reply can spelled task right =
-    past_task budgets program w reply task (past_schema budgets program w reply can
+    past_task budgets program w (Report reply) task (past_schema budgets program w (Report reply) can
     (past_answer budgets program (tree_of w) reply right.0 (spelled_back (tree_of w) bytes right.0 spelled can.no_repeats right.1) right.2))
 
--- the same of a result, where p and b are these bytes
-pub read_if : {E : Type 0} (budgets : Budgets) (program p bytes b : List ℕ) (w : Witness) (result : Result Reply E) → p ≡ program → b ≡ bytes → CanBeWritten w → Spelled (tree_of w) bytes
-    → judged (sha256 program) UnreachCall w.entries ≡ Ok Ilp32 → IfOk result (RightUnder budgets p b UnreachCall) → IfOk result (RightOnRead budgets program w)
-read_if budgets program p bytes b w (Ok reply) same_program same_bytes can spelled task right =
+-- the same where p and b are these bytes
+pub read_if : (budgets : Budgets) (program p bytes b : List ℕ) (w : Witness) (output : Output) (reply : Reply) → p ≡ program → b ≡ bytes → CanBeWritten w → Spelled (tree_of w) bytes
+    → judged (sha256 program) UnreachCall w.entries ≡ Ok Ilp32 → output ≡ Report reply → RightUnder (Judging budgets) p b UnreachCall output → RightOnRead budgets program w reply
+read_if budgets program p bytes b w output reply same_program same_bytes can spelled task is right =
     read_as_made budgets program bytes w reply can spelled task
-    (subst (λ x. RightUnder budgets program x UnreachCall reply) same_bytes (subst (λ x. RightUnder budgets x b UnreachCall reply) same_program right))
-read_if budgets program p bytes b w (Err e) same_program same_bytes can spelled task right = tt
+    (subst (λ x. RightUnder (Judging budgets) program x UnreachCall (Report reply)) same_bytes
+    (subst (λ x. RightUnder (Judging budgets) x b UnreachCall (Report reply)) same_program
+    (subst (RightUnder (Judging budgets) p b UnreachCall) is right)))
 
 -- the property file asks for the property that they are about
 property_known : property_of unreach_text ≡ Some UnreachCall
 property_known = refl
 
-pub as_files_if : {E : Type 0} (budgets : Budgets) (program p bytes b : List ℕ) (w : Witness) (result : Result Reply E) → p ≡ program → b ≡ bytes → bytes ≡ canon (tree_of w)
-    → IfOk result (RightUnder budgets p b UnreachCall) → IfOk result (RightOnMade budgets program w)
-as_files_if budgets program p bytes b w (Ok reply) same_program same_bytes text right =
-    let here : RightUnder budgets program b UnreachCall reply = subst (λ x. RightUnder budgets x b UnreachCall reply) same_program right in
-    subst (λ x. RightOnInputs budgets program unreach_text x reply) (same_bytes ∙ text)
-    (subst (λ o. given (plain (codes "property")) o (RightUnder budgets program b) reply) (sym property_known) here)
-as_files_if budgets program p bytes b w (Err e) same_program same_bytes text right = tt
+pub as_files_if : (budgets : Budgets) (program p bytes b : List ℕ) (w : Witness) (output : Output) (reply : Reply) → p ≡ program → b ≡ bytes → bytes ≡ canon (tree_of w)
+    → output ≡ Report reply → RightUnder (Judging budgets) p b UnreachCall output → RightOnMade budgets program w reply
+as_files_if budgets program p bytes b w output reply same_program same_bytes text is right =
+    let here : RightUnder (Judging budgets) program b UnreachCall (Report reply) =
+    subst (λ x. RightUnder (Judging budgets) x b UnreachCall (Report reply)) same_program (subst (RightUnder (Judging budgets) p b UnreachCall) is right) in
+    subst (λ x. RightOnInputs (Judging budgets) program unreach_text x (Report reply)) (same_bytes ∙ text)
+    (subst (λ o. given (Report (plain (codes "property"))) o (RightUnder (Judging budgets) program b) (Report reply)) (sym property_known) here)
 
 -- ---- a demo
 

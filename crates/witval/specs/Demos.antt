@@ -19,9 +19,12 @@ use Rattle.wv_schema.specs.Canonical.{tree_of}
 use Rattle.wv_schema.specs.declared.witness.Witness.{Witness}
 use Rattle.wv_yaml.specs.Canon.{canon}
 use Rattle.witval.specs.Refusals.{IsCheckRefusal, IsSyntaxRefusal, IsTokenRefusal}
-use Rattle.witval.specs.Stages.{◌>>=◌, answered, itself}
-use Rattle.witval.specs.Tasks.{RightOnInputs, RightOnProgram}
+use Rattle.witval.specs.Purposes.{Judging, RightOnInputs}
+use Rattle.witval.specs.Stages.{◌>>=◌, answered, itself, Reports, refusing}
+use Rattle.witval.specs.Tasks.{RightOnProgram}
 use Rattle.witval.specs.declared.demonstration.Demonstration.{Demonstration}
+use Rattle.witval.specs.declared.output.Output.{Output}
+use Rattle.witval.specs.declared.output.Output.TheVariants.{Report}
 
 -- ---- the replies
 
@@ -32,15 +35,18 @@ unreach_text = codes "CHECK( init(main()), LTL(G ! call(reach_error())) )"
 -- the reply to a program and a witness that are made: that of files which hold the program, this property and the witness in
 -- canonical form
 abbrev pub RightOnMade : Budgets → List ℕ → Witness → Reply → Type 0
-RightOnMade budgets program witness reply = RightOnInputs budgets program unreach_text (canon (tree_of witness)) reply
+RightOnMade budgets program witness reply = RightOnInputs (Judging budgets) program unreach_text (canon (tree_of witness)) (Report reply)
 
 -- the same, where the witness is read and is about its program: no refusal of YAML, of the schema or of the task comes
+abbrev pub ReportsOnRead : Budgets → List ℕ → Witness → Output → Type 0
+ReportsOnRead budgets program_bytes witness = do
+  tokens ← answered (TokensAnswers program_bytes) itself (refusing IsTokenRefusal)
+  source ← answered (ParserAnswers tokens) source_view (refusing IsSyntaxRefusal)
+  program ← answered (CheckAnswers Ilp32 UnreachCall source) itself (refusing IsCheckRefusal)
+  Reports (RightOnProgram budgets witness program)
+
 abbrev pub RightOnRead : Budgets → List ℕ → Witness → Reply → Type 0
-RightOnRead budgets program_bytes witness = do
-  tokens ← answered (TokensAnswers program_bytes) itself IsTokenRefusal
-  source ← answered (ParserAnswers tokens) source_view IsSyntaxRefusal
-  program ← answered (CheckAnswers Ilp32 UnreachCall source) itself IsCheckRefusal
-  RightOnProgram budgets witness program
+RightOnRead budgets program_bytes witness reply = ReportsOnRead budgets program_bytes witness (Report reply)
 
 -- the replies to the two programs of a number, each with its witness
 pub record IsDemonstration (number : ℕ) (budgets : Budgets) (demo : Demonstration) : Type 0 where

@@ -1,6 +1,7 @@
 -- The three files of a command: their order, their limits, and why reading them stops.
-use Rattle.std.specs.Prelude.{◌≡◌, ℕ, ◌+◌, ◌-◌, ◌^◌, ◌≤◌, min, List, length, Option, Some, None, IfSome, if◌then◌else◌, nat_lt, codes}
+use Rattle.std.specs.Prelude.{◌≡◌, ℕ, ◌+◌, ◌-◌, ◌^◌, ◌≤◌, min, List, length, Option, Some, None, IfSome, if◌then◌else◌, nat_lt, true, codes}
 use Rattle.wv_base.specs.Causes.{Rose}
+use Rattle.wv_base.specs.declared.reading.ReadFault.TheVariants as reading
 use Rattle.wv_base.specs.Shelf.{ShelfState, Files, file_of}
 use Rattle.wv_arguments.specs.Words.{Command}
 use Rattle.witval.specs.declared.input.File.{File}
@@ -8,6 +9,8 @@ use Rattle.witval.specs.declared.input.File.TheVariants.{Program, Property, Witn
 use Rattle.witval.specs.declared.input.Stop.{Stop}
 use Rattle.witval.specs.declared.input.Stop.TheVariants.{Fault, TooLong, OutOfMemory}
 use Rattle.witval.specs.declared.input.Inputs.{Inputs}
+use Rattle.witval.specs.declared.input.FourStop.{FourStop}
+use Rattle.witval.specs.declared.input.FourStop.TheVariants as four
 
 -- how a report names each file
 abbrev pub word_of : File → List ℕ
@@ -33,6 +36,14 @@ limit_of Program = 1048576
 limit_of Property = 4096
 limit_of Witness = 1048576
 
+-- how a report names a certificate, which is read after them
+abbrev pub certificate_word : List ℕ
+certificate_word = codes "certificate"
+
+-- its limit, in bytes
+abbrev pub certificate_limit : ℕ
+certificate_limit = 67108864
+
 -- a witness that is longer than its limit
 abbrev pub too_long_alone : List ℕ → Option File
 too_long_alone witness = if nat_lt (limit_of Witness) (length witness) then Some Witness else None
@@ -48,6 +59,11 @@ first_too_long program property witness =
 pub record Reached (count : ℕ) (name : List ℕ) (old new : ShelfState) : Type 0 where
   pub begins : new.begins ≡ min (old.begins + count) (2 ^ 64 - 1)
   pub asked : new.asked ≡ name
+
+-- the three files were begun, and the count of faults didn't fall
+pub record AreBegun (old new : ShelfState) : Type 0 where
+  pub begins : new.begins ≡ min (old.begins + 3) (2 ^ 64 - 1)
+  pub later : old.faults ≤ new.faults
 
 -- reading that file failed: the count of faults rose in this call and is above its mark
 pub record Faulted (count : ℕ) (name : List ℕ) (old new : ShelfState) : Type 0 where
@@ -101,6 +117,15 @@ abbrev pub RightStopAlone : List ℕ → ShelfState → ShelfState → Stop → 
 RightStopAlone name old new (Fault file) = (file ≡ Witness) × Faulted 1 name old new
 RightStopAlone name old new (TooLong file) = (file ≡ Witness) × (TookTooMuch 1 name (limit_of Witness) old new × ToldOne name old (λ witness. too_long_alone witness ≡ Some Witness))
 RightStopAlone name old new OutOfMemory = Unit {0}
+
+-- why reading three files and a certificate stopped: at one of the three, or at the certificate
+abbrev pub RightStopOfFour : Command → List ℕ → ShelfState → ShelfState → FourStop → Type 0
+RightStopOfFour command name old new (four.Three stop) = RightStop command old new stop
+RightStopOfFour command name old new (four.Certificate reading.Fault) = Faulted 4 name old new
+RightStopOfFour command name old new (four.Certificate reading.TooLong) =
+    TookTooMuch 4 name certificate_limit old new × Told command old (λ program property witness. first_too_long program property witness ≡ None)
+    × ToldOne name old (λ certificate. nat_lt certificate_limit (length certificate) ≡ true)
+RightStopOfFour command name old new (four.Certificate reading.OutOfMemory) = Unit {0}
 
 -- none of them is longer than its limit
 pub record AreWithin (inputs : Inputs) : Type 0 where

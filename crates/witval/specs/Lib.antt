@@ -2,6 +2,8 @@ pub mod Inputs
 pub mod Refusals
 pub mod Stages
 pub mod Tasks
+pub mod Certificates
+pub mod Purposes
 pub mod Demos
 pub mod Replies
 pub mod Running

@@ -1,4 +1,4 @@
--- The refusals of the readers: of YAML, of the schema, of the task, of tokens, of the grammar, of the rules of a source, of the
+-- The refusals of the readers: of YAML, of the schema, of the task, of certificates, of tokens, of the grammar, of the rules of a source, of the
 -- waypoints and invariants, and of the obligations.
 use Rattle.std.specs.Prelude.{◌≡◌, ℕ, List, [], ◌∷◌, ◌++◌, codes, decimal}
 use Rattle.c_parser.specs.declared.fault.ParseFault.{ParseFault}
@@ -13,6 +13,8 @@ use Rattle.sym_duties.specs.declared.fault.SymFault.{SymFault}
 use Rattle.sym_duties.specs.declared.fault.SymFault.TheVariants as duties
 use Rattle.way_bind.specs.declared.fault.BindFault.{BindFault}
 use Rattle.way_bind.specs.declared.fault.BindFault.TheVariants as bind
+use Rattle.wv_cert.specs.declared.fault.CertFault.{CertFault}
+use Rattle.wv_cert.specs.declared.fault.CertFault.TheVariants as cert
 use Rattle.wv_report.specs.declared.reply.Reply.{Reply}
 use Rattle.wv_report.specs.declared.reply.Reply.TheVariants.{Refused}
 use Rattle.wv_schema.specs.declared.fault.SchemaFault.{SchemaFault}
@@ -61,6 +63,11 @@ IsTaskRefusal task.OutOfMemory reply = ⊥
 -- a place as it is reported: the line, a colon, the column
 abbrev pub place_text : ℕ → ℕ → List ℕ
 place_text line column = decimal line ++ 58 ∷ decimal column
+
+-- the refusal of bytes that are no certificate; want of memory is no refusal
+abbrev pub IsCertificateRefusal : CertFault → Reply → Type 0
+IsCertificateRefusal cert.Form reply = reply ≡ plain (codes "certificate")
+IsCertificateRefusal cert.OutOfMemory reply = ⊥
 
 -- the refusal of a program that is no list of tokens
 abbrev pub IsTokenRefusal : TokenFault → Reply → Type 0

@@ -1,17 +1,32 @@
 -- What the program does with its words, a shelf and a sink.
-use Rattle.std.specs.Prelude.{◌≡◌, ◌≢◌, ◌<◌, ◌-◌, ◌^◌, ℕ, List, take, Bool, true, false, Some}
+use Rattle.std.specs.Prelude.{◌≡◌, ◌≢◌, ◌<◌, ◌-◌, ◌^◌, ℕ, List, ◌++◌, take, Bool, true, false, Some, codes, decimal}
 use Rattle.wv_base.specs.Causes.{Rose}
 use Rattle.wv_base.specs.Shelf.{ShelfState, Files, file_of}
 use Rattle.wv_base.specs.Sink.{SinkState, Gained}
 use Rattle.wv_report.specs.Json.{HasJsonIntegers, json_of}
+use Rattle.wv_cert.specs.declared.checking.Rechecked.{Rechecked as Answer}
+use Rattle.wv_cert.specs.declared.checking.Rechecked.TheVariants as answers
 use Rattle.wv_report.specs.Report.{status_of, text_of}
 use Rattle.wv_report.specs.declared.reply.Reply.{Reply}
-use Rattle.wv_arguments.specs.Words.{Asked, Wanted, Validate, Show, Normalise, Demo, asked_by}
+use Rattle.wv_arguments.specs.Words.{Asked, Wanted, Validate, Show, Normalise, Demo, Certify, Recheck, asked_by}
 use Rattle.witval.specs.Demos.{demo_status, demo_text}
 use Rattle.witval.specs.Inputs.{OfFiles}
-use Rattle.witval.specs.Replies.{Right, RightOnBytes, CanonicalIn, SummaryIn, OnWitness, RightDemo}
+use Rattle.witval.specs.Purposes.{Judging, Certifying}
+use Rattle.witval.specs.Replies.{Right, RightOnBytes, RightOnFour, CanonicalIn, SummaryIn, OnWitness, RightDemo}
 use Rattle.witval.specs.declared.output.Output.{Output}
-use Rattle.witval.specs.declared.output.Output.TheVariants.{Report, Canonical, Summary, Demo as Demonstrated}
+use Rattle.witval.specs.declared.output.Output.TheVariants.{Report, Canonical, Summary, Demo as Demonstrated, Certificate, Rechecked}
+
+-- what is written of a certificate that was checked again
+abbrev pub recheck_text : Answer → List ℕ
+recheck_text (answers.Yes count) = codes "certificate accepted\nobligations " ++ decimal count ++ codes "\n"
+recheck_text (answers.No index) = codes "certificate refused\nobligation " ++ decimal index ++ codes "\n"
+recheck_text (answers.Count expected found) = codes "certificate refused\nobligations " ++ decimal expected ++ codes " found " ++ decimal found ++ codes "\n"
+
+-- and its status
+abbrev pub recheck_status : Answer → ℕ
+recheck_status (answers.Yes count) = 0
+recheck_status (answers.No index) = 1
+recheck_status (answers.Count expected found) = 1
 
 -- the status and the bytes of an output
 abbrev pub status_by : Output → ℕ
@@ -19,6 +34,8 @@ status_by (Report reply) = status_of reply
 status_by (Canonical text) = 0
 status_by (Summary text) = 0
 status_by (Demonstrated demo) = demo_status demo
+status_by (Certificate text) = 0
+status_by (Rechecked answer) = recheck_status answer
 
 -- JSON where that is asked for
 abbrev pub report_by : Bool → Reply → List ℕ
@@ -31,6 +48,8 @@ bytes_by json (Report reply) = report_by json reply
 bytes_by json (Canonical text) = text
 bytes_by json (Summary text) = text
 bytes_by json (Demonstrated demo) = demo_text demo
+bytes_by json (Certificate text) = text
+bytes_by json (Rechecked answer) = recheck_text answer
 
 -- no report shows a number beyond 64 bits
 abbrev pub HasIntegers : Output → Type 0
@@ -38,6 +57,8 @@ HasIntegers (Report reply) = HasJsonIntegers reply
 HasIntegers (Canonical text) = Unit {0}
 HasIntegers (Summary text) = Unit {0}
 HasIntegers (Demonstrated demo) = Unit {0}
+HasIntegers (Certificate text) = Unit {0}
+HasIntegers (Rechecked answer) = Unit {0}
 
 -- a right output, its status, and all of its bytes
 abbrev pub Replied : Asked → ShelfState → ShelfState → SinkState → SinkState → ℕ → Type 0
@@ -70,13 +91,17 @@ pub record Undisturbed (old new : ShelfState) (before after : SinkState) : Type 
 
 -- what is wanted of files
 abbrev pub CallsFor : Wanted → Files → Output → Type 0
-CallsFor (Validate command budgets) files (Report reply) = OfFiles command files (RightOnBytes budgets reply)
+CallsFor (Validate command budgets) files (Report reply) = OfFiles command files (RightOnBytes (Judging budgets) (Report reply))
 CallsFor (Validate command budgets) files (Canonical text) = ⊥
 CallsFor (Validate command budgets) files (Summary text) = ⊥
 CallsFor (Validate command budgets) files (Demonstrated demo) = ⊥
+CallsFor (Validate command budgets) files (Certificate text) = ⊥
+CallsFor (Validate command budgets) files (Rechecked answer) = ⊥
 CallsFor (Show name) files output = OnWitness SummaryIn output (file_of files name)
 CallsFor (Normalise name) files output = OnWitness CanonicalIn output (file_of files name)
 CallsFor (Demo number budgets) files output = RightDemo number budgets output
+CallsFor (Certify command conflicts) files output = OfFiles command files (RightOnBytes (Certifying conflicts) output)
+CallsFor (Recheck command name) files output = OfFiles command files (λ program property witness. RightOnFour output program property witness (file_of files name))
 
 -- what the files call for is written, with its status
 abbrev pub Answered : Bool → Wanted → Files → SinkState → SinkState → ℕ → Type 0

@@ -1,35 +1,50 @@
--- The stages of a reply: what is asked for is found piece by piece, and the first piece that isn't found is refused.
+-- The stages of an answer: what is asked for is found piece by piece, and the first piece that isn't found is refused.
 use Rattle.std.specs.Prelude.{◌≡◌, Bool, true, false, Result, Ok, Err, Option, Some, None}
 use Rattle.wv_report.specs.declared.reply.Reply.{Reply}
+use Rattle.witval.specs.declared.output.Output.{Output}
+use Rattle.witval.specs.declared.output.Output.TheVariants.{Report, Canonical, Summary, Demo as Demonstrated, Certificate, Rechecked}
 
--- finds a piece: which replies are right, by those that are right with what it finds
-abbrev pub Stage : Type 0 → Type 1
-Stage A = (A → Reply → Type 0) → Reply → Type 0
+-- finds a piece: which answers are right, by those that are right with what it finds
+abbrev pub Stage : Type 0 → Type 0 → Type 1
+Stage R A = (A → R → Type 0) → R → Type 0
 
 infixr 20 ◌>>=◌
 -- a stage, and what is right with what it finds
-abbrev pub ◌>>=◌ : {A : Type 0} → Stage A → (A → Reply → Type 0) → Reply → Type 0
+abbrev pub ◌>>=◌ : {R A : Type 0} → Stage R A → (A → R → Type 0) → R → Type 0
 ◌>>=◌ stage within = stage within
 
 -- a piece, or this refusal
-abbrev pub given : {A : Type 0} → Reply → Option A → Stage A
-given refusal (Some a) within reply = within a reply
-given refusal None within reply = reply ≡ refusal
+abbrev pub given : {R A : Type 0} → R → Option A → Stage R A
+given refusal (Some a) within right = within a right
+given refusal None within right = right ≡ refusal
 
 -- the piece that an answer shows, or the refusal of its fault
-abbrev pub known : {A B F : Type 0} → (A → B) → (F → Reply → Type 0) → Result A F → Stage B
-known view IsRefusal (Ok a) within reply = within (view a) reply
-known view IsRefusal (Err fault) within reply = IsRefusal fault reply
+abbrev pub known : {R A B F : Type 0} → (A → B) → (F → R → Type 0) → Result A F → Stage R B
+known view IsRefusal (Ok a) within right = within (view a) right
+known view IsRefusal (Err fault) within right = IsRefusal fault right
 
 -- the same of the answer that a reading has
-abbrev pub answered : {A B F : Type 0} → (Result A F → Type 0) → (A → B) → (F → Reply → Type 0) → Stage B
-answered {A} {B} {F} IsAnswer view IsRefusal within reply = (answer : Result A F) × IsAnswer answer × known view IsRefusal answer within reply
+abbrev pub answered : {R A B F : Type 0} → (Result A F → Type 0) → (A → B) → (F → R → Type 0) → Stage R B
+answered {R} {A} {B} {F} IsAnswer view IsRefusal within right = (answer : Result A F) × IsAnswer answer × known view IsRefusal answer within right
 
--- the replies that are right where something holds, and those where it doesn't
-abbrev pub choosing : Bool → (Reply → Type 0) → (Reply → Type 0) → Reply → Type 0
-choosing true there elsewhere reply = there reply
-choosing false there elsewhere reply = elsewhere reply
+-- what is right where something holds, and what where it doesn't
+abbrev pub choosing : {R : Type 0} → Bool → (R → Type 0) → (R → Type 0) → R → Type 0
+choosing true there elsewhere right = there right
+choosing false there elsewhere right = elsewhere right
 
 -- an answer is what it shows
 abbrev pub itself : {A : Type 0} → A → A
 itself a = a
+
+-- the output is a report of such a reply
+abbrev pub Reports : (Reply → Type 0) → Output → Type 0
+Reports IsRight (Report reply) = IsRight reply
+Reports IsRight (Canonical text) = ⊥
+Reports IsRight (Summary text) = ⊥
+Reports IsRight (Demonstrated demo) = ⊥
+Reports IsRight (Certificate text) = ⊥
+Reports IsRight (Rechecked answer) = ⊥
+
+-- the output reports the refusal of a fault
+abbrev pub refusing : {F : Type 0} → (F → Reply → Type 0) → F → Output → Type 0
+refusing IsRefusal fault output = Reports (IsRefusal fault) output

@@ -1,16 +1,12 @@
--- What three files of allowed length ask for: the reply that they are owed.
-use Rattle.std.specs.Prelude.{◌≡◌, ℕ, Bool, List, Result, Ok, Err, codes}
+-- What a program and a witness about it ask for: the reply that they are owed.
+use Rattle.std.specs.Prelude.{◌≡◌, ℕ, Bool, List, Result, Ok, Err}
 use Rattle.std.specs.List.{list_any}
-use Rattle.sha2.specs.Sha256.{sha256}
-use Rattle.c_check.specs.Checking.{Answers as CheckAnswers}
 use Rattle.c_core.specs.Tree as t
 use Rattle.c_core.specs.View.{program_view}
 use Rattle.c_core.specs.declared.program.Program.{Program}
 use Rattle.c_meaning.specs.Placing.{placed_view}
 use Rattle.c_meaning.specs.Duties.{Placed}
 use Rattle.c_meaning.specs.declared.verdict.Verdict.{Verdict}
-use Rattle.c_parser.specs.Parsing.{Answers as ParserAnswers, source_view}
-use Rattle.c_tokens.specs.Reading.{Answers as TokensAnswers}
 use Rattle.judge_correctness.specs.Correctness.{IsConfirmed, IsDecidedBeyond}
 use Rattle.judge_obligations.specs.Verdicts.{IsRightOnInvariants}
 use Rattle.sym_duties.specs.Answers.{CanBeJudged, IsFault, names_of}
@@ -23,14 +19,10 @@ use Rattle.way_match.specs.View.{segments_view}
 use Rattle.wv_arguments.specs.Words.{Budgets}
 use Rattle.wv_report.specs.declared.reply.Reply.{Reply}
 use Rattle.wv_report.specs.declared.reply.Reply.TheVariants.{Verdict as Judged, Refused, ReadFault}
-use Rattle.wv_schema.specs.Schema.{witness_of}
 use Rattle.wv_schema.specs.Shapes.{is_set}
 use Rattle.wv_schema.specs.declared.witness.Witness.{Witness}
-use Rattle.wv_task.specs.PropertyText.{property_of}
-use Rattle.wv_task.specs.Task.{judged}
-use Rattle.wv_yaml.specs.Reading.{IsAnswer}
-use Rattle.witval.specs.Refusals.{IsRefusal, IsSchemaRefusal, IsTaskRefusal, IsTokenRefusal, IsSyntaxRefusal, IsCheckRefusal, IsBindRefusal, IsObligationRefusal, plain}
-use Rattle.witval.specs.Stages.{◌>>=◌, given, known, answered, choosing, itself}
+use Rattle.witval.specs.Refusals.{IsBindRefusal, IsObligationRefusal}
+use Rattle.witval.specs.Stages.{◌>>=◌, answered, choosing, itself}
 
 -- ---- violation sequences
 
@@ -87,15 +79,3 @@ holds_sets witness = list_any is_set witness.entries
 abbrev pub RightOnProgram : Budgets → Witness → Program → Reply → Type 0
 RightOnProgram budgets witness program =
     choosing (holds_sets witness) (RightOnSets budgets.conflicts witness program) (RightOnSequence budgets.steps witness program)
-
--- the reply to three files of allowed length, with budgets: each stage in its order, then the verdict
-abbrev pub RightOnInputs : Budgets → List ℕ → List ℕ → List ℕ → Reply → Type 0
-RightOnInputs budgets program_bytes property_bytes witness_bytes = do
-  property ← given (plain (codes "property")) (property_of property_bytes)
-  tree ← answered (IsAnswer witness_bytes) itself IsRefusal
-  witness ← known itself IsSchemaRefusal (witness_of tree)
-  model ← known itself IsTaskRefusal (judged (sha256 program_bytes) property witness.entries)
-  tokens ← answered (TokensAnswers program_bytes) itself IsTokenRefusal
-  source ← answered (ParserAnswers tokens) source_view IsSyntaxRefusal
-  program ← answered (CheckAnswers model property source) itself IsCheckRefusal
-  RightOnProgram budgets witness program

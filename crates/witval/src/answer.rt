@@ -1,39 +1,108 @@
 ghost use Rattle.std.specs.Prelude.{◌≡◌, ◌≤◌, IfOk};
-ghost use Rattle.wv_report.specs.Json.{HasJsonIntegers};
-ghost use Rattle.witval.specs.Replies.{CanonicalIn, Right, RightAlone, RightDemo, RightFor, SummaryIn};
+ghost use Rattle.witval.specs.Inputs.{AreWithin};
+ghost use Rattle.witval.specs.Purposes.{Rechecking, RightOnInputs};
+ghost use Rattle.witval.specs.Replies.{CanonicalIn, IsStopped, IsStoppedOfFour, Right, RightAlone, RightCertificate, RightDemo, RightRecheck, RightVerdict, SummaryIn};
 ghost use Rattle.witval.specs.Running.{HasIntegers};
-ghost use Rattle.witval.specs.inside.Allowed.{AreAllowed, IsAllowed};
+ghost use Rattle.witval.specs.inside.Allowed.{AreAllowed, IsAllowed, IsBudget};
 ghost use Rattle.wv_arguments.specs.Requests.{limits, named, stated};
 
 use crate::canonical::canonical;
 use crate::demonstration::demonstrate;
-use crate::input::{Stop, read_one, read_three};
+use crate::input::{FourInputs, FourStop, Stop, read_four, read_one, read_three};
 use crate::judging::judge;
 use crate::output::Output;
-use crate::refusal::{read_fault, refuse_plainly, refuse_too_long};
+use crate::purpose::Purpose;
+use crate::refusal::{
+    certificate_fault, read_fault, refuse_long_certificate, refuse_plainly, refuse_too_long,
+};
 use crate::shown::shown;
 use std::alloc::Global;
 use wv_arguments::{Asked, Budgets, Names, Request};
-use wv_base::{OutOfMemory, Shelf};
+use wv_base::{OutOfMemory, ReadFault, Seq, Shelf};
 use wv_report::Reply;
 
-/// The reply to a program, a property and a witness.
+/// The reply where reading one of three files stopped.
+fn stopped(alloc: Global, stop: Stop) -> Result<Reply, OutOfMemory>
+    ensures { IfOk result (IsStopped stop) }
+{
+    match stop {
+        Stop::Fault(file) => read_fault(alloc, file),
+        Stop::TooLong(file) => refuse_too_long(alloc, file),
+        Stop::OutOfMemory => Err(OutOfMemory),
+    }
+}
+
+/// The reply where reading three files and a certificate stopped.
+fn stopped_of_four(alloc: Global, stop: FourStop) -> Result<Reply, OutOfMemory>
+    ensures { IfOk result (IsStoppedOfFour stop) }
+{
+    match stop {
+        FourStop::Three(stop) => stopped(alloc, stop),
+        FourStop::Certificate(ReadFault::Fault) => certificate_fault(alloc),
+        FourStop::Certificate(ReadFault::TooLong) => refuse_long_certificate(alloc),
+        FourStop::Certificate(ReadFault::OutOfMemory) => Err(OutOfMemory),
+    }
+}
+
+/// The verdict on a program, a property and a witness.
 fn validate<S: Shelf>(
     alloc: Global,
     names: &Names<'_>,
     budgets: Budgets,
     shelf: &mut S,
-) -> Result<Reply, OutOfMemory>
+) -> Result<Output, OutOfMemory>
     requires { IsAllowed (limits budgets) }
-    ensures right { IfOk result (RightFor (named names.now) (limits budgets) (S.state shelf.old) (S.state shelf.new)) }
-    ensures integers { IfOk result HasJsonIntegers }
+    ensures right { IfOk result (RightVerdict (named names.now) (limits budgets) (S.state shelf.old) (S.state shelf.new)) }
+    ensures integers { IfOk result HasIntegers }
     ensures same_files { (S.state shelf.new).files ≡ (S.state shelf.old).files }
 {
     match read_three(alloc, names, shelf) {
-        Ok(inputs) => judge(alloc, &inputs, budgets),
-        Err(Stop::Fault(file)) => read_fault(alloc, file),
-        Err(Stop::TooLong(file)) => refuse_too_long(alloc, file),
-        Err(Stop::OutOfMemory) => Err(OutOfMemory),
+        Ok(inputs) => judge(alloc, &inputs, Purpose::Judge(budgets)),
+        Err(stop) => Ok(Output::Report(stopped(alloc, stop)?)),
+    }
+}
+
+/// The certificate of a program, a property and a witness.
+fn certify<S: Shelf>(
+    alloc: Global,
+    names: &Names<'_>,
+    conflicts: u64,
+    shelf: &mut S,
+) -> Result<Output, OutOfMemory>
+    requires { IsBudget conflicts }
+    ensures right { IfOk result (RightCertificate (named names.now) conflicts (S.state shelf.old) (S.state shelf.new)) }
+    ensures integers { IfOk result HasIntegers }
+    ensures same_files { (S.state shelf.new).files ≡ (S.state shelf.old).files }
+{
+    match read_three(alloc, names, shelf) {
+        Ok(inputs) => judge(alloc, &inputs, Purpose::Certify(conflicts)),
+        Err(stop) => Ok(Output::Report(stopped(alloc, stop)?)),
+    }
+}
+
+/// What checking a certificate again comes to.
+fn recheck_four(alloc: Global, four: FourInputs) -> Result<Output, OutOfMemory>
+    requires { AreWithin four.inputs }
+    ensures { IfOk result (RightOnInputs (Rechecking four.certificate.items) four.inputs.program.items four.inputs.property.items four.inputs.witness.items) }
+{
+    let certificate = Seq::from_vec(four.certificate);
+    judge(alloc, &four.inputs, Purpose::Recheck(certificate))
+}
+
+/// A certificate of a program, a property and a witness, checked again.
+fn recheck<S: Shelf>(
+    alloc: Global,
+    names: &Names<'_>,
+    certificate: &str,
+    shelf: &mut S,
+) -> Result<Output, OutOfMemory>
+    ensures right { IfOk result (RightRecheck (named names.now) certificate.now (S.state shelf.old) (S.state shelf.new)) }
+    ensures integers { IfOk result HasIntegers }
+    ensures same_files { (S.state shelf.new).files ≡ (S.state shelf.old).files }
+{
+    match read_four(alloc, names, certificate, shelf) {
+        Ok(four) => recheck_four(alloc, four),
+        Err(stop) => Ok(Output::Report(stopped_of_four(alloc, stop)?)),
     }
 }
 
@@ -85,12 +154,12 @@ pub fn answer<S: Shelf>(
     ensures same_files { (S.state shelf.new).files ≡ (S.state shelf.old).files }
 {
     match asked.request {
-        Some(Request::Validate { names, budgets }) => Ok(Output::Report(validate(
-            alloc, &names, budgets, shelf,
-        )?)),
+        Some(Request::Validate { names, budgets }) => validate(alloc, &names, budgets, shelf),
         Some(Request::Normalise(name)) => normalise(alloc, name, shelf),
         Some(Request::Show(name)) => show(alloc, name, shelf),
         Some(Request::Demo { number, budgets }) => demo(alloc, number, budgets),
+        Some(Request::Certify { names, conflicts }) => certify(alloc, &names, conflicts, shelf),
+        Some(Request::Recheck { names, certificate }) => recheck(alloc, &names, certificate, shelf),
         None => Ok(Output::Report(refuse_plainly(alloc, "usage")?)),
     }
 }

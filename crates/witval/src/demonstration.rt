@@ -7,9 +7,13 @@ ghost use Rattle.wv_arguments.specs.Requests.{limits};
 ghost use Rattle.wv_author.specs.Demo.{CanBeWritten};
 ghost use Rattle.wv_task.specs.Task.{judged};
 ghost use Rattle.witval.specs.Demos.{IsDemonstration, RightOnMade, RightOnRead, demo_status, demo_text, drawn_values, first_line, numbers_of, told_line};
+ghost use Rattle.witval.specs.declared.output.Output.TheVariants.{Report};
 ghost use Rattle.witval.specs.inside.Allowed.{IsAllowed};
+ghost use Rattle.witval.specs.inside.Reports.{IsReport};
 
 use crate::judging::judge_bytes;
+use crate::output::Output;
+use crate::purpose::Purpose;
 use c_core::Property;
 use c_meaning::{Draw, Verdict};
 use std::alloc::Global;
@@ -44,13 +48,25 @@ fn judge_made(
 {
     let tree = tree_of(alloc, witness)?;
     let bytes = write(alloc, &tree)?;
-    judge_bytes(
+    let output = judge_bytes(
         alloc,
         Property::UnreachCall,
         program.as_str().as_bytes(),
         &bytes,
-        budgets,
-    )
+        Purpose::Judge(budgets),
+    )?;
+    Ok(reply_of(output))
+}
+
+/// The reply of a report.
+fn reply_of(output: Output) -> Reply
+    requires { IsReport output }
+    ensures { output ≡ Report result }
+{
+    match output {
+        Output::Report(reply) => reply,
+        _ => unreachable!(),
+    }
 }
 
 /// The demo of a number.

@@ -1,5 +1,5 @@
 ghost use Rattle.std.specs.Prelude.{◌≡◌, ◌≤◌, length, IfOk, IfErr};
-ghost use Rattle.witval.specs.Inputs.{AreInputs, AreWithin, RightStop, RightStopAlone, Told, ToldOne, limit_of};
+ghost use Rattle.witval.specs.Inputs.{AreBegun, AreInputs, AreWithin, RightStop, RightStopAlone, RightStopOfFour, Told, ToldOne, certificate_limit, limit_of};
 ghost use Rattle.witval.specs.declared.input.File.TheVariants as file;
 ghost use Rattle.wv_arguments.specs.Requests.{named};
 
@@ -31,15 +31,32 @@ pub struct Inputs {
     pub witness: Vec<u8>,
 }
 
-/// The limits of the program and the witness, and of the property, in bytes.
+/// Why reading three files and a certificate stopped: at one of the three, or at the certificate.
+#[derive(Clone, Copy, Debug, PartialEq, Eq)]
+pub enum FourStop {
+    Three(Stop),
+    Certificate(ReadFault),
+}
+
+/// The bytes of the three files and of a certificate.
+#[derive(Drop)]
+pub struct FourInputs {
+    pub inputs: Inputs,
+    pub certificate: Vec<u8>,
+}
+
+/// The limits of the program and the witness, of the property, and of a certificate, in bytes.
 const LONG: usize = 1048576;
 
 const SHORT: usize = 4096;
+
+const CERTIFICATE: usize = 67108864;
 
 /// Reads the three files in their order.
 pub fn read_three<S: Shelf>(alloc: Global, names: &Names<'_>, shelf: &mut S) -> Result<Inputs, Stop>
     ensures inputs { IfOk result (λ inputs. Told (named names.now) (S.state shelf.old) (AreInputs inputs)) }
     ensures within { IfOk result AreWithin }
+    ensures begun { IfOk result (λ inputs. AreBegun (S.state shelf.old) (S.state shelf.new)) }
     ensures stop { IfErr result (RightStop (named names.now) (S.state shelf.old) (S.state shelf.new)) }
     ensures same_files { (S.state shelf.new).files ≡ (S.state shelf.old).files }
 {
@@ -66,6 +83,35 @@ pub fn read_three<S: Shelf>(alloc: Global, names: &Names<'_>, shelf: &mut S) -> 
         property,
         witness,
     })
+}
+
+/// Reads the three files in their order, and then a certificate.
+pub fn read_four<S: Shelf>(
+    alloc: Global,
+    names: &Names<'_>,
+    certificate: &str,
+    shelf: &mut S,
+) -> Result<FourInputs, FourStop>
+    ensures inputs { IfOk result (λ four. Told (named names.now) (S.state shelf.old) (AreInputs four.inputs)) }
+    ensures within { IfOk result (λ four. AreWithin four.inputs) }
+    ensures certificate { IfOk result (λ four. ToldOne certificate.now (S.state shelf.old) (λ told. four.certificate.items ≡ told)) }
+    ensures within_limit { IfOk result (λ four. length four.certificate.items ≤ certificate_limit) }
+    ensures stop { IfErr result (RightStopOfFour (named names.now) certificate.now (S.state shelf.old) (S.state shelf.new)) }
+    ensures same_files { (S.state shelf.new).files ≡ (S.state shelf.old).files }
+{
+    let inputs = match read_three(alloc, names, shelf) {
+        Ok(inputs) => inputs,
+        Err(stop) => return Err(FourStop::Three(stop)),
+    };
+    match read_all(alloc, shelf, certificate, CERTIFICATE) {
+        Ok(certificate) => Ok(FourInputs {
+            inputs,
+            certificate,
+        }),
+        Err(ReadFault::Fault) => Err(FourStop::Certificate(ReadFault::Fault)),
+        Err(ReadFault::TooLong) => Err(FourStop::Certificate(ReadFault::TooLong)),
+        Err(ReadFault::OutOfMemory) => Err(FourStop::Certificate(ReadFault::OutOfMemory)),
+    }
 }
 
 /// Reads a witness alone.

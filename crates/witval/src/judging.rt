@@ -1,18 +1,22 @@
-// The reply to a program, a property and a witness: the refusals in their order, and then the verdict.
+// The output for a program, a property and a witness: the refusals in their order, and then what the purpose asks for.
 ghost use Rattle.std.specs.Prelude.{◌≡◌, IfOk, ◌<◌, ◌≤◌, length};
 ghost use Rattle.c_parser.specs.Formed.{AreOrderly};
 ghost use Rattle.c_parser.specs.Parsing.{source_view};
 ghost use Rattle.wv_arguments.specs.Requests.{limits};
 ghost use Rattle.wv_schema.specs.Shapes.{is_set};
 ghost use Rattle.witval.specs.Inputs.{AreWithin};
-ghost use Rattle.witval.specs.Tasks.{RightOnInputs, RightOnProgram, holds_sets};
-ghost use Rattle.witval.specs.inside.Allowed.{IsAllowed};
-ghost use Rattle.witval.specs.inside.Rests.{RightOnSource, RightOnText, RightOnTokens, RightOnTree, RightOnWitness, RightUnder};
+ghost use Rattle.witval.specs.Purposes.{IsKind, RightOnInputs, RightOnWork, meant, planned};
+ghost use Rattle.witval.specs.Tasks.{RightOnProgram, holds_sets};
+ghost use Rattle.witval.specs.inside.Allowed.{AllowsPurpose, AllowsWork, IsAllowed};
+ghost use Rattle.witval.specs.inside.Rests.{RightOnLogs, RightOnModel, RightOnSource, RightOnText, RightOnTokens, RightOnTree, RightOnWitness, RightUnder};
 
+use crate::certificates::{certify_sets, recheck_sets};
 use crate::input::Inputs;
+use crate::output::Output;
+use crate::purpose::{Purpose, Work};
 use crate::refusal::{
-    refuse_check, refuse_plainly, refuse_schema, refuse_syntax, refuse_task, refuse_tokens,
-    refuse_yaml,
+    refuse_certificate, refuse_check, refuse_plainly, refuse_schema, refuse_syntax, refuse_task,
+    refuse_tokens, refuse_yaml,
 };
 use crate::sequence::judge_sequence;
 use crate::sets::judge_sets;
@@ -24,131 +28,218 @@ use c_tokens::Token;
 use std::alloc::Global;
 use wv_arguments::Budgets;
 use wv_base::{OutOfMemory, Seq};
+use wv_cert::read_certificate;
 use wv_report::Reply;
 use wv_schema::{Content, Entry, Witness, witness_of};
 use wv_task::{judge_task, property};
 use wv_yaml::{Tree, read};
 
-/// The reply to three files of allowed length, with budgets.
-pub fn judge(alloc: Global, inputs: &Inputs, budgets: Budgets) -> Result<Reply, OutOfMemory>
+/// The output for three files of allowed length.
+pub fn judge(alloc: Global, inputs: &Inputs, purpose: Purpose) -> Result<Output, OutOfMemory>
     requires within { AreWithin inputs.now }
-    requires allowed { IsAllowed (limits budgets) }
-    ensures { IfOk result (RightOnInputs (limits budgets) inputs.now.program.items inputs.now.property.items inputs.now.witness.items) }
+    requires allowed { AllowsPurpose (meant purpose) }
+    ensures { IfOk result (RightOnInputs (meant purpose) inputs.now.program.items inputs.now.property.items inputs.now.witness.items) }
 {
     match property(&inputs.property) {
-        Ok(property) => judge_bytes(alloc, property, &inputs.program, &inputs.witness, budgets),
-        Err(_) => refuse_plainly(alloc, "property"),
+        Ok(property) => judge_bytes(alloc, property, &inputs.program, &inputs.witness, purpose),
+        Err(_) => Ok(Output::Report(refuse_plainly(alloc, "property")?)),
     }
 }
 
-/// The reply to a program and the bytes of a witness.
+/// The output for a program and the bytes of a witness.
 pub fn judge_bytes(
     alloc: Global,
     property: Property,
     program: &[u8],
     witness: &[u8],
-    budgets: Budgets,
-) -> Result<Reply, OutOfMemory>
+    purpose: Purpose,
+) -> Result<Output, OutOfMemory>
     requires program { length program.now ≤ 1048576 }
-    requires allowed { IsAllowed (limits budgets) }
-    ensures { IfOk result (RightUnder (limits budgets) program.now witness.now property) }
+    requires allowed { AllowsPurpose (meant purpose) }
+    ensures { IfOk result (RightUnder (meant purpose) program.now witness.now property) }
 {
     match read(alloc, witness) {
-        Ok(tree) => judge_tree(alloc, property, program, &tree, budgets),
-        Err(fault) => refuse_yaml(alloc, fault),
+        Ok(tree) => judge_tree(alloc, property, program, &tree, purpose),
+        Err(fault) => Ok(Output::Report(refuse_yaml(alloc, fault)?)),
     }
 }
 
-/// The reply to a program and the tree of its witness.
+/// The output for a program and the tree of its witness.
 fn judge_tree(
     alloc: Global,
     property: Property,
     program: &[u8],
     tree: &Tree,
-    budgets: Budgets,
-) -> Result<Reply, OutOfMemory>
+    purpose: Purpose,
+) -> Result<Output, OutOfMemory>
     requires program { length program.now ≤ 1048576 }
-    requires allowed { IsAllowed (limits budgets) }
-    ensures { IfOk result (RightOnTree (limits budgets) property program.now tree.now) }
+    requires allowed { AllowsPurpose (meant purpose) }
+    ensures { IfOk result (RightOnTree (meant purpose) property program.now tree.now) }
 {
     match witness_of(alloc, tree) {
-        Ok(witness) => judge_witness(alloc, property, program, &witness, budgets),
-        Err(fault) => refuse_schema(alloc, fault),
+        Ok(witness) => judge_witness(alloc, property, program, &witness, purpose),
+        Err(fault) => Ok(Output::Report(refuse_schema(alloc, fault)?)),
     }
 }
 
-/// The reply to a program and its witness.
+/// The output for a program and its witness.
 fn judge_witness(
     alloc: Global,
     property: Property,
     program: &[u8],
     witness: &Witness,
-    budgets: Budgets,
-) -> Result<Reply, OutOfMemory>
+    purpose: Purpose,
+) -> Result<Output, OutOfMemory>
     requires program { length program.now ≤ 1048576 }
     requires entries { 0 < length witness.now.entries }
-    requires allowed { IsAllowed (limits budgets) }
-    ensures { IfOk result (RightOnWitness (limits budgets) property program.now witness.now) }
+    requires allowed { AllowsPurpose (meant purpose) }
+    ensures { IfOk result (RightOnWitness (meant purpose) property program.now witness.now) }
 {
     match judge_task(alloc, witness, program, property) {
-        Ok(model) => judge_text(alloc, property, program, model, witness, budgets),
-        Err(fault) => refuse_task(alloc, fault),
+        Ok(model) => judge_model(alloc, property, program, model, witness, purpose),
+        Err(fault) => Ok(Output::Report(refuse_task(alloc, fault)?)),
     }
 }
 
-/// The reply to the text of a program in a data model, and a witness about it.
+/// The output for the text of a program in a data model, and a witness about it: a certificate is made, or read, for invariant
+/// sets alone.
+fn judge_model(
+    alloc: Global,
+    property: Property,
+    program: &[u8],
+    model: DataModel,
+    witness: &Witness,
+    purpose: Purpose,
+) -> Result<Output, OutOfMemory>
+    requires program { length program.now ≤ 1048576 }
+    requires allowed { AllowsPurpose (meant purpose) }
+    ensures { IfOk result (RightOnModel (meant purpose) property program.now witness.now model) }
+{
+    match purpose {
+        Purpose::Judge(budgets) => {
+            let work = Work::Judge(budgets);
+            judge_text(alloc, property, program, model, witness, work)
+        }
+        Purpose::Certify(conflicts) => {
+            if holds_sets(witness) {
+                let work = Work::Certify(conflicts);
+                judge_text(alloc, property, program, model, witness, work)
+            } else {
+                refuse_kind(alloc)
+            }
+        }
+        Purpose::Recheck(certificate) => {
+            if holds_sets(witness) {
+                let bytes = certificate.as_slice();
+                judge_certificate(alloc, property, program, model, witness, bytes)
+            } else {
+                refuse_kind(alloc)
+            }
+        }
+    }
+}
+
+/// The refusal of a witness without invariant sets.
+fn refuse_kind(alloc: Global) -> Result<Output, OutOfMemory>
+    ensures { IfOk result IsKind }
+{
+    Ok(Output::Report(refuse_plainly(alloc, "kind")?))
+}
+
+/// The output for the text of a program in a data model, invariant sets about it, and the bytes of a certificate.
+fn judge_certificate(
+    alloc: Global,
+    property: Property,
+    program: &[u8],
+    model: DataModel,
+    witness: &Witness,
+    certificate: &[u8],
+) -> Result<Output, OutOfMemory>
+    requires { length program.now ≤ 1048576 }
+    ensures { IfOk result (RightOnLogs certificate.now property program.now witness.now model) }
+{
+    match read_certificate(alloc, certificate) {
+        Ok(logs) => {
+            let work = Work::Recheck(logs);
+            judge_text(alloc, property, program, model, witness, work)
+        }
+        Err(fault) => Ok(Output::Report(refuse_certificate(alloc, fault)?)),
+    }
+}
+
+/// The output for the text of a program in a data model, and a witness about it.
 fn judge_text(
     alloc: Global,
     property: Property,
     program: &[u8],
     model: DataModel,
     witness: &Witness,
-    budgets: Budgets,
-) -> Result<Reply, OutOfMemory>
+    work: Work,
+) -> Result<Output, OutOfMemory>
     requires program { length program.now ≤ 1048576 }
-    requires allowed { IsAllowed (limits budgets) }
-    ensures { IfOk result (RightOnText (limits budgets) property program.now witness.now model) }
+    requires allowed { AllowsWork (planned work) }
+    ensures { IfOk result (RightOnText (planned work) property program.now witness.now model) }
 {
     match program_tokens(alloc, program) {
-        Ok(tokens) => judge_tokens(alloc, property, &tokens, model, witness, budgets),
-        Err(fault) => refuse_tokens(alloc, fault),
+        Ok(tokens) => judge_tokens(alloc, property, &tokens, model, witness, work),
+        Err(fault) => Ok(Output::Report(refuse_tokens(alloc, fault)?)),
     }
 }
 
-/// The reply to the tokens of a program, and a witness about it.
+/// The output for the tokens of a program, and a witness about it.
 fn judge_tokens(
     alloc: Global,
     property: Property,
     tokens: &Seq<Token>,
     model: DataModel,
     witness: &Witness,
-    budgets: Budgets,
-) -> Result<Reply, OutOfMemory>
+    work: Work,
+) -> Result<Output, OutOfMemory>
     requires orderly { AreOrderly tokens.now }
-    requires allowed { IsAllowed (limits budgets) }
-    ensures { IfOk result (RightOnTokens (limits budgets) property witness.now model tokens.now) }
+    requires allowed { AllowsWork (planned work) }
+    ensures { IfOk result (RightOnTokens (planned work) property witness.now model tokens.now) }
 {
     match parse(alloc, tokens) {
-        Ok(source) => judge_source(alloc, property, &source, model, witness, budgets),
-        Err(fault) => refuse_syntax(alloc, fault),
+        Ok(source) => judge_source(alloc, property, &source, model, witness, work),
+        Err(fault) => Ok(Output::Report(refuse_syntax(alloc, fault)?)),
     }
 }
 
-/// The reply to a source, and a witness about it.
+/// The output for a source, and a witness about it.
 fn judge_source(
     alloc: Global,
     property: Property,
     source: &Source,
     model: DataModel,
     witness: &Witness,
-    budgets: Budgets,
-) -> Result<Reply, OutOfMemory>
-    requires { IsAllowed (limits budgets) }
-    ensures { IfOk result (RightOnSource (limits budgets) property witness.now model (source_view source.now)) }
+    work: Work,
+) -> Result<Output, OutOfMemory>
+    requires { AllowsWork (planned work) }
+    ensures { IfOk result (RightOnSource (planned work) property witness.now model (source_view source.now)) }
 {
     match check(alloc, source, model, property) {
-        Ok(program) => judge_program(alloc, &program, witness, budgets),
-        Err(fault) => refuse_check(alloc, fault),
+        Ok(program) => judge_checked(alloc, &program, witness, work),
+        Err(fault) => Ok(Output::Report(refuse_check(alloc, fault)?)),
+    }
+}
+
+/// The output for a program, and a witness about it.
+fn judge_checked(
+    alloc: Global,
+    program: &Program,
+    witness: &Witness,
+    work: Work,
+) -> Result<Output, OutOfMemory>
+    requires { AllowsWork (planned work) }
+    ensures { IfOk result (RightOnWork (planned work) witness.now program.now) }
+{
+    match work {
+        Work::Judge(budgets) => {
+            let reply = judge_program(alloc, program, witness, budgets)?;
+            Ok(Output::Report(reply))
+        }
+        Work::Certify(conflicts) => certify_sets(alloc, program, witness, conflicts),
+        Work::Recheck(logs) => recheck_sets(alloc, program, witness, &logs),
     }
 }
 

@@ -5,10 +5,12 @@
 mod answer;
 mod binding;
 mod canonical;
+mod certificates;
 mod demonstration;
 mod input;
 mod judging;
 mod output;
+mod purpose;
 mod refusal;
 mod sequence;
 mod sets;

@@ -1,19 +1,53 @@
 ghost use Rattle.std.specs.Prelude.{◌≡◌, IfOk};
 ghost use Rattle.wv_report.specs.Json.{HasJsonIntegers};
-ghost use Rattle.witval.specs.Running.{HasIntegers, bytes_by, report_by, status_by};
+ghost use Rattle.witval.specs.Running.{HasIntegers, bytes_by, recheck_status, recheck_text, report_by, status_by};
 
 use crate::demonstration::{Demonstration, status_of_demo, text_of_demo};
 use std::alloc::Global;
 use wv_base::{OutOfMemory, Seq};
+use wv_cert::Rechecked;
 use wv_report::{Reply, json, status, text};
 
-/// What is written: the report of a reply, the canonical form of a witness, its summary, or the lines of a demo.
+/// What is written: the report of a reply, the canonical form of a witness, its summary, the lines of a demo, a certificate, or what
+/// checking one again came to.
 #[derive(Drop)]
 pub enum Output {
     Report(Reply),
     Canonical(Seq<u8>),
     Summary(Seq<u8>),
     Demo(Demonstration),
+    Certificate(Seq<u8>),
+    Rechecked(Rechecked),
+}
+
+fn status_of_recheck(answer: &Rechecked) -> u8
+    ensures { result ≡ recheck_status answer.now }
+{
+    match answer {
+        Rechecked::Yes { .. } => 0,
+        Rechecked::No { .. } | Rechecked::Count { .. } => 1,
+    }
+}
+
+/// The lines of a certificate that was checked again.
+fn text_of_recheck(alloc: Global, answer: &Rechecked) -> Result<Vec<u8>, OutOfMemory>
+    ensures { IfOk result (λ bytes. bytes.items ≡ recheck_text answer.now) }
+{
+    match answer {
+        Rechecked::Yes { count } => {
+            let text = format!(in alloc; "certificate accepted\nobligations {count}\n")?;
+            Ok(text.into_bytes())
+        }
+        Rechecked::No { index } => {
+            let text = format!(in alloc; "certificate refused\nobligation {index}\n")?;
+            Ok(text.into_bytes())
+        }
+        Rechecked::Count { expected, found } => {
+            let mut text = format!(in alloc; "certificate refused\nobligations {expected}")?;
+            write!(text, " found {found}\n")?;
+            Ok(text.into_bytes())
+        }
+    }
 }
 
 /// The status that the program ends with where the output is written.
@@ -22,8 +56,9 @@ pub fn status_of(output: &Output) -> u8
 {
     match output {
         Output::Report(reply) => status(reply),
-        Output::Canonical(_) | Output::Summary(_) => 0,
+        Output::Canonical(_) | Output::Summary(_) | Output::Certificate(_) => 0,
         Output::Demo(demo) => status_of_demo(demo),
+        Output::Rechecked(answer) => status_of_recheck(answer),
     }
 }
 
@@ -49,5 +84,7 @@ pub fn bytes_of(alloc: Global, output: Output, is_json: bool) -> Result<Seq<u8>,
         Output::Canonical(bytes) => Ok(bytes),
         Output::Summary(bytes) => Ok(bytes),
         Output::Demo(demo) => Ok(Seq::from_vec(text_of_demo(alloc, &demo)?)),
+        Output::Certificate(bytes) => Ok(bytes),
+        Output::Rechecked(answer) => Ok(Seq::from_vec(text_of_recheck(alloc, &answer)?)),
     }
 }

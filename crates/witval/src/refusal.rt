@@ -1,8 +1,8 @@
 // The replies other than verdicts.
 ghost use Rattle.std.specs.Prelude.{◌≡◌, ◌++◌, ◌∷◌, [], IfOk, codes, decimal};
 ghost use Rattle.wv_report.specs.declared.reply.Reply.TheVariants as replies;
-ghost use Rattle.witval.specs.Inputs.{word_of};
-ghost use Rattle.witval.specs.Refusals.{IsBindRefusal, IsCheckRefusal, IsObligationRefusal, IsRefusal, IsSchemaRefusal, IsSyntaxRefusal, IsTaskRefusal, IsTokenRefusal, both_hashes, check_code, place_text, plain};
+ghost use Rattle.witval.specs.Inputs.{certificate_word, word_of};
+ghost use Rattle.witval.specs.Refusals.{IsBindRefusal, IsCertificateRefusal, IsCheckRefusal, IsObligationRefusal, IsRefusal, IsSchemaRefusal, IsSyntaxRefusal, IsTaskRefusal, IsTokenRefusal, both_hashes, check_code, place_text, plain};
 ghost use Rattle.witval.specs.Replies.{too_long};
 
 use crate::input::File;
@@ -13,6 +13,7 @@ use std::alloc::Global;
 use sym_duties::SymFault;
 use way_bind::BindFault;
 use wv_base::{OutOfMemory, Text};
+use wv_cert::CertFault;
 use wv_report::Reply;
 use wv_schema::SchemaFault;
 use wv_task::TaskFault;
@@ -102,6 +103,16 @@ pub fn refuse_task(alloc: Global, fault: TaskFault) -> Result<Reply, OutOfMemory
         TaskFault::Model => refuse_plainly(alloc, "model"),
         TaskFault::Uuid => refuse_plainly(alloc, "uuid"),
         TaskFault::OutOfMemory => Err(OutOfMemory),
+    }
+}
+
+/// Bytes that are no certificate.
+pub fn refuse_certificate(alloc: Global, fault: CertFault) -> Result<Reply, OutOfMemory>
+    ensures { IfOk result (IsCertificateRefusal fault) }
+{
+    match fault {
+        CertFault::Form => refuse_plainly(alloc, "certificate"),
+        CertFault::OutOfMemory => Err(OutOfMemory),
     }
 }
 
@@ -227,4 +238,19 @@ pub fn read_fault(alloc: Global, file: File) -> Result<Reply, OutOfMemory>
     ensures { IfOk result (λ reply. reply ≡ replies.ReadFault (word_of file)) }
 {
     Ok(Reply::ReadFault(Text::of(alloc, name(file))?))
+}
+
+/// A certificate longer than its limit.
+pub fn refuse_long_certificate(alloc: Global) -> Result<Reply, OutOfMemory>
+    ensures { IfOk result (λ reply. reply ≡ replies.Refused too_long certificate_word) }
+{
+    let detail = Text::of(alloc, "certificate")?;
+    refuse(alloc, "too-long", detail)
+}
+
+/// A certificate that couldn't be read.
+pub fn certificate_fault(alloc: Global) -> Result<Reply, OutOfMemory>
+    ensures { IfOk result (λ reply. reply ≡ replies.ReadFault certificate_word) }
+{
+    Ok(Reply::ReadFault(Text::of(alloc, "certificate")?))
 }

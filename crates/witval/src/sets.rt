@@ -34,7 +34,7 @@ pub fn judge_sets(
 }
 
 /// The verdict alone: the log that shows a spent budget is not reported.
-fn verdict_of(judged: Judged) -> Verdict
+pub fn verdict_of(judged: Judged) -> Verdict
     ensures { result ≡ judged.verdict }
 {
     judged.verdict

@@ -4,7 +4,7 @@ use Rattle.wv_arguments.specs.Examples.{ReadsModes, RefusesWords}
 
 pub reads_modes : ReadsModes
 unfolding clap_on_literals
-reads_modes = record { validates = refl; shows = refl; makes = refl }
+reads_modes = record { validates = refl; shows = refl; makes = refl; certifies = refl; rechecks = refl }
 
 pub refuses_words : RefusesWords
 unfolding clap_on_literals
@@ -17,4 +17,5 @@ refuses_words = record {
   twice = refl;
   no_mode = refl;
   no_program = refl;
+  no_certificate = refl;
 }

@@ -43,6 +43,7 @@ arguments =
     option (codes "program") ∷
     option (codes "property") ∷
     option (codes "witness") ∷
+    option (codes "certificate") ∷
     number_or (codes "steps") 1 most_steps (codes "10000000") ∷
     number_or (codes "conflicts") 1 most_conflicts (codes "100000") ∷
     number (codes "number") 0 most_number ∷

@@ -1,7 +1,7 @@
 -- Command lines of which what they ask for is computed.
 use Rattle.std.specs.Prelude.{◌≡◌, List, [], ◌∷◌, true, false, Some, None, codes}
 use Rattle.clap.specs.Words.{Text}
-use Rattle.wv_arguments.specs.Words.{Asked, Validate, Show, Demo, asked_by}
+use Rattle.wv_arguments.specs.Words.{Asked, Command, Validate, Show, Demo, Certify, Recheck, asked_by}
 
 abbrev pub validating : List Text
 validating = codes "witval" ∷ codes "validate" ∷ codes "--program" ∷ codes "p" ∷ codes "--property=q" ∷ codes "--witness" ∷ codes "w" ∷ []
@@ -12,6 +12,16 @@ showing = codes "witval" ∷ codes "--json" ∷ codes "show" ∷ codes "--witnes
 abbrev pub making : List Text
 making = codes "witval" ∷ codes "demo" ∷ codes "--number" ∷ codes "7" ∷ codes "--steps" ∷ codes "11" ∷ []
 
+abbrev pub certifying : List Text
+certifying = codes "witval" ∷ codes "certify" ∷ codes "--program=p" ∷ codes "--property=q" ∷ codes "--witness=w" ∷ codes "--conflicts=7" ∷ []
+
+abbrev pub rechecking : List Text
+rechecking = codes "witval" ∷ codes "recheck" ∷ codes "--program=p" ∷ codes "--property=q" ∷ codes "--witness=w" ∷ codes "--certificate" ∷ codes "c" ∷ []
+
+-- the files of both
+abbrev pub files : Command
+files = record { program = codes "p"; property = codes "q"; witness = codes "w" }
+
 -- one mode with each kind of option
 pub record ReadsModes : Type 0 where
   pub validates : asked_by validating ≡ record {
@@ -20,6 +30,8 @@ pub record ReadsModes : Type 0 where
   }
   pub shows : asked_by showing ≡ record { wanted = Some (Show (codes "w")); json = true }
   pub makes : asked_by making ≡ record { wanted = Some (Demo 7 (record { steps = 11; conflicts = 100000 })); json = false }
+  pub certifies : asked_by certifying ≡ record { wanted = Some (Certify files 7); json = false }
+  pub rechecks : asked_by rechecking ≡ record { wanted = Some (Recheck files (codes "c")); json = false }
 
 abbrev pub IsMisused : List Text → Type 0
 IsMisused words = asked_by words ≡ record { wanted = None; json = false }
@@ -35,3 +47,4 @@ pub record RefusesWords : Type 0 where
   -- words that clap takes, but with a mode that isn't there, or without what the mode needs
   pub no_mode : asked_by (codes "witval" ∷ codes "judge" ∷ codes "--json" ∷ []) ≡ record { wanted = None; json = true }
   pub no_program : asked_by (codes "witval" ∷ codes "validate" ∷ codes "--json" ∷ []) ≡ record { wanted = None; json = true }
+  pub no_certificate : asked_by (codes "witval" ∷ codes "recheck" ∷ codes "--program=p" ∷ codes "--property=q" ∷ codes "--witness=w" ∷ []) ≡ record { wanted = None; json = false }

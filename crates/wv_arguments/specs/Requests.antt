@@ -1,6 +1,6 @@
 -- What requests, names and budgets stand for.
 use Rattle.std.specs.Prelude.{Option, option_map}
-use Rattle.wv_arguments.specs.Words.{Command, Budgets as Limits, Wanted, Asked as Stated, Validate, Show, Normalise, Demo}
+use Rattle.wv_arguments.specs.Words.{Command, Budgets as Limits, Wanted, Asked as Stated, Validate, Show, Normalise, Demo, Certify, Recheck}
 use Rattle.wv_arguments.specs.declared.request.Names.{Names}
 use Rattle.wv_arguments.specs.declared.request.Budgets.{Budgets}
 use Rattle.wv_arguments.specs.declared.request.Request.{Request}
@@ -18,6 +18,8 @@ wanted (request.Validate names budgets) = Validate (named names) (limits budgets
 wanted (request.Show name) = Show name.now
 wanted (request.Normalise name) = Normalise name.now
 wanted (request.Demo number budgets) = Demo number (limits budgets)
+wanted (request.Certify names conflicts) = Certify (named names) conflicts
+wanted (request.Recheck names certificate) = Recheck (named names) certificate.now
 
 abbrev pub stated : Asked → Stated
 stated asked = record { wanted = option_map wanted asked.request; json = asked.json }

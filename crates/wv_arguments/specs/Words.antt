@@ -19,12 +19,15 @@ pub record Budgets : Type 0 where
   pub steps : ℕ
   pub conflicts : ℕ
 
--- a verdict; a summary of a witness by its name; its canonical form; a made program and its verdicts, by a number
+-- a verdict; a summary of a witness by its name; its canonical form; a made program and its verdicts, by a number; a certificate, with
+-- the most clauses that the solver derives for an obligation; a certificate checked again, by its name
 pub data Wanted : Type 0 where
   Validate : Command → Budgets → Wanted
   Show : Text → Wanted
   Normalise : Text → Wanted
   Demo : ℕ → Budgets → Wanted
+  Certify : Command → ℕ → Wanted
+  Recheck : Command → Text → Wanted
 
 -- what is asked for, where the words ask for something, and whether reports are JSON
 pub record Asked : Type 0 where
@@ -66,6 +69,16 @@ abbrev pub demo_of : Option ℕ → Option Budgets → Option Wanted
 demo_of (Some number) (Some budgets) = Some (Demo number budgets)
 demo_of _ _ = None
 
+-- a certificate needs a budget of conflicts besides the files
+abbrev pub certify_of : Option Command → Option ℕ → Option Wanted
+certify_of (Some command) (Some conflicts) = Some (Certify command conflicts)
+certify_of _ _ = None
+
+-- a certificate checked again needs a certificate besides the files
+abbrev pub recheck_of : Option Command → Option Text → Option Wanted
+recheck_of (Some command) (Some certificate) = Some (Recheck command certificate)
+recheck_of _ _ = None
+
 -- what clap's matches give
 abbrev pub mode_in : List Row → Text
 mode_in rows = unwrap_or (first_of (codes "mode") rows) []
@@ -78,6 +91,10 @@ command_in rows = command_of (first_of (codes "program") rows) (first_of (codes 
 abbrev pub budgets_in : List Row → Option Budgets
 budgets_in rows = budgets_of (number_in 1 most_steps (one_of (codes "steps") rows)) (number_in 1 most_conflicts (one_of (codes "conflicts") rows))
 
+-- the budget of conflicts alone
+abbrev pub conflicts_in : List Row → Option ℕ
+conflicts_in rows = number_in 1 most_conflicts (one_of (codes "conflicts") rows)
+
 -- the number of a made program
 abbrev pub made_number : List Row → Option ℕ
 made_number rows = number_in 0 most_number (one_of (codes "number") rows)
@@ -89,7 +106,9 @@ wanted_as mode rows =
     else (if bytes_eq mode (codes "show") then show_of (first_of (codes "witness") rows)
     else (if bytes_eq mode (codes "normalise") then normalise_of (first_of (codes "witness") rows)
     else (if bytes_eq mode (codes "demo") then demo_of (made_number rows) (budgets_in rows)
-    else None)))
+    else (if bytes_eq mode (codes "certify") then certify_of (command_in rows) (conflicts_in rows)
+    else (if bytes_eq mode (codes "recheck") then recheck_of (command_in rows) (first_of (codes "certificate") rows)
+    else None)))))
 
 -- a flag was given
 abbrev pub is_set : Option Text → Bool

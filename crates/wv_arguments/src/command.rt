@@ -60,6 +60,7 @@ pub fn command<'a>(alloc: Global) -> Result<Command<'a>, AllocError>
         .arg(option(alloc, "program"))?
         .arg(option(alloc, "property"))?
         .arg(option(alloc, "witness"))?
+        .arg(option(alloc, "certificate"))?
         .arg(number_or(alloc, "steps", 1, MOST_STEPS, "10000000"))?
         .arg(number_or(alloc, "conflicts", 1, MOST_CONFLICTS, "100000"))?
         .arg(number(alloc, "number", 0, MOST_NUMBER))?

@@ -1,8 +1,8 @@
 // What the matches of the command say.
-ghost use Rattle.std.specs.Prelude.{◌≡◌, IfOk, map, option_map, string_bytes};
+ghost use Rattle.std.specs.Prelude.{◌≡◌, IfOk, codes, map, option_map, string_bytes};
 ghost use Rattle.clap.specs.Words.{first_of, found_of, one_of, rows_of};
 ghost use Rattle.wv_arguments.specs.Requests.{limits, named, stated, wanted};
-ghost use Rattle.wv_arguments.specs.Words.{asked_by, asked_in, budgets_in, command_in, is_set, mode_in, number_in, wanted_as, validate_of, demo_of, made_number};
+ghost use Rattle.wv_arguments.specs.Words.{asked_by, asked_in, budgets_in, command_in, is_set, mode_in, number_in, wanted_as, validate_of, demo_of, certify_of, recheck_of, conflicts_in, made_number};
 
 use crate::command::{MOST_CONFLICTS, MOST_NUMBER, MOST_STEPS, command};
 use crate::request::{Asked, Budgets, Names, Request};
@@ -82,6 +82,24 @@ fn demo<'a>(matches: &ArgMatches<'a>) -> Option<Request<'a>>
     })
 }
 
+fn certify<'a>(matches: &ArgMatches<'a>) -> Option<Request<'a>>
+    ensures { option_map wanted result ≡ certify_of (command_in (rows_of (found_of matches.now))) (conflicts_in (rows_of (found_of matches.now))) }
+{
+    Some(Request::Certify {
+        names: names(matches)?,
+        conflicts: number(matches, "conflicts", 1, MOST_CONFLICTS)?,
+    })
+}
+
+fn recheck<'a>(matches: &ArgMatches<'a>) -> Option<Request<'a>>
+    ensures { option_map wanted result ≡ recheck_of (command_in (rows_of (found_of matches.now))) (first_of (codes "certificate") (rows_of (found_of matches.now))) }
+{
+    Some(Request::Recheck {
+        names: names(matches)?,
+        certificate: text(matches, "certificate")?,
+    })
+}
+
 /// What a mode asks for.
 fn request<'a>(mode: &str, matches: &ArgMatches<'a>) -> Option<Request<'a>>
     ensures { option_map wanted result ≡ wanted_as mode.now (rows_of (found_of matches.now)) }
@@ -91,6 +109,8 @@ fn request<'a>(mode: &str, matches: &ArgMatches<'a>) -> Option<Request<'a>>
         "show" => Some(Request::Show(text(matches, "witness")?)),
         "normalise" => Some(Request::Normalise(text(matches, "witness")?)),
         "demo" => demo(matches),
+        "certify" => certify(matches),
+        "recheck" => recheck(matches),
         _ => None,
     }
 }

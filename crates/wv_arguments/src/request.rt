@@ -13,13 +13,28 @@ pub struct Budgets {
     pub conflicts: u64,
 }
 
-/// A verdict; a summary of a witness, by its file's name; its canonical form; a made program with its verdicts, by a number.
+/// A verdict; a summary of a witness, by its file's name; its canonical form; a made program with its verdicts, by a number; a
+/// certificate; a certificate checked again, by its file's name.
 #[derive(Clone, Copy, Debug, PartialEq, Eq)]
 pub enum Request<'a> {
-    Validate { names: Names<'a>, budgets: Budgets },
+    Validate {
+        names: Names<'a>,
+        budgets: Budgets,
+    },
     Show(&'a str),
     Normalise(&'a str),
-    Demo { number: u64, budgets: Budgets },
+    Demo {
+        number: u64,
+        budgets: Budgets,
+    },
+    Certify {
+        names: Names<'a>,
+        conflicts: u64,
+    },
+    Recheck {
+        names: Names<'a>,
+        certificate: &'a str,
+    },
 }
 
 /// What the words ask for, `None` where they are misused, and whether reports are JSON.

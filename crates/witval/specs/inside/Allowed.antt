@@ -1,17 +1,37 @@
 -- The budgets that the command line lets through.
-use Rattle.std.specs.Prelude.{◌≤◌, Option, Some, None}
+use Rattle.std.specs.Prelude.{◌≤◌, ℕ, Option, Some, None}
 use Rattle.wv_arguments.specs.Arguments.{most_conflicts, most_number}
-use Rattle.wv_arguments.specs.Words.{Budgets, Wanted, Validate, Show, Normalise, Demo}
+use Rattle.wv_arguments.specs.Words.{Budgets, Wanted, Validate, Show, Normalise, Demo, Certify, Recheck}
+use Rattle.witval.specs.Purposes.{Purpose, Judging, Certifying, Rechecking, Work, ToJudge, ToCertify, ToRecheck}
+
+-- a budget of conflicts is within its range
+pub record IsBudget (conflicts : ℕ) : Type 0 where
+  pub some : 1 ≤ conflicts
+  pub bounded : conflicts ≤ most_conflicts
 
 -- the budget of conflicts is within its range
 pub record IsAllowed (budgets : Budgets) : Type 0 where
   pub some : 1 ≤ budgets.conflicts
   pub bounded : budgets.conflicts ≤ most_conflicts
 
--- a verdict, or a demo of a number in its range, is wanted with such budgets
+-- a verdict, a demo of a number in its range, or a certificate is wanted with such budgets
 abbrev pub AreAllowed : Option Wanted → Type 0
 AreAllowed None = Unit {0}
 AreAllowed (Some (Validate command budgets)) = IsAllowed budgets
 AreAllowed (Some (Show name)) = Unit {0}
 AreAllowed (Some (Normalise name)) = Unit {0}
 AreAllowed (Some (Demo number budgets)) = (number ≤ most_number) × IsAllowed budgets
+AreAllowed (Some (Certify command conflicts)) = IsBudget conflicts
+AreAllowed (Some (Recheck command certificate)) = Unit {0}
+
+-- the same of a purpose
+abbrev pub AllowsPurpose : Purpose → Type 0
+AllowsPurpose (Judging budgets) = IsAllowed budgets
+AllowsPurpose (Certifying conflicts) = IsBudget conflicts
+AllowsPurpose (Rechecking bytes) = Unit {0}
+
+-- and of what is to be done
+abbrev pub AllowsWork : Work → Type 0
+AllowsWork (ToJudge budgets) = IsAllowed budgets
+AllowsWork (ToCertify conflicts) = IsBudget conflicts
+AllowsWork (ToRecheck logs) = Unit {0}

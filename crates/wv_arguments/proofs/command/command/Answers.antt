@@ -8,7 +8,8 @@ returns c =
     let two = c.in_ok-arg-2.ensures.shape c.option.ensures.local ∙ ap₂ with_rule one c.option.ensures.rule in
     let three = c.in_ok-arg-3.ensures.shape c.option-2.ensures.local ∙ ap₂ with_rule two c.option-2.ensures.rule in
     let four = c.in_ok-arg-4.ensures.shape c.option-3.ensures.local ∙ ap₂ with_rule three c.option-3.ensures.rule in
-    let five = c.in_ok-arg-5.ensures.shape c.number_or.ensures.local ∙ ap₂ with_rule four c.number_or.ensures.rule in
-    let six = c.in_ok-arg-6.ensures.shape c.number_or-2.ensures.local ∙ ap₂ with_rule five c.number_or-2.ensures.rule in
-    let seven = c.in_ok-arg-7.ensures.shape c.number.ensures.local ∙ ap₂ with_rule six c.number.ensures.rule in
-    c.in_ok-command.ensures.shape c.flag.ensures.local ∙ ap₂ with_rule seven c.flag.ensures.rule
+    let five = c.in_ok-arg-5.ensures.shape c.option-4.ensures.local ∙ ap₂ with_rule four c.option-4.ensures.rule in
+    let six = c.in_ok-arg-6.ensures.shape c.number_or.ensures.local ∙ ap₂ with_rule five c.number_or.ensures.rule in
+    let seven = c.in_ok-arg-7.ensures.shape c.number_or-2.ensures.local ∙ ap₂ with_rule six c.number_or-2.ensures.rule in
+    let eight = c.in_ok-arg-8.ensures.shape c.number.ensures.local ∙ ap₂ with_rule seven c.number.ensures.rule in
+    c.in_ok-command.ensures.shape c.flag.ensures.local ∙ ap₂ with_rule eight c.flag.ensures.rule
