@@ -37,7 +37,7 @@ use Rattle.flow_code.specs.declared.code.Then.{Then}
 use Rattle.flow_code.specs.declared.code.Then.TheVariants.{Push, Drop, Skip, Branch}
 use Rattle.flow_laws.specs.declared.frame.Frame.{Frame}
 use Rattle.flow_laws.specs.Machines.{Control, Machine}
-use Rattle.flow_laws.specs.Acting.{program_in, cell, right_of, top, below, value_of, stack_of, key_at, stack_at, kept_value, arguments, with_parameters, passed_on, stored, finished, cells_drawn, drawn_if, declared, input_given, called, left_by, aimed, reached_at, converted, acted, scope_closed, sent}
+use Rattle.flow_laws.specs.Acting.{program_in, cell, right_of, top, below, value_of, stack_of, key_at, stack_at, kept_value, arguments, with_parameters, passed_on, stored, finished, cells_drawn, drawn_if, declared, input_given, called, left_by, aimed, reached_at, converted, acted, scope_closed}
 use Rattle.flow_laws.specs.Stepping.{Turn, On, Short, Over, onward, moved, due, paid_all, behind, done_if, step, steps}
 
 -- no more draws took no choice than were made

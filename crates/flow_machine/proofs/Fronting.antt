@@ -1,5 +1,5 @@
 -- What a watcher has seen where memory ran out: of an action, of an operation, of some operations.
-use Rattle.std.proofs.Common.{◌≡◌, ℕ, suc, ◌+◌, ◌-◌, ℤ, pos, nat_le, Bool, true, false, cond, not, List, [], ◌∷◌, ◌++◌, take, Option, Some, None, slice_get, Result, Ok, Err, refl, sym, ap, ◌∙◌, subst, append_assoc, arith}
+use Rattle.std.proofs.Common.{◌≡◌, ℕ, suc, ◌+◌, ◌-◌, ℤ, pos, nat_le, Bool, true, false, cond, not, List, [], ◌∷◌, ◌++◌, take, Option, Some, None, slice_get, Result, Ok, Err, refl, sym, ap, ◌∙◌, append_assoc, arith}
 use Rattle.std.specs.Prelude.{OnErr}
 use Rattle.std.proofs.lemmas.List.{append-nil}
 use Rattle.c_core.specs.Types.{fit, is_zero}
@@ -30,7 +30,7 @@ use Rattle.flow_code.specs.declared.code.Then.{Then}
 use Rattle.flow_code.specs.declared.code.Then.TheVariants.{Push, Drop, Skip, Branch}
 use Rattle.flow_laws.specs.declared.frame.Frame.{Frame}
 use Rattle.flow_laws.specs.Machines.{Control, Machine}
-use Rattle.flow_laws.specs.Acting.{acted, top, below, converted, input_given, kept_value, key_at, stack_at, passed_on, stored, left_by}
+use Rattle.flow_laws.specs.Acting.{acted, top, below, converted, input_given, kept_value, key_at, stack_at, passed_on, stored}
 use Rattle.flow_laws.specs.Stepping.{Turn, On, Short, Over, moved, due, paid_all, behind, done_if, step, steps}
 use Rattle.flow_laws.proofs.Seeing.{machine_as, turn_as, step_as, steps_as}
 use Rattle.flow_machine.specs.Fronts.{IfBroken, OnBroken, kept, kept_by, kept_in, events_of, events_leaving, events_next, events_in, SawSome}
