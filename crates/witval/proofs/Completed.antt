@@ -1,7 +1,7 @@
 -- Where files are told and no fault was counted, a right output is what the files call for.
-use Rattle.std.proofs.Common.{◌≡◌, ◌≤◌, ◌<◌, ◌+◌, ◌-◌, ◌^◌, ℕ, List, Option, Some, IfSome, inl, inr, arith, subst}
+use Rattle.std.proofs.Common.{◌≡◌, ◌<◌, ◌-◌, ◌^◌, ℕ, List, Option, Some, IfSome, inl, inr, arith, subst}
 use Rattle.wv_arguments.specs.Words.{Asked, Command, Wanted, Validate, Show, Normalise, Demo, Certify, Recheck}
-use Rattle.wv_base.specs.Causes.{Rose, next}
+use Rattle.wv_base.specs.Causes.{Rose}
 use Rattle.wv_base.specs.Shelf.{ShelfState, Files, file_of}
 use Rattle.wv_base.specs.Sink.{SinkState, Gained}
 use Rattle.wv_report.specs.declared.reply.Reply.{Reply}

@@ -1,5 +1,5 @@
 -- Bytes that an output is right on: those that were read, or, where a file was too long, some as long as that.
-use Rattle.std.proofs.Common.{◌≡◌, ◌≤◌, ◌<◌, ℕ, suc, List, [], length, replicate, Option, Some, None, IfSome, true, nat_lt, lt-ltb, le-ltb, inl, inr, arith, refl, sym, subst}
+use Rattle.std.proofs.Common.{◌≡◌, ◌≤◌, ℕ, suc, List, [], length, replicate, Option, Some, None, IfSome, true, nat_lt, lt-ltb, le-ltb, inl, inr, arith, refl, sym, subst}
 use Rattle.std.proofs.lemmas.List.{length-replicate}
 use Rattle.std.proofs.lemmas.List.Elements.{All-nil}
 use Rattle.wv_arguments.specs.Words.{Command}
