@@ -48,14 +48,14 @@ fn chain(alloc: Global, start: u32, resolved: &[(u32, u32)], gives: &[i32]) -> R
 #[test]
 fn clauses_are_lines(rt: HostRuntime) -> Result<(), Fail> {
     let none = cnf(rt.alloc(), 0, &[])?;
-    assert!(rt; dimacs(rt.alloc(), &none)?.as_slice() == b"p cnf 0 0\n");
+    assert!(rt; dimacs(rt.alloc(), &none)?.as_slice() == b"p cnf 0 0\n".as_slice());
     let some = cnf(
         rt.alloc(),
         2147483647,
         &[&[1, 2147483647], &[-2147483647], &[]],
     )?;
     let text = b"p cnf 2147483647 3\n1 2147483647 0\n-2147483647 0\n0\n";
-    assert!(rt; dimacs(rt.alloc(), &some)?.as_slice() == text);
+    assert!(rt; dimacs(rt.alloc(), &some)?.as_slice() == text.as_slice());
     Ok(())
 }
 
@@ -63,12 +63,12 @@ fn clauses_are_lines(rt: HostRuntime) -> Result<(), Fail> {
 fn chains_are_lines(rt: HostRuntime) -> Result<(), Fail> {
     let mut chains = Seq::new(rt.alloc());
     let none = Refutation { chains };
-    assert!(rt; lrat(rt.alloc(), 3, &none)?.as_slice() == b"");
+    assert!(rt; lrat(rt.alloc(), 3, &none)?.as_slice() == b"".as_slice());
     chains = Seq::new(rt.alloc());
     chains.push(chain(rt.alloc(), 1, &[(2, 2), (3, 4)], &[-7, 1])?)?;
     chains.push(chain(rt.alloc(), 4294967295, &[], &[])?)?;
     let two = Refutation { chains };
     let text = b"10 -7 1 0 3 2 1 0\n11 0 4294967295 0\n";
-    assert!(rt; lrat(rt.alloc(), 9, &two)?.as_slice() == text);
+    assert!(rt; lrat(rt.alloc(), 9, &two)?.as_slice() == text.as_slice());
     Ok(())
 }
