@@ -1,7 +1,7 @@
 -- What the arms of a switch sum up to, arm by arm.
-use Rattle.std.proofs.Common.{◌≡◌, ℕ, ◌+◌, ◌<◌, List, ◌++◌, Bool, Option, append_assoc, drop, get_or, length, refl, ap, sym, ◌∙◌, arith}
+use Rattle.std.proofs.Common.{◌≡◌, ℕ, suc, ◌+◌, ◌<◌, List, ◌∷◌, ◌++◌, Bool, Option, append_assoc, drop, get_or, length, refl, ap, sym, ◌∙◌, subst, arith}
 use Rattle.c_core.specs.Tree.{Stms, NoStm, MoreStm, MoreCase, Program}
-use Rattle.c_core.specs.View.{joined, stmts_view, switch_view}
+use Rattle.c_core.specs.View.{joined, stmt_view, stmts_view, switch_view}
 use Rattle.c_core.specs.declared.number.IntType.{IntType}
 use Rattle.c_core.specs.declared.number.Spot.{Spot}
 use Rattle.c_core.specs.declared.tree.Arm.{Arm, out-Arm}
@@ -9,8 +9,9 @@ use Rattle.c_core.specs.declared.tree.Stmt.{Stmt}
 use Rattle.c_core.proofs.ArmLaws.{all_from, arms_from}
 use Rattle.sym_weight.specs.declared.cost.Cost.{Cost}
 use Rattle.sym_weight.specs.Sum.{statement, statements}
-use Rattle.sym_weight.specs.Tally.{capped, cost, plus, tallying}
+use Rattle.sym_weight.specs.Tally.{IsCounted, capped, cost, plus, tallying}
 use Rattle.sym_weight.proofs.Costs.{plus_thrice, statements_alone}
+use Rattle.sym_weight.proofs.Counting.{one_more}
 
 module _ (p : Program) (at_place : Bool → Spot → ℕ) (result : Option IntType) where
   abbrev all : Stms → Cost
@@ -42,10 +43,30 @@ module _ (p : Program) (at_place : Bool → Spot → ℕ) (result : Option IntTy
       ap (λ xs. xs ++ rest) (n ∙ ap (λ b. old ++ (statements p tallying at_place result (stmts_view b)).calls) q)
       ∙ append_assoc old (statements p tallying at_place result (stmts_view (out-Arm a).body)).calls rest ∙ ap (λ xs. old ++ xs) (sym (calls_from arms i a l e)) ∙ h
 
-  pub costs_on : (arms : List Arm) (i : ℕ) (a : Arm) (body : List Stmt) (old cost new whole : Cost) → i < length arms → a ≡ get_or arms i a → body ≡ (out-Arm a).body → cost ≡ all (stmts_view body) → new ≡ plus old cost
-      → plus old (all (switch_view (drop i arms))) ≡ whole → plus new (all (switch_view (drop (i + 1) arms))) ≡ whole
-  costs_on arms i a body old cost new whole l e q c n h =
-      ap (λ x. plus x (all (switch_view (drop (i + 1) arms)))) (n ∙ ap (plus old) (c ∙ ap (λ b. all (stmts_view b)) q)) ∙ costs_from arms i a old l e ∙ h
+  pub costs_on : (heads : Bool) (arms : List Arm) (i : ℕ) (a : Arm) (body : List Stmt) (old cost new whole : Cost) → i < length arms → a ≡ get_or arms i a → body ≡ (out-Arm a).body
+      → IsCounted heads cost (all (stmts_view body)) → new ≡ plus old cost → IsCounted heads (plus old (all (switch_view (drop i arms)))) whole → IsCounted heads (plus new (all (switch_view (drop (i + 1) arms)))) whole
+  costs_on heads arms i a body old cost new whole l e q c n h =
+      one_more heads old cost (all (stmts_view (out-Arm a).body)) new (all (switch_view (drop (i + 1) arms))) whole (subst (λ b. IsCounted heads cost (all (stmts_view b))) q c) n
+      (subst (λ x. IsCounted heads x whole) (sym (costs_from arms i a old l e)) h)
+
+  -- one statement more of a block
+  pub counted_on : (heads : Bool) (body left : List Stmt) (i : ℕ) (s : Stmt) (old cost new whole : Cost) → left ≡ s ∷ drop (suc i) body → IsCounted heads cost (statement p tallying at_place result (stmt_view s)).cost → new ≡ plus old cost
+      → IsCounted heads (plus old (all (stmts_view left))) whole → IsCounted heads (plus new (all (stmts_view (drop (i + 1) body)))) whole
+  counted_on heads body left i s old cost new whole m c n h =
+      let next : i + 1 ≡ suc i = omega arith in
+      let own = (statement p tallying at_place result (stmt_view s)).cost in
+      let rest = all (stmts_view (drop (i + 1) body)) in
+      one_more heads old cost own new rest whole c n
+      (subst (λ x. IsCounted heads x whole) (ap (λ ss. plus old (all (stmts_view ss))) m ∙ ap (λ j. plus old (plus own (all (stmts_view (drop j body))))) (sym next) ∙ sym (plus_thrice old own rest)) h)
+
+  pub calls_of_more : (body left : List Stmt) (i : ℕ) (s : Stmt) (old new whole : List ℕ) → left ≡ s ∷ drop (suc i) body → new ≡ old ++ (statement p tallying at_place result (stmt_view s)).calls
+      → old ++ (statements p tallying at_place result (stmts_view left)).calls ≡ whole → new ++ (statements p tallying at_place result (stmts_view (drop (i + 1) body))).calls ≡ whole
+  calls_of_more body left i s old new whole m n h =
+      let next : i + 1 ≡ suc i = omega arith in
+      let rest = (statements p tallying at_place result (stmts_view (drop (i + 1) body))).calls in
+      ap (λ xs. xs ++ rest) n ∙ append_assoc old (statement p tallying at_place result (stmt_view s)).calls rest
+      ∙ ap (λ j. old ++ ((statement p tallying at_place result (stmt_view s)).calls ++ (statements p tallying at_place result (stmts_view (drop j body))).calls)) next
+      ∙ ap (λ ss. old ++ (statements p tallying at_place result (stmts_view ss)).calls) (sym m) ∙ h
 
   pub settled_on : (old x new : Cost) → new ≡ plus old x → plus new (cost 0 0) ≡ new
   settled_on old x new n = ap (λ y. plus y (cost 0 0)) n ∙ plus_none (old.weight + x.weight) (old.bits + x.bits) ∙ sym n

@@ -1,5 +1,5 @@
 -- Sums that stop at the end of a type.
-use Rattle.std.proofs.Common.{◌≡◌, ℕ, ◌+◌, refl, ap, sym, ◌∙◌, Bool, List, [], ◌∷◌, Option, arith}
+use Rattle.std.proofs.Common.{◌≡◌, ℕ, ◌+◌, refl, ap, ◌∙◌, Bool, List, [], ◌∷◌, Option, arith}
 use Rattle.c_core.specs.Tree.{Exps, NoExp, MoreExp, Names, NoName, MoreName, Stms, NoStm, MoreStm, MoreCase, Program}
 use Rattle.c_core.specs.declared.number.IntType.{IntType}
 use Rattle.c_core.specs.declared.number.Spot.{Spot}
@@ -47,14 +47,3 @@ plus_thrice a b c =
   where
     regrouped : (a b c : ℕ) → capped (capped (a + b) + c) ≡ capped (a + capped (b + c))
     regrouped a b c = omega arith
-
--- a sum of parts, each of which is known
-pub three : (X Y Z x y z yz r whole : Cost) → x ≡ X → y ≡ Y → z ≡ Z → yz ≡ plus y z → r ≡ plus x yz → whole ≡ plus X (plus Y Z) → r ≡ whole
-three X Y Z x y z yz r whole a b c d e w =
-    e ∙ ap (λ t. plus x t) d ∙ ap (λ t. plus t (plus y z)) a ∙ ap (λ t. plus X (plus t z)) b ∙ ap (λ t. plus X (plus Y t)) c ∙ sym w
-
-pub five : (V W X Y Z v w x y z yz xyz wxyz r whole : Cost) → v ≡ V → w ≡ W → x ≡ X → y ≡ Y → z ≡ Z → yz ≡ plus y z → xyz ≡ plus x yz → wxyz ≡ plus w xyz → r ≡ plus v wxyz
-    → whole ≡ plus V (plus W (plus X (plus Y Z))) → r ≡ whole
-five V W X Y Z v w x y z yz xyz wxyz r whole a b c d e f g h i k =
-    i ∙ ap (λ t. plus v t) h ∙ ap (λ t. plus t (plus w xyz)) a ∙ ap (λ t. plus V (plus t xyz)) b
-    ∙ ap (λ t. plus V (plus W t)) (three X Y Z x y z yz xyz (plus X (plus Y Z)) c d e f g refl) ∙ sym k

@@ -1,6 +1,6 @@
 -- The labels of the arms of a switch: those of the first arm, then those of the others.
 use Rattle.std.proofs.Common.{◌≡◌, ℕ, ◌+◌, ◌<◌, List, [], ◌∷◌, drop, get_or, length, refl, ap, ◌∙◌}
-use Rattle.c_core.specs.Tree.{Stms, NoStm, MoreStm}
+use Rattle.c_core.specs.Tree.{Stms}
 use Rattle.c_core.specs.Typing.{labels_in}
 use Rattle.c_core.specs.View.{joined, stmts_view, switch_view}
 use Rattle.c_core.specs.declared.tree.Arm.{Arm, out-Arm}

@@ -1,5 +1,6 @@
 pub mod Arms
 pub mod Costs
+pub mod Counting
 pub mod Deciding
 pub mod Indexed
 pub mod Labels
@@ -8,6 +9,7 @@ pub mod Listing
 pub mod Owning
 pub mod Passing
 pub mod Placing
+pub mod Reaching
 pub mod Relating
 pub mod Rounds
 pub mod Tallied

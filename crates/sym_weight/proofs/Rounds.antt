@@ -30,7 +30,7 @@ longest_capped got want (f ∷ fs) same = longer_capped (got f) (want f) (longes
 with_own : (o s t : ℕ) → capped s ≡ capped t → capped (capped o + capped s) ≡ capped (o + t)
 with_own o s t h = omega arith
 
-total_is : (w v b d c e : ℕ) → w ≡ v → b ≡ d → c ≡ e → ◌≡◌ {A = Total} (record { weight = w; bits = b; chain = c }) (record { weight = v; bits = d; chain = e })
+pub total_is : (w v b d c e : ℕ) → w ≡ v → b ≡ d → c ≡ e → ◌≡◌ {A = Total} (record { weight = w; bits = b; chain = c }) (record { weight = v; bits = d; chain = e })
 total_is w v b d c e h k l =
     ap (λ x. record { weight = x; bits = b; chain = c }) h ∙ ap (λ x. record { weight = v; bits = x; chain = c }) k ∙ ap (λ x. record { weight = v; bits = d; chain = x }) l
 

@@ -4,5 +4,6 @@ pub mod Weight
 pub mod Views
 pub mod Tally
 pub mod Totals
+pub mod Reached
 pub mod Weighed
 pub mod Laws

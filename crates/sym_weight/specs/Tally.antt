@@ -1,5 +1,5 @@
 -- What a function's body weighs and draws by itself, and which functions it calls, as often as it does.
-use Rattle.std.specs.Prelude.{ℕ, ◌+◌, ◌-◌, ◌^◌, min, Bool, true, false, List, [], ◌∷◌, ◌++◌, Some, map}
+use Rattle.std.specs.Prelude.{◌≡◌, ◌≤◌, ℕ, ◌+◌, ◌-◌, ◌^◌, min, Bool, true, false, IsTrue, List, [], ◌∷◌, ◌++◌, Option, None, Some, map, slice_get}
 use Rattle.std.specs.BTreeMap.{BTreeMap, get_by}
 use Rattle.std.specs.Option.{unwrap_or}
 use Rattle.std.specs.Ordering.{nat_cmp, ordering_then}
@@ -45,6 +45,25 @@ tallies_of p at_place fs = map (λ f. function_of p tallying at_place (Some f)) 
 
 abbrev pub all_tallies : Program → (Bool → Spot → ℕ) → List Tally
 all_tallies p at_place = tallies_of p at_place p.functions
+
+-- what was counted of a cost: with the heads of loops all of it, and without them no more than it
+pub record IsCounted (heads : Bool) (counted whole : Cost) : Type 0 where
+  pub all : IsTrue heads → counted ≡ whole
+  pub below : counted.weight ≤ whole.weight
+
+-- what was counted of a tally; its calls are all there
+pub record IsTallied (heads : Bool) (counted whole : Tally) : Type 0 where
+  pub cost : IsCounted heads counted.cost whole.cost
+  pub calls : counted.calls ≡ whole.calls
+
+abbrev pub IsTalliedIf : Bool → Option Tally → Option Tally → Type 0
+IsTalliedIf heads None None = Unit {0}
+IsTalliedIf heads (Some t) (Some whole) = IsTallied heads t whole
+IsTalliedIf heads _ _ = ⊥
+
+-- function by function; heads of loops are counted in those that pass the test
+abbrev pub AreTallied : (ℕ → Bool) → List Tally → List Tally → Type 0
+AreTallied heads counted whole = (f : ℕ) → IsTalliedIf (heads f) (slice_get counted f) (slice_get whole f)
 
 -- weights by place
 abbrev pub weight_at : BTreeMap (ℕ × ℕ) ℕ → Spot → ℕ

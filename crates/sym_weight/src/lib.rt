@@ -7,6 +7,7 @@ mod functions;
 mod laws;
 mod limits;
 mod placed;
+mod reached;
 mod statements;
 mod table;
 mod totals;

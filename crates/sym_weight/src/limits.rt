@@ -1,13 +1,15 @@
 // The test that refuses a program before any circuit is made.
-ghost use Rattle.std.specs.Prelude.{◌≡◌, suc, min, length, IfOk};
+ghost use Rattle.std.specs.Prelude.{◌≡◌, suc, min, length, IfOk, IsTrue, None, false};
 ghost use Rattle.c_core.specs.View.{program_view};
-ghost use Rattle.sym_weight.specs.Tally.{all_tallies, placed_of};
+ghost use Rattle.sym_weight.specs.Tally.{AreTallied, all_tallies, placed_of, tallies_view};
 ghost use Rattle.c_meaning.specs.Placing.{placed_view};
 ghost use Rattle.sym_weight.specs.Totals as totals;
 ghost use Rattle.sym_weight.specs.Weighed.{Weighs, judged};
 
+use crate::cost::Tally;
 use crate::functions::tallies_of;
 use crate::placed::placed_weights;
+use crate::reached::reached;
 use crate::statements::Weigher;
 use crate::totals::{Total, total_at, totals_after};
 use c_core::Program;
@@ -32,19 +34,43 @@ fn judged(total: Total) -> Option<Total>
     }
 }
 
-fn unfolded(weigher: Weigher) -> Result<Total, OutOfMemory>
+// What main comes to, by these tallies.
+fn unfolded(alloc: Global, tallies: &[Tally], main: u32) -> Result<Total, OutOfMemory>
+    ensures { IfOk result (λ t. t ≡ totals.total_at (totals.totals_after (tallies_view tallies.now) (min (suc (length tallies.now)) 33)) main) }
+{
+    let rounds = depth(tallies.len());
+    let all = totals_after(alloc, tallies, rounds)?;
+    Ok(total_at(all.as_slice(), main))
+}
+
+// Whether the program is too big even without the heads of its loops.
+fn is_too_big(alloc: Global, tallies: &[Tally], main: u32) -> Result<bool, OutOfMemory>
+    ensures { IfOk result (λ big. IsTrue big → judged (totals.total_at (totals.totals_after (tallies_view tallies.now) (min (suc (length tallies.now)) 33)) main) ≡ None) }
+{
+    let least = unfolded(alloc, tallies, main)?;
+    match judged(least) {
+        Some(_) => Ok(false),
+        None => Ok(true),
+    }
+}
+
+// The whole weight, by tallies without the heads of loops: heads are counted in the functions that main comes to.
+fn whole(weigher: Weigher, tallies: &[Tally]) -> Result<Total, OutOfMemory>
+    requires { AreTallied (λ f. false) (tallies_view tallies.now) (all_tallies (program_view weigher.program.now) (placed_of weigher)) }
     ensures { IfOk result (λ t. t ≡ totals.total_at (totals.totals_after (all_tallies (program_view weigher.entry.program.now) (placed_of weigher.entry)) (min (suc (length (program_view weigher.entry.program.now).functions)) 33)) weigher.entry.program.now.main) }
 {
+    let main = weigher.program.main;
+    let marks = reached(weigher.alloc, tallies, main)?;
     let functions = weigher.program.functions.as_slice();
-    let tallies = tallies_of(weigher, functions)?;
-    let listed = tallies.as_slice();
-    let rounds = depth(functions.len());
-    let all = totals_after(weigher.alloc, listed, rounds)?;
-    Ok(total_at(all.as_slice(), weigher.program.main))
+    let all = tallies_of(weigher, functions, marks.as_slice())?;
+    let total = unfolded(weigher.alloc, all.as_slice(), main)?;
+    Ok(total)
 }
 
 /// What a program with its invariants weighs, with all calls unfolded; `None` exactly where it is too big to be made a
-/// circuit: where a chain of calls from main has more than 32 calls, or the weight is over 2,000,000.
+/// circuit: where a chain of calls from main has more than 32 calls, or the weight is over 2,000,000. What loops change is
+/// looked for only where the rest is within these limits, and only in the functions that main comes to: so no more text is
+/// gone through for it than the limits allow.
 pub fn weigh(
     alloc: Global,
     program: &Program,
@@ -60,7 +86,15 @@ pub fn weigh(
         program,
         at_loops: &at_loops,
         at_statements: &at_statements,
+        heads: false,
     };
-    let total = unfolded(weigher)?;
+    let functions = program.functions.as_slice();
+    let no_marks = vec![in alloc; false; functions.len()]?;
+    let light = tallies_of(weigher, functions, no_marks.as_slice())?;
+    let big = is_too_big(alloc, light.as_slice(), program.main)?;
+    if big {
+        return Ok(None);
+    }
+    let total = whole(weigher, light.as_slice())?;
     Ok(judged(total))
 }

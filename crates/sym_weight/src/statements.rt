@@ -4,7 +4,7 @@ ghost use Rattle.c_calls.specs.Loops.{changed_if, loop_of};
 ghost use Rattle.c_core.specs.View.{expr_view, expr_view_if, exprs_view, first_view, form_view, init_view, names_view, program_view, rows_view, stmt_view, stmts_view, switch_view};
 ghost use Rattle.sym_weight.specs.Sum as sums;
 ghost use Rattle.sym_weight.specs.Table as table;
-ghost use Rattle.sym_weight.specs.Tally.{capped, placed_of, tallying};
+ghost use Rattle.sym_weight.specs.Tally.{IsCounted, capped, placed_of, tallying};
 ghost use Rattle.sym_weight.specs.Views.{else_of};
 
 use crate::cost::{Cost, draws, nothing, plus, weighs};
@@ -17,13 +17,14 @@ use c_meaning::{type_of, type_of_object};
 use std::alloc::Global;
 use wv_base::OutOfMemory;
 
-/// A program with what its invariants weigh.
+/// A program with what its invariants weigh, and whether the heads of loops are counted.
 #[derive(Clone, Copy)]
 pub struct Weigher<'a> {
     pub alloc: Global,
     pub program: &'a Program,
     pub at_loops: &'a Weights,
     pub at_statements: &'a Weights,
+    pub heads: bool,
 }
 
 fn expression_if(
@@ -188,6 +189,18 @@ fn head(weigher: Weigher, spot: Spot, form: &Form) -> Result<Cost, OutOfMemory>
     })
 }
 
+// A loop's head, where heads are counted: only they take a look at all that a loop comes to.
+fn counted_head(weigher: Weigher, spot: Spot, form: &Form) -> Result<Cost, OutOfMemory>
+    ensures { IfOk result (λ c. IsCounted weigher.entry.heads c (sums.head (program_view weigher.entry.program.now) tallying (placed_of weigher.entry) spot (changed_if (program_view weigher.entry.program.now) (loop_of (form_view form.now)))).cost) }
+{
+    if weigher.heads {
+        let cost = head(weigher, spot, form)?;
+        Ok(cost)
+    } else {
+        Ok(nothing())
+    }
+}
+
 // A returned value, if there is one.
 fn given(
     program: &Program,
@@ -214,7 +227,7 @@ fn statement(
     returns: Option<IntType>,
     s: &Stmt,
 ) -> Result<Cost, OutOfMemory>
-    ensures cost { IfOk result (λ c. c ≡ (sums.statement (program_view weigher.entry.program.now) tallying (placed_of weigher.entry) returns (stmt_view s.now)).cost) }
+    ensures cost { IfOk result (λ c. IsCounted weigher.entry.heads c (sums.statement (program_view weigher.entry.program.now) tallying (placed_of weigher.entry) returns (stmt_view s.now)).cost) }
     ensures calls { OnOk result (calls.new.items ≡ calls.old.items ++ (sums.statement (program_view weigher.entry.program.now) tallying (placed_of weigher.entry) returns (stmt_view s.now)).calls) }
 {
     let at = weight_at(weigher.at_statements, s.spot);
@@ -235,7 +248,7 @@ pub fn form(
     spot: Spot,
     form: &Form,
 ) -> Result<Cost, OutOfMemory>
-    ensures cost { IfOk result (λ c. c ≡ (sums.form (program_view weigher.entry.program.now) tallying (placed_of weigher.entry) returns spot (form_view form.now)).cost) }
+    ensures cost { IfOk result (λ c. IsCounted weigher.entry.heads c (sums.form (program_view weigher.entry.program.now) tallying (placed_of weigher.entry) returns spot (form_view form.now)).cost) }
     ensures calls { OnOk result (calls.new.items ≡ calls.old.items ++ (sums.form (program_view weigher.entry.program.now) tallying (placed_of weigher.entry) returns spot (form_view form.now)).calls) }
 {
     let program = weigher.program;
@@ -254,13 +267,13 @@ pub fn form(
             Ok(plus(test, plus(yes, no)))
         }
         Form::While { test, body } => {
-            let head = head(weigher, spot, form)?;
+            let head = counted_head(weigher, spot, form)?;
             let test = control(program, calls, test)?;
             let body = statement(weigher, calls, returns, body)?;
             Ok(plus(head, plus(test, body)))
         }
         Form::Do { body, test } => {
-            let head = head(weigher, spot, form)?;
+            let head = counted_head(weigher, spot, form)?;
             let body = statement(weigher, calls, returns, body)?;
             let test = control(program, calls, test)?;
             Ok(plus(head, plus(body, test)))
@@ -272,7 +285,7 @@ pub fn form(
             body,
         } => {
             let start = first(program, calls, start)?;
-            let head = head(weigher, spot, form)?;
+            let head = counted_head(weigher, spot, form)?;
             let test = control_if(program, calls, test)?;
             let step = expression_if(program, calls, step)?;
             let body = statement(weigher, calls, returns, body)?;
@@ -299,7 +312,7 @@ fn otherwise(
     returns: Option<IntType>,
     no: &Option<Box<Stmt>>,
 ) -> Result<Cost, OutOfMemory>
-    ensures cost { IfOk result (λ c. c ≡ (sums.otherwise (program_view weigher.entry.program.now) tallying (placed_of weigher.entry) returns (else_of no.now)).cost) }
+    ensures cost { IfOk result (λ c. IsCounted weigher.entry.heads c (sums.otherwise (program_view weigher.entry.program.now) tallying (placed_of weigher.entry) returns (else_of no.now)).cost) }
     ensures calls { OnOk result (calls.new.items ≡ calls.old.items ++ (sums.otherwise (program_view weigher.entry.program.now) tallying (placed_of weigher.entry) returns (else_of no.now)).calls) }
 {
     match no {
@@ -315,7 +328,7 @@ fn statements(
     returns: Option<IntType>,
     body: &[Stmt],
 ) -> Result<Cost, OutOfMemory>
-    ensures cost { IfOk result (λ c. c ≡ (sums.statements (program_view weigher.entry.program.now) tallying (placed_of weigher.entry) returns (stmts_view body.now)).cost) }
+    ensures cost { IfOk result (λ c. IsCounted weigher.entry.heads c (sums.statements (program_view weigher.entry.program.now) tallying (placed_of weigher.entry) returns (stmts_view body.now)).cost) }
     ensures calls { OnOk result (calls.new.items ≡ calls.old.items ++ (sums.statements (program_view weigher.entry.program.now) tallying (placed_of weigher.entry) returns (stmts_view body.now)).calls) }
 {
     let mut sum = nothing();
@@ -333,7 +346,7 @@ fn statements_of_arms(
     returns: Option<IntType>,
     arms: &[Arm],
 ) -> Result<Cost, OutOfMemory>
-    ensures cost { IfOk result (λ c. c ≡ (sums.statements (program_view weigher.entry.program.now) tallying (placed_of weigher.entry) returns (switch_view arms.now)).cost) }
+    ensures cost { IfOk result (λ c. IsCounted weigher.entry.heads c (sums.statements (program_view weigher.entry.program.now) tallying (placed_of weigher.entry) returns (switch_view arms.now)).cost) }
     ensures calls { OnOk result (calls.new.items ≡ calls.old.items ++ (sums.statements (program_view weigher.entry.program.now) tallying (placed_of weigher.entry) returns (switch_view arms.now)).calls) }
 {
     let mut sum = nothing();
