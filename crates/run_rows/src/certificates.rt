@@ -1,7 +1,7 @@
-// Rows of certificates: the words of `recheck` and its files, and behind them what is said of the certificate that `certify` writes for the
+// Rows of certificates: the words of `recheck` and its files, and after them what is said of the certificate that `certify` writes for the
 // files `p`, `q` and `w`.
 use crate::command_lines::{shelf, words};
-use crate::commands::{sink, told_over};
+use crate::commands::{AMPLE, sink, told_over};
 use row_files::{Files, NotTried, Row};
 use witval::run;
 use wv_base::MemorySink;
@@ -22,6 +22,6 @@ pub fn told(files: &Files<'_>, row: &Row) -> Result<String, NotTried> {
         return Err(NotTried::Lacks("a certificate"));
     }
     shelf.put("c", certificate.bytes())?;
-    let mut out = sink(alloc)?;
+    let mut out = sink(alloc, AMPLE)?;
     told_over(alloc, row, &mut shelf, &mut out)
 }
