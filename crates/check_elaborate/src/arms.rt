@@ -68,7 +68,7 @@ fn note_label(
     spot: Spot,
 )
     ensures scope { scope_at walk.new ≡ scope_at walk.old }
-    ensures noted { walk.new.best ≡ noted_part context.now.model (items_in context.now) walk.old.best (part.Choosing before.now label spot) }
+    ensures noted { walk.new.best ≡ noted_part context.now.model (items_in context.now) walk.old.best (part.ArmLabelling before.now label spot) }
     ensures kept { walk.new.kept ≡ walk.old.kept }
 {
     let _ = context;
@@ -80,7 +80,7 @@ fn note_label(
 fn note_constant(context: &Context, walk: &mut Walk, e: &RawExpr, typed: &Expr)
     requires { typed_view typed.now ≡ typing.typed context.now.model (bodies_in context.now) (seen (scope_at walk.old)) (expr_view e.now) }
     ensures scope { scope_at walk.new ≡ scope_at walk.old }
-    ensures noted { walk.new.best ≡ noted_part context.now.model (items_in context.now) walk.old.best (part.Selecting (seen (scope_at walk.old)) (expr_view e.now)) }
+    ensures noted { walk.new.best ≡ noted_part context.now.model (items_in context.now) walk.old.best (part.CaseConstant (seen (scope_at walk.old)) (expr_view e.now)) }
     ensures kept { walk.new.kept ≡ walk.old.kept }
 {
     let mistyped = constant(context.model, typed).is_none();

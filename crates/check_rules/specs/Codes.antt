@@ -23,7 +23,7 @@ use Rattle.check_rules.specs.Names.{Kind, Entry, entry, built_in, named, is_func
 use Rattle.check_rules.specs.Constants.{constant, constant_type}
 use Rattle.check_rules.specs.Typed.{typed}
 use Rattle.check_rules.specs.Scopes.{Scope, seen, most_cells, dims_of, object_of, sizes_of}
-use Rattle.check_rules.specs.Parts.{Role, Value, Target, Effect, Part, Expression, Declaring, Naming, Initializing, Returning, Leaving, Labelling, Choosing, Selecting, bodies_of}
+use Rattle.check_rules.specs.Parts.{Role, Value, Target, Effect, Part, Expression, Declaring, Naming, Initializing, Returning, Leaving, Labelling, ArmLabelling, CaseConstant, bodies_of}
 
 -- one of these names
 abbrev pub is_among : List (List ℕ) → List ℕ → Bool
@@ -120,7 +120,7 @@ abbrev pub doubled : Part → Bool
 doubled (Declaring fixed s d) = is_again s (entry_of fixed s d)
 doubled (Naming s e p) = is_again s e || alters (built_in e.name) e.kind
 doubled (Labelling before w p) = is_among before w
-doubled (Choosing before l p) = is_chosen before l
+doubled (ArmLabelling before l p) = is_chosen before l
 doubled _ = false
 
 -- an array without index, or a function without a call
@@ -274,7 +274,7 @@ module _ (m : DataModel) (items : List raw.Item) where
   mistyped (Initializing fixed s e) = fixed && is_none (constant m (typed m (bodies_of items) (seen s) e))
   mistyped (Returning result p given) = is_wrong_return result given
   mistyped (Leaving may p) = not may
-  mistyped (Selecting es e) = is_none (constant m (typed m (bodies_of items) es e))
+  mistyped (CaseConstant es e) = is_none (constant m (typed m (bodies_of items) es e))
   mistyped _ = false
 
   -- ---- sizes
@@ -318,8 +318,8 @@ place_of (Initializing fixed s e) = start e
 place_of (Returning result p given) = p
 place_of (Leaving may p) = p
 place_of (Labelling before w p) = p
-place_of (Choosing before l p) = p
-place_of (Selecting es e) = start e
+place_of (ArmLabelling before l p) = p
+place_of (CaseConstant es e) = start e
 
 -- that a word names nothing is told at the word
 abbrev pub place_of_name : Part → Spot

@@ -15,7 +15,7 @@ use Rattle.c_parser.specs.Tree as raw
 use Rattle.c_parser.specs.Formed.{constant_fits, assignment_fits, IsFormed}
 use Rattle.check_rules.specs.Names.{Entry}
 use Rattle.check_rules.specs.Scopes.{seen, object_of, after_items, outermost}
-use Rattle.check_rules.specs.Parts.{Part, Expression, Declaring, Naming, Initializing, Returning, Leaving, Labelling, Choosing, Selecting, parts_of_source, bodies_of}
+use Rattle.check_rules.specs.Parts.{Part, Expression, Declaring, Naming, Initializing, Returning, Leaving, Labelling, ArmLabelling, CaseConstant, parts_of_source, bodies_of}
 use Rattle.check_rules.specs.Codes.{is_among, closed_names, cells_in}
 use Rattle.check_rules.specs.First.{IsUnrefused, wrong_main}
 use Rattle.check_rules.specs.Checked.{starts_of, program_of}
@@ -55,8 +55,8 @@ module _ (objects : List Object) (entries : List Entry) (hidden : List (List ℕ
   placed_all os (Returning result p given ∷ ps) h e = (tt, placed_all os ps (subst (λ l. AreBehind m bodies l ps) (append-nil os) h.1) e)
   placed_all os (Leaving may p ∷ ps) h e = (tt, placed_all os ps (subst (λ l. AreBehind m bodies l ps) (append-nil os) h.1) e)
   placed_all os (Labelling before w p ∷ ps) h e = (tt, placed_all os ps (subst (λ l. AreBehind m bodies l ps) (append-nil os) h.1) e)
-  placed_all os (Choosing before l p ∷ ps) h e = (tt, placed_all os ps (subst (λ l. AreBehind m bodies l ps) (append-nil os) h.1) e)
-  placed_all os (Selecting es v ∷ ps) h e = (tt, placed_all os ps (subst (λ l. AreBehind m bodies l ps) (append-nil os) h.1) e)
+  placed_all os (ArmLabelling before l p ∷ ps) h e = (tt, placed_all os ps (subst (λ l. AreBehind m bodies l ps) (append-nil os) h.1) e)
+  placed_all os (CaseConstant es v ∷ ps) h e = (tt, placed_all os ps (subst (λ l. AreBehind m bodies l ps) (append-nil os) h.1) e)
 
 module _ (p : t.Program) (items : List raw.Item) (entries : List Entry) where
   all_good : (ps : List Part) → AllOf (IsFair p.model items) ps → AllOf (Knows p.objects entries (closed_names items)) ps → AllOf (IsPlaced p.objects entries (closed_names items) p.model (bodies_of items)) ps → AllOf (Passes constant_fits) ps → AllOf (Passes assignment_fits) ps → AllOf (IsGood p items entries) ps

@@ -13,7 +13,7 @@ use Rattle.check_rules.specs.Names.{Entry}
 use Rattle.check_rules.specs.Constants.{constant}
 use Rattle.check_rules.specs.Typed.{typed}
 use Rattle.check_rules.specs.Scopes.{seen, as_size, cells_or_one, cells_of, columns_of, dims_of, most_cells, object_of}
-use Rattle.check_rules.specs.Parts.{Part, Expression, Declaring, Naming, Initializing, Returning, Leaving, Labelling, bodies_of, Choosing, Selecting}
+use Rattle.check_rules.specs.Parts.{Part, Expression, Declaring, Naming, Initializing, Returning, Leaving, Labelling, bodies_of, ArmLabelling, CaseConstant}
 use Rattle.check_rules.specs.Codes.{cells_in, passes_limit}
 use Rattle.check_wellformed.proofs.Lists.{AllOf, both, append-nil, append-assoc}
 use Rattle.check_wellformed.proofs.Fair.{IsFair}
@@ -53,8 +53,8 @@ module _ (m : DataModel) (bodies : List (List ℕ)) where
   declared_fit (Returning result p given ∷ ps) = declared_fit ps
   declared_fit (Leaving may p ∷ ps) = declared_fit ps
   declared_fit (Labelling before w p ∷ ps) = declared_fit ps
-  declared_fit (Choosing before l p ∷ ps) = declared_fit ps
-  declared_fit (Selecting es e ∷ ps) = declared_fit ps
+  declared_fit (ArmLabelling before l p ∷ ps) = declared_fit ps
+  declared_fit (CaseConstant es e ∷ ps) = declared_fit ps
 
 within_limit : (before cells : ℕ) → before ≤ most_declared_cells → passes_limit before cells ≡ false → before + cells ≤ most_declared_cells
 within_limit before cells h p = grind (arith, nat_tests)
@@ -76,5 +76,5 @@ module _ (m : DataModel) (items : List raw.Item) where
   cells_below os (Returning result p given ∷ ps) f h k = cells_below os ps f.1 (subst (λ l. AreBehind m (bodies_of items) l ps) (append-nil os) h.1) k
   cells_below os (Leaving may p ∷ ps) f h k = cells_below os ps f.1 (subst (λ l. AreBehind m (bodies_of items) l ps) (append-nil os) h.1) k
   cells_below os (Labelling before w p ∷ ps) f h k = cells_below os ps f.1 (subst (λ l. AreBehind m (bodies_of items) l ps) (append-nil os) h.1) k
-  cells_below os (Choosing before l p ∷ ps) f h k = cells_below os ps f.1 (subst (λ l. AreBehind m (bodies_of items) l ps) (append-nil os) h.1) k
-  cells_below os (Selecting es e ∷ ps) f h k = cells_below os ps f.1 (subst (λ l. AreBehind m (bodies_of items) l ps) (append-nil os) h.1) k
+  cells_below os (ArmLabelling before l p ∷ ps) f h k = cells_below os ps f.1 (subst (λ l. AreBehind m (bodies_of items) l ps) (append-nil os) h.1) k
+  cells_below os (CaseConstant es e ∷ ps) f h k = cells_below os ps f.1 (subst (λ l. AreBehind m (bodies_of items) l ps) (append-nil os) h.1) k
