@@ -227,12 +227,16 @@ closed_names (raw.Closed p name ∷ rest) = name ∷ closed_names rest
 closed_names (item ∷ rest) = closed_names rest
 
 -- the cells of objects together
-abbrev pub cells_in : List Object → ℕ
-cells_in objects = sum_by (λ o. o.cells) objects
+abbrev pub cells_of_all : List Object → ℕ
+cells_of_all objects = sum_by (λ o. o.cells) objects
 
 -- the limit on cells is passed with this object
 abbrev pub passes_limit : ℕ → ℕ → Bool
 passes_limit before cells = nat_le before most_declared_cells && nat_lt most_declared_cells (before + cells)
+
+-- it was passed before, or is passed with this object
+abbrev pub is_over_limit : ℕ → ℕ → Bool
+is_over_limit before cells = nat_lt most_declared_cells before || passes_limit before cells
 
 module _ (m : DataModel) (items : List raw.Item) where
   -- ---- types
@@ -304,7 +308,7 @@ module _ (m : DataModel) (items : List raw.Item) where
 
   -- the declaration that brings the sum over the limit
   abbrev pub crowded : Part → Bool
-  crowded (Declaring fixed s d) = passes_limit (cells_in s.objects) (object_of m (bodies_of items) fixed (seen s) d).cells
+  crowded (Declaring fixed s d) = passes_limit (cells_of_all s.objects) (object_of m (bodies_of items) fixed (seen s) d).cells
   crowded _ = false
 
 -- ---- places
