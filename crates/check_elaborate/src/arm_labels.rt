@@ -1,5 +1,5 @@
 // The labels of the arms of a `switch`, of which none may stand twice (C11 6.8.4.2p3).
-ghost use Rattle.std.specs.Prelude.{◌≡◌, ◌∷◌, ◌++◌, ◌||◌, ℤ, [], Some, OnOk};
+ghost use Rattle.std.specs.Prelude.{◌≡◌, ◌∷◌, ◌++◌, ◌||◌, ℤ, [], Some, None, OnOk};
 ghost use Rattle.std.specs.BTreeSet.{contains};
 ghost use Rattle.std.specs.Ordering.{int_cmp, int_eq};
 ghost use Rattle.std.specs.List.{list_any};
@@ -86,6 +86,15 @@ impl ArmLabels {
         Ok(())
     }
 
+    fn push_none(&mut self) -> Result<(), OutOfMemory>
+        requires { AreFound self.old }
+        ensures all { OnOk result (self.new.all ≡ self.old.all ++ None ∷ []) }
+        ensures found { OnOk result (AreFound self.new) }
+    {
+        self.all.push(None)?;
+        Ok(())
+    }
+
     /// Adds a label.
     pub fn push(&mut self, label: Option<Label>) -> Result<(), OutOfMemory>
         requires { AreFound self.old }
@@ -93,10 +102,16 @@ impl ArmLabels {
         ensures found { OnOk result (AreFound self.new) }
     {
         match label {
-            Some(Label::Case(constant)) => self.push_constant(constant),
-            Some(Label::Default) => self.push_default(),
+            Some(Label::Case(constant)) => {
+                self.push_constant(constant)?;
+                Ok(())
+            }
+            Some(Label::Default) => {
+                self.push_default()?;
+                Ok(())
+            }
             None => {
-                self.all.push(None)?;
+                self.push_none()?;
                 Ok(())
             }
         }
