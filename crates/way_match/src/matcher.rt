@@ -6,6 +6,7 @@ ghost use Rattle.way_match.specs.inside.Steps.{Matching, begun, after, after_all
 ghost use Rattle.way_match.specs.View.{segments_view};
 ghost use Rattle.way_match.specs.declared.point.Bound.{Bound};
 
+use crate::avoided::Avoids;
 use crate::by_place::ByPlace;
 use crate::point::Bound;
 use crate::prepared::{Prepared, prepare};
@@ -24,6 +25,7 @@ pub struct Matcher<'a> {
     bound: &'a Bound,
     prepared: Seq<Prepared>,
     by_place: ByPlace,
+    avoids: Avoids,
     states: States,
     room: Vec<u64>,
     count: u64,
@@ -44,7 +46,7 @@ impl<'a> Model for Matcher<'a> {
 
     ghost view = { λ m. record { program = m.program.now; bound = m.bound.now; count = m.count; ways = ways_of m.states.nodes.items 0 m.states.live.items } };
 
-    ghost invariant = { λ m. Shaped (program_view m.program.now) m.bound.now.segments m.prepared m.by_place m.states m.room.items };
+    ghost invariant = { λ m. Shaped (program_view m.program.now) m.bound.now.segments m.prepared m.by_place m.avoids m.states m.room.items };
 }
 
 impl<'a> Matcher<'a> {
@@ -67,6 +69,7 @@ impl<'a> Matcher<'a> {
             bound,
             prepared: prepare(alloc, &places, segments)?,
             by_place: ByPlace::of(alloc, segments)?,
+            avoids: Avoids::of(alloc, segments)?,
             states: States::new(alloc, segments.len())?,
             room,
             count: 0,
@@ -119,6 +122,7 @@ impl<'a> Watcher for Matcher<'a> {
             self.bound.segments.as_slice(),
             self.prepared.as_slice(),
             &self.by_place,
+            &self.avoids,
             event,
             memory,
             self.count,
