@@ -11,7 +11,7 @@ use Rattle.way_match.specs.View.{each_segment_view, segment_view}
 use Rattle.way_match.specs.declared.point.BoundSegment as declared
 use Rattle.way_match.specs.declared.states.Node.{Node}
 use Rattle.way_match.specs.inside.Arena.{way_of, ways_of, IsBlank}
-use Rattle.way_match.specs.inside.Resting.{avoids_in, follows_in, is_live, is_next_live, opens_at, moves_at, is_still, AreStill, AvoidsNone, LeavesAll}
+use Rattle.way_match.specs.inside.Resting.{avoids_in, follows_in, is_live, is_next_live, opens_at, is_still, AreStill, AvoidsNone, LeavesAll}
 use Rattle.way_match.specs.inside.Steps.{is_there, only_if, way_now, step}
 use Rattle.way_match.specs.inside.Turning.{ArePassed}
 use Rattle.way_match.proofs.Passed.{within_of}

@@ -1,5 +1,5 @@
 -- Trees that are the same so far, and with one more.
-use Rattle.std.proofs.Common.{◌≡◌, ℕ, zero, suc, ◌+◌, ◌<◌, List, [], ◌∷◌, length, take, get_or, refl, sym, ◌∙◌, ap, arith, add-one}
+use Rattle.std.proofs.Common.{◌≡◌, ℕ, zero, suc, ◌+◌, ◌<◌, List, [], ◌∷◌, length, take, get_or, refl, ◌∙◌, ap, arith, add-one}
 use Rattle.c_core.specs.Tree.{Exp, Exps, NoExp, MoreExp}
 use Rattle.c_core.specs.View.{expr_view, exprs_view}
 use Rattle.c_core.specs.declared.tree.Expr.{Expr}

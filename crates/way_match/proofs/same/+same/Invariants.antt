@@ -1,4 +1,4 @@
-use Rattle.std.proofs.Common.{◌≡◌, ◌≤◌, length, take}
+use Rattle.std.proofs.Common.{◌≡◌, take}
 use Rattle.c_core.specs.View.{exprs_view}
 use Rattle.way_match.proofs.same.+same.Given as goal
 

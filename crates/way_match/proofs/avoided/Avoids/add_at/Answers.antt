@@ -1,4 +1,4 @@
-use Rattle.std.proofs.Common.{◌∙◌, refl}
+use Rattle.std.proofs.Common.{◌∙◌}
 use Rattle.way_match.specs.View.{each_segment_view, point_view}
 use Rattle.way_match.specs.inside.Avoided.{avoids_in}
 use Rattle.way_match.proofs.AvoidLaws.{itself_there, on_ok, pushed_longer, stands_last}

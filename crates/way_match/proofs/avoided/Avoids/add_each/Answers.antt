@@ -1,6 +1,5 @@
-use Rattle.std.proofs.Common.{◌≡◌, inl, inr, ◌<◌, ◌+◌, length, get_or, refl, sym, ◌∙◌, ap, subst, arith, Some}
+use Rattle.std.proofs.Common.{arith}
 use Rattle.way_match.specs.View.{each_segment_view}
-use Rattle.way_match.specs.declared.point.BoundSegment.{BoundSegment}
 use Rattle.way_match.proofs.AvoidLaws.{avoid_beyond, avoid_here, longer_same, longer_then, one_there}
 use Rattle.way_match.specs.inside.Avoided.{avoids_in}
 use Rattle.way_match.proofs.avoided.Avoids.add_each.Goals as goal

@@ -1,4 +1,3 @@
-use Rattle.std.proofs.Common.{rules}
 use Rattle.way_match.proofs.RestLaws.{passed_still}
 use Rattle.way_match.proofs.states.States.calm.Goals as goal
 

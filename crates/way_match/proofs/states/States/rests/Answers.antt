@@ -1,4 +1,4 @@
-use Rattle.std.proofs.Common.{◌≡◌, true, Option, Some, sym, ◌∙◌, ap, subst, List}
+use Rattle.std.proofs.Common.{◌≡◌, Option, Some, sym, ◌∙◌, ap, subst, List}
 use Rattle.c_core.specs.declared.number.Spot.{Spot}
 use Rattle.way_match.specs.declared.avoided.Avoided.{Avoided}
 use Rattle.way_match.specs.inside.Avoided.{Stands}
