@@ -1,0 +1,31 @@
+-- Sets of invariants, by their numbers in witness order, from 1.
+use Rattle.std.specs.Prelude.{◌≡◌, ◌≤◌, ◌<◌, ℕ, suc, nat_eq, Bool, true, cond, List, [], ◌∷◌}
+use Rattle.std.specs.List.{All, list_any}
+use Rattle.c_meaning.specs.Duties.{Placed}
+
+-- a number is one of these
+abbrev pub is_among : ℕ → List ℕ → Bool
+is_among n ns = list_any (nat_eq n) ns
+
+-- of invariants numbered from i on, those with these numbers
+abbrev pub picked_from : ℕ → List ℕ → List Placed → List Placed
+picked_from i ns [] = []
+picked_from i ns (x ∷ xs) = cond (is_among i ns) (x ∷ picked_from (suc i) ns xs) (picked_from (suc i) ns xs)
+
+-- the invariants with these numbers, in witness order
+abbrev pub picked : List ℕ → List Placed → List Placed
+picked ns I = picked_from 1 ns I
+
+-- numbers rise, the first of them above the last before
+abbrev pub Rise : ℕ → List ℕ → Type 0
+Rise last [] = Unit {0}
+Rise last (n ∷ ns) = (last < n) × Rise n ns
+
+-- a set of so many invariants: numbers from 1 on that rise
+pub record IsSelection (count : ℕ) (ns : List ℕ) : Type 0 where
+  pub rising : Rise 0 ns
+  pub within : All (λ n. n ≤ count) ns
+
+-- each of these numbers is one of those
+abbrev pub IsPartOf : List ℕ → List ℕ → Type 0
+IsPartOf ms ns = (n : ℕ) → is_among n ms ≡ true → is_among n ns ≡ true
