@@ -21,7 +21,7 @@ use Rattle.c_meaning.specs.declared.run.DrawKind.{DrawKind}
 use Rattle.c_meaning.specs.declared.run.DrawKind.TheVariants.{Input, Cell, Havoc}
 use Rattle.c_meaning.specs.declared.run.Given.{Given as GivenAt}
 use Rattle.c_meaning.proofs.DrawsFit.{draws_fit}
-use Rattle.author_runs.specs.Giving.{is_input, is_input_at, input_values_at, values_given_at, GivesDraws, IsZeroUnlessInput, OthersDrewZero, others_among, IsSameRun}
+use Rattle.author_runs.specs.Giving.{is_input, is_input_at, input_values_at, values_given_at, GivesDraws, IsZeroUnlessInput, OthersDrewZero, IsSameRun}
 use Rattle.author_runs.proofs.Answered.{Left, Answers, after_all, answered_run}
 
 one_place : (a b : Spot) → same_spot a b ≡ true → a ≡ b
@@ -65,7 +65,8 @@ kept_elsewhere spot other h (g ∷ gs) = by (same_spot g.spot spot) refl (kept_e
     off e = subst (λ s. same_spot s other ≡ false) (sym e) h
 
     -- an entry of another place isn't asked
-    passed : g.spot ≡ spot → (vs : List ℤ) → cond (same_spot g.spot other) vs (values_given_at other gs) ≡ values_given_at other gs
+    passed : g.spot ≡ spot → (vs : List ℤ)
+        → cond (same_spot g.spot other) vs (values_given_at other gs) ≡ values_given_at other gs
     passed e vs = ap (λ b. cond b vs (values_given_at other gs)) (off e)
 
     by : (b : Bool) → same_spot g.spot spot ≡ b → values_given_at other (given_after spot gs) ≡ values_given_at other gs
@@ -92,7 +93,8 @@ drew_first : (d : Draw) (ds : List Draw) (spot : Spot) (b : Bool) → is_input d
 drew_first d ds spot b i e = ap (λ t. values_by t spot d ds) (both_are (is_input d.from) (same_spot d.spot spot) b i e)
 
 -- after a draw from an input
-begins_after : (d : Draw) (ds : List Draw) (gs : List GivenAt) → is_input d.from ≡ true → Begins gs (d ∷ ds) → Begins (given_after d.spot gs) ds
+begins_after : (d : Draw) (ds : List Draw) (gs : List GivenAt) → is_input d.from ≡ true → Begins gs (d ∷ ds)
+    → Begins (given_after d.spot gs) ds
 begins_after d ds gs i g spot = by (same_spot d.spot spot) refl
   where
     rest : List ℤ
@@ -101,12 +103,16 @@ begins_after d ds gs i g spot = by (same_spot d.spot spot) refl
     given : (b : Bool) → same_spot d.spot spot ≡ b → values_given_at spot gs ≡ values_by b spot d ds ++ rest
     given b e = (g spot).1 ∙ ap (λ vs. vs ++ rest) (drew_first d ds spot b i e)
 
-    by : (b : Bool) → same_spot d.spot spot ≡ b → (left : List ℤ) × (values_given_at spot (given_after d.spot gs) ≡ input_values_at spot ds ++ left)
-    by true e = (rest, ap (λ s. values_given_at spot (given_after s gs)) (one_place d.spot spot e) ∙ taken_here spot gs ∙ ap other_values (given true e))
+    by : (b : Bool) → same_spot d.spot spot ≡ b
+        → (left : List ℤ) × (values_given_at spot (given_after d.spot gs) ≡ input_values_at spot ds ++ left)
+    by true e =
+        let here = ap (λ s. values_given_at spot (given_after s gs)) (one_place d.spot spot e) in
+        (rest, here ∙ taken_here spot gs ∙ ap other_values (given true e))
     by false e = (rest, kept_elsewhere d.spot spot e gs ∙ given false e)
 
 -- the value of an input that draws first is the one given next at its place
-given_next : (d : Draw) (ds : List Draw) (gs : List GivenAt) → is_input d.from ≡ true → Begins gs (d ∷ ds) → given_at d.spot gs ≡ Some d.value
+given_next : (d : Draw) (ds : List Draw) (gs : List GivenAt) → is_input d.from ≡ true → Begins gs (d ∷ ds)
+    → given_at d.spot gs ≡ Some d.value
 given_next d ds gs i g =
     let from_it = drew_first d ds d.spot true i (same_spot-self d.spot) in
     given_first d.spot gs ∙ ap first_value ((g d.spot).1 ∙ ap (λ vs. vs ++ (g d.spot).0) from_it)
@@ -126,25 +132,33 @@ zero_drawn : (m : DataModel) (ty : IntType) (v : ℤ) → v ≡ pos 0 → fit m 
 zero_drawn m ty v z f = ap (fit m ty) (sym z) ∙ f
 
 -- a draw, where the lists answer the draws after it
-gives_one : (m : DataModel) (kind : DrawKind) (spot : Spot) (ty : IntType) (v : ℤ) (ds : List Draw) (gs : List GivenAt) (n : ℕ)
-    → IsZeroUnlessInput kind v → fit m ty v ≡ v → ((hs : List GivenAt) (k : ℕ) → Begins hs ds → Gives m ds hs k)
-    → Begins gs (record { spot = spot; ty = ty; value = v; from = kind } ∷ ds) → Gives m (record { spot = spot; ty = ty; value = v; from = kind } ∷ ds) gs n
+gives_one : (m : DataModel) (kind : DrawKind) (spot : Spot) (ty : IntType) (v : ℤ) (ds : List Draw) (gs : List GivenAt)
+    (n : ℕ) → IsZeroUnlessInput kind v → fit m ty v ≡ v → ((hs : List GivenAt) (k : ℕ) → Begins hs ds → Gives m ds hs k)
+    → Begins gs (record { spot = spot; ty = ty; value = v; from = kind } ∷ ds)
+    → Gives m (record { spot = spot; ty = ty; value = v; from = kind } ∷ ds) gs n
 gives_one m Input spot ty v ds gs n z e more g =
     let d : Draw = record { spot = spot; ty = ty; value = v; from = Input } in
     let next : given_at spot gs ≡ Some v = given_next d ds gs refl g in
     let rest = more (given_after spot gs) (n + one_if_none (given_at spot gs)) (begins_after d ds gs refl g) in
-    ((ap (λ o. fit m ty (or_zero o)) next ∙ e, rest.0), rest.1 ∙ ap (λ o. fold more_others (n + one_if_none o) ds) next)
-gives_one m Cell spot ty v ds gs n z e more g = let rest = more gs (n + 1) g in ((zero_drawn m ty v z e, rest.0), rest.1)
-gives_one m Havoc spot ty v ds gs n z e more g = let rest = more gs (n + 1) g in ((zero_drawn m ty v z e, rest.0), rest.1)
+    let counted = ap (λ o. fold more_others (n + one_if_none o) ds) next in
+    ((ap (λ o. fit m ty (or_zero o)) next ∙ e, rest.0), rest.1 ∙ counted)
+gives_one m Cell spot ty v ds gs n z e more g =
+    let rest = more gs (n + 1) g in ((zero_drawn m ty v z e, rest.0), rest.1)
+gives_one m Havoc spot ty v ds gs n z e more g =
+    let rest = more gs (n + 1) g in ((zero_drawn m ty v z e, rest.0), rest.1)
 
+-- what drew something else than 0 is an input
 abbrev IsZeroOrInput : Draw → Type 0
 IsZeroOrInput d = IsZeroUnlessInput d.from d.value
 
-gives_all : (m : DataModel) (ds : List Draw) (gs : List GivenAt) (n : ℕ) → All IsZeroOrInput ds → All (IsFitting m) ds → Begins gs ds → Gives m ds gs n
+gives_all : (m : DataModel) (ds : List Draw) (gs : List GivenAt) (n : ℕ) → All IsZeroOrInput ds → All (IsFitting m) ds
+    → Begins gs ds → Gives m ds gs n
 gives_all m [] gs n z f g = (tt, refl)
 gives_all m (d ∷ ds) gs n z f g =
-    gives_one m d.from d.spot d.ty d.value ds gs n (All-head IsZeroOrInput d ds z) (fit_kept m d.ty d.value (All-head (IsFitting m) d ds f))
-    (λ hs k h. gives_all m ds hs k (All-tail IsZeroOrInput d ds z) (All-tail (IsFitting m) d ds f) h) g
+    let zeros = All-tail IsZeroOrInput d ds z in
+    let fits = All-tail (IsFitting m) d ds f in
+    gives_one m d.from d.spot d.ty d.value ds gs n (All-head IsZeroOrInput d ds z)
+    (fit_kept m d.ty d.value (All-head (IsFitting m) d ds f)) (λ hs k h. gives_all m ds hs k zeros fits h) g
 
 -- ---- runs
 
@@ -155,9 +169,11 @@ begins_exactly : (vs ws : List ℤ) → ((vs ≡ [] → ⊥) → ws ≡ vs) → 
 begins_exactly [] ws h = (ws, refl)
 begins_exactly (v ∷ vs) ws h = ([], h (some_value v vs) ∙ sym (append-nil (v ∷ vs)))
 
-pub given_by_place : (p : Program) (c : Choices) (N : ℕ) (gs : List GivenAt) → OthersDrewZero (Run p c N).draws → GivesDraws gs (Run p c N).draws → IsSameRun p c (Given gs) N
+pub given_by_place : (p : Program) (c : Choices) (N : ℕ) (gs : List GivenAt) → OthersDrewZero (Run p c N).draws
+    → GivesDraws gs (Run p c N).draws → IsSameRun p c (Given gs) N
 given_by_place p c N gs z g =
     let ds = (Run p c N).draws in
-    let r = gives_all p.model ds gs 0 z (draws_fit p c N).in_types (λ spot. begins_exactly (input_values_at spot ds) (values_given_at spot gs) (g spot)) in
+    let begins : Begins gs ds = λ spot. begins_exactly (input_values_at spot ds) (values_given_at spot gs) (g spot) in
+    let r = gives_all p.model ds gs 0 z (draws_fit p c N).in_types begins in
     let a = answered_run p c (Given gs) N r.0 in
     record { run = a.0 ∙ ap (λ n. record (Run p c N) { unfixed = n }) r.1; moments = a.1 }

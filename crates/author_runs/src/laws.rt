@@ -7,8 +7,9 @@ ghost use Rattle.c_meaning.specs.declared.run.Choices.{Choices};
 ghost use Rattle.c_meaning.specs.declared.run.Choices.TheVariants.{Given};
 ghost use Rattle.c_meaning.specs.declared.run.Given.{Given as GivenAt};
 
-/// A run in which only inputs drew something else than 0 is the run that is given, at each place, the values that its inputs drew there. This holds for
-/// every choice of values, and so for values taken in turn.
+/// A run in which only inputs drew something else than 0 is the run that is given, at each place, the values that its
+/// inputs drew there. This holds for every choice of values, and so for values taken in turn.
 pub fn values_by_place_replay()
-    ensures { (p : Program) (c : Choices) (N : ℕ) (gs : List GivenAt) → OthersDrewZero (Run p c N).draws → GivesDraws gs (Run p c N).draws → IsSameRun p c (Given gs) N }
+    ensures { (p : Program) (c : Choices) (N : ℕ) (gs : List GivenAt) → OthersDrewZero (Run p c N).draws
+        → GivesDraws gs (Run p c N).draws → IsSameRun p c (Given gs) N }
 {}
