@@ -1,0 +1,15 @@
+// Laws, each the contract of a function without a body.
+ghost use Rattle.std.specs.Prelude.{ℕ, List};
+ghost use Rattle.author_runs.specs.Giving.{GivesDraws, OthersDrewZero, IsSameRun};
+ghost use Rattle.c_core.specs.Tree.{Program};
+ghost use Rattle.c_meaning.specs.Run.{Run};
+ghost use Rattle.c_meaning.specs.declared.run.Choices.{Choices};
+ghost use Rattle.c_meaning.specs.declared.run.Choices.TheVariants.{Given};
+ghost use Rattle.c_meaning.specs.declared.run.Given.{Given as GivenAt};
+
+/// A run in which only inputs drew something else than 0 is the run that is given, at each place, the values that its
+/// inputs drew there. This holds for every choice of values, and so for values taken in turn.
+pub fn values_by_place_replay()
+    ensures { (p : Program) (c : Choices) (N : ℕ) (gs : List GivenAt) → OthersDrewZero (Run p c N).draws
+        → GivesDraws gs (Run p c N).draws → IsSameRun p c (Given gs) N }
+{}
