@@ -1,55 +1,60 @@
 -- What is answered for values, by their run.
-use Rattle.std.proofs.Common.{◌≡◌, refl, sym, ap, subst, ◌∙◌, ℕ, ℤ, Bool, true, false, List, [], ◌∷◌, ◌++◌, Option, Some, None, Result, Ok, Err}
+use Rattle.std.proofs.Common.{◌≡◌, refl, sym, ap, subst, ◌∙◌, ℕ, ℤ, Bool, true, false, List, [], ◌∷◌, ◌++◌, map, Option, Some, None, Result, Ok, Err, append_assoc}
+use Rattle.std.proofs.lemmas.List.{append-nil}
 use Rattle.std.specs.List.{cons_option}
-use Rattle.c_core.specs.Tree.{Program}
+use Rattle.c_core.specs.Tree as t
+use Rattle.c_core.specs.View.{program_view}
 use Rattle.c_core.specs.declared.number.Spot.{Spot}
+use Rattle.c_core.specs.declared.program.Program.{Program}
 use Rattle.c_meaning.specs.Cells.{Cell}
 use Rattle.c_meaning.specs.Run.{Moment, Told, Here, Head}
 use Rattle.c_meaning.specs.Watching.{seen_after}
-use Rattle.c_meaning.specs.declared.run.Draw.{Draw}
-use Rattle.c_meaning.specs.declared.run.DrawKind.{DrawKind}
-use Rattle.c_meaning.specs.declared.run.DrawKind.TheVariants.{Input, Cell as CellDraw, Havoc}
 use Rattle.c_meaning.specs.declared.run.End.{End}
 use Rattle.c_meaning.specs.declared.run.End.TheVariants.{Ended, Undefined, Violated, Spent, Deep}
-use Rattle.c_meaning.specs.declared.run.Event.{Event}
 use Rattle.c_meaning.specs.declared.run.Run.{Run as Made}
-use Rattle.way_places.specs.Calls.{list_if}
+use Rattle.author_runs.specs.Returning.{CameBack, back_by, returns_in, violated_among, violated_in}
 use Rattle.wv_schema.specs.declared.witness.Segment.{Segment}
-use Rattle.wv_author.specs.Authored.{Authors, IsAuthored, IsViolated, MomentsOf, RunOf, end_of_input, first_free, returning_if, segment_by, segments_of_draws, target_of, violated_among, violated_in}
+use Rattle.wv_author.specs.Authored.{Authors, IsAuthored, IsViolated, MomentsOf, RunOf, first_free, returning_of, target_of}
 use Rattle.wv_author.specs.declared.authoring.AuthorFault.{AuthorFault}
 use Rattle.wv_author.specs.declared.authoring.AuthorFault.TheVariants.{NotViolated, CellValue}
-use Rattle.wv_author.specs.inside.Ends.{fixed_by, is_violated, segment_at, segments_by}
+use Rattle.wv_author.specs.declared.recording.Returned.{Returned}
+use Rattle.wv_author.specs.inside.Recording.{Recorded, after_event, fixed_by, is_violated, kept_if, kept_of, segment_of}
 
--- ---- what is seen, and what the segments of draws are
+-- ---- what is kept of the moments of a run
 
-pub seen_violated : (before : Option Spot) (xs : List Moment) → seen_after (λ (e : Event) (cells : List Cell) (s : Option Spot). violated_in e s) before xs ≡ violated_among before xs
-seen_violated before [] = refl
-seen_violated before (Told e cells ∷ xs) = seen_violated (violated_in e before) xs
-seen_violated before (Here spot cells ∷ xs) = seen_violated before xs
-seen_violated before (Head at l arrived cells ∷ xs) = seen_violated before xs
+-- of a list that is made one by one
+kept_more : (b : Option CameBack) (bs : List CameBack) → kept_if b ++ map kept_of bs ≡ map kept_of (cons_option b bs)
+kept_more None bs = refl
+kept_more (Some b) bs = refl
 
-one : {A : Type 0} (o : Option A) (l m : List A) → l ≡ m → list_if o ++ l ≡ cons_option o m
-one None l m e = e
-one (Some a) l m e = ap (λ k. a ∷ k) e
+abbrev recorded : Program → List Returned → Option Spot → Recorded
+recorded program returned statement = record { program = program; returned = returned; statement = statement }
 
-module _ (p : Program) (file : List ℕ) (end : Spot → Option Spot) (ends : (q : Spot) → end q ≡ end_of_input p q) where
-  segment_same : (kind : DrawKind) (d : Draw) → segment_at file kind d.value (end d.spot) ≡ segment_by p file kind d
-  segment_same Input d = ap (returning_if file d.value) (ends d.spot)
-  segment_same CellDraw d = refl
-  segment_same Havoc d = refl
+module _ (program : Program) where
+  abbrev p : t.Program
+  p = program_view program
 
-  pub segments_same : (ds : List Draw) → segments_by end file ds ≡ segments_of_draws p file ds
-  segments_same [] = refl
-  segments_same (d ∷ ds) =
-      ap (λ o. list_if o ++ segments_by end file ds) (segment_same d.from d)
-      ∙ one (segment_by p file d.from d) (segments_by end file ds) (segments_of_draws p file ds) (segments_same ds)
+  -- what is kept of moments, after what was kept before
+  pub kept_after : (xs : List Moment) (before : List Returned) (statement : Option Spot)
+      → seen_after after_event (recorded program before statement) xs ≡ recorded program (before ++ map kept_of (returns_in p xs)) (violated_among statement xs)
+  kept_after [] before statement = ap (λ l. recorded program l statement) (sym (append-nil before))
+  kept_after (Told e cells ∷ xs) before statement =
+      kept_after xs (before ++ kept_if (back_by p e)) (violated_in e statement)
+      ∙ ap (λ l. recorded program l (violated_among (violated_in e statement) xs))
+        (append_assoc before (kept_if (back_by p e)) (map kept_of (returns_in p xs)) ∙ ap (λ l. before ++ l) (kept_more (back_by p e) (returns_in p xs)))
+  kept_after (Here spot cells ∷ xs) before statement = kept_after xs before statement
+  kept_after (Head at l arrived cells ∷ xs) before statement = kept_after xs before statement
+
+segments_kept : (file : List ℕ) (bs : List CameBack) → map (segment_of file) (map kept_of bs) ≡ map (returning_of file) bs
+segments_kept file [] = refl
+segments_kept file (b ∷ bs) = ap (λ l. returning_of file b ∷ l) (segments_kept file bs)
 
 -- ---- the answers
 
 no_violation : (e : End) → is_violated e ≡ false → IsViolated e → ⊥
 no_violation e none (spot, is) = let wrong : true ≡ false = sym (ap is_violated is) ∙ none in absurd (cc)
 
-module _ (p : Program) (file : List ℕ) (vs : List ℤ) (N : ℕ) where
+module _ (p : t.Program) (file : List ℕ) (vs : List ℤ) (N : ℕ) where
   ends_otherwise : (e : End) (fault : AuthorFault) → is_violated e ≡ false → e ≡ (RunOf p vs N).end → Err {A = Unit {0}} (NotViolated e) ≡ Err fault → Authors p file vs N (Err fault)
   ends_otherwise e fault none is same =
       let why : NotViolated e ≡ fault = cc in
@@ -78,16 +83,20 @@ module _ (p : Program) (file : List ℕ) (vs : List ℤ) (N : ℕ) where
   pub refused : (r : Made) (fault : AuthorFault) → r ≡ RunOf p vs N → fixed_by (is_violated r.end) r.end (first_free r.draws) ≡ Err fault → Authors p file vs N (Err fault)
   refused r fault is same = refused_by r.end (first_free r.draws) fault (ap (λ (x : Made). x.end) is) (ap (λ (x : Made). first_free x.draws) is) same
 
-  pub authored : (r : Made) (done : Unit {0}) (last : Option Spot) (end : Spot → Option Spot) (drawn segments : List Segment) → r ≡ RunOf p vs N
+  pub authored : (program : Program) (r : Made) (done : Unit {0}) (kept : Recorded) (inputs segments : List Segment) → program_view program ≡ p → r ≡ RunOf p vs N
       → fixed_by (is_violated r.end) r.end (first_free r.draws) ≡ Ok done
-      → last ≡ seen_after (λ (e : Event) (cells : List Cell) (s : Option Spot). violated_in e s) None (MomentsOf p vs N)
-      → ((q : Spot) → end q ≡ end_of_input p q) → drawn ≡ segments_by end file r.draws → segments ≡ drawn ++ target_of file last → IsAuthored p file vs N segments
-  authored r done last end drawn segments is same seen ends parts whole =
+      → kept ≡ seen_after after_event (recorded program [] None) (MomentsOf p vs N)
+      → inputs ≡ map (segment_of file) kept.returned → segments ≡ inputs ++ target_of file kept.statement → IsAuthored p file vs N segments
+  authored program r done kept inputs segments view is same seen parts whole =
       let fixed = fixed_when r.end (first_free r.draws) done (ap (λ (x : Made). x.end) is) (ap (λ (x : Made). first_free x.draws) is) same in
-      let inputs : drawn ≡ segments_of_draws p file (RunOf p vs N).draws = parts ∙ segments_same p file end ends r.draws ∙ ap (λ (x : Made). segments_of_draws p file x.draws) is in
+      let all = seen ∙ kept_after program (MomentsOf p vs N) [] None in
+      let returned : inputs ≡ map (returning_of file) (returns_in p (MomentsOf p vs N)) =
+          parts ∙ ap (λ (x : Recorded). map (segment_of file) x.returned) all
+          ∙ ap (λ (q : t.Program). map (segment_of file) (map kept_of (returns_in q (MomentsOf p vs N)))) view
+          ∙ segments_kept file (returns_in p (MomentsOf p vs N)) in
       record {
         violated = fixed.0;
         fixed = fixed.1;
-        written = whole ∙ ap (λ l. l ++ target_of file last) inputs
-            ∙ ap (λ s. segments_of_draws p file (RunOf p vs N).draws ++ target_of file s) (seen ∙ seen_violated None (MomentsOf p vs N));
+        written = whole ∙ ap (λ l. l ++ target_of file kept.statement) returned
+            ∙ ap (λ (x : Recorded). map (returning_of file) (returns_in p (MomentsOf p vs N)) ++ target_of file x.statement) all;
       }

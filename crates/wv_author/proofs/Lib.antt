@@ -3,6 +3,5 @@ mod Bounds
 mod Lengths
 mod ValueLines
 mod ConstantTexts
-mod InputEnds
 mod AuthoredRuns
 mod Written

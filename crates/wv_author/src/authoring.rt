@@ -3,14 +3,15 @@ ghost use Rattle.std.specs.Prelude.{◌≡◌, IfOk};
 ghost use Rattle.c_core.specs.View.{program_view};
 ghost use Rattle.c_meaning.specs.declared.run.Choices.TheVariants.{InTurn as TakenInTurn};
 ghost use Rattle.wv_author.specs.Authored.{Authors, first_free, is_free_by};
-ghost use Rattle.wv_author.specs.inside.Ends.{fixed_by, is_violated};
+ghost use Rattle.wv_author.specs.inside.Recording.{fixed_by, is_violated};
 
-use crate::ends::input_ends;
-use crate::segments::{push_draws, push_violating};
+use crate::recording::Recorder;
+use crate::segments::{push_returns, push_violating};
 use c_core::{Program, Spot};
-use c_meaning::{Choices, Draw, DrawKind, End, Event, Memory, Watcher, holds};
+use c_meaning::{Choices, Draw, DrawKind, End, holds};
 use flow_machine::run_machine;
 use std::alloc::Global;
+use way_places::Index;
 use wv_base::{OutOfMemory, Seq, Text};
 use wv_schema::Segment;
 
@@ -32,33 +33,6 @@ impl From<OutOfMemory> for AuthorFault {
 
     fn from(_: OutOfMemory) -> Self {
         AuthorFault::OutOfMemory
-    }
-}
-
-/// Keeps the statement of the last violation among the events that it sees.
-#[derive(Drop)]
-struct LastViolation {
-    statement: Option<Spot>,
-}
-
-impl Watcher for LastViolation {
-    ghost use Rattle.std.specs.Prelude.{Option};
-    ghost use Rattle.c_core.specs.declared.number.Spot.{Spot};
-    ghost use Rattle.wv_author.specs.Authored.{violated_in};
-
-    ghost Seen = { Option Spot };
-
-    ghost seen = { λ last. last.statement };
-
-    ghost after = { λ event cells before. violated_in event before };
-
-    ghost sure = { Unit {0} };
-
-    fn see(&mut self, event: Event, _memory: &Memory) -> Result<(), OutOfMemory> {
-        if let Event::Fail { statement, .. } = event {
-            self.statement = Some(statement);
-        }
-        Ok(())
     }
 }
 
@@ -121,7 +95,7 @@ fn fixes(end: End, draws: &[Draw]) -> Result<(), AuthorFault>
     }
 }
 
-/// The segments of a violation witness that the run with these values in turn matches: one for each input that it draws, then that of
+/// The segments of a violation witness that the run with these values in turn matches: one for each input that comes back, then that of
 /// the violation.
 pub fn author(
     alloc: Global,
@@ -133,12 +107,16 @@ pub fn author(
     ensures { Authors (program_view program.now) file.now values.now steps result }
 {
     let choices = in_turn(alloc, values.as_slice())?;
-    let mut last = LastViolation { statement: None };
-    let run = run_machine(alloc, program, &choices, steps, &mut last)?;
+    let places = Index::new(alloc, program)?;
+    let mut recorder = Recorder {
+        places: &places,
+        returned: Vec::new(alloc),
+        statement: None,
+    };
+    let run = run_machine(alloc, program, &choices, steps, &mut recorder)?;
     fixes(run.end, run.draws.as_slice())?;
-    let ends = input_ends(alloc, program)?;
     let mut segments = Seq::new(alloc);
-    push_draws(alloc, &mut segments, &ends, file, run.draws.as_slice())?;
-    push_violating(alloc, &mut segments, file, last.statement)?;
+    push_returns(alloc, &mut segments, file, recorder.returned.as_slice())?;
+    push_violating(alloc, &mut segments, file, recorder.statement)?;
     Ok(segments)
 }

@@ -5,9 +5,9 @@
 
 mod authoring;
 mod constants;
-mod ends;
 mod making;
 mod programs;
+mod recording;
 mod segments;
 mod sequence;
 mod values;

@@ -1,17 +1,13 @@
 // Segments that fix what a run draws.
-ghost use Rattle.std.specs.Prelude.{◌≡◌, ◌++◌, IfOk, OnOk};
-ghost use Rattle.way_places.specs.Calls.{list_if};
-ghost use Rattle.way_places.specs.Maps.{found_at};
+ghost use Rattle.std.specs.Prelude.{◌≡◌, ◌++◌, IfOk, OnOk, map};
 ghost use Rattle.wv_author.specs.Authored.{located, returning, target_of, violating};
-ghost use Rattle.wv_author.specs.inside.Ends.{segment_at, segments_by};
+ghost use Rattle.wv_author.specs.inside.Recording.{segment_of};
 
 use crate::constants::result_text;
+use crate::recording::Returned;
 use crate::witnesses::{c_expression, follow};
 use c_core::Spot;
-use c_meaning::{Draw, DrawKind};
 use std::alloc::Global;
-use std::collections::BTreeMap;
-use way_places::found_at;
 use wv_base::{OutOfMemory, Seq, Text};
 use wv_schema::{Constraint, Location, Segment, WayKind};
 
@@ -52,41 +48,18 @@ fn violating(alloc: Global, file: &Text, statement: Spot) -> Result<Segment, Out
     Ok(follow(alloc, WayKind::Target, location, None))
 }
 
-fn push_returning(
+/// The segments of inputs that came back, in their order.
+pub fn push_returns(
     alloc: Global,
     segments: &mut Seq<Segment>,
     file: &Text,
-    draw: &Draw,
-    end: Option<Spot>,
+    returned: &[Returned],
 ) -> Result<(), OutOfMemory>
-    ensures { OnOk result (segments.new ≡ segments.old ++ list_if (segment_at file.now draw.now.from draw.now.value end)) }
+    ensures { OnOk result (segments.new ≡ segments.old ++ map (segment_of file.now) returned.now) }
 {
-    match draw.from {
-        DrawKind::Input => {
-            if let Some(close) = end {
-                let segment = returning(alloc, file, draw.value, close)?;
-                segments.push(segment)?;
-            }
-            Ok(())
-        }
-        DrawKind::Cell => Ok(()),
-        DrawKind::Havoc => Ok(()),
-    }
-}
-
-/// The segments of draws, in their order, with the ends of input calls found by the calls' starts.
-pub fn push_draws(
-    alloc: Global,
-    segments: &mut Seq<Segment>,
-    ends: &BTreeMap<(u32, u32), Spot>,
-    file: &Text,
-    draws: &[Draw],
-) -> Result<(), OutOfMemory>
-    ensures { OnOk result (segments.new ≡ segments.old ++ segments_by (found_at ends.now) file.now draws.now) }
-{
-    for draw in draws {
-        let end = found_at(ends, draw.spot);
-        push_returning(alloc, segments, file, draw, end)?;
+    for input in returned {
+        let segment = returning(alloc, file, input.value, input.close)?;
+        segments.push(segment)?;
     }
     Ok(())
 }
