@@ -1,1 +1,4 @@
 pub mod OneCall
+pub mod Each
+pub mod Traversed
+pub mod Known
