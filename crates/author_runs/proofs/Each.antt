@@ -1,6 +1,6 @@
 -- What holds of each item of a list, item by item.
-use Rattle.std.proofs.Common.{◌≡◌, ◌<◌, ◌≤◌, ◌+◌, arith, ℕ, zero, suc, Bool, true, false, cond, List, [], ◌∷◌, ◌++◌, length, map, Option, Some, None, slice_get, refl, sym, ap, ◌∙◌, subst}
-use Rattle.std.specs.List.{Contains, find, flat_map, slice_index_or}
+use Rattle.std.proofs.Common.{◌≡◌, ◌<◌, ◌≤◌, ◌+◌, arith, ℕ, zero, suc, Bool, true, false, cond, ◌||◌, List, [], ◌∷◌, ◌++◌, length, map, Option, Some, None, slice_get, refl, sym, ap, ◌∙◌, subst}
+use Rattle.std.specs.List.{Contains, find, flat_map, list_any, slice_index_or}
 use Rattle.std.proofs.lemmas.List.Elements.{Contains-append_right}
 use Rattle.c_core.specs.Places.{first_some}
 use Rattle.author_runs.proofs.OneCall.{number}
@@ -70,3 +70,19 @@ find_first r (x ∷ xs) = by (r x) x (find r xs) _ (find_first r xs)
     by : {A : Type 0} (t : Bool) (x : A) (o : Option A) (os : List (Option A)) → o ≡ first_some os → cond t (Some x) o ≡ first_some (cond t (Some x) None ∷ os)
     by true x o os e = refl
     by false x o os e = e
+
+pub each_map : {A B : Type 0} (P : B → Type 0) (f : A → B) (xs : List A) → Each P (map f xs) → Each (λ x. P (f x)) xs
+each_map P f [] h = tt
+each_map P f (x ∷ xs) h = (h.0, each_map P f xs h.1)
+
+or-right : (a b : Bool) → b ≡ true → (a || b) ≡ true
+or-right true b h = refl
+or-right false b h = h
+
+any_at : {A : Type 0} (q : A → Bool) (xs : List A) (x : A) (k : ℕ) → k < length xs → slice_index_or xs k x ≡ x → q x ≡ true → list_any q xs ≡ true
+any_at q [] x k lt e h = absurd (omega (arith, lt))
+any_at q (y ∷ xs) x zero lt e h = let g : q y ≡ true = ap q e ∙ h in rw g refl
+any_at q (y ∷ xs) x (suc k) lt e h = or-right (q y) (list_any q xs) (any_at q xs x k (omega (arith, lt)) e h)
+
+pub any_contained : {A : Type 0} (q : A → Bool) (xs : List A) (x : A) → Contains xs x → q x ≡ true → list_any q xs ≡ true
+any_contained q xs x c h = any_at q xs x c.0 c.1 c.2 h

@@ -1,8 +1,8 @@
 -- In a checked program the call that ends at a place is known by it, and so is the input call that begins at one.
-use Rattle.std.proofs.Common.{◌≡◌, Bool, true, false, cond, ◌||◌, List, [], ◌∷◌, Option, Some, None, refl, ap, ◌∙◌}
+use Rattle.std.proofs.Common.{◌≡◌, Bool, true, false, cond, ◌||◌, Option, Some, None, refl, ap, ◌∙◌}
 use Rattle.std.proofs.lemmas.Bool.{false≢true}
 use Rattle.std.specs.List.{Contains}
-use Rattle.c_core.specs.Tree.{Exp, Expr, Node, Const, Var, Index, Unary, Cast, Step, Binary, Logic, Choose, Comma, Assign, Call, Exps, Program}
+use Rattle.c_core.specs.Tree.{Exp, Expr, Call, Exps, Program}
 use Rattle.c_core.specs.Parts.{same_spot, exps_of_program}
 use Rattle.c_core.specs.Places.{call_at, ends_at, input_at, input_if}
 use Rattle.c_core.specs.Program.{places_rise}

@@ -1,14 +1,12 @@
 -- In a checked program at most one call begins or ends at a place.
-use Rattle.std.proofs.Common.{◌≡◌, ◌≤◌, ◌+◌, ltb-true, eqb-true, nat_eq, nat_lt, arith, ℕ, Bool, true, false, cond, ◌&&◌, ◌||◌, ◌⊎◌, inl, inr, List, [], ◌∷◌, ◌++◌, refl, ap, ◌∙◌, sym, subst, Option, Some, None}
+use Rattle.std.proofs.Common.{◌≡◌, ◌≤◌, ◌+◌, ltb-true, eqb-true, nat_eq, nat_lt, arith, ℕ, Bool, true, false, cond, ◌||◌, inl, inr, List, [], ◌∷◌, ◌++◌, refl, ap, ◌∙◌, subst, Option, Some, None}
 use Rattle.std.proofs.lemmas.Grind.{flat_map-append}
-use Rattle.std.proofs.lemmas.Bool.{false≢true}
 use Rattle.std.specs.List.{flat_map, list_all}
 use Rattle.c_core.specs.Tree.{Exp, Expr, Node, Const, Var, Index, Unary, Cast, Step, Binary, Logic, Choose, Comma, Assign, Call, Exps, NoExp, MoreExp, Init, Absent, One, Many, Rows, Names, NoName, MoreName, First, NoFirst, FirstExp, FirstNames, Stm, Stmt, Form, Empty, Do, Declare, Block, If, While, DoWhile, For, Break, Continue, Return, Label, Switch, Else, NoElse, OrElse, Stms, NoStm, MoreStm, MoreCase, Function, Program}
 use Rattle.c_core.specs.Operators.{is_prefix}
-use Rattle.c_core.specs.Parts.{same_spot, exps_in, exp_if, exps_of, exps_of_node, exps_of_arguments, statements_of, statements_of_form, statements_of_else, statements_of_block, fulls_of_init, fulls_of_names, fulls_of_first, own_fulls, own_fulls_of, exps_of_program}
+use Rattle.c_core.specs.Parts.{same_spot, exps_in, exp_if, exps_of, exps_of_arguments, statements_of, statements_of_form, statements_of_else, statements_of_block, fulls_of_init, fulls_of_names, fulls_of_first, own_fulls, own_fulls_of, exps_of_program}
 use Rattle.c_core.specs.Program.{places_rise}
-use Rattle.c_core.specs.TextOrder.{is_before, is_before_first, rises, whole, spots_of, spots_of_node, spots_of_arguments, spots_if, spots_of_init, spots_of_declarators, spots_of_first, spots_of_statement, spots_of_form, spots_of_else, spots_of_block, spots_of_functions}
-use Rattle.c_core.specs.declared.number.IntType.{IntType}
+use Rattle.c_core.specs.TextOrder.{is_before, is_before_first, rises, whole, spots_of, spots_of_arguments, spots_if, spots_of_init, spots_of_declarators, spots_of_first, spots_of_statement, spots_of_form, spots_of_else, spots_of_block, spots_of_functions}
 use Rattle.c_core.specs.declared.number.Spot.{Spot}
 use Rattle.c_core.proofs.TextOrderLaws.{left, right, either, before_all}
 

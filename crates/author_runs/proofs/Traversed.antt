@@ -1,8 +1,7 @@
 -- What the parts of a meaning keep, where each call is known by its ends and each statement by its place, the meaning of every tree keeps.
-use Rattle.std.proofs.Common.{◌≡◌, ℕ, zero, suc, ◌+◌, Bool, true, false, List, [], ◌∷◌, ◌++◌, length, Option, Some, None, slice_get, refl}
+use Rattle.std.proofs.Common.{◌≡◌, ℕ, zero, suc, ◌+◌, true, false, List, [], ◌∷◌, ◌++◌, length, Option, Some, None, slice_get, refl}
 use Rattle.std.proofs.lemmas.Bool.{false≢true}
 use Rattle.std.specs.List.{flat_map}
-use Rattle.c_core.specs.Operators.{type_for}
 use Rattle.c_core.specs.Parts.{exps_in, exp_if, exps_of, exps_of_node, exps_of_arguments, fulls_of_init, fulls_of_names, fulls_of_first, own_fulls, own_fulls_of, spot_of_statement, statements_of, statements_of_form, statements_of_else, statements_of_block}
 use Rattle.c_core.specs.Scope.{is_block, is_block_form}
 use Rattle.c_core.specs.Types.{promote_of}
@@ -25,6 +24,10 @@ use Rattle.author_runs.proofs.Each.{Each, each_front, each_back, each_at}
 
 -- ---- what is known of the parts of a program
 
+-- the statements inside a statement
+abbrev pub inside : Stm → List Stm
+inside (Stmt at f) = statements_of_form f
+
 module _ (Ends : Callee → Spot → Spot → Type 0) where
   abbrev IsKnownNode : Spot → Node → Type 0
   IsKnownNode spot (Call callee es close) = Ends callee spot close
@@ -42,9 +45,6 @@ module _ (Ends : Callee → Spot → Spot → Type 0) where
     -- a statement stands where statements do
     abbrev pub Stands : Stm → Type 0
     Stands s = In (spot_of_statement s) × AreKnown (own_fulls_of s)
-
-    abbrev pub inside : Stm → List Stm
-    inside (Stmt at f) = statements_of_form f
 
     -- a body is a block, which is no place of a statement
     abbrev pub IsBody : Stm → Type 0
