@@ -23,7 +23,8 @@ module _ (p : Program) where
   pub aim : (spot : Spot) → In spot → aim_fits p spot.line (Some spot.column) ≡ true
   aim spot h =
       any_contained (is_named spot.line (Some spot.column)) _ spot
-      (Contains-append_left _ _ spot (Contains-append_left (spots_of_kind Statement p) (map spot_of (fulls_of_program p)) spot h))
+      (Contains-append_left _ _ spot
+      (Contains-append_left (spots_of_kind Statement p) (map spot_of (fulls_of_program p)) spot h))
       (same_spot-self spot)
 
   abbrev Calls : List Exp → Type 0
@@ -32,17 +33,25 @@ module _ (p : Program) where
   abbrev Fulls : List Exp → Type 0
   Fulls es = AreKnown (Ends p) es
 
-  in_statements : places_rise p ≡ true → Each (λ (f : Function). Each (λ s. Fulls (own_fulls_of s)) (statements_of f.body)) p.functions
+  in_statements : places_rise p ≡ true
+      → Each (λ (f : Function). Each (λ s. Fulls (own_fulls_of s)) (statements_of f.body)) p.functions
   in_statements rise =
       each_flat (λ s. Fulls (own_fulls_of s)) (λ (f : Function). statements_of f.body) p.functions
       (each_flat (λ e. Calls (exps_of e)) own_fulls_of (statements_of_program p)
       (each_flat (IsKnown (Ends p)) exps_of (fulls_of_program p) (all_known p rise)))
 
-  one_body : (s : Stm) → is_block s ≡ true → Each (λ b. Fulls (own_fulls_of b)) (statements_of s) → Each (λ b. In (spot_of_statement b)) (inside s) → IsBody (Ends p) In s
-  one_body (Stmt at f) block fulls stands = (block, each_both (λ b. In (spot_of_statement b)) (λ b. Fulls (own_fulls_of b)) (inside (Stmt at f)) stands fulls.1)
+  one_body : (s : Stm) → is_block s ≡ true → Each (λ b. Fulls (own_fulls_of b)) (statements_of s)
+      → Each (λ b. In (spot_of_statement b)) (inside s) → IsBody (Ends p) In s
+  one_body (Stmt at f) block fulls stands = (
+    block,
+    each_both (λ b. In (spot_of_statement b)) (λ b. Fulls (own_fulls_of b))
+        (inside (Stmt at f)) stands fulls.1,
+  )
 
-  each_body : (fs : List Function) → list_all function_nests fs ≡ true → Each (λ (f : Function). Each (λ s. Fulls (own_fulls_of s)) (statements_of f.body)) fs
-      → Each (λ (f : Function). Each (λ b. In (spot_of_statement b)) (inside f.body)) fs → Each (λ (f : Function). IsBody (Ends p) In f.body) fs
+  each_body : (fs : List Function) → list_all function_nests fs ≡ true
+      → Each (λ (f : Function). Each (λ s. Fulls (own_fulls_of s)) (statements_of f.body)) fs
+      → Each (λ (f : Function). Each (λ b. In (spot_of_statement b)) (inside f.body)) fs → Each
+      (λ (f : Function). IsBody (Ends p) In f.body) fs
   each_body [] nests fulls stands = tt
   each_body (f ∷ fs) nests fulls stands = (
     one_body f.body (left (is_block f.body) _ (left (function_nests f) _ nests)) fulls.0 stands.0,

@@ -31,19 +31,23 @@ module _ (p : Program) where
     returned : returns_in p (reverse xs) ≡ inputs_in p ds
     ended : list_all (has_end p) ds ≡ true
 
-  one_more : (m : Moment) (xs : List Moment) → returns_in p (reverse (m ∷ xs)) ≡ returns_in p (reverse xs) ++ cons_option (back_in p m) []
+  one_more : (m : Moment) (xs : List Moment)
+      → returns_in p (reverse (m ∷ xs)) ≡ returns_in p (reverse xs) ++ cons_option (back_in p m) []
   one_more m xs = ap (returns_in p) (reverse-append (m ∷ []) xs) ∙ filter_map-append (back_in p) (reverse xs) (m ∷ [])
 
-  one_drawn : (d : Draw) (ds : List Draw) → inputs_in p (ds ++ d ∷ []) ≡ inputs_in p ds ++ cons_option (drawn_by p d.from d) []
+  one_drawn : (d : Draw) (ds : List Draw)
+      → inputs_in p (ds ++ d ∷ []) ≡ inputs_in p ds ++ cons_option (drawn_by p d.from d) []
   one_drawn d ds = filter_map-append (λ d. drawn_by p d.from d) ds (d ∷ [])
 
-  still_ended : (d : Draw) (ds : List Draw) → has_end p d ≡ true → list_all (has_end p) ds ≡ true → list_all (has_end p) (ds ++ d ∷ []) ≡ true
+  still_ended : (d : Draw) (ds : List Draw) → has_end p d ≡ true → list_all (has_end p) ds ≡ true
+      → list_all (has_end p) (ds ++ d ∷ []) ≡ true
   still_ended d ds e h = list_all-append (has_end p) ds (d ∷ []) ∙ rw h (rw e refl)
 
   -- nothing comes back
   noted : (m : Moment) (ds : List Draw) (xs : List Moment) → back_in p m ≡ None → Back ds xs → Back ds (m ∷ xs)
   noted m ds xs e h = record {
-    returned = one_more m xs ∙ ap (λ o. returns_in p (reverse xs) ++ cons_option o []) e ∙ append-nil (returns_in p (reverse xs)) ∙ h.returned;
+    returned = one_more m xs ∙ ap (λ o. returns_in p (reverse xs) ++ cons_option o []) e ∙ append-nil
+        (returns_in p (reverse xs)) ∙ h.returned;
     ended = h.ended;
   }
 
@@ -54,19 +58,23 @@ module _ (p : Program) where
   told (Return close v) cs q = absurd (false≢true q)
   told (Fail statement full call) cs q = refl
 
-  returned : (f : ℕ) (spot close : Spot) (v : Option ℤ) (cs : List Cell) → Ends p (Defined f) spot close → back_in p (Told (Return close v) cs) ≡ None
+  returned : (f : ℕ) (spot close : Spot) (v : Option ℤ) (cs : List Cell) → Ends p (Defined f) spot close
+      → back_in p (Told (Return close v) cs) ≡ None
   returned f spot close None cs ends = refl
   returned f spot close (Some v) cs ends = ap (back_at close v) ends
 
-  cell : (spot : Spot) (ty : IntType) (v : ℤ) (ds : List Draw) (xs : List Moment) → Back ds xs → Back (ds ++ record { spot = spot; ty = ty; value = v; from = OfCell } ∷ []) xs
+  cell : (spot : Spot) (ty : IntType) (v : ℤ) (ds : List Draw) (xs : List Moment) → Back ds xs
+      → Back (ds ++ record { spot = spot; ty = ty; value = v; from = OfCell } ∷ []) xs
   cell spot ty v ds xs h =
       let d : Draw = record { spot = spot; ty = ty; value = v; from = OfCell } in record {
         returned = h.returned ∙ sym (one_drawn d ds ∙ append-nil (inputs_in p ds));
         ended = still_ended d ds refl h.ended;
       }
 
-  input : (spot close : Spot) (ty : IntType) (v : ℤ) (cs : List Cell) (ds : List Draw) (xs : List Moment) → Ends p (InputFunction ty) spot close → Back ds xs
-      → Back (ds ++ record { spot = spot; ty = ty; value = v; from = Input } ∷ []) (Told (Return close (Some v)) cs ∷ xs)
+  input : (spot close : Spot) (ty : IntType) (v : ℤ) (cs : List Cell) (ds : List Draw) (xs : List Moment)
+      → Ends p (InputFunction ty) spot close → Back ds xs
+      → Back (ds ++ record { spot = spot; ty = ty; value = v; from = Input } ∷ [])
+      (Told (Return close (Some v)) cs ∷ xs)
   input spot close ty v cs ds xs ends h =
       let d : Draw = record { spot = spot; ty = ty; value = v; from = Input } in
       let came : CameBack = record { close = close; call = record { spot = spot; ty = ty }; value = v } in
@@ -74,7 +82,8 @@ module _ (p : Program) where
       let drawn : drawn_by p Input d ≡ Some came = ap (drawn_to d) ends.1 in record {
         returned =
             one_more (Told (Return close (Some v)) cs) xs ∙ ap (λ o. returns_in p (reverse xs) ++ cons_option o []) back
-            ∙ ap (λ l. l ++ came ∷ []) h.returned ∙ sym (one_drawn d ds ∙ ap (λ o. inputs_in p ds ++ cons_option o []) drawn);
+            ∙ ap (λ l. l ++ came ∷ []) h.returned ∙ sym
+            (one_drawn d ds ∙ ap (λ o. inputs_in p ds ++ cons_option o []) drawn);
         ended = still_ended d ds (rw ends.1 refl) h.ended;
       }
 
@@ -90,12 +99,15 @@ module _ (p : Program) where
     told = λ e cs ds xs q h. noted (Told e cs) ds xs (told e cs q) h;
     here = λ spot cs ds xs h. noted (Here spot cs) ds xs refl h;
     head = λ spot l arrived cs ds xs h. noted (Head spot l arrived cs) ds xs refl h;
-    returned = λ f spot close v cs ds xs ends h. noted (Told (Return close v) cs) ds xs (returned f spot close v cs ends) h;
+    returned = λ f spot close v cs ds xs ends h. noted (Told (Return close v) cs) ds xs
+        (returned f spot close v cs ends) h;
     cell = cell;
     input = input;
   }
 
-  of_end : (r : Res End (State (List Moment)) Flow) → runs.HoldsAfter p (List Moment) (λ x xs. x ∷ xs) (Ends p) (In p) inputs r → Back (state_of r).draws (state_of r).seen
+  of_end : (r : Res End (State (List Moment)) Flow)
+      → runs.HoldsAfter p (List Moment) (λ x xs. x ∷ xs) (Ends p) (In p) inputs r
+      → Back (state_of r).draws (state_of r).seen
   unfolding inputs
   of_end (Go f s) h = h
   of_end (Stop e s) h = h
@@ -103,5 +115,7 @@ module _ (p : Program) where
   pub inputs_back : IsProgram p → (c : Choices) (N : ℕ) → InputsComeBack p c N
   unfolding inputs
   inputs_back checked c N =
-      let h = of_end (Whole p c N) (runs.holds_of_run p (List Moment) (λ x xs. x ∷ xs) (Ends p) (In p) inputs (bodies p checked) c N [] (record { returned = refl; ended = refl })) in
+      let h = of_end (Whole p c N)
+      (runs.holds_of_run p (List Moment) (λ x xs. x ∷ xs) (Ends p) (In p) inputs (bodies p checked) c N []
+      (record { returned = refl; ended = refl })) in
       record { returned = h.returned; ended = h.ended }

@@ -35,23 +35,32 @@ is_plain (Fail statement full call) = false
 is_plain _ = true
 
 -- what holds of the draws and of what was seen, and what holds of them at an end
-pub record Invariant (S : Type 0) (see : Moment → S → S) (Ends : Callee → Spot → Spot → Type 0) (In : Spot → Type 0) : Type 1 where
+pub record Invariant (S : Type 0) (see : Moment → S → S) (Ends : Callee → Spot → Spot → Type 0)
+    (In : Spot → Type 0) : Type 1 where
   pub Holds : List Draw → S → Type 0
   pub Over : End → List Draw → S → Type 0
   pub ended : (ds : List Draw) (x : S) → Holds ds x → Over Ended ds x
   pub undefined : (spot : Spot) (ds : List Draw) (x : S) → Holds ds x → Over (Undefined spot) ds x
   pub spent : (ds : List Draw) (x : S) → Holds ds x → Over Spent ds x
   pub deep : (ds : List Draw) (x : S) → Holds ds x → Over Deep ds x
-  pub failed : (statement full spot : Spot) (call : Option Spot) (cs : List Cell) (ds : List Draw) (x : S) → In statement → Holds ds x → Over (Violated spot) ds (see (Told (Fail statement full call) cs) x)
-  pub told : (e : Event) (cs : List Cell) (ds : List Draw) (x : S) → is_plain e ≡ true → Holds ds x → Holds ds (see (Told e cs) x)
+  pub failed : (statement full spot : Spot) (call : Option Spot) (cs : List Cell) (ds : List Draw) (x : S)
+      → In statement → Holds ds x → Over (Violated spot) ds (see (Told (Fail statement full call) cs) x)
+  pub told : (e : Event) (cs : List Cell) (ds : List Draw) (x : S) → is_plain e ≡ true → Holds ds x
+      → Holds ds (see (Told e cs) x)
   pub here : (spot : Spot) (cs : List Cell) (ds : List Draw) (x : S) → Holds ds x → Holds ds (see (Here spot cs) x)
-  pub head : (spot : Spot) (l : Loop) (arrived cs : List Cell) (ds : List Draw) (x : S) → Holds ds x → Holds ds (see (Head spot l arrived cs) x)
-  pub returned : (f : ℕ) (spot close : Spot) (v : Option ℤ) (cs : List Cell) (ds : List Draw) (x : S) → Ends (Defined f) spot close → Holds ds x → Holds ds (see (Told (Return close v) cs) x)
-  pub cell : (spot : Spot) (ty : IntType) (v : ℤ) (ds : List Draw) (x : S) → Holds ds x → Holds (ds ++ record { spot = spot; ty = ty; value = v; from = OfCell } ∷ []) x
-  pub input : (spot close : Spot) (ty : IntType) (v : ℤ) (cs : List Cell) (ds : List Draw) (x : S) → Ends (InputOf ty) spot close → Holds ds x
-      → Holds (ds ++ record { spot = spot; ty = ty; value = v; from = Input } ∷ []) (see (Told (Return close (Some v)) cs) x)
+  pub head : (spot : Spot) (l : Loop) (arrived cs : List Cell) (ds : List Draw) (x : S) → Holds ds x
+      → Holds ds (see (Head spot l arrived cs) x)
+  pub returned : (f : ℕ) (spot close : Spot) (v : Option ℤ) (cs : List Cell) (ds : List Draw) (x : S)
+      → Ends (Defined f) spot close → Holds ds x → Holds ds (see (Told (Return close v) cs) x)
+  pub cell : (spot : Spot) (ty : IntType) (v : ℤ) (ds : List Draw) (x : S) → Holds ds x
+      → Holds (ds ++ record { spot = spot; ty = ty; value = v; from = OfCell } ∷ []) x
+  pub input : (spot close : Spot) (ty : IntType) (v : ℤ) (cs : List Cell) (ds : List Draw) (x : S)
+      → Ends (InputOf ty) spot close → Holds ds x
+      → Holds (ds ++ record { spot = spot; ty = ty; value = v; from = Input } ∷ [])
+      (see (Told (Return close (Some v)) cs) x)
 
-module _ (p : Program) (S : Type 0) (see : Moment → S → S) (Ends : Callee → Spot → Spot → Type 0) (In : Spot → Type 0) (inv : Invariant S see Ends In) where
+module _ (p : Program) (S : Type 0) (see : Moment → S → S) (Ends : Callee → Spot → Spot → Type 0) (In : Spot → Type 0)
+    (inv : Invariant S see Ends In) where
   abbrev Act : Type 0 → Type 0
   Act A = State S → Res End (State S) A
 
@@ -62,7 +71,8 @@ module _ (p : Program) (S : Type 0) (see : Moment → S → S) (Ends : Callee �
   record Keeps {A : Type 0} (m : Act A) : Type 0 where
     at : (s : State S) → inv.Holds s.draws s.seen → HoldsAfter (m s)
 
-  keeps_then : {A B : Type 0} (m : Act A) (k : A → Act B) → Keeps m → ((a : A) → Keeps (k a)) → Keeps (λ s. bind (m s) k)
+  keeps_then : {A B : Type 0} (m : Act A) (k : A → Act B) → Keeps m → ((a : A) → Keeps (k a))
+      → Keeps (λ s. bind (m s) k)
   keeps_then {A} m k f g = record { at = λ s h. by (m s) (f.at s h) }
     where
       by : (r : Res End (State S) A) → HoldsAfter r → HoldsAfter (bind r k)
@@ -88,14 +98,16 @@ module _ (p : Program) (S : Type 0) (see : Moment → S → S) (Ends : Callee �
   keeps_tell : (e : Event) → is_plain e ≡ true → Keeps (run.tell p S see e)
   keeps_tell e q = record { at = λ s h. inv.told e s.cells s.draws s.seen q h }
 
-  keeps_after : {A : Type 0} (e : Event) (m : Act A) → is_plain e ≡ true → Keeps m → Keeps (λ s. bind (run.tell p S see e s) (λ _. m))
+  keeps_after : {A : Type 0} (e : Event) (m : Act A) → is_plain e ≡ true → Keeps m
+      → Keeps (λ s. bind (run.tell p S see e s) (λ _. m))
   keeps_after e m q f = keeps_then (run.tell p S see e) (λ _. m) (keeps_tell e q) (λ _. f)
 
   tick_kept : (n : ℕ) (s : State S) → inv.Holds s.draws s.seen → HoldsAfter (run.tick_from p S see n s)
   tick_kept zero s h = inv.spent s.draws s.seen h
   tick_kept (suc n) s h = h
 
-  room_kept : (b : Bool) (s : State S) → inv.Holds s.draws s.seen → HoldsAfter {A = Unit {0}} (cond b (Go tt s) (Stop Deep s))
+  room_kept : (b : Bool) (s : State S) → inv.Holds s.draws s.seen
+      → HoldsAfter {A = Unit {0}} (cond b (Go tt s) (Stop Deep s))
   room_kept true s h = h
   room_kept false s h = inv.deep s.draws s.seen h
 
@@ -105,10 +117,13 @@ module _ (p : Program) (S : Type 0) (see : Moment → S → S) (Ends : Callee �
 
   -- ---- violations
 
-  keeps_violated : {A : Type 0} (at : Where) (spot : Spot) (call : Option Spot) → In at.statement → Keeps (run.violated p S see {A = A} at spot call)
-  keeps_violated at spot call z = record { at = λ s h. inv.failed at.statement at.full spot call s.cells s.draws s.seen z h }
+  keeps_violated : {A : Type 0} (at : Where) (spot : Spot) (call : Option Spot) → In at.statement
+      → Keeps (run.violated p S see {A = A} at spot call)
+  keeps_violated at spot call z =
+      record { at = λ s h. inv.failed at.statement at.full spot call s.cells s.draws s.seen z h }
 
-  keeps_overflowed : (q : Property) (at : Where) (spot : Spot) (v : ℤ) → In at.statement → Keeps (run.overflowed p S see q at spot v)
+  keeps_overflowed : (q : Property) (at : Where) (spot : Spot) (v : ℤ) → In at.statement
+      → Keeps (run.overflowed p S see q at spot v)
   keeps_overflowed NoOverflow at spot v z = keeps_violated at spot None z
   keeps_overflowed UnreachCall at spot v z = keeps_ret v
 
@@ -123,23 +138,29 @@ module _ (p : Program) (S : Type 0) (see : Moment → S → S) (Ends : Callee �
 
   -- ---- calls
 
-  keeps_back : (site : Site) (f : ℕ) (v : Option ℤ) → Ends (Defined f) site.spot site.close → Keeps (run.tell p S see (Return site.close v))
+  keeps_back : (site : Site) (f : ℕ) (v : Option ℤ) → Ends (Defined f) site.spot site.close
+      → Keeps (run.tell p S see (Return site.close v))
   keeps_back site f v ends = record { at = λ s h. inv.returned f site.spot site.close v s.cells s.draws s.seen ends h }
 
-  keeps_returned : (site : Site) (f : ℕ) (v : Option ℤ) → Ends (Defined f) site.spot site.close → Keeps (run.returned p S see site v)
-  keeps_returned site f (Some v) ends = keeps_then (run.tell p S see (Return site.close (Some v))) _ (keeps_back site f (Some v) ends) (λ _. keeps_ret v)
+  keeps_returned : (site : Site) (f : ℕ) (v : Option ℤ) → Ends (Defined f) site.spot site.close
+      → Keeps (run.returned p S see site v)
+  keeps_returned site f (Some v) ends =
+      keeps_then (run.tell p S see (Return site.close (Some v))) _ (keeps_back site f (Some v) ends) (λ _. keeps_ret v)
   keeps_returned site f None ends =
       keeps_then (run.tell p S see (Return site.close None)) _ (keeps_back site f None ends)
-      (λ _. keeps_cond site.needed (run.stop p S see (Undefined site.spot)) (run.ret p S see (pos 0)) (keeps_undefined site.spot) (keeps_ret (pos 0)))
+      (λ _. keeps_cond site.needed (run.stop p S see (Undefined site.spot)) (run.ret p S see (pos 0))
+      (keeps_undefined site.spot) (keeps_ret (pos 0)))
 
   keeps_scoped : {A : Type 0} (m : Act A) → Keeps m → Keeps (acts.scoped End (State S) cells_of with_cells m)
   keeps_scoped {A} m f = record { at = λ s h. by (length s.cells) (m s) (f.at s h) }
     where
-      by : (n : ℕ) (r : Res End (State S) A) → HoldsAfter r → HoldsAfter (acts.cut End (State S) cells_of with_cells n r)
+      by : (n : ℕ) (r : Res End (State S) A) → HoldsAfter r
+          → HoldsAfter (acts.cut End (State S) cells_of with_cells n r)
       by n (Go a t) h = h
       by n (Stop e t) h = h
 
-  keeps_called : (site : Site) (f : ℕ) (a : Act Flow) → Ends (Defined f) site.spot site.close → Keeps a → Keeps (run.called p S see site a)
+  keeps_called : (site : Site) (f : ℕ) (a : Act Flow) → Ends (Defined f) site.spot site.close → Keeps a
+      → Keeps (run.called p S see site a)
   keeps_called site f a ends g =
       keeps_then (run.deeper p S see) _ (record { at = λ s h. h }) (λ _.
       keeps_then (acts.scoped End (State S) cells_of with_cells a) _ (keeps_scoped a g) (λ flow.
@@ -148,10 +169,14 @@ module _ (p : Program) (S : Type 0) (see : Moment → S → S) (Ends : Callee �
   -- ---- statements
 
   keeps_continued : (m : Act Flow) → Keeps m → Keeps (acts.continued End (State S) cells_of with_cells m)
-  keeps_continued m f = keeps_then (acts.scoped End (State S) cells_of with_cells m) (λ g u. Go (continuing g) u) (keeps_scoped m f) (λ g. record { at = λ s h. h })
+  keeps_continued m f =
+      keeps_then (acts.scoped End (State S) cells_of with_cells m) (λ g u. Go (continuing g) u) (keeps_scoped m f)
+      (λ g. record { at = λ s h. h })
 
   keeps_breaks : (m : Act Flow) → Keeps m → Keeps (acts.breaks End (State S) cells_of with_cells m)
-  keeps_breaks m f = keeps_then (acts.scoped End (State S) cells_of with_cells m) (λ g u. Go (held g) u) (keeps_scoped m f) (λ g. record { at = λ s h. h })
+  keeps_breaks m f =
+      keeps_then (acts.scoped End (State S) cells_of with_cells m) (λ g u. Go (held g) u) (keeps_scoped m f)
+      (λ g. record { at = λ s h. h })
 
   keeps_seq : (a b : Act Flow) → Keeps a → Keeps b → Keeps (λ s. bind (a s) (go_on b))
   keeps_seq a b f g = keeps_then a (go_on b) f on
@@ -171,10 +196,12 @@ module _ (p : Program) (S : Type 0) (see : Moment → S → S) (Ends : Callee �
       on Again = record { at = λ s h. h }
       on (Gave v) = record { at = λ s h. h }
 
-  keeps_turns : (n : ℕ) (at : Spot) (l : Loop) (arrived : List Cell) (m : Act Flow) → Keeps m → Keeps (run.turns p S see n at l arrived m)
+  keeps_turns : (n : ℕ) (at : Spot) (l : Loop) (arrived : List Cell) (m : Act Flow) → Keeps m
+      → Keeps (run.turns p S see n at l arrived m)
   keeps_turns zero at l arrived m f = keeps_spent
   keeps_turns (suc n) at l arrived m f =
-      keeps_then (λ s. run.note p S see (Head at l arrived s.cells) s) _ (record { at = λ s h. inv.head at l arrived s.cells s.draws s.seen h })
+      keeps_then (λ s. run.note p S see (Head at l arrived s.cells) s) _
+      (record { at = λ s h. inv.head at l arrived s.cells s.draws s.seen h })
       (λ _. keeps_turned m (run.turns p S see n at l arrived m) f (keeps_turns n at l arrived m f))
 
   keeps_loop : (at : Spot) (l : Loop) (m : Act Flow) → Keeps m → Keeps (run.loop p S see at l m)
@@ -191,8 +218,14 @@ module _ (p : Program) (S : Type 0) (see : Moment → S → S) (Ends : Callee �
     room = λ n. record { at = λ s h. room_kept (nat_le (length s.cells + s.active + n) most_cells) s h };
     convert = λ from to v. keeps_ret (fit p.model to v);
     test = λ ty v. keeps_ret (not (is_zero v));
-    cell = λ spot ty. record { at = λ s h. inv.cell spot ty (fit p.model ty (or_zero (chosen OfCell spot s.choices))) s.draws s.seen h };
-    input = λ site ty ends. record { at = λ s h. inv.input site.spot site.close ty (fit p.model ty (or_zero (chosen Input site.spot s.choices))) s.cells s.draws s.seen ends h };
+    cell = λ spot ty. record {
+      at = λ s h. inv.cell spot ty
+          (fit p.model ty (or_zero (chosen OfCell spot s.choices))) s.draws s.seen h;
+    };
+    input = λ site ty ends. record {
+      at = λ s h. inv.input site.spot site.close ty
+          (fit p.model ty (or_zero (chosen Input site.spot s.choices))) s.cells s.draws s.seen ends h;
+    };
     element = λ spot o n c js. keeps_key spot o (cell_among n c js);
     look = λ x. record { at = λ s h. h };
     write = λ x v. record { at = λ s h. h };
@@ -205,10 +238,12 @@ module _ (p : Program) (S : Type 0) (see : Moment → S → S) (Ends : Callee �
     ending = keeps_ended;
     called = λ site f a ends g. keeps_called site f a ends g;
     missing = keeps_ended;
-    here = λ at. keeps_then (λ s. run.note p S see (Here at s.cells) s) _ (record { at = λ s h. inv.here at s.cells s.draws s.seen h }) (λ _. keeps_tell (At at) refl);
+    here = λ at. keeps_then (λ s. run.note p S see (Here at s.cells) s) _
+        (record { at = λ s h. inv.here at s.cells s.draws s.seen h }) (λ _. keeps_tell (At at) refl);
     declare = λ o n. record { at = λ s h. h };
     branch = λ at t a b f g. keeps_after (Branch at (Truth t)) (λ s. cond t a b s) refl (keeps_cond t a b f g);
-    select = λ at ty v ls. keeps_after (Branch at (way_for v ls)) (run.ret p S see (arm_for v ls)) refl (keeps_ret (arm_for v ls));
+    select = λ at ty v ls. keeps_after (Branch at (way_for v ls)) (run.ret p S see (arm_for v ls)) refl
+        (keeps_ret (arm_for v ls));
     next = keeps_ret Next;
     leave = keeps_ret Broken;
     again = keeps_ret Again;
@@ -222,6 +257,8 @@ module _ (p : Program) (S : Type 0) (see : Moment → S → S) (Ends : Callee �
   }
 
   -- where it holds of nothing drawn, it holds of a run's end
-  pub holds_of_run : Each (λ (f : Function). IsBody Ends In f.body) p.functions → (c : Choices) (N : ℕ) (x : S) → inv.Holds [] x → HoldsAfter (Seen p S see x c N)
+  pub holds_of_run : Each (λ (f : Function). IsBody Ends In f.body) p.functions → (c : Choices) (N : ℕ) (x : S)
+      → inv.Holds [] x → HoldsAfter (Seen p S see x c N)
   unfolding real_kept
-  holds_of_run bodies c N x h = (kept_main p (run.real p S see) Ends In real_kept bodies (suc N)).at (first_state p S x c N) h
+  holds_of_run bodies c N x h =
+      (kept_main p (run.real p S see) Ends In real_kept bodies (suc N)).at (first_state p S x c N) h

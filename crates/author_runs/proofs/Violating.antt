@@ -19,14 +19,16 @@ use Rattle.author_runs.proofs.Known.{Ends}
 use Rattle.author_runs.proofs.Runs as runs
 use Rattle.author_runs.proofs.Runs.{Invariant, is_plain}
 
-among-append : (before : Option Spot) (xs ys : List Moment) → violated_among before (xs ++ ys) ≡ violated_among (violated_among before xs) ys
+among-append : (before : Option Spot) (xs ys : List Moment)
+    → violated_among before (xs ++ ys) ≡ violated_among (violated_among before xs) ys
 among-append before [] ys = refl
 among-append before (Told e cells ∷ xs) ys = among-append (violated_in e before) xs ys
 among-append before (Here spot cells ∷ xs) ys = among-append before xs ys
 among-append before (Head at l arrived cells ∷ xs) ys = among-append before xs ys
 
 -- the last moment is the first of the list
-one_more : (m : Moment) (xs : List Moment) → violated_at (reverse (m ∷ xs)) ≡ violated_among (violated_at (reverse xs)) (m ∷ [])
+one_more : (m : Moment) (xs : List Moment)
+    → violated_at (reverse (m ∷ xs)) ≡ violated_among (violated_at (reverse xs)) (m ∷ [])
 one_more m xs = ap violated_at (reverse-append (m ∷ []) xs) ∙ among-append None (reverse xs) (m ∷ [])
 
 module _ (p : Program) where
@@ -44,21 +46,33 @@ module _ (p : Program) where
   After Spent xs = Unit {0}
   After Deep xs = Unit {0}
 
-  noted : (m : Moment) (xs : List Moment) → violated_among (violated_at (reverse xs)) (m ∷ []) ≡ violated_at (reverse xs) → Unviolated xs → Unviolated (m ∷ xs)
+  noted : (m : Moment) (xs : List Moment)
+      → violated_among (violated_at (reverse xs)) (m ∷ []) ≡ violated_at (reverse xs) → Unviolated xs
+      → Unviolated (m ∷ xs)
   noted m xs e h = one_more m xs ∙ e ∙ h
 
-  told : (e : Event) (cs : List Cell) (xs : List Moment) → is_plain e ≡ true → Unviolated xs → Unviolated (Told e cs ∷ xs)
+  told : (e : Event) (cs : List Cell) (xs : List Moment) → is_plain e ≡ true → Unviolated xs
+      → Unviolated (Told e cs ∷ xs)
   told (At spot) cs xs q h = noted (Told (At spot) cs) xs refl h
   told (Branch spot way) cs xs q h = noted (Told (Branch spot way) cs) xs refl h
   told (Enter close) cs xs q h = noted (Told (Enter close) cs) xs refl h
   told (Return close v) cs xs q h = absurd (false≢true q)
   told (Fail statement full call) cs xs q h = absurd (false≢true q)
 
-  failed : (statement full : Spot) (call : Option Spot) (cs : List Cell) (xs : List Moment) → In p statement → Unviolated xs → ViolatedIn (Told (Fail statement full call) cs ∷ xs)
+  failed : (statement full : Spot) (call : Option Spot) (cs : List Cell) (xs : List Moment) → In p statement
+      → Unviolated xs → ViolatedIn (Told (Fail statement full call) cs ∷ xs)
   failed statement full call cs xs z h = (
     statement,
     record {
-      fails = record { before = reverse xs; full = full; call = call; cells = cs; last = reverse-append (Told (Fail statement full call) cs ∷ []) xs; only = h };
+      fails = record {
+        before = reverse xs;
+        full = full;
+        call = call;
+        cells = cs;
+        last = reverse-append
+            (Told (Fail statement full call) cs ∷ []) xs;
+        only = h;
+      };
       violated = one_more (Told (Fail statement full call) cs) xs;
       aim = aim p statement z;
     },
@@ -81,7 +95,8 @@ module _ (p : Program) where
     input = λ spot close ty v cs ds xs ends h. noted (Told (Return close (Some v)) cs) xs refl h;
   }
 
-  of_end : (r : Res End (State (List Moment)) Flow) (spot : Spot) → runs.HoldsAfter p (List Moment) (λ x xs. x ∷ xs) (Ends p) (In p) violations r → end_of r ≡ Violated spot
+  of_end : (r : Res End (State (List Moment)) Flow) (spot : Spot)
+      → runs.HoldsAfter p (List Moment) (λ x xs. x ∷ xs) (Ends p) (In p) violations r → end_of r ≡ Violated spot
       → ViolatedIn (state_of r).seen
   unfolding violations
   of_end (Go f s) spot h e = absurd (cc)
@@ -90,4 +105,5 @@ module _ (p : Program) where
   pub violations_end : IsProgram p → (c : Choices) (N : ℕ) → ViolationsEndRuns p c N
   unfolding violations
   violations_end checked c N spot e =
-      of_end (Whole p c N) spot (runs.holds_of_run p (List Moment) (λ x xs. x ∷ xs) (Ends p) (In p) violations (bodies p checked) c N [] refl) e
+      of_end (Whole p c N) spot
+      (runs.holds_of_run p (List Moment) (λ x xs. x ∷ xs) (Ends p) (In p) violations (bodies p checked) c N [] refl) e

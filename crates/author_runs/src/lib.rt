@@ -1,4 +1,5 @@
-//! Runs from which violation witnesses are written: what comes back of their inputs, and where they violate the property.
+//! Runs from which violation witnesses are written: what comes back of their inputs, and where they
+//! violate the property.
 #![tactic(auto)]
 
 mod laws;
