@@ -50,8 +50,8 @@ module _ (p : Program) where
 
   each_body : (fs : List Function) → list_all function_nests fs ≡ true
       → Each (λ (f : Function). Each (λ s. Fulls (own_fulls_of s)) (statements_of f.body)) fs
-      → Each (λ (f : Function). Each (λ b. In (spot_of_statement b)) (inside f.body)) fs → Each
-      (λ (f : Function). IsBody (Ends p) In f.body) fs
+      → Each (λ (f : Function). Each (λ b. In (spot_of_statement b)) (inside f.body)) fs
+      → Each (λ (f : Function). IsBody (Ends p) In f.body) fs
   each_body [] nests fulls stands = tt
   each_body (f ∷ fs) nests fulls stands = (
     one_body f.body (left (is_block f.body) _ (left (function_nests f) _ nests)) fulls.0 stands.0,

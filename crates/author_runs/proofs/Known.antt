@@ -1,5 +1,5 @@
 -- In a checked program the call that ends at a place is known by it, and so is the input call that begins at one.
-use Rattle.std.proofs.Common.{◌≡◌, Bool, true, false, cond, ◌||◌, Option, Some, None, refl, ap, ◌∙◌}
+use Rattle.std.proofs.Common.{◌≡◌, Bool, true, false, cond, Option, Some, None, refl, ap, ◌∙◌}
 use Rattle.std.proofs.lemmas.Bool.{false≢true, or_left, or_right}
 use Rattle.std.specs.List.{Contains}
 use Rattle.c_core.specs.Tree.{Exp, Expr, Call, Exps, Program}

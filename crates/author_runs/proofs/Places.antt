@@ -90,8 +90,8 @@ spots ss = map spot_of_statement ss
 both : (ps qs : List Place) (xs ys : List Stm) → standing ps ≡ spots xs → standing qs ≡ spots ys
     → standing (ps ++ qs) ≡ spots (xs ++ ys)
 both ps qs xs ys a b =
-    standing-append ps qs ∙ ap (λ l. l ++ standing qs) a ∙ ap (λ l. spots xs ++ l) b ∙ sym
-    (map-append spot_of_statement xs ys)
+    standing-append ps qs ∙ ap (λ l. l ++ standing qs) a ∙ ap (λ l. spots xs ++ l) b
+    ∙ sym (map-append spot_of_statement xs ys)
 
 after_none : (ps qs : List Place) (ys : List Stm) → standing ps ≡ [] → standing qs ≡ spots ys
     → standing (ps ++ qs) ≡ spots ys

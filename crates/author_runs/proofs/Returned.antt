@@ -46,8 +46,9 @@ module _ (p : Program) where
   -- nothing comes back
   noted : (m : Moment) (ds : List Draw) (xs : List Moment) → back_in p m ≡ None → Back ds xs → Back ds (m ∷ xs)
   noted m ds xs e h = record {
-    returned = one_more m xs ∙ ap (λ o. returns_in p (reverse xs) ++ cons_option o []) e ∙ append-nil
-        (returns_in p (reverse xs)) ∙ h.returned;
+    returned =
+        one_more m xs ∙ ap (λ o. returns_in p (reverse xs) ++ cons_option o []) e ∙ append-nil (returns_in p (reverse xs))
+        ∙ h.returned;
     ended = h.ended;
   }
 
@@ -82,8 +83,8 @@ module _ (p : Program) where
       let drawn : drawn_by p Input d ≡ Some came = ap (drawn_to d) ends.1 in record {
         returned =
             one_more (Told (Return close (Some v)) cs) xs ∙ ap (λ o. returns_in p (reverse xs) ++ cons_option o []) back
-            ∙ ap (λ l. l ++ came ∷ []) h.returned ∙ sym
-            (one_drawn d ds ∙ ap (λ o. inputs_in p ds ++ cons_option o []) drawn);
+            ∙ ap (λ l. l ++ came ∷ []) h.returned
+            ∙ sym (one_drawn d ds ∙ ap (λ o. inputs_in p ds ++ cons_option o []) drawn);
         ended = still_ended d ds (rw ends.1 refl) h.ended;
       }
 
@@ -99,8 +100,8 @@ module _ (p : Program) where
     told = λ e cs ds xs q h. noted (Told e cs) ds xs (told e cs q) h;
     here = λ spot cs ds xs h. noted (Here spot cs) ds xs refl h;
     head = λ spot l arrived cs ds xs h. noted (Head spot l arrived cs) ds xs refl h;
-    returned = λ f spot close v cs ds xs ends h. noted (Told (Return close v) cs) ds xs
-        (returned f spot close v cs ends) h;
+    returned = λ f spot close v cs ds xs ends h.
+        noted (Told (Return close v) cs) ds xs (returned f spot close v cs ends) h;
     cell = cell;
     input = input;
   }
