@@ -1,6 +1,6 @@
 -- Sets of invariants that hold up together: under the whole set, each of its invariants holds at its statement, or on arrival at its
 -- loop and after each turn.
-use Rattle.std.specs.Prelude.{◌≡◌, ℕ, suc, ℤ, Bool, true, false, List, length, Some, slice_get}
+use Rattle.std.specs.Prelude.{◌≡◌, ◌<◌, ℕ, suc, ℤ, Bool, true, false, List, length, Some, slice_get}
 use Rattle.c_core.specs.Tree.{Program}
 use Rattle.c_meaning.specs.declared.run.Duty.{Duty}
 use Rattle.c_meaning.specs.declared.run.DutyKind.{DutyKind}
@@ -20,6 +20,16 @@ is_of_invariant Property = false
 -- with these invariants, every obligation of one of them holds
 abbrev pub AreInductive : Program → List Placed → Type 0
 AreInductive p I = (index : ℕ) (d : Duty) → slice_get (Duties p I) index ≡ Some d → is_of_invariant d.kind ≡ true → ObligationHolds p I (suc index)
+
+-- it is of one of the invariants, counted from 0
+pub record IsNamed (I : List Placed) (d : Duty) : Type 0 where
+  pub number : ℕ
+  pub within : number < length I
+  pub named : d.invariant ≡ Some number
+
+-- each obligation that is of an invariant is of one of these
+abbrev pub DutiesName : Program → List Placed → Type 0
+DutiesName p I = (index : ℕ) (d : Duty) → slice_get (Duties p I) index ≡ Some d → is_of_invariant d.kind ≡ true → IsNamed I d
 
 -- every inductive set of invariants is part of this one
 abbrev pub HoldsInductive : Program → List Placed → List ℕ → Type 0

@@ -3,4 +3,6 @@
 
 mod laws;
 
-pub use laws::failures_drop;
+pub use laws::{
+    all_are_picked, as_many_are_picked, duties_name, failures_drop, parts_stay_invariants,
+};
