@@ -1,5 +1,5 @@
--- A havoc run with some of the invariants follows the run with all of them: where that one goes on, passes or violates the property, so
--- does this one; where that one fails at one of the some, this one fails there too.
+-- A havoc run with some of a list of invariants follows the run with the whole list. Where that one goes on, passes or
+-- violates the property, so does this one. Where that one fails at an invariant that this one has too, this one does too.
 use Rattle.std.proofs.Common.{◌≡◌, ℕ, zero, suc, ℤ, pos, Bool, true, false, cond, not, ◌&&◌, List, [], ◌∷◌, length, take, Option, Some, None, slice_get, refl, ap}
 use Rattle.c_core.specs.Types.{fit, is_zero, number_of}
 use Rattle.c_core.specs.Operators.{apply_of, apply_one_of}
@@ -40,23 +40,49 @@ Result A = Res Stopped Left A
 abbrev Act : Type 0 → Type 0
 Act A = Left → Result A
 
+-- what two results may have in common
+abbrev Rel : Type 0 → Type 0 → Type 1
+Rel A B = A → B → Type 0
+
+-- with the cells that lived before
+abbrev cut : {A : Type 0} → ℕ → Result A → Result A
+cut n r = acts.cut Stopped Left cells_left with_cells_left n r
+
+abbrev scoped : {A : Type 0} → Act A → Act A
+scoped m = acts.scoped Stopped Left cells_left with_cells_left m
+
+abbrev write : Key → ℤ → Act (Unit {0})
+write k v = acts.write Stopped Left cells_left with_cells_left k v
+
+-- the run ends at an obligation of the invariant with this number
+abbrev failing : {A : Type 0} → Spot → DutyKind → ℕ → Left → Result A
+failing spot kind i s = Stop (Fails (duty spot kind (Some i))) s
+
+-- the run violates the property
+abbrev violating : {A : Type 0} → Spot → Left → Result A
+violating spot s = Stop (Fails (duty spot AtProperty None)) s
+
 -- q: which invariants the second run has, by their places among those of the first
 module _ (q : ℕ → Bool) where
-  -- how a part ends in both; nothing is said of the second where the first is dismissed or fails at an invariant that the second hasn't
-  pub data Ends {A B : Type 0} (R : A → B → Type 0) : Result A → Result B → Type 0 where
+  -- how a part ends in both; where the first is dismissed, or fails at an invariant that the second hasn't, nothing is
+  -- said of the second
+  pub data Ends {A B : Type 0} (R : Rel A B) : Result A → Result B → Type 0 where
     goes : (a : A) (b : B) (s : Left) → R a b → Ends R (Go a s) (Go b s)
     passes : (s : Left) → Ends R (Stop Passes s) (Stop Passes s)
-    violates : (spot : Spot) (s : Left) → Ends R (Stop (Fails (duty spot AtProperty None)) s) (Stop (Fails (duty spot AtProperty None)) s)
-    fails : (spot : Spot) (kind : DutyKind) (i j : ℕ) (s : Left) → is_of_invariant kind ≡ true → Ends R (Stop (Fails (duty spot kind (Some i))) s) (Stop (Fails (duty spot kind (Some j))) s)
-    fails_alone : (spot : Spot) (kind : DutyKind) (i : ℕ) (s : Left) (r : Result B) → q i ≡ false → Ends R (Stop (Fails (duty spot kind (Some i))) s) r
+    violates : (spot : Spot) (s : Left) → Ends R (violating spot s) (violating spot s)
+    fails : (spot : Spot) (kind : DutyKind) (i j : ℕ) (s : Left) → is_of_invariant kind ≡ true
+        → Ends R (failing spot kind i s) (failing spot kind j s)
+    fails_alone : (spot : Spot) (kind : DutyKind) (i : ℕ) (s : Left) (r : Result B) → q i ≡ false
+        → Ends R (failing spot kind i s) r
     dismissed : (s : Left) (r : Result B) → Ends R (Stop Dismisses s) r
 
   -- the second follows the first from every state
-  pub record Follows {A B : Type 0} (R : A → B → Type 0) (m : Act A) (n : Act B) : Type 0 where
+  pub record Follows {A B : Type 0} (R : Rel A B) (m : Act A) (n : Act B) : Type 0 where
     pub at : (s : Left) → Ends R (m s) (n s)
 
-  ends_then : {A B C D : Type 0} (R : A → B → Type 0) (Q : C → D → Type 0) (k : A → Act C) (l : B → Act D) → ((a : A) (b : B) → R a b → Follows Q (k a) (l b))
-      → (r : Result A) (r' : Result B) → Ends R r r' → Ends Q (bind r k) (bind r' l)
+  ends_then : {A B C D : Type 0} (R : Rel A B) (Q : Rel C D) (k : A → Act C) (l : B → Act D)
+      → ((a : A) (b : B) → R a b → Follows Q (k a) (l b)) → (r : Result A) (r' : Result B) → Ends R r r'
+      → Ends Q (bind r k) (bind r' l)
   ends_then R Q k l f _ _ (goes a b s h) = (f a b h).at s
   ends_then R Q k l f _ _ (passes s) = passes s
   ends_then R Q k l f _ _ (violates spot s) = violates spot s
@@ -64,103 +90,121 @@ module _ (q : ℕ → Bool) where
   ends_then R Q k l f _ _ (fails_alone spot kind i s r e) = fails_alone spot kind i s (bind r l) e
   ends_then R Q k l f _ _ (dismissed s r) = dismissed s (bind r l)
 
-  follows_then : {A B C D : Type 0} (R : A → B → Type 0) (Q : C → D → Type 0) (m : Act A) (n : Act B) (k : A → Act C) (l : B → Act D) → Follows R m n
-      → ((a : A) (b : B) → R a b → Follows Q (k a) (l b)) → Follows Q (λ s. bind (m s) k) (λ s. bind (n s) l)
+  follows_then : {A B C D : Type 0} (R : Rel A B) (Q : Rel C D) (m : Act A) (n : Act B) (k : A → Act C) (l : B → Act D)
+      → Follows R m n → ((a : A) (b : B) → R a b → Follows Q (k a) (l b))
+      → Follows Q (λ s. bind (m s) k) (λ s. bind (n s) l)
   follows_then R Q m n k l g f = record { at = λ s. ends_then R Q k l f (m s) (n s) (g.at s) }
 
-  follows_cond : {A B : Type 0} (R : A → B → Type 0) (t : Bool) (a b : Act A) (a' b' : Act B) → Follows R a a' → Follows R b b' → Follows R (λ s. cond t a b s) (λ s. cond t a' b' s)
+  follows_cond : {A B : Type 0} (R : Rel A B) (t : Bool) (a b : Act A) (a' b' : Act B) → Follows R a a' → Follows R b b'
+      → Follows R (λ s. cond t a b s) (λ s. cond t a' b' s)
   follows_cond R true a b a' b' g h = record { at = λ s. g.at s }
   follows_cond R false a b a' b' g h = record { at = λ s. h.at s }
 
-  cut_ends : {A B : Type 0} (R : A → B → Type 0) (n : ℕ) (r : Result A) (r' : Result B) → Ends R r r' → Ends R (acts.cut Stopped Left cells_left with_cells_left n r) (acts.cut Stopped Left cells_left with_cells_left n r')
+  cut_ends : {A B : Type 0} (R : Rel A B) (n : ℕ) (r : Result A) (r' : Result B) → Ends R r r'
+      → Ends R (cut n r) (cut n r')
   cut_ends R n _ _ (goes a b s h) = goes a b (with_cells_left (take n s.cells) s) h
   cut_ends R n _ _ (passes s) = passes s
   cut_ends R n _ _ (violates spot s) = violates spot s
   cut_ends R n _ _ (fails spot kind i j s e) = fails spot kind i j s e
-  cut_ends R n _ _ (fails_alone spot kind i s r e) = fails_alone spot kind i s _ e
-  cut_ends R n _ _ (dismissed s r) = dismissed s _
+  cut_ends R n _ _ (fails_alone spot kind i s r e) = fails_alone spot kind i s (cut n r) e
+  cut_ends R n _ _ (dismissed s r) = dismissed s (cut n r)
 
-  follows_scoped : {A B : Type 0} (R : A → B → Type 0) (m : Act A) (n : Act B) → Follows R m n → Follows R (acts.scoped Stopped Left cells_left with_cells_left m) (acts.scoped Stopped Left cells_left with_cells_left n)
+  follows_scoped : {A B : Type 0} (R : Rel A B) (m : Act A) (n : Act B) → Follows R m n
+      → Follows R (scoped m) (scoped n)
   follows_scoped R m n g = record { at = λ s. cut_ends R (length s.cells) (m s) (n s) (g.at s) }
 
   -- I: the invariants of the first run
   module _ (p : Program) (I : List Placed) where
-    -- those of the second
+    -- of the second run
     abbrev pub J : List Placed
     J = thinned q 0 I
 
-    follows_ret : {A B : Type 0} (R : A → B → Type 0) (a : A) (b : B) → R a b → Follows R (havoc.ret p I a) (havoc.ret p J b)
+    -- the same part in both runs, each with its invariants
+    abbrev Alike : {A : Type 0} → Rel A A → (List Placed → Act A) → Type 0
+    Alike R m = Follows R (m I) (m J)
+
+    follows_ret : {A B : Type 0} (R : Rel A B) (a : A) (b : B) → R a b → Follows R (havoc.ret p I a) (havoc.ret p J b)
     follows_ret R a b h = record { at = λ s. goes a b s h }
 
-    follows_pass : {A B : Type 0} (R : A → B → Type 0) → Follows R (havoc.stop p I {A = A} Passes) (havoc.stop p J {A = B} Passes)
+    follows_pass : {A : Type 0} (R : Rel A A) → Alike R (λ K. havoc.stop p K {A = A} Passes)
     follows_pass R = record { at = λ s. passes s }
 
-    follows_draw : (kind : DrawKind) (spot : Spot) (ty : IntType) → Follows Equal (havoc.draw p I kind spot ty) (havoc.draw p J kind spot ty)
+    follows_draw : (kind : DrawKind) (spot : Spot) (ty : IntType) → Alike Equal (λ K. havoc.draw p K kind spot ty)
     follows_draw kind spot ty = record { at = λ s. goes _ _ _ refl }
 
-    follows_key : (o : ℕ) (i : Option ℕ) → Follows Equal (havoc.key_of p I o i) (havoc.key_of p J o i)
+    follows_key : (o : ℕ) (i : Option ℕ) → Alike Equal (λ K. havoc.key_of p K o i)
     follows_key o None = follows_pass Equal
     follows_key o (Some i) = follows_ret Equal _ _ refl
 
-    follows_write : (k : Key) (v : ℤ) → Follows Units (acts.write Stopped Left cells_left with_cells_left k v) (acts.write Stopped Left cells_left with_cells_left k v)
+    follows_write : (k : Key) (v : ℤ) → Follows Units (write k v) (write k v)
     follows_write k v = record { at = λ s. goes _ _ _ tt }
 
     -- ---- violations of the property
 
-    follows_violated : {A B : Type 0} (R : A → B → Type 0) (at : Where) → Follows R (havoc.violated p I {A = A} at) (havoc.violated p J {A = B} at)
+    follows_violated : {A : Type 0} (R : Rel A A) (at : Where) → Alike R (λ K. havoc.violated p K {A = A} at)
     follows_violated R at = record { at = λ s. violates at.full s }
 
-    follows_overflowed : (r : Property) (at : Where) (v : ℤ) → Follows Equal (havoc.overflowed p I r at v) (havoc.overflowed p J r at v)
+    follows_overflowed : (r : Property) (at : Where) (v : ℤ) → Alike Equal (λ K. havoc.overflowed p K r at v)
     follows_overflowed NoOverflow at v = follows_violated Equal at
     follows_overflowed UnreachCall at v = follows_ret Equal v v refl
 
-    follows_answered : (at : Where) (d : Done) → Follows Equal (havoc.answered p I at d) (havoc.answered p J at d)
+    follows_answered : (at : Where) (d : Done) → Alike Equal (λ K. havoc.answered p K at d)
     follows_answered at (Value v) = follows_ret Equal v v refl
     follows_answered at (Overflow v) = follows_overflowed p.property at v
     follows_answered at Undefined = follows_pass Equal
 
-    follows_reached : (r : Property) (at : Where) → Follows Equal (havoc.reached p I r at) (havoc.reached p J r at)
+    follows_reached : (r : Property) (at : Where) → Alike Equal (λ K. havoc.reached p K r at)
     follows_reached UnreachCall at = follows_violated Equal at
     follows_reached NoOverflow at = follows_pass Equal
 
-    follows_returned : (site : Site) (v : Option ℤ) → Follows Equal (havoc.returned p I site v) (havoc.returned p J site v)
+    follows_returned : (site : Site) (v : Option ℤ) → Alike Equal (λ K. havoc.returned p K site v)
     follows_returned site (Some v) = follows_ret Equal v v refl
-    follows_returned site None = follows_cond Equal site.needed _ _ _ _ (follows_pass Equal) (follows_ret Equal (pos 0) (pos 0) refl)
+    follows_returned site None =
+        follows_cond Equal site.needed _ _ _ _ (follows_pass Equal) (follows_ret Equal (pos 0) (pos 0) refl)
 
     -- ---- invariants
 
-    abbrev Tested : ℕ → ℕ → List Placed → List Placed → Bool → Spot → DutyKind → Type 0
-    Tested i j xs ys at_loop spot kind = Follows Units (havoc.test_from p I i xs at_loop spot kind) (havoc.test_from p J j ys at_loop spot kind)
+    -- it stands there, and doesn't hold
+    abbrev broken : Bool → Spot → Placed → Left → Bool
+    broken at_loop spot x s = havoc.stands p I at_loop spot x && not (holds p x.test s.cells)
 
-    -- one that both test
-    both_test : (b : Bool) (spot : Spot) (kind : DutyKind) (i j : ℕ) (s : Left) (r r' : Result (Unit {0})) → is_of_invariant kind ≡ true → Ends Units r r'
-        → Ends Units (cond b (Stop (Fails (duty spot kind (Some i))) s) r) (cond b (Stop (Fails (duty spot kind (Some j))) s) r')
-    both_test true spot kind i j s r r' k h = fails spot kind i j s k
-    both_test false spot kind i j s r r' k h = h
+    module _ (at_loop : Bool) (spot : Spot) (kind : DutyKind) (of_invariant : is_of_invariant kind ≡ true) where
+      abbrev Tested : ℕ → ℕ → List Placed → List Placed → Type 0
+      Tested i j xs ys =
+          Follows Units (havoc.test_from p I i xs at_loop spot kind) (havoc.test_from p J j ys at_loop spot kind)
 
-    -- one that the first alone tests
-    one_tests : (b : Bool) (spot : Spot) (kind : DutyKind) (i : ℕ) (s : Left) (r r' : Result (Unit {0})) → q i ≡ false → Ends Units r r'
-        → Ends Units (cond b (Stop (Fails (duty spot kind (Some i))) s) r) r'
-    one_tests true spot kind i s r r' e h = fails_alone spot kind i s r' e
-    one_tests false spot kind i s r r' e h = h
+      -- one that both test
+      both_test : (b : Bool) (i j : ℕ) (s : Left) (r r' : Result (Unit {0})) → Ends Units r r'
+          → Ends Units (cond b (failing spot kind i s) r) (cond b (failing spot kind j s) r')
+      both_test true i j s r r' h = fails spot kind i j s of_invariant
+      both_test false i j s r r' h = h
 
-    follows_tests : (i j : ℕ) (xs : List Placed) (at_loop : Bool) (spot : Spot) (kind : DutyKind) → is_of_invariant kind ≡ true → Tested i j xs (thinned q i xs) at_loop spot kind
-    follows_tests i j [] at_loop spot kind k = follows_ret Units tt tt tt
-    follows_tests i j (x ∷ xs) at_loop spot kind k = by (q i) refl (follows_tests (suc i) (suc j) xs at_loop spot kind k) (follows_tests (suc i) j xs at_loop spot kind k)
-      where
-        by : (b : Bool) → q i ≡ b → Tested (suc i) (suc j) xs (thinned q (suc i) xs) at_loop spot kind → Tested (suc i) j xs (thinned q (suc i) xs) at_loop spot kind
-            → Tested i j (x ∷ xs) (cond b (x ∷ thinned q (suc i) xs) (thinned q (suc i) xs)) at_loop spot kind
-        by true e g h = record { at = λ s. both_test (havoc.stands p I at_loop spot x && not (holds p x.test s.cells)) spot kind i j s _ _ k (g.at s) }
-        by false e g h = record { at = λ s. one_tests (havoc.stands p I at_loop spot x && not (holds p x.test s.cells)) spot kind i s _ _ e (h.at s) }
+      -- one that the first alone tests
+      one_tests : (b : Bool) (i : ℕ) (s : Left) (r r' : Result (Unit {0})) → q i ≡ false → Ends Units r r'
+          → Ends Units (cond b (failing spot kind i s) r) r'
+      one_tests true i s r r' e h = fails_alone spot kind i s r' e
+      one_tests false i s r r' e h = h
+
+      follows_tests : (i j : ℕ) (xs : List Placed) → Tested i j xs (thinned q i xs)
+      follows_tests i j [] = follows_ret Units tt tt tt
+      follows_tests i j (x ∷ xs) = by (q i) refl (follows_tests (suc i) (suc j) xs) (follows_tests (suc i) j xs)
+        where
+          by : (b : Bool) → q i ≡ b → Tested (suc i) (suc j) xs (thinned q (suc i) xs)
+              → Tested (suc i) j xs (thinned q (suc i) xs)
+              → Tested i j (x ∷ xs) (cond b (x ∷ thinned q (suc i) xs) (thinned q (suc i) xs))
+          by true e g h = record { at = λ s. both_test (broken at_loop spot x s) i j s _ _ (g.at s) }
+          by false e g h = record { at = λ s. one_tests (broken at_loop spot x s) i s _ _ e (h.at s) }
 
     abbrev Assumed : List Placed → List Placed → Spot → Type 0
     Assumed xs ys spot = Follows Units (havoc.assume_all p I xs spot) (havoc.assume_all p J ys spot)
 
-    both_assume : (b : Bool) (s : Left) (r r' : Result (Unit {0})) → Ends Units r r' → Ends Units (cond b (Stop Dismisses s) r) (cond b (Stop Dismisses s) r')
+    both_assume : (b : Bool) (s : Left) (r r' : Result (Unit {0})) → Ends Units r r'
+        → Ends Units (cond b (Stop Dismisses s) r) (cond b (Stop Dismisses s) r')
     both_assume true s r r' h = dismissed s _
     both_assume false s r r' h = h
 
-    one_assumes : (b : Bool) (s : Left) (r r' : Result (Unit {0})) → Ends Units r r' → Ends Units (cond b (Stop Dismisses s) r) r'
+    one_assumes : (b : Bool) (s : Left) (r r' : Result (Unit {0})) → Ends Units r r'
+        → Ends Units (cond b (Stop Dismisses s) r) r'
     one_assumes true s r r' h = dismissed s _
     one_assumes false s r r' h = h
 
@@ -168,44 +212,60 @@ module _ (q : ℕ → Bool) where
     follows_assumed i [] spot = follows_ret Units tt tt tt
     follows_assumed i (x ∷ xs) spot = by (q i) (follows_assumed (suc i) xs spot)
       where
-        by : (b : Bool) → Assumed xs (thinned q (suc i) xs) spot → Assumed (x ∷ xs) (cond b (x ∷ thinned q (suc i) xs) (thinned q (suc i) xs)) spot
-        by true h = record { at = λ s. both_assume (havoc.stands p I true spot x && not (holds p x.test s.cells)) s _ _ (h.at s) }
-        by false h = record { at = λ s. one_assumes (havoc.stands p I true spot x && not (holds p x.test s.cells)) s _ _ (h.at s) }
+        by : (b : Bool) → Assumed xs (thinned q (suc i) xs) spot
+            → Assumed (x ∷ xs) (cond b (x ∷ thinned q (suc i) xs) (thinned q (suc i) xs)) spot
+        by true h = record { at = λ s. both_assume (broken true spot x s) s _ _ (h.at s) }
+        by false h = record { at = λ s. one_assumes (broken true spot x s) s _ _ (h.at s) }
+
+    follows_here : (spot : Spot) → Alike Units (λ K. havoc.test_from p K 0 K false spot Location)
+    follows_here spot = follows_tests false spot Location refl 0 0 I
 
     -- ---- loops
 
-    follows_cells : (spot : Spot) (o i n : ℕ) → Follows Units (havoc.redraw_cells p I spot o i n) (havoc.redraw_cells p J spot o i n)
+    -- a cell is written, then the rest
+    follows_put : (k : Key) (v w : ℤ) → v ≡ w → (m n : Act (Unit {0})) → Follows Units m n
+        → Follows Units (λ s. bind (write k v s) (λ _. m)) (λ s. bind (write k w s) (λ _. n))
+    follows_put k v w e m n h =
+        rw e (follows_then Units Units (write k w) (write k w) _ _ (follows_write k w) (λ _ _ _. h))
+
+    follows_cells : (spot : Spot) (o i n : ℕ) → Alike Units (λ K. havoc.redraw_cells p K spot o i n)
     follows_cells spot o i zero = follows_ret Units tt tt tt
     follows_cells spot o i (suc n) =
-        follows_then Equal Units (havoc.draw p I AHavocDraw spot (type_of_object p o)) (havoc.draw p J AHavocDraw spot (type_of_object p o)) _ _ (follows_draw AHavocDraw spot (type_of_object p o)) (λ v w e. drawn v w e (follows_cells spot o (suc i) n))
-      where
-        cell : Key
-        cell = record { object = o; index = i }
+        let ty : IntType = type_of_object p o in
+        let cell : Key = record { object = o; index = i } in
+        follows_then Equal Units (havoc.draw p I AHavocDraw spot ty) (havoc.draw p J AHavocDraw spot ty) _ _
+        (follows_draw AHavocDraw spot ty) (λ v w e. follows_put cell v w e _ _ (follows_cells spot o (suc i) n))
 
-        drawn : (v w : ℤ) → v ≡ w → Follows Units (havoc.redraw_cells p I spot o (suc i) n) (havoc.redraw_cells p J spot o (suc i) n)
-            → Follows Units (λ s. bind (acts.write Stopped Left cells_left with_cells_left cell v s) (λ _. havoc.redraw_cells p I spot o (suc i) n)) (λ s. bind (acts.write Stopped Left cells_left with_cells_left cell w s) (λ _. havoc.redraw_cells p J spot o (suc i) n))
-        drawn v w e h = rw e (follows_then Units Units (acts.write Stopped Left cells_left with_cells_left cell w) (acts.write Stopped Left cells_left with_cells_left cell w) _ _ (follows_write cell w) (λ _ _ _. h))
-
-    follows_redrawn : (spot : Spot) (os : List ℕ) → Follows Units (havoc.redraw p I spot os) (havoc.redraw p J spot os)
+    follows_redrawn : (spot : Spot) (os : List ℕ) → Alike Units (λ K. havoc.redraw p K spot os)
     follows_redrawn spot [] = follows_ret Units tt tt tt
     follows_redrawn spot (o ∷ os) =
-        follows_then Units Units (havoc.redraw_cells p I spot o 0 (size_of_object p o)) (havoc.redraw_cells p J spot o 0 (size_of_object p o)) _ _ (follows_cells spot o 0 (size_of_object p o)) (λ _ _ _. follows_redrawn spot os)
+        let n : ℕ = size_of_object p o in
+        follows_then Units Units (havoc.redraw_cells p I spot o 0 n) (havoc.redraw_cells p J spot o 0 n) _ _
+        (follows_cells spot o 0 n) (λ _ _ _. follows_redrawn spot os)
 
-    follows_here : (spot : Spot) → Follows Units (havoc.test_from p I 0 I false spot Location) (havoc.test_from p J 0 J false spot Location)
-    follows_here spot = follows_tests 0 0 I false spot Location refl
+    abbrev tested : List Placed → Spot → DutyKind → Act (Unit {0})
+    tested K spot kind = havoc.test_from p K 0 K true spot kind
 
-    follows_closed : (spot : Spot) (f : Flow) → Follows Equal (havoc.close p I spot f) (havoc.close p J spot f)
-    follows_closed spot Next = follows_then Units Equal (havoc.test_from p I 0 I true spot Kept) (havoc.test_from p J 0 J true spot Kept) _ _ (follows_tests 0 0 I true spot Kept refl) (λ _ _ _. follows_pass Equal)
+    follows_closed : (spot : Spot) (f : Flow) → Alike Equal (λ K. havoc.close p K spot f)
+    follows_closed spot Next =
+        follows_then Units Equal (tested I spot Kept) (tested J spot Kept) _ _ (follows_tests true spot Kept refl 0 0 I)
+        (λ _ _ _. follows_pass Equal)
     follows_closed spot Broken = follows_ret Equal Next Next refl
     follows_closed spot Again = follows_ret Equal Again Again refl
     follows_closed spot (Gave v) = follows_ret Equal (Gave v) (Gave v) refl
 
-    follows_loop : (spot : Spot) (l : Loop) (m n : Act Flow) → Follows Equal m n → Follows Equal (havoc.loop p I spot l m) (havoc.loop p J spot l n)
+    follows_loop : (spot : Spot) (l : Loop) (m n : Act Flow) → Follows Equal m n
+        → Follows Equal (havoc.loop p I spot l m) (havoc.loop p J spot l n)
     follows_loop spot l m n g =
-        follows_then Units Equal (havoc.test_from p I 0 I true spot Entry) (havoc.test_from p J 0 J true spot Entry) _ _ (follows_tests 0 0 I true spot Entry refl) (λ _ _ _.
-        follows_then Units Equal (havoc.redraw p I spot (changed_by p l)) (havoc.redraw p J spot (changed_by p l)) _ _ (follows_redrawn spot (changed_by p l)) (λ _ _ _.
-        follows_then Units Equal (havoc.assume_all p I I spot) (havoc.assume_all p J J spot) _ _ (follows_assumed 0 I spot) (λ _ _ _.
-        follows_then Equal Equal m n (havoc.close p I spot) (havoc.close p J spot) g (λ f f' e. rw e (follows_closed spot f')))))
+        let os : List ℕ = changed_by p l in
+        follows_then Units Equal (tested I spot Entry) (tested J spot Entry) _ _
+        (follows_tests true spot Entry refl 0 0 I) (λ _ _ _.
+        follows_then Units Equal (havoc.redraw p I spot os) (havoc.redraw p J spot os) _ _
+        (follows_redrawn spot os) (λ _ _ _.
+        follows_then Units Equal (havoc.assume_all p I I spot) (havoc.assume_all p J J spot) _ _
+        (follows_assumed 0 I spot) (λ _ _ _.
+        follows_then Equal Equal m n (havoc.close p I spot) (havoc.close p J spot) g
+        (λ f f' e. rw e (follows_closed spot f')))))
 
     -- ---- the traversal
 
@@ -215,10 +275,14 @@ module _ (q : ℕ → Bool) where
     follows_go_on k l g Again = follows_ret Equal Again Again refl
     follows_go_on k l g (Gave v) = follows_ret Equal (Gave v) (Gave v) refl
 
-    follows_called : (site : Site) (m n : Act Flow) → Follows Equal m n
-        → Follows Equal (λ s. bind (acts.scoped Stopped Left cells_left with_cells_left m s) (λ f. havoc.returned p I site (given f))) (λ s. bind (acts.scoped Stopped Left cells_left with_cells_left n s) (λ f. havoc.returned p J site (given f)))
+    -- a call of a function's body
+    abbrev done : List Placed → Site → Act Flow → Act ℤ
+    done K site m = λ s. bind (scoped m s) (λ f. havoc.returned p K site (given f))
+
+    follows_called : (site : Site) (m n : Act Flow) → Follows Equal m n → Follows Equal (done I site m) (done J site n)
     follows_called site m n g =
-        follows_then Equal Equal (acts.scoped Stopped Left cells_left with_cells_left m) (acts.scoped Stopped Left cells_left with_cells_left n) _ _ (follows_scoped Equal m n g) (λ f f' e. rw e (follows_returned site (given f')))
+        follows_then Equal Equal (scoped m) (scoped n) _ _ (follows_scoped Equal m n g)
+        (λ f f' e. rw e (follows_returned site (given f')))
 
     following : Relation (havoc.havoc p I) (havoc.havoc p J)
     following = record {
@@ -257,7 +321,8 @@ module _ (q : ℕ → Bool) where
       truth = λ t u h. ap number_of h;
       draw = λ L kind spot ty. follows_draw kind spot ty;
       cell = λ o i _. refl;
-      element = λ L spot o vs ws h. rw (same_values vs ws h) (follows_key o (cell_among (size_of_object p o) (columns_of_object p o) ws));
+      element = λ L spot o vs ws h.
+          rw (same_values vs ws h) (follows_key o (cell_among (size_of_object p o) (columns_of_object p o) ws));
       look = λ L o x y _ h. rw h (record { at = λ s. goes _ _ _ refl });
       write = λ L o x y v w m t h. rw (t, h) (follows_write y w);
       answer = λ L at spot op ty x x' right y y' g h. rw (g, h) (follows_answered at (apply_of p.model op ty x' y'));
@@ -280,10 +345,14 @@ module _ (q : ℕ → Bool) where
       again = λ ty L. follows_ret Equal Again Again refl;
       give = λ ty L v w h. follows_ret Equal _ _ (ap (λ x. Gave (Some x)) h);
       give_none = λ ty L h. follows_ret Equal _ _ refl;
-      seq = λ ty L M N a a' b b' g h. follows_then Equal Equal a a' (go_on b) (go_on b') g (λ f f' e. rw e (follows_go_on b b' h f'));
+      seq = λ ty L M N a a' b b' g h.
+          follows_then Equal Equal a a' (go_on b) (go_on b') g (λ f f' e. rw e (follows_go_on b b' h f'));
       scoped = λ ty L M a b g. follows_scoped Equal a b g;
-      continued = λ ty L M a b g. follows_then Equal Equal _ _ _ _ (follows_scoped Equal a b g) (λ x y e. follows_ret Equal _ _ (ap continuing e));
-      breaks = λ ty L M a b g. follows_then Equal Equal _ _ _ _ (follows_scoped Equal a b g) (λ x y e. follows_ret Equal _ _ (ap held e));
+      continued = λ ty L M a b g.
+          follows_then Equal Equal _ _ _ _ (follows_scoped Equal a b g)
+          (λ x y e. follows_ret Equal _ _ (ap continuing e));
+      breaks = λ ty L M a b g.
+          follows_then Equal Equal _ _ _ _ (follows_scoped Equal a b g) (λ x y e. follows_ret Equal _ _ (ap held e));
     }
 
     free : Free following
@@ -299,21 +368,30 @@ module _ (q : ℕ → Bool) where
       loop = λ L at l. tt;
     }
 
+    -- ---- runs
+
+    abbrev run : List Placed → ℕ → Function → Act Flow
+    run K n f = run_in p (havoc.havoc p K) n f
+
+    abbrev call : List Placed → ℕ → Site → ℕ → List (ℤ × IntType) → Act ℤ
+    call K n site g vs = call_of p (havoc.havoc p K) (run K n) site (slice_get p.functions g) vs
+
     -- with calls at most so deep
-    follows_run : (n : ℕ) (f : Function) → Follows Equal (run_in p (havoc.havoc p I) n f) (run_in p (havoc.havoc p J) n f)
+    follows_run : (n : ℕ) (f : Function) → Alike Equal (λ K. run K n f)
     unfolding following
     follows_run zero f = follows_pass Equal
     follows_run (suc n) f =
-        related_body p following following_keeps
-        (λ site g vs. call_of p (havoc.havoc p I) (run_in p (havoc.havoc p I) n) site (slice_get p.functions g) vs)
-        (λ site g vs. call_of p (havoc.havoc p J) (run_in p (havoc.havoc p J) n) site (slice_get p.functions g) vs)
-        (λ L site g vs ws may h. related_call p following following_keeps (run_in p (havoc.havoc p I) n) (run_in p (havoc.havoc p J) n) site (slice_get p.functions g) (λ fn e. (all_fit_params p following free fn.params, λ E z. follows_run n fn)) L vs ws h)
+        related_body p following following_keeps (call I n) (call J n)
+        (λ L site g vs ws may h.
+        related_call p following following_keeps (run I n) (run J n) site (slice_get p.functions g)
+        (λ fn e. (all_fit_params p following free fn.params, λ E z. follows_run n fn)) L vs ws h)
         (λ L at result l may g. follows_scoped Equal _ _ (follows_loop at l _ _ g))
         f.result tt f.body (all_fit p following free f.result tt f.body)
 
-    follows_if : (n : ℕ) (f : Option Function) → Follows Equal (run_if p (havoc.havoc p I) n f) (run_if p (havoc.havoc p J) n f)
+    follows_if : (n : ℕ) (f : Option Function) → Alike Equal (λ K. run_if p (havoc.havoc p K) n f)
     follows_if n None = follows_ret Equal Next Next refl
     follows_if n (Some f) = follows_run n f
 
     pub runs_end : (n : ℕ) (w : List ℤ) → Ends Equal (havoc_in p I n w) (havoc_in p J n w)
-    runs_end n w = (follows_if n (slice_get p.functions p.main)).at (record { cells = first_cells p; values = w; draws = [] })
+    runs_end n w =
+        (follows_if n (slice_get p.functions p.main)).at (record { cells = first_cells p; values = w; draws = [] })

@@ -1,7 +1,7 @@
 // Laws, each the contract of a function without a body.
 ghost use Rattle.std.specs.Prelude.{List};
 ghost use Rattle.c_core.specs.Tree.{Program};
-ghost use Rattle.c_inductive.specs.Inductive.{DutiesName, FailuresDrop};
+ghost use Rattle.c_inductive.specs.Inductive.{DutiesNameInvariants, FailuresDrop};
 ghost use Rattle.c_inductive.specs.Picking.{AllArePicked, AsManyArePicked, PartsStayInvariants};
 ghost use Rattle.c_meaning.specs.Duties.{Placed};
 
@@ -10,9 +10,9 @@ pub fn failures_drop()
     ensures { (p : Program) (invariants : List Placed) → FailuresDrop p invariants }
 {}
 
-/// An obligation at a statement, on arrival at a loop or after its turn is of one of the invariants, and has its number.
-pub fn duties_name()
-    ensures { (p : Program) (invariants : List Placed) → DutiesName p invariants }
+/// An obligation that is none of the property has the number of one of the invariants, counted from 0.
+pub fn duties_name_invariants()
+    ensures { (p : Program) (invariants : List Placed) → DutiesNameInvariants p invariants }
 {}
 
 /// All numbers pick all invariants.

@@ -4,5 +4,6 @@
 mod laws;
 
 pub use laws::{
-    all_are_picked, as_many_are_picked, duties_name, failures_drop, parts_stay_invariants,
+    all_are_picked, as_many_are_picked, duties_name_invariants, failures_drop,
+    parts_stay_invariants,
 };
