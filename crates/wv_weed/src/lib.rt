@@ -2,6 +2,8 @@
 #![tactic(auto)]
 
 mod copies;
+mod numbers;
+mod rounds;
 mod weeding;
 
 pub use weeding::{Weeded, weed};
