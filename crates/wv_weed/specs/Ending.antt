@@ -7,4 +7,4 @@ use Rattle.wv_weed.specs.declared.weeding.Weeded.TheVariants.{Kept, Spent}
 -- what is left is kept, or one obligation is open
 abbrev pub IsEnd : List ℕ → Option Open → Weeded → Type 0
 IsEnd left None weeded = weeded ≡ Kept left
-IsEnd left (Some open) weeded = weeded ≡ Spent left open.number open.at
+IsEnd left (Some first) weeded = weeded ≡ Spent left first.number first.at

@@ -1,5 +1,5 @@
 -- A round of weeding: the obligations of the invariants that are left, one after the other.
-use Rattle.std.specs.Prelude.{◌≡◌, ℕ, suc, ◌+◌, ◌<◌, ◌≤◌, Bool, true, false, List, length, Option, Some, None, IfSome, slice_get, Result, Ok, Err}
+use Rattle.std.specs.Prelude.{◌≡◌, ℕ, suc, ◌+◌, ◌<◌, ◌≤◌, Bool, true, List, length, Option, Some, None, IfSome, slice_get, Result, Ok, Err}
 use Rattle.c_core.specs.Tree.{Program}
 use Rattle.c_core.specs.View.{program_view}
 use Rattle.c_inductive.specs.Inductive.{AreInductive, HoldsInductive, is_of_invariant}
@@ -13,6 +13,7 @@ use Rattle.judge_obligations.specs.Verdicts.{AreObligationsOf}
 use Rattle.sym_duties.specs.Answers.{CanBeJudged, IsFault}
 use Rattle.sym_duties.specs.declared.fault.SymFault.{SymFault}
 use Rattle.sym_duties.specs.declared.obligations.Obligations.{Obligations}
+use Rattle.wv_weed.specs.Numbers.{IsSet}
 use Rattle.wv_weed.specs.Weeded.{IsOpenAt}
 use Rattle.wv_weed.specs.declared.rounds.Found.{Found}
 use Rattle.wv_weed.specs.declared.rounds.Found.TheVariants.{Holds, Fails, Spent}
@@ -60,17 +61,17 @@ abbrev pub IsPlaceOf : List Duty → ℕ → Option ℕ → Type 0
 IsPlaceOf list at (Some k) = IsDutyOf list at k
 IsPlaceOf list at None = (d : Duty) → slice_get list at ≡ Some d → is_of_invariant d.kind ≡ true → d.invariant ≡ None
 
--- the first open obligation: the one that was, or else this
-pub record IsFirst (at : ℕ) (spent : SpentAt) (open : Option Open) : Type 0 where
-  pub first : Open
-  pub is : open ≡ Some first
-  pub number : first.number ≡ at + 1
-  pub kept : first.at ≡ spent
+-- an open obligation, by its index and what is kept of it
+pub record IsOpen (at : ℕ) (spent : SpentAt) (first : Option Open) : Type 0 where
+  pub added : Open
+  pub is : first ≡ Some added
+  pub number : added.number ≡ at + 1
+  pub kept : added.at ≡ spent
 
--- the first open obligation stays
+-- the first open obligation stays; where there was none, it is this
 abbrev pub IsKeptFirst : Option Open → ℕ → SpentAt → Option Open → Type 0
-IsKeptFirst (Some first) at spent open = open ≡ Some first
-IsKeptFirst None at spent open = IsFirst at spent open
+IsKeptFirst (Some was) at spent first = first ≡ Some was
+IsKeptFirst None at spent first = IsOpen at spent first
 
 -- ---- with the invariants that are left, and a budget of N
 module _ (N : ℕ) (p : Program) (I : List Placed) (left : List ℕ) where
@@ -88,19 +89,19 @@ module _ (N : ℕ) (p : Program) (I : List Placed) (left : List ℕ) where
   IsFoundAs at k Fails = IsLost k
   IsFoundAs at k (Spent s) = IsOpenAt N p I left (suc at) s
 
-  -- the first n obligations are looked at: an invariant whose flag is set is lost; where no flag is set and nothing is open, those of
+  -- the first n obligations are looked at: an invariant whose flag is set is lost; where no flag is set and none is open, those of
   -- invariants hold
-  pub record IsRound (n : ℕ) (flags : List Bool) (open : Option Open) : Type 0 where
+  pub record IsRound (n : ℕ) (flags : List Bool) (first : Option Open) : Type 0 where
     pub many : length flags ≡ length left
-    pub lost : (k : ℕ) → slice_get flags k ≡ Some true → IsLost k
-    pub passed : ((k : ℕ) → slice_get flags k ≡ Some true → ⊥) → open ≡ None → (at : ℕ) → at < n → IsPassed at
-    pub spent : IfSome open (λ x. IsOpenAt N p I left x.number x.at)
+    pub lost : (k : ℕ) → IsSet flags k → IsLost k
+    pub passed : ((k : ℕ) → IsSet flags k → ⊥) → first ≡ None → (at : ℕ) → at < n → IsPassed at
+    pub spent : IfSome first (λ x. IsOpenAt N p I left x.number x.at)
 
   -- a whole round, or why there is none
   abbrev pub Rounds : List (List ℕ) → Result Round SymFault → Type 0
-  Rounds names (Ok r) = CanBeJudged p (picked left I) × IsRound (length (Duties p (picked left I))) r.dropped.items r.open
+  Rounds names (Ok r) = CanBeJudged p (picked left I) × IsRound (length (Duties p (picked left I))) r.dropped.items r.first
   Rounds names (Err fault) = IsFault p names I fault
 
 -- the round of a trial so far
 abbrev pub IsRoundOf : Trial → ℕ → Round → Type 0
-IsRoundOf t n r = IsRound t.conflicts (program_of t) (invariants_of t) t.left.now n r.dropped.items r.open
+IsRoundOf t n r = IsRound t.conflicts (program_of t) (invariants_of t) t.left.now n r.dropped.items r.first

@@ -1,6 +1,7 @@
 // Numbers of invariants, from 1.
 ghost use Rattle.std.specs.Prelude.{◌≡◌, ◌≤◌, IfOk, length};
-ghost use Rattle.wv_weed.specs.Numbers.{numbers_from, unflagged};
+ghost use Rattle.c_meaning.specs.Parts.{numbers_from};
+ghost use Rattle.wv_weed.specs.Numbers.{unflagged};
 
 use std::alloc::Global;
 use wv_base::{OutOfMemory, Seq};

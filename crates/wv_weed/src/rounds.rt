@@ -3,7 +3,7 @@ ghost use Rattle.std.specs.Prelude.{◌≡◌, ◌+◌, ◌<◌, ◌^◌, IfOk, 
 ghost use Rattle.wv_weed.specs.Rounds.{IsDutyOf, IsFoundAs, IsKeptFirst, IsPlaceOf, IsRoundOf, IsTrial, invariants_of, program_of};
 
 use c_core::Program;
-use c_inductive::{failures_drop, obligations_have_invariants};
+use c_inductive::{as_many_are_picked, duties_name, failures_drop};
 use c_meaning::{DutyKind, PlacedInvariant};
 use circuits::Bit;
 use clauses::SpentAt;
@@ -36,7 +36,7 @@ pub struct Open {
 #[derive(Drop)]
 pub struct Round {
     pub dropped: Vec<bool>,
-    pub open: Option<Open>,
+    pub first: Option<Open>,
 }
 
 /// What came of an obligation.
@@ -95,13 +95,13 @@ fn set(flags: &mut Vec<bool>, place: u32)
     flags[place as usize] = true;
 }
 
-// the first open obligation is kept
-fn keep(open: Option<Open>, at: usize, spent: SpentAt) -> Option<Open>
+// the first open obligation stays
+fn keep(first: Option<Open>, at: usize, spent: SpentAt) -> Option<Open>
     requires { at + 1 < 2 ^ 32 }
-    ensures { IsKeptFirst open at spent result }
+    ensures { IsKeptFirst first at spent result }
 {
-    match open {
-        Some(first) => Some(first),
+    match first {
+        Some(open) => Some(open),
         None => Some(Open {
             number: at as u32 + 1,
             at: spent,
@@ -116,23 +116,24 @@ fn step(trial: &Trial, at: usize, round: Round) -> Result<Round, OutOfMemory>
     requires so_far { IsRoundOf trial.now at round }
     ensures { IfOk result (IsRoundOf trial.now (at + 1)) }
 {
-    obligations_have_invariants();
+    duties_name();
+    as_many_are_picked();
     let Some(place) = place_of(trial.obligations, at) else {
         return Ok(round);
     };
     if round.dropped[place as usize] {
         return Ok(round);
     }
-    let Round { mut dropped, open } = round;
+    let Round { mut dropped, first } = round;
     match find(trial, at, place)? {
-        Found::Holds => Ok(Round { dropped, open }),
+        Found::Holds => Ok(Round { dropped, first }),
         Found::Fails => {
             set(&mut dropped, place);
-            Ok(Round { dropped, open })
+            Ok(Round { dropped, first })
         }
         Found::Spent(spent) => {
-            let open = keep(open, at, spent);
-            Ok(Round { dropped, open })
+            let first = keep(first, at, spent);
+            Ok(Round { dropped, first })
         }
     }
 }
@@ -144,7 +145,7 @@ pub fn judge(trial: &Trial) -> Result<Round, OutOfMemory>
 {
     let mut round = Round {
         dropped: vec![in trial.alloc; false; trial.left.len()]?,
-        open: None,
+        first: None,
     };
     for at in 0..trial.obligations.failing.len() {
         round = step(trial, at, round)?;

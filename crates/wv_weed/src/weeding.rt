@@ -13,7 +13,7 @@ use crate::copies::copies_of;
 use crate::numbers::{numbers_to, without};
 use crate::rounds::{Open, Round, Trial, judge};
 use c_core::Program;
-use c_inductive::parts_stay_invariants;
+use c_inductive::{all_are_picked, parts_stay_invariants};
 use c_meaning::PlacedInvariant;
 use clauses::SpentAt;
 use std::alloc::Global;
@@ -78,10 +78,10 @@ fn round(
 }
 
 // nothing is dropped any more
-fn ended(left: Seq<u32>, open: Option<Open>) -> Weeded
-    ensures { IsEnd left open result }
+fn ended(left: Seq<u32>, first: Option<Open>) -> Weeded
+    ensures { IsEnd left first result }
 {
-    match open {
+    match first {
         None => Weeded::Kept(left),
         Some(open) => Weeded::Spent {
             left,
@@ -105,12 +105,13 @@ pub fn weed(
     requires bounded { conflicts ≤ 1000000 }
     ensures { Weeds conflicts (program_view program.now) (names_of program.now.functions) (placed_view invariants.now) result }
 {
+    all_are_picked();
     let mut left = numbers_to(alloc, invariants.len())?;
     loop {
         let round = round(alloc, program, invariants, &left, conflicts)?;
         let fewer = without(alloc, &left, &round.dropped)?;
         if fewer.len() == left.len() {
-            return Ok(ended(left, round.open));
+            return Ok(ended(left, round.first));
         }
         left = fewer;
     }

@@ -1,0 +1,4 @@
+mod Picked
+mod Numbered
+mod Spared
+mod Rounding
