@@ -42,6 +42,10 @@ rise_drop zero last ns rise = rise
 rise_drop (suc i) last [] rise = tt
 rise_drop (suc i) last (n ∷ ns) rise = let less : last < n = rise.0 in rise_weaker last n (drop i ns) (omega (arith, less)) (rise_drop i n ns rise.1)
 
+pub picked_none : (i : ℕ) (xs : List Placed) → picked_from i [] xs ≡ []
+picked_none i [] = refl
+picked_none i (x ∷ xs) = picked_none (suc i) xs
+
 -- a number that was passed picks nothing more
 picked_passed : (i n : ℕ) (ns : List ℕ) (xs : List Placed) → n < i → picked_from i (n ∷ ns) xs ≡ picked_from i ns xs
 picked_passed i n ns [] lt = refl

@@ -11,11 +11,11 @@ use Rattle.wv_weed.proofs.Picked.{rise_weaker}
 pub false_true : false ≡ true → ⊥
 false_true e = cc
 
-or_first : (a b : Bool) → a ≡ true → (a || b) ≡ true
+pub or_first : (a b : Bool) → a ≡ true → (a || b) ≡ true
 or_first true b p = refl
 or_first false b p = absurd (false_true p)
 
-or_second : (a b : Bool) → b ≡ true → (a || b) ≡ true
+pub or_second : (a b : Bool) → b ≡ true → (a || b) ≡ true
 or_second true b p = refl
 or_second false b p = p
 
