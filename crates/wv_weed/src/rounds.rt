@@ -3,7 +3,7 @@ ghost use Rattle.std.specs.Prelude.{◌≡◌, ◌+◌, ◌<◌, ◌^◌, IfOk, 
 ghost use Rattle.wv_weed.specs.Rounds.{IsDutyOf, IsFoundAs, IsKeptFirst, IsPlaceOf, IsRoundOf, IsTrial, invariants_of, program_of};
 
 use c_core::Program;
-use c_inductive::{as_many_are_picked, duties_name, failures_drop};
+use c_inductive::{as_many_are_picked, duties_name_invariants, failures_drop};
 use c_meaning::{DutyKind, PlacedInvariant};
 use circuits::Bit;
 use clauses::SpentAt;
@@ -116,7 +116,7 @@ fn step(trial: &Trial, at: usize, round: Round) -> Result<Round, OutOfMemory>
     requires so_far { IsRoundOf trial.now at round }
     ensures { IfOk result (IsRoundOf trial.now (at + 1)) }
 {
-    duties_name();
+    duties_name_invariants();
     as_many_are_picked();
     let Some(place) = place_of(trial.obligations, at) else {
         return Ok(round);
