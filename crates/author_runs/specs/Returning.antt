@@ -128,4 +128,5 @@ pub record IsViolatedIn (p : Program) (ms : List Moment) (statement : Spot) : Ty
 
 -- a run that violates the property ends with that, in a statement
 abbrev pub ViolationsEndRuns : Program → Choices → ℕ → Type 0
-ViolationsEndRuns p c N = (spot : Spot) → (Run p c N).end ≡ Violated spot → (statement : Spot) × IsViolatedIn p (Moments p c N) statement
+ViolationsEndRuns p c N = (spot : Spot) → (Run p c N).end ≡ Violated spot
+    → (statement : Spot) × IsViolatedIn p (Moments p c N) statement
