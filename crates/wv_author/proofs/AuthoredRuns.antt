@@ -1,12 +1,11 @@
 -- What is answered for values, by their run.
-use Rattle.std.proofs.Common.{◌≡◌, refl, sym, ap, subst, ◌∙◌, ℕ, ℤ, Bool, true, false, List, [], ◌∷◌, ◌++◌, map, Option, Some, None, Result, Ok, Err, append_assoc}
+use Rattle.std.proofs.Common.{◌≡◌, refl, sym, ap, subst, ◌∙◌, ℕ, ℤ, true, false, List, [], ◌∷◌, ◌++◌, map, Option, Some, None, Ok, Err, append_assoc}
 use Rattle.std.proofs.lemmas.List.{append-nil}
 use Rattle.std.specs.List.{cons_option}
 use Rattle.c_core.specs.Tree as t
 use Rattle.c_core.specs.View.{program_view}
 use Rattle.c_core.specs.declared.number.Spot.{Spot}
 use Rattle.c_core.specs.declared.program.Program.{Program}
-use Rattle.c_meaning.specs.Cells.{Cell}
 use Rattle.c_meaning.specs.Run.{Moment, Told, Here, Head}
 use Rattle.c_meaning.specs.Watching.{seen_after}
 use Rattle.c_meaning.specs.declared.run.End.{End}
@@ -41,7 +40,7 @@ module _ (program : Program) where
   kept_after (Told e cells ∷ xs) before statement =
       kept_after xs (before ++ kept_if (back_by p e)) (violated_in e statement)
       ∙ ap (λ l. recorded program l (violated_among (violated_in e statement) xs))
-        (append_assoc before (kept_if (back_by p e)) (map kept_of (returns_in p xs)) ∙ ap (λ l. before ++ l) (kept_more (back_by p e) (returns_in p xs)))
+      (append_assoc before (kept_if (back_by p e)) (map kept_of (returns_in p xs)) ∙ ap (λ l. before ++ l) (kept_more (back_by p e) (returns_in p xs)))
   kept_after (Here spot cells ∷ xs) before statement = kept_after xs before statement
   kept_after (Head at l arrived cells ∷ xs) before statement = kept_after xs before statement
 
@@ -55,17 +54,15 @@ no_violation : (e : End) → is_violated e ≡ false → IsViolated e → ⊥
 no_violation e none (spot, is) = let wrong : true ≡ false = sym (ap is_violated is) ∙ none in absurd (cc)
 
 module _ (p : t.Program) (file : List ℕ) (vs : List ℤ) (N : ℕ) where
-  ends_otherwise : (e : End) (fault : AuthorFault) → is_violated e ≡ false → e ≡ (RunOf p vs N).end → Err {A = Unit {0}} (NotViolated e) ≡ Err fault → Authors p file vs N (Err fault)
-  ends_otherwise e fault none is same =
-      let why : NotViolated e ≡ fault = cc in
-      subst (λ (f : AuthorFault). Authors p file vs N (Err f)) why (record { end = is; unviolated = no_violation e none })
+  ends_otherwise : (e : End) (fault : AuthorFault) → is_violated e ≡ false → e ≡ (RunOf p vs N).end → NotViolated e ≡ fault → Authors p file vs N (Err fault)
+  ends_otherwise e fault none is why = subst (λ (f : AuthorFault). Authors p file vs N (Err f)) why (record { end = is; unviolated = no_violation e none })
 
   refused_by : (e : End) (free : Option Spot) (fault : AuthorFault) → e ≡ (RunOf p vs N).end → free ≡ first_free (RunOf p vs N).draws
       → fixed_by (is_violated e) e free ≡ Err fault → Authors p file vs N (Err fault)
-  refused_by Ended free fault is first same = ends_otherwise Ended fault refl is same
-  refused_by (Undefined spot) free fault is first same = ends_otherwise (Undefined spot) fault refl is same
-  refused_by Spent free fault is first same = ends_otherwise Spent fault refl is same
-  refused_by Deep free fault is first same = ends_otherwise Deep fault refl is same
+  refused_by Ended free fault is first same = let why : NotViolated Ended ≡ fault = cc in ends_otherwise Ended fault refl is why
+  refused_by (Undefined spot) free fault is first same = let why : NotViolated (Undefined spot) ≡ fault = cc in ends_otherwise (Undefined spot) fault refl is why
+  refused_by Spent free fault is first same = let why : NotViolated Spent ≡ fault = cc in ends_otherwise Spent fault refl is why
+  refused_by Deep free fault is first same = let why : NotViolated Deep ≡ fault = cc in ends_otherwise Deep fault refl is why
   refused_by (Violated spot) None fault is first same = absurd (cc)
   refused_by (Violated spot) (Some at) fault is first same =
       let why : CellValue at ≡ fault = cc in
@@ -91,9 +88,9 @@ module _ (p : t.Program) (file : List ℕ) (vs : List ℤ) (N : ℕ) where
       let fixed = fixed_when r.end (first_free r.draws) done (ap (λ (x : Made). x.end) is) (ap (λ (x : Made). first_free x.draws) is) same in
       let all = seen ∙ kept_after program (MomentsOf p vs N) [] None in
       let returned : inputs ≡ map (returning_of file) (returns_in p (MomentsOf p vs N)) =
-          parts ∙ ap (λ (x : Recorded). map (segment_of file) x.returned) all
-          ∙ ap (λ (q : t.Program). map (segment_of file) (map kept_of (returns_in q (MomentsOf p vs N)))) view
-          ∙ segments_kept file (returns_in p (MomentsOf p vs N)) in
+      parts ∙ ap (λ (x : Recorded). map (segment_of file) x.returned) all
+      ∙ ap (λ (q : t.Program). map (segment_of file) (map kept_of (returns_in q (MomentsOf p vs N)))) view
+      ∙ segments_kept file (returns_in p (MomentsOf p vs N)) in
       record {
         violated = fixed.0;
         fixed = fixed.1;

@@ -1,11 +1,12 @@
 -- The texts of values, by their signs and sizes.
-use Rattle.std.proofs.Common.{◌≡◌, ℕ, ℤ, pos, negsuc, suc, ◌+◌, ◌<◌, ◌≤◌, ◌^◌, ◌<ℤ◌, ◌≤ℤ◌, Bool, true, false, cond, ltb, List, [], ◌++◌, codes, decimal, append_assoc, arith, ints, refl, sym, ap, ◌∙◌}
+use Rattle.std.proofs.Common.{◌≡◌, ℕ, ℤ, pos, negsuc, suc, ◌-◌, ◌<◌, ◌≤◌, ◌^◌, ◌<ℤ◌, ◌≤ℤ◌, true, false, cond, ltb, List, [], ◌++◌, codes, decimal, append_assoc, arith, refl, sym, ap, ◌∙◌}
 use Rattle.std.specs.Fmt.{signed_decimal}
 use Rattle.std.specs.Str.{chars}
 use Rattle.std.proofs.lemmas.List.{append-nil}
 use Rattle.std.proofs.lemmas.Bool.{le-ltb, lt-ltb}
+use Rattle.std.proofs.lemmas.Int.{ints}
 use lib.Utf8.{encode}
-use Rattle.wv_author.specs.Authored.{constant_text, result_text}
+use Rattle.wv_author.specs.Authored.{result_text}
 
 below : (m n : ℕ) → m < n → ltb m n ≡ true
 below m n h = lt-ltb m n h

@@ -4,4 +4,5 @@ mod Lengths
 mod ValueLines
 mod ConstantTexts
 mod AuthoredRuns
+mod Recorded
 mod Written

@@ -1,5 +1,5 @@
 -- Lines of values: how a text is cut into them, and what stands on one.
-use Rattle.std.proofs.Common.{◌≡◌, ◌<◌, ◌≤◌, ◌^◌, ◌+◌, ◌*◌, ◌-◌, ◌⊎◌, inl, inr, ℕ, ℤ, pos, List, [], ◌∷◌, ◌++◌, ◌&&◌, Bool, true, false, not, cond, eqb, zero, suc, length, get_or, take, drop, arith, refl, sym, ap, subst, ◌∙◌}
+use Rattle.std.proofs.Common.{◌≡◌, ◌<◌, ◌≤◌, ◌^◌, ◌+◌, ◌*◌, ◌-◌, inl, inr, ℕ, ℤ, pos, List, [], ◌∷◌, ◌++◌, ◌&&◌, Bool, true, false, zero, suc, length, get_or, take, drop, arith, refl, sym, ap, subst, ◌∙◌}
 use Rattle.std.specs.Prelude.{neg_ℤ, option_map, Option, Some, None, SomeIff}
 use Rattle.std.specs.Str.{all_ascii_digits}
 use Rattle.std.specs.Str.Parse.{digits_value}

@@ -1,12 +1,11 @@
 -- What witnesses say of themselves, and the witnesses about a demo's two programs.
-use Rattle.std.specs.Prelude.{ℕ, ◌+◌, ◌-◌, ◌*◌, List, [], ◌∷◌, ◌++◌, Option, Some, None, codes, decimal}
+use Rattle.std.specs.Prelude.{ℕ, ◌+◌, ◌-◌, ◌*◌, List, [], ◌∷◌, ◌++◌, Some, None, codes, decimal}
 use Rattle.hex.specs.Hex.{encode_lower}
 use Rattle.sha2.specs.Sha256.{sha256}
 use Rattle.c_core.specs.declared.number.DataModel.{DataModel}
 use Rattle.c_core.specs.declared.number.DataModel.TheVariants.{Ilp32, Lp64}
 use Rattle.c_core.specs.declared.number.Property.{Property}
 use Rattle.c_core.specs.declared.number.Property.TheVariants.{UnreachCall, NoOverflow}
-use Rattle.wv_schema.specs.declared.witness.Constraint.{Constraint}
 use Rattle.wv_schema.specs.declared.witness.Content.{Content}
 use Rattle.wv_schema.specs.declared.witness.Content.TheVariants.{Violation, Invariants}
 use Rattle.wv_schema.specs.declared.witness.FileHash.{FileHash}
@@ -15,7 +14,6 @@ use Rattle.wv_schema.specs.declared.witness.InvariantKind.TheVariants.{Loop}
 use Rattle.wv_schema.specs.declared.witness.Location.{Location}
 use Rattle.wv_schema.specs.declared.witness.Metadata.{Metadata}
 use Rattle.wv_schema.specs.declared.witness.Segment.{Segment}
-use Rattle.wv_schema.specs.declared.witness.WayKind.{WayKind}
 use Rattle.wv_schema.specs.declared.witness.WayKind.TheVariants.{Target, FunctionReturn}
 use Rattle.wv_schema.specs.declared.witness.Witness.{Witness}
 use Rattle.wv_author.specs.Authored.{following}

@@ -107,9 +107,8 @@ pub fn author(
     ensures { Authors (program_view program.now) file.now values.now steps result }
 {
     let choices = in_turn(alloc, values.as_slice())?;
-    let places = Index::new(alloc, program)?;
     let mut recorder = Recorder {
-        places: &places,
+        places: Index::new(alloc, program)?,
         returned: Vec::new(alloc),
         statement: None,
     };

@@ -1,10 +1,10 @@
 use mir.Syntax.{w128}
 use mir.Val.{SFits}
 use Rattle.std.proofs.lemmas.Int.{to_z-of_z}
-use Rattle.std.proofs.Common.{rules, length, subst, sym, ap, ◌+◌, ◌∙◌}
+use Rattle.std.proofs.Common.{rules, length, sym, ◌+◌, ◌∙◌}
 use Rattle.std.proofs.lemmas.Bool.{eqb-true, eqb-false}
 use Rattle.std.proofs.lemmas.List.{take_rest}
-use Rattle.wv_author.proofs.ValueLines.{AreBefore, all_read, no_line_left, no_number_left, one_more_before, some_left}
+use Rattle.wv_author.proofs.ValueLines.{all_read, no_line_left, no_number_left, one_more_before, some_left}
 use Rattle.wv_author.proofs.values.read_values.Goals as goal
 
 pub returns-in_default : goal.returns-in_default
