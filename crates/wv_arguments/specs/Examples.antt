@@ -1,7 +1,7 @@
 -- Command lines of which what they ask for is computed.
 use Rattle.std.specs.Prelude.{◌≡◌, List, [], ◌∷◌, true, false, Some, None, codes}
 use Rattle.clap.specs.Words.{Text}
-use Rattle.wv_arguments.specs.Words.{Asked, Command, Sources, Label, Validate, Show, Demo, Certify, Recheck, Author, Weed, asked_by}
+use Rattle.wv_arguments.specs.Words.{Command, Sources, Label, Validate, Show, Demo, Certify, Recheck, Author, Weed, asked_by}
 
 abbrev pub validating : List Text
 validating = codes "witval" ∷ codes "validate" ∷ codes "--program" ∷ codes "p" ∷ codes "--property=q" ∷ codes "--witness" ∷ codes "w" ∷ []

@@ -1,5 +1,5 @@
 -- What requests, names and budgets stand for.
-use Rattle.std.specs.Prelude.{Option, option_map}
+use Rattle.std.specs.Prelude.{option_map}
 use Rattle.wv_arguments.specs.Words.{Command, Sources as Given, Label as Labelled, Budgets as Limits, Wanted, Asked as Stated}
 use Rattle.wv_arguments.specs.Words.{Validate, Show, Normalise, Demo, Certify, Recheck, Author, Weed}
 use Rattle.wv_arguments.specs.declared.request.Names.{Names}

@@ -123,10 +123,13 @@ fn label<'a>(matches: &ArgMatches<'a>) -> Option<Label<'a>>
 fn author<'a>(matches: &ArgMatches<'a>) -> Option<Request<'a>>
     ensures { option_map wanted result ≡ author_of (sources_in (rows_of (found_of matches.now))) (label_in (rows_of (found_of matches.now))) (steps_in (rows_of (found_of matches.now))) }
 {
+    let sources = sources(matches)?;
+    let label = label(matches)?;
+    let steps = number(matches, "steps", 1, MOST_STEPS)?;
     Some(Request::Author {
-        sources: sources(matches)?,
-        label: label(matches)?,
-        steps: number(matches, "steps", 1, MOST_STEPS)?,
+        sources,
+        label,
+        steps,
     })
 }
 

@@ -1,5 +1,5 @@
-use Rattle.std.proofs.Common.{◌≡◌, ◌∙◌, ap₂}
-use Rattle.clap.specs.Words.{app_of, with_rule}
+use Rattle.std.proofs.Common.{◌∙◌, ap₂}
+use Rattle.clap.specs.Words.{with_rule}
 use Rattle.wv_arguments.proofs.command.command.Goals as goal
 
 pub returns : goal.returns
