@@ -11,7 +11,7 @@ use Rattle.c_parser.specs.Parsing.{Answers as ParserAnswers, source_view}
 use Rattle.c_tokens.specs.Reading.{Answers as TokensAnswers}
 use Rattle.wv_arguments.specs.Words.{Label}
 use Rattle.wv_author.specs.Authored.{Authors}
-use Rattle.wv_author.specs.Values.{AnswersFor}
+use Rattle.wv_author.specs.Values.{ReadsValues}
 use Rattle.wv_author.specs.Written.{authored}
 use Rattle.wv_author.specs.declared.authoring.AuthorFault.{AuthorFault}
 use Rattle.wv_author.specs.declared.authoring.AuthorFault.TheVariants.{NotViolated, CellValue, OutOfMemory}
@@ -58,7 +58,7 @@ IsUnauthored steps OutOfMemory output = ⊥
 abbrev pub AuthorsOnInputs : Label → ℕ → List ℕ → List ℕ → List ℕ → List ℕ → Output → Type 0
 AuthorsOnInputs label steps name program_bytes property_bytes values_bytes = do
   property ← given (Report (plain (codes "property"))) (property_of property_bytes)
-  values ← answered (AnswersFor values_bytes) itself (refusing IsValuesRefusal)
+  values ← answered (ReadsValues values_bytes) itself (refusing IsValuesRefusal)
   file ← given (Report (plain (codes "files"))) (stated_file name)
   model ← given (Report (plain (codes "model"))) (model_of label.model)
   identifier ← given (Report (plain (codes "uuid"))) (identifier_of label.uuid)

@@ -1,8 +1,6 @@
 // The output for a program, a property and values for a run's inputs: the refusals in their order, and then a violation witness.
-ghost use Rattle.std.specs.Prelude.{◌≡◌, ◌≤◌, ℤ, IfOk, length};
+ghost use Rattle.std.specs.Prelude.{◌≡◌, ◌≤◌, IfOk, length};
 ghost use Rattle.std.specs.Str.{chars};
-ghost use Rattle.c_core.specs.declared.number.Property.{Property};
-ghost use Rattle.c_core.specs.declared.number.DataModel.{DataModel};
 ghost use Rattle.c_parser.specs.Formed.{AreOrderly};
 ghost use Rattle.c_parser.specs.Parsing.{source_view};
 ghost use Rattle.wv_arguments.specs.Requests.{labelled};

@@ -11,7 +11,7 @@ use Rattle.c_tokens.specs.Reading.{Answers as TokensAnswers}
 use Rattle.c_tokens.specs.declared.token.Token.{Token}
 use Rattle.wv_arguments.specs.Words.{Label}
 use Rattle.wv_author.specs.Authored.{Authors}
-use Rattle.wv_author.specs.Values.{AnswersFor}
+use Rattle.wv_author.specs.Values.{ReadsValues}
 use Rattle.wv_author.specs.Written.{authored}
 use Rattle.wv_schema.specs.declared.witness.Segment.{Segment}
 use Rattle.wv_task.specs.Readings.{identifier_of}
@@ -73,5 +73,5 @@ AuthorsOnValues label steps name program_bytes property values = do
 -- with the property
 abbrev pub AuthorsUnder : Label → ℕ → List ℕ → List ℕ → List ℕ → Property → Output → Type 0
 AuthorsUnder label steps name program_bytes values_bytes property = do
-  values ← answered (AnswersFor values_bytes) itself (refusing IsValuesRefusal)
+  values ← answered (ReadsValues values_bytes) itself (refusing IsValuesRefusal)
   AuthorsOnValues label steps name program_bytes property values
