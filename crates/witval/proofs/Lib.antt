@@ -6,6 +6,7 @@ pub mod WrittenOutputs
 pub mod Weeded
 pub mod Sources
 pub mod ShortKeys
+pub mod Kept
 pub mod FittingTrees
 pub mod JudgedTask
 pub mod FewWaypoints

@@ -1,5 +1,5 @@
 -- A witness that is read of a tree has short keys, since they are keys of the tree; so has one with some of its invariants.
-use Rattle.std.proofs.Common.{◌≡◌, ◌≤◌, ℕ, List, [], ◌∷◌, length, map, Bool, true, false, Option, Some, None, IfSome, Ok, codes, sym, subst}
+use Rattle.std.proofs.Common.{◌≡◌, ◌≤◌, ◌+◌, ℕ, List, [], ◌∷◌, length, map, Bool, true, false, Option, Some, None, IfSome, Ok, codes, sym, subst}
 use Rattle.std.specs.Prelude.{unwrap_or, option_and_then, if◌then◌else◌}
 use Rattle.std.specs.List.{AllByRecursion}
 use Rattle.std.specs.Str.{bytes_eq, chars}
@@ -13,7 +13,7 @@ use Rattle.wv_yaml.specs.Document.{max_depth}
 use Rattle.wv_yaml.specs.declared.tree.Tree.{Tree, Text, List', Map', Row_of-Tree, end_of-Tree, more_of-Tree, Row_of-Pair, end_of-Pair, more_of-Pair, items-the_row-Tree, items-the_row-Pair}
 use Rattle.wv_yaml.specs.declared.tree.Pair.{Pair}
 use Rattle.yaml_scalars.specs.Tokens.{max_key}
-use Rattle.witval.specs.Weeding.{kept_entries, kept_in}
+use Rattle.witval.specs.Weeding.{claims_of, kept_entries, kept_in}
 use Rattle.witval.specs.inside.Keys.{AreShort, HasShortKeys, IsShort}
 
 abbrev FitsSome : Tree → Type 0
@@ -89,7 +89,7 @@ read_short t w h answer = subst HasShortKeys (sym answer.1) (witness_short t max
 
 entries_short : (i : ℕ) (ns : List ℕ) (es : List Entry) → AllByRecursion AreShort es → AllByRecursion AreShort (kept_entries i ns es)
 entries_short i ns [] h = tt
-entries_short i ns (e ∷ es) h = (h.0, entries_short _ ns es h.1)
+entries_short i ns (e ∷ es) h = (h.0, entries_short (i + claims_of e.content) ns es h.1)
 
 pub kept_short : (ns : List ℕ) (w : Witness) → HasShortKeys w → HasShortKeys (kept_in ns w)
 kept_short ns w h = entries_short 1 ns w.entries h

@@ -16,7 +16,7 @@ use Rattle.wv_author.specs.Written.{authored}
 use Rattle.wv_author.specs.declared.authoring.AuthorFault.{AuthorFault}
 use Rattle.wv_author.specs.declared.authoring.AuthorFault.TheVariants.{NotViolated, CellValue, OutOfMemory}
 use Rattle.wv_author.specs.declared.values.ValuesFault.{ValuesFault}
-use Rattle.wv_author.specs.declared.values.ValuesFault.TheVariants as values
+use Rattle.wv_author.specs.declared.values.ValuesFault.TheVariants as listing
 use Rattle.wv_report.specs.declared.reply.Reply.{Reply}
 use Rattle.wv_report.specs.declared.reply.Reply.TheVariants.{Verdict as Judged, Refused}
 use Rattle.wv_task.specs.PropertyText.{property_of}
@@ -32,8 +32,8 @@ use Rattle.witval.specs.declared.output.Unviolated.TheVariants as unviolated
 
 -- the refusal of bytes that are no list of values; want of memory is no refusal
 abbrev pub IsValuesRefusal : ValuesFault → Reply → Type 0
-IsValuesRefusal values.Form reply = reply ≡ plain (codes "values")
-IsValuesRefusal values.OutOfMemory reply = ⊥
+IsValuesRefusal listing.Form reply = reply ≡ plain (codes "values")
+IsValuesRefusal listing.OutOfMemory reply = ⊥
 
 -- a file's name that a witness can state: it is a key there, which has at most so many characters
 abbrev pub stated_file : List ℕ → Option (List ℕ)
@@ -50,7 +50,7 @@ TellsEnd steps (end.Violated spot) output = ⊥
 -- the output for a run of which no witness is made: it doesn't violate the property, or a cell without initializer draws something
 -- else than 0
 abbrev pub IsUnauthored : ℕ → AuthorFault → Output → Type 0
-IsUnauthored steps (NotViolated end) output = TellsEnd steps end output
+IsUnauthored steps (NotViolated e) output = TellsEnd steps e output
 IsUnauthored steps (CellValue spot) output = output ≡ Report (Refused (codes "cell") (place_text spot.line spot.column))
 IsUnauthored steps OutOfMemory output = ⊥
 

@@ -17,7 +17,7 @@ use Rattle.witval.specs.Replies.{AuthorsOnBytes, Right, RightOnBytes, RightOnFou
 use Rattle.witval.specs.declared.output.Output.{Output}
 use Rattle.witval.specs.declared.output.Output.TheVariants.{Report, Canonical, Summary, Demo as Demonstrated, Certificate, Rechecked, Unviolated}
 use Rattle.witval.specs.declared.output.Unviolated.{Unviolated as Why}
-use Rattle.witval.specs.declared.output.Unviolated.TheVariants as why
+use Rattle.witval.specs.declared.output.Unviolated.TheVariants as unviolated
 
 -- what is written of a certificate that was checked again
 abbrev pub recheck_text : Answer → List ℕ
@@ -33,8 +33,8 @@ recheck_status (answers.Count expected found) = 1
 
 -- what is written of a run that doesn't violate the property
 abbrev pub unviolated_text : Why → List ℕ
-unviolated_text why.Ended = codes "no violation\nreason ended\n"
-unviolated_text (why.Undefined spot) = codes "no violation\nreason undefined " ++ place_text spot.line spot.column ++ codes "\n"
+unviolated_text unviolated.Ended = codes "no violation\nreason ended\n"
+unviolated_text (unviolated.Undefined spot) = codes "no violation\nreason undefined " ++ place_text spot.line spot.column ++ codes "\n"
 
 -- the status and the bytes of an output
 abbrev pub status_by : Output → ℕ

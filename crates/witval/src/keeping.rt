@@ -1,5 +1,5 @@
 // A copy of a witness with some of its invariants.
-ghost use Rattle.std.specs.Prelude.{◌≡◌, ◌+◌, IfOk};
+ghost use Rattle.std.specs.Prelude.{◌≡◌, ◌+◌, ◌∷◌, ◌++◌, [], IfOk, OnOk, cond};
 ghost use Rattle.c_inductive.specs.Picking.{is_among};
 ghost use Rattle.witval.specs.Weeding.{claims_of, kept_claims, kept_entries, kept_entry, kept_from, kept_in};
 
@@ -50,9 +50,19 @@ fn copy_texts(alloc: Global, texts: &[Text]) -> Result<Seq<Text>, OutOfMemory>
 {
     let mut copies = Seq::new(alloc);
     for text in texts {
-        copies.push(copy_text(alloc, text)?)?;
+        let copy = copy_text(alloc, text)?;
+        copies.push(copy)?;
     }
     Ok(copies)
+}
+
+fn copy_hash(alloc: Global, hash: &FileHash) -> Result<FileHash, OutOfMemory>
+    ensures { IfOk result (λ copy. copy ≡ hash.now) }
+{
+    Ok(FileHash {
+        file: copy_text(alloc, &hash.file)?,
+        hash: copy_text(alloc, &hash.hash)?,
+    })
 }
 
 fn copy_hashes(alloc: Global, hashes: &[FileHash]) -> Result<Seq<FileHash>, OutOfMemory>
@@ -60,10 +70,8 @@ fn copy_hashes(alloc: Global, hashes: &[FileHash]) -> Result<Seq<FileHash>, OutO
 {
     let mut copies = Seq::new(alloc);
     for hash in hashes {
-        copies.push(FileHash {
-            file: copy_text(alloc, &hash.file)?,
-            hash: copy_text(alloc, &hash.hash)?,
-        })?;
+        let copy = copy_hash(alloc, hash)?;
+        copies.push(copy)?;
     }
     Ok(copies)
 }
@@ -105,6 +113,23 @@ fn is_among(number: u32, numbers: &[u32]) -> bool
     numbers.iter().any(|other| number == *other)
 }
 
+/// Appends a copy of an invariant, where its number is one of these.
+fn keep_invariant(
+    alloc: Global,
+    kept: &mut Seq<Invariant>,
+    invariant: &Invariant,
+    number: u32,
+    numbers: &[u32],
+) -> Result<(), OutOfMemory>
+    ensures { OnOk result (kept.new ≡ kept.old ++ cond (is_among number numbers.now) (invariant.now ∷ []) []) }
+{
+    if is_among(number, numbers) {
+        let copy = copy_invariant(alloc, invariant)?;
+        kept.push(copy)?;
+    }
+    Ok(())
+}
+
 /// Of invariants, the first of which has the number `first`, those with these numbers.
 fn keep_invariants(
     alloc: Global,
@@ -117,9 +142,7 @@ fn keep_invariants(
     let mut kept = Seq::new(alloc);
     let mut number = first;
     for invariant in invariants {
-        if is_among(number, numbers) {
-            kept.push(copy_invariant(alloc, invariant)?)?;
-        }
+        keep_invariant(alloc, &mut kept, invariant, number, numbers)?;
         number = number_behind(number, 1)?;
     }
     Ok(kept)
@@ -178,7 +201,8 @@ fn keep_entries(
     let mut kept = Seq::new(alloc);
     let mut first = 1;
     for entry in entries {
-        kept.push(keep_entry(alloc, entry, numbers, first)?)?;
+        let copy = keep_entry(alloc, entry, numbers, first)?;
+        kept.push(copy)?;
         first = number_behind(first, claims_of(&entry.content))?;
     }
     Ok(kept)
