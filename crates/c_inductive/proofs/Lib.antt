@@ -1,0 +1,5 @@
+mod Thinned
+mod Follows
+mod Dropping
+mod Numbered
+mod Selected
