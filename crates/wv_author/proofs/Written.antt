@@ -78,9 +78,11 @@ location_fits : (e : ℕ) (v : Location) → Fits (suc e) (tree.Map (location_pa
 unfolding location_pairs encode chars
 location_fits e v =
     map_that_fits (location_pairs v) e
-    (all_joined (λ p. PairFits e p) (texts_if (codes "file_name") v.file_name) _ (text_if_fits e (codes "file_name") v.file_name (lit≤ tt))
-    ((lit≤ tt, tt), all_joined (λ p. PairFits e p) (counts_if (codes "column") v.column) _ (count_if_fits e (codes "column") v.column (lit≤ tt))
-    (text_if_fits e (codes "function") v.function (lit≤ tt))))
+    (all_joined (λ p. PairFits e p) (texts_if (codes "file_name") v.file_name) _ (text_if_fits e (codes "file_name") v.file_name (lit≤ tt)) (
+      (lit≤ tt, tt),
+      all_joined (λ p. PairFits e p) (counts_if (codes "column") v.column) _ (count_if_fits e (codes "column") v.column (lit≤ tt))
+          (text_if_fits e (codes "function") v.function (lit≤ tt)),
+    ))
 
 expression_fits : (e : ℕ) (value : List ℕ) (format : Option (List ℕ)) → Fits (suc e) (tree.Map (expression_pairs value format))
 unfolding expression_pairs encode chars

@@ -10,7 +10,7 @@ ghost use Rattle.wv_author.specs.inside.Ends.{end_of_call, pair_of, pairs_among}
 use c_core::{Callee, Expr, Node, Program, Spot};
 use std::alloc::Global;
 use std::collections::BTreeMap;
-use way_places::{calls, firsts, fulls};
+use way_places::{calls_among, firsts, full_expressions};
 use wv_base::OutOfMemory;
 
 /// The closing parenthesis of an input call, if the expression is one.
@@ -51,8 +51,8 @@ pub fn input_ends(
 ) -> Result<BTreeMap<(u32, u32), Spot>, OutOfMemory>
     ensures { IfOk result (λ ends. (start : Spot) → found_at ends start ≡ end_of_input (program_view program.now) start) }
 {
-    let fulls = fulls(alloc, program)?;
-    let calls = calls(alloc, fulls.as_slice())?;
+    let fulls = full_expressions(alloc, program)?;
+    let calls = calls_among(alloc, fulls.as_slice())?;
     let mut pairs = Vec::new(alloc);
     push_pairs(&mut pairs, calls.as_slice())?;
     let ends = firsts(alloc, pairs.as_slice())?;

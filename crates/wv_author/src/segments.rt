@@ -36,12 +36,7 @@ fn returning(alloc: Global, file: &Text, value: i128, close: Spot) -> Result<Seg
         value: result_text(alloc, value)?,
         format: c_expression(alloc)?,
     };
-    Ok(follow(
-        alloc,
-        WayKind::FunctionReturn,
-        location,
-        Some(constraint),
-    ))
+    Ok(follow(alloc, WayKind::FunctionReturn, location, Some(constraint)))
 }
 
 /// The property is violated in the statement that begins there.
