@@ -17,7 +17,10 @@ mod switches;
 mod tests;
 
 pub use before::stmt_before;
+pub use calls::calls as calls_among;
 pub use expressions::{aim_fits, call_at, is_same};
+pub use first::{firsts, found_at};
+pub use fulls::fulls as full_expressions;
 pub use index::Index;
 pub use inputs::{InputCall, input_calls, input_of};
 pub use listed::places;

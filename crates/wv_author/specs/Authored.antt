@@ -1,5 +1,5 @@
 -- The segments of a violation witness that fixes what a run draws: each input comes back with its value, then the property is violated.
-use Rattle.std.specs.Prelude.{◌≡◌, ℕ, suc, ◌-◌, ◌^◌, ℤ, pos, negsuc, Bool, true, false, cond, not, nat_lt, List, [], ◌∷◌, ◌++◌, map, Option, Some, None, codes, decimal}
+use Rattle.std.specs.Prelude.{◌≡◌, ℕ, suc, ◌-◌, ◌^◌, ℤ, pos, negsuc, Bool, true, false, cond, not, nat_lt, List, [], ◌∷◌, ◌++◌, map, Option, Some, None, Result, Ok, Err, codes, decimal}
 use Rattle.std.specs.List.{filter_map}
 use Rattle.c_core.specs.Types.{is_zero}
 use Rattle.c_core.specs.Tree.{Exp, Expr, Node, Call, Program}
@@ -24,6 +24,8 @@ use Rattle.wv_schema.specs.declared.witness.Location.{Location}
 use Rattle.wv_schema.specs.declared.witness.Segment.{Segment}
 use Rattle.wv_schema.specs.declared.witness.WayKind.{WayKind}
 use Rattle.wv_schema.specs.declared.witness.WayKind.TheVariants.{Target, FunctionReturn}
+use Rattle.wv_author.specs.declared.authoring.AuthorFault.{AuthorFault}
+use Rattle.wv_author.specs.declared.authoring.AuthorFault.TheVariants.{NotViolated, CellValue, OutOfMemory}
 
 -- ---- values
 
@@ -154,3 +156,10 @@ pub record IsNotViolated (p : Program) (vs : List ℤ) (N : ℕ) (e : End) : Typ
 pub record IsFree (p : Program) (vs : List ℤ) (N : ℕ) (spot : Spot) : Type 0 where
   pub violated : IsViolated (RunOf p vs N).end
   pub free : first_free (RunOf p vs N).draws ≡ Some spot
+
+-- what is answered for values: the segments, or why there are none
+abbrev pub Authors : Program → List ℕ → List ℤ → ℕ → Result (List Segment) AuthorFault → Type 0
+Authors p file vs N (Ok segments) = IsAuthored p file vs N segments
+Authors p file vs N (Err (NotViolated e)) = IsNotViolated p vs N e
+Authors p file vs N (Err (CellValue spot)) = IsFree p vs N spot
+Authors p file vs N (Err OutOfMemory) = Unit {0}
