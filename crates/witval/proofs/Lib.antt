@@ -6,7 +6,6 @@ pub mod WrittenOutputs
 pub mod Weeded
 pub mod Sources
 pub mod ShortKeys
-pub mod Kept
 pub mod FittingTrees
 pub mod JudgedTask
 pub mod FewWaypoints
