@@ -12,7 +12,6 @@ use Rattle.wv_arguments.specs.Words.{Asked, Wanted, Validate, Show, Normalise, D
 use Rattle.witval.specs.Demos.{demo_status, demo_text}
 use Rattle.witval.specs.Inputs.{OfFiles, in_order}
 use Rattle.witval.specs.Purposes.{Judging, Certifying, Weeding}
-use Rattle.witval.specs.Refusals.{place_text}
 use Rattle.witval.specs.Replies.{AuthorsOnBytes, Right, RightOnBytes, RightOnFour, CanonicalIn, SummaryIn, OnWitness, RightDemo}
 use Rattle.witval.specs.declared.output.Output.{Output}
 use Rattle.witval.specs.declared.output.Output.TheVariants.{Report, Canonical, Summary, Demo as Demonstrated, Certificate, Rechecked, Unviolated}
@@ -34,7 +33,7 @@ recheck_status (answers.Count expected found) = 1
 -- what is written of a run that doesn't violate the property
 abbrev pub unviolated_text : Why → List ℕ
 unviolated_text unviolated.Ended = codes "no violation\nreason ended\n"
-unviolated_text (unviolated.Undefined spot) = codes "no violation\nreason undefined " ++ place_text spot.line spot.column ++ codes "\n"
+unviolated_text (unviolated.Undefined spot) = codes "no violation\nreason undefined " ++ decimal spot.line ++ codes ":" ++ decimal spot.column ++ codes "\n"
 
 -- the status and the bytes of an output
 abbrev pub status_by : Output → ℕ

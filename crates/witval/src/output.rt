@@ -71,7 +71,8 @@ fn text_of_unviolated(alloc: Global, why: Unviolated) -> Result<Vec<u8>, OutOfMe
         Unviolated::Undefined(spot) => {
             let line = spot.line;
             let column = spot.column;
-            let text = format!(in alloc; "no violation\nreason undefined {line}:{column}\n")?;
+            let mut text = format!(in alloc; "no violation\nreason undefined {line}")?;
+            write!(text, ":{column}\n")?;
             Ok(text.into_bytes())
         }
     }

@@ -8,4 +8,4 @@ use Rattle.witval.proofs.weeding.tell_weeded.Goals as goal
 
 pub write_witness-requires : goal.write_witness-requires
 write_witness-requires c =
-    subst (λ w. Fits max_depth (tree_of w)) (sym c.in_ok-kept.ensures) (tree_fits _ (kept_short c.as_slice.result.now c.args.witness.now c.requires))
+    subst (λ w. Fits max_depth (tree_of w)) (sym c.in_ok-kept-in-Kept.ensures) (tree_fits _ (kept_short c.as_slice.result.now c.args.witness.now c.requires))
