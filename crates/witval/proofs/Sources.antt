@@ -197,7 +197,7 @@ long_source : (sources : Sources) (label : Label) (steps : ℕ) (old new : Shelf
     → RightAuthor sources label steps old new (Report (Refused too_long (source_word file)))
 long_source sources label steps old new file halted = (
   spread (in_order sources) old.files (λ program property listed. first_too_long program property listed ≡ Some file)
-  (AuthorsOnBytes label steps sources.program (Report (Refused too_long (source_word file)))) (refused_source label steps sources.program file) (some_too_long file) halted.1,
+      (AuthorsOnBytes label steps sources.program (Report (Refused too_long (source_word file)))) (refused_source label steps sources.program file) (some_too_long file) halted.1,
   inr (file, refl, halted.0),
 )
 

@@ -219,11 +219,13 @@ pub fn answer<S: Shelf>(
         Some(Request::Demo { number, budgets }) => demo(alloc, number, budgets),
         Some(Request::Certify { names, conflicts }) => certify(alloc, &names, conflicts, shelf),
         Some(Request::Recheck { names, certificate }) => recheck(alloc, &names, certificate, shelf),
-        Some(Request::Author {
-            sources,
-            label,
-            steps,
-        }) => author(alloc, &sources, &label, steps, shelf),
+        Some(
+            Request::Author {
+                sources,
+                label,
+                steps,
+            },
+        ) => author(alloc, &sources, &label, steps, shelf),
         Some(Request::Weed { names, conflicts }) => weed(alloc, &names, conflicts, shelf),
         None => Ok(Output::Report(refuse_plainly(alloc, "usage")?)),
     }

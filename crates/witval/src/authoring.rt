@@ -268,9 +268,7 @@ fn tell_end(end: End, steps: u64) -> Result<Output, OutOfMemory>
             let cause = Cause::Steps(steps);
             Ok(Output::Report(Reply::Verdict(Verdict::Undecided(cause))))
         }
-        End::Deep => Ok(Output::Report(Reply::Verdict(Verdict::Undecided(
-            Cause::Cells,
-        )))),
+        End::Deep => Ok(Output::Report(Reply::Verdict(Verdict::Undecided(Cause::Cells)))),
         End::Violated(_) => Err(OutOfMemory),
     }
 }
