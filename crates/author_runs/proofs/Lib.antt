@@ -1,2 +1,4 @@
 mod Answered
 mod ByPlace
+pub mod CallEnds
+pub mod OneCall
