@@ -1,4 +1,12 @@
 mod Answered
 mod ByPlace
-pub mod CallEnds
 pub mod OneCall
+pub mod CallEnds
+pub mod Each
+pub mod Traversed
+pub mod Known
+pub mod Runs
+pub mod Places
+pub mod Bodies
+pub mod Returned
+pub mod Violating

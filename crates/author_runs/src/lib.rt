@@ -1,6 +1,7 @@
-//! Runs as an author of witnesses sees them: values given by place give the run that takes them in turn.
+//! Runs from which violation witnesses are written: what comes back of their inputs, where they violate the property, and that values
+//! given by place give the run that takes them in turn.
 #![tactic(auto)]
 
 mod laws;
 
-pub use laws::values_by_place_replay;
+pub use laws::{inputs_come_back, values_by_place_replay, violations_end_runs};
