@@ -1,0 +1,2 @@
+mod TypedCalls
+mod InputEnds

@@ -1,0 +1,2 @@
+//! Laws on what the witnesses of `author` are bound to.
+#![tactic(auto)]
