@@ -1,2 +1,4 @@
 mod TypedCalls
 mod InputEnds
+mod GivenDraws
+mod Positions
