@@ -2,3 +2,4 @@ mod TypedCalls
 mod InputEnds
 mod GivenDraws
 mod Positions
+mod Shown

@@ -41,9 +41,9 @@ module _ (p : Program) where
   backs_of (Head at l a cs ∷ xs) = backs_of xs
 
   -- what comes back is told by the return of an input call
-  record IsReturnOf (e : Event) (b : CameBack) : Type 0 where
-    event : e ≡ Return b.close (Some b.value)
-    input : input_at p b.close ≡ Some b.call
+  pub record IsReturnOf (e : Event) (b : CameBack) : Type 0 where
+    pub event : e ≡ Return b.close (Some b.value)
+    pub input : input_at p b.close ≡ Some b.call
 
   return_by : (close : Spot) (v : ℤ) (o : Option InputCall) (b : CameBack) → input_at p close ≡ o → back_at close v o ≡ Some b → IsReturnOf (Return close (Some v)) b
   return_by close v None b e h = absurd (cc)
@@ -51,7 +51,7 @@ module _ (p : Program) where
       let same : record { close = close; call = call; value = v } ≡ b = some_same h in
       subst (λ (b : CameBack). IsReturnOf (Return close (Some v)) b) same (record { event = refl; input = e })
 
-  return_of : (e : Event) (b : CameBack) → back_by p e ≡ Some b → IsReturnOf e b
+  pub return_of : (e : Event) (b : CameBack) → back_by p e ≡ Some b → IsReturnOf e b
   return_of (Return close (Some v)) b h = return_by close v (input_at p close) b refl h
   return_of (Return close None) b h = absurd (cc)
   return_of (At spot) b h = absurd (cc)

@@ -1,5 +1,5 @@
 mod Answered
-mod ByPlace
+pub mod ByPlace
 pub mod OneCall
 pub mod CallEnds
 pub mod Each
