@@ -1,0 +1,2 @@
+//! Laws on what the witnesses that `author` writes are bound to.
+#![tactic(auto)]
