@@ -1,3 +1,5 @@
 pub mod Decimals
 pub mod NumberTokens
 pub mod ConstantTokens
+pub mod ConstantTypes
+pub mod ConstantValues
