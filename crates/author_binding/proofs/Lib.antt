@@ -3,3 +3,5 @@ pub mod NumberTokens
 pub mod ConstantTokens
 pub mod ConstantTypes
 pub mod ConstantValues
+pub mod ConstantRanges
+pub mod ConstantTests

@@ -1,1 +1,2 @@
 pub mod ConstantTexts
+pub mod ConstantTests
