@@ -1,9 +1,9 @@
 -- The values of all types are those that constants spell.
-use Rattle.std.proofs.Common.{◌≡◌, ◌<◌, ◌≤◌, ◌-◌, ◌^◌, ℕ, ℤ, pos, negsuc, ◌≤ℤ◌, Bool, true, false, cond, nat_lt, refl, arith}
+use Rattle.std.proofs.Common.{◌≡◌, ◌<◌, ◌≤◌, ◌-◌, ◌^◌, ℕ, ℤ, pos, negsuc, ◌≤ℤ◌, true, arith}
 use Rattle.std.proofs.lemmas.Int.{ints}
 use Rattle.std.proofs.lemmas.Bool.{false≢true}
 use Rattle.std.proofs.lemmas.Bool.Decides.{nat_tests}
-use Rattle.c_core.specs.Types.{fits_signed, fits_unsigned, in_range, is_signed, width_of}
+use Rattle.c_core.specs.Types.{fits_signed, fits_unsigned, in_range}
 use Rattle.c_core.specs.declared.number.DataModel.{DataModel}
 use Rattle.c_core.specs.declared.number.DataModel.TheVariants.{Ilp32, Lp64}
 use Rattle.c_core.specs.declared.number.IntType.{IntType}
@@ -15,11 +15,17 @@ pub record HasConstant (v : ℤ) : Type 0 where
   pub high : v ≤ℤ pos (2 ^ 64 - 1)
 
 signed_has : (w : ℕ) (v : ℤ) → 2 ^ (w - 1) ≤ 2 ^ 63 → fits_signed w v ≡ true → HasConstant v
-signed_has w (pos n) few h = let small : n < 2 ^ (w - 1) = grind (arith, nat_tests) in record { low = omega (arith, ints); high = omega (arith, ints) }
-signed_has w (negsuc n) few h = let small : n < 2 ^ (w - 1) = grind (arith, nat_tests) in record { low = omega (arith, ints); high = omega (arith, ints) }
+signed_has w (pos n) few h =
+    let small : n < 2 ^ (w - 1) = grind (arith, nat_tests) in
+    record { low = omega (arith, ints); high = omega (arith, ints) }
+signed_has w (negsuc n) few h =
+    let small : n < 2 ^ (w - 1) = grind (arith, nat_tests) in
+    record { low = omega (arith, ints); high = omega (arith, ints) }
 
 unsigned_has : (w : ℕ) (v : ℤ) → 2 ^ w ≤ 2 ^ 64 → fits_unsigned w v ≡ true → HasConstant v
-unsigned_has w (pos n) few h = let small : n < 2 ^ w = grind (arith, nat_tests) in record { low = omega (arith, ints); high = omega (arith, ints) }
+unsigned_has w (pos n) few h =
+    let small : n < 2 ^ w = grind (arith, nat_tests) in
+    record { low = omega (arith, ints); high = omega (arith, ints) }
 unsigned_has w (negsuc n) few h = absurd (false≢true h)
 
 pub has_constant : (m : DataModel) (ty : IntType) (v : ℤ) → in_range m ty v ≡ true → HasConstant v

@@ -77,16 +77,24 @@ negative n small = record {
 
 -- -2^63
 least : IsConstant (negsuc 9223372036854775807) (codes "-9223372036854775807 - 1")
-least = record { tree = least_tree; spelled = least_spelled; scope = λ at. refl; fits = least_fits; value = least_value }
+least = record {
+  tree = least_tree;
+  spelled = least_spelled;
+  scope = λ at. refl;
+  fits = least_fits;
+  value = least_value;
+}
 
 not_below : (n k : ℕ) → k ≤ n → nat_lt n k ≡ false
 not_below n k high = grind (arith, nat_tests)
 
-natural : (n : ℕ) → n < 2 ^ 64 → (low : Bool) → nat_lt n (2 ^ 63) ≡ low → IsConstant (pos n) (decimal n ++ cond low [] (codes "ULL"))
+natural : (n : ℕ) → n < 2 ^ 64 → (low : Bool) → nat_lt n (2 ^ 63) ≡ low →
+    IsConstant (pos n) (decimal n ++ cond low [] (codes "ULL"))
 natural n small true e = plain n (grind (arith, nat_tests))
 natural n small false e = wide n (grind (arith, nat_tests)) small
 
-below_zero : (n : ℕ) → n < 2 ^ 63 → (low : Bool) → nat_lt n (2 ^ 63 - 1) ≡ low → IsConstant (negsuc n) (cond low (codes "-" ++ decimal (suc n)) (codes "-9223372036854775807 - 1"))
+below_zero : (n : ℕ) → n < 2 ^ 63 → (low : Bool) → nat_lt n (2 ^ 63 - 1) ≡ low →
+    IsConstant (negsuc n) (cond low (codes "-" ++ decimal (suc n)) (codes "-9223372036854775807 - 1"))
 below_zero n small true e = negative n (grind (arith, nat_tests))
 below_zero n small false e =
     let only : 9223372036854775807 ≡ n = grind (arith, nat_tests) in
@@ -107,7 +115,8 @@ compared_same m a b v =
     let x = fit m (common_of m a b) v in
     ap (λ same. is_true (wrapping (truth same))) ((Decides-int_eq x x).1 refl)
 
-equal_met : (p : Program) (v : ℤ) (t : ReturnTest) → Eq ≡ t.op → constant_of p t.constant ≡ Some v → (ty : IntType) → meets p t ty v ≡ true
+equal_met : (p : Program) (v : ℤ) (t : ReturnTest) → Eq ≡ t.op → constant_of p t.constant ≡ Some v →
+    (ty : IntType) → meets p t ty v ≡ true
 equal_met p v t same value ty =
     ap (λ o. is_true (and_then o (λ w. wrapping (compared p.model t.op ty v (type_of t.constant) w)))) value
     ∙ ap (λ o. is_true (wrapping (compared p.model o ty v (type_of t.constant) v))) (sym same)
@@ -132,16 +141,21 @@ module _ (p : Program) (v : ℤ) (h : IsConstant v (constant_text v)) where
   test_stands NoPlace bound = bound
   test_stands Expression (inl none) = none Eq e spelled
   test_stands Expression (inr bound) =
-      never (is_refused p.model [] e) (ap (is_refused p.model []) ((bound.2).only Eq e spelled).1 ∙ (bound.4).typing) (h.fits p.model constant_place)
-  test_stands Scope bound = elim (bound.3) [
-    | inl none ↦ never true refl none
-    | inr e ↦ never (in_scope [] (h.tree constant_place)) (h.scope constant_place) (ap (in_scope []) ((bound.2).only Eq (h.tree constant_place) spelled).1 ∙ e)
-  ]
+      let same : e ≡ bound.1 = ((bound.2).only Eq e spelled).1 in
+      let refused : is_refused p.model [] e ≡ true = ap (is_refused p.model []) same ∙ (bound.4).typing in
+      never (is_refused p.model [] e) refused (h.fits p.model constant_place)
+  test_stands Scope bound =
+      let same : e ≡ bound.1 = ((bound.2).only Eq e spelled).1 in
+      elim (bound.3) [
+        | inl none ↦ never true refl none
+        | inr strange ↦ never (in_scope [] e) (h.scope constant_place) (ap (in_scope []) same ∙ strange)
+      ]
   test_stands OutOfMemory bound = tt
 
   bound_to : (answer : Result ReturnTest Unbound) → BindsTest p true (result_text v) answer → IsTestFor p v answer
   bound_to (Ok t) bound = test_is t bound
   bound_to (Err lack) bound = test_stands lack bound
 
-pub constant_bound : (p : Program) (v : ℤ) (answer : Result ReturnTest Unbound) → negsuc (2 ^ 63 - 1) ≤ℤ v → v ≤ℤ pos (2 ^ 64 - 1) → BindsTest p true (result_text v) answer → IsTestFor p v answer
+pub constant_bound : (p : Program) (v : ℤ) (answer : Result ReturnTest Unbound) →
+    negsuc (2 ^ 63 - 1) ≤ℤ v → v ≤ℤ pos (2 ^ 64 - 1) → BindsTest p true (result_text v) answer → IsTestFor p v answer
 constant_bound p v answer low high bound = bound_to p v (is_constant v low high) answer bound

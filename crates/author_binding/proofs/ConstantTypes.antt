@@ -1,8 +1,8 @@
--- The types of constants: signed ones without a suffix hold the number and its negation, and no rule on types is broken.
-use Rattle.std.proofs.Common.{◌≡◌, ℕ, suc, ◌^◌, ◌-◌, ◌<◌, Bool, true, false, cond, ◌||◌, pos, negsuc, nat_lt, List, [], Option, Some, None, is_none, refl, ap, ◌∙◌, arith}
+-- The types of constants: one without a suffix has a signed type that holds it; and no rule on types is broken.
+use Rattle.std.proofs.Common.{◌≡◌, ℕ, ◌^◌, ◌<◌, Bool, true, false, cond, ◌||◌, pos, nat_lt, [], Option, Some, None, is_none, refl, ap, arith}
 use Rattle.std.specs.List.{list_any}
 use Rattle.std.proofs.lemmas.Bool.Decides.{nat_tests}
-use Rattle.c_core.specs.Types.{in_range, is_signed, promote_of, width_of}
+use Rattle.c_core.specs.Types.{in_range, is_signed, promote_of}
 use Rattle.c_core.specs.declared.number.DataModel.{DataModel}
 use Rattle.c_core.specs.declared.number.DataModel.TheVariants.{Ilp32, Lp64}
 use Rattle.c_core.specs.declared.number.IntType.{IntType}
@@ -25,17 +25,26 @@ pub record IsHeld (m : DataModel) (n : ℕ) (found : Option IntType) : Type 0 wh
   pub signed : is_signed ty ≡ true
   pub holds : in_range m ty (pos n) ≡ true
 
-held_first : (m : DataModel) (n : ℕ) (ty : IntType) (later : Option IntType) (held : Bool) → promote_of ty ≡ ty → is_signed ty ≡ true → in_range m ty (pos n) ≡ held →
-    (held ≡ false → IsHeld m n later) → IsHeld m n (cond held (Some ty) later)
-held_first m n ty later true promoted signed e other = record { ty = ty; is = refl; promoted = promoted; signed = signed; holds = e }
-held_first m n ty later false promoted signed e other = other refl
+held_first : (m : DataModel) (n : ℕ) (ty : IntType) (later : Option IntType) (held : Bool) →
+    promote_of ty ≡ ty → is_signed ty ≡ true → in_range m ty (pos n) ≡ held → IsHeld m n later →
+    IsHeld m n (cond held (Some ty) later)
+held_first m n ty later true promoted signed e other =
+    record { ty = ty; is = refl; promoted = promoted; signed = signed; holds = e }
+held_first m n ty later false promoted signed e other = other
 
 pub held : (m : DataModel) (n : ℕ) → n < 2 ^ 63 → IsHeld m n (constant_type m n true false 0)
 held m n small =
     let wide : in_range m LongLong (pos n) ≡ true = below n (2 ^ 63) small in
     let widest : IsHeld m n (cond (in_range m LongLong (pos n)) (Some LongLong) None) =
-    record { ty = LongLong; is = ap (λ b. cond b (Some LongLong) None) wide; promoted = refl; signed = refl; holds = wide } in
-    held_first m n Int _ (in_range m Int (pos n)) refl refl refl (λ _. held_first m n Long _ (in_range m Long (pos n)) refl refl refl (λ _. widest))
+    record {
+      ty = LongLong;
+      is = ap (λ b. cond b (Some LongLong) None) wide;
+      promoted = refl;
+      signed = refl;
+      holds = wide;
+    } in
+    held_first m n Int _ (in_range m Int (pos n)) refl refl refl
+    (held_first m n Long _ (in_range m Long (pos n)) refl refl refl widest)
 
 pub wide_type : (m : DataModel) (n : ℕ) → n < 2 ^ 64 → constant_type m n true true 2 ≡ Some ULongLong
 wide_type m n small = ap (λ b. cond b (Some ULongLong) None) (below n (2 ^ 64) small)
@@ -45,7 +54,8 @@ wide_type m n small = ap (λ b. cond b (Some ULongLong) None) (below n (2 ^ 64) 
 abbrev pub breaks_none : DataModel → Exp → Type 0
 breaks_none m e = list_any (mistyped m []) (parts [] Value e) ≡ false
 
-number_fits : (m : DataModel) (n : ℕ) (decimal unsigned : Bool) (longs : ℕ) (ty : IntType) (at : Place) → constant_type m n decimal unsigned longs ≡ Some ty →
+number_fits : (m : DataModel) (n : ℕ) (decimal unsigned : Bool) (longs : ℕ) (ty : IntType) (at : Place) →
+    constant_type m n decimal unsigned longs ≡ Some ty →
     breaks_none m (number_tree n decimal unsigned longs at)
 number_fits m n decimal unsigned longs ty at e = ap (λ o. (is_none o || false) || false) e
 

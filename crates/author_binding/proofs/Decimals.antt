@@ -55,8 +55,17 @@ parted : (n : ℕ) (ds : List ℕ) → AreDigits n ds → 0 < length ds → 48 <
 parted n [] h some large = absurd (omega arith)
 parted n (d ∷ ds) h some large =
     let parts = both (is_digit d) (list_all is_digit ds) h.all in
-    record { first = d; others = ds; spelled = refl; value = h.value; digit = parts.0; digits = parts.1; no_octal = no_zero d large }
+    record {
+      first = d;
+      others = ds;
+      spelled = refl;
+      value = h.value;
+      digit = parts.0;
+      digits = parts.1;
+      no_octal = no_zero d large;
+    }
 
 pub is_decimal : (n : ℕ) → 0 < n → n < 2 ^ 64 → IsDecimal n (decimal n)
 is_decimal n some small =
-    parted n (decimal n) (decimal_by_steps AreDigits one_digit more_digits n small) (decimal_nonempty n small) (first_decimal n some small)
+    let digits = decimal_by_steps AreDigits one_digit more_digits n small in
+    parted n (decimal n) digits (decimal_nonempty n small) (first_decimal n some small)
