@@ -3,30 +3,33 @@ use Rattle.std.proofs.Common.{◌≡◌, ℤ, Bool, true, false, cond, ◌&&◌,
 use Rattle.std.proofs.lemmas.Bool.{false≢true}
 use Rattle.std.proofs.lemmas.Bool.{or_right}
 use Rattle.std.specs.List.{cons_option, filter, filter_map, list_all, list_any}
-use Rattle.c_core.specs.Tree.{Exp, Expr, Node, Call, Program}
-use Rattle.c_core.specs.Types.{fit, in_range}
+use Rattle.c_core.specs.Tree.{Exp, Expr, Call, Program}
+use Rattle.c_core.specs.Types.{in_range}
 use Rattle.c_core.specs.Parts.{exps_of_program, same_spot}
 use Rattle.c_core.specs.Places.{InputCall, first_some, input_at, input_of}
 use Rattle.c_core.specs.declared.number.Spot.{Spot}
 use Rattle.c_core.specs.declared.tree.Callee.TheVariants.{Input as InputFunction, Defined, ReachError, Abort, Exit}
 use Rattle.c_core.proofs.Fits.{fit_kept}
 use Rattle.c_core.proofs.TextOrderLaws.{left, right}
+use Rattle.c_meaning.specs.Drawn.{IsIn64Bits}
 use Rattle.c_meaning.specs.Replay.{values_of}
 use Rattle.c_meaning.specs.declared.run.Draw.{Draw}
 use Rattle.c_meaning.specs.declared.run.DrawKind.{DrawKind}
 use Rattle.c_meaning.specs.declared.run.DrawKind.TheVariants.{Input, Cell, Havoc}
 use Rattle.c_meaning.specs.declared.run.Given.{Given as GivenAt}
-use Rattle.way_match.specs.Given.{GivenValue, given_by_follow, given_by_return, input_calls, is_equality, value_if_at, values_at}
-use Rattle.way_match.specs.Points.{BoundSegment, Return, ReturnTest}
+use Rattle.way_match.specs.Given.{given_by_follow, given_by_return, input_calls, value_if_at, values_at}
+use Rattle.way_match.specs.Points.{BoundSegment, ReturnTest}
 use Rattle.author_runs.specs.Giving.{GivesDraws, HasInputAt, input_values_at, is_input, is_input_at, values_given_at}
-use Rattle.author_runs.specs.Returning.{CameBack, drawn_by, drawn_to, end_from, end_of_input, end_of_node, ends_by, has_end, inputs_in}
+use Rattle.author_runs.specs.Returning.{CameBack, drawn_by, drawn_to, end_from, end_of_input, ends_by, has_end, inputs_in}
 use Rattle.author_runs.proofs.OneCall.{same_place}
-use Rattle.author_binding.specs.Followed.{FollowEach, FollowsReturn, IsTestOfValue, follows_alone}
+use Rattle.author_binding.specs.ConstantTests.{IsEqualTo}
+use Rattle.author_binding.specs.Followed.{FollowEach, FollowsReturn}
 
--- an input call ends at its place, and its type holds the value
+-- an input call ends at its place, and its type holds the value, which is in 64 bits
 pub record IsInputBack (p : Program) (b : CameBack) : Type 0 where
   pub input : input_at p b.close ≡ Some b.call
   pub in_type : in_range p.model b.call.ty b.value ≡ true
+  pub in_bits : IsIn64Bits b.value
 
 -- each is such
 abbrev pub AreInputsBack : Program → List CameBack → Type 0
@@ -66,11 +69,11 @@ module _ (p : Program) (spot : Spot) where
 
   -- ---- of the segments
 
-  gives_its_value : (b : CameBack) (t : ReturnTest) → IsInputBack p b → IsTestOfValue p b.value t
+  gives_its_value : (b : CameBack) (t : ReturnTest) → IsInputBack p b → IsEqualTo p b.value t
       → given_by_return p (input_at p b.close) (Some t) ≡ Some (record { spot = b.call.spot; value = b.value })
   gives_its_value b t h test =
       ap (λ o. given_by_return p o (Some t)) h.input
-      ∙ rw (test.equality, test.value, fit_kept p.model b.call.ty b.value h.in_type) refl
+      ∙ rw (test.compares, test.value, fit_kept p.model b.call.ty b.value h.in_type) refl
 
   gives_one : (b : CameBack) (s : BoundSegment) → IsInputBack p b → FollowsReturn p b s
       → value_if_at spot (given_by_follow p s.follow) ≡ cond (same_spot b.call.spot spot) (b.value ∷ []) []

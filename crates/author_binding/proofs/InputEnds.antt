@@ -1,20 +1,17 @@
 -- Where an input call of a checked program ends.
-use Rattle.std.proofs.Common.{◌≡◌, ◌<◌, arith, length, ℕ, zero, suc, nat_lt, Bool, true, false, cond, ◌&&◌, ◌||◌, List, [], ◌∷◌, Option, Some, None, is_some, refl, sym, ap, ◌∙◌, subst}
+use Rattle.std.proofs.Common.{◌≡◌, ◌<◌, arith, length, ℕ, zero, suc, nat_lt, Bool, true, false, cond, ◌&&◌, ◌||◌, List, [], ◌∷◌, Option, Some, None, refl, sym, ap, ◌∙◌, subst}
 use Rattle.std.specs.List.{Contains, filter, find, list_all, list_any, slice_index_or}
 use Rattle.std.proofs.lemmas.List.Elements.{Contains-append_right}
-use Rattle.c_core.specs.Tree.{Exp, Expr, Node, Call, Exps, Program}
-use Rattle.c_core.specs.Parts.{exps_of_program, same_spot}
-use Rattle.c_core.specs.Places.{InputCall, call_at, ends_at, input_at, input_by, input_if, input_of, is_named, lefter, leftmost, place_at, spots_of_kind}
+use Rattle.c_core.specs.Tree.{Exp, Expr, Node, Call, Program}
+use Rattle.c_core.specs.Parts.{exps_of_program}
+use Rattle.c_core.specs.Places.{InputCall, call_at, ends_at, input_at, input_if, input_of, is_named, lefter, leftmost, place_at, spots_of_kind}
 use Rattle.c_core.specs.Program.{IsProgram}
 use Rattle.c_core.specs.Typing.{are_values, exp_fits, has_input, is_type}
-use Rattle.c_core.specs.declared.number.IntType.{IntType}
 use Rattle.c_core.specs.declared.number.Spot.{Spot}
 use Rattle.c_core.specs.declared.place.PlaceKind.TheVariants.{CallEnd}
-use Rattle.c_core.specs.declared.tree.Callee.{Callee}
 use Rattle.c_core.specs.declared.tree.Callee.TheVariants.{Input, Defined, ReachError, Abort, Exit}
 use Rattle.c_core.proofs.TextOrderLaws.{left, right, same_spot-self}
 use Rattle.c_meaning.proofs.TypeFacts.{some_same, the_type}
-use Rattle.way_match.specs.Passing.{type_of_call}
 use Rattle.author_runs.proofs.CallEnds.{end_is_place}
 use Rattle.author_runs.proofs.Each.{any_contained}
 use Rattle.author_runs.proofs.OneCall.{same_place}

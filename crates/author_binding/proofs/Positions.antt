@@ -1,7 +1,7 @@
 -- Positions at which the events of a run match the segments of its inputs and its violation.
-use Rattle.std.proofs.Common.{◌≡◌, ◌<◌, ◌≤◌, ◌+◌, ◌⊎◌, inl, arith, ℕ, suc, ℤ, Bool, true, false, ◌||◌, ◌&&◌, List, [], ◌∷◌, ◌++◌, length, length-append, append_assoc, Option, Some, None, slice_get, refl, sym, ap, ◌∙◌, subst, suc-add, zero-add}
+use Rattle.std.proofs.Common.{◌≡◌, ◌≤◌, ◌+◌, inl, arith, ℕ, suc, ℤ, Bool, true, false, ◌||◌, ◌&&◌, List, [], ◌∷◌, ◌++◌, length, length-append, append_assoc, Option, Some, None, slice_get, refl, sym, ap, ◌∙◌, subst}
 use Rattle.std.specs.List.{cons_option, filter_map}
-use Rattle.c_core.specs.Tree.{Exp, Expr, Program}
+use Rattle.c_core.specs.Tree.{Program}
 use Rattle.c_core.specs.Parts.{same_spot}
 use Rattle.c_core.specs.Places.{InputCall, call_at, input_at}
 use Rattle.c_core.specs.Program.{IsProgram}
@@ -12,11 +12,11 @@ use Rattle.c_meaning.specs.Run.{Moment, Told, Here, Head}
 use Rattle.c_meaning.specs.declared.run.Event.{Event}
 use Rattle.c_meaning.specs.declared.run.Event.TheVariants.{At, Branch, Enter, Return, Fail}
 use Rattle.c_meaning.proofs.TypeFacts.{some_same}
-use Rattle.way_match.specs.Matching.{Before, MatchesFrom, Matches, Seen, seen_of, seen_passes, seen_passes_any, at_start}
+use Rattle.way_match.specs.Matching.{Before, MatchesFrom, Matches, Seen, seen_of, seen_passes, seen_passes_any}
 use Rattle.way_match.specs.Passing.{meets, type_of_call}
 use Rattle.way_match.specs.Points as point
 use Rattle.way_match.specs.Points.{BoundSegment}
-use Rattle.author_runs.specs.Returning.{CameBack, back_at, back_by, back_in, returns_in}
+use Rattle.author_runs.specs.Returning.{CameBack, back_at, back_by, returns_in}
 use Rattle.author_binding.specs.Followed.{FollowEach, FollowsReturn, follows_alone}
 use Rattle.author_binding.proofs.GivenDraws.{AreInputsBack, IsInputBack}
 use Rattle.author_binding.proofs.InputEnds.{input_end}
@@ -103,25 +103,31 @@ module _ (p : Program) (checked : IsProgram p) (statement full : Spot) (call : O
   found_last : (k : ℕ) (before es : List Seen) (ss : List BoundSegment) → es ≡ before ++ last ∷ [] → k ≤ length before → ss ≡ follows_alone (point.Target (point.At statement)) ∷ [] → Found k ss es
   found_last k before es ss e low is =
       let size : length es ≡ length before + 1 = ap length e ∙ length-append before (last ∷ []) in
-      subst (λ ss. Found k ss es) (sym is) (length before ∷ [], (
-        ap (λ s. seen_passes p s (point.Target (point.At statement))) (ap (λ (l : List Seen). slice_get l (length before)) e ∙ get_behind before last []) ∙ fails,
-        inl low,
-        (λ i from to. none_avoided p (slice_get es i)),
-        omega (arith, size),
-      ))
+      subst (λ ss. Found k ss es) (sym is) (
+        length before ∷ [],
+        (
+          ap (λ s. seen_passes p s (point.Target (point.At statement))) (ap (λ (l : List Seen). slice_get l (length before)) e ∙ get_behind before last []) ∙ fails,
+          inl low,
+          (λ i from to. none_avoided p (slice_get es i)),
+          omega (arith, size),
+        ),
+      )
 
   found_return : (k : ℕ) (before : List Seen) (e : Seen) (behind es : List Seen) (b : CameBack) (s : BoundSegment) (ss : List BoundSegment) → es ≡ before ++ e ∷ behind → k ≤ length before
       → IsInputBack p b → FollowsReturn p b s → e.event ≡ Return b.close (Some b.value) → Found (suc (length before)) ss es → Found k (s ∷ ss) es
   found_return k before e behind es b s ss at low back f told rest =
       let passes : seen_passes p (slice_get es (length before)) s.follow ≡ true =
-          ap (λ x. seen_passes p x s.follow) (ap (λ (l : List Seen). slice_get l (length before)) at ∙ get_behind before e behind) ∙ returned b s e back f told in
+      ap (λ x. seen_passes p x s.follow) (ap (λ (l : List Seen). slice_get l (length before)) at ∙ get_behind before e behind) ∙ returned b s e back f told in
       let no_assumption : MatchesFrom p (after (suc (length before))) ss es rest.0 = rest.1 in
-      subst (λ (x : BoundSegment). Found k (x ∷ ss) es) (sym f.is) (length before ∷ rest.0, (
-        subst (λ (x : BoundSegment). seen_passes p (slice_get es (length before)) x.follow ≡ true) f.is passes,
-        inl low,
-        (λ i from to. none_avoided p (slice_get es i)),
-        no_assumption,
-      ))
+      subst (λ (x : BoundSegment). Found k (x ∷ ss) es) (sym f.is) (
+        length before ∷ rest.0,
+        (
+          subst (λ (x : BoundSegment). seen_passes p (slice_get es (length before)) x.follow ≡ true) f.is passes,
+          inl low,
+          (λ i from to. none_avoided p (slice_get es i)),
+          no_assumption,
+        ),
+      )
 
   longer : (before : List Seen) (e : Seen) → length (before ++ e ∷ []) ≡ suc (length before)
   longer before e = length-append before (e ∷ []) ∙ omega arith

@@ -1,19 +1,10 @@
 -- Segments that give back what inputs drew, and then meet the violation.
-use Rattle.std.specs.Prelude.{◌≡◌, ℤ, true, List, [], ◌∷◌, Some}
+use Rattle.std.specs.Prelude.{◌≡◌, List, [], ◌∷◌, Some}
 use Rattle.c_core.specs.Tree.{Program}
-use Rattle.c_core.specs.Types.{in_range}
-use Rattle.c_core.specs.declared.number.BinOp.TheVariants.{Eq}
-use Rattle.c_core.specs.declared.number.IntType.{IntType}
 use Rattle.c_core.specs.declared.number.Spot.{Spot}
-use Rattle.way_match.specs.Passing.{constant_of, meets}
 use Rattle.way_match.specs.Points.{At, BoundSegment, Point, Return, ReturnTest, Target}
 use Rattle.author_runs.specs.Returning.{CameBack}
-
--- `\result == E`, where E has this value, which meets it in each type that holds it
-pub record IsTestOfValue (p : Program) (v : ℤ) (t : ReturnTest) : Type 0 where
-  pub equality : t.op ≡ Eq
-  pub value : constant_of p t.constant ≡ Some v
-  pub met : (ty : IntType) → in_range p.model ty v ≡ true → meets p t ty v ≡ true
+use Rattle.author_binding.specs.ConstantTests.{IsEqualTo}
 
 -- a segment without avoids
 abbrev pub follows_alone : Point → BoundSegment
@@ -23,7 +14,7 @@ follows_alone x = record { avoids = []; follow = x }
 pub record FollowsReturn (p : Program) (b : CameBack) (s : BoundSegment) : Type 0 where
   pub test : ReturnTest
   pub is : s ≡ follows_alone (Return b.close (Some test))
-  pub tests : IsTestOfValue p b.value test
+  pub tests : IsEqualTo p b.value test
 
 -- a segment for each input, then that of the violation in a statement
 abbrev pub FollowEach : Program → Spot → List CameBack → List BoundSegment → Type 0
