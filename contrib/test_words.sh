@@ -16,8 +16,8 @@ explains() {
 
 explains '--bogus' 'there is no option --bogus'
 explains '-x' 'there is no option -x'
-explains 'judge' "there is no mode 'judge': validate, show, normalise, demo, certify or recheck"
-explains '--program p.c' 'a mode is missing: validate, show, normalise, demo, certify or recheck'
+explains 'judge' "there is no mode 'judge': validate, show, normalise, demo, certify, recheck, author or weed"
+explains '--program p.c' 'a mode is missing: validate, show, normalise, demo, certify, recheck, author or weed'
 explains 'validate' 'validate needs --program'
 explains 'validate --program p.c --property unreach.prp' 'validate needs --witness'
 explains 'show' 'show needs --witness'
@@ -25,6 +25,8 @@ explains 'normalise' 'normalise needs --witness'
 explains 'demo' 'demo needs --number'
 explains 'certify --program p.c --property unreach.prp' 'certify needs --witness'
 explains "recheck $files" 'recheck needs --certificate'
+explains "author $files" 'author needs --values'
+explains 'weed --program p.c --property unreach.prp' 'weed needs --witness'
 explains "validate show $files" "'show' is one word too many after the mode validate"
 explains "validate $files --steps=3 --steps 3" '--steps stands twice'
 explains "validate $files --witness=w.yml" '--witness stands twice'

@@ -4,3 +4,4 @@ mod Drawn
 mod Chosen
 mod Verdicted
 mod Kept
+mod Told

@@ -9,6 +9,7 @@ mod judging;
 mod laws;
 mod logged;
 
+pub use failing::{Finding, decide_bit, is_false};
 pub use judging::{Judged, decide};
-pub use laws::one_answer;
+pub use laws::{failing_bits_tell, one_answer};
 pub use logged::{Logged, judge_logged};

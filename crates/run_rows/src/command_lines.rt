@@ -12,11 +12,26 @@ pub fn words(alloc: Global, line: &str) -> Result<Vec<String>, OutOfMemory> {
     Ok(words)
 }
 
-/// The files that a row gives: its program is `p`, its property is `q`, its witness is `w`, its certificate is `c`.
+/// The name that the words give to the program.
+fn program_name(line: &str) -> &str {
+    let mut is_next = false;
+    for word in line.split(' ') {
+        if is_next {
+            return word;
+        }
+        is_next = word == "--program";
+    }
+    "p"
+}
+
+/// The files that a row gives: its program is `p`, and has the name that the words give to it; its property is `q`, its witness is `w`,
+/// its certificate, or its list of values, is `c`.
 pub fn shelf(files: &Files<'_>, row: &Row) -> Result<MemoryShelf, NotTried> {
     let mut shelf = MemoryShelf::new(files.alloc(), 4096);
     if let Some(program) = program(files, row)? {
         shelf.put("p", program.as_slice())?;
+        let line = row.text("words")?.unwrap_or("");
+        shelf.put(program_name(line), program.as_slice())?;
     }
     if let Some(property) = row.bytes("property") {
         shelf.put("q", property)?;

@@ -8,7 +8,7 @@ use Rattle.clap.specs.ValueTests.{accepts}
 use Rattle.clap.specs.declared.builder.value_parser.ValueParser.TheVariants.{Unsigned}
 use Rattle.clap.proofs.ValueTestLemmas.{accepts-Accepts}
 use Rattle.wv_arguments.specs.Arguments.{command, most_conflicts, most_number}
-use Rattle.wv_arguments.specs.Words.{Budgets, Command, Wanted, asked_by, asked_of, budgets_in, budgets_of, certify_of, command_in, conflicts_in, demo_of, made_number, mode_in, normalise_of, number_in, recheck_of, show_of, validate_of, wanted_as}
+use Rattle.wv_arguments.specs.Words.{Budgets, Command, Label, Sources, Wanted, asked_by, asked_of, author_of, budgets_in, budgets_of, certify_of, command_in, conflicts_in, demo_of, label_in, made_number, mode_in, normalise_of, number_in, recheck_of, show_of, sources_in, steps_in, validate_of, wanted_as, weed_of}
 use Rattle.witval.specs.inside.Allowed.{AreAllowed, IsAllowed}
 
 abbrev IsWithin : ℕ → ℕ → ℕ → Type 0
@@ -59,6 +59,17 @@ rechecked None o = tt
 rechecked (Some c) None = tt
 rechecked (Some c) (Some name) = tt
 
+authored : (s : Option Sources) (l : Option Label) (n : Option ℕ) → AreAllowed (author_of s l n)
+authored None l n = tt
+authored (Some s) None n = tt
+authored (Some s) (Some l) None = tt
+authored (Some s) (Some l) (Some n) = tt
+
+weeded : (c : Option Command) (n : Option ℕ) → IfSome n (IsWithin 1 most_conflicts) → AreAllowed (weed_of c n)
+weeded None n h = tt
+weeded (Some c) None h = tt
+weeded (Some c) (Some n) h = record { some = h.0; bounded = h.1 }
+
 either : (b : Bool) (x y : Option Wanted) → AreAllowed x → AreAllowed y → AreAllowed (if b then x else y)
 either true x y h k = h
 either false x y h k = k
@@ -70,7 +81,9 @@ of_mode mode rows =
     (either (bytes_eq mode (codes "normalise")) _ _ (normalised (first_of (codes "witness") rows))
     (either (bytes_eq mode (codes "demo")) _ _ (made (made_number rows) (budgets_in rows) (read 0 most_number (one_of (codes "number") rows)) (both _ _ (read 1 most_conflicts (one_of (codes "conflicts") rows))))
     (either (bytes_eq mode (codes "certify")) _ _ (certified (command_in rows) (conflicts_in rows) (read 1 most_conflicts (one_of (codes "conflicts") rows)))
-    (either (bytes_eq mode (codes "recheck")) _ None (rechecked (command_in rows) (first_of (codes "certificate") rows)) tt)))))
+    (either (bytes_eq mode (codes "recheck")) _ _ (rechecked (command_in rows) (first_of (codes "certificate") rows))
+    (either (bytes_eq mode (codes "author")) _ _ (authored (sources_in rows) (label_in rows) (steps_in rows))
+    (either (bytes_eq mode (codes "weed")) _ None (weeded (command_in rows) (conflicts_in rows) (read 1 most_conflicts (one_of (codes "conflicts") rows))) tt)))))))
 
 of_kinds : (kinds : Kinds) (rows : List Row) → AreAllowed (asked_of kinds rows).wanted
 of_kinds [] rows = of_mode (mode_in rows) rows

@@ -1,17 +1,17 @@
 -- Where files are told and no fault was counted, a right output is what the files call for.
 use Rattle.std.proofs.Common.{◌≡◌, ◌<◌, ◌-◌, ◌^◌, ℕ, List, Option, Some, IfSome, inl, inr, arith, subst}
-use Rattle.wv_arguments.specs.Words.{Asked, Command, Wanted, Validate, Show, Normalise, Demo, Certify, Recheck}
+use Rattle.wv_arguments.specs.Words.{Asked, Command, Label, Sources, Wanted, Validate, Show, Normalise, Demo, Certify, Recheck, Author, Weed}
 use Rattle.wv_base.specs.Causes.{Rose}
 use Rattle.wv_base.specs.Shelf.{ShelfState, Files, file_of}
 use Rattle.wv_base.specs.Sink.{SinkState, Gained}
 use Rattle.wv_report.specs.declared.reply.Reply.{Reply}
 use Rattle.wv_report.specs.declared.reply.Reply.TheVariants.{Verdict as Judged, Refused, ReadFault}
-use Rattle.witval.specs.Inputs.{OfBytes, OfFiles, OfOne}
-use Rattle.witval.specs.Purposes.{Purpose, Judging, Certifying}
-use Rattle.witval.specs.Replies.{OfFour, OnWitness, Right, RightAlone, RightFor, RightOnBytes, RightOnFour, RightRecheck}
+use Rattle.witval.specs.Inputs.{OfBytes, OfFiles, OfOne, in_order}
+use Rattle.witval.specs.Purposes.{Purpose, Judging, Certifying, Weeding}
+use Rattle.witval.specs.Replies.{AuthorsOnBytes, OfFour, OnWitness, Right, RightAlone, RightAuthor, RightFor, RightOnBytes, RightOnFour, RightRecheck}
 use Rattle.witval.specs.Running.{CallsFor, CompleteFor, bytes_by, status_by}
 use Rattle.witval.specs.declared.output.Output.{Output}
-use Rattle.witval.specs.declared.output.Output.TheVariants.{Report, Canonical, Summary, Demo as Demonstrated, Certificate, Rechecked}
+use Rattle.witval.specs.declared.output.Output.TheVariants.{Report, Canonical, Summary, Demo as Demonstrated, Certificate, Rechecked, Unviolated}
 
 -- a count below its last value that stayed didn't rise
 abbrev Stayed : ShelfState → ShelfState → Type 0
@@ -52,6 +52,7 @@ rechecked command name old new files (Canonical text) e stayed right = absurd ri
 rechecked command name old new files (Summary text) e stayed right = absurd right
 rechecked command name old new files (Demonstrated demo) e stayed right = absurd right
 rechecked command name old new files (Certificate text) e stayed right = absurd right
+rechecked command name old new files (Unviolated why) e stayed right = absurd right
 
 alone : (Within : Output → List ℕ → Type 0) (name : List ℕ) (old new : ShelfState) (files : Files) (output : Output) → old.files ≡ Some files → Stayed old new
     → RightAlone Within name old new output → OnWitness Within output (file_of files name)
@@ -63,6 +64,21 @@ alone Within name old new files (Summary text) e stayed right = at_one name old 
 alone Within name old new files (Demonstrated demo) e stayed right = absurd right
 alone Within name old new files (Certificate text) e stayed right = absurd right
 alone Within name old new files (Rechecked answer) e stayed right = absurd right
+alone Within name old new files (Unviolated why) e stayed right = absurd right
+
+authored : (sources : Sources) (label : Label) (steps : ℕ) (old new : ShelfState) (files : Files) (output : Output) → old.files ≡ Some files → Stayed old new
+    → RightAuthor sources label steps old new output → CallsFor (Author sources label steps) files output
+authored sources label steps old new files (Report (ReadFault text)) e stayed right = absurd (stayed right.2.rose)
+authored sources label steps old new files (Report (Refused code detail)) e stayed right =
+    at_three (in_order sources) old files (AuthorsOnBytes label steps sources.program (Report (Refused code detail))) e right.0
+authored sources label steps old new files (Report (Judged verdict)) e stayed right =
+    at_three (in_order sources) old files (AuthorsOnBytes label steps sources.program (Report (Judged verdict))) e right
+authored sources label steps old new files (Canonical text) e stayed right = at_three (in_order sources) old files (AuthorsOnBytes label steps sources.program (Canonical text)) e right
+authored sources label steps old new files (Unviolated why) e stayed right = at_three (in_order sources) old files (AuthorsOnBytes label steps sources.program (Unviolated why)) e right
+authored sources label steps old new files (Summary text) e stayed right = absurd right
+authored sources label steps old new files (Demonstrated demo) e stayed right = absurd right
+authored sources label steps old new files (Certificate text) e stayed right = absurd right
+authored sources label steps old new files (Rechecked answer) e stayed right = absurd right
 
 called : (wanted : Wanted) (old new : ShelfState) (files : Files) (output : Output) → old.files ≡ Some files → Stayed old new → Right (Some wanted) old new output → CallsFor wanted files output
 called (Validate command budgets) old new files (Report reply) e stayed right = replied command (Judging budgets) old new files reply e stayed right
@@ -71,6 +87,7 @@ called (Validate command budgets) old new files (Summary text) e stayed right = 
 called (Validate command budgets) old new files (Demonstrated demo) e stayed right = absurd right
 called (Validate command budgets) old new files (Certificate text) e stayed right = absurd right
 called (Validate command budgets) old new files (Rechecked answer) e stayed right = absurd right
+called (Validate command budgets) old new files (Unviolated why) e stayed right = absurd right
 called (Show name) old new files output e stayed right = alone _ name old new files output e stayed right
 called (Normalise name) old new files output e stayed right = alone _ name old new files output e stayed right
 called (Demo number budgets) old new files output e stayed right = right
@@ -80,7 +97,16 @@ called (Certify command conflicts) old new files (Canonical text) e stayed right
 called (Certify command conflicts) old new files (Summary text) e stayed right = absurd right
 called (Certify command conflicts) old new files (Demonstrated demo) e stayed right = absurd right
 called (Certify command conflicts) old new files (Rechecked answer) e stayed right = absurd right
+called (Certify command conflicts) old new files (Unviolated why) e stayed right = absurd right
 called (Recheck command name) old new files output e stayed right = rechecked command name old new files output e stayed right
+called (Author sources label steps) old new files output e stayed right = authored sources label steps old new files output e stayed right
+called (Weed command conflicts) old new files (Report reply) e stayed right = replied command (Weeding conflicts) old new files reply e stayed right
+called (Weed command conflicts) old new files (Canonical text) e stayed right = at_three command old files (RightOnBytes (Weeding conflicts) (Canonical text)) e right
+called (Weed command conflicts) old new files (Summary text) e stayed right = absurd right
+called (Weed command conflicts) old new files (Demonstrated demo) e stayed right = absurd right
+called (Weed command conflicts) old new files (Certificate text) e stayed right = absurd right
+called (Weed command conflicts) old new files (Rechecked answer) e stayed right = absurd right
+called (Weed command conflicts) old new files (Unviolated why) e stayed right = absurd right
 
 stays : (old new : ℕ) → new ≡ old → old < 2 ^ 64 - 1 → Rose old new → ⊥
 stays old new same below rose = omega (arith, same, below, rose)

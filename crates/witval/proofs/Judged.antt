@@ -38,13 +38,13 @@ use Rattle.witval.specs.Replies.{CanonicalIn, NoReply, NoTreeReply, NoWitnessRep
 use Rattle.witval.specs.declared.input.File.TheVariants.{Witness as WitnessFile}
 use Rattle.witval.specs.declared.input.Inputs.{Inputs}
 use Rattle.witval.specs.declared.output.Output.{Output}
-use Rattle.witval.specs.declared.output.Output.TheVariants.{Report, Canonical, Summary, Demo as Demonstrated, Certificate, Rechecked}
+use Rattle.witval.specs.declared.output.Output.TheVariants.{Report, Canonical, Summary, Demo as Demonstrated, Certificate, Rechecked, Unviolated}
 use Rattle.witval.proofs.OfBytes.{of_four, of_one, of_read}
 use Rattle.witval.proofs.ShownValues.{sets_show_integers, shows_integers}
 use Rattle.clauses.specs.declared.log.Refutation.{Refutation}
 use Rattle.sym_duties.specs.declared.obligations.Obligations.{Obligations}
 use Rattle.witval.specs.Certificates.{Certifies, CertifiesPlaced, Rechecks, RechecksPlaced}
-use Rattle.witval.specs.Purposes.{IsKind, Purpose, Judging, Certifying, Rechecking, RightOnInputs, RightOnWork, ToCertify, ToJudge, ToRecheck, Work}
+use Rattle.witval.specs.Purposes.{IsKind, Purpose, Judging, Certifying, Rechecking, Weeding, RightOnInputs, RightOnWork, ToCertify, ToJudge, ToRecheck, ToWeed, Work}
 use Rattle.witval.specs.inside.Reports.{IsReport}
 use Rattle.witval.specs.Running.{HasIntegers}
 use Rattle.witval.specs.declared.input.FourInputs.{FourInputs}
@@ -95,14 +95,15 @@ on_program budgets witness p reply right =
 -- ---- outputs
 
 -- what holds of each refusal
-abbrev OfRefusals : (Output → Type 0) → Type 0
+abbrev pub OfRefusals : (Output → Type 0) → Type 0
 OfRefusals P = (reply : Reply) → Refuses reply → P (Report reply)
 
 -- what holds of each output for what a purpose asks to be done
-abbrev OfWork : Purpose → (Output → Type 0) → Type 0
+abbrev pub OfWork : Purpose → (Output → Type 0) → Type 0
 OfWork (Judging budgets) P = (witness : Witness) (p : Program) (output : Output) → RightOnWork (ToJudge budgets) witness p output → P output
 OfWork (Certifying conflicts) P = (witness : Witness) (p : Program) (output : Output) → RightOnWork (ToCertify conflicts) witness p output → P output
 OfWork (Rechecking bytes) P = (logs : List Refutation) (witness : Witness) (p : Program) (output : Output) → RightOnWork (ToRecheck logs) witness p output → P output
+OfWork (Weeding conflicts) P = (witness : Witness) (p : Program) (output : Output) → RightOnWork (ToWeed conflicts) witness p output → P output
 
 report_kept : (P : Output → Type 0) (Q : Reply → Type 0) → ((reply : Reply) → Q reply → P (Report reply)) → (output : Output) → Reports Q output → P output
 report_kept P Q kept (Report reply) right = kept reply right
@@ -111,14 +112,15 @@ report_kept P Q kept (Summary text) right = absurd right
 report_kept P Q kept (Demonstrated demo) right = absurd right
 report_kept P Q kept (Certificate text) right = absurd right
 report_kept P Q kept (Rechecked answer) right = absurd right
+report_kept P Q kept (Unviolated why) right = absurd right
 
 -- a stage is kept where what is right with what it finds is kept
-given_kept : {A : Type 0} (P : Output → Type 0) (refusal : Output) (o : Option A) (within : A → Output → Type 0) → P refusal
+pub given_kept : {A : Type 0} (P : Output → Type 0) (refusal : Output) (o : Option A) (within : A → Output → Type 0) → P refusal
     → ((a : A) (output : Output) → within a output → P output) → (output : Output) → given refusal o within output → P output
 given_kept P refusal (Some a) within refused kept output right = kept a output right
 given_kept P refusal None within refused kept output right = subst P (sym right) refused
 
-known_kept : {A B F : Type 0} (P : Output → Type 0) → OfRefusals P → (view : A → B) (IsRefused : F → Reply → Type 0) (answer : Result A F) (within : B → Output → Type 0)
+pub known_kept : {A B F : Type 0} (P : Output → Type 0) → OfRefusals P → (view : A → B) (IsRefused : F → Reply → Type 0) (answer : Result A F) (within : B → Output → Type 0)
     → ((fault : F) (reply : Reply) → IsRefused fault reply → Refuses reply) → ((b : B) (output : Output) → within b output → P output)
     → (output : Output) → known view (refusing IsRefused) answer within output → P output
 known_kept P h view IsRefused (Ok a) within refused kept output right = kept (view a) output right
@@ -165,6 +167,9 @@ on_model P h (Certifying conflicts) property text witness model kept output righ
     (on_text P h (ToCertify conflicts) property text witness model (kept witness)) (on_kind P h) output right
 on_model P h (Rechecking bytes) property text witness model kept output right =
     choosing_kept P (holds_sets witness) (RightOnLogs bytes property text witness model) IsKind (on_logs P h bytes property text witness model kept) (on_kind P h) output right
+on_model P h (Weeding conflicts) property text witness model kept output right =
+    choosing_kept P (holds_sets witness) (RightOnText (ToWeed conflicts) property text witness model) IsKind
+    (on_text P h (ToWeed conflicts) property text witness model (kept witness)) (on_kind P h) output right
 
 on_witness : (P : Output → Type 0) → OfRefusals P → (purpose : Purpose) (property : Property) (text : List ℕ) (witness : Witness) → OfWork purpose P
     → (output : Output) → RightOnWitness purpose property text witness output → P output
@@ -183,7 +188,7 @@ under : (P : Output → Type 0) → OfRefusals P → (purpose : Purpose) (text w
 under P h purpose text witness property kept output right =
     known_kept P h itself IsRefusal right.0 (RightOnTree purpose property text) refusals (λ tree. on_tree P h purpose property text tree kept) output right.2
 
-on_inputs : (P : Output → Type 0) → OfRefusals P → (purpose : Purpose) (program property witness : List ℕ) → OfWork purpose P
+pub on_inputs : (P : Output → Type 0) → OfRefusals P → (purpose : Purpose) (program property witness : List ℕ) → OfWork purpose P
     → (output : Output) → RightOnInputs purpose program property witness output → P output
 unfolding Refuses
 on_inputs P h purpose program property witness kept output right =
@@ -216,6 +221,7 @@ any_report (Summary text) right = absurd right
 any_report (Demonstrated demo) right = absurd right
 any_report (Certificate text) right = absurd right
 any_report (Rechecked answer) right = absurd right
+any_report (Unviolated why) right = absurd right
 
 -- where a verdict is asked for, only reports are right
 pub only_reports : (budgets : Budgets) (program witness : List ℕ) (output : Output) → RightUnder (Judging budgets) program witness UnreachCall output → IsReport output
@@ -231,6 +237,7 @@ IsCertificateLike (Canonical text) = ⊥
 IsCertificateLike (Summary text) = ⊥
 IsCertificateLike (Demonstrated demo) = ⊥
 IsCertificateLike (Rechecked answer) = ⊥
+IsCertificateLike (Unviolated why) = ⊥
 
 certificate_of_refusals : OfRefusals IsCertificateLike
 unfolding IsCertificateLike
@@ -246,6 +253,7 @@ certified conflicts p I o (Canonical text) right = absurd right
 certified conflicts p I o (Summary text) right = absurd right
 certified conflicts p I o (Demonstrated demo) right = absurd right
 certified conflicts p I o (Rechecked answer) right = absurd right
+certified conflicts p I o (Unviolated why) right = absurd right
 
 certificate_placed : (conflicts : ℕ) (p : Program) (I : List Placed) (output : Output) → CertifiesPlaced conflicts p I output → IsCertificateLike output
 certificate_placed conflicts p I output right =
@@ -265,6 +273,7 @@ IsRecheckLike : Output → Type 0
 IsRecheckLike (Report reply) = Refuses reply
 IsRecheckLike (Rechecked answer) = Unit {0}
 IsRecheckLike (Certificate text) = ⊥
+IsRecheckLike (Unviolated why) = ⊥
 IsRecheckLike (Canonical text) = ⊥
 IsRecheckLike (Summary text) = ⊥
 IsRecheckLike (Demonstrated demo) = ⊥
@@ -278,6 +287,7 @@ unfolding IsRecheckLike
 rechecked p I logs o (Rechecked answer) right = tt
 rechecked p I logs o (Report reply) right = absurd right
 rechecked p I logs o (Certificate text) right = absurd right
+rechecked p I logs o (Unviolated why) right = absurd right
 rechecked p I logs o (Canonical text) right = absurd right
 rechecked p I logs o (Summary text) right = absurd right
 rechecked p I logs o (Demonstrated demo) right = absurd right
@@ -298,13 +308,13 @@ rechecking bytes program property witness output right =
 -- ---- the outputs for the files that were read
 
 -- a report shows no number beyond 64 bits
-reported : (reply : Reply) → NotOfLength reply → HasJsonIntegers reply
+pub reported : (reply : Reply) → NotOfLength reply → HasJsonIntegers reply
 unfolding NotOfLength
 reported (Refused code detail) other = All-nil (λ draw. IsJsonInteger draw.value)
 reported (Judged verdict) other = other
 reported (ReadFault file) other = absurd other
 
-replied : (command : Command) (purpose : Purpose) (old new : ShelfState) (inputs : Inputs) (reply : Reply) → AreWithin inputs → Told command old (AreInputs inputs)
+pub replied : (command : Command) (purpose : Purpose) (old new : ShelfState) (inputs : Inputs) (reply : Reply) → AreWithin inputs → Told command old (AreInputs inputs)
     → RightOnInputs purpose inputs.program.items inputs.property.items inputs.witness.items (Report reply) → NotOfLength reply → RightFor command purpose old new reply
 unfolding NotOfLength
 replied command purpose old new inputs (Refused code detail) short a right other = (of_read command purpose old inputs (Report (Refused code detail)) short a right, inl other)
@@ -323,6 +333,7 @@ verdict_on command budgets old new inputs (Summary text) short a right other = a
 verdict_on command budgets old new inputs (Demonstrated demo) short a right other = absurd other
 verdict_on command budgets old new inputs (Certificate text) short a right other = absurd other
 verdict_on command budgets old new inputs (Rechecked answer) short a right other = absurd other
+verdict_on command budgets old new inputs (Unviolated why) short a right other = absurd other
 
 pub verdict_if : {E : Type 0} (command : Command) (budgets : Budgets) (old new : ShelfState) (inputs : Inputs) (result : Result Output E) → AreWithin inputs → Told command old (AreInputs inputs)
     → IfOk result (RightOnInputs (Judging budgets) inputs.program.items inputs.property.items inputs.witness.items) → IfOk result (RightVerdict command budgets old new) × IfOk result HasIntegers
@@ -341,6 +352,7 @@ certificate_on command conflicts old new inputs (Canonical text) short a right o
 certificate_on command conflicts old new inputs (Summary text) short a right other = absurd other
 certificate_on command conflicts old new inputs (Demonstrated demo) short a right other = absurd other
 certificate_on command conflicts old new inputs (Rechecked answer) short a right other = absurd other
+certificate_on command conflicts old new inputs (Unviolated why) short a right other = absurd other
 
 pub certificate_if : {E : Type 0} (command : Command) (conflicts : ℕ) (old new : ShelfState) (inputs : Inputs) (result : Result Output E) → AreWithin inputs → Told command old (AreInputs inputs)
     → IfOk result (RightOnInputs (Certifying conflicts) inputs.program.items inputs.property.items inputs.witness.items)
@@ -361,6 +373,7 @@ recheck_on command name old new four (Report (Judged verdict)) short a within b 
 recheck_on command name old new four (Report (ReadFault file)) short a within b right other = absurd other
 recheck_on command name old new four (Rechecked answer) short a within b right other = (of_four command name old four (Rechecked answer) short a within b right, tt)
 recheck_on command name old new four (Certificate text) short a within b right other = absurd other
+recheck_on command name old new four (Unviolated why) short a within b right other = absurd other
 recheck_on command name old new four (Canonical text) short a within b right other = absurd other
 recheck_on command name old new four (Summary text) short a within b right other = absurd other
 recheck_on command name old new four (Demonstrated demo) short a within b right other = absurd other
@@ -400,6 +413,7 @@ IsOfWitness (Summary text) = Unit {0}
 IsOfWitness (Demonstrated demo) = ⊥
 IsOfWitness (Certificate text) = ⊥
 IsOfWitness (Rechecked answer) = ⊥
+IsOfWitness (Unviolated why) = ⊥
 
 abbrev OfWitness : (Output → List ℕ → Type 0) → List ℕ → Type 0
 OfWitness Within bytes = (output : Output) → Within output bytes → IsOfWitness output
@@ -415,6 +429,7 @@ alone Within name old new bytes (Summary text) only none short a right = of_one 
 alone Within name old new bytes (Demonstrated demo) only none short a right = absurd (none (Demonstrated demo) right)
 alone Within name old new bytes (Certificate text) only none short a right = absurd (none (Certificate text) right)
 alone Within name old new bytes (Rechecked answer) only none short a right = absurd (none (Rechecked answer) right)
+alone Within name old new bytes (Unviolated why) only none short a right = absurd (none (Unviolated why) right)
 
 canonical_only : (bytes : List ℕ) → OfWitness CanonicalIn bytes
 canonical_only bytes (Report reply) right = tt
@@ -423,6 +438,7 @@ canonical_only bytes (Summary text) right = tt
 canonical_only bytes (Demonstrated demo) right = absurd right
 canonical_only bytes (Certificate text) right = absurd right
 canonical_only bytes (Rechecked answer) right = absurd right
+canonical_only bytes (Unviolated why) right = absurd right
 
 summary_only : (bytes : List ℕ) → OfWitness SummaryIn bytes
 summary_only bytes (Report reply) right = tt
@@ -431,6 +447,7 @@ summary_only bytes (Summary text) right = tt
 summary_only bytes (Demonstrated demo) right = absurd right
 summary_only bytes (Certificate text) right = absurd right
 summary_only bytes (Rechecked answer) right = absurd right
+summary_only bytes (Unviolated why) right = absurd right
 
 pub canonical_if : {E : Type 0} (name : List ℕ) (old new : ShelfState) (bytes : List ℕ) (result : Result Output E) → length bytes ≤ limit_of WitnessFile
     → ToldOne name old (λ told. bytes ≡ told) → IfOk result (λ output. CanonicalIn output bytes) → IfOk result (RightAlone CanonicalIn name old new)

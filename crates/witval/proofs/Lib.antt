@@ -2,6 +2,11 @@ pub mod ShownValues
 pub mod OfBytes
 pub mod Refusing
 pub mod Judged
+pub mod WrittenOutputs
+pub mod Weeded
+pub mod Sources
+pub mod ShortKeys
+pub mod FittingTrees
 pub mod JudgedTask
 pub mod FewWaypoints
 pub mod AllowedBudgets

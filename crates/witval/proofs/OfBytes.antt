@@ -27,7 +27,7 @@ short_alone : (witness : List ℕ) → length witness ≤ limit_of Witness → t
 short_alone witness short = rw (le-ltb (limit_of Witness) (length witness) short) refl
 
 -- nor is any of three files within their limits
-short_files : (inputs : Inputs) → AreWithin inputs → first_too_long inputs.program.items inputs.property.items inputs.witness.items ≡ None
+pub short_files : (inputs : Inputs) → AreWithin inputs → first_too_long inputs.program.items inputs.property.items inputs.witness.items ≡ None
 short_files inputs short =
     rw (
       le-ltb (limit_of Program) (length inputs.program.items) short.program_within,
@@ -36,7 +36,7 @@ short_files inputs short =
     (short_alone inputs.witness.items short.witness_within)
 
 -- the files hold the bytes that were read
-theirs : (command : Command) (files : Option Files) (inputs : Inputs) → IfSome files (λ files. OfFiles command files (AreInputs inputs))
+pub theirs : (command : Command) (files : Option Files) (inputs : Inputs) → IfSome files (λ files. OfFiles command files (AreInputs inputs))
     → IfSome files (λ files. OfFiles command files (λ program property witness. (inputs.program.items ≡ program) × (inputs.property.items ≡ property) × (inputs.witness.items ≡ witness)))
 theirs command None inputs a = tt
 theirs command (Some files) inputs a = (a.program_read, a.property_read, a.witness_read)
@@ -78,13 +78,13 @@ long_witness : (bytes : List ℕ) → nat_lt (limit_of Witness) (length bytes) �
 long_witness bytes e = rw e refl
 
 -- where nothing is told, some file of this kind is too long
-some_too_long : (file : File) → (program : List ℕ) × (property : List ℕ) × (witness : List ℕ) × (first_too_long program property witness ≡ Some file)
+pub some_too_long : (file : File) → (program : List ℕ) × (property : List ℕ) × (witness : List ℕ) × (first_too_long program property witness ≡ Some file)
 some_too_long Program = let long = longer (limit_of Program) in (long.0, [], [], long_program long.0 long.1)
 some_too_long Property = let long = longer (limit_of Property) in ([], long.0, [], long_property long.0 long.1)
 some_too_long Witness = let long = longer (limit_of Witness) in ([], [], long.0, long_witness long.0 long.1)
 
 -- what holds of the told files, or, where none are told, of these
-spread : (command : Command) (files : Option Files) (Q P : List ℕ → List ℕ → List ℕ → Type 0) → ((program property witness : List ℕ) → Q program property witness → P program property witness)
+pub spread : (command : Command) (files : Option Files) (Q P : List ℕ → List ℕ → List ℕ → Type 0) → ((program property witness : List ℕ) → Q program property witness → P program property witness)
     → (some : (program : List ℕ) × (property : List ℕ) × (witness : List ℕ) × Q program property witness) → IfSome files (λ files. OfFiles command files Q)
     → (program : List ℕ) × (property : List ℕ) × (witness : List ℕ) × P program property witness
     × IfSome files (λ files. OfFiles command files (λ a b c. (program ≡ a) × (property ≡ b) × (witness ≡ c)))

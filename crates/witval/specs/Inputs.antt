@@ -3,7 +3,7 @@ use Rattle.std.specs.Prelude.{◌≡◌, ℕ, ◌+◌, ◌-◌, ◌^◌, ◌≤�
 use Rattle.wv_base.specs.Causes.{Rose}
 use Rattle.wv_base.specs.declared.reading.ReadFault.TheVariants as reading
 use Rattle.wv_base.specs.Shelf.{ShelfState, Files, file_of}
-use Rattle.wv_arguments.specs.Words.{Command}
+use Rattle.wv_arguments.specs.Words.{Command, Sources}
 use Rattle.witval.specs.declared.input.File.{File}
 use Rattle.witval.specs.declared.input.File.TheVariants.{Program, Property, Witness}
 use Rattle.witval.specs.declared.input.Stop.{Stop}
@@ -29,6 +29,16 @@ abbrev pub name_of : Command → File → List ℕ
 name_of command Program = command.program
 name_of command Property = command.property
 name_of command Witness = command.witness
+
+-- the three files that a violation witness is made of, in the order in which they are read: values stand in place of a witness
+abbrev pub in_order : Sources → Command
+in_order sources = record { program = sources.program; property = sources.property; witness = sources.values }
+
+-- how a report names each of those
+abbrev pub source_word : File → List ℕ
+source_word Program = codes "program"
+source_word Property = codes "property"
+source_word Witness = codes "values"
 
 -- in bytes
 abbrev pub limit_of : File → ℕ

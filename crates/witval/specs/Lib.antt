@@ -3,6 +3,9 @@ pub mod Refusals
 pub mod Stages
 pub mod Tasks
 pub mod Certificates
+pub mod Writing
+pub mod Weeding
+pub mod Authoring
 pub mod Purposes
 pub mod Demos
 pub mod Replies

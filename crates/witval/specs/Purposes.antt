@@ -18,6 +18,7 @@ use Rattle.witval.specs.Certificates.{CertifiesSets, RechecksSets}
 use Rattle.witval.specs.Refusals.{IsRefusal, IsSchemaRefusal, IsTaskRefusal, IsCertificateRefusal, IsTokenRefusal, IsSyntaxRefusal, IsCheckRefusal, plain}
 use Rattle.witval.specs.Stages.{◌>>=◌, Stage, given, known, answered, choosing, itself, Reports, refusing}
 use Rattle.witval.specs.Tasks.{RightOnProgram, holds_sets}
+use Rattle.witval.specs.Weeding.{WeedsSets}
 use Rattle.witval.specs.declared.output.Output.{Output}
 use Rattle.witval.specs.declared.output.Output.TheVariants.{Report}
 use Rattle.witval.specs.declared.purpose.Purpose.{Purpose as Meant}
@@ -25,37 +26,43 @@ use Rattle.witval.specs.declared.purpose.Purpose.TheVariants as purpose
 use Rattle.witval.specs.declared.purpose.Work.{Work as Planned}
 use Rattle.witval.specs.declared.purpose.Work.TheVariants as work
 
--- a verdict; a certificate, with a budget of conflicts; a certificate to check again, by its bytes
+-- a verdict; a certificate, with a budget of conflicts; a certificate to check again, by its bytes; the invariants that hold up
+-- together, with a budget of conflicts
 pub data Purpose : Type 0 where
   Judging : Budgets → Purpose
   Certifying : ℕ → Purpose
   Rechecking : List ℕ → Purpose
+  Weeding : ℕ → Purpose
 
--- what is done with a checked program: it is judged; it is certified; the logs of a certificate are checked
+-- what is done with a checked program: it is judged; it is certified; the logs of a certificate are checked; its invariants are weeded
 pub data Work : Type 0 where
   ToJudge : Budgets → Work
   ToCertify : ℕ → Work
   ToRecheck : List Refutation → Work
+  ToWeed : ℕ → Work
 
--- a witness without invariant sets, where a certificate is wanted or checked again
+-- a witness without invariant sets, where a certificate is wanted or checked again, or invariants are weeded
 abbrev pub kind : Output
 kind = Report (plain (codes "kind"))
 
 abbrev pub IsKind : Output → Type 0
 IsKind output = output ≡ kind
 
--- what a purpose asks to be done, before the program is read: certificates are of invariant sets alone, and one is read first
+-- what a purpose asks to be done, before the program is read: certificates are of invariant sets alone, and one is read first; only
+-- invariant sets are weeded
 abbrev pub working : Purpose → Witness → Stage Output Work
 working (Judging budgets) witness within = within (ToJudge budgets)
 working (Certifying conflicts) witness within = choosing (holds_sets witness) (within (ToCertify conflicts)) IsKind
 working (Rechecking bytes) witness within =
     choosing (holds_sets witness) (answered (CertificateAnswers bytes) itself (refusing IsCertificateRefusal) (λ logs. within (ToRecheck logs))) IsKind
+working (Weeding conflicts) witness within = choosing (holds_sets witness) (within (ToWeed conflicts)) IsKind
 
 -- the output for a checked program and its witness
 abbrev pub RightOnWork : Work → Witness → Program → Output → Type 0
 RightOnWork (ToJudge budgets) witness program = Reports (RightOnProgram budgets witness program)
 RightOnWork (ToCertify conflicts) witness program = CertifiesSets conflicts witness program
 RightOnWork (ToRecheck logs) witness program = RechecksSets logs witness program
+RightOnWork (ToWeed conflicts) witness program = WeedsSets conflicts witness program
 
 -- the output for three files of allowed length: each stage in its order, then what is to be done
 abbrev pub RightOnInputs : Purpose → List ℕ → List ℕ → List ℕ → Output → Type 0
@@ -76,8 +83,10 @@ abbrev pub meant : Meant → Purpose
 meant (purpose.Judge budgets) = Judging (limits budgets)
 meant (purpose.Certify conflicts) = Certifying conflicts
 meant (purpose.Recheck bytes) = Rechecking bytes
+meant (purpose.Weed conflicts) = Weeding conflicts
 
 abbrev pub planned : Planned → Work
 planned (work.Judge budgets) = ToJudge (limits budgets)
 planned (work.Certify conflicts) = ToCertify conflicts
 planned (work.Recheck logs) = ToRecheck logs
+planned (work.Weed conflicts) = ToWeed conflicts

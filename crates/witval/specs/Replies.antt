@@ -8,13 +8,14 @@ use Rattle.wv_report.specs.declared.reply.Reply.TheVariants.{Verdict as Judged, 
 use Rattle.wv_schema.specs.Schema.{witness_of}
 use Rattle.wv_schema.specs.declared.witness.Witness.{Witness}
 use Rattle.wv_show.specs.Show.{summary_of}
-use Rattle.wv_arguments.specs.Words.{Command, Budgets, Wanted, Validate, Show, Normalise, Demo, Certify, Recheck}
+use Rattle.wv_arguments.specs.Words.{Command, Budgets, Label, Sources, Wanted, Validate, Show, Normalise, Demo, Certify, Recheck, Author, Weed}
 use Rattle.wv_yaml.specs.declared.tree.Tree.{Tree}
 use Rattle.wv_yaml.specs.Canon.{canon}
 use Rattle.wv_yaml.specs.Reading.{IsAnswer}
-use Rattle.witval.specs.Inputs.{OfBytes, OfOne, Faulted, FaultedAt, TookTooMuch, TookTooMuchOf, certificate_limit, certificate_word, word_of, limit_of, first_too_long, too_long_alone}
+use Rattle.witval.specs.Authoring.{AuthorsOnInputs}
+use Rattle.witval.specs.Inputs.{OfBytes, OfOne, Faulted, FaultedAt, TookTooMuch, TookTooMuchOf, certificate_limit, certificate_word, in_order, source_word, word_of, limit_of, first_too_long, too_long_alone}
 use Rattle.witval.specs.Refusals.{IsRefusal, IsSchemaRefusal, plain}
-use Rattle.witval.specs.Purposes.{Purpose, Judging, Certifying, Rechecking, RightOnInputs}
+use Rattle.witval.specs.Purposes.{Purpose, Judging, Certifying, Rechecking, Weeding, RightOnInputs}
 use Rattle.witval.specs.Stages.{known, answered, choosing, itself}
 use Rattle.witval.specs.Demos.{IsDemonstration}
 use Rattle.witval.specs.declared.input.File.{File}
@@ -24,7 +25,7 @@ use Rattle.witval.specs.declared.input.FourStop.TheVariants as four
 use Rattle.witval.specs.declared.input.Stop.{Stop}
 use Rattle.witval.specs.declared.input.Stop.TheVariants as stop
 use Rattle.witval.specs.declared.output.Output.{Output}
-use Rattle.witval.specs.declared.output.Output.TheVariants.{Report, Canonical, Summary, Demo as Demonstrated, Certificate, Rechecked}
+use Rattle.witval.specs.declared.output.Output.TheVariants.{Report, Canonical, Summary, Demo as Demonstrated, Certificate, Rechecked, Unviolated}
 
 -- the code of a file over its limit
 abbrev pub too_long : List ℕ
@@ -62,6 +63,7 @@ RightVerdict command budgets old new (Summary text) = ⊥
 RightVerdict command budgets old new (Demonstrated demo) = ⊥
 RightVerdict command budgets old new (Certificate text) = ⊥
 RightVerdict command budgets old new (Rechecked answer) = ⊥
+RightVerdict command budgets old new (Unviolated why) = ⊥
 
 -- where a certificate is asked for, one is written, or a report
 abbrev pub RightCertificate : Command → ℕ → ShelfState → ShelfState → Output → Type 0
@@ -71,6 +73,17 @@ RightCertificate command conflicts old new (Canonical text) = ⊥
 RightCertificate command conflicts old new (Summary text) = ⊥
 RightCertificate command conflicts old new (Demonstrated demo) = ⊥
 RightCertificate command conflicts old new (Rechecked answer) = ⊥
+RightCertificate command conflicts old new (Unviolated why) = ⊥
+
+-- where invariants that hold up together are asked for, a witness is written, or a report
+abbrev pub RightWeed : Command → ℕ → ShelfState → ShelfState → Output → Type 0
+RightWeed command conflicts old new (Report reply) = RightFor command (Weeding conflicts) old new reply
+RightWeed command conflicts old new (Canonical text) = OfBytes command old (RightOnBytes (Weeding conflicts) (Canonical text))
+RightWeed command conflicts old new (Summary text) = ⊥
+RightWeed command conflicts old new (Demonstrated demo) = ⊥
+RightWeed command conflicts old new (Certificate text) = ⊥
+RightWeed command conflicts old new (Rechecked answer) = ⊥
+RightWeed command conflicts old new (Unviolated why) = ⊥
 
 -- the reply where reading one of three files stopped; want of memory is no reply
 abbrev pub IsStopped : Stop → Reply → Type 0
@@ -115,6 +128,7 @@ RightRecheck command name old new (Canonical text) = ⊥
 RightRecheck command name old new (Summary text) = ⊥
 RightRecheck command name old new (Demonstrated demo) = ⊥
 RightRecheck command name old new (Certificate text) = ⊥
+RightRecheck command name old new (Unviolated why) = ⊥
 
 -- the reply where reading three files and a certificate stopped
 abbrev pub IsStoppedOfFour : FourStop → Reply → Type 0
@@ -122,6 +136,51 @@ IsStoppedOfFour (four.Three why) reply = IsStopped why reply
 IsStoppedOfFour (four.Certificate reading.Fault) reply = reply ≡ ReadFault certificate_word
 IsStoppedOfFour (four.Certificate reading.TooLong) reply = reply ≡ Refused too_long certificate_word
 IsStoppedOfFour (four.Certificate reading.OutOfMemory) reply = ⊥
+
+-- ---- a violation witness that is made of values
+
+-- a file that is too long comes before all that the files say
+abbrev pub RightAfterSources : Option File → (Output → Type 0) → Output → Type 0
+RightAfterSources (Some file) within output = output ≡ Report (Refused too_long (source_word file))
+RightAfterSources None within output = within output
+
+-- the output that a program, by its file's name, a property and values call for
+abbrev pub AuthorsOnBytes : Label → ℕ → List ℕ → Output → List ℕ → List ℕ → List ℕ → Type 0
+AuthorsOnBytes label steps name output program property values =
+    RightAfterSources (first_too_long program property values) (AuthorsOnInputs label steps name program property values) output
+
+-- the same where the files are told; else of some bytes
+abbrev pub AuthorsOn : Sources → Label → ℕ → ShelfState → Output → Type 0
+AuthorsOn sources label steps old output = OfBytes (in_order sources) old (AuthorsOnBytes label steps sources.program output)
+
+-- `too-long` comes only where one byte more than the limit of the file was taken
+abbrev pub TooLongBySources : Sources → ShelfState → ShelfState → List ℕ → List ℕ → Type 0
+TooLongBySources sources old new code detail =
+    (bytes_eq code too_long ≡ false) ⊎ ((file : File) × (detail ≡ source_word file) × TookTooMuchOf (in_order sources) file old new)
+
+-- reading one of the three files failed
+abbrev pub FaultedBySources : Sources → ShelfState → ShelfState → List ℕ → Type 0
+FaultedBySources sources old new text = (file : File) × (text ≡ source_word file) × FaultedAt (in_order sources) file old new
+
+-- where a violation witness is asked for: a read fault by the shelf's counts, or else what the bytes of three files call for: a
+-- witness, why the run doesn't violate the property, or a report
+abbrev pub RightAuthor : Sources → Label → ℕ → ShelfState → ShelfState → Output → Type 0
+RightAuthor sources label steps old new (Report (ReadFault text)) = FaultedBySources sources old new text
+RightAuthor sources label steps old new (Report (Refused code detail)) =
+    AuthorsOn sources label steps old (Report (Refused code detail)) × TooLongBySources sources old new code detail
+RightAuthor sources label steps old new (Report (Judged verdict)) = AuthorsOn sources label steps old (Report (Judged verdict))
+RightAuthor sources label steps old new (Canonical text) = AuthorsOn sources label steps old (Canonical text)
+RightAuthor sources label steps old new (Unviolated why) = AuthorsOn sources label steps old (Unviolated why)
+RightAuthor sources label steps old new (Summary text) = ⊥
+RightAuthor sources label steps old new (Demonstrated demo) = ⊥
+RightAuthor sources label steps old new (Certificate text) = ⊥
+RightAuthor sources label steps old new (Rechecked answer) = ⊥
+
+-- the reply where reading one of the three files stopped
+abbrev pub IsStoppedAtSource : Stop → Reply → Type 0
+IsStoppedAtSource (stop.Fault file) reply = reply ≡ ReadFault (source_word file)
+IsStoppedAtSource (stop.TooLong file) reply = reply ≡ Refused too_long (source_word file)
+IsStoppedAtSource stop.OutOfMemory reply = ⊥
 
 -- ---- the other modes
 
@@ -137,6 +196,7 @@ CanonicalIn (Summary text) witness = ⊥
 CanonicalIn (Demonstrated demo) witness = ⊥
 CanonicalIn (Certificate text) witness = ⊥
 CanonicalIn (Rechecked answer) witness = ⊥
+CanonicalIn (Unviolated why) witness = ⊥
 
 -- no witness has a reply where its summary is asked for
 abbrev pub NoWitnessReply : Witness → Reply → Type 0
@@ -153,6 +213,7 @@ SummaryOf (Canonical text) tree = ⊥
 SummaryOf (Demonstrated demo) tree = ⊥
 SummaryOf (Certificate text) tree = ⊥
 SummaryOf (Rechecked answer) tree = ⊥
+SummaryOf (Unviolated why) tree = ⊥
 SummaryOf (Summary text) tree = (witness : Witness) × (witness_of tree ≡ Ok witness) × (text ≡ summary_of witness)
 
 -- the same of the bytes of a witness of allowed length
@@ -162,6 +223,7 @@ SummaryIn (Canonical text) witness = ⊥
 SummaryIn (Demonstrated demo) witness = ⊥
 SummaryIn (Certificate text) witness = ⊥
 SummaryIn (Rechecked answer) witness = ⊥
+SummaryIn (Unviolated why) witness = ⊥
 SummaryIn (Summary text) witness = (tree : Tree) × IsAnswer witness (Ok tree) × SummaryOf (Summary text) tree
 
 -- what the bytes of a witness call for: the refusal of a long file, or what those of allowed length do
@@ -188,6 +250,7 @@ RightAlone Within name old new (Summary text) = OfOne name old (OnWitness Within
 RightAlone Within name old new (Demonstrated demo) = ⊥
 RightAlone Within name old new (Certificate text) = ⊥
 RightAlone Within name old new (Rechecked answer) = ⊥
+RightAlone Within name old new (Unviolated why) = ⊥
 
 -- words that ask for nothing
 abbrev pub usage : Output
@@ -201,6 +264,7 @@ RightDemo number budgets (Canonical text) = ⊥
 RightDemo number budgets (Summary text) = ⊥
 RightDemo number budgets (Certificate text) = ⊥
 RightDemo number budgets (Rechecked answer) = ⊥
+RightDemo number budgets (Unviolated why) = ⊥
 
 -- the output that is owed to what the words ask for
 abbrev pub Right : Option Wanted → ShelfState → ShelfState → Output → Type 0
@@ -211,3 +275,5 @@ Right (Some (Normalise name)) old new output = RightAlone CanonicalIn name old n
 Right (Some (Demo number budgets)) old new output = RightDemo number budgets output
 Right (Some (Certify command conflicts)) old new output = RightCertificate command conflicts old new output
 Right (Some (Recheck command name)) old new output = RightRecheck command name old new output
+Right (Some (Author sources label steps)) old new output = RightAuthor sources label steps old new output
+Right (Some (Weed command conflicts)) old new output = RightWeed command conflicts old new output

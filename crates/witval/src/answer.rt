@@ -1,11 +1,12 @@
 ghost use Rattle.std.specs.Prelude.{◌≡◌, ◌≤◌, IfOk};
 ghost use Rattle.witval.specs.Inputs.{AreWithin};
 ghost use Rattle.witval.specs.Purposes.{Rechecking, RightOnInputs};
-ghost use Rattle.witval.specs.Replies.{CanonicalIn, IsStopped, IsStoppedOfFour, Right, RightAlone, RightCertificate, RightDemo, RightRecheck, RightVerdict, SummaryIn};
+ghost use Rattle.witval.specs.Replies.{CanonicalIn, IsStopped, IsStoppedAtSource, IsStoppedOfFour, Right, RightAlone, RightAuthor, RightCertificate, RightDemo, RightRecheck, RightVerdict, RightWeed, SummaryIn};
 ghost use Rattle.witval.specs.Running.{HasIntegers};
 ghost use Rattle.witval.specs.inside.Allowed.{AreAllowed, IsAllowed, IsBudget};
-ghost use Rattle.wv_arguments.specs.Requests.{limits, named, stated};
+ghost use Rattle.wv_arguments.specs.Requests.{given, labelled, limits, named, stated};
 
+use crate::authoring::{Draft, author_inputs};
 use crate::canonical::canonical;
 use crate::demonstration::demonstrate;
 use crate::input::{FourInputs, FourStop, Stop, read_four, read_one, read_three};
@@ -13,11 +14,12 @@ use crate::judging::judge;
 use crate::output::Output;
 use crate::purpose::Purpose;
 use crate::refusal::{
-    certificate_fault, read_fault, refuse_long_certificate, refuse_plainly, refuse_too_long,
+    certificate_fault, read_fault, refuse_long_certificate, refuse_long_source, refuse_plainly,
+    refuse_too_long, source_fault,
 };
 use crate::shown::shown;
 use std::alloc::Global;
-use wv_arguments::{Asked, Budgets, Names, Request};
+use wv_arguments::{Asked, Budgets, Label, Names, Request, Sources};
 use wv_base::{OutOfMemory, ReadFault, Seq, Shelf};
 use wv_report::Reply;
 
@@ -41,6 +43,17 @@ fn stopped_of_four(alloc: Global, stop: FourStop) -> Result<Reply, OutOfMemory>
         FourStop::Certificate(ReadFault::Fault) => certificate_fault(alloc),
         FourStop::Certificate(ReadFault::TooLong) => refuse_long_certificate(alloc),
         FourStop::Certificate(ReadFault::OutOfMemory) => Err(OutOfMemory),
+    }
+}
+
+/// The reply where reading the three files of a violation witness that is made stopped.
+fn stopped_at_source(alloc: Global, stop: Stop) -> Result<Reply, OutOfMemory>
+    ensures { IfOk result (IsStoppedAtSource stop) }
+{
+    match stop {
+        Stop::Fault(file) => source_fault(alloc, file),
+        Stop::TooLong(file) => refuse_long_source(alloc, file),
+        Stop::OutOfMemory => Err(OutOfMemory),
     }
 }
 
@@ -106,6 +119,52 @@ fn recheck<S: Shelf>(
     }
 }
 
+/// A witness with the invariants that hold up together, and no others.
+fn weed<S: Shelf>(
+    alloc: Global,
+    names: &Names<'_>,
+    conflicts: u64,
+    shelf: &mut S,
+) -> Result<Output, OutOfMemory>
+    requires { IsBudget conflicts }
+    ensures right { IfOk result (RightWeed (named names.now) conflicts (S.state shelf.old) (S.state shelf.new)) }
+    ensures integers { IfOk result HasIntegers }
+    ensures same_files { (S.state shelf.new).files ≡ (S.state shelf.old).files }
+{
+    match read_three(alloc, names, shelf) {
+        Ok(inputs) => judge(alloc, &inputs, Purpose::Weed(conflicts)),
+        Err(stop) => Ok(Output::Report(stopped(alloc, stop)?)),
+    }
+}
+
+/// The violation witness of the run of a program that takes values in turn.
+fn author<S: Shelf>(
+    alloc: Global,
+    sources: &Sources<'_>,
+    label: &Label<'_>,
+    steps: u64,
+    shelf: &mut S,
+) -> Result<Output, OutOfMemory>
+    ensures right { IfOk result (RightAuthor (given sources.now) (labelled label.now) steps (S.state shelf.old) (S.state shelf.new)) }
+    ensures integers { IfOk result HasIntegers }
+    ensures same_files { (S.state shelf.new).files ≡ (S.state shelf.old).files }
+{
+    let names = Names {
+        program: sources.program,
+        property: sources.property,
+        witness: sources.values,
+    };
+    let draft = Draft {
+        file: sources.program,
+        label: *label,
+        steps,
+    };
+    match read_three(alloc, &names, shelf) {
+        Ok(inputs) => author_inputs(alloc, &inputs, &draft),
+        Err(stop) => Ok(Output::Report(stopped_at_source(alloc, stop)?)),
+    }
+}
+
 /// The canonical form of a witness, or why there is none.
 fn normalise<S: Shelf>(alloc: Global, name: &str, shelf: &mut S) -> Result<Output, OutOfMemory>
     ensures right { IfOk result (RightAlone CanonicalIn name.now (S.state shelf.old) (S.state shelf.new)) }
@@ -160,6 +219,14 @@ pub fn answer<S: Shelf>(
         Some(Request::Demo { number, budgets }) => demo(alloc, number, budgets),
         Some(Request::Certify { names, conflicts }) => certify(alloc, &names, conflicts, shelf),
         Some(Request::Recheck { names, certificate }) => recheck(alloc, &names, certificate, shelf),
+        Some(
+            Request::Author {
+                sources,
+                label,
+                steps,
+            },
+        ) => author(alloc, &sources, &label, steps, shelf),
+        Some(Request::Weed { names, conflicts }) => weed(alloc, &names, conflicts, shelf),
         None => Ok(Output::Report(refuse_plainly(alloc, "usage")?)),
     }
 }

@@ -4,10 +4,13 @@ ghost use Rattle.c_parser.specs.Formed.{AreOrderly};
 ghost use Rattle.c_parser.specs.Parsing.{source_view};
 ghost use Rattle.wv_arguments.specs.Requests.{limits};
 ghost use Rattle.wv_schema.specs.Shapes.{is_set};
+ghost use Rattle.wv_yaml.specs.Canon.{Fits};
+ghost use Rattle.wv_yaml.specs.Document.{max_depth};
 ghost use Rattle.witval.specs.Inputs.{AreWithin};
 ghost use Rattle.witval.specs.Purposes.{IsKind, RightOnInputs, RightOnWork, meant, planned};
 ghost use Rattle.witval.specs.Tasks.{RightOnProgram, holds_sets};
 ghost use Rattle.witval.specs.inside.Allowed.{AllowsPurpose, AllowsWork, IsAllowed};
+ghost use Rattle.witval.specs.inside.Keys.{HasShortKeys};
 ghost use Rattle.witval.specs.inside.Rests.{RightOnLogs, RightOnModel, RightOnSource, RightOnText, RightOnTokens, RightOnTree, RightOnWitness, RightUnder};
 
 use crate::certificates::{certify_sets, recheck_sets};
@@ -21,6 +24,7 @@ use crate::refusal::{
 use crate::sequence::judge_sequence;
 use crate::sets::judge_sets;
 use crate::tokens::program_tokens;
+use crate::weeding::weed_sets;
 use c_check::check;
 use c_core::{DataModel, Program, Property};
 use c_parser::{Source, parse};
@@ -73,6 +77,7 @@ fn judge_tree(
     purpose: Purpose,
 ) -> Result<Output, OutOfMemory>
     requires program { length program.now ≤ 1048576 }
+    requires fits { Fits max_depth tree.now }
     requires allowed { AllowsPurpose (meant purpose) }
     ensures { IfOk result (RightOnTree (meant purpose) property program.now tree.now) }
 {
@@ -92,6 +97,7 @@ fn judge_witness(
 ) -> Result<Output, OutOfMemory>
     requires program { length program.now ≤ 1048576 }
     requires entries { 0 < length witness.now.entries }
+    requires keys { HasShortKeys witness.now }
     requires allowed { AllowsPurpose (meant purpose) }
     ensures { IfOk result (RightOnWitness (meant purpose) property program.now witness.now) }
 {
@@ -102,7 +108,7 @@ fn judge_witness(
 }
 
 /// The output for the text of a program in a data model, and a witness about it: a certificate is made, or read, for invariant
-/// sets alone.
+/// sets alone, and only they are weeded.
 fn judge_model(
     alloc: Global,
     property: Property,
@@ -112,6 +118,7 @@ fn judge_model(
     purpose: Purpose,
 ) -> Result<Output, OutOfMemory>
     requires program { length program.now ≤ 1048576 }
+    requires keys { HasShortKeys witness.now }
     requires allowed { AllowsPurpose (meant purpose) }
     ensures { IfOk result (RightOnModel (meant purpose) property program.now witness.now model) }
 {
@@ -136,6 +143,14 @@ fn judge_model(
                 refuse_kind(alloc)
             }
         }
+        Purpose::Weed(conflicts) => {
+            if holds_sets(witness) {
+                let work = Work::Weed(conflicts);
+                judge_text(alloc, property, program, model, witness, work)
+            } else {
+                refuse_kind(alloc)
+            }
+        }
     }
 }
 
@@ -155,7 +170,8 @@ fn judge_certificate(
     witness: &Witness,
     certificate: &[u8],
 ) -> Result<Output, OutOfMemory>
-    requires { length program.now ≤ 1048576 }
+    requires program { length program.now ≤ 1048576 }
+    requires keys { HasShortKeys witness.now }
     ensures { IfOk result (RightOnLogs certificate.now property program.now witness.now model) }
 {
     match read_certificate(alloc, certificate) {
@@ -177,6 +193,7 @@ fn judge_text(
     work: Work,
 ) -> Result<Output, OutOfMemory>
     requires program { length program.now ≤ 1048576 }
+    requires keys { HasShortKeys witness.now }
     requires allowed { AllowsWork (planned work) }
     ensures { IfOk result (RightOnText (planned work) property program.now witness.now model) }
 {
@@ -196,6 +213,7 @@ fn judge_tokens(
     work: Work,
 ) -> Result<Output, OutOfMemory>
     requires orderly { AreOrderly tokens.now }
+    requires keys { HasShortKeys witness.now }
     requires allowed { AllowsWork (planned work) }
     ensures { IfOk result (RightOnTokens (planned work) property witness.now model tokens.now) }
 {
@@ -214,7 +232,8 @@ fn judge_source(
     witness: &Witness,
     work: Work,
 ) -> Result<Output, OutOfMemory>
-    requires { AllowsWork (planned work) }
+    requires keys { HasShortKeys witness.now }
+    requires allowed { AllowsWork (planned work) }
     ensures { IfOk result (RightOnSource (planned work) property witness.now model (source_view source.now)) }
 {
     match check(alloc, source, model, property) {
@@ -230,7 +249,8 @@ fn judge_checked(
     witness: &Witness,
     work: Work,
 ) -> Result<Output, OutOfMemory>
-    requires { AllowsWork (planned work) }
+    requires keys { HasShortKeys witness.now }
+    requires allowed { AllowsWork (planned work) }
     ensures { IfOk result (RightOnWork (planned work) witness.now program.now) }
 {
     match work {
@@ -240,6 +260,7 @@ fn judge_checked(
         }
         Work::Certify(conflicts) => certify_sets(alloc, program, witness, conflicts),
         Work::Recheck(logs) => recheck_sets(alloc, program, witness, &logs),
+        Work::Weed(conflicts) => weed_sets(alloc, program, witness, conflicts),
     }
 }
 

@@ -3,12 +3,14 @@
 #![tactic(auto)]
 
 mod answer;
+mod authoring;
 mod binding;
 mod canonical;
 mod certificates;
 mod demonstration;
 mod input;
 mod judging;
+mod keeping;
 mod output;
 mod purpose;
 mod refusal;
@@ -17,5 +19,7 @@ mod sets;
 mod shown;
 mod tokens;
 mod top;
+mod weeding;
+mod writing;
 
 pub use top::run;

@@ -1,15 +1,23 @@
 ghost use Rattle.std.specs.Prelude.{◌≡◌, IfOk};
 ghost use Rattle.wv_report.specs.Json.{HasJsonIntegers};
-ghost use Rattle.witval.specs.Running.{HasIntegers, bytes_by, recheck_status, recheck_text, report_by, status_by};
+ghost use Rattle.witval.specs.Running.{HasIntegers, bytes_by, recheck_status, recheck_text, report_by, status_by, unviolated_text};
 
 use crate::demonstration::{Demonstration, status_of_demo, text_of_demo};
+use c_core::Spot;
 use std::alloc::Global;
 use wv_base::{OutOfMemory, Seq};
 use wv_cert::Rechecked;
 use wv_report::{Reply, json, status, text};
 
-/// What is written: the report of a reply, the canonical form of a witness, its summary, the lines of a demo, a certificate, or what
-/// checking one again came to.
+/// How a run ends that neither violates the property nor goes beyond a bound.
+#[derive(Clone, Copy, Debug, PartialEq, Eq)]
+pub enum Unviolated {
+    Ended,
+    Undefined(Spot),
+}
+
+/// What is written: the report of a reply, the canonical form of a witness, its summary, the lines of a demo, a certificate, what
+/// checking one again came to, or why there is no violation witness of a run.
 #[derive(Drop)]
 pub enum Output {
     Report(Reply),
@@ -18,6 +26,7 @@ pub enum Output {
     Demo(Demonstration),
     Certificate(Seq<u8>),
     Rechecked(Rechecked),
+    Unviolated(Unviolated),
 }
 
 fn status_of_recheck(answer: &Rechecked) -> u8
@@ -50,6 +59,25 @@ fn text_of_recheck(alloc: Global, answer: &Rechecked) -> Result<Vec<u8>, OutOfMe
     }
 }
 
+/// The lines for a run that doesn't violate the property.
+fn text_of_unviolated(alloc: Global, why: Unviolated) -> Result<Vec<u8>, OutOfMemory>
+    ensures { IfOk result (λ bytes. bytes.items ≡ unviolated_text why) }
+{
+    match why {
+        Unviolated::Ended => {
+            let text = String::from_str(alloc, "no violation\nreason ended\n")?;
+            Ok(text.into_bytes())
+        }
+        Unviolated::Undefined(spot) => {
+            let line = spot.line;
+            let column = spot.column;
+            let mut text = format!(in alloc; "no violation\nreason undefined {line}")?;
+            write!(text, ":{column}\n")?;
+            Ok(text.into_bytes())
+        }
+    }
+}
+
 /// The status that the program ends with where the output is written.
 pub fn status_of(output: &Output) -> u8
     ensures { result ≡ status_by output.now }
@@ -59,6 +87,7 @@ pub fn status_of(output: &Output) -> u8
         Output::Canonical(_) | Output::Summary(_) | Output::Certificate(_) => 0,
         Output::Demo(demo) => status_of_demo(demo),
         Output::Rechecked(answer) => status_of_recheck(answer),
+        Output::Unviolated(_) => 1,
     }
 }
 
@@ -86,5 +115,6 @@ pub fn bytes_of(alloc: Global, output: Output, is_json: bool) -> Result<Seq<u8>,
         Output::Demo(demo) => Ok(Seq::from_vec(text_of_demo(alloc, &demo)?)),
         Output::Certificate(bytes) => Ok(bytes),
         Output::Rechecked(answer) => Ok(Seq::from_vec(text_of_recheck(alloc, &answer)?)),
+        Output::Unviolated(why) => Ok(Seq::from_vec(text_of_unviolated(alloc, why)?)),
     }
 }

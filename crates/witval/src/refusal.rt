@@ -1,17 +1,20 @@
 // The replies other than verdicts.
 ghost use Rattle.std.specs.Prelude.{◌≡◌, ◌++◌, ◌∷◌, [], IfOk, codes, decimal};
 ghost use Rattle.wv_report.specs.declared.reply.Reply.TheVariants as replies;
-ghost use Rattle.witval.specs.Inputs.{certificate_word, word_of};
+ghost use Rattle.witval.specs.Authoring.{IsValuesRefusal};
+ghost use Rattle.witval.specs.Inputs.{certificate_word, source_word, word_of};
 ghost use Rattle.witval.specs.Refusals.{IsBindRefusal, IsCertificateRefusal, IsCheckRefusal, IsObligationRefusal, IsRefusal, IsSchemaRefusal, IsSyntaxRefusal, IsTaskRefusal, IsTokenRefusal, both_hashes, check_code, place_text, plain};
 ghost use Rattle.witval.specs.Replies.{too_long};
 
 use crate::input::File;
+use c_core::Spot;
 use c_parser::ParseFault;
 use c_tokens::TokenFault;
 use check_rules::{CheckCode, CheckFault};
 use std::alloc::Global;
 use sym_duties::SymFault;
 use way_bind::BindFault;
+use wv_author::ValuesFault;
 use wv_base::{OutOfMemory, Text};
 use wv_cert::CertFault;
 use wv_report::Reply;
@@ -26,6 +29,17 @@ fn name(file: File) -> &'static str
         File::Program => "program",
         File::Property => "property",
         File::Witness => "witness",
+    }
+}
+
+/// The same where values stand in place of a witness.
+fn source_name(file: File) -> &'static str
+    ensures { result.now ≡ source_word file }
+{
+    match file {
+        File::Program => "program",
+        File::Property => "property",
+        File::Witness => "values",
     }
 }
 
@@ -238,6 +252,39 @@ pub fn read_fault(alloc: Global, file: File) -> Result<Reply, OutOfMemory>
     ensures { IfOk result (λ reply. reply ≡ replies.ReadFault (word_of file)) }
 {
     Ok(Reply::ReadFault(Text::of(alloc, name(file))?))
+}
+
+/// Bytes that are no list of values.
+pub fn refuse_values(alloc: Global, fault: ValuesFault) -> Result<Reply, OutOfMemory>
+    ensures { IfOk result (IsValuesRefusal fault) }
+{
+    match fault {
+        ValuesFault::Form => refuse_plainly(alloc, "values"),
+        ValuesFault::OutOfMemory => Err(OutOfMemory),
+    }
+}
+
+/// A run in which a cell without initializer draws something else than 0.
+pub fn refuse_cell(alloc: Global, spot: Spot) -> Result<Reply, OutOfMemory>
+    ensures { IfOk result (λ reply. reply ≡ replies.Refused (codes "cell") (place_text spot.line spot.column)) }
+{
+    let detail = place_text(alloc, spot.line, spot.column)?;
+    refuse(alloc, "cell", detail)
+}
+
+/// A file longer than its limit, where values stand in place of a witness.
+pub fn refuse_long_source(alloc: Global, file: File) -> Result<Reply, OutOfMemory>
+    ensures { IfOk result (λ reply. reply ≡ replies.Refused too_long (source_word file)) }
+{
+    let detail = Text::of(alloc, source_name(file))?;
+    refuse(alloc, "too-long", detail)
+}
+
+/// A file that couldn't be read, where values stand in place of a witness.
+pub fn source_fault(alloc: Global, file: File) -> Result<Reply, OutOfMemory>
+    ensures { IfOk result (λ reply. reply ≡ replies.ReadFault (source_word file)) }
+{
+    Ok(Reply::ReadFault(Text::of(alloc, source_name(file))?))
 }
 
 /// A certificate longer than its limit.

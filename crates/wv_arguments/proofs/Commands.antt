@@ -1,5 +1,5 @@
 -- The command is one of those of which clap tells the matches and the faults; what its answers say.
-use Rattle.std.proofs.Common.{◌≡◌, ◌∷◌, ◌⊎◌, [], List, true, false, refl, subst, sym, ap₂, inl, inr, None}
+use Rattle.std.proofs.Common.{◌≡◌, ◌∷◌, [], List, true, false, refl, subst, sym, ap₂, inl, inr, None}
 use Rattle.clap.specs.Words.{App, HasKind, HasMatchesOf, IsAmong, Kinds, Row, Text, fault_of, is_simple, is_simple_and_free, kind_of, matches_of, found_of, rows_of}
 use Rattle.clap.specs.declared.error.Error.{Error}
 use Rattle.clap.specs.declared.error.kind.ErrorKind.{ErrorKind}
@@ -7,7 +7,7 @@ use Rattle.clap.specs.declared.error.kind.ErrorKind.TheVariants.{OutOfMemory}
 use Rattle.clap.specs.declared.parser.matches.ArgMatches.{ArgMatches}
 use Rattle.clap.proofs.OnLiterals.{clap_on_literals}
 use Rattle.wv_arguments.specs.Arguments.{command}
-use Rattle.wv_arguments.specs.Words.{Asked, asked_by, asked_in, asked_of}
+use Rattle.wv_arguments.specs.Words.{asked_by, asked_in, asked_of}
 
 is_simple_command : is_simple command ≡ true
 unfolding clap_on_literals

@@ -4,7 +4,15 @@ use Rattle.wv_arguments.specs.Examples.{ReadsModes, RefusesWords}
 
 pub reads_modes : ReadsModes
 unfolding clap_on_literals
-reads_modes = record { validates = refl; shows = refl; makes = refl; certifies = refl; rechecks = refl }
+reads_modes = record {
+  validates = refl;
+  shows = refl;
+  makes = refl;
+  certifies = refl;
+  rechecks = refl;
+  authors = refl;
+  weeds = refl;
+}
 
 pub refuses_words : RefusesWords
 unfolding clap_on_literals
@@ -18,4 +26,5 @@ refuses_words = record {
   no_mode = refl;
   no_program = refl;
   no_certificate = refl;
+  no_values = refl;
 }

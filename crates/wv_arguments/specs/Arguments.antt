@@ -12,7 +12,11 @@ mode = record (new_rule (codes "mode")) { required = true }
 abbrev pub option : Text → Rule
 option name = record (new_rule name) { long = Some name }
 
--- the same with a number between two others, both included
+-- the same where it needn't be given
+abbrev pub option_or : Text → Text → Rule
+option_or name default = record (option name) { defaults = default ∷ [] }
+
+-- an option with a number between two others, both included
 abbrev pub number : Text → ℕ → ℕ → Rule
 number name least most = record (option name) { parser = Some (Unsigned least most) }
 
@@ -44,6 +48,10 @@ arguments =
     option (codes "property") ∷
     option (codes "witness") ∷
     option (codes "certificate") ∷
+    option (codes "values") ∷
+    option_or (codes "model") (codes "ILP32") ∷
+    option_or (codes "uuid") (codes "01234567-89ab-4cde-8f01-23456789abcd") ∷
+    option_or (codes "time") (codes "2024-04-10T12:00:00Z") ∷
     number_or (codes "steps") 1 most_steps (codes "10000000") ∷
     number_or (codes "conflicts") 1 most_conflicts (codes "100000") ∷
     number (codes "number") 0 most_number ∷

@@ -1,7 +1,7 @@
 -- Command lines of which what they ask for is computed.
 use Rattle.std.specs.Prelude.{◌≡◌, List, [], ◌∷◌, true, false, Some, None, codes}
 use Rattle.clap.specs.Words.{Text}
-use Rattle.wv_arguments.specs.Words.{Asked, Command, Validate, Show, Demo, Certify, Recheck, asked_by}
+use Rattle.wv_arguments.specs.Words.{Command, Sources, Label, Validate, Show, Demo, Certify, Recheck, Author, Weed, asked_by}
 
 abbrev pub validating : List Text
 validating = codes "witval" ∷ codes "validate" ∷ codes "--program" ∷ codes "p" ∷ codes "--property=q" ∷ codes "--witness" ∷ codes "w" ∷ []
@@ -18,9 +18,22 @@ certifying = codes "witval" ∷ codes "certify" ∷ codes "--program=p" ∷ code
 abbrev pub rechecking : List Text
 rechecking = codes "witval" ∷ codes "recheck" ∷ codes "--program=p" ∷ codes "--property=q" ∷ codes "--witness=w" ∷ codes "--certificate" ∷ codes "c" ∷ []
 
--- the files of both
+abbrev pub authoring : List Text
+authoring = codes "witval" ∷ codes "author" ∷ codes "--program=p" ∷ codes "--property=q" ∷ codes "--values=v" ∷ codes "--model=LP64" ∷ codes "--steps=11" ∷ []
+
+abbrev pub weeding : List Text
+weeding = codes "witval" ∷ codes "weed" ∷ codes "--program=p" ∷ codes "--property=q" ∷ codes "--witness=w" ∷ codes "--json" ∷ []
+
+-- the files of three of them
 abbrev pub files : Command
 files = record { program = codes "p"; property = codes "q"; witness = codes "w" }
+
+-- the files of an authored witness, and what it says of itself
+abbrev pub sources : Sources
+sources = record { program = codes "p"; property = codes "q"; values = codes "v" }
+
+abbrev pub label : Label
+label = record { model = codes "LP64"; uuid = codes "01234567-89ab-4cde-8f01-23456789abcd"; time = codes "2024-04-10T12:00:00Z" }
 
 -- one mode with each kind of option
 pub record ReadsModes : Type 0 where
@@ -32,6 +45,8 @@ pub record ReadsModes : Type 0 where
   pub makes : asked_by making ≡ record { wanted = Some (Demo 7 (record { steps = 11; conflicts = 100000 })); json = false }
   pub certifies : asked_by certifying ≡ record { wanted = Some (Certify files 7); json = false }
   pub rechecks : asked_by rechecking ≡ record { wanted = Some (Recheck files (codes "c")); json = false }
+  pub authors : asked_by authoring ≡ record { wanted = Some (Author sources label 11); json = false }
+  pub weeds : asked_by weeding ≡ record { wanted = Some (Weed files 100000); json = true }
 
 abbrev pub IsMisused : List Text → Type 0
 IsMisused words = asked_by words ≡ record { wanted = None; json = false }
@@ -48,3 +63,4 @@ pub record RefusesWords : Type 0 where
   pub no_mode : asked_by (codes "witval" ∷ codes "judge" ∷ codes "--json" ∷ []) ≡ record { wanted = None; json = true }
   pub no_program : asked_by (codes "witval" ∷ codes "validate" ∷ codes "--json" ∷ []) ≡ record { wanted = None; json = true }
   pub no_certificate : asked_by (codes "witval" ∷ codes "recheck" ∷ codes "--program=p" ∷ codes "--property=q" ∷ codes "--witness=w" ∷ []) ≡ record { wanted = None; json = false }
+  pub no_values : asked_by (codes "witval" ∷ codes "author" ∷ codes "--program=p" ∷ codes "--property=q" ∷ codes "--witness=w" ∷ []) ≡ record { wanted = None; json = false }

@@ -19,8 +19,21 @@ pub record Budgets : Type 0 where
   pub steps : ℕ
   pub conflicts : ℕ
 
+-- the names of the three files that a violation witness is written from
+pub record Sources : Type 0 where
+  pub program : Text
+  pub property : Text
+  pub values : Text
+
+-- what a witness that is written says of itself
+pub record Label : Type 0 where
+  pub model : Text
+  pub uuid : Text
+  pub time : Text
+
 -- a verdict; a summary of a witness by its name; its canonical form; a made program and its verdicts, by a number; a certificate, with
--- the most clauses that the solver derives for an obligation; a certificate checked again, by its name
+-- the most clauses that the solver derives for an obligation; a certificate checked again, by its name; a violation witness, with the
+-- most steps of its run; the invariants that hold up together, with the most clauses for an obligation
 pub data Wanted : Type 0 where
   Validate : Command → Budgets → Wanted
   Show : Text → Wanted
@@ -28,6 +41,8 @@ pub data Wanted : Type 0 where
   Demo : ℕ → Budgets → Wanted
   Certify : Command → ℕ → Wanted
   Recheck : Command → Text → Wanted
+  Author : Sources → Label → ℕ → Wanted
+  Weed : Command → ℕ → Wanted
 
 -- what is asked for, where the words ask for something, and whether reports are JSON
 pub record Asked : Type 0 where
@@ -48,6 +63,16 @@ budgets_of _ _ = None
 abbrev pub command_of : Option Text → Option Text → Option Text → Option Command
 command_of (Some program) (Some property) (Some witness) = Some (record { program = program; property = property; witness = witness })
 command_of _ _ _ = None
+
+-- the same of the files that a violation witness is written from
+abbrev pub sources_of : Option Text → Option Text → Option Text → Option Sources
+sources_of (Some program) (Some property) (Some values) = Some (record { program = program; property = property; values = values })
+sources_of _ _ _ = None
+
+-- three texts, where all are there
+abbrev pub label_of : Option Text → Option Text → Option Text → Option Label
+label_of (Some model) (Some uuid) (Some time) = Some (record { model = model; uuid = uuid; time = time })
+label_of _ _ _ = None
 
 -- a mode with what it needs
 abbrev pub validate_of : Option Command → Option Budgets → Option Wanted
@@ -79,6 +104,16 @@ abbrev pub recheck_of : Option Command → Option Text → Option Wanted
 recheck_of (Some command) (Some certificate) = Some (Recheck command certificate)
 recheck_of _ _ = None
 
+-- a violation witness needs a label and a budget of steps besides the files
+abbrev pub author_of : Option Sources → Option Label → Option ℕ → Option Wanted
+author_of (Some sources) (Some label) (Some steps) = Some (Author sources label steps)
+author_of _ _ _ = None
+
+-- invariants that hold up together need a budget of conflicts besides the files
+abbrev pub weed_of : Option Command → Option ℕ → Option Wanted
+weed_of (Some command) (Some conflicts) = Some (Weed command conflicts)
+weed_of _ _ = None
+
 -- what clap's matches give
 abbrev pub mode_in : List Row → Text
 mode_in rows = unwrap_or (first_of (codes "mode") rows) []
@@ -87,9 +122,21 @@ mode_in rows = unwrap_or (first_of (codes "mode") rows) []
 abbrev pub command_in : List Row → Option Command
 command_in rows = command_of (first_of (codes "program") rows) (first_of (codes "property") rows) (first_of (codes "witness") rows)
 
+-- the names of the three files that a violation witness is written from
+abbrev pub sources_in : List Row → Option Sources
+sources_in rows = sources_of (first_of (codes "program") rows) (first_of (codes "property") rows) (first_of (codes "values") rows)
+
+-- what it says of itself
+abbrev pub label_in : List Row → Option Label
+label_in rows = label_of (first_of (codes "model") rows) (first_of (codes "uuid") rows) (first_of (codes "time") rows)
+
 -- both budgets, each between 1 and its greatest value
 abbrev pub budgets_in : List Row → Option Budgets
 budgets_in rows = budgets_of (number_in 1 most_steps (one_of (codes "steps") rows)) (number_in 1 most_conflicts (one_of (codes "conflicts") rows))
+
+-- the budget of steps alone
+abbrev pub steps_in : List Row → Option ℕ
+steps_in rows = number_in 1 most_steps (one_of (codes "steps") rows)
 
 -- the budget of conflicts alone
 abbrev pub conflicts_in : List Row → Option ℕ
@@ -108,7 +155,9 @@ wanted_as mode rows =
     else (if bytes_eq mode (codes "demo") then demo_of (made_number rows) (budgets_in rows)
     else (if bytes_eq mode (codes "certify") then certify_of (command_in rows) (conflicts_in rows)
     else (if bytes_eq mode (codes "recheck") then recheck_of (command_in rows) (first_of (codes "certificate") rows)
-    else None)))))
+    else (if bytes_eq mode (codes "author") then author_of (sources_in rows) (label_in rows) (steps_in rows)
+    else (if bytes_eq mode (codes "weed") then weed_of (command_in rows) (conflicts_in rows)
+    else None)))))))
 
 -- a flag was given
 abbrev pub is_set : Option Text → Bool

@@ -30,6 +30,13 @@ fn option<'a>(alloc: Global, name: &'a str) -> Arg<'a>
     Arg::new(alloc, name).long(name)
 }
 
+fn option_or<'a>(alloc: Global, name: &'a str, default: &'a str) -> Arg<'a>
+    ensures rule { rule_of result ≡ arguments.option_or name.entry.now default.entry.now }
+    ensures local { result.global ≡ false }
+{
+    option(alloc, name).default_value(default)
+}
+
 fn number<'a>(alloc: Global, name: &'a str, least: u64, most: u64) -> Arg<'a>
     ensures rule { rule_of result ≡ arguments.number name.entry.now least most }
     ensures local { result.global ≡ false }
@@ -61,6 +68,10 @@ pub fn command<'a>(alloc: Global) -> Result<Command<'a>, AllocError>
         .arg(option(alloc, "property"))?
         .arg(option(alloc, "witness"))?
         .arg(option(alloc, "certificate"))?
+        .arg(option(alloc, "values"))?
+        .arg(option_or(alloc, "model", "ILP32"))?
+        .arg(option_or(alloc, "uuid", "01234567-89ab-4cde-8f01-23456789abcd"))?
+        .arg(option_or(alloc, "time", "2024-04-10T12:00:00Z"))?
         .arg(number_or(alloc, "steps", 1, MOST_STEPS, "10000000"))?
         .arg(number_or(alloc, "conflicts", 1, MOST_CONFLICTS, "100000"))?
         .arg(number(alloc, "number", 0, MOST_NUMBER))?

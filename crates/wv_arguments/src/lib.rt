@@ -7,4 +7,4 @@ mod reading;
 mod request;
 
 pub use reading::read_words;
-pub use request::{Asked, Budgets, Names, Request};
+pub use request::{Asked, Budgets, Label, Names, Request, Sources};

@@ -1,11 +1,11 @@
 // What the matches of the command say.
 ghost use Rattle.std.specs.Prelude.{◌≡◌, IfOk, codes, map, option_map, string_bytes};
 ghost use Rattle.clap.specs.Words.{first_of, found_of, one_of, rows_of};
-ghost use Rattle.wv_arguments.specs.Requests.{limits, named, stated, wanted};
-ghost use Rattle.wv_arguments.specs.Words.{asked_by, asked_in, budgets_in, command_in, is_set, mode_in, number_in, wanted_as, validate_of, demo_of, certify_of, recheck_of, conflicts_in, made_number};
+ghost use Rattle.wv_arguments.specs.Requests.{given, labelled, limits, named, stated, wanted};
+ghost use Rattle.wv_arguments.specs.Words.{asked_by, asked_in, budgets_in, command_in, is_set, label_in, mode_in, number_in, sources_in, steps_in, wanted_as, validate_of, demo_of, certify_of, recheck_of, author_of, weed_of, conflicts_in, made_number};
 
 use crate::command::{MOST_CONFLICTS, MOST_NUMBER, MOST_STEPS, command};
-use crate::request::{Asked, Budgets, Names, Request};
+use crate::request::{Asked, Budgets, Label, Names, Request, Sources};
 use clap::ArgMatches;
 use clap::error::ErrorKind;
 use std::alloc::Global;
@@ -100,6 +100,48 @@ fn recheck<'a>(matches: &ArgMatches<'a>) -> Option<Request<'a>>
     })
 }
 
+fn sources<'a>(matches: &ArgMatches<'a>) -> Option<Sources<'a>>
+    ensures { option_map given result ≡ sources_in (rows_of (found_of matches.now)) }
+{
+    Some(Sources {
+        program: text(matches, "program")?,
+        property: text(matches, "property")?,
+        values: text(matches, "values")?,
+    })
+}
+
+fn label<'a>(matches: &ArgMatches<'a>) -> Option<Label<'a>>
+    ensures { option_map labelled result ≡ label_in (rows_of (found_of matches.now)) }
+{
+    Some(Label {
+        model: text(matches, "model")?,
+        uuid: text(matches, "uuid")?,
+        time: text(matches, "time")?,
+    })
+}
+
+fn author<'a>(matches: &ArgMatches<'a>) -> Option<Request<'a>>
+    ensures { option_map wanted result ≡ author_of (sources_in (rows_of (found_of matches.now))) (label_in (rows_of (found_of matches.now))) (steps_in (rows_of (found_of matches.now))) }
+{
+    let sources = sources(matches)?;
+    let label = label(matches)?;
+    let steps = number(matches, "steps", 1, MOST_STEPS)?;
+    Some(Request::Author {
+        sources,
+        label,
+        steps,
+    })
+}
+
+fn weed<'a>(matches: &ArgMatches<'a>) -> Option<Request<'a>>
+    ensures { option_map wanted result ≡ weed_of (command_in (rows_of (found_of matches.now))) (conflicts_in (rows_of (found_of matches.now))) }
+{
+    Some(Request::Weed {
+        names: names(matches)?,
+        conflicts: number(matches, "conflicts", 1, MOST_CONFLICTS)?,
+    })
+}
+
 /// What a mode asks for.
 fn request<'a>(mode: &str, matches: &ArgMatches<'a>) -> Option<Request<'a>>
     ensures { option_map wanted result ≡ wanted_as mode.now (rows_of (found_of matches.now)) }
@@ -111,6 +153,8 @@ fn request<'a>(mode: &str, matches: &ArgMatches<'a>) -> Option<Request<'a>>
         "demo" => demo(matches),
         "certify" => certify(matches),
         "recheck" => recheck(matches),
+        "author" => author(matches),
+        "weed" => weed(matches),
         _ => None,
     }
 }

@@ -6,6 +6,22 @@ pub struct Names<'a> {
     pub witness: &'a str,
 }
 
+/// The names of the files that a violation witness is written from.
+#[derive(Clone, Copy, Debug, PartialEq, Eq)]
+pub struct Sources<'a> {
+    pub program: &'a str,
+    pub property: &'a str,
+    pub values: &'a str,
+}
+
+/// What a witness that is written says of itself: a data model, an identifier and a creation time.
+#[derive(Clone, Copy, Debug, PartialEq, Eq)]
+pub struct Label<'a> {
+    pub model: &'a str,
+    pub uuid: &'a str,
+    pub time: &'a str,
+}
+
 /// The most steps of a run, and the most clauses that the solver derives for one obligation.
 #[derive(Clone, Copy, Debug, PartialEq, Eq)]
 pub struct Budgets {
@@ -14,7 +30,8 @@ pub struct Budgets {
 }
 
 /// A verdict; a summary of a witness, by its file's name; its canonical form; a made program with its verdicts, by a number; a
-/// certificate; a certificate checked again, by its file's name.
+/// certificate; a certificate checked again, by its file's name; a violation witness, by the values of a run's inputs; the invariants
+/// that hold up together.
 #[derive(Clone, Copy, Debug, PartialEq, Eq)]
 pub enum Request<'a> {
     Validate {
@@ -34,6 +51,15 @@ pub enum Request<'a> {
     Recheck {
         names: Names<'a>,
         certificate: &'a str,
+    },
+    Author {
+        sources: Sources<'a>,
+        label: Label<'a>,
+        steps: u64,
+    },
+    Weed {
+        names: Names<'a>,
+        conflicts: u64,
     },
 }
 

@@ -1,4 +1,8 @@
 mod Steps
 mod Bounds
 mod Lengths
+mod ValueLines
+mod ConstantTexts
+mod AuthoredRuns
+mod Recorded
 mod Written

@@ -1,29 +1,24 @@
 -- The segments of a violation witness that fixes what a run draws: each input comes back with its value, then the property is violated.
-use Rattle.std.specs.Prelude.{◌≡◌, ℕ, suc, ◌-◌, ◌^◌, ℤ, pos, negsuc, Bool, true, false, cond, not, nat_lt, List, [], ◌∷◌, ◌++◌, map, Option, Some, None, codes, decimal}
-use Rattle.std.specs.List.{filter_map}
+use Rattle.std.specs.Prelude.{◌≡◌, ℕ, suc, ◌-◌, ◌^◌, ℤ, pos, negsuc, Bool, false, cond, not, nat_lt, List, [], ◌∷◌, ◌++◌, map, Option, Some, None, Result, Ok, Err, codes, decimal}
 use Rattle.c_core.specs.Types.{is_zero}
-use Rattle.c_core.specs.Tree.{Exp, Expr, Node, Call, Program}
-use Rattle.c_core.specs.Parts.{exps_of_program}
-use Rattle.c_core.specs.Places.{first_some}
+use Rattle.c_core.specs.Tree.{Program}
 use Rattle.c_core.specs.declared.number.Spot.{Spot}
-use Rattle.c_core.specs.declared.tree.Callee.{Callee}
-use Rattle.c_core.specs.declared.tree.Callee.TheVariants.{Input as InputFunction}
-use Rattle.c_meaning.specs.Objects.{same_spot}
-use Rattle.c_meaning.specs.Run.{Moment, Told, Here, Head, Run, Moments}
+use Rattle.author_runs.specs.Returning.{CameBack, returns_in, violated_at}
+use Rattle.c_meaning.specs.Run.{Moment, Run, Moments}
 use Rattle.c_meaning.specs.declared.run.Choices.TheVariants.{InTurn}
 use Rattle.c_meaning.specs.declared.run.Draw.{Draw}
 use Rattle.c_meaning.specs.declared.run.DrawKind.{DrawKind}
 use Rattle.c_meaning.specs.declared.run.DrawKind.TheVariants.{Input, Cell, Havoc}
 use Rattle.c_meaning.specs.declared.run.End.{End}
 use Rattle.c_meaning.specs.declared.run.End.TheVariants.{Violated}
-use Rattle.c_meaning.specs.declared.run.Event.{Event}
-use Rattle.c_meaning.specs.declared.run.Event.TheVariants.{Fail}
 use Rattle.c_meaning.specs.declared.run.Run.{Run as Made}
 use Rattle.wv_schema.specs.declared.witness.Constraint.{Constraint}
 use Rattle.wv_schema.specs.declared.witness.Location.{Location}
 use Rattle.wv_schema.specs.declared.witness.Segment.{Segment}
 use Rattle.wv_schema.specs.declared.witness.WayKind.{WayKind}
 use Rattle.wv_schema.specs.declared.witness.WayKind.TheVariants.{Target, FunctionReturn}
+use Rattle.wv_author.specs.declared.authoring.AuthorFault.{AuthorFault}
+use Rattle.wv_author.specs.declared.authoring.AuthorFault.TheVariants.{NotViolated, CellValue, OutOfMemory}
 
 -- ---- values
 
@@ -38,24 +33,6 @@ unfoldable pub result_text : ℤ → List ℕ
 result_text v = codes "\\result == " ++ constant_text v
 
 -- ---- places
-
--- an input call ends at this parenthesis
-abbrev pub end_by : Callee → Spot → Option Spot
-end_by (InputFunction ty) close = Some close
-end_by _ close = None
-
--- the closing parenthesis of an input call
-abbrev pub end_of_node : Node → Option Spot
-end_of_node (Call callee es close) = end_by callee close
-end_of_node _ = None
-
--- the same of an input call that begins there
-abbrev pub end_from : Spot → Exp → Option Spot
-end_from start (Expr spot ty n) = cond (same_spot spot start) (end_of_node n) None
-
--- where the input call that begins there ends
-abbrev pub end_of_input : Program → Spot → Option Spot
-end_of_input p start = first_some (map (end_from start) (exps_of_program p))
 
 -- a place in a file
 abbrev pub located : List ℕ → Spot → Location
@@ -75,44 +52,18 @@ returning file v close = following FunctionReturn (located file close) (Some (re
 abbrev pub violating : List ℕ → Spot → Segment
 violating file statement = following Target (located file statement) None
 
--- where there is such a place
-abbrev pub returning_if : List ℕ → ℤ → Option Spot → Option Segment
-returning_if file v None = None
-returning_if file v (Some close) = Some (returning file v close)
+-- the segment of an input that comes back
+abbrev pub returning_of : List ℕ → CameBack → Segment
+returning_of file b = returning file b.value b.close
 
--- the segment of a draw: that of an input call fixes its value; what a cell draws isn't fixed
-abbrev pub segment_by : Program → List ℕ → DrawKind → Draw → Option Segment
-segment_by p file Input d = returning_if file d.value (end_of_input p d.spot)
-segment_by p file _ d = None
-
--- the segments of draws, in their order
-abbrev pub segments_of_draws : Program → List ℕ → List Draw → List Segment
-segments_of_draws p file ds = filter_map (λ d. segment_by p file d.from d) ds
-
--- the statement of the violation that an event reports, or else of one reported before
-abbrev pub violated_in : Event → Option Spot → Option Spot
-violated_in (Fail statement full call) before = Some statement
-violated_in _ before = before
-
--- the statement of the last violation among moments
-abbrev pub violated_among : Option Spot → List Moment → Option Spot
-violated_among before [] = before
-violated_among before (Told e cells ∷ xs) = violated_among (violated_in e before) xs
-violated_among before (Here spot cells ∷ xs) = violated_among before xs
-violated_among before (Head at l arrived cells ∷ xs) = violated_among before xs
-
--- the statement in which a run violates the property
-abbrev pub violated_at : List Moment → Option Spot
-violated_at xs = violated_among None xs
-
--- the segment of the violation
+-- the segment of a violation
 abbrev pub target_of : List ℕ → Option Spot → List Segment
 target_of file None = []
 target_of file (Some statement) = violating file statement ∷ []
 
--- the segments of a run in which the property is violated: a segment for each input that it draws, then that of the violation
-abbrev pub segments_of_run : Program → List ℕ → Made → List Moment → List Segment
-segments_of_run p file r xs = segments_of_draws p file r.draws ++ target_of file (violated_at xs)
+-- the segments of a run in which the property is violated: a segment for each input that comes back, then that of the violation
+abbrev pub segments_of_run : Program → List ℕ → List Moment → List Segment
+segments_of_run p file xs = map (returning_of file) (returns_in p xs) ++ target_of file (violated_at xs)
 
 -- ---- answers
 
@@ -143,7 +94,7 @@ IsViolated e = (spot : Spot) × (e ≡ Violated spot)
 pub record IsAuthored (p : Program) (file : List ℕ) (vs : List ℤ) (N : ℕ) (segments : List Segment) : Type 0 where
   pub violated : IsViolated (RunOf p vs N).end
   pub fixed : first_free (RunOf p vs N).draws ≡ None
-  pub written : segments ≡ segments_of_run p file (RunOf p vs N) (MomentsOf p vs N)
+  pub written : segments ≡ segments_of_run p file (MomentsOf p vs N)
 
 -- the run doesn't violate the property: this is its end
 pub record IsNotViolated (p : Program) (vs : List ℤ) (N : ℕ) (e : End) : Type 0 where
@@ -154,3 +105,10 @@ pub record IsNotViolated (p : Program) (vs : List ℤ) (N : ℕ) (e : End) : Typ
 pub record IsFree (p : Program) (vs : List ℤ) (N : ℕ) (spot : Spot) : Type 0 where
   pub violated : IsViolated (RunOf p vs N).end
   pub free : first_free (RunOf p vs N).draws ≡ Some spot
+
+-- what is answered for values: the segments, or why there are none
+abbrev pub Authors : Program → List ℕ → List ℤ → ℕ → Result (List Segment) AuthorFault → Type 0
+Authors p file vs N (Ok segments) = IsAuthored p file vs N segments
+Authors p file vs N (Err (NotViolated e)) = IsNotViolated p vs N e
+Authors p file vs N (Err (CellValue spot)) = IsFree p vs N spot
+Authors p file vs N (Err OutOfMemory) = Unit {0}

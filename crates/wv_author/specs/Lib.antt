@@ -1,7 +1,9 @@
 pub mod Sequence
 pub mod Programs
-pub mod Witnesses
 pub mod Values
 pub mod Authored
+pub mod inside
+pub mod Witnesses
+pub mod Written
 pub mod Demo
 pub mod Examples

@@ -1,8 +1,10 @@
-// The witnesses about the two programs.
+// What witnesses say of themselves, and the witnesses about the two programs of a demo.
 ghost use Rattle.std.specs.Prelude.{◌≡◌, ◌≤◌, ◌<◌, ◌^◌, [], ◌∷◌, IfOk, codes, length};
 ghost use Rattle.wv_schema.specs.declared.witness.Content.TheVariants.{Invariants, Violation};
-ghost use Rattle.wv_author.specs.Witnesses.{at, drawn, file_hash, follow, hash_of, metadata, range, range_text, ranges, reached, result_text, witness};
+ghost use Rattle.wv_author.specs.Authored.{following};
+ghost use Rattle.wv_author.specs.Witnesses.{at, demo_details, drawn, file_hash, formula_of, hash_of, metadata_of, model_name, range, range_text, ranges, reached, result_text, witness, witness_about};
 
+use c_core::{DataModel, Property};
 use sha2::{Digest, Sha256};
 use std::alloc::Global;
 use wv_base::{OutOfMemory, Seq, Text};
@@ -11,63 +13,119 @@ use wv_schema::{
     WayKind, Waypoint, Witness,
 };
 
+/// What a witness says of its task and of its making.
+#[derive(Drop)]
+pub struct Details {
+    pub uuid: Text,
+    pub creation_time: Text,
+    pub producer: Text,
+    /// The one file of the program.
+    pub file: Text,
+    pub property: Property,
+    pub model: DataModel,
+}
+
 /// The SHA-256 of a program, in lower case.
-fn hash_of(alloc: Global, program: &str) -> Result<Text, OutOfMemory>
+fn hash_of(alloc: Global, program: &[u8]) -> Result<Text, OutOfMemory>
     ensures { IfOk result (λ hash. hash ≡ hash_of program.now) }
 {
-    let digest = Sha256::digest(program.as_bytes());
+    let digest = Sha256::digest(program);
     let digits = hex::encode(alloc, digest.as_slice())?;
     Text::of(alloc, digits.as_str())
 }
 
 /// The one file of a task, with the hash of its bytes.
-fn hashes(alloc: Global, program: &str) -> Result<Seq<FileHash>, OutOfMemory>
-    ensures { IfOk result (λ hashes. hashes ≡ file_hash program.now ∷ []) }
+fn hashes(alloc: Global, file: &Text, program: &[u8]) -> Result<Seq<FileHash>, OutOfMemory>
+    ensures { IfOk result (λ hashes. hashes ≡ file_hash file.now program.now ∷ []) }
 {
     let mut hashes = Seq::new(alloc);
     hashes.push(FileHash {
-        file: Text::of(alloc, "p.c")?,
+        file: Text::of(alloc, file.as_str())?,
         hash: hash_of(alloc, program)?,
     })?;
     Ok(hashes)
 }
 
-fn files(alloc: Global) -> Result<Seq<Text>, OutOfMemory>
-    ensures { IfOk result (λ files. files ≡ codes "p.c" ∷ []) }
+fn files(alloc: Global, file: &Text) -> Result<Seq<Text>, OutOfMemory>
+    ensures { IfOk result (λ files. files ≡ file.now ∷ []) }
 {
     let mut files = Seq::new(alloc);
-    files.push(Text::of(alloc, "p.c")?)?;
+    files.push(Text::of(alloc, file.as_str())?)?;
     Ok(files)
 }
 
+fn formula_of(property: Property) -> &'static str
+    ensures { result.now ≡ formula_of property }
+{
+    match property {
+        Property::UnreachCall => "G ! call(reach_error())",
+        Property::NoOverflow => "G ! overflow",
+    }
+}
+
+fn model_name(model: DataModel) -> &'static str
+    ensures { result.now ≡ model_name model }
+{
+    match model {
+        DataModel::Ilp32 => "ILP32",
+        DataModel::Lp64 => "LP64",
+    }
+}
+
 /// What a witness about a program says of itself.
-fn metadata(alloc: Global, program: &str) -> Result<Metadata, OutOfMemory>
-    ensures { IfOk result (λ all. all ≡ metadata program.now) }
+fn metadata(alloc: Global, details: &Details, program: &[u8]) -> Result<Metadata, OutOfMemory>
+    ensures { IfOk result (λ all. all ≡ metadata_of details.now program.now) }
 {
     Ok(Metadata {
         format_version: Text::of(alloc, "2.0")?,
-        uuid: Text::of(alloc, "01234567-89ab-4cde-8f01-23456789abcd")?,
-        creation_time: Text::of(alloc, "2024-04-10T12:00:00Z")?,
-        producer_name: Text::of(alloc, "hand")?,
+        uuid: Text::of(alloc, details.uuid.as_str())?,
+        creation_time: Text::of(alloc, details.creation_time.as_str())?,
+        producer_name: Text::of(alloc, details.producer.as_str())?,
         producer_version: Text::of(alloc, "1")?,
-        input_files: files(alloc)?,
-        input_hashes: hashes(alloc, program)?,
-        specification: Text::of(alloc, "G ! call(reach_error())")?,
-        data_model: Text::of(alloc, "ILP32")?,
+        input_files: files(alloc, &details.file)?,
+        input_hashes: hashes(alloc, &details.file, program)?,
+        specification: Text::of(alloc, formula_of(details.property))?,
+        data_model: Text::of(alloc, model_name(details.model))?,
         language: Text::of(alloc, "C")?,
     })
 }
 
 /// A witness of one claim about a program.
-fn witness(alloc: Global, program: &str, content: Content) -> Result<Witness, OutOfMemory>
-    ensures { IfOk result (λ all. all ≡ witness program.now content) }
+pub fn witness_about(
+    alloc: Global,
+    details: &Details,
+    program: &[u8],
+    content: Content,
+) -> Result<Witness, OutOfMemory>
+    ensures { IfOk result (λ all. all ≡ witness_about details.now program.now content) }
 {
     let mut entries = Seq::new(alloc);
     entries.push(Entry {
-        metadata: metadata(alloc, program)?,
+        metadata: metadata(alloc, details, program)?,
         content,
     })?;
     Ok(Witness { entries })
+}
+
+fn demo_details(alloc: Global) -> Result<Details, OutOfMemory>
+    ensures { IfOk result (λ details. details ≡ demo_details) }
+{
+    Ok(Details {
+        uuid: Text::of(alloc, "01234567-89ab-4cde-8f01-23456789abcd")?,
+        creation_time: Text::of(alloc, "2024-04-10T12:00:00Z")?,
+        producer: Text::of(alloc, "hand")?,
+        file: Text::of(alloc, "p.c")?,
+        property: Property::UnreachCall,
+        model: DataModel::Ilp32,
+    })
+}
+
+/// A demo's witness of one claim.
+fn witness(alloc: Global, program: &Text, content: Content) -> Result<Witness, OutOfMemory>
+    ensures { IfOk result (λ all. all ≡ witness program.now content) }
+{
+    let details = demo_details(alloc)?;
+    witness_about(alloc, &details, program.as_str().as_bytes(), content)
 }
 
 fn at(line: u32, column: u32) -> Location
@@ -91,7 +149,8 @@ fn range_text(alloc: Global, k: u32, bound: u32) -> Result<Text, OutOfMemory>
     Ok(copy)
 }
 
-fn c_expression(alloc: Global) -> Result<Option<Text>, OutOfMemory>
+/// The format of expressions.
+pub fn c_expression(alloc: Global) -> Result<Option<Text>, OutOfMemory>
     ensures { IfOk result (λ format. format ≡ Some (codes "c_expression")) }
 {
     Ok(Some(Text::of(alloc, "c_expression")?))
@@ -131,17 +190,17 @@ pub fn invariants(alloc: Global, program: &Text, bounds: &[u32]) -> Result<Witne
     ensures { IfOk result (λ all. all ≡ witness program.now (Invariants (ranges 1 bounds.now))) }
 {
     let content = Content::Invariants(ranges(alloc, bounds)?);
-    witness(alloc, program.as_str(), content)
+    witness(alloc, program, content)
 }
 
 /// A segment without avoids.
-fn follow(
+pub fn follow(
     alloc: Global,
     kind: WayKind,
     location: Location,
     constraint: Option<Constraint>,
 ) -> Segment
-    ensures { result ≡ follow kind location constraint }
+    ensures { result ≡ following kind location constraint }
 {
     Segment {
         avoids: Seq::new(alloc),
@@ -191,5 +250,5 @@ pub fn violation(alloc: Global, program: &Text, number: u32) -> Result<Witness, 
     let drawn = drawn(alloc, number)?;
     segments.push(drawn)?;
     segments.push(reached(alloc))?;
-    witness(alloc, program.as_str(), Content::Violation(segments))
+    witness(alloc, program, Content::Violation(segments))
 }

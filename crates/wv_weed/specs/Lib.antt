@@ -1,1 +1,4 @@
 pub mod Weeded
+pub mod Numbers
+pub mod Rounds
+pub mod Ending

@@ -1,6 +1,10 @@
 use Rattle.witval.proofs.JudgedTask.{after_fault, after_witness}
+use Rattle.witval.proofs.ShortKeys.{read_short}
 use Rattle.witval.specs.Purposes.{meant}
 use Rattle.witval.proofs.judging.judge_tree.Goals as goal
+
+pub judge_witness-requires-clause-keys : goal.judge_witness-requires-clause-keys
+judge_witness-requires-clause-keys c = read_short c.args.tree.now c.in-Ok.witness c.requires.fits c.in-Ok.ensures.answer
 
 pub returns-in-Ok : goal.returns-in-Ok
 returns-in-Ok c = after_witness (meant c.args.purpose) c.args.property c.args.program.now c.args.tree.now c.in-Ok.witness _ c.in-Ok.ensures.answer c.judge_witness.ensures

@@ -1,4 +1,4 @@
-use Rattle.std.proofs.Common.{rules, arith, Some, None}
+use Rattle.std.proofs.Common.{rules}
 use Rattle.clap.specs.Words.{found_of}
 use Rattle.wv_arguments.proofs.Numbers.{within, beyond}
 use Rattle.wv_arguments.proofs.reading.number.Goals as goal

@@ -1,0 +1,6 @@
+mod Thinned
+mod Follows
+mod Dropping
+mod Numbered
+mod Selected
+mod Unions
