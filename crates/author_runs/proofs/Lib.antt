@@ -1,6 +1,7 @@
 mod Answered
-mod ByPlace
+pub mod ByPlace
 pub mod OneCall
+pub mod CallEnds
 pub mod Each
 pub mod Traversed
 pub mod Known

@@ -20,7 +20,7 @@ abbrev pub number : {A : Type 0} → (A → Bool) → List A → ℕ
 number q [] = 0
 number q (x ∷ xs) = one_if (q x) + number q xs
 
-number-append : {A : Type 0} (q : A → Bool) (xs ys : List A) → number q (xs ++ ys) ≡ number q xs + number q ys
+pub number-append : {A : Type 0} (q : A → Bool) (xs ys : List A) → number q (xs ++ ys) ≡ number q xs + number q ys
 number-append q [] ys = omega arith
 number-append q (x ∷ xs) ys = let e = number-append q xs ys in omega (arith, e)
 

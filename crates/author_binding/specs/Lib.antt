@@ -1,0 +1,5 @@
+pub mod ConstantTexts
+pub mod ConstantTests
+pub mod Followed
+pub mod Shown
+pub mod Confirmed
