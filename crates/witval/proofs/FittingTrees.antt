@@ -1,5 +1,5 @@
 -- The tree of a witness with short keys has a canonical text: all its other keys are the schema's, and they nest no deeper than these.
-use Rattle.std.proofs.Common.{◌≡◌, ◌≤◌, ℕ, suc, List, [], ◌∷◌, ◌++◌, length, map, Option, Some, None, codes, lit≤}
+use Rattle.std.proofs.Common.{◌≤◌, ℕ, suc, List, [], ◌∷◌, ◌++◌, length, map, Option, Some, None, codes, lit≤}
 use lib.Utf8.{encode}
 use Rattle.std.specs.List.{AllByRecursion}
 use Rattle.std.specs.Str.{chars}

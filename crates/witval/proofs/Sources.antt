@@ -1,5 +1,5 @@
 -- The output where a violation witness is made is the output that the files call for.
-use Rattle.std.proofs.Common.{◌≡◌, ◌∙◌, ℕ, ℤ, List, Option, Some, Result, Ok, Err, IfOk, codes, inl, inr, refl, sym, subst, ap}
+use Rattle.std.proofs.Common.{◌≡◌, ◌∙◌, ℕ, ℤ, List, Some, Result, Ok, Err, IfOk, codes, inl, inr, refl, sym, subst, ap}
 use Rattle.std.proofs.lemmas.List.Elements.{All-nil}
 use Rattle.c_core.specs.declared.number.DataModel.{DataModel}
 use Rattle.c_core.specs.declared.number.Property.{Property}
