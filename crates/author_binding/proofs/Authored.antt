@@ -1,5 +1,5 @@
 -- What `author` writes of a run is bound to segments that show the run.
-use Rattle.std.proofs.Common.{◌≡◌, arith, ℕ, ℤ, pos, negsuc, Bool, true, false, cond, not, List, [], ◌∷◌, ◌++◌, Option, Some, None, Result, Ok, Err, refl, sym, ap, ◌∙◌, subst}
+use Rattle.std.proofs.Common.{◌≡◌, arith, ℕ, ℤ, pos, negsuc, Bool, true, false, cond, not, List, [], ◌∷◌, ◌++◌, map, Option, Some, None, Result, Ok, Err, refl, sym, ap, ◌∙◌, subst}
 use Rattle.std.proofs.lemmas.Bool.Decides.{nat_tests}
 use Rattle.std.proofs.lemmas.List.Elements.{All-cons, All-nil}
 use Rattle.c_core.specs.Program.{IsProgram}
@@ -16,16 +16,16 @@ use Rattle.way_bind.specs.declared.fault.BindFault.{BindFault}
 use Rattle.way_bind.specs.declared.fault.BindFault.TheVariants as fault
 use Rattle.way_match.specs.View.{segments_view}
 use Rattle.way_match.specs.declared.point.Bound.{Bound}
-use Rattle.wv_author.specs.Authored.{IsAuthored, first_free, is_free_by, segments_of_draws, target_of}
+use Rattle.wv_author.specs.Authored.{IsAuthored, first_free, is_free_by, returning_of, target_of}
 use Rattle.wv_schema.specs.declared.witness.Segment.{Segment}
 use Rattle.wv_schema.specs.declared.witness.Witness.{Witness}
 use Rattle.author_runs.specs.Giving.{IsZeroUnlessInput, OthersDrewZero}
-use Rattle.author_runs.specs.Returning.{IsViolatedIn, inputs_in}
+use Rattle.author_runs.specs.Returning.{CameBack, IsViolatedIn, inputs_in, returns_in}
 use Rattle.author_runs.proofs.Returned.{inputs_back}
 use Rattle.author_runs.proofs.Violating.{violations_end}
 use Rattle.author_binding.specs.Confirmed.{IsConfirmation}
 use Rattle.author_binding.proofs.GivenDraws.{AreInputsBack}
-use Rattle.author_binding.proofs.SegmentLaws.{follow_each, segments_back, sequence, told_only}
+use Rattle.author_binding.proofs.SegmentLaws.{follow_each, sequence, told_only}
 use Rattle.author_binding.proofs.Shown.{inputs_known, shows}
 
 -- ---- draws that no input made
@@ -67,8 +67,8 @@ module _ (p : Program) (checked : IsProgram p) (file : List ℕ) (vs : List ℤ)
   written : segments ≡ sequence p checked file statement (inputs_in p (Run p (InTurn vs) N).draws)
   written =
       h.written
-      ∙ ap (λ (o : Option Spot). segments_of_draws p file (Run p (InTurn vs) N).draws ++ target_of file o) violated.violated
-      ∙ ap (λ (ss : List Segment). ss ++ target_of file (Some statement)) (segments_back file p (Run p (InTurn vs) N).draws)
+      ∙ ap (λ (o : Option Spot). map (returning_of file) (returns_in p (Moments p (InTurn vs) N)) ++ target_of file o) violated.violated
+      ∙ ap (λ (bs : List CameBack). sequence p checked file statement bs) (inputs_back p checked (InTurn vs) N).returned
 
   known : AreInputsBack p (inputs_in p (Run p (InTurn vs) N).draws)
   known = inputs_known p vs N (inputs_back p checked (InTurn vs) N)

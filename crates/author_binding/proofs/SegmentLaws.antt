@@ -1,14 +1,10 @@
 -- The segments that `author` writes are bound, each to its place.
-use Rattle.std.proofs.Common.{◌≡◌, ℕ, ℤ, Bool, true, cond, List, [], ◌∷◌, ◌++◌, map, Option, Some, None, Result, Ok, Err, codes, refl, ap, ◌∙◌, subst}
-use Rattle.std.specs.List.{cons_option}
+use Rattle.std.proofs.Common.{◌≡◌, ℕ, ℤ, Bool, true, cond, List, [], ◌∷◌, ◌++◌, map, Option, Some, Result, Ok, Err, codes, refl, ap, ◌∙◌, subst}
 use Rattle.c_core.specs.Program.{IsProgram}
 use Rattle.c_core.specs.Tree.{Program}
 use Rattle.c_core.specs.Places.{aim_fits}
 use Rattle.c_core.specs.declared.number.Spot.{Spot}
 use Rattle.c_core.specs.declared.place.PlaceKind.TheVariants as place
-use Rattle.c_meaning.specs.declared.run.Draw.{Draw}
-use Rattle.c_meaning.specs.declared.run.DrawKind.{DrawKind}
-use Rattle.c_meaning.specs.declared.run.DrawKind.TheVariants.{Input, Cell, Havoc}
 use Rattle.way_bind.specs.Binding.{AreBoundTo, BindsPoint, BindsReturn, BindsTest, Makes, Tells, WherePlaced, has_value, is_suitable, is_valued, place_named, waypoints_in}
 use Rattle.way_bind.specs.InOrder.{IsLeast}
 use Rattle.way_bind.specs.InOrder as order
@@ -19,11 +15,11 @@ use Rattle.way_bind.specs.declared.fault.Unbound.TheVariants.{NoPlace, Expressio
 use Rattle.way_match.specs.Points as point
 use Rattle.way_match.specs.Points.{BoundSegment, Point, ReturnTest}
 use Rattle.wv_author.specs.Authored as authored
-use Rattle.wv_author.specs.Authored.{returning, returning_if, segment_by, segments_of_draws, violating}
+use Rattle.wv_author.specs.Authored.{returning_of, violating}
 use Rattle.wv_schema.specs.declared.witness.Constraint.{Constraint}
 use Rattle.wv_schema.specs.declared.witness.Segment.{Segment}
 use Rattle.wv_schema.specs.declared.witness.Waypoint.{Waypoint}
-use Rattle.author_runs.specs.Returning.{CameBack, drawn_by, drawn_to, end_of_input, inputs_in}
+use Rattle.author_runs.specs.Returning.{CameBack}
 use Rattle.author_runs.proofs.Each.{Each, each_back}
 use Rattle.author_binding.specs.ConstantTests.{IsEqualTo, IsTestFor}
 use Rattle.author_binding.specs.ConstantTexts.{result_text}
@@ -31,27 +27,6 @@ use Rattle.author_binding.specs.Followed.{FollowEach, follows_alone}
 use Rattle.author_binding.proofs.ConstantTests.{constant_bound}
 use Rattle.author_binding.proofs.GivenDraws.{AreInputsBack, IsInputBack}
 use Rattle.author_binding.proofs.InputEnds.{IsEndOf, input_end}
-
--- ---- the segments of draws
-
-module _ (file : List ℕ) where
-  -- the segment of an input that came back
-  abbrev pub segment : CameBack → Segment
-  segment b = returning file b.value b.close
-
-  drawn_segment : (d : Draw) (bs : List CameBack) (o : Option Spot) → cons_option (returning_if file d.value o) (map segment bs) ≡ map segment (cons_option (drawn_to d o) bs)
-  drawn_segment d bs None = refl
-  drawn_segment d bs (Some close) = refl
-
-  of_kind : (p : Program) (kind : DrawKind) (d : Draw) (bs : List CameBack) → cons_option (segment_by p file kind d) (map segment bs) ≡ map segment (cons_option (drawn_by p kind d) bs)
-  of_kind p Input d bs = drawn_segment d bs (end_of_input p d.spot)
-  of_kind p Cell d bs = refl
-  of_kind p Havoc d bs = refl
-
-  -- one for each input that came back
-  pub segments_back : (p : Program) (ds : List Draw) → segments_of_draws p file ds ≡ map segment (inputs_in p ds)
-  segments_back p [] = refl
-  segments_back p (d ∷ ds) = ap (cons_option (segment_by p file d.from d)) (segments_back p ds) ∙ of_kind p d.from d (inputs_in p ds)
 
 -- ---- the text of a value
 
@@ -93,7 +68,7 @@ module _ (p : Program) (checked : IsProgram p) (file : List ℕ) where
   abbrev constraint : CameBack → Constraint
   constraint b = record { value = authored.result_text b.value; format = Some (codes "c_expression") }
 
-  bound_return : (b : CameBack) (answer : Result Point Unbound) → IsInputBack p b → BindsPoint p (segment file b).follow answer → IsBoundReturn p b answer
+  bound_return : (b : CameBack) (answer : Result Point Unbound) → IsInputBack p b → BindsPoint p (returning_of file b).follow answer → IsBoundReturn p b answer
   bound_return b answer back h =
       let end = input_end p checked b.close b.call back.input in
       let there : BindsReturn p (Some (constraint b)) b.close answer =
@@ -111,7 +86,7 @@ module _ (p : Program) (checked : IsProgram p) (file : List ℕ) where
   -- ---- all segments
 
   abbrev pub sequence : Spot → List CameBack → List Segment
-  sequence statement bs = map (segment file) bs ++ violating file statement ∷ []
+  sequence statement bs = map (returning_of file) bs ++ violating file statement ∷ []
 
   alone : (s : BoundSegment) (x : Point) → order.AllBound (BindsPoint p) [] s.avoids → s.follow ≡ x → s ≡ follows_alone x
   alone s x none is = by s.avoids refl none
@@ -141,7 +116,7 @@ module _ (p : Program) (checked : IsProgram p) (file : List ℕ) where
   abbrev OnlyMemory : Waypoint → Type 0
   OnlyMemory w = (lack : Unbound) → BindsPoint p w (Err lack) → lack ≡ OutOfMemory
 
-  return_only : (b : CameBack) → IsInputBack p b → OnlyMemory (segment file b).follow
+  return_only : (b : CameBack) → IsInputBack p b → OnlyMemory (returning_of file b).follow
   return_only b back lack h = by lack (bound_return b (Err lack) back h)
     where
       by : (lack : Unbound) → IsBoundReturn p b (Err lack) → lack ≡ OutOfMemory
