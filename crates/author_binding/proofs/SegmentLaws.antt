@@ -1,5 +1,5 @@
 -- The segments that `author` writes are bound, each to its place.
-use Rattle.std.proofs.Common.{◌≡◌, ℕ, ℤ, Bool, true, cond, List, [], ◌∷◌, ◌++◌, map, Option, Some, Result, Ok, Err, codes, refl, ap, ◌∙◌, subst}
+use Rattle.std.proofs.Common.{◌≡◌, ℕ, Bool, true, cond, List, [], ◌∷◌, ◌++◌, map, Option, Some, Result, Ok, Err, codes, refl, ap, ◌∙◌, subst}
 use Rattle.c_core.specs.Program.{IsProgram}
 use Rattle.c_core.specs.Tree.{Program}
 use Rattle.c_core.specs.Places.{aim_fits}
@@ -22,17 +22,10 @@ use Rattle.wv_schema.specs.declared.witness.Waypoint.{Waypoint}
 use Rattle.author_runs.specs.Returning.{CameBack}
 use Rattle.author_runs.proofs.Each.{Each, each_back}
 use Rattle.author_binding.specs.ConstantTests.{IsEqualTo, IsTestFor}
-use Rattle.author_binding.specs.ConstantTexts.{result_text}
 use Rattle.author_binding.specs.Followed.{FollowEach, follows_alone}
 use Rattle.author_binding.proofs.ConstantTests.{constant_bound}
 use Rattle.author_binding.proofs.GivenDraws.{AreInputsBack, IsInputBack}
 use Rattle.author_binding.proofs.InputEnds.{IsEndOf, input_end}
-
--- ---- the text of a value
-
-same_text : (v : ℤ) → authored.result_text v ≡ result_text v
-unfolding authored.result_text result_text
-same_text v = refl
 
 -- ---- one segment
 
@@ -53,10 +46,9 @@ module _ (p : Program) (checked : IsProgram p) (file : List ℕ) where
   unfolding is_valued
   valued b end = ap has_value end.found
 
-  tested : (b : CameBack) (answer : Result ReturnTest Unbound) → IsInputBack p b → BindsTest p true (authored.result_text b.value) answer → IsTestFor p b.value answer
-  tested b answer back h =
-      constant_bound p b.value answer back.in_bits.0 back.in_bits.1
-      (subst (λ (text : List ℕ). BindsTest p true text answer) (same_text b.value) h)
+  tested : (b : CameBack) (answer : Result ReturnTest Unbound) → IsInputBack p b
+      → BindsTest p true (authored.result_text b.value) answer → IsTestFor p b.value answer
+  tested b answer back h = constant_bound p b.value answer back.in_bits.0 back.in_bits.1 h
 
   made : (b : CameBack) (answer : Result Point Unbound) → IsInputBack p b → Makes (BindsTest p true (authored.result_text b.value)) (λ t. point.Return b.close (Some t)) answer → IsBoundReturn p b answer
   made b (Ok x) back h = (h.0, h.2, tested b (Ok h.0) back h.1)

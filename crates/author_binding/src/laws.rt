@@ -2,7 +2,6 @@
 ghost use Rattle.std.specs.Prelude.{◌≡◌, ◌≤ℤ◌, ◌-◌, ◌^◌, ℕ, ℤ, pos, negsuc, true, List, Result};
 ghost use Rattle.author_binding.specs.Confirmed.{IsConfirmation};
 ghost use Rattle.author_binding.specs.ConstantTests.{IsTestFor};
-ghost use Rattle.author_binding.specs.ConstantTexts.{result_text};
 ghost use Rattle.c_core.specs.Program.{IsProgram};
 ghost use Rattle.c_core.specs.Tree.{Program};
 ghost use Rattle.way_bind.specs.Binding.{Binds, BindsTest, segments_of};
@@ -10,7 +9,7 @@ ghost use Rattle.way_bind.specs.declared.fault.BindFault.{BindFault};
 ghost use Rattle.way_bind.specs.declared.fault.Unbound.{Unbound};
 ghost use Rattle.way_match.specs.Points.{ReturnTest};
 ghost use Rattle.way_match.specs.declared.point.Bound.{Bound};
-ghost use Rattle.wv_author.specs.Authored.{IsAuthored};
+ghost use Rattle.wv_author.specs.Authored.{IsAuthored, result_text};
 ghost use Rattle.wv_schema.specs.declared.witness.Segment.{Segment};
 ghost use Rattle.wv_schema.specs.declared.witness.Witness.{Witness};
 
