@@ -1,12 +1,11 @@
 -- The text that an input call comes back with a value is bound to a test that this value meets.
-use Rattle.std.proofs.Common.{◌≡◌, ◌<◌, ◌≤◌, ◌+◌, ◌-◌, ◌^◌, ◌⊎◌, inl, inr, ◌∙◌, ℕ, zero, suc, ℤ, pos, negsuc, ◌≤ℤ◌, Bool, true, false, cond, nat_lt, List, [], ◌++◌, Option, Some, Result, Ok, Err, codes, decimal, refl, sym, ap, subst, arith}
+use Rattle.std.proofs.Common.{◌≡◌, ◌<◌, ◌≤◌, ◌-◌, ◌^◌, inl, inr, ◌∙◌, ℕ, zero, suc, ℤ, pos, negsuc, ◌≤ℤ◌, Bool, true, false, cond, nat_lt, List, [], ◌++◌, Some, Result, Ok, Err, codes, decimal, refl, sym, ap, subst, arith}
 use Rattle.std.proofs.lemmas.Int.{ints}
 use Rattle.std.proofs.lemmas.Bool.{false≢true}
 use Rattle.std.proofs.lemmas.Bool.Decides.{Decides-int_eq, nat_tests}
 use Rattle.c_core.specs.Operators.{truth}
-use Rattle.c_core.specs.Tree.{Exp as TypedExp, Program}
-use Rattle.c_core.specs.Types.{common_of, fit, in_range}
-use Rattle.c_core.specs.declared.number.BinOp.{BinOp}
+use Rattle.c_core.specs.Tree.{Program}
+use Rattle.c_core.specs.Types.{common_of, fit}
 use Rattle.c_core.specs.declared.number.BinOp.TheVariants.{Eq}
 use Rattle.c_core.specs.declared.number.DataModel.{DataModel}
 use Rattle.c_core.specs.declared.number.IntType.{IntType}

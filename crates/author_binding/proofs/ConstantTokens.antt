@@ -94,7 +94,7 @@ negative_spelled n some small =
     let number : Place → List Token = λ at. number_token n true false 0 at ∷ [] in
     let read : (at : Place) → Reads false at (decimal n) (number at) Whole =
     λ at. subst (λ t. Reads false at t (number at) Whole) (append-nil (decimal n))
-        (number_read n (decimal n) [] false 0 are no_suffix small at) in
+    (number_read n (decimal n) [] false 0 are no_suffix small at) in
     record {
       tokens = λ at. sign_token Minus at.spot ∷ number (signed at);
       read = λ at. minus_read at (decimal n) (number (signed at)) n are (read (signed at));
