@@ -22,7 +22,7 @@ use Rattle.way_constraint.specs.Constraints.{in_scope, is_refused}
 use Rattle.way_match.specs.Passing.{compared, constant_of, meets}
 use Rattle.way_match.specs.Points.{ReturnTest}
 use Rattle.author_binding.specs.ConstantTests.{IsEqualTo, IsTestFor}
-use Rattle.author_binding.specs.ConstantTexts.{constant_text, result_text}
+use Rattle.wv_author.specs.Authored.{constant_text, result_text}
 use Rattle.author_binding.proofs.ConstantTokens.{SpellsConstant, constant_place, least_spelled, least_tree, negative_spelled, negative_tree, number_spelled, number_tree, result_test, wide_spelled, zero_spelled}
 use Rattle.author_binding.proofs.ConstantTypes.{breaks_none, least_fits, negative_fits, plain_fits, wide_fits, zero_fits}
 use Rattle.author_binding.proofs.ConstantValues.{least_value, negative_value, number_value, value_in}

@@ -31,11 +31,13 @@ module _ (spot : Spot) where
       either false = refl
   lefter_of_same o false e = rw e refl
 
-  first_there : (x : Spot) (xs : List Spot) (t : Bool) → is_there x ≡ t → leftmost (filter is_there xs) ≡ cond (list_any is_there xs) (Some spot) None
+  first_there : (x : Spot) (xs : List Spot) (t : Bool) → is_there x ≡ t
+      → leftmost (filter is_there xs) ≡ cond (list_any is_there xs) (Some spot) None
       → leftmost (cond t (x ∷ filter is_there xs) (filter is_there xs)) ≡ cond (t || list_any is_there xs) (Some spot) None
   first_there x xs true e h =
       let same = same_place x spot e in
-      ap Some (ap (λ (a : Spot). lefter a (leftmost (filter is_there xs))) same ∙ lefter_of_same (leftmost (filter is_there xs)) (list_any is_there xs) h)
+      ap Some (ap (λ (a : Spot). lefter a (leftmost (filter is_there xs))) same ∙ lefter_of_same
+      (leftmost (filter is_there xs)) (list_any is_there xs) h)
   first_there x xs false e h = h
 
   leftmost_there : (xs : List Spot) → leftmost (filter is_there xs) ≡ cond (list_any is_there xs) (Some spot) None
@@ -43,10 +45,12 @@ module _ (spot : Spot) where
   leftmost_there (x ∷ xs) = first_there x xs (is_there x) refl (leftmost_there xs)
 
 -- a place of kind `CallEnd` is the one that its line and column name
-end_named : (p : Program) (close : Spot) → Contains (spots_of_kind CallEnd p) close → place_at p CallEnd close.line (Some close.column) ≡ Some close
+end_named : (p : Program) (close : Spot) → Contains (spots_of_kind CallEnd p) close
+    → place_at p CallEnd close.line (Some close.column) ≡ Some close
 end_named p close c =
     leftmost_there close (spots_of_kind CallEnd p)
-    ∙ ap (λ b. cond b (Some close) None) (any_contained (is_there close) (spots_of_kind CallEnd p) close c (same_spot-self close))
+    ∙ ap (λ b. cond b (Some close) None)
+    (any_contained (is_there close) (spots_of_kind CallEnd p) close c (same_spot-self close))
 
 -- ---- the first that passes a test
 
@@ -56,9 +60,11 @@ module _ {A : Type 0} (q : A → Bool) where
     pub is_there : Contains xs x
     pub passes : q x ≡ true
 
-  first_by : (y : A) (ys : List A) (x : A) (t : Bool) → q y ≡ t → cond t (Some y) (find q ys) ≡ Some x → (find q ys ≡ Some x → IsFirst ys x) → IsFirst (y ∷ ys) x
+  first_by : (y : A) (ys : List A) (x : A) (t : Bool) → q y ≡ t → cond t (Some y) (find q ys) ≡ Some x
+      → (find q ys ≡ Some x → IsFirst ys x) → IsFirst (y ∷ ys) x
   first_by y ys x true e h rest =
-      let same : y ≡ x = cc in subst (λ z. IsFirst (y ∷ ys) z) same (record { is_there = (0, omega arith, refl); passes = e })
+      let same : y ≡ x =
+      cc in subst (λ z. IsFirst (y ∷ ys) z) same (record { is_there = (0, omega arith, refl); passes = e })
   first_by y ys x false e h rest =
       let f = rest h in record { is_there = Contains-append_right (y ∷ []) ys x f.is_there; passes = f.passes }
 
@@ -76,7 +82,8 @@ pub record IsEndOf (p : Program) (close : Spot) (call : InputCall) : Type 0 wher
   pub node : Node
   pub found : call_at p close ≡ Some (Expr spot (Some call.ty) node)
 
-all_at : {A : Type 0} (q : A → Bool) (xs : List A) (x : A) (k : ℕ) → k < length xs → slice_index_or xs k x ≡ x → list_all q xs ≡ true → q x ≡ true
+all_at : {A : Type 0} (q : A → Bool) (xs : List A) (x : A) (k : ℕ) → k < length xs → slice_index_or xs k x ≡ x
+    → list_all q xs ≡ true → q x ≡ true
 all_at q [] x k lt e h = absurd (omega (arith, lt))
 all_at q (y ∷ ys) x zero lt e h = sym (ap q e) ∙ left (q y) (list_all q ys) h
 all_at q (y ∷ ys) x (suc k) lt e h = all_at q ys x k (omega (arith, lt)) e (right (q y) (list_all q ys) h)
@@ -85,11 +92,14 @@ module _ (p : Program) (checked : IsProgram p) where
   fits : (e : Exp) → Contains (exps_of_program p) e → exp_fits p e ≡ true
   fits e c = all_at (exp_fits p) (exps_of_program p) e c.0 c.1 c.2 (exps_typed p checked.types)
 
-  end_of : (close : Spot) (call : InputCall) (e : Exp) → input_of e ≡ Some call → IsFirst (ends_at close) (exps_of_program p) e → call_at p close ≡ Some e → IsEndOf p close call
+  end_of : (close : Spot) (call : InputCall) (e : Exp) → input_of e ≡ Some call
+      → IsFirst (ends_at close) (exps_of_program p) e → call_at p close ≡ Some e → IsEndOf p close call
   end_of close call (Expr spot ty (Call (Input input) es end)) h f found =
       let there = end_is_place p spot ty (Input input) es end f.is_there in
       let same = same_place end close f.passes in
-      let fitting = right (are_values 0 es) (has_input input && is_type input ty) (fits (Expr spot ty (Call (Input input) es end)) f.is_there) in
+      let fitting =
+      right (are_values 0 es) (has_input input && is_type input ty)
+      (fits (Expr spot ty (Call (Input input) es end)) f.is_there) in
       let typed : Some input ≡ ty = the_type input ty (right (has_input input) (is_type input ty) fitting) in
       let call_is : record { spot = spot; ty = input } ≡ call = some_same h in
       let of_type : Some call.ty ≡ ty = ap (λ (c : InputCall). Some c.ty) (sym call_is) ∙ typed in
@@ -106,9 +116,11 @@ module _ (p : Program) (checked : IsProgram p) where
   end_of close call (Expr spot ty (Call Exit es end)) h f found = absurd (cc)
   end_of close call (Expr spot ty _) h f found = absurd (cc)
 
-  by_call : (close : Spot) (call : InputCall) (o : Option Exp) → call_at p close ≡ o → input_if o ≡ Some call → IsEndOf p close call
+  by_call : (close : Spot) (call : InputCall) (o : Option Exp) → call_at p close ≡ o → input_if o ≡ Some call
+      → IsEndOf p close call
   by_call close call None e h = absurd (cc)
-  by_call close call (Some e) found h = end_of close call e h (first_found (ends_at close) (exps_of_program p) e found) found
+  by_call close call (Some e) found h =
+      end_of close call e h (first_found (ends_at close) (exps_of_program p) e found) found
 
   -- an input call that ends there
   pub input_end : (close : Spot) (call : InputCall) → input_at p close ≡ Some call → IsEndOf p close call

@@ -45,7 +45,8 @@ module _ (p : Program) where
     pub event : e ≡ Return b.close (Some b.value)
     pub input : input_at p b.close ≡ Some b.call
 
-  return_by : (close : Spot) (v : ℤ) (o : Option InputCall) (b : CameBack) → input_at p close ≡ o → back_at close v o ≡ Some b → IsReturnOf (Return close (Some v)) b
+  return_by : (close : Spot) (v : ℤ) (o : Option InputCall) (b : CameBack) → input_at p close ≡ o
+      → back_at close v o ≡ Some b → IsReturnOf (Return close (Some v)) b
   return_by close v None b e h = absurd (cc)
   return_by close v (Some call) b e h =
       let same : record { close = close; call = call; value = v } ≡ b = some_same h in
@@ -82,13 +83,16 @@ module _ (p : Program) (checked : IsProgram p) (statement full : Spot) (call : O
   fails : seen_passes p (Some last) (point.Target (point.At statement)) ≡ true
   fails = or_first (same_spot statement statement) _ (same_spot-self statement)
 
-  returned : (b : CameBack) (s : BoundSegment) (e : Seen) → IsInputBack p b → FollowsReturn p b s → e.event ≡ Return b.close (Some b.value) → seen_passes p (Some e) s.follow ≡ true
+  returned : (b : CameBack) (s : BoundSegment) (e : Seen) → IsInputBack p b → FollowsReturn p b s
+      → e.event ≡ Return b.close (Some b.value) → seen_passes p (Some e) s.follow ≡ true
   returned b s e back f at =
       let end = input_end p checked b.close b.call back.input in
       let typed : type_of_call (call_at p b.close) ≡ b.call.ty = ap type_of_call end.found in
-      let met : meets p f.test (type_of_call (call_at p b.close)) b.value ≡ true = ap (λ ty. meets p f.test ty b.value) typed ∙ f.tests.met b.call.ty back.in_type in
+      let met : meets p f.test (type_of_call (call_at p b.close)) b.value ≡ true =
+      ap (λ ty. meets p f.test ty b.value) typed ∙ f.tests.met b.call.ty back.in_type in
       ap (λ (s : BoundSegment). seen_passes p (Some e) s.follow) f.is
-      ∙ ap (λ (x : Event). seen_passes p (Some (record { event = x; cells = e.cells })) (point.Return b.close (Some f.test))) at
+      ∙ ap (λ (x : Event). seen_passes p (Some (record { event = x; cells = e.cells }))
+      (point.Return b.close (Some f.test))) at
       ∙ ap (λ t. t && meets p f.test (type_of_call (call_at p b.close)) b.value) (same_spot-self b.close)
       ∙ met
 
@@ -100,24 +104,30 @@ module _ (p : Program) (checked : IsProgram p) (statement full : Spot) (call : O
   abbrev Found : ℕ → List BoundSegment → List Seen → Type 0
   Found k ss es = (ns : List ℕ) × MatchesFrom p (after k) ss es ns
 
-  found_last : (k : ℕ) (before es : List Seen) (ss : List BoundSegment) → es ≡ before ++ last ∷ [] → k ≤ length before → ss ≡ follows_alone (point.Target (point.At statement)) ∷ [] → Found k ss es
+  found_last : (k : ℕ) (before es : List Seen) (ss : List BoundSegment) → es ≡ before ++ last ∷ [] → k ≤ length before
+      → ss ≡ follows_alone (point.Target (point.At statement)) ∷ [] → Found k ss es
   found_last k before es ss e low is =
       let size : length es ≡ length before + 1 = ap length e ∙ length-append before (last ∷ []) in
       subst (λ ss. Found k ss es) (sym is) (
         length before ∷ [],
         (
-          ap (λ s. seen_passes p s (point.Target (point.At statement))) (ap (λ (l : List Seen). slice_get l (length before)) e ∙ get_behind before last []) ∙ fails,
+          ap (λ s. seen_passes p s (point.Target (point.At statement)))
+              (ap (λ (l : List Seen). slice_get l (length before)) e ∙ get_behind before last []) ∙ fails,
           inl low,
           (λ i from to. none_avoided p (slice_get es i)),
           omega (arith, size),
         ),
       )
 
-  found_return : (k : ℕ) (before : List Seen) (e : Seen) (behind es : List Seen) (b : CameBack) (s : BoundSegment) (ss : List BoundSegment) → es ≡ before ++ e ∷ behind → k ≤ length before
-      → IsInputBack p b → FollowsReturn p b s → e.event ≡ Return b.close (Some b.value) → Found (suc (length before)) ss es → Found k (s ∷ ss) es
+  found_return : (k : ℕ) (before : List Seen) (e : Seen) (behind es : List Seen) (b : CameBack) (s : BoundSegment)
+      (ss : List BoundSegment) → es ≡ before ++ e ∷ behind → k ≤ length before
+      → IsInputBack p b → FollowsReturn p b s → e.event ≡ Return b.close (Some b.value)
+      → Found (suc (length before)) ss es → Found k (s ∷ ss) es
   found_return k before e behind es b s ss at low back f told rest =
       let passes : seen_passes p (slice_get es (length before)) s.follow ≡ true =
-      ap (λ x. seen_passes p x s.follow) (ap (λ (l : List Seen). slice_get l (length before)) at ∙ get_behind before e behind) ∙ returned b s e back f told in
+      ap (λ x. seen_passes p x s.follow)
+      (ap (λ (l : List Seen). slice_get l (length before)) at ∙ get_behind before e behind)
+      ∙ returned b s e back f told in
       let no_assumption : MatchesFrom p (after (suc (length before))) ss es rest.0 = rest.1 in
       subst (λ (x : BoundSegment). Found k (x ∷ ss) es) (sym f.is) (
         length before ∷ rest.0,
@@ -132,17 +142,21 @@ module _ (p : Program) (checked : IsProgram p) (statement full : Spot) (call : O
   longer : (before : List Seen) (e : Seen) → length (before ++ e ∷ []) ≡ suc (length before)
   longer before e = length-append before (e ∷ []) ∙ omega arith
 
-  moved : (es before : List Seen) (e : Seen) (behind : List Seen) → es ≡ before ++ e ∷ behind → es ≡ (before ++ e ∷ []) ++ behind
+  moved : (es before : List Seen) (e : Seen) (behind : List Seen) → es ≡ before ++ e ∷ behind
+      → es ≡ (before ++ e ∷ []) ++ behind
   moved es before e behind at = at ∙ rw append_assoc refl
 
   -- positions for the events behind these, from any position before them on
   abbrev FoundBehind : List Seen → List Seen → Type 0
-  FoundBehind rest es = (k : ℕ) (before : List Seen) (ss : List BoundSegment) → es ≡ before ++ (rest ++ last ∷ []) → k ≤ length before
+  FoundBehind rest es =
+      (k : ℕ) (before : List Seen) (ss : List BoundSegment) → es ≡ before ++ (rest ++ last ∷ []) → k ≤ length before
       → AreInputsBack p (backs_in p rest) → FollowEach p statement (backs_in p rest) ss → Found k ss es
 
-  found_by : (k : ℕ) (before : List Seen) (e : Seen) (rest es : List Seen) (ss : List BoundSegment) (o : Option CameBack) → back_by p e.event ≡ o
+  found_by : (k : ℕ) (before : List Seen) (e : Seen) (rest es : List Seen) (ss : List BoundSegment)
+      (o : Option CameBack) → back_by p e.event ≡ o
       → es ≡ before ++ (e ∷ rest ++ last ∷ []) → k ≤ length before
-      → AreInputsBack p (cons_option o (backs_in p rest)) → FollowEach p statement (cons_option o (backs_in p rest)) ss → FoundBehind rest es → Found k ss es
+      → AreInputsBack p (cons_option o (backs_in p rest))
+      → FollowEach p statement (cons_option o (backs_in p rest)) ss → FoundBehind rest es → Found k ss es
   found_by k before e rest es ss None is at low backs f behind =
       let size = longer before e in
       behind k (before ++ e ∷ []) ss (moved es before e (rest ++ last ∷ []) at) (omega (arith, low, size)) backs f
@@ -150,13 +164,16 @@ module _ (p : Program) (checked : IsProgram p) (statement full : Spot) (call : O
   found_by k before e rest es (s ∷ ss) (Some b) is at low backs f behind =
       let size = longer before e in
       found_return k before e (rest ++ last ∷ []) es b s ss at low backs.0 f.0 (return_of p e.event b is).event
-      (behind (suc (length before)) (before ++ e ∷ []) ss (moved es before e (rest ++ last ∷ []) at) (omega (arith, size)) backs.1 f.1)
+      (behind (suc (length before)) (before ++ e ∷ []) ss (moved es before e (rest ++ last ∷ []) at)
+      (omega (arith, size)) backs.1 f.1)
 
   found : (rest es : List Seen) → FoundBehind rest es
   found [] es k before ss at low backs f = found_last k before es ss at low f
-  found (e ∷ rest) es k before ss at low backs f = found_by k before e rest es ss (back_by p e.event) refl at low backs f (found rest es)
+  found (e ∷ rest) es k before ss at low backs f =
+      found_by k before e rest es ss (back_by p e.event) refl at low backs f (found rest es)
 
   -- the events match, at the returns of the inputs and at the violation
-  pub matched : (es rest : List Seen) (ss : List BoundSegment) → es ≡ rest ++ last ∷ [] → AreInputsBack p (backs_in p rest) → FollowEach p statement (backs_in p rest) ss
+  pub matched : (es rest : List Seen) (ss : List BoundSegment) → es ≡ rest ++ last ∷ []
+      → AreInputsBack p (backs_in p rest) → FollowEach p statement (backs_in p rest) ss
       → (positions : List ℕ) × Matches p ss es positions
   matched es rest ss at backs f = found rest es 0 [] ss at (omega arith) backs f

@@ -1,14 +1,10 @@
 -- The segments that `author` writes are bound, each to its place.
-use Rattle.std.proofs.Common.{◌≡◌, ℕ, ℤ, Bool, true, cond, List, [], ◌∷◌, ◌++◌, map, Option, Some, None, Result, Ok, Err, codes, refl, ap, ◌∙◌, subst}
-use Rattle.std.specs.List.{cons_option}
+use Rattle.std.proofs.Common.{◌≡◌, ℕ, Bool, true, cond, List, [], ◌∷◌, ◌++◌, map, Option, Some, Result, Ok, Err, codes, refl, ap, ◌∙◌, subst}
 use Rattle.c_core.specs.Program.{IsProgram}
 use Rattle.c_core.specs.Tree.{Program}
 use Rattle.c_core.specs.Places.{aim_fits}
 use Rattle.c_core.specs.declared.number.Spot.{Spot}
 use Rattle.c_core.specs.declared.place.PlaceKind.TheVariants as place
-use Rattle.c_meaning.specs.declared.run.Draw.{Draw}
-use Rattle.c_meaning.specs.declared.run.DrawKind.{DrawKind}
-use Rattle.c_meaning.specs.declared.run.DrawKind.TheVariants.{Input, Cell, Havoc}
 use Rattle.way_bind.specs.Binding.{AreBoundTo, BindsPoint, BindsReturn, BindsTest, Makes, Tells, WherePlaced, has_value, is_suitable, is_valued, place_named, waypoints_in}
 use Rattle.way_bind.specs.InOrder.{IsLeast}
 use Rattle.way_bind.specs.InOrder as order
@@ -19,45 +15,17 @@ use Rattle.way_bind.specs.declared.fault.Unbound.TheVariants.{NoPlace, Expressio
 use Rattle.way_match.specs.Points as point
 use Rattle.way_match.specs.Points.{BoundSegment, Point, ReturnTest}
 use Rattle.wv_author.specs.Authored as authored
-use Rattle.wv_author.specs.Authored.{returning, returning_if, segment_by, segments_of_draws, violating}
+use Rattle.wv_author.specs.Authored.{returning_of, violating}
 use Rattle.wv_schema.specs.declared.witness.Constraint.{Constraint}
 use Rattle.wv_schema.specs.declared.witness.Segment.{Segment}
 use Rattle.wv_schema.specs.declared.witness.Waypoint.{Waypoint}
-use Rattle.author_runs.specs.Returning.{CameBack, drawn_by, drawn_to, end_of_input, inputs_in}
+use Rattle.author_runs.specs.Returning.{CameBack}
 use Rattle.author_runs.proofs.Each.{Each, each_back}
 use Rattle.author_binding.specs.ConstantTests.{IsEqualTo, IsTestFor}
-use Rattle.author_binding.specs.ConstantTexts.{result_text}
 use Rattle.author_binding.specs.Followed.{FollowEach, follows_alone}
 use Rattle.author_binding.proofs.ConstantTests.{constant_bound}
 use Rattle.author_binding.proofs.GivenDraws.{AreInputsBack, IsInputBack}
 use Rattle.author_binding.proofs.InputEnds.{IsEndOf, input_end}
-
--- ---- the segments of draws
-
-module _ (file : List ℕ) where
-  -- the segment of an input that came back
-  abbrev pub segment : CameBack → Segment
-  segment b = returning file b.value b.close
-
-  drawn_segment : (d : Draw) (bs : List CameBack) (o : Option Spot) → cons_option (returning_if file d.value o) (map segment bs) ≡ map segment (cons_option (drawn_to d o) bs)
-  drawn_segment d bs None = refl
-  drawn_segment d bs (Some close) = refl
-
-  of_kind : (p : Program) (kind : DrawKind) (d : Draw) (bs : List CameBack) → cons_option (segment_by p file kind d) (map segment bs) ≡ map segment (cons_option (drawn_by p kind d) bs)
-  of_kind p Input d bs = drawn_segment d bs (end_of_input p d.spot)
-  of_kind p Cell d bs = refl
-  of_kind p Havoc d bs = refl
-
-  -- one for each input that came back
-  pub segments_back : (p : Program) (ds : List Draw) → segments_of_draws p file ds ≡ map segment (inputs_in p ds)
-  segments_back p [] = refl
-  segments_back p (d ∷ ds) = ap (cons_option (segment_by p file d.from d)) (segments_back p ds) ∙ of_kind p d.from d (inputs_in p ds)
-
--- ---- the text of a value
-
-same_text : (v : ℤ) → authored.result_text v ≡ result_text v
-unfolding authored.result_text result_text
-same_text v = refl
 
 -- ---- one segment
 
@@ -70,7 +38,8 @@ IsBoundReturn p b (Err Scope) = ⊥
 IsBoundReturn p b (Err OutOfMemory) = Unit {0}
 
 module _ (p : Program) (checked : IsProgram p) (file : List ℕ) where
-  named : (b : CameBack) → IsEndOf p b.close b.call → place_named p place.CallEnd (authored.located file b.close) ≡ Some b.close
+  named : (b : CameBack) → IsEndOf p b.close b.call
+      → place_named p place.CallEnd (authored.located file b.close) ≡ Some b.close
   unfolding place_named
   named b end = end.named
 
@@ -78,12 +47,13 @@ module _ (p : Program) (checked : IsProgram p) (file : List ℕ) where
   unfolding is_valued
   valued b end = ap has_value end.found
 
-  tested : (b : CameBack) (answer : Result ReturnTest Unbound) → IsInputBack p b → BindsTest p true (authored.result_text b.value) answer → IsTestFor p b.value answer
-  tested b answer back h =
-      constant_bound p b.value answer back.in_bits.0 back.in_bits.1
-      (subst (λ (text : List ℕ). BindsTest p true text answer) (same_text b.value) h)
+  tested : (b : CameBack) (answer : Result ReturnTest Unbound) → IsInputBack p b
+      → BindsTest p true (authored.result_text b.value) answer → IsTestFor p b.value answer
+  tested b answer back h = constant_bound p b.value answer back.in_bits.0 back.in_bits.1 h
 
-  made : (b : CameBack) (answer : Result Point Unbound) → IsInputBack p b → Makes (BindsTest p true (authored.result_text b.value)) (λ t. point.Return b.close (Some t)) answer → IsBoundReturn p b answer
+  made : (b : CameBack) (answer : Result Point Unbound) → IsInputBack p b
+      → Makes (BindsTest p true (authored.result_text b.value)) (λ t. point.Return b.close (Some t)) answer
+      → IsBoundReturn p b answer
   made b (Ok x) back h = (h.0, h.2, tested b (Ok h.0) back h.1)
   made b (Err NoPlace) back h = tested b (Err NoPlace) back h
   made b (Err Expression) back h = tested b (Err Expression) back h
@@ -93,27 +63,34 @@ module _ (p : Program) (checked : IsProgram p) (file : List ℕ) where
   abbrev constraint : CameBack → Constraint
   constraint b = record { value = authored.result_text b.value; format = Some (codes "c_expression") }
 
-  bound_return : (b : CameBack) (answer : Result Point Unbound) → IsInputBack p b → BindsPoint p (segment file b).follow answer → IsBoundReturn p b answer
+  bound_return : (b : CameBack) (answer : Result Point Unbound) → IsInputBack p b
+      → BindsPoint p (returning_of file b).follow answer → IsBoundReturn p b answer
   bound_return b answer back h =
       let end = input_end p checked b.close b.call back.input in
       let there : BindsReturn p (Some (constraint b)) b.close answer =
       subst (λ (o : Option Spot). WherePlaced o (BindsReturn p (Some (constraint b))) answer) (named b end) h in
-      made b answer back (subst (λ (v : Bool). Makes (BindsTest p v (authored.result_text b.value)) (λ t. point.Return b.close (Some t)) answer) (valued b end) there)
+      made b answer back (subst
+      (λ (v : Bool). Makes (BindsTest p v (authored.result_text b.value)) (λ t. point.Return b.close (Some t)) answer)
+      (valued b end) there)
 
-  suits : (statement : Spot) → aim_fits p statement.line (Some statement.column) ≡ true → is_suitable p (authored.located file statement) ≡ true
+  suits : (statement : Spot) → aim_fits p statement.line (Some statement.column) ≡ true
+      → is_suitable p (authored.located file statement) ≡ true
   unfolding is_suitable
   suits statement h = h
 
-  bound_target : (statement : Spot) (answer : Result Point Unbound) → aim_fits p statement.line (Some statement.column) ≡ true → BindsPoint p (violating file statement).follow answer
+  bound_target : (statement : Spot) (answer : Result Point Unbound)
+      → aim_fits p statement.line (Some statement.column) ≡ true → BindsPoint p (violating file statement).follow answer
       → answer ≡ Ok (point.Target (point.At statement))
-  bound_target statement answer fits h = h ∙ ap (λ b. cond b (Ok (point.Target (point.At statement))) (Err NoPlace)) (suits statement fits)
+  bound_target statement answer fits h =
+      h ∙ ap (λ b. cond b (Ok (point.Target (point.At statement))) (Err NoPlace)) (suits statement fits)
 
   -- ---- all segments
 
   abbrev pub sequence : Spot → List CameBack → List Segment
-  sequence statement bs = map (segment file) bs ++ violating file statement ∷ []
+  sequence statement bs = map (returning_of file) bs ++ violating file statement ∷ []
 
-  alone : (s : BoundSegment) (x : Point) → order.AllBound (BindsPoint p) [] s.avoids → s.follow ≡ x → s ≡ follows_alone x
+  alone : (s : BoundSegment) (x : Point) → order.AllBound (BindsPoint p) [] s.avoids → s.follow ≡ x
+      → s ≡ follows_alone x
   alone s x none is = by s.avoids refl none
     where
       by : (xs : List Point) → s.avoids ≡ xs → order.AllBound (BindsPoint p) [] xs → s ≡ follows_alone x
@@ -123,11 +100,14 @@ module _ (p : Program) (checked : IsProgram p) (file : List ℕ) where
   same_answer : (x y : Point) (r : Result Point Unbound) → r ≡ Ok x → r ≡ Ok y → x ≡ y
   same_answer x y r a b = cc
 
-  pub follow_each : (statement : Spot) (bs : List CameBack) (ss : List BoundSegment) → aim_fits p statement.line (Some statement.column) ≡ true → AreInputsBack p bs
+  pub follow_each : (statement : Spot) (bs : List CameBack) (ss : List BoundSegment)
+      → aim_fits p statement.line (Some statement.column) ≡ true → AreInputsBack p bs
       → AreBoundTo p (sequence statement bs) ss → FollowEach p statement bs ss
   follow_each statement [] [] fits backs h = absurd h
   follow_each statement [] (s ∷ []) fits backs h =
-      let target = same_answer s.follow (point.Target (point.At statement)) (Ok s.follow) refl (bound_target statement (Ok s.follow) fits h.0.1) in
+      let target =
+      same_answer s.follow (point.Target (point.At statement)) (Ok s.follow) refl
+      (bound_target statement (Ok s.follow) fits h.0.1) in
       ap (λ (x : BoundSegment). x ∷ []) (alone s (point.Target (point.At statement)) h.0.0 target)
   follow_each statement [] (s ∷ (r ∷ ss)) fits backs h = absurd h.1
   follow_each statement (b ∷ bs) [] fits backs h = absurd h
@@ -141,7 +121,7 @@ module _ (p : Program) (checked : IsProgram p) (file : List ℕ) where
   abbrev OnlyMemory : Waypoint → Type 0
   OnlyMemory w = (lack : Unbound) → BindsPoint p w (Err lack) → lack ≡ OutOfMemory
 
-  return_only : (b : CameBack) → IsInputBack p b → OnlyMemory (segment file b).follow
+  return_only : (b : CameBack) → IsInputBack p b → OnlyMemory (returning_of file b).follow
   return_only b back lack h = by lack (bound_return b (Err lack) back h)
     where
       by : (lack : Unbound) → IsBoundReturn p b (Err lack) → lack ≡ OutOfMemory
@@ -150,21 +130,37 @@ module _ (p : Program) (checked : IsProgram p) (file : List ℕ) where
       by Scope r = absurd r
       by OutOfMemory r = refl
 
-  target_only : (statement : Spot) → aim_fits p statement.line (Some statement.column) ≡ true → OnlyMemory (violating file statement).follow
+  target_only : (statement : Spot) → aim_fits p statement.line (Some statement.column) ≡ true
+      → OnlyMemory (violating file statement).follow
   target_only statement fits lack h = let e = bound_target statement (Err lack) fits h in absurd (cc)
 
-  only_memory : (statement : Spot) (bs : List CameBack) → aim_fits p statement.line (Some statement.column) ≡ true → AreInputsBack p bs → Each OnlyMemory (waypoints_in (sequence statement bs))
+  only_memory : (statement : Spot) (bs : List CameBack) → aim_fits p statement.line (Some statement.column) ≡ true
+      → AreInputsBack p bs → Each OnlyMemory (waypoints_in (sequence statement bs))
   only_memory statement [] fits backs = (target_only statement fits, tt)
   only_memory statement (b ∷ bs) fits backs = (return_only b backs.0, only_memory statement bs fits backs.1)
 
-  least_only : (vs : List Waypoint) (n : ℕ) (lack : Unbound) → Each OnlyMemory vs → IsLeast (BindsPoint p) 1 vs n lack → lack ≡ OutOfMemory
+  least_only : (vs : List Waypoint) (n : ℕ) (lack : Unbound) → Each OnlyMemory vs → IsLeast (BindsPoint p) 1 vs n lack
+      → lack ≡ OutOfMemory
   least_only vs n lack each least =
-      let split : Each OnlyMemory (least.before ++ least.at ∷ least.behind) = subst (Each OnlyMemory) least.in_order each in
+      let split : Each OnlyMemory (least.before ++ least.at ∷ least.behind) =
+      subst (Each OnlyMemory) least.in_order each in
       (each_back OnlyMemory least.before (least.at ∷ least.behind) split).0 lack least.fails
 
-  pub told_only : (statement : Spot) (bs : List CameBack) (f : BindFault) → aim_fits p statement.line (Some statement.column) ≡ true → AreInputsBack p bs
+  pub told_only : (statement : Spot) (bs : List CameBack) (f : BindFault)
+      → aim_fits p statement.line (Some statement.column) ≡ true → AreInputsBack p bs
       → Tells p 1 (waypoints_in (sequence statement bs)) f → f ≡ fault.OutOfMemory
-  told_only statement bs (fault.NoPlace n) fits backs h = let e = least_only (waypoints_in (sequence statement bs)) n NoPlace (only_memory statement bs fits backs) h in absurd (cc)
-  told_only statement bs (fault.Expression n) fits backs h = let e = least_only (waypoints_in (sequence statement bs)) n Expression (only_memory statement bs fits backs) h in absurd (cc)
-  told_only statement bs (fault.Scope n) fits backs h = let e = least_only (waypoints_in (sequence statement bs)) n Scope (only_memory statement bs fits backs) h in absurd (cc)
+  told_only statement bs (fault.NoPlace n) fits backs h =
+      let e =
+      least_only (waypoints_in (sequence statement bs)) n NoPlace
+      (only_memory statement bs fits backs) h in
+      absurd (cc)
+  told_only statement bs (fault.Expression n) fits backs h =
+      let e =
+      least_only (waypoints_in (sequence statement bs)) n Expression
+      (only_memory statement bs fits backs) h in
+      absurd (cc)
+  told_only statement bs (fault.Scope n) fits backs h =
+      let e =
+      least_only (waypoints_in (sequence statement bs)) n Scope (only_memory statement bs fits backs) h in
+      absurd (cc)
   told_only statement bs fault.OutOfMemory fits backs h = refl

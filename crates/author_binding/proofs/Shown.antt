@@ -50,7 +50,8 @@ module _ (p : Program) where
   are_both [] h g = tt
   are_both (b ∷ bs) h g = (record { input = h.0; in_type = g.0; in_bits = g.1 }, are_both bs h.1 g.2)
 
-  event_ends : (e : Seen) (es : List Seen) (o : Option CameBack) → back_by p e.event ≡ o → EndCalls p (backs_in p es) → EndCalls p (cons_option o (backs_in p es))
+  event_ends : (e : Seen) (es : List Seen) (o : Option CameBack) → back_by p e.event ≡ o → EndCalls p (backs_in p es)
+      → EndCalls p (cons_option o (backs_in p es))
   event_ends e es None is h = h
   event_ends e es (Some b) is h = ((return_of p e.event b is).input, h)
 
@@ -58,11 +59,13 @@ module _ (p : Program) where
   backs_end [] = tt
   backs_end (e ∷ es) = event_ends e es (back_by p e.event) refl (backs_end es)
 
-  fits_drawn : (d : Draw) (bs : List CameBack) (o : Option Spot) → IsFitting p.model d → IsIn64Bits d.value → FitTypes p bs → FitTypes p (cons_option (drawn_to d o) bs)
+  fits_drawn : (d : Draw) (bs : List CameBack) (o : Option Spot) → IsFitting p.model d → IsIn64Bits d.value
+      → FitTypes p bs → FitTypes p (cons_option (drawn_to d o) bs)
   fits_drawn d bs None fit bits h = h
   fits_drawn d bs (Some close) fit bits h = (fit, bits, h)
 
-  fits_kind : (kind : DrawKind) (d : Draw) (bs : List CameBack) → IsFitting p.model d → IsIn64Bits d.value → FitTypes p bs → FitTypes p (cons_option (drawn_by p kind d) bs)
+  fits_kind : (kind : DrawKind) (d : Draw) (bs : List CameBack) → IsFitting p.model d → IsIn64Bits d.value
+      → FitTypes p bs → FitTypes p (cons_option (drawn_by p kind d) bs)
   fits_kind Input d bs fit bits h = fits_drawn d bs (end_of_input p d.spot) fit bits h
   fits_kind Cell d bs fit bits h = h
   fits_kind Havoc d bs fit bits h = h
@@ -77,21 +80,25 @@ module _ (p : Program) where
       (draws_fit_types ds (All-tail (IsFitting p.model) d ds h) (All-tail InBits d ds g))
 
   -- nothing comes back at a violation
-  before_fail : (before : List Moment) (x : Moment) → back_in p x ≡ None → returns_in p (before ++ x ∷ []) ≡ returns_in p before
+  before_fail : (before : List Moment) (x : Moment) → back_in p x ≡ None
+      → returns_in p (before ++ x ∷ []) ≡ returns_in p before
   before_fail before x none = filter_map-append (back_in p) before (x ∷ []) ∙ rw none (append-nil (returns_in p before))
 
 -- what a run draws of inputs comes back at the ends of input calls, with values of their types
-pub inputs_known : (p : Program) (vs : List ℤ) (N : ℕ) → InputsComeBack p (InTurn vs) N → AreInputsBack p (inputs_in p (Run p (InTurn vs) N).draws)
+pub inputs_known : (p : Program) (vs : List ℤ) (N : ℕ) → InputsComeBack p (InTurn vs) N
+    → AreInputsBack p (inputs_in p (Run p (InTurn vs) N).draws)
 inputs_known p vs N back =
     let ds = (Run p (InTurn vs) N).draws in
     let moments = Moments p (InTurn vs) N in
     let fit = draws_fit p (InTurn vs) N in
     let same : backs_in p (seen_of moments) ≡ inputs_in p ds = sym (backs_of p moments) ∙ back.returned in
-    are_both p (inputs_in p ds) (subst (EndCalls p) same (backs_end p (seen_of moments))) (draws_fit_types p ds fit.in_types fit.in_64_bits)
+    are_both p (inputs_in p ds) (subst (EndCalls p) same (backs_end p (seen_of moments)))
+    (draws_fit_types p ds fit.in_types fit.in_64_bits)
 
 -- ---- verdicts
 
-confirms : (p : Program) (ss : List BoundSegment) (N : ℕ) (r : Made) (es : List Seen) (e : End) (spot : Spot) (ds : List Draw) (v : Verdict) → e ≡ Violated spot → r.draws ≡ ds
+confirms : (p : Program) (ss : List BoundSegment) (N : ℕ) (r : Made) (es : List Seen) (e : End) (spot : Spot)
+    (ds : List Draw) (v : Verdict) → e ≡ Violated spot → r.draws ≡ ds
     → (positions : List ℕ) × Matches p ss es positions → IsRightAt p ss N r es e v → ConfirmsDraws ds v
 confirms p ss N r es e spot ds v end same found right = by (right_at.0) right_at.1 right_at.2
   where
@@ -100,7 +107,8 @@ confirms p ss N r es e spot ds v end same found right = by (right_at.0) right_at
 
     by : (o : Option (List ℕ)) → Finds p ss es o → v ≡ verdict_at r o → ConfirmsDraws ds v
     by None none is = absurd (none found.0 found.1)
-    by (Some positions) finds is = (positions, is ∙ ap (λ (l : List Draw). verdict_at (record r { draws = l }) (Some positions)) same)
+    by (Some positions) finds is =
+        (positions, is ∙ ap (λ (l : List Draw). verdict_at (record r { draws = l }) (Some positions)) same)
 
 -- ---- the run
 
@@ -116,7 +124,8 @@ module _ (p : Program) (checked : IsProgram p) (vs : List ℤ) (N : ℕ) where
     lists = map (λ call. record { spot = call.spot; values = values_at p call.spot ss }) (input_calls p)
 
     -- the segments of its inputs and its violation show it
-    pub shows : (statement spot : Spot) → run.end ≡ Violated spot → OthersDrewZero run.draws → InputsComeBack p (InTurn vs) N
+    pub shows : (statement spot : Spot) → run.end ≡ Violated spot → OthersDrewZero run.draws
+        → InputsComeBack p (InTurn vs) N
         → FailsLast moments statement → FollowEach p statement (inputs_in p run.draws) ss → ShowsRun p vs N ss
     shows statement spot violated zero back fails follow =
         let rest = seen_of fails.before in
@@ -124,9 +133,11 @@ module _ (p : Program) (checked : IsProgram p) (vs : List ℤ) (N : ℕ) where
         let events : seen_of moments ≡ rest ++ record { event = Fail statement fails.full fails.call; cells = fails.cells } ∷ [] =
         ap seen_of fails.last ∙ seen_of-append fails.before (last ∷ []) in
         let same : backs_in p rest ≡ inputs_in p run.draws =
-        sym (backs_of p fails.before) ∙ sym (before_fail p fails.before last refl) ∙ sym (ap (returns_in p) fails.last) ∙ back.returned in
+        sym (backs_of p fails.before) ∙ sym (before_fail p fails.before last refl)
+        ∙ sym (ap (returns_in p) fails.last) ∙ back.returned in
         let backs = inputs_known p vs N back in
-        let replayed : IsSameRun p (InTurn vs) (Given lists) N = given_by_place p (InTurn vs) N lists zero (gives_draws p statement run.draws ss back.ended backs follow) in
+        let replayed : IsSameRun p (InTurn vs) (Given lists) N =
+        given_by_place p (InTurn vs) N lists zero (gives_draws p statement run.draws ss back.ended backs follow) in
         let found : (positions : List ℕ) × Matches p ss (seen_of moments) positions =
         matched p checked statement fails.full fails.call fails.cells (seen_of moments) rest ss events
         (subst (AreInputsBack p) (sym same) backs) (subst (λ bs. FollowEach p statement bs ss) (sym same) follow) in
@@ -140,5 +151,6 @@ module _ (p : Program) (checked : IsProgram p) (vs : List ℤ) (N : ℕ) where
           steps = ap (λ (r : Made). r.steps) replayed.run;
           draws = draws;
           moments = replayed.moments;
-          confirmed = λ v right. confirms p ss N (RunGiven p ss N) (SeenGiven p ss N) (RunGiven p ss N).end spot run.draws v (end ∙ violated) draws given right;
+          confirmed = λ v right. confirms p ss N (RunGiven p ss N) (SeenGiven p ss N)
+              (RunGiven p ss N).end spot run.draws v (end ∙ violated) draws given right;
         }

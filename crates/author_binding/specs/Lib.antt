@@ -1,4 +1,3 @@
-pub mod ConstantTexts
 pub mod ConstantTests
 pub mod Followed
 pub mod Shown

@@ -14,8 +14,8 @@ use Rattle.way_match.specs.Verdicts.{IsGivenViolation, IsRightOnViolation}
 abbrev pub ConfirmsDraws : List Draw → Verdict → Type 0
 ConfirmsDraws ds v = (positions : List ℕ) × (v ≡ ViolationConfirmed ds positions)
 
--- the run that the segments give is the run that takes these values in turn: it violates the property, and its events match;
--- so each right verdict confirms, and shows the draws of that run
+-- the run that the segments give is the run that takes these values in turn: it violates the property, and its events
+-- match; so each right verdict confirms, and shows the draws of that run
 pub record ShowsRun (p : Program) (vs : List ℤ) (N : ℕ) (ss : List BoundSegment) : Type 0 where
   pub violation : IsGivenViolation p ss N
   pub end : (RunGiven p ss N).end ≡ (Run p (InTurn vs) N).end
