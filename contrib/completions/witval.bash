@@ -2,16 +2,16 @@
 _witval() {
   local word=${COMP_WORDS[COMP_CWORD]} before=${COMP_WORDS[COMP_CWORD - 1]} command=${COMP_WORDS[0]##*/} words
   case $before in
-    --program | --property | --witness | --certificate | --list) COMPREPLY=($(compgen -f -- "$word")); return ;;
-    --data-model) COMPREPLY=($(compgen -W 'ILP32 LP64' -- "$word")); return ;;
+    --program | --property | --witness | --certificate | --values | --list) COMPREPLY=($(compgen -f -- "$word")); return ;;
+    --data-model | --model) COMPREPLY=($(compgen -W 'ILP32 LP64' -- "$word")); return ;;
     --language) COMPREPLY=($(compgen -W 'C' -- "$word")); return ;;
-    --steps | --conflicts | --number) return ;;
+    --steps | --conflicts | --number | --uuid | --time) return ;;
   esac
   words='--program --property --witness --steps --conflicts'
   case $command in
     witval-view) words+=' --list --sarif --html --help --version validate' ;;
     witval-task) words+=' --data-model --language --json validate' ;;
-    *) words+=' --number --certificate --json --help --version validate show normalise demo certify recheck view' ;;
+    *) words+=' --number --certificate --values --model --uuid --time --json --help --version validate show normalise demo certify recheck author weed view' ;;
   esac
   COMPREPLY=($(compgen -W "$words" -- "$word"))
 }

@@ -6,7 +6,7 @@ use Rattle.c_meaning.specs.declared.run.DutyKind.TheVariants.{Property}
 use Rattle.c_meaning.specs.declared.run.HavocEnd.TheVariants.{Failed}
 use Rattle.c_meaning.specs.Acts.{Stop, Flow}
 use Rattle.c_meaning.specs.Duties.{Placed, Duties, duty}
-use Rattle.c_meaning.specs.Havoc.{Fails, Left, Havoc, havoc_in, havoc_run}
+use Rattle.c_meaning.specs.Havoc.{Fails, Left, havoc_in, havoc_run}
 use Rattle.c_duties.proofs.Numbers.{counted, fails_at_duties, tells_obligations}
 use Rattle.c_inductive.specs.Inductive.{is_of_invariant, AreInductive, FailuresDrop}
 use Rattle.c_inductive.specs.Picking.{is_among, picked}
@@ -51,9 +51,8 @@ module _ (p : Program) where
   never_there : (J : List Placed) (w : List ℤ) → AreInductive p J → FailsThere (havoc_in p J depth w) → ⊥
   never_there J w inductive f =
       let c = counted (Duties p J) f.failed (fails_at_duties p J depth w f.failed f.left f.run) in
-      let ended : (Havoc p J w).end ≡ Failed (suc c.index) =
-      ap (λ r. (havoc_run (Duties p J) r).end) f.run ∙ ap Failed c.number in
-      inductive c.index f.failed c.at.is f.kind w ended
+      inductive c.index f.failed c.at.is f.kind w
+      (ap (λ r. (havoc_run (Duties p J) r).end) f.run ∙ ap Failed c.number)
 
   pub failures_drop : (I : List Placed) → FailuresDrop p I
   failures_drop I left ms w index k n d selection ended at own number part_selection part inductive =

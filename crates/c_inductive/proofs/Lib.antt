@@ -3,3 +3,4 @@ mod Follows
 mod Dropping
 mod Numbered
 mod Selected
+mod Unions

@@ -1,5 +1,5 @@
 -- Sets of invariants, by their numbers in witness order, from 1.
-use Rattle.std.specs.Prelude.{◌≡◌, ◌≤◌, ◌<◌, ℕ, suc, nat_eq, Bool, true, cond, List, [], ◌∷◌, length}
+use Rattle.std.specs.Prelude.{◌≡◌, ◌≤◌, ◌<◌, ℕ, suc, nat_eq, Bool, true, cond, ◌||◌, List, [], ◌∷◌, length}
 use Rattle.std.specs.List.{All, list_any}
 use Rattle.c_core.specs.Tree.{Program}
 use Rattle.c_meaning.specs.Duties.{Placed}
@@ -32,6 +32,12 @@ pub record IsSelection (count : ℕ) (ns : List ℕ) : Type 0 where
 -- each of these numbers is one of those
 abbrev pub IsPartOf : List ℕ → List ℕ → Type 0
 IsPartOf ms ns = (n : ℕ) → is_among n ms ≡ true → is_among n ns ≡ true
+
+-- it has the numbers of both, and no others
+pub record IsUnionOf (ms ns all : List ℕ) : Type 0 where
+  pub first : IsPartOf ms all
+  pub second : IsPartOf ns all
+  pub no_other : (n : ℕ) → is_among n all ≡ true → is_among n ms || is_among n ns ≡ true
 
 -- the numbers from 1 on, as many as there are invariants, are a set: that of all of them
 pub record AllArePicked (I : List Placed) : Type 0 where

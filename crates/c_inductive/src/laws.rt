@@ -1,13 +1,18 @@
 // Laws, each the contract of a function without a body.
 ghost use Rattle.std.specs.Prelude.{List};
 ghost use Rattle.c_core.specs.Tree.{Program};
-ghost use Rattle.c_inductive.specs.Inductive.{DutiesNameInvariants, FailuresDrop};
+ghost use Rattle.c_inductive.specs.Inductive.{DutiesNameInvariants, FailuresDrop, UnionsAreInductive};
 ghost use Rattle.c_inductive.specs.Picking.{AllArePicked, AsManyArePicked, PartsStayInvariants};
 ghost use Rattle.c_meaning.specs.Duties.{Placed};
 
 /// An invariant of which an obligation fails with a set of invariants is in no inductive part of that set.
 pub fn failures_drop()
     ensures { (p : Program) (invariants : List Placed) → FailuresDrop p invariants }
+{}
+
+/// Two inductive sets are inductive together, so that there is a greatest one.
+pub fn unions_are_inductive()
+    ensures { (p : Program) (invariants : List Placed) → UnionsAreInductive p invariants }
 {}
 
 /// An obligation that is none of the property has the number of one of the invariants, counted from 0.

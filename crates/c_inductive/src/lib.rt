@@ -5,5 +5,5 @@ mod laws;
 
 pub use laws::{
     all_are_picked, as_many_are_picked, duties_name_invariants, failures_drop,
-    parts_stay_invariants,
+    parts_stay_invariants, unions_are_inductive,
 };
