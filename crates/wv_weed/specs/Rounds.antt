@@ -1,5 +1,5 @@
 -- A round of weeding: the obligations of the invariants that are left, one after the other.
-use Rattle.std.specs.Prelude.{◌≡◌, ℕ, suc, ◌+◌, ◌<◌, ◌≤◌, Bool, true, List, length, Option, Some, None, IfSome, slice_get, Result, Ok, Err}
+use Rattle.std.specs.Prelude.{◌≡◌, ℕ, suc, ◌+◌, ◌<◌, ◌≤◌, Bool, true, false, List, length, Option, Some, None, IfSome, slice_get, Result, Ok, Err}
 use Rattle.c_core.specs.Tree.{Program}
 use Rattle.c_core.specs.View.{program_view}
 use Rattle.c_inductive.specs.Inductive.{AreInductive, HoldsInductive, is_of_invariant}

@@ -10,7 +10,7 @@ use clauses::SpentAt;
 use judge_obligations::{Finding, decide_bit, failing_bits_tell, is_false};
 use std::alloc::Global;
 use sym_duties::Obligations;
-use wv_base::OutOfMemory;
+use wv_base::{OutOfMemory, Seq};
 
 /// What a round reads: a program with its invariants in witness order, the numbers of those that are left, the obligations with
 /// these alone, and the budget of each.
@@ -18,8 +18,8 @@ use wv_base::OutOfMemory;
 pub struct Trial<'a> {
     pub alloc: Global,
     pub program: &'a Program,
-    pub invariants: &'a [PlacedInvariant],
-    pub left: &'a [u32],
+    pub invariants: &'a Seq<PlacedInvariant>,
+    pub left: &'a Seq<u32>,
     pub obligations: &'a Obligations,
     pub conflicts: u64,
 }

@@ -68,8 +68,8 @@ fn round(
     let trial = Trial {
         alloc,
         program,
-        invariants: invariants.as_slice(),
-        left: left.as_slice(),
+        invariants,
+        left,
         obligations: &all,
         conflicts,
     };
