@@ -1,4 +1,5 @@
-use Rattle.std.proofs.Common.{rules, arith, refl, sym, ap, subst, ◌≡◌, ◌∙◌, ℕ, List, Bool, false, true, length, get_or, ◌<◌, ◌+◌, ◌++◌, [], ◌∷◌}
+use Rattle.std.proofs.Common.{rules, arith, refl, sym, ap, subst, ◌≡◌, ◌∙◌, ℕ, List, Bool, false, true, length, drop, get_or, ◌<◌, ◌+◌, ◌++◌, [], ◌∷◌}
+use Rattle.wv_weed.specs.Numbers.{unflagged}
 use Rattle.wv_weed.proofs.Copied.{one_more_left, one_passed_over}
 use Rattle.wv_weed.proofs.numbers.without.Goals as goal
 use Rattle.wv_weed.proofs.numbers.without.Goals.{then-not-flags-at+in_ok-push, else-not-flags-at}
@@ -19,5 +20,6 @@ loop-at-preserved c =
       | else-not-flags-at w ↦
           let on : get_or c.args.flags.now i false ≡ true = search rules in
           let stays : c.if-not-flags-at.others ≡ c.loop-at.others = search rules in
-          ?
+          let rest = unflagged (drop (i + 1) c.args.flags.now) (drop (i + 1) ns) in
+          subst (λ (xs : List ℕ). xs ++ rest ≡ unflagged c.args.flags.now ns) (sym stays) (one_passed_over c.args.flags.now ns c.loop-at.others i lt within on c.loop-at.invariant)
     ]
