@@ -75,6 +75,7 @@ picked_next i n ns (x ∷ xs) y le rise at =
   where
     later : (i n : ℕ) → i < n → suc (n - suc i) ≡ n - i
     later i n lt = omega (arith, lt)
+
     now : (i n : ℕ) → n ≤ i → 0 ≡ n - i
     now i n le = omega (arith, le)
 

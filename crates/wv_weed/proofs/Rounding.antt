@@ -1,12 +1,12 @@
 -- A round, one obligation after the other.
-use Rattle.std.proofs.Common.{◌≡◌, ℕ, suc, ◌+◌, ◌<◌, ◌≤◌, Bool, true, false, List, length, get_or, ℤ, refl, sym, ◌∙◌, ap, subst, arith, inl, inr, Option, Some, None}
-use Rattle.std.specs.Prelude.{slice_get, slice_set, replicate, IfSome}
+use Rattle.std.proofs.Common.{◌≡◌, ℕ, suc, ◌+◌, ◌<◌, ◌≤◌, Bool, true, false, List, length, ℤ, sym, ◌∙◌, ap, subst, arith, inl, inr, Option, Some, None}
+use Rattle.std.specs.Prelude.{slice_get, slice_set, replicate}
 use Rattle.std.proofs.lemmas.Bool.{cases_eq, cases_lt}
 use Rattle.std.proofs.lemmas.List.{length-set, length-replicate, get_or-replicate, get_or-set_other, get_or-set_same, get_or_past}
 use Rattle.std.proofs.lemmas.Option.{none-some, same_Some, slice_get_within}
 use Rattle.clauses.specs.declared.log.SpentAt.{SpentAt}
 use Rattle.c_core.specs.Tree.{Program}
-use Rattle.c_inductive.specs.Inductive.{AreInductive, DutiesNameInvariants, FailuresDrop, HoldsInductive, IsGreatest}
+use Rattle.c_inductive.specs.Inductive.{DutiesNameInvariants, FailuresDrop, IsGreatest}
 use Rattle.c_inductive.specs.Picking.{picked, AsManyArePicked, IsSelection}
 use Rattle.c_meaning.specs.declared.run.Duty.{Duty}
 use Rattle.c_meaning.specs.declared.run.HavocEnd.TheVariants.{Failed}

@@ -1,4 +1,4 @@
-use Rattle.std.proofs.Common.{rules, arith, refl, sym, ap, subst, ◌≡◌, ◌∙◌, ℕ, List, length, get_or, ◌<◌, ◌≤◌, ◌+◌, ◌++◌, [], ◌∷◌, ◌-◌, Some}
+use Rattle.std.proofs.Common.{rules, arith, refl, ap, subst, ◌≡◌, ◌∙◌, ℕ, List, length, get_or, ◌<◌, ◌≤◌, ◌++◌, [], ◌∷◌, ◌-◌, Some}
 use Rattle.std.specs.Prelude.{slice_get}
 use Rattle.std.proofs.lemmas.Option.{slice_get_read}
 use Rattle.c_meaning.specs.declared.run.PlacedInvariant.{PlacedInvariant}

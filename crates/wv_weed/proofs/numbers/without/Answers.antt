@@ -1,4 +1,4 @@
-use Rattle.std.proofs.Common.{rules, arith, refl, sym, ap, subst, ◌≡◌, ◌∙◌, ℕ, List, Bool, false, true, length, drop, get_or, ◌<◌, ◌+◌, ◌++◌, [], ◌∷◌}
+use Rattle.std.proofs.Common.{rules, arith, sym, ap, subst, ◌≡◌, ℕ, List, false, true, length, drop, get_or, ◌<◌, ◌+◌, ◌++◌, [], ◌∷◌}
 use Rattle.wv_weed.specs.Numbers.{unflagged}
 use Rattle.wv_weed.proofs.Copied.{one_more_left, one_passed_over}
 use Rattle.wv_weed.proofs.numbers.without.Goals as goal

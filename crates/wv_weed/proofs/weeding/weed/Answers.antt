@@ -37,7 +37,7 @@ loop-left-smaller-else-len c =
     let same : c.deref.result.now ≡ flags = c.deref.ensures.value in
     let dropped : fewer ≡ unflagged flags left = c.in_ok-fewer.ensures ∙ ap (λ (bs : List Bool). unflagged bs left) same in
     let less : length fewer < length left =
-          omega (arith, no_longer flags left, ap length dropped, c.if-len.false, c.len-in-loop-left.ensures, c.len-in-loop-left-2.ensures) in
+    omega (arith, no_longer flags left, ap length dropped, c.if-len.false, c.len-in-loop-left.ensures, c.len-in-loop-left-2.ensures) in
     less
 
 pub loop-left-preserved-else-len : goal.loop-left-preserved-else-len
@@ -62,7 +62,7 @@ loop-left-smaller c =
     let same : c.deref.result.now ≡ flags = c.deref.ensures.value in
     let dropped : fewer ≡ unflagged flags left = c.in_ok-fewer.ensures ∙ ap (λ (bs : List Bool). unflagged bs left) same in
     let less : length fewer < length left =
-          omega (arith, no_longer flags left, ap length dropped, c.if-len.false, c.len-in-loop-left.ensures, c.len-in-loop-left-2.ensures) in
+    omega (arith, no_longer flags left, ap length dropped, c.if-len.false, c.len-in-loop-left.ensures, c.len-in-loop-left-2.ensures) in
     less
 
 pub loop-left-preserved : goal.loop-left-preserved
