@@ -1,5 +1,5 @@
 -- Lists that are copied item by item.
-use Rattle.std.proofs.Common.{◌≡◌, ◌<◌, ◌≤◌, ◌+◌, ◌-◌, ◌++◌, ℕ, Bool, true, false, List, [], ◌∷◌, length, drop, get_or, map, refl, ap, sym, subst, ◌∙◌, Some}
+use Rattle.std.proofs.Common.{◌≡◌, ◌<◌, ◌≤◌, ◌+◌, ◌-◌, ◌++◌, ℕ, Bool, true, false, List, [], ◌∷◌, length, drop, get_or, refl, ap, sym, subst, ◌∙◌, Some}
 use Rattle.std.specs.Prelude.{slice_get}
 use Rattle.std.specs.Option.{option_map}
 use Rattle.std.proofs.lemmas.List.{append_assoc, append-nil, drop_all, drop_more, length-map, map-append}
@@ -33,7 +33,7 @@ before_one_more (x ∷ es) e rest = ap (t.MoreExp (expr_view x)) (before_one_mor
 
 -- ---- invariants
 
-pub one_more_copy : (ns : List ℕ) (I copies after : List PlacedInvariant) (i n : ℕ) (x copy : PlacedInvariant) → IsSelection (length I) ns → i < length ns → n ≡ get_or ns i n → slice_get I (n - 1) ≡ Some x
+pub one_more_copy : (ns : List ℕ) (I copies after : List PlacedInvariant) (i n : ℕ) (x copy : PlacedInvariant) → IsSelection (length I) ns → i < length ns → n ≡ get_or ns i 0 → slice_get I (n - 1) ≡ Some x
     → placed copy ≡ placed x → after ≡ copies ++ copy ∷ [] → placed_view copies ++ picked (drop i ns) (placed_view I) ≡ picked ns (placed_view I)
     → placed_view after ++ picked (drop (i + 1) ns) (placed_view I) ≡ picked ns (placed_view I)
 one_more_copy ns I copies after i n x copy selection lt item at same pushed so_far =
@@ -50,24 +50,26 @@ all_copied ns I copies i le so_far =
 -- ---- numbers without flags
 
 -- the first of what is left of both lists
-both : (flags : List Bool) (ns : List ℕ) (i n : ℕ) (flag : Bool) → i < length ns → i < length flags → flag ≡ get_or flags i flag → n ≡ get_or ns i n
-    → unflagged (drop i flags) (drop i ns) ≡ unflagged (flag ∷ drop (i + 1) flags) (n ∷ drop (i + 1) ns)
-both flags ns i n flag lt within here item =
-    ap (λ bs. unflagged bs (drop i ns)) (drop_more flags i flag within ∙ ap (λ b. b ∷ drop (i + 1) flags) (sym here))
-    ∙ ap (unflagged (flag ∷ drop (i + 1) flags)) (drop_more ns i n lt ∙ ap (λ m. m ∷ drop (i + 1) ns) (sym item))
+both : (flags : List Bool) (ns : List ℕ) (i : ℕ) → i < length ns → i < length flags
+    → unflagged (drop i flags) (drop i ns) ≡ unflagged (get_or flags i false ∷ drop (i + 1) flags) (get_or ns i 0 ∷ drop (i + 1) ns)
+both flags ns i lt within =
+    ap (λ bs. unflagged bs (drop i ns)) (drop_more flags i false within)
+    ∙ ap (unflagged (get_or flags i false ∷ drop (i + 1) flags)) (drop_more ns i 0 lt)
 
-pub one_more_left : (flags : List Bool) (ns others after : List ℕ) (i n : ℕ) (flag : Bool) → i < length ns → i < length flags → flag ≡ get_or flags i flag → n ≡ get_or ns i n → flag ≡ false → after ≡ others ++ n ∷ []
+pub one_more_left : (flags : List Bool) (ns others after : List ℕ) (i n : ℕ) → i < length ns → i < length flags → get_or flags i false ≡ false → n ≡ get_or ns i 0 → after ≡ others ++ n ∷ []
     → others ++ unflagged (drop i flags) (drop i ns) ≡ unflagged flags ns → after ++ unflagged (drop (i + 1) flags) (drop (i + 1) ns) ≡ unflagged flags ns
-one_more_left flags ns others after i n flag lt within here item off pushed so_far =
-    ap (λ xs. xs ++ unflagged (drop (i + 1) flags) (drop (i + 1) ns)) pushed
-    ∙ append_assoc others (n ∷ []) (unflagged (drop (i + 1) flags) (drop (i + 1) ns))
-    ∙ ap (λ xs. others ++ xs) (sym (both flags ns i n flag lt within here item ∙ ap (λ b. unflagged (b ∷ drop (i + 1) flags) (n ∷ drop (i + 1) ns)) off))
+one_more_left flags ns others after i n lt within off item pushed so_far =
+    let rest = unflagged (drop (i + 1) flags) (drop (i + 1) ns) in
+    ap (λ xs. xs ++ rest) pushed
+    ∙ append_assoc others (n ∷ []) rest
+    ∙ ap (λ m. others ++ m ∷ rest) item
+    ∙ ap (λ xs. others ++ xs) (sym (both flags ns i lt within ∙ ap (λ b. unflagged (b ∷ drop (i + 1) flags) (get_or ns i 0 ∷ drop (i + 1) ns)) off))
     ∙ so_far
 
-pub one_passed_over : (flags : List Bool) (ns others : List ℕ) (i n : ℕ) (flag : Bool) → i < length ns → i < length flags → flag ≡ get_or flags i flag → n ≡ get_or ns i n → flag ≡ true
+pub one_passed_over : (flags : List Bool) (ns others : List ℕ) (i : ℕ) → i < length ns → i < length flags → get_or flags i false ≡ true
     → others ++ unflagged (drop i flags) (drop i ns) ≡ unflagged flags ns → others ++ unflagged (drop (i + 1) flags) (drop (i + 1) ns) ≡ unflagged flags ns
-one_passed_over flags ns others i n flag lt within here item on so_far =
-    ap (λ xs. others ++ xs) (sym (both flags ns i n flag lt within here item ∙ ap (λ b. unflagged (b ∷ drop (i + 1) flags) (n ∷ drop (i + 1) ns)) on))
+one_passed_over flags ns others i lt within on so_far =
+    ap (λ xs. others ++ xs) (sym (both flags ns i lt within ∙ ap (λ b. unflagged (b ∷ drop (i + 1) flags) (get_or ns i 0 ∷ drop (i + 1) ns)) on))
     ∙ so_far
 
 pub all_looked_at : (flags : List Bool) (ns others : List ℕ) (i : ℕ) → length ns ≤ i → others ++ unflagged (drop i flags) (drop i ns) ≡ unflagged flags ns → others ≡ unflagged flags ns

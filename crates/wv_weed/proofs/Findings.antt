@@ -1,5 +1,5 @@
 -- What the failing bit of an obligation says of the invariants that are left.
-use Rattle.std.proofs.Common.{◌≡◌, ℕ, suc, ◌+◌, ◌-◌, ◌*◌, ◌^◌, ◌<◌, ◌≤◌, true, sym, ◌∙◌, ap, subst, arith, Some, List, Bool}
+use Rattle.std.proofs.Common.{◌≡◌, ℕ, suc, ◌+◌, ◌-◌, ◌^◌, ◌≤◌, true, sym, ◌∙◌, ap, subst, arith, List, Bool}
 use Rattle.std.specs.Prelude.{slice_get}
 use Rattle.std.proofs.Math.Pow.{pow_mono}
 use Rattle.c_core.specs.Tree.{Program}

@@ -48,3 +48,9 @@ all_left p I all = record {
       let to : n ≤ length I = within (length I) n ms selection.within among in
       among_all 1 (length I) n (omega (arith, from)) (omega (arith, to));
 }
+
+pub next_number : (before number : ℕ) (ns after : List ℕ) → ns ≡ numbers_from 1 before → number ≡ before + 1 → after ≡ ns ++ number ∷ [] → after ≡ numbers_from 1 (before + 1)
+next_number before number ns after so_far e pushed =
+    let here : number ≡ 1 + before = omega (arith, e) in
+    let there : suc before ≡ before + 1 = omega arith in
+    pushed ∙ ap (λ ms. ms ++ number ∷ []) so_far ∙ ap (λ m. numbers_from 1 before ++ m ∷ []) here ∙ one_more 1 before ∙ ap (numbers_from 1) there

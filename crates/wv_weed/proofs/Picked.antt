@@ -66,7 +66,7 @@ picked_next i n ns (x ∷ xs) y le rise at =
           ap (λ b. front b x rest) (or_false (nat_eq i n) (is_among i ns) (ne_eqb i n (λ e. omega (arith, lt, e))) none)
           ∙ picked_next (suc i) n ns xs y (omega (arith, lt)) rise there ∙ others
       | inr ge ↦
-          let here : Some x ≡ Some y = ap (slice_get (x ∷ xs)) (now i n le) ∙ at in
+          let here : Some x ≡ Some y = ap (slice_get (x ∷ xs)) (now i n ge) ∙ at in
           ap (λ b. front b x rest) (or_left (nat_eq i n) (is_among i ns) (eq-eqb i n (omega (arith, le, ge))))
           ∙ ap (λ (z : Placed). z ∷ rest) (same_Some x y here)
           ∙ ap (λ (zs : List Placed). y ∷ zs) (picked_passed (suc i) n ns xs (omega (arith, ge)))
@@ -75,22 +75,23 @@ picked_next i n ns (x ∷ xs) y le rise at =
   where
     later : (i n : ℕ) → i < n → suc (n - suc i) ≡ n - i
     later i n lt = omega (arith, lt)
+
     now : (i n : ℕ) → n ≤ i → 0 ≡ n - i
     now i n le = omega (arith, le)
 
 -- where these numbers were looked at, the next one picks the next
-pub next_picked : (ns : List ℕ) (I : List Placed) (i n : ℕ) (y : Placed) (before : List Placed) → IsSelection (length I) ns → i < length ns → n ≡ get_or ns i n → slice_get I (n - 1) ≡ Some y
+pub next_picked : (ns : List ℕ) (I : List Placed) (i n : ℕ) (y : Placed) (before : List Placed) → IsSelection (length I) ns → i < length ns → n ≡ get_or ns i 0 → slice_get I (n - 1) ≡ Some y
     → before ++ picked (drop i ns) I ≡ picked ns I → (before ++ y ∷ []) ++ picked (drop (i + 1) ns) I ≡ picked ns I
 next_picked ns I i n y before selection lt item at so_far =
-    let shape : drop i ns ≡ n ∷ drop (i + 1) ns = drop_more ns i n lt ∙ ap (λ m. m ∷ drop (i + 1) ns) (sym item) in
+    let shape : drop i ns ≡ n ∷ drop (i + 1) ns = drop_more ns i 0 lt ∙ ap (λ m. m ∷ drop (i + 1) ns) (sym item) in
     let rise : Rise 0 (n ∷ drop (i + 1) ns) = subst (Rise 0) shape (rise_drop i 0 ns selection.rising) in
     append_assoc before (y ∷ []) (picked (drop (i + 1) ns) I)
     ∙ ap (λ zs. before ++ zs) (sym (picked_next 1 n (drop (i + 1) ns) I y (omega (arith, rise.0)) rise.1 at))
     ∙ ap (λ ms. before ++ picked ms I) (sym shape) ∙ so_far
 
 -- numbers of a selection are from 1 on, and within
-pub within_at : (count : ℕ) (ns : List ℕ) (i n : ℕ) → IsSelection count ns → i < length ns → n ≡ get_or ns i n → (0 < n) × (n ≤ count)
+pub within_at : (count : ℕ) (ns : List ℕ) (i n : ℕ) → IsSelection count ns → i < length ns → n ≡ get_or ns i 0 → (0 < n) × (n ≤ count)
 within_at count ns i n selection lt item =
-    let shape : drop i ns ≡ n ∷ drop (i + 1) ns = drop_more ns i n lt ∙ ap (λ m. m ∷ drop (i + 1) ns) (sym item) in
+    let shape : drop i ns ≡ n ∷ drop (i + 1) ns = drop_more ns i 0 lt ∙ ap (λ m. m ∷ drop (i + 1) ns) (sym item) in
     let rise : Rise 0 (n ∷ drop (i + 1) ns) = subst (Rise 0) shape (rise_drop i 0 ns selection.rising) in
-    (rise.0, subst (λ m. m ≤ count) (sym item) (selection.within i n lt))
+    (rise.0, subst (λ m. m ≤ count) (sym item) (selection.within i 0 lt))

@@ -1,20 +1,20 @@
 -- A round, one obligation after the other.
-use Rattle.std.proofs.Common.{◌≡◌, ℕ, suc, ◌+◌, ◌<◌, ◌≤◌, Bool, true, false, List, length, get_or, ℤ, refl, sym, ◌∙◌, ap, subst, arith, inl, inr, Option, Some, None}
-use Rattle.std.specs.Prelude.{slice_get, slice_set, replicate, IfSome}
+use Rattle.std.proofs.Common.{◌≡◌, ℕ, suc, ◌+◌, ◌<◌, ◌≤◌, Bool, true, false, List, length, ℤ, sym, ◌∙◌, ap, subst, arith, inl, inr, Option, Some, None}
+use Rattle.std.specs.Prelude.{slice_get, slice_set, replicate}
 use Rattle.std.proofs.lemmas.Bool.{cases_eq, cases_lt}
 use Rattle.std.proofs.lemmas.List.{length-set, length-replicate, get_or-replicate, get_or-set_other, get_or-set_same, get_or_past}
-use Rattle.std.proofs.lemmas.Option.{none-some, slice_get_within}
+use Rattle.std.proofs.lemmas.Option.{none-some, same_Some, slice_get_within}
 use Rattle.clauses.specs.declared.log.SpentAt.{SpentAt}
 use Rattle.c_core.specs.Tree.{Program}
-use Rattle.c_inductive.specs.Inductive.{AreInductive, FailuresDrop, HoldsInductive}
-use Rattle.c_inductive.specs.Picking.{picked, IsSelection}
+use Rattle.c_inductive.specs.Inductive.{DutiesNameInvariants, FailuresDrop, IsGreatest}
+use Rattle.c_inductive.specs.Picking.{picked, AsManyArePicked, IsSelection}
 use Rattle.c_meaning.specs.declared.run.Duty.{Duty}
 use Rattle.c_meaning.specs.declared.run.HavocEnd.TheVariants.{Failed}
 use Rattle.c_meaning.specs.Duties.{Duties, Placed}
 use Rattle.c_meaning.specs.Havoc.{Havoc}
 use Rattle.wv_weed.specs.Numbers.{IsSet, unflagged}
-use Rattle.wv_weed.specs.Rounds.{AreLeft, IsDutyOf, IsKeptFirst, IsLost, IsPassed, IsRound}
-use Rattle.wv_weed.specs.Weeded.{IsGreatest, IsOpenAt, IsWeeded}
+use Rattle.wv_weed.specs.Rounds.{AreLeft, IsDutyOf, IsKeptFirst, IsLost, IsPassed, IsPlaceOf, IsRound}
+use Rattle.wv_weed.specs.Weeded.{IsOpenAt}
 use Rattle.wv_weed.specs.declared.rounds.Open.{Open}
 use Rattle.wv_weed.proofs.Spared.{false_true, is_spared, none_set, spared_selected}
 
@@ -78,6 +78,20 @@ module _ (N : ℕ) (p : Program) (I : List Placed) (left : List ℕ) where
     passed = λ unset none at lt. absurd (some_none o.added none);
     spent = subst (λ (x : SpentAt). IsOpenAt N p I left o.added.number x) (sym o.kept) (subst (λ i. IsOpenAt N p I left i s) (sym (o.number ∙ next n)) here);
   })
+
+  -- an obligation of no invariant
+  pub none_passes : (list : List Duty) (n : ℕ) → list ≡ Duties p (picked left I) → DutiesNameInvariants p (picked left I) → IsPlaceOf list n None → IsPassed N p I left n
+  none_passes list n e names none d named of =
+      let k = names n d named of in
+      absurd (none-some k.number (sym (none d (ap (λ (ds : List Duty). slice_get ds n) e ∙ named) of) ∙ k.named))
+
+  -- the invariant of an obligation is one of those that are left
+  pub place_within : (list : List Duty) (n k : ℕ) (flags : List Bool) → list ≡ Duties p (picked left I) → DutiesNameInvariants p (picked left I) → AsManyArePicked I → IsSelection (length I) left
+      → length flags ≡ length left → IsDutyOf list n k → k < length flags
+  place_within list n k flags e names many selection long of =
+      let named : slice_get (Duties p (picked left I)) n ≡ Some of.duty = ap (λ (ds : List Duty). slice_get ds n) (sym e) ∙ of.named in
+      let found = names n of.duty named of.of_invariant in
+      omega (arith, found.within, same_Some k found.number (sym of.numbered ∙ found.named), many left selection, long)
 
   pub first_round : (flags : List Bool) → flags ≡ replicate (length left) false → IsRound N p I left 0 flags None
   first_round flags e = subst (λ fs. IsRound N p I left 0 fs None) (sym e) (record {

@@ -1,5 +1,5 @@
 -- A round of weeding: the obligations of the invariants that are left, one after the other.
-use Rattle.std.specs.Prelude.{◌≡◌, ℕ, suc, ◌+◌, ◌<◌, ◌≤◌, Bool, true, List, length, Option, Some, None, IfSome, slice_get, Result, Ok, Err}
+use Rattle.std.specs.Prelude.{◌≡◌, ℕ, suc, ◌+◌, ◌<◌, ◌≤◌, Bool, true, false, List, length, Option, Some, None, IfSome, slice_get, Result, Ok, Err}
 use Rattle.c_core.specs.Tree.{Program}
 use Rattle.c_core.specs.View.{program_view}
 use Rattle.c_inductive.specs.Inductive.{AreInductive, HoldsInductive, is_of_invariant}
@@ -77,11 +77,13 @@ IsKeptFirst None at spent first = IsOpen at spent first
 module _ (N : ℕ) (p : Program) (I : List Placed) (left : List ℕ) where
   -- the obligation at an index holds if it is of an invariant
   abbrev pub IsPassed : ℕ → Type 0
-  IsPassed at = (d : Duty) → slice_get (Duties p (picked left I)) at ≡ Some d → is_of_invariant d.kind ≡ true → ObligationHolds p (picked left I) (suc at)
+  IsPassed at = (d : Duty) → slice_get (Duties p (picked left I)) at ≡ Some d → is_of_invariant d.kind ≡ true
+      → ObligationHolds p (picked left I) (suc at)
 
   -- no inductive set has the k-th of these invariants, counted from 0
   abbrev pub IsLost : ℕ → Type 0
-  IsLost k = (ms : List ℕ) (n : ℕ) → IsSelection (length I) ms → AreInductive p (picked ms I) → slice_get left k ≡ Some n → is_among n ms ≡ false
+  IsLost k = (ms : List ℕ) (n : ℕ) → IsSelection (length I) ms → AreInductive p (picked ms I)
+      → slice_get left k ≡ Some n → is_among n ms ≡ false
 
   -- what came of the obligation at an index, which is of the k-th invariant
   abbrev pub IsFoundAs : ℕ → ℕ → Found → Type 0
@@ -89,8 +91,8 @@ module _ (N : ℕ) (p : Program) (I : List Placed) (left : List ℕ) where
   IsFoundAs at k Fails = IsLost k
   IsFoundAs at k (Spent s) = IsOpenAt N p I left (suc at) s
 
-  -- the first n obligations are looked at: an invariant whose flag is set is lost; where no flag is set and none is open, those of
-  -- invariants hold
+  -- the first n obligations are looked at: an invariant whose flag is set is lost; where no flag is set and none is
+  -- open, those of invariants hold
   pub record IsRound (n : ℕ) (flags : List Bool) (first : Option Open) : Type 0 where
     pub many : length flags ≡ length left
     pub lost : (k : ℕ) → IsSet flags k → IsLost k
@@ -105,3 +107,7 @@ module _ (N : ℕ) (p : Program) (I : List Placed) (left : List ℕ) where
 -- the round of a trial so far
 abbrev pub IsRoundOf : Trial → ℕ → Round → Type 0
 IsRoundOf t n r = IsRound t.conflicts (program_of t) (invariants_of t) t.left.now n r.dropped.items r.first
+
+-- what came of the obligation at an index of a trial, which is of the k-th invariant
+abbrev pub IsFoundIn : Trial → ℕ → ℕ → Found → Type 0
+IsFoundIn t at k found = IsFoundAs t.conflicts (program_of t) (invariants_of t) t.left.now at k found

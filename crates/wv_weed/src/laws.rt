@@ -13,5 +13,6 @@ pub fn parts_are_lighter()
 
 /// Where a program can be judged with all of the invariants, it can be judged with some of them.
 pub fn parts_can_be_judged()
-    ensures { (p : Program) (ns : List ℕ) (invariants : List Placed) → CanBeJudged p invariants → CanBeJudged p (picked ns invariants) }
+    ensures { (p : Program) (ns : List ℕ) (invariants : List Placed)
+        → CanBeJudged p invariants → CanBeJudged p (picked ns invariants) }
 {}

@@ -1,4 +1,4 @@
-//! Weeds guessed invariants: of a set it keeps the greatest part that is inductive, with proof that no inductive part is lost.
+//! Weeds guessed invariants: of a set it keeps the greatest part that is inductive, so no inductive part is lost.
 #![tactic(auto)]
 
 mod copies;

@@ -21,11 +21,7 @@ pub fn numbers_to(alloc: Global, count: usize) -> Result<Seq<u32>, OutOfMemory>
 }
 
 /// The numbers at whose places no flag is set.
-pub fn without(
-    alloc: Global,
-    numbers: &Seq<u32>,
-    flags: &[bool],
-) -> Result<Seq<u32>, OutOfMemory>
+pub fn without(alloc: Global, numbers: &Seq<u32>, flags: &[bool]) -> Result<Seq<u32>, OutOfMemory>
     requires { length numbers.now ≤ length flags.now }
     ensures { IfOk result (λ ns. ns ≡ unflagged flags.now numbers.now) }
 {

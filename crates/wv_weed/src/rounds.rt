@@ -1,6 +1,6 @@
 // One round: the obligations of the invariants that are left, one after the other.
 ghost use Rattle.std.specs.Prelude.{◌≡◌, ◌+◌, ◌<◌, ◌^◌, IfOk, Some, length, slice_get, slice_set, true};
-ghost use Rattle.wv_weed.specs.Rounds.{IsDutyOf, IsFoundAs, IsKeptFirst, IsPlaceOf, IsRoundOf, IsTrial, invariants_of, program_of};
+ghost use Rattle.wv_weed.specs.Rounds.{IsDutyOf, IsFoundIn, IsKeptFirst, IsPlaceOf, IsRoundOf, IsTrial};
 
 use c_core::Program;
 use c_inductive::{as_many_are_picked, duties_name_invariants, failures_drop};
@@ -10,16 +10,16 @@ use clauses::SpentAt;
 use judge_obligations::{Finding, decide_bit, failing_bits_tell, is_false};
 use std::alloc::Global;
 use sym_duties::Obligations;
-use wv_base::OutOfMemory;
+use wv_base::{OutOfMemory, Seq};
 
-/// What a round reads: a program with its invariants in witness order, the numbers of those that are left, the obligations with
-/// these alone, and the budget of each.
+/// What a round reads: a program with its invariants in witness order, the numbers of those that are left, the
+/// obligations with these alone, and the budget of each.
 #[derive(Clone, Copy)]
 pub struct Trial<'a> {
     pub alloc: Global,
     pub program: &'a Program,
-    pub invariants: &'a [PlacedInvariant],
-    pub left: &'a [u32],
+    pub invariants: &'a Seq<PlacedInvariant>,
+    pub left: &'a Seq<u32>,
     pub obligations: &'a Obligations,
     pub conflicts: u64,
 }
@@ -31,8 +31,8 @@ pub struct Open {
     pub at: SpentAt,
 }
 
-/// What a round has found: a flag for each invariant that was left, set where one of its obligations fails; and the first
-/// obligation that is open.
+/// What a round has found: a flag for each invariant that was left, set where one of its obligations fails; and the
+/// first obligation that is open.
 #[derive(Drop)]
 pub struct Round {
     pub dropped: Vec<bool>,
@@ -71,7 +71,7 @@ fn find(trial: &Trial, at: usize, place: u32) -> Result<Found, OutOfMemory>
     requires trial { IsTrial trial.now }
     requires within { at < length trial.now.obligations.now.failing }
     requires of { IsDutyOf trial.now.obligations.now.list at place }
-    ensures { IfOk result (IsFoundAs trial.now.conflicts (program_of trial.now) (invariants_of trial.now) trial.now.left.now at place) }
+    ensures { IfOk result (IsFoundIn trial.now at place) }
 {
     failing_bits_tell();
     failures_drop();
@@ -138,7 +138,8 @@ fn step(trial: &Trial, at: usize, round: Round) -> Result<Round, OutOfMemory>
     }
 }
 
-/// Decides the obligations of the invariants that are left, in their order, but for those of an invariant that fails already.
+/// Decides the obligations of the invariants that are left, in their order, but for those of an invariant that fails
+/// already.
 pub fn judge(trial: &Trial) -> Result<Round, OutOfMemory>
     requires { IsTrial trial.now }
     ensures { IfOk result (IsRoundOf trial.now (length trial.now.obligations.now.failing)) }

@@ -21,8 +21,8 @@ use sym_duties::{Obligations, SymFault};
 use sym_eval::obligations;
 use wv_base::Seq;
 
-/// The greatest inductive set of the invariants, by their numbers from 1; or the numbers that were left when an obligation, by
-/// its number from 1, stayed open, with its clauses and the log that spent the budget.
+/// The greatest inductive set of the invariants, by their numbers from 1; or the numbers that were left when an
+/// obligation, by its number from 1, stayed open, with its clauses and the log that spent the budget.
 #[derive(Drop)]
 pub enum Weeded {
     Kept(Seq<u32>),
@@ -62,14 +62,15 @@ fn round(
     requires left { AreLeft (program_view program.now) (placed_view invariants.now) left.now }
     requires some { 1 ≤ conflicts }
     requires bounded { conflicts ≤ 1000000 }
-    ensures { Rounds conflicts (program_view program.now) (placed_view invariants.now) left.now (names_of program.now.functions) result }
+    ensures { Rounds conflicts (program_view program.now) (placed_view invariants.now) left.now
+        (names_of program.now.functions) result }
 {
     let all = obligations_with(alloc, program, invariants, left)?;
     let trial = Trial {
         alloc,
         program,
-        invariants: invariants.as_slice(),
-        left: left.as_slice(),
+        invariants,
+        left,
         obligations: &all,
         conflicts,
     };
@@ -91,9 +92,10 @@ fn ended(left: Seq<u32>, first: Option<Open>) -> Weeded
     }
 }
 
-/// Keeps of invariants the greatest inductive set. A round decides the obligations of the invariants that are left, each with a
-/// budget of conflicts, and drops those of which one fails; after a round without such an obligation the set is inductive, or one
-/// stays open. So n invariants take at most n + 1 rounds and n (n + 1) calls of the solver: at most two for each that is left.
+/// Keeps of invariants the greatest inductive set. A round decides the obligations of the invariants that are left, each
+/// with a budget of conflicts, and drops those of which one fails; after a round without such an obligation the set is
+/// inductive, or one stays open. So n invariants take at most n + 1 rounds and n (n + 1) calls of the solver: in a
+/// round at most two for each that is left.
 pub fn weed(
     alloc: Global,
     program: &Program,

@@ -4,8 +4,8 @@ use Rattle.c_meaning.specs.Placing.{placed_view}
 use Rattle.wv_weed.proofs.Ended.{AreWeeding}
 use Rattle.wv_weed.proofs.weeding.weed.Given as goal
 
-abbrev pub invariant-loop : goal.invariant-loop
-invariant-loop l = AreWeeding (program_view l.program) (placed_view l.invariants) l.left
+abbrev pub invariant-loop-left : goal.invariant-loop-left
+invariant-loop-left l = AreWeeding (program_view l.program) (placed_view l.invariants) l.left
 
-abbrev pub decreases-loop : goal.decreases-loop
-decreases-loop l = length l.left
+abbrev pub decreases-loop-left : goal.decreases-loop-left
+decreases-loop-left l = length l.left
