@@ -29,8 +29,8 @@ void reach_error(void) { klee_report_error("inputs.c", 0, "reach_error is called
 
 #else
 
-/* A run that draws more than this ends: most programs that draw without end do so after the bytes have ended. */
-#define MOST_DRAWS 100000
+/* A run that draws more than this ends: a witness, which has at most 1 MiB, has no room for more. */
+#define MOST_DRAWS 4000
 
 static const unsigned char *bytes;
 static size_t left;
