@@ -10,7 +10,7 @@ use Rattle.check_rules.specs.declared.fault.Refusal.{Refusal}
 use Rattle.check_rules.specs.Kept.{Kept, kept, kept_of_part, kept_of_parts, kept_sizes}
 use Rattle.check_rules.specs.Names.{Entry}
 use Rattle.check_rules.specs.Noting.{noted_part, noted_parts}
-use Rattle.check_rules.specs.Parts.{Part, Role, Value, Target, Effect, Declaring, Initializing, Selecting, of_cast, parts, parts_in, parts_of, parts_if, parts_of_value, bodies_of}
+use Rattle.check_rules.specs.Parts.{Part, Role, Value, Target, Effect, Declaring, Initializing, CaseConstant, of_cast, parts, parts_in, parts_of, parts_if, parts_of_value, bodies_of}
 use Rattle.check_rules.specs.Scopes.{Scope, seen}
 use Rattle.check_rules.specs.Typed.{typed}
 use Rattle.check_elaborate.specs.Walks.{Found, found, with_parts, declarator}
@@ -77,17 +77,17 @@ value_found m items b f s t e best ks n x ef et eb en ex ek =
 
 -- a case constant: its own part may be looked at behind its expression, and it is kept
 pub constant_found : (m : DataModel) (items : List raw.Item) (b f : Found) (s t : Scope) (e : Exp) (best : Option Refusal) (ks : List Kept) (x : typ.Exp)
-    → f ≡ with_parts m items b (parts (seen s) Value e) → t ≡ s → best ≡ noted_part m items f.best (Selecting (seen t) e)
+    → f ≡ with_parts m items b (parts (seen s) Value e) → t ≡ s → best ≡ noted_part m items f.best (CaseConstant (seen t) e)
     → x ≡ typed m (bodies_of items) (seen s) e → ks ≡ f.kept ++ kept None x ∷ []
-    → found best ks ≡ with_parts m items b (Selecting (seen s) e ∷ parts (seen s) Value e)
+    → found best ks ≡ with_parts m items b (CaseConstant (seen s) e ∷ parts (seen s) Value e)
 constant_found m items b f s t e best ks x ef et eb ex ek =
     let bodies = bodies_of items in
     let none : kept_of_parts m bodies (parts (seen s) Value e) ≡ [] = kept_of_expression m bodies (seen s) Value e in
     let same : f.kept ≡ b.kept = ap (λ (y : Found). y.kept) ef ∙ ap (λ (y : List Kept). b.kept ++ y) none ∙ append-nil b.kept in
     let tree = typed m bodies (seen s) e in
-    let all = Selecting (seen s) e ∷ parts (seen s) Value e in
+    let all = CaseConstant (seen s) e ∷ parts (seen s) Value e in
     same_found best (noted_parts m items b.best all) ks (b.kept ++ kept_of_parts m bodies all)
-    (noted_behind m items b.best f.best best (parts (seen s) Value e) (Selecting (seen s) e) (ap (λ (y : Found). y.best) ef)
-    (eb ∙ ap (λ (y : Scope). noted_part m items f.best (Selecting (seen y) e)) et))
+    (noted_behind m items b.best f.best best (parts (seen s) Value e) (CaseConstant (seen s) e) (ap (λ (y : Found). y.best) ef)
+    (eb ∙ ap (λ (y : Scope). noted_part m items f.best (CaseConstant (seen y) e)) et))
     (ek ∙ ap (λ (y : List Kept). y ++ kept None x ∷ []) same
     ∙ ap (λ (y : typ.Exp). b.kept ++ kept None y ∷ []) ex ∙ ap (λ (y : List Kept). b.kept ++ kept None tree ∷ y) (sym none))

@@ -4,7 +4,7 @@ use Rattle.c_core.specs.declared.number.DataModel.{DataModel}
 use Rattle.c_parser.specs.Tree.{Item, Declared}
 use Rattle.check_rules.specs.declared.fault.CheckCode.TheVariants as code
 use Rattle.check_rules.specs.declared.fault.Refusal.{Refusal}
-use Rattle.check_rules.specs.Codes.{is_again, entry_of, is_wrong_init, is_wrong_size, passes_limit, cells_in as cells_of_all}
+use Rattle.check_rules.specs.Codes.{is_again, entry_of, is_wrong_init, is_wrong_size, passes_limit, cells_of_all}
 use Rattle.check_rules.specs.declared.sizes.Sizes.{Sizes}
 use Rattle.check_rules.specs.First.{refusal}
 use Rattle.check_rules.specs.Names.{Entry, entry, Object}

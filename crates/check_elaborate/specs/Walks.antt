@@ -16,7 +16,7 @@ use Rattle.check_rules.specs.declared.sizes.Sizes.TheVariants.{Scalar, Array, Ta
 use Rattle.check_rules.specs.Kept.{Kept, kept_of_parts}
 use Rattle.check_rules.specs.Names.{Entry}
 use Rattle.check_rules.specs.Scopes.{Scope, scope, seen, size_of}
-use Rattle.check_rules.specs.Parts.{Part, Declaring, Choosing, parts_of, parts_of_label, bodies_of}
+use Rattle.check_rules.specs.Parts.{Part, Declaring, ArmLabelling, parts_of, parts_of_label, bodies_of}
 use Rattle.check_rules.specs.Noting.{noted_parts}
 use Rattle.check_scope.specs.Sources.{items_of}
 use Rattle.check_rules.specs.Parts as part
@@ -84,7 +84,7 @@ declarator fixed s d = parts_of (seen s) (exps d.sizes) ++ Declaring fixed s d �
 
 -- the parts of the label of an arm: itself, its constant
 abbrev pub labelling : List (Option ArmLabel) → Option ArmLabel → Spot → List Entry → raw.ArmLabel → List Part
-labelling before label spot es l = Choosing before label spot ∷ parts_of_label es l
+labelling before label spot es l = ArmLabelling before label spot ∷ parts_of_label es l
 
 -- a second arm, where there is one
 abbrev pub else_of : Option (Box Stmt Global) → t.Else

@@ -25,7 +25,8 @@ use check_rules::{CheckCode, Role, Sizes, noted};
 use check_scope::Known;
 use wv_base::{OutOfMemory, Seq, Text};
 
-const MOST_CELLS: u64 = 100_000;
+// Of all objects of a source.
+const MOST_DECLARED_CELLS: u64 = 100_000;
 
 // A list for a scalar, a single value for an array, or rows for other than two dimensions.
 fn is_wrong_init(dims: u8, init: &RawInit) -> bool
@@ -41,9 +42,27 @@ fn is_wrong_init(dims: u8, init: &RawInit) -> bool
 
 /// Does this object bring the cells of all over the limit?
 pub fn is_crowded(walk: &Walk, cells: u32) -> bool
-    ensures { result ≡ codes.passes_limit (codes.cells_in walk.now.objects) cells }
+    ensures { result ≡ codes.passes_limit (codes.cells_of_all walk.now.objects) cells }
 {
-    walk.cells <= MOST_CELLS && MOST_CELLS < walk.cells + u64::from(cells)
+    walk.cells <= MOST_DECLARED_CELLS && MOST_DECLARED_CELLS < walk.cells + u64::from(cells)
+}
+
+// Was the limit passed before, or is it with this object?
+fn is_over_limit(walk: &Walk, cells: u32) -> bool
+    ensures { result ≡ codes.is_over_limit (codes.cells_of_all walk.now.objects) cells }
+{
+    MOST_DECLARED_CELLS < walk.cells || is_crowded(walk, cells)
+}
+
+// The sizes to which values are filled: what is refused takes no room beside that of its values.
+fn filled_sizes(walk: &Walk, init: &RawInit, sizes: Sizes) -> Sizes
+    ensures { result ≡ checked.filled_sizes (codes.cells_of_all walk.now.objects) (init_view init.now) sizes }
+{
+    if is_wrong_size(sizes, init) || is_over_limit(walk, cells(sizes)) {
+        Sizes::Scalar
+    } else {
+        sizes
+    }
 }
 
 // What is refused of a declared name itself.
@@ -155,11 +174,11 @@ fn initializer(context: &Context, walk: &mut Walk, init: &RawInit) -> Result<Ini
     }
 }
 
-/// The number of an object that was declared, and its sizes.
+/// The number of an object that was declared, and the sizes to which its values are filled.
 #[derive(Clone, Copy)]
 pub struct Numbered {
     pub number: u32,
-    pub sizes: Sizes,
+    pub filled: Sizes,
 }
 
 /// A declared name up to its initializer.
@@ -170,16 +189,17 @@ pub fn declare<'a>(
     d: &'a RawDeclared,
 ) -> Result<Numbered, OutOfMemory>
     ensures number { IfOk result (λ r. r.number ≡ length walk.old.objects) }
-    ensures sizes { IfOk result (λ r. r.sizes ≡ scopes.sizes_of context.now.model (bodies_in context.now) (seen (scope_at walk.old)) (exprs_view d.now.sizes)) }
+    ensures filled { IfOk result (λ r. r.filled ≡ checked.filled_for context.now.model (bodies_in context.now) (scope_at walk.old) (declared_view d.now)) }
     ensures scope { OnOk result (scope_at walk.new ≡ scopes.after_name context.now.model (bodies_in context.now) fixed (scope_at walk.old) (declared_view d.now)) }
     ensures noted { OnOk result (IsNoted context.now walk.old walk.new (declarator fixed (scope_at walk.old) (declared_view d.now))) }
 {
     let sizes = sizes(context, walk, d.sizes.as_slice())?;
     let number = walk.next_number()?;
     note_declared(context, walk, fixed, number, sizes, d);
+    let filled = filled_sizes(walk, &d.init, sizes);
     let object = object(context, fixed, sizes, d)?;
     walk.declare(d.name.as_str(), object)?;
-    Ok(Numbered { number, sizes })
+    Ok(Numbered { number, filled })
 }
 
 // A name in a function, with its initializer.

@@ -138,7 +138,7 @@ fn initializer(
     init: &RawInit,
 ) -> Result<(), OutOfMemory>
     requires { declared.number ≡ length walk.old.objects - 1 }
-    ensures starts { OnOk result (starts.new ≡ starts.old ++ checked.start_of_init context.now.model (bodies_in context.now) (seen (scope_at walk.old)) declared.number ty declared.sizes (init_view init.now)) }
+    ensures starts { OnOk result (starts.new ≡ starts.old ++ checked.start_of_init context.now.model (bodies_in context.now) (seen (scope_at walk.old)) declared.number ty declared.filled (init_view init.now)) }
     ensures scope { OnOk result (scope_at walk.new ≡ scope_at walk.old) }
     ensures noted { OnOk result (IsNoted context.now walk.old walk.new (part.parts_of_init true (scope_at walk.old) (init_view init.now))) }
 {
@@ -156,7 +156,7 @@ fn initializer(
         }
         RawInit::Many(es) => {
             let mut values = values(context, walk, declared.number, ty, es.as_slice())?;
-            pad(&mut values, cells(declared.sizes))?;
+            pad(&mut values, cells(declared.filled))?;
             starts.push(Start {
                 object: declared.number,
                 values,
@@ -164,10 +164,10 @@ fn initializer(
             Ok(())
         }
         RawInit::Rows(rows) => {
-            let columns = columns(declared.sizes);
+            let columns = columns(declared.filled);
             let rows = rows.as_slice();
             let mut values = row_values(context, walk, declared.number, ty, columns, rows)?;
-            pad(&mut values, cells(declared.sizes))?;
+            pad(&mut values, cells(declared.filled))?;
             starts.push(Start {
                 object: declared.number,
                 values,
@@ -184,7 +184,7 @@ fn global<'a>(
     starts: &mut Seq<Start>,
     d: &'a RawDeclared,
 ) -> Result<(), OutOfMemory>
-    ensures starts { OnOk result (starts.new ≡ starts.old ++ checked.start_of_init context.now.model (bodies_in context.now) (seen (scopes.after_name context.now.model (bodies_in context.now) true (scope_at walk.old) (declared_view d.now))) (length walk.old.objects) d.now.ty (scopes.sizes_of context.now.model (bodies_in context.now) (seen (scope_at walk.old)) (exprs_view d.now.sizes)) (init_view d.now.init)) }
+    ensures starts { OnOk result (starts.new ≡ starts.old ++ checked.start_of_name context.now.model (bodies_in context.now) (scope_at walk.old) (declared_view d.now)) }
     ensures scope { OnOk result (scope_at walk.new ≡ scopes.after_name context.now.model (bodies_in context.now) true (scope_at walk.old) (declared_view d.now)) }
     ensures noted { OnOk result (IsNoted context.now walk.old walk.new (part.parts_of_name context.now.model (bodies_in context.now) true (scope_at walk.old) (declared_view d.now))) }
 {

@@ -23,7 +23,8 @@ use check_sequencing::Kept;
 use check_types::{constant, expression};
 use wv_base::OutOfMemory;
 
-const MOST_CELLS: u32 = 1024;
+// Of one array.
+const MOST_ARRAY_CELLS: u32 = 1024;
 
 fn in_bounds(n: u16) -> Option<u16>
     ensures { result ≡ scopes.in_bounds n }
@@ -200,7 +201,8 @@ fn is_wrong_table(rows: Option<u16>, columns: Option<u16>, init: &RawInit) -> bo
 {
     match (rows, columns) {
         (Some(rows), Some(columns)) => {
-            MOST_CELLS < u32::from(rows) * u32::from(columns) || overfills(rows, columns, init)
+            MOST_ARRAY_CELLS < u32::from(rows) * u32::from(columns)
+                || overfills(rows, columns, init)
         }
         _ => true,
     }

@@ -1,5 +1,5 @@
 ghost use Rattle.std.specs.Prelude.{◌≡◌};
-ghost use Rattle.check_rules.specs.Codes.{cells_in};
+ghost use Rattle.check_rules.specs.Codes.{cells_of_all};
 
 use c_core::Object;
 use check_rules::Refusal;
@@ -16,5 +16,5 @@ pub struct Walk<'a> {
     pub cells: u64,
     pub best: Option<Refusal>,
     pub kept: Seq<Kept>,
-    pub ghost summed: { cells ≡ cells_in objects },
+    pub ghost summed: { cells ≡ cells_of_all objects },
 }

@@ -1,5 +1,5 @@
 -- The checked program of a source.
-use Rattle.std.specs.Prelude.{◌≡◌, ℕ, ◌+◌, ◌-◌, true, false, ℤ, pos, List, [], ◌∷◌, ◌++◌, length, map, replicate, Option, Some, None, codes}
+use Rattle.std.specs.Prelude.{◌≡◌, ℕ, ◌+◌, ◌-◌, true, false, cond, ◌||◌, ℤ, pos, List, [], ◌∷◌, ◌++◌, length, map, replicate, Option, Some, None, codes}
 use Rattle.std.specs.List.{position_or_len, flat_map}
 use Rattle.std.specs.Str.{bytes_eq}
 use Rattle.c_core.specs.Types.{fit}
@@ -14,17 +14,23 @@ use Rattle.c_core.specs.declared.tree.Label.TheVariants.{Case}
 use Rattle.c_core.specs.declared.tree.Start.{Start}
 use Rattle.c_parser.specs.Tree as raw
 use Rattle.check_rules.specs.declared.sizes.Sizes.{Sizes}
+use Rattle.check_rules.specs.declared.sizes.Sizes.TheVariants.{Scalar}
 use Rattle.check_rules.specs.Names.{Entry}
 use Rattle.check_rules.specs.Constants.{constant}
 use Rattle.check_rules.specs.Typed.{typed, typed_all}
 use Rattle.check_rules.specs.Arms.{switch_type, label_of}
 use Rattle.check_rules.specs.Scopes.{Scope, seen, opened, closed, cells_in, columns_in, sizes_of, after_name, after_first, after_statement, after_item, after_items, after_parameters, inside, statements_of, outermost}
 use Rattle.check_rules.specs.Parts.{bodies_of}
+use Rattle.check_rules.specs.Codes.{cells_of_all, is_over_limit, is_wrong_size}
 use Rattle.check_rules.specs.First.{IsUnrefused, wrong_main}
 
 -- values, and zeros for the cells that are left (C11 6.7.9p10, p21)
 abbrev pub padded : ℕ → List ℤ → List ℤ
 padded cells values = values ++ replicate (cells - length values) (pos 0)
+
+-- the sizes to which values are filled, after so many cells: of one cell where they are refused or over the limit
+abbrev pub filled_sizes : ℕ → raw.Init → Sizes → Sizes
+filled_sizes before init sizes = cond (is_wrong_size sizes init || is_over_limit before (cells_in sizes)) Scalar sizes
 
 -- 0 where there is no value
 abbrev pub or_zero : Option ℤ → ℤ
@@ -146,17 +152,25 @@ module _ (m : DataModel) (bodies : List (List ℕ)) where
   abbrev pub start : ℕ → List ℤ → Start
   start n values = record { object = n; values = values }
 
-  -- the initial values of a static object, one for each of its cells, if it is initialized
+  -- the initial values of a static object, filled to these sizes, if it is initialized
   abbrev pub start_of_init : List Entry → ℕ → IntType → Sizes → raw.Init → List Start
   start_of_init es n ty sizes raw.Absent = []
   start_of_init es n ty sizes (raw.One e) = start n (start_value es ty e ∷ []) ∷ []
   start_of_init es n ty sizes (raw.Many gs) = start n (padded (cells_in sizes) (start_values es ty gs)) ∷ []
   start_of_init es n ty sizes (raw.Rows rows) = start n (padded (cells_in sizes) (row_values es ty (columns_in sizes) rows)) ∷ []
 
+  -- the sizes to which the values of a declared name are filled
+  abbrev pub filled_for : Scope → raw.Declared → Sizes
+  filled_for s d = filled_sizes (cells_of_all s.objects) d.init (sizes_of m bodies (seen s) d.sizes)
+
+  -- the initial values of a declared name, which is in scope in its initializer
+  abbrev pub start_of_name : Scope → raw.Declared → List Start
+  start_of_name s d = start_of_init (seen (after_name m bodies true s d)) (length s.objects) d.ty (filled_for s d) d.init
+
   -- the objects of static storage that have an initializer
   abbrev pub starts_of_names : Scope → List raw.Declared → List Start
   starts_of_names s [] = []
-  starts_of_names s (d ∷ ds) = start_of_init (seen (after_name m bodies true s d)) (length s.objects) d.ty (sizes_of m bodies (seen s) d.sizes) d.init ++ starts_of_names (after_name m bodies true s d) ds
+  starts_of_names s (d ∷ ds) = start_of_name s d ++ starts_of_names (after_name m bodies true s d) ds
 
   -- all initial values of a source
   abbrev pub starts_of : Scope → List raw.Item → List Start

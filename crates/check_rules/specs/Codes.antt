@@ -23,7 +23,7 @@ use Rattle.check_rules.specs.Names.{Kind, Entry, entry, built_in, named, is_func
 use Rattle.check_rules.specs.Constants.{constant, constant_type}
 use Rattle.check_rules.specs.Typed.{typed}
 use Rattle.check_rules.specs.Scopes.{Scope, seen, most_cells, dims_of, object_of, sizes_of}
-use Rattle.check_rules.specs.Parts.{Role, Value, Target, Effect, Part, Expression, Declaring, Naming, Initializing, Returning, Leaving, Labelling, Choosing, Selecting, bodies_of}
+use Rattle.check_rules.specs.Parts.{Role, Value, Target, Effect, Part, Expression, Declaring, Naming, Initializing, Returning, Leaving, Labelling, ArmLabelling, CaseConstant, bodies_of}
 
 -- one of these names
 abbrev pub is_among : List (List ℕ) → List ℕ → Bool
@@ -120,7 +120,7 @@ abbrev pub doubled : Part → Bool
 doubled (Declaring fixed s d) = is_again s (entry_of fixed s d)
 doubled (Naming s e p) = is_again s e || alters (built_in e.name) e.kind
 doubled (Labelling before w p) = is_among before w
-doubled (Choosing before l p) = is_chosen before l
+doubled (ArmLabelling before l p) = is_chosen before l
 doubled _ = false
 
 -- an array without index, or a function without a call
@@ -227,12 +227,16 @@ closed_names (raw.Closed p name ∷ rest) = name ∷ closed_names rest
 closed_names (item ∷ rest) = closed_names rest
 
 -- the cells of objects together
-abbrev pub cells_in : List Object → ℕ
-cells_in objects = sum_by (λ o. o.cells) objects
+abbrev pub cells_of_all : List Object → ℕ
+cells_of_all objects = sum_by (λ o. o.cells) objects
 
 -- the limit on cells is passed with this object
 abbrev pub passes_limit : ℕ → ℕ → Bool
 passes_limit before cells = nat_le before most_declared_cells && nat_lt most_declared_cells (before + cells)
+
+-- it was passed before, or is passed with this object
+abbrev pub is_over_limit : ℕ → ℕ → Bool
+is_over_limit before cells = nat_lt most_declared_cells before || passes_limit before cells
 
 module _ (m : DataModel) (items : List raw.Item) where
   -- ---- types
@@ -274,7 +278,7 @@ module _ (m : DataModel) (items : List raw.Item) where
   mistyped (Initializing fixed s e) = fixed && is_none (constant m (typed m (bodies_of items) (seen s) e))
   mistyped (Returning result p given) = is_wrong_return result given
   mistyped (Leaving may p) = not may
-  mistyped (Selecting es e) = is_none (constant m (typed m (bodies_of items) es e))
+  mistyped (CaseConstant es e) = is_none (constant m (typed m (bodies_of items) es e))
   mistyped _ = false
 
   -- ---- sizes
@@ -304,7 +308,7 @@ module _ (m : DataModel) (items : List raw.Item) where
 
   -- the declaration that brings the sum over the limit
   abbrev pub crowded : Part → Bool
-  crowded (Declaring fixed s d) = passes_limit (cells_in s.objects) (object_of m (bodies_of items) fixed (seen s) d).cells
+  crowded (Declaring fixed s d) = passes_limit (cells_of_all s.objects) (object_of m (bodies_of items) fixed (seen s) d).cells
   crowded _ = false
 
 -- ---- places
@@ -318,8 +322,8 @@ place_of (Initializing fixed s e) = start e
 place_of (Returning result p given) = p
 place_of (Leaving may p) = p
 place_of (Labelling before w p) = p
-place_of (Choosing before l p) = p
-place_of (Selecting es e) = start e
+place_of (ArmLabelling before l p) = p
+place_of (CaseConstant es e) = start e
 
 -- that a word names nothing is told at the word
 abbrev pub place_of_name : Part → Spot

@@ -7,7 +7,7 @@ use Rattle.c_parser.specs.Tree as raw
 use Rattle.check_rules.specs.Names.{Entry}
 use Rattle.check_rules.specs.Typed.{typed}
 use Rattle.check_rules.specs.Scopes.{Scope, seen, after_item, outermost}
-use Rattle.check_rules.specs.Parts.{Part, Declaring, Initializing, Selecting, parts_of_names, bodies_of}
+use Rattle.check_rules.specs.Parts.{Part, Declaring, Initializing, CaseConstant, parts_of_names, bodies_of}
 use Rattle.check_rules.specs.Order.{parts_of_bodies}
 
 -- an initializer has its object
@@ -24,7 +24,7 @@ module _ (m : DataModel) (bodies : List (List ℕ)) where
 
   abbrev pub kept_of_part : Part → List Kept
   kept_of_part (Declaring fixed s d) = kept_sizes (seen s) d.sizes
-  kept_of_part (Selecting es e) = kept None (typed m bodies es e) ∷ []
+  kept_of_part (CaseConstant es e) = kept None (typed m bodies es e) ∷ []
   -- the last object of the scope
   kept_of_part (Initializing true s e) = kept (Some (length s.objects - 1)) (typed m bodies (seen s) e) ∷ []
   kept_of_part _ = []

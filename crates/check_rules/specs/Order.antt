@@ -65,10 +65,15 @@ arguments es (MoreExp e gs) = parts es Value e ∷ arguments es gs
 abbrev pub parts_below : List Entry → Exp → List Part
 parts_below es (Expr p n) = parts_in es n
 
--- the operands that C does not order; the store itself is no part of an assignment's left side
+-- what is done at the left of an assignment before the store: all in it, and a call that stands there itself
+abbrev pub left_side : List Entry → Exp → List Part
+left_side es (Expr p (Call f w gs close)) = parts es Target (Expr p (Call f w gs close))
+left_side es e = parts_below es e
+
+-- the operands that C does not order
 abbrev pub operands : List Entry → Node → List (List Part)
 operands es (Binary op a b) = parts es Value a ∷ parts es Value b ∷ []
-operands es (Assign op a b) = parts_below es a ∷ parts es Value b ∷ []
+operands es (Assign op a b) = left_side es a ∷ parts es Value b ∷ []
 operands es (Index x w is) = arguments es is
 operands es (Call f w gs close) = arguments es gs
 operands es _ = []

@@ -37,9 +37,9 @@ pub data Part : Type 0 where
   -- a label, with those before it in its function
   Labelling : List (List ℕ) → List ℕ → Spot → Part
   -- the label of an arm, with those before it in its `switch`; what is no constant is none
-  Choosing : List (Option ArmLabel) → Option ArmLabel → Spot → Part
+  ArmLabelling : List (Option ArmLabel) → Option ArmLabel → Spot → Part
   -- a case constant, with the names that it sees
-  Selecting : List Entry → Exp → Part
+  CaseConstant : List Entry → Exp → Part
 
 -- a cast to void wants no value of its operand
 abbrev pub of_cast : Option IntType → Role
@@ -87,7 +87,7 @@ module _ (es : List Entry) where
 
 -- the parts of a case constant
 abbrev pub parts_of_label : List Entry → raw.ArmLabel → List Part
-parts_of_label es (raw.Case e) = Selecting es e ∷ parts es Value e
+parts_of_label es (raw.Case e) = CaseConstant es e ∷ parts es Value e
 parts_of_label es raw.Default = []
 
 -- the parts of it, where there is one
@@ -171,7 +171,7 @@ module _ (m : DataModel) (bodies : List (List ℕ)) where
       parts_of_arms within ty before s (raw.MoreStm x b) =
           parts_of_statement within (opened s) x ++ parts_of_arms within ty before (closed s (after_statement m bodies (opened s) x)) b
       parts_of_arms within ty before s (raw.MoreCase p l b) =
-          Choosing before (label_of m bodies (seen s) ty l) p ∷ parts_of_label (seen s) l ++ parts_of_arms within ty (before ++ label_of m bodies (seen s) ty l ∷ []) s b
+          ArmLabelling before (label_of m bodies (seen s) ty l) p ∷ parts_of_label (seen s) l ++ parts_of_arms within ty (before ++ label_of m bodies (seen s) ty l ∷ []) s b
 
 -- the labels of a statement, in the order of the text
 pub record Label : Type 0 where

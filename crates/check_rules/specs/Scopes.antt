@@ -62,7 +62,7 @@ dims_of [] = 0
 dims_of (e ∷ []) = 1
 dims_of (e ∷ f ∷ more) = 2
 
--- a size that is refused counts as 1
+-- a size that is none counts as 1; a product over the limit counts as it is, since Size comes first at its place
 abbrev pub cells_or_one : Option ℕ → ℕ
 cells_or_one None = 1
 cells_or_one (Some n) = n

@@ -8,7 +8,7 @@ use Rattle.c_core.specs.Tree.{Exp, Expr, Node, Const, Var, Index, Unary, Cast, S
 use Rattle.c_core.specs.declared.tree.Object.{Object}
 use Rattle.check_sequencing.specs.declared.effect.Effect.{Effect}
 use Rattle.check_sequencing.specs.Effects.{SomePair, OfFirst, OfOthers, is_quiet, is_read}
-use Rattle.check_sequencing.specs.Typed.{ChangedBeside, ChangedInIndex, IsUnorderedIn, Listed, Nothing, Operands, Passed, arguments, below, effects, effects_all, inner, operands, own, target, tested, tested_all, tested_in}
+use Rattle.check_sequencing.specs.Typed.{ChangedBeside, ChangedInIndex, IsUnorderedIn, Listed, Nothing, Operands, Passed, arguments, below, effects, effects_all, inner, left_side, operands, own, target, tested, tested_all, tested_in}
 use Rattle.check_sequencing.proofs.Lists.{all_of, first_of, rest_of}
 use Rattle.check_sequencing.proofs.QuietLaws.{quiet_is_ordered, unchanged}
 use Rattle.check_sequencing.proofs.WalkLaws.{listed_append}
@@ -31,6 +31,20 @@ module _ (objects : List Object) (count : ℕ) (bodies : List (List Effect)) whe
 
   quiet_below : (e : Exp) (stored : Bool) → is_quiet (effects objects count stored e) ≡ true → is_quiet (below objects count e) ≡ true
   quiet_below (Expr p ty n) stored q = right_part (own objects count stored n) (inner objects count n) q
+
+  quiet_left : (e : Exp) → is_quiet (effects objects count true e) ≡ true → is_quiet (left_side objects count e) ≡ true
+  quiet_left (Expr p ty (Call callee es close)) q = q
+  quiet_left (Expr p ty (Const v)) q = quiet_below (Expr p ty (Const v)) true q
+  quiet_left (Expr p ty (Var o)) q = quiet_below (Expr p ty (Var o)) true q
+  quiet_left (Expr p ty (Index o is)) q = quiet_below (Expr p ty (Index o is)) true q
+  quiet_left (Expr p ty (Unary op a)) q = quiet_below (Expr p ty (Unary op a)) true q
+  quiet_left (Expr p ty (Cast a)) q = quiet_below (Expr p ty (Cast a)) true q
+  quiet_left (Expr p ty (Step op a)) q = quiet_below (Expr p ty (Step op a)) true q
+  quiet_left (Expr p ty (Binary op a b)) q = quiet_below (Expr p ty (Binary op a b)) true q
+  quiet_left (Expr p ty (Logic both a b)) q = quiet_below (Expr p ty (Logic both a b)) true q
+  quiet_left (Expr p ty (Choose mark e a b)) q = quiet_below (Expr p ty (Choose mark e a b)) true q
+  quiet_left (Expr p ty (Comma a b)) q = quiet_below (Expr p ty (Comma a b)) true q
+  quiet_left (Expr p ty (Assign op a b)) q = quiet_below (Expr p ty (Assign op a b)) true q
 
   quiet_arguments : (es : Exps) → is_quiet (effects_all objects count es) ≡ true → list_all is_quiet (arguments objects count es) ≡ true
   quiet_arguments NoExp q = refl
@@ -55,7 +69,7 @@ module _ (objects : List Object) (count : ℕ) (bodies : List (List Effect)) whe
       each_quiet (Binary op a b) q =
           two_quiet (effects objects count false a) (effects objects count false b) (left_part (effects objects count false a) (effects objects count false b) q) (right_part (effects objects count false a) (effects objects count false b) q)
       each_quiet (Assign op a b) q =
-          two_quiet (below objects count a) (effects objects count false b) (quiet_below a true (left_part (effects objects count true a) (effects objects count false b) q)) (right_part (effects objects count true a) (effects objects count false b) q)
+          two_quiet (left_side objects count a) (effects objects count false b) (quiet_left a (left_part (effects objects count true a) (effects objects count false b) q)) (right_part (effects objects count true a) (effects objects count false b) q)
       each_quiet (Call callee es close) q = quiet_arguments es q
       each_quiet (Const v) q = refl
       each_quiet (Var o) q = refl

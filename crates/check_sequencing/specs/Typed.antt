@@ -71,10 +71,15 @@ module _ (objects : List Object) (count : ℕ) where
   arguments NoExp = []
   arguments (MoreExp e es) = effects false e ∷ arguments es
 
-  -- the operands that C does not order; the store itself is no part of an assignment's left side
+  -- what is done at the left of an assignment before the store: all in it, and a call that stands there itself
+  abbrev pub left_side : Exp → List Effect
+  left_side (Expr p ty (Call callee es close)) = effects true (Expr p ty (Call callee es close))
+  left_side e = below e
+
+  -- the operands that C does not order
   abbrev pub operands : Node → List (List Effect)
   operands (Binary op a b) = effects false a ∷ effects false b ∷ []
-  operands (Assign op a b) = below a ∷ effects false b ∷ []
+  operands (Assign op a b) = left_side a ∷ effects false b ∷ []
   operands (Index o is) = arguments is
   operands (Call callee es close) = arguments es
   operands _ = []

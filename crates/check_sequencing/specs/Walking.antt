@@ -7,7 +7,7 @@ use Rattle.check_sequencing.specs.declared.clash.Source.{Source}
 use Rattle.check_sequencing.specs.declared.walk.Walk.{Walk}
 use Rattle.check_sequencing.specs.Deciding.{IsKnown, IsSameSource, bodies_of, count_of, objects_of}
 use Rattle.check_sequencing.specs.Effects.{AreUnsequenced, SomePair}
-use Rattle.check_sequencing.specs.Typed.{ChangedBeside, ChangedInIndex, IsUnorderedIn, Listed, Test, arguments, below, effects, target}
+use Rattle.check_sequencing.specs.Typed.{ChangedBeside, ChangedInIndex, IsUnorderedIn, Listed, Test, arguments, below, effects, left_side, target}
 
 -- the words of typed expressions, by what a source declares
 abbrev pub effects_by : Source → Exp → List Effect
@@ -15,6 +15,9 @@ effects_by s e = effects (objects_of s) (count_of s) false e
 
 abbrev pub below_by : Source → Exp → List Effect
 below_by s e = below (objects_of s) (count_of s) e
+
+abbrev pub left_side_by : Source → Exp → List Effect
+left_side_by s e = left_side (objects_of s) (count_of s) e
 
 abbrev pub target_by : Source → Exp → Option ℕ
 target_by s e = target (objects_of s) (count_of s) e

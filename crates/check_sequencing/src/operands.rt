@@ -2,7 +2,7 @@
 ghost use Rattle.std.specs.Prelude.{◌≡◌, ◌⊎◌, [], ◌∷◌, ◌++◌, IfOk, OnOk};
 ghost use Rattle.c_core.specs.TreeView.{expr_view, exprs_view, node_view};
 ghost use Rattle.check_sequencing.specs.Deciding.{IsKnown, IsSameSource, IsSeen, Tells};
-ghost use Rattle.check_sequencing.specs.Walking.{AreUnsequencedBy, ChangedBesideBy, ChangedInIndexBy, IsUnorderedBy, SomePairBy, arguments_by, below_by, effects_by, target_by};
+ghost use Rattle.check_sequencing.specs.Walking.{AreUnsequencedBy, ChangedBesideBy, ChangedInIndexBy, IsUnorderedBy, SomePairBy, arguments_by, below_by, effects_by, left_side_by, target_by};
 
 use crate::clash::{Source, one_changes};
 use crate::effect::Effect;
@@ -90,13 +90,24 @@ impl<'a> Source<'a> {
         Ok(told)
     }
 
-    /// The store itself is no part of an assignment's left operand.
+    /// What is done at the left of an assignment before the store.
+    fn left_side(&self, e: &Expr) -> Result<Vec<Effect>, OutOfMemory>
+        ensures { IfOk result (λ list. list.items ≡ left_side_by self.now (expr_view e.now)) }
+    {
+        let mut list = Vec::new(self.alloc);
+        match &e.node {
+            Node::Call { .. } => self.declared.push(&mut list, true, e)?,
+            _ => self.declared.push_inner(&mut list, &e.node)?,
+        }
+        Ok(list)
+    }
+
     fn is_assigned_unordered(&mut self, target: &Expr, from: &Expr) -> Result<bool, OutOfMemory>
         requires { IsKnown self.old }
         ensures same { IsSameSource self.old self.new }
-        ensures told { IfOk result (λ b. Tells b (SomePairBy self.old (below_by self.old (expr_view target.now) ∷ effects_by self.old (expr_view from.now) ∷ []))) }
+        ensures told { IfOk result (λ b. Tells b (SomePairBy self.old (left_side_by self.old (expr_view target.now) ∷ effects_by self.old (expr_view from.now) ∷ []))) }
     {
-        let first = self.below(target)?;
+        let first = self.left_side(target)?;
         let last = self.effects(from)?;
         let told = self.is_pair(first.as_slice(), last.as_slice())?;
         Ok(told)
@@ -105,7 +116,7 @@ impl<'a> Source<'a> {
     fn is_assignment_unordered(&mut self, target: &Expr, from: &Expr) -> Result<bool, OutOfMemory>
         requires { IsKnown self.old }
         ensures same { IsSameSource self.old self.new }
-        ensures told { IfOk result (λ b. Tells b (SomePairBy self.old (below_by self.old (expr_view target.now) ∷ effects_by self.old (expr_view from.now) ∷ [])
+        ensures told { IfOk result (λ b. Tells b (SomePairBy self.old (left_side_by self.old (expr_view target.now) ∷ effects_by self.old (expr_view from.now) ∷ [])
             ⊎ (ChangedInIndexBy self.old (expr_view target.now) ⊎ ChangedBesideBy self.old (expr_view target.now) (expr_view from.now)))) }
     {
         let unsequenced = self.is_assigned_unordered(target, from)?;

@@ -9,7 +9,7 @@ use Rattle.c_parser.specs.Tree as raw
 use Rattle.check_rules.specs.Names as kind
 use Rattle.check_rules.specs.Names.{Kind, Entry, built_in, declared_as, named, or_built_in}
 use Rattle.check_rules.specs.Scopes.{after_items, outermost}
-use Rattle.check_rules.specs.Parts.{Part, Expression, Declaring, Naming, Initializing, Returning, Leaving, Labelling, bodies_of, parts_of_source, Choosing, Selecting}
+use Rattle.check_rules.specs.Parts.{Part, Expression, Declaring, Naming, Initializing, Returning, Leaving, Labelling, bodies_of, parts_of_source, ArmLabelling, CaseConstant}
 use Rattle.check_rules.specs.Codes.{closed_names}
 use Rattle.check_unsequenced.specs.PartEffects.{AreListed, AreListedParts, NoPart, OnePart, HasStorage, IsListed}
 use Rattle.check_wellformed.proofs.Lists.{AllOf}
@@ -56,8 +56,8 @@ module _ (objects : List Object) (entries : List Entry) (hidden : List (List ℕ
   known_listed (Returning result p given ∷ ps) h = OnePart refl (known_listed ps h.1)
   known_listed (Leaving may p ∷ ps) h = OnePart refl (known_listed ps h.1)
   known_listed (Labelling before w p ∷ ps) h = OnePart refl (known_listed ps h.1)
-  known_listed (Choosing before l p ∷ ps) h = OnePart refl (known_listed ps h.1)
-  known_listed (Selecting es e ∷ ps) h = OnePart refl (known_listed ps h.1)
+  known_listed (ArmLabelling before l p ∷ ps) h = OnePart refl (known_listed ps h.1)
+  known_listed (CaseConstant es e ∷ ps) h = OnePart refl (known_listed ps h.1)
 
 pub source_listed : (m : DataModel) (items : List raw.Item) (objects : List Object) → objects ≡ (after_items m (bodies_of items) outermost items).objects → AreListedParts objects (parts_of_source m items)
 source_listed m items objects same =

@@ -13,7 +13,7 @@ use Rattle.c_parser.specs.Tree.{Exp, Expr, Exps, NoExp, MoreExp, exps}
 use Rattle.check_rules.specs.Names.{Entry}
 use Rattle.check_rules.specs.Scopes.{Scope, seen}
 use Rattle.check_rules.specs.Typed.{typed, typed_all}
-use Rattle.check_rules.specs.Parts.{Value, Role, Part, Expression, Declaring, Naming, Initializing, Returning, Leaving, Labelling, bodies_of, parts, parts_of_value, Choosing, Selecting, parts_of}
+use Rattle.check_rules.specs.Parts.{Value, Role, Part, Expression, Declaring, Naming, Initializing, Returning, Leaving, Labelling, bodies_of, parts, parts_of_value, ArmLabelling, CaseConstant, parts_of}
 use Rattle.check_rules.specs.Order.{IsUnordered}
 use Rattle.check_rules.specs.Kept as rules
 use Rattle.check_rules.specs.Kept.{kept_of_part, kept_of_parts, kept_sizes}
@@ -187,8 +187,8 @@ module _ (m : DataModel) (items : List raw.Item) (objects : List Object) where
   none_kept es (Returning result p given ∷ ps) h = absurd h.0
   none_kept es (Leaving may p ∷ ps) h = absurd h.0
   none_kept es (Labelling before w p ∷ ps) h = absurd h.0
-  none_kept es (Choosing before l p ∷ ps) h = absurd h.0
-  none_kept es (Selecting es' e ∷ ps) h = absurd h.0
+  none_kept es (ArmLabelling before l p ∷ ps) h = absurd h.0
+  none_kept es (CaseConstant es' e ∷ ps) h = absurd h.0
 
   kept_of_expression : (es : List Entry) (r : Role) (e : Exp) → kept_of_parts m (bodies_of items) (parts es r e) ≡ []
   kept_of_expression es r e = none_kept es (parts es r e) (parts_see es r e)
@@ -235,16 +235,16 @@ module _ (m : DataModel) (items : List raw.Item) (objects : List Object) where
 
   -- ---- a case constant
 
-  pub constant : (es : List Entry) (e : Exp) → Match (Selecting es e ∷ parts es Value e) []
+  pub constant : (es : List Entry) (e : Exp) → Match (CaseConstant es e ∷ parts es Value e) []
   constant es e =
       let ps = parts es Value e in
       let f = full None (tree es e) in
-      by_tests (Selecting es e ∷ ps) [] (f ∷ []) (ap (λ ks. f ∷ kept_fulls ks) (kept_of_expression es Value e))
+      by_tests (CaseConstant es e ∷ ps) [] (f ∷ []) (ap (λ ks. f ∷ kept_fulls ks) (kept_of_expression es Value e))
       (λ g. any_one g es Value e None refl)
       (λ list h.
-      subst (AreTestsOf m items objects (Selecting es e ∷ ps)) (sym (append-nil (tested (tree es e))))
-      (same_other m items objects (Selecting es e) ps (tested (tree es e)) (λ u. u)
-      (same_expression m items objects list es (names_listed objects es Value e (listed_behind objects (Selecting es e ∷ []) ps h)) Value e)))
+      subst (AreTestsOf m items objects (CaseConstant es e ∷ ps)) (sym (append-nil (tested (tree es e))))
+      (same_other m items objects (CaseConstant es e) ps (tested (tree es e)) (λ u. u)
+      (same_expression m items objects list es (names_listed objects es Value e (listed_behind objects (CaseConstant es e ∷ []) ps h)) Value e)))
 
   -- ---- the sizes of a declared name
 

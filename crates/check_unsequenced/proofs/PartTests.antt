@@ -13,7 +13,7 @@ use Rattle.c_parser.specs.Tree.{Exp, Expr, Node, Number, Char, Var, Index, Unary
 use Rattle.check_rules.specs.Names as kind
 use Rattle.check_rules.specs.Names.{Kind, Entry, named, is_function}
 use Rattle.check_rules.specs.Typed.{callee_for, callee_of, no_object, number_named, typed}
-use Rattle.check_rules.specs.Parts.{Value, Target, Effect as ForEffect, Part, Expression, Declaring, Naming, Initializing, Returning, Leaving, Labelling, bodies_of, Choosing, Selecting}
+use Rattle.check_rules.specs.Parts.{Value, Target, Effect as ForEffect, Part, Expression, Declaring, Naming, Initializing, Returning, Leaving, Labelling, bodies_of, ArmLabelling, CaseConstant}
 use Rattle.check_rules.specs.Order as order
 use Rattle.check_rules.specs.Order.{SomeOf, This, Other, is_object, is_static, has_number, calls_function}
 use Rattle.check_sequencing.specs.declared.effect.Effect.{Effect}
@@ -150,8 +150,8 @@ module _ (m : DataModel) (items : List raw.Item) (objects : List Object) (absent
   part_changes k (Returning ty p b) h = refl
   part_changes k (Leaving b p) h = refl
   part_changes k (Labelling ls l p) h = refl
-  part_changes k (Choosing before l p) h = refl
-  part_changes k (Selecting es e) h = refl
+  part_changes k (ArmLabelling before l p) h = refl
+  part_changes k (CaseConstant es e) h = refl
 
   -- what a part reads
   target_reads_nothing : (k : ℕ) (es : List Entry) (e : Exp) → false ≡ list_any (reads k) (own objects bound true (node_of (typed m (bodies_of items) es e)))
@@ -194,8 +194,8 @@ module _ (m : DataModel) (items : List raw.Item) (objects : List Object) (absent
   part_reads k (Returning ty p b) h = refl
   part_reads k (Leaving b p) h = refl
   part_reads k (Labelling ls l p) h = refl
-  part_reads k (Choosing before l p) h = refl
-  part_reads k (Selecting es e) h = refl
+  part_reads k (ArmLabelling before l p) h = refl
+  part_reads k (CaseConstant es e) h = refl
 
 -- ---- objects of static storage
 
@@ -240,8 +240,8 @@ module _ (objects : List Object) where
   static_changes k (Returning ty p b) h = refl
   static_changes k (Leaving b p) h = refl
   static_changes k (Labelling ls l p) h = refl
-  static_changes k (Choosing before l p) h = refl
-  static_changes k (Selecting es e) h = refl
+  static_changes k (ArmLabelling before l p) h = refl
+  static_changes k (CaseConstant es e) h = refl
 
   pub static_reads : (k : ℕ) (part : Part) → IsListedPart objects part → order.reads (is_static k) part ≡ (order.reads (is_object k) part && is_fixed objects k)
   static_reads k (Expression es Target e) h = refl
@@ -253,8 +253,8 @@ module _ (objects : List Object) where
   static_reads k (Returning ty p b) h = refl
   static_reads k (Leaving b p) h = refl
   static_reads k (Labelling ls l p) h = refl
-  static_reads k (Choosing before l p) h = refl
-  static_reads k (Selecting es e) h = refl
+  static_reads k (ArmLabelling before l p) h = refl
+  static_reads k (CaseConstant es e) h = refl
 
 -- ---- calls
 
@@ -314,8 +314,8 @@ module _ (m : DataModel) (items : List raw.Item) (objects : List Object) where
   part_calls k l (Returning ty p b) = refl
   part_calls k l (Leaving b p) = refl
   part_calls k l (Labelling ls x p) = refl
-  part_calls k l (Choosing before x p) = refl
-  part_calls k l (Selecting es e) = refl
+  part_calls k l (ArmLabelling before x p) = refl
+  part_calls k l (CaseConstant es e) = refl
 
   callee_below : (k : ℕ) (c : Callee) → list_any (calls k) (on_call objects many c) ≡ true → k < many
   callee_below k (callee.Defined j) h = called_below j k many (nat_lt j many) refl h
@@ -348,8 +348,8 @@ module _ (m : DataModel) (items : List raw.Item) (objects : List Object) where
   part_call_below k (Returning ty p b) h = absurd (false≢true h)
   part_call_below k (Leaving b p) h = absurd (false≢true h)
   part_call_below k (Labelling ls l p) h = absurd (false≢true h)
-  part_call_below k (Choosing before l p) h = absurd (false≢true h)
-  part_call_below k (Selecting es e) h = absurd (false≢true h)
+  part_call_below k (ArmLabelling before l p) h = absurd (false≢true h)
+  part_call_below k (CaseConstant es e) h = absurd (false≢true h)
 
   -- ---- lists of parts
 

@@ -14,7 +14,7 @@ use Rattle.check_rules.specs.Scopes.{Scope, seen}
 use Rattle.check_rules.specs.Typed.{no_object, number_named, typed, typed_all}
 use Rattle.check_rules.specs.Parts.{Value, Target, Effect as ForEffect, Role, Part, Expression, bodies_of, parts, parts_in, parts_of, of_cast}
 use Rattle.check_rules.specs.Order as order
-use Rattle.check_rules.specs.Order.{is_object, parts_below}
+use Rattle.check_rules.specs.Order.{is_object, left_side, parts_below}
 use Rattle.check_sequencing.specs.declared.effect.Effect.{Effect}
 use Rattle.check_sequencing.specs.Effects as effect
 use Rattle.check_sequencing.specs.Effects.{changes}
@@ -61,6 +61,22 @@ module _ (objects : List Object) where
 
     pub listed_below : (e : Exp) → AreListedParts objects (parts_below es e)
     listed_below (Expr p n) = listed_in n
+
+    -- the left side of an assignment
+    pub listed_left : (e : Exp) → AreListedParts objects (left_side es e)
+    listed_left (Expr p (Call f w gs close)) = listed_parts Target (Expr p (Call f w gs close))
+    listed_left (Expr p (Number v decimal unsigned longs)) = listed_below (Expr p (Number v decimal unsigned longs))
+    listed_left (Expr p (Char v)) = listed_below (Expr p (Char v))
+    listed_left (Expr p (Var x w)) = listed_below (Expr p (Var x w))
+    listed_left (Expr p (Index x w is)) = listed_below (Expr p (Index x w is))
+    listed_left (Expr p (Unary op a)) = listed_below (Expr p (Unary op a))
+    listed_left (Expr p (Cast to a)) = listed_below (Expr p (Cast to a))
+    listed_left (Expr p (Step op a)) = listed_below (Expr p (Step op a))
+    listed_left (Expr p (Binary op a b)) = listed_below (Expr p (Binary op a b))
+    listed_left (Expr p (Logic both a b)) = listed_below (Expr p (Logic both a b))
+    listed_left (Expr p (Choose mark e a b)) = listed_below (Expr p (Choose mark e a b))
+    listed_left (Expr p (Comma a b)) = listed_below (Expr p (Comma a b))
+    listed_left (Expr p (Assign op a b)) = listed_below (Expr p (Assign op a b))
 
 pub data AllListed (objects : List Object) : List (List Part) → Type 0 where
   NoList : AllListed objects []
@@ -131,6 +147,21 @@ module _ (m : DataModel) (items : List raw.Item) (objects : List Object) (list :
     effects_below (Expr p (Comma a b)) = effects_of_expression m items objects es Value (Expr p (Comma a b))
     effects_below (Expr p (Assign op a b)) = effects_of_expression m items objects es Value (Expr p (Assign op a b))
     effects_below (Expr p (Call f w gs close)) = effects_of_all m items objects es gs
+
+    effects_left : (e : Exp) → effs (left_side es e) ≡ rule.left_side objects many (tree e)
+    effects_left (Expr p (Call f w gs close)) = effects_of_expression m items objects es Target (Expr p (Call f w gs close))
+    effects_left (Expr p (Number v decimal unsigned longs)) = effects_below (Expr p (Number v decimal unsigned longs))
+    effects_left (Expr p (Char v)) = effects_below (Expr p (Char v))
+    effects_left (Expr p (Var x w)) = effects_below (Expr p (Var x w))
+    effects_left (Expr p (Index x w is)) = effects_below (Expr p (Index x w is))
+    effects_left (Expr p (Unary op a)) = effects_below (Expr p (Unary op a))
+    effects_left (Expr p (Cast to a)) = effects_below (Expr p (Cast to a))
+    effects_left (Expr p (Step op a)) = effects_below (Expr p (Step op a))
+    effects_left (Expr p (Binary op a b)) = effects_below (Expr p (Binary op a b))
+    effects_left (Expr p (Logic both a b)) = effects_below (Expr p (Logic both a b))
+    effects_left (Expr p (Choose mark e a b)) = effects_below (Expr p (Choose mark e a b))
+    effects_left (Expr p (Comma a b)) = effects_below (Expr p (Comma a b))
+    effects_left (Expr p (Assign op a b)) = effects_below (Expr p (Assign op a b))
 
     same_arguments : (gs : Exps) → map effs (order.arguments es gs) ≡ rule.arguments objects many (typed_all m (bodies_of items) es gs)
     same_arguments NoExp = refl
@@ -250,18 +281,18 @@ module _ (m : DataModel) (items : List raw.Item) (objects : List Object) (list :
     binary_lists : (a b : Exp) → AllListed objects (parts es Value a ∷ parts es Value b ∷ [])
     binary_lists a b = OneList (listed_parts objects es h Value a) (OneList (listed_parts objects es h Value b) NoList)
 
-    assign_lists : (a b : Exp) → AllListed objects (parts_below es a ∷ parts es Value b ∷ [])
-    assign_lists a b = OneList (listed_below objects es h a) (OneList (listed_parts objects es h Value b) NoList)
+    assign_lists : (a b : Exp) → AllListed objects (left_side es a ∷ parts es Value b ∷ [])
+    assign_lists a b = OneList (listed_left objects es h a) (OneList (listed_parts objects es h Value b) NoList)
 
     binary_same : (a b : Exp) → map effs (parts es Value a ∷ parts es Value b ∷ []) ≡ effects objects many false (tree a) ∷ effects objects many false (tree b) ∷ []
     binary_same a b = same_two (parts es Value a) (parts es Value b) (effects objects many false (tree a)) (effects objects many false (tree b)) (effects_of_expression m items objects es Value a) (effects_of_expression m items objects es Value b)
 
-    assign_same : (a b : Exp) → map effs (parts_below es a ∷ parts es Value b ∷ []) ≡ below objects many (tree a) ∷ effects objects many false (tree b) ∷ []
-    assign_same a b = same_two (parts_below es a) (parts es Value b) (below objects many (tree a)) (effects objects many false (tree b)) (effects_below a) (effects_of_expression m items objects es Value b)
+    assign_same : (a b : Exp) → map effs (left_side es a ∷ parts es Value b ∷ []) ≡ rule.left_side objects many (tree a) ∷ effects objects many false (tree b) ∷ []
+    assign_same a b = same_two (left_side es a) (parts es Value b) (rule.left_side objects many (tree a)) (effects objects many false (tree b)) (effects_left a) (effects_of_expression m items objects es Value b)
 
     pub unordered_to : (r : Role) (e : Exp) → RawUnordered r e → TypedUnordered e
     unordered_to r (Expr p (Binary op a b)) (inl q) = inl (subst (effect.SomePair done objects) (binary_same a b) (pair_to (parts es Value a ∷ parts es Value b ∷ []) (binary_lists a b) q))
-    unordered_to r (Expr p (Assign op a b)) (inl q) = inl (subst (effect.SomePair done objects) (assign_same a b) (pair_to (parts_below es a ∷ parts es Value b ∷ []) (assign_lists a b) q))
+    unordered_to r (Expr p (Assign op a b)) (inl q) = inl (subst (effect.SomePair done objects) (assign_same a b) (pair_to (left_side es a ∷ parts es Value b ∷ []) (assign_lists a b) q))
     unordered_to r (Expr p (Assign op a b)) (inr (inl c)) = inr (inl (index_to a c))
     unordered_to r (Expr p (Assign op a b)) (inr (inr c)) = inr (inr (beside_to a b c))
     unordered_to r (Expr p (Step op a)) (inr c) = inr (index_to a c)
@@ -290,7 +321,7 @@ module _ (m : DataModel) (items : List raw.Item) (objects : List Object) (list :
 
     pub unordered_from : (r : Role) (e : Exp) → TypedUnordered e → RawUnordered r e
     unordered_from r (Expr p (Binary op a b)) (inl q) = inl (pair_from (parts es Value a ∷ parts es Value b ∷ []) (binary_lists a b) (subst (effect.SomePair done objects) (sym (binary_same a b)) q))
-    unordered_from r (Expr p (Assign op a b)) (inl q) = inl (pair_from (parts_below es a ∷ parts es Value b ∷ []) (assign_lists a b) (subst (effect.SomePair done objects) (sym (assign_same a b)) q))
+    unordered_from r (Expr p (Assign op a b)) (inl q) = inl (pair_from (left_side es a ∷ parts es Value b ∷ []) (assign_lists a b) (subst (effect.SomePair done objects) (sym (assign_same a b)) q))
     unordered_from r (Expr p (Assign op a b)) (inr (inl c)) = inr (inl (index_from a (target objects many (tree a)) refl c))
     unordered_from r (Expr p (Assign op a b)) (inr (inr c)) = inr (inr (beside_from a b (target objects many (tree a)) refl c))
     unordered_from r (Expr p (Step op a)) (inr c) = inr (index_from a (target objects many (tree a)) refl c)

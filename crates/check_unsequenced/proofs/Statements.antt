@@ -12,7 +12,7 @@ use Rattle.check_rules.specs.Names.{Entry}
 use Rattle.check_rules.specs.Scopes.{Scope, seen, opened, closed, object_of, after_name, after_first, after_statement}
 use Rattle.check_rules.specs.Typed.{typed, typed_all}
 use Rattle.check_rules.specs.declared.within.Within.{Within}
-use Rattle.check_rules.specs.Parts.{Value, Effect, Role, Part, Declaring, Returning, Leaving, bodies_of, parts, parts_if, parts_of_value, parts_of_values, parts_of_init, parts_of_name, parts_of_names, parts_of_first, parts_of_statement, parts_of_form, parts_of_else, parts_of_block, in_loop, Choosing, parts_of, parts_of_label, parts_of_arms, in_switch}
+use Rattle.check_rules.specs.Parts.{Value, Effect, Role, Part, Declaring, Returning, Leaving, bodies_of, parts, parts_if, parts_of_value, parts_of_values, parts_of_init, parts_of_name, parts_of_names, parts_of_first, parts_of_statement, parts_of_form, parts_of_else, parts_of_block, in_loop, ArmLabelling, parts_of, parts_of_label, parts_of_arms, in_switch}
 use Rattle.check_rules.specs.Arms.{switch_type, label_of}
 use Rattle.check_rules.specs.Checked.{typed_if, typed_init, typed_names, typed_first, typed_statement, typed_form, typed_else, typed_block, typed_arms}
 use Rattle.check_sequencing.specs.Bodies.{Full, full, full_if, initializers, fulls_of_init, fulls_of_names, fulls_of_first, fulls, fulls_in, fulls_of_else, fulls_of_block}
@@ -180,6 +180,6 @@ module _ (m : DataModel) (items : List raw.Item) (objects : List Object) where
           let label = label_of m names (seen s) ty l in
           let more = before ++ label ∷ [] in
           let fs = fulls_of_block (typed_arms m names ty s b) in
-          then (Choosing before label p ∷ []) (parts_of_label (seen s) l ++ of_arms within ty more s b) [] fs
-          (other m items objects (Choosing before label p) refl refl (λ u. u))
+          then (ArmLabelling before label p ∷ []) (parts_of_label (seen s) l ++ of_arms within ty more s b) [] fs
+          (other m items objects (ArmLabelling before label p) refl refl (λ u. u))
           (then (parts_of_label (seen s) l) (of_arms within ty more s b) [] fs (label_is (seen s) l) (arms_are within ty more s b))

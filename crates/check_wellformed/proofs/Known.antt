@@ -18,7 +18,7 @@ use Rattle.check_rules.specs.Names.{Kind, Entry, entry}
 use Rattle.check_rules.specs.Codes.{is_among, closed_names, entry_of}
 use Rattle.check_rules.specs.Scopes.{Scope, seen, opened, closed, with_object, with_entry, object_of, after_name, after_names, after_first, after_statement, after_form, after_else, after_block, after_item, after_items, after_parameters, inside, parameter, statements_of, entry_of_function, entry_of_prototype, after_arms}
 use Rattle.check_rules.specs.declared.within.Within.{Within}
-use Rattle.check_rules.specs.Parts.{Role, Value, Effect, Part, Expression, Declaring, Naming, Initializing, Returning, Leaving, Labelling, Label, parts, parts_if, parts_of_value, parts_of_values, parts_of_init, parts_of_name, parts_of_names, parts_of_first, parts_of_statement, parts_of_form, parts_of_else, parts_of_block, labels_of, parts_of_labels, parts_of_parameters, parts_of_item, parts_of_items, in_loop, in_body, Choosing, Selecting, parts_of, parts_of_label, parts_of_arms, in_switch}
+use Rattle.check_rules.specs.Parts.{Role, Value, Effect, Part, Expression, Declaring, Naming, Initializing, Returning, Leaving, Labelling, Label, parts, parts_if, parts_of_value, parts_of_values, parts_of_init, parts_of_name, parts_of_names, parts_of_first, parts_of_statement, parts_of_form, parts_of_else, parts_of_block, labels_of, parts_of_labels, parts_of_parameters, parts_of_item, parts_of_items, in_loop, in_body, ArmLabelling, CaseConstant, parts_of, parts_of_label, parts_of_arms, in_switch}
 use Rattle.check_wellformed.proofs.Lists.{AllOf, all_then, all_front, all_behind, append-nil, or_also, or_first}
 use Rattle.check_wellformed.proofs.Entries.{items_stay}
 use Rattle.check_wellformed.proofs.Threads.{Sees, parts_see, arguments_see}
@@ -80,8 +80,8 @@ module _ (objects : List Object) (entries : List Entry) (hidden : List (List ℕ
     knows_of_sees es (Returning result p given ∷ ps) h k = absurd k.0
     knows_of_sees es (Leaving may p ∷ ps) h k = absurd k.0
     knows_of_sees es (Labelling before w p ∷ ps) h k = absurd k.0
-    knows_of_sees es (Choosing before l p ∷ ps) h k = absurd k.0
-    knows_of_sees es (Selecting es' e ∷ ps) h k = absurd k.0
+    knows_of_sees es (ArmLabelling before l p ∷ ps) h k = absurd k.0
+    knows_of_sees es (CaseConstant es' e ∷ ps) h k = absurd k.0
 
     expression_keeps : (es : List Entry) (r : Role) (e : raw.Exp) → Keeps es es (parts es r e)
     expression_keeps es r e = record { keeps = λ h k. (knows_of_sees es (parts es r e) h (parts_see es r e), h) }
@@ -142,7 +142,7 @@ module _ (objects : List Object) (entries : List Entry) (hidden : List (List ℕ
     quiet_keeps part {es} x = record { keeps = λ h k. ((x, tt), h) }
 
     label_keeps : (es : List Entry) (l : raw.ArmLabel) → Keeps es es (parts_of_label es l)
-    label_keeps es (raw.Case e) = keeps_then (quiet_keeps (Selecting es e) tt) (expression_keeps es Value e)
+    label_keeps es (raw.Case e) = keeps_then (quiet_keeps (CaseConstant es e) tt) (expression_keeps es Value e)
     label_keeps es raw.Default = keeps_none
 
     module _ (result : Option IntType) where
@@ -187,7 +187,7 @@ module _ (objects : List Object) (entries : List Entry) (hidden : List (List ℕ
             keeps_then (keeps_inside s (statement_keeps within (opened s) x)) (arms_keep within ty before (closed s (after_statement m bodies (opened s) x)) b)
         arms_keep within ty before s (raw.MoreCase p l b) =
             let label = label_of m bodies (seen s) ty l in
-            keeps_then (quiet_keeps (Choosing before label p) tt) (keeps_then (label_keeps (seen s) l) (arms_keep within ty (before ++ label ∷ []) s b))
+            keeps_then (quiet_keeps (ArmLabelling before label p) tt) (keeps_then (label_keeps (seen s) l) (arms_keep within ty (before ++ label ∷ []) s b))
 
     parameter_keeps : (s : Scope) (x : raw.Param) (d : raw.Declared) → object_of m bodies false (seen s) d ≡ parameter x → Keeps (seen s) (seen (with_object s (parameter x))) (Declaring false s d ∷ [])
     parameter_keeps s x d e = record {

@@ -15,8 +15,8 @@ use Rattle.c_parser.specs.Tree as raw
 use Rattle.c_parser.specs.Formed.{constant_fits, assignment_fits, IsFormed}
 use Rattle.check_rules.specs.Names.{Entry}
 use Rattle.check_rules.specs.Scopes.{seen, object_of, after_items, outermost}
-use Rattle.check_rules.specs.Parts.{Part, Expression, Declaring, Naming, Initializing, Returning, Leaving, Labelling, Choosing, Selecting, parts_of_source, bodies_of}
-use Rattle.check_rules.specs.Codes.{is_among, closed_names, cells_in}
+use Rattle.check_rules.specs.Parts.{Part, Expression, Declaring, Naming, Initializing, Returning, Leaving, Labelling, ArmLabelling, CaseConstant, parts_of_source, bodies_of}
+use Rattle.check_rules.specs.Codes.{is_among, closed_names, cells_of_all}
 use Rattle.check_rules.specs.First.{IsUnrefused, wrong_main}
 use Rattle.check_rules.specs.Checked.{starts_of, program_of}
 use Rattle.check_wellformed.proofs.Lists.{AllOf, append-assoc, slice_get-behind}
@@ -55,8 +55,8 @@ module _ (objects : List Object) (entries : List Entry) (hidden : List (List ℕ
   placed_all os (Returning result p given ∷ ps) h e = (tt, placed_all os ps (subst (λ l. AreBehind m bodies l ps) (append-nil os) h.1) e)
   placed_all os (Leaving may p ∷ ps) h e = (tt, placed_all os ps (subst (λ l. AreBehind m bodies l ps) (append-nil os) h.1) e)
   placed_all os (Labelling before w p ∷ ps) h e = (tt, placed_all os ps (subst (λ l. AreBehind m bodies l ps) (append-nil os) h.1) e)
-  placed_all os (Choosing before l p ∷ ps) h e = (tt, placed_all os ps (subst (λ l. AreBehind m bodies l ps) (append-nil os) h.1) e)
-  placed_all os (Selecting es v ∷ ps) h e = (tt, placed_all os ps (subst (λ l. AreBehind m bodies l ps) (append-nil os) h.1) e)
+  placed_all os (ArmLabelling before l p ∷ ps) h e = (tt, placed_all os ps (subst (λ l. AreBehind m bodies l ps) (append-nil os) h.1) e)
+  placed_all os (CaseConstant es v ∷ ps) h e = (tt, placed_all os ps (subst (λ l. AreBehind m bodies l ps) (append-nil os) h.1) e)
 
 module _ (p : t.Program) (items : List raw.Item) (entries : List Entry) where
   all_good : (ps : List Part) → AllOf (IsFair p.model items) ps → AllOf (Knows p.objects entries (closed_names items)) ps → AllOf (IsPlaced p.objects entries (closed_names items) p.model (bodies_of items)) ps → AllOf (Passes constant_fits) ps → AllOf (Passes assignment_fits) ps → AllOf (IsGood p items entries) ps
@@ -116,10 +116,10 @@ module _ (m : DataModel) (property : Property) (items : List raw.Item) (unrefuse
       let right = functions_right p items entries outermost items good in
       record {
         objects = of_objects (λ l. list_all object_fits l ≡ true) (declared_fit m (bodies_of items) (parts_of_source m items));
-        cells = few_cells (cells_in p.objects) (of_objects (λ l. cells_in l ≤ most_declared_cells) (cells_below m items [] (parts_of_source m items) fair leads.behind (omega arith)));
+        cells = few_cells (cells_of_all p.objects) (of_objects (λ l. cells_of_all l ≤ most_declared_cells) (cells_below m items [] (parts_of_source m items) fair leads.behind (omega arith)));
         numbered = of_objects (λ l. rises (spots_of_objects l) ≡ true) (rises-part _ _ (objects_part m (bodies_of items) outermost items) formed.in_order);
         named = right.named;
-        starts = starts_are p items entries outermost items good;
+        starts = starts_are p items entries outermost items (omega arith) good;
         started_once = distinct 0 _ (starts_of m (bodies_of items) outermost items) (starts_rise m (bodies_of items) outermost items);
         main = main_is m (bodies_of items) outermost items main;
         params = right.params;

@@ -16,7 +16,7 @@ use Rattle.c_parser.specs.TextOrder.{spots_of, spots_if, spots_of_init, spots_of
 use Rattle.check_rules.specs.Names.{Entry}
 use Rattle.check_rules.specs.Scopes.{Scope, seen, opened, closed, with_object, after_name, after_first, after_statement, after_item, after_parameters, inside, parameter, statements_of, entry_of_function}
 use Rattle.check_rules.specs.declared.within.Within.{Within}
-use Rattle.check_rules.specs.Parts.{Role, Value, Effect, Part, Declaring, Naming, Returning, Leaving, parts, parts_if, parts_of_init, parts_of_name, parts_of_names, parts_of_first, parts_of_statement, parts_of_form, parts_of_else, parts_of_block, labels_of, parts_of_labels, parts_of_parameters, parts_of_item, parts_of_items, in_loop, in_body, Choosing, parts_of, parts_of_label, parts_of_arms, in_switch}
+use Rattle.check_rules.specs.Parts.{Role, Value, Effect, Part, Declaring, Naming, Returning, Leaving, parts, parts_if, parts_of_init, parts_of_name, parts_of_names, parts_of_first, parts_of_statement, parts_of_form, parts_of_else, parts_of_block, labels_of, parts_of_labels, parts_of_parameters, parts_of_item, parts_of_items, in_loop, in_body, ArmLabelling, parts_of, parts_of_label, parts_of_arms, in_switch}
 use Rattle.check_wellformed.proofs.Lists.{AllOf, append-nil}
 use Rattle.check_wellformed.proofs.Threads.{declared, declared-append, IsQuiet, none_declared, expression_quiet, option_quiet, init_quiet, labels_quiet, arguments_quiet, label_quiet}
 
@@ -105,7 +105,7 @@ module _ (m : DataModel) (bodies : List (List ℕ)) where
           stands_then (statement_stands within (opened s) x) (arms_stand within ty before (closed s (after_statement m bodies (opened s) x)) b)
       arms_stand within ty before s (raw.MoreCase p l b) =
           let label = label_of m bodies (seen s) ty l in
-          stands_then {ss = p ∷ []} (stands_nowhere (Choosing before label p ∷ []) (p ∷ []) (tt, tt))
+          stands_then {ss = p ∷ []} (stands_nowhere (ArmLabelling before label p ∷ []) (p ∷ []) (tt, tt))
           (stands_then (stands_nowhere (parts_of_label (seen s) l) (spots_of_label l) (label_quiet (seen s) l)) (arms_stand within ty (before ++ label ∷ []) s b))
 
     body_stands : (s : Scope) (body : raw.Stm) → StandsIn (parts_of_block m bodies result in_body s (statements_of body)) (spots_of_statement body)

@@ -13,8 +13,8 @@ use Rattle.check_rules.specs.Names.{Entry}
 use Rattle.check_rules.specs.Constants.{constant}
 use Rattle.check_rules.specs.Typed.{typed}
 use Rattle.check_rules.specs.Scopes.{seen, as_size, cells_or_one, cells_of, columns_of, dims_of, most_cells, object_of}
-use Rattle.check_rules.specs.Parts.{Part, Expression, Declaring, Naming, Initializing, Returning, Leaving, Labelling, bodies_of, Choosing, Selecting}
-use Rattle.check_rules.specs.Codes.{cells_in, passes_limit}
+use Rattle.check_rules.specs.Parts.{Part, Expression, Declaring, Naming, Initializing, Returning, Leaving, Labelling, bodies_of, ArmLabelling, CaseConstant}
+use Rattle.check_rules.specs.Codes.{cells_of_all, passes_limit}
 use Rattle.check_wellformed.proofs.Lists.{AllOf, both, append-nil, append-assoc}
 use Rattle.check_wellformed.proofs.Fair.{IsFair}
 use Rattle.check_wellformed.proofs.Threads.{declared, AreBehind}
@@ -53,22 +53,22 @@ module _ (m : DataModel) (bodies : List (List ℕ)) where
   declared_fit (Returning result p given ∷ ps) = declared_fit ps
   declared_fit (Leaving may p ∷ ps) = declared_fit ps
   declared_fit (Labelling before w p ∷ ps) = declared_fit ps
-  declared_fit (Choosing before l p ∷ ps) = declared_fit ps
-  declared_fit (Selecting es e ∷ ps) = declared_fit ps
+  declared_fit (ArmLabelling before l p ∷ ps) = declared_fit ps
+  declared_fit (CaseConstant es e ∷ ps) = declared_fit ps
 
 within_limit : (before cells : ℕ) → before ≤ most_declared_cells → passes_limit before cells ≡ false → before + cells ≤ most_declared_cells
 within_limit before cells h p = grind (arith, nat_tests)
 
 module _ (m : DataModel) (items : List raw.Item) where
-  one_more : (os : List Object) (o : Object) → cells_in os ≤ most_declared_cells → passes_limit (cells_in os) o.cells ≡ false → cells_in (os ++ o ∷ []) ≤ most_declared_cells
-  one_more os o h p = rw (sum_by_push (λ (x : Object). x.cells) os o) (within_limit (cells_in os) o.cells h p)
+  pub one_more : (os : List Object) (o : Object) → cells_of_all os ≤ most_declared_cells → passes_limit (cells_of_all os) o.cells ≡ false → cells_of_all (os ++ o ∷ []) ≤ most_declared_cells
+  one_more os o h p = rw (sum_by_push (λ (x : Object). x.cells) os o) (within_limit (cells_of_all os) o.cells h p)
 
-  pub cells_below : (os : List Object) (ps : List Part) → AllOf (IsFair m items) ps → AreBehind m (bodies_of items) os ps → cells_in os ≤ most_declared_cells → cells_in (os ++ declared m (bodies_of items) ps) ≤ most_declared_cells
+  pub cells_below : (os : List Object) (ps : List Part) → AllOf (IsFair m items) ps → AreBehind m (bodies_of items) os ps → cells_of_all os ≤ most_declared_cells → cells_of_all (os ++ declared m (bodies_of items) ps) ≤ most_declared_cells
   cells_below os [] f h k = rw (append-nil os) k
   cells_below os (Declaring fixed s d ∷ ps) f h k =
       let o = object_of m (bodies_of items) fixed (seen s) d in
-      let p : passes_limit (cells_in os) o.cells ≡ false = subst (λ l. passes_limit (cells_in l) o.cells ≡ false) h.0 f.0.fits in
-      subst (λ l. cells_in l ≤ most_declared_cells) (append-assoc os (o ∷ []) (declared m (bodies_of items) ps))
+      let p : passes_limit (cells_of_all os) o.cells ≡ false = subst (λ l. passes_limit (cells_of_all l) o.cells ≡ false) h.0 f.0.fits in
+      subst (λ l. cells_of_all l ≤ most_declared_cells) (append-assoc os (o ∷ []) (declared m (bodies_of items) ps))
       (cells_below (os ++ o ∷ []) ps f.1 h.1 (one_more os o k p))
   cells_below os (Expression es' r e ∷ ps) f h k = cells_below os ps f.1 (subst (λ l. AreBehind m (bodies_of items) l ps) (append-nil os) h.1) k
   cells_below os (Naming s e p ∷ ps) f h k = cells_below os ps f.1 (subst (λ l. AreBehind m (bodies_of items) l ps) (append-nil os) h.1) k
@@ -76,5 +76,5 @@ module _ (m : DataModel) (items : List raw.Item) where
   cells_below os (Returning result p given ∷ ps) f h k = cells_below os ps f.1 (subst (λ l. AreBehind m (bodies_of items) l ps) (append-nil os) h.1) k
   cells_below os (Leaving may p ∷ ps) f h k = cells_below os ps f.1 (subst (λ l. AreBehind m (bodies_of items) l ps) (append-nil os) h.1) k
   cells_below os (Labelling before w p ∷ ps) f h k = cells_below os ps f.1 (subst (λ l. AreBehind m (bodies_of items) l ps) (append-nil os) h.1) k
-  cells_below os (Choosing before l p ∷ ps) f h k = cells_below os ps f.1 (subst (λ l. AreBehind m (bodies_of items) l ps) (append-nil os) h.1) k
-  cells_below os (Selecting es e ∷ ps) f h k = cells_below os ps f.1 (subst (λ l. AreBehind m (bodies_of items) l ps) (append-nil os) h.1) k
+  cells_below os (ArmLabelling before l p ∷ ps) f h k = cells_below os ps f.1 (subst (λ l. AreBehind m (bodies_of items) l ps) (append-nil os) h.1) k
+  cells_below os (CaseConstant es e ∷ ps) f h k = cells_below os ps f.1 (subst (λ l. AreBehind m (bodies_of items) l ps) (append-nil os) h.1) k

@@ -13,7 +13,7 @@ use Rattle.c_core.specs.declared.tree.Object.{Object}
 use Rattle.c_parser.specs.Tree as raw
 use Rattle.check_rules.specs.Names.{Entry}
 use Rattle.check_rules.specs.Scopes.{Scope, seen, with_object, object_of, after_item, after_parameters, inside, parameter, statements_of}
-use Rattle.check_rules.specs.Parts.{Part, Expression, Declaring, Naming, Initializing, Returning, Leaving, Labelling, parts_of_block, parts_of_body, parts_of_parameters, parts_of_names, parts_of_item, parts_of_items, bodies_of, in_body, Choosing, Selecting}
+use Rattle.check_rules.specs.Parts.{Part, Expression, Declaring, Naming, Initializing, Returning, Leaving, Labelling, parts_of_block, parts_of_body, parts_of_parameters, parts_of_names, parts_of_item, parts_of_items, bodies_of, in_body, ArmLabelling, CaseConstant}
 use Rattle.check_rules.specs.Checked.{typed_block, numbers_from, functions_of}
 use Rattle.check_wellformed.proofs.Lists.{AllOf, both, all_front, all_behind}
 use Rattle.check_wellformed.proofs.Threads.{declared, AreBehind, block_leads}
@@ -121,8 +121,8 @@ module _ (p : t.Program) (items : List raw.Item) (entries : List Entry) where
   stand_all a (Returning result q given ∷ ps) h g = stand_all a ps (subst (λ l. AreBehind p.model (bodies_of items) l ps) (append-nil a) h.1) g.1
   stand_all a (Leaving may q ∷ ps) h g = stand_all a ps (subst (λ l. AreBehind p.model (bodies_of items) l ps) (append-nil a) h.1) g.1
   stand_all a (Labelling before w q ∷ ps) h g = stand_all a ps (subst (λ l. AreBehind p.model (bodies_of items) l ps) (append-nil a) h.1) g.1
-  stand_all a (Choosing before l q ∷ ps) h g = stand_all a ps (subst (λ l. AreBehind p.model (bodies_of items) l ps) (append-nil a) h.1) g.1
-  stand_all a (Selecting es e ∷ ps) h g = stand_all a ps (subst (λ l. AreBehind p.model (bodies_of items) l ps) (append-nil a) h.1) g.1
+  stand_all a (ArmLabelling before l q ∷ ps) h g = stand_all a ps (subst (λ l. AreBehind p.model (bodies_of items) l ps) (append-nil a) h.1) g.1
+  stand_all a (CaseConstant es e ∷ ps) h g = stand_all a ps (subst (λ l. AreBehind p.model (bodies_of items) l ps) (append-nil a) h.1) g.1
 
   body_stands : (result : Option IntType) (s : Scope) (b : raw.Stms) → Goods (parts_of_block p.model (bodies_of items) result in_body s b) → list_all Stands (names_in_block (typed_block p.model (bodies_of items) s b)) ≡ true
   body_stands result s b g =

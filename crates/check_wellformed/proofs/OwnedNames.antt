@@ -12,7 +12,7 @@ use Rattle.check_rules.specs.Arms.{switch_type, label_of}
 use Rattle.c_parser.specs.Tree as raw
 use Rattle.check_rules.specs.Scopes.{Scope, seen, opened, closed, with_object, after_name, after_first, after_statement, after_item, after_parameters, inside, parameter, statements_of, entry_of_function, entry_of_prototype}
 use Rattle.check_rules.specs.declared.within.Within.{Within}
-use Rattle.check_rules.specs.Parts.{Value, Effect, Part, Declaring, Naming, Leaving, parts, parts_if, parts_of_init, parts_of_name, parts_of_names, parts_of_first, parts_of_statement, parts_of_form, parts_of_else, parts_of_block, labels_of, parts_of_labels, parts_of_parameters, parts_of_item, parts_of_items, in_loop, in_body, Choosing, parts_of, parts_of_label, parts_of_arms, in_switch}
+use Rattle.check_rules.specs.Parts.{Value, Effect, Part, Declaring, Naming, Leaving, parts, parts_if, parts_of_init, parts_of_name, parts_of_names, parts_of_first, parts_of_statement, parts_of_form, parts_of_else, parts_of_block, labels_of, parts_of_labels, parts_of_parameters, parts_of_item, parts_of_items, in_loop, in_body, ArmLabelling, parts_of, parts_of_label, parts_of_arms, in_switch}
 use Rattle.check_rules.specs.Checked.{typed_names, typed_first, typed_statement, typed_form, typed_else, typed_block, numbers_from, typed_function, functions_of, typed_arms}
 use Rattle.check_wellformed.proofs.Lists.{AllOf}
 use Rattle.check_wellformed.proofs.Threads.{IsQuiet, none_declared, expression_quiet, option_quiet, init_quiet, labels_quiet, declared, declared-append, Leads, leads_then, leads_quiet, expression_leads, option_leads, name_leads, names_lead, first_leads, statement_leads, block_leads, parameters_lead, item_leads, arguments_quiet, label_quiet, arguments_lead}
@@ -132,7 +132,7 @@ module _ (m : DataModel) (bodies : List (List ℕ)) where
           owns_then (statement_leads m bodies result within (opened s) x) (statement_owned within (opened s) x) (arms_owned within ty before (closed s (after_statement m bodies (opened s) x)) b)
       arms_owned within ty before s (raw.MoreCase p l b) =
           let label = label_of m bodies (seen s) ty l in
-          owns_behind (leads_quiet m bodies s.objects (Choosing before label p ∷ []) (tt, tt)) (tt, tt)
+          owns_behind (leads_quiet m bodies s.objects (ArmLabelling before label p ∷ []) (tt, tt)) (tt, tt)
           (owns_behind (leads_quiet m bodies s.objects (parts_of_label (seen s) l) (label_quiet (seen s) l)) (label_quiet (seen s) l) (arms_owned within ty (before ++ label ∷ []) s b))
 
   -- the names declared in a body

@@ -13,7 +13,7 @@ use Rattle.c_parser.specs.Tree.{Exp, Expr, Node, Number, Char, Var, Index, Unary
 use Rattle.check_rules.specs.Names as kind
 use Rattle.check_rules.specs.Names.{Kind, Entry, declared_as, or_built_in, built_in, named}
 use Rattle.check_rules.specs.Typed.{typed, typed_node, typed_all, number_named}
-use Rattle.check_rules.specs.Parts.{Role, Value, Target, Effect, Part, Expression, Declaring, Naming, Initializing, Returning, Leaving, Labelling, of_cast, parts, parts_in, parts_of, bodies_of, Choosing, Selecting}
+use Rattle.check_rules.specs.Parts.{Role, Value, Target, Effect, Part, Expression, Declaring, Naming, Initializing, Returning, Leaving, Labelling, of_cast, parts, parts_in, parts_of, bodies_of, ArmLabelling, CaseConstant}
 use Rattle.check_rules.specs.Codes.{is_no_scalar, is_no_element, count}
 use Rattle.check_rules.specs.Order.{is_object, object_named, reads, changes, SomeOf, This, Other}
 use Rattle.check_wellformed.proofs.Lists.{AllOf, both, all_front, all_behind, first_fails, or_first, or_also}
@@ -78,8 +78,8 @@ module _ (Q : ℕ → Type 0) where
   of_all es (Returning result p given ∷ ps) k h = absurd k.0
   of_all es (Leaving may p ∷ ps) k h = absurd k.0
   of_all es (Labelling before w p ∷ ps) k h = absurd k.0
-  of_all es (Choosing before l p ∷ ps) k h = absurd k.0
-  of_all es (Selecting es' e ∷ ps) k h = absurd k.0
+  of_all es (ArmLabelling before l p ∷ ps) k h = absurd k.0
+  of_all es (CaseConstant es' e ∷ ps) k h = absurd k.0
 
   pub of_parts : (es : List Entry) (r : Role) (e : Exp) → AllOf OfEntry es → AllOf OfPart (parts es r e)
   of_parts es r e h = of_all es (parts es r e) (parts_see es r e) h
@@ -111,8 +111,8 @@ module _ (Q : ℕ → Type 0) (o : ℕ) where
   but_untouched (Returning result p given ∷ ps) h k l = (tt, but_untouched ps h.1 (λ x. k (Other x)) (λ x. l (Other x)))
   but_untouched (Leaving may p ∷ ps) h k l = (tt, but_untouched ps h.1 (λ x. k (Other x)) (λ x. l (Other x)))
   but_untouched (Labelling before w p ∷ ps) h k l = (tt, but_untouched ps h.1 (λ x. k (Other x)) (λ x. l (Other x)))
-  but_untouched (Choosing before label p ∷ ps) h k l = (tt, but_untouched ps h.1 (λ x. k (Other x)) (λ x. l (Other x)))
-  but_untouched (Selecting es e ∷ ps) h k l = (tt, but_untouched ps h.1 (λ x. k (Other x)) (λ x. l (Other x)))
+  but_untouched (ArmLabelling before label p ∷ ps) h k l = (tt, but_untouched ps h.1 (λ x. k (Other x)) (λ x. l (Other x)))
+  but_untouched (CaseConstant es e ∷ ps) h k l = (tt, but_untouched ps h.1 (λ x. k (Other x)) (λ x. l (Other x)))
 
 -- ---- expressions
 

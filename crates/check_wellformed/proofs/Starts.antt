@@ -1,5 +1,5 @@
 -- Initializers of static storage fit their objects, and no object has two.
-use Rattle.std.proofs.Common.{◌≡◌, ℕ, zero, suc, ◌+◌, ◌*◌, ◌-◌, ◌<◌, ◌≤◌, Bool, true, false, not, List, [], ◌∷◌, ◌++◌, length, replicate, ℤ, pos, refl, sym, ap, ◌∙◌, Some, arith, length-append, eqb-true, eq-eqb, nat_eq, nat_le, add-one}
+use Rattle.std.proofs.Common.{◌≡◌, ℕ, zero, suc, ◌+◌, ◌*◌, ◌-◌, ◌<◌, ◌≤◌, Bool, true, false, cond, not, ◌||◌, List, [], ◌∷◌, ◌++◌, length, replicate, ℤ, pos, refl, sym, subst, ap, ◌∙◌, Some, arith, length-append, eqb-true, eq-eqb, nat_eq, nat_le, nat_lt, add-one}
 use Rattle.std.proofs.lemmas.Bool.{false≢true}
 use Rattle.std.proofs.lemmas.Bool.Decides.{nat_tests}
 use Rattle.std.proofs.Math.Nat.{suc-mul, zero-mul, add_comm}
@@ -8,7 +8,7 @@ use Rattle.std.specs.List.{slice_get, list_all}
 use Rattle.c_core.specs.Types.{in_range}
 use Rattle.c_core.specs.Tree as t
 use Rattle.c_core.specs.Scope.{is_in}
-use Rattle.c_core.specs.Program.{start_fits, started_objects, are_distinct}
+use Rattle.c_core.specs.Program.{start_fits, started_objects, are_distinct, most_declared_cells}
 use Rattle.c_core.proofs.Fits.{fit_in_range}
 use Rattle.c_core.specs.declared.number.IntType.{IntType}
 use Rattle.c_core.specs.declared.number.DataModel.{DataModel}
@@ -17,15 +17,18 @@ use Rattle.c_core.specs.declared.tree.Start.{Start}
 use Rattle.c_parser.specs.Tree as raw
 use Rattle.c_parser.specs.Tree.{Exp, Expr, Exps, NoExp, MoreExp, exps}
 use Rattle.check_rules.specs.declared.sizes.Sizes.{Sizes}
+use Rattle.check_rules.specs.declared.sizes.Sizes.TheVariants.{Scalar}
 use Rattle.check_rules.specs.Names.{Entry}
-use Rattle.check_rules.specs.Scopes.{Scope, seen, dims_of, sizes_of, cells_of, columns_of, object_of, after_name, after_names, after_item, after_items}
+use Rattle.check_rules.specs.Scopes.{Scope, seen, cells_in, dims_of, sizes_of, cells_of, columns_of, object_of, after_name, after_names, after_item, after_items}
 use Rattle.check_rules.specs.Parts.{Part, parts_of_name, parts_of_names, parts_of_item, parts_of_items, bodies_of, parts_of}
-use Rattle.check_rules.specs.Codes.{count, is_wrong_init, is_wrong_size}
-use Rattle.check_rules.specs.Checked.{padded, start_values, row_values, start_of_init, starts_of_names, starts_of}
-use Rattle.check_wellformed.proofs.Lists.{AllOf, both, left, right, all_front, all_behind}
+use Rattle.check_rules.specs.Codes.{cells_of_all, count, is_over_limit, is_wrong_init, is_wrong_size, passes_limit}
+use Rattle.check_rules.specs.Checked.{padded, filled_sizes, filled_for, start_values, row_values, start_of_init, start_of_name, starts_of_names, starts_of}
+use Rattle.check_wellformed.proofs.Lists.{AllOf, both, left, right, all_front, all_behind, all_weaker}
 use Rattle.check_wellformed.proofs.Ranges.{zero_in_range}
 use Rattle.check_wellformed.proofs.Threads.{declared, Leads, item_leads}
+use Rattle.check_wellformed.proofs.Fair.{IsFair}
 use Rattle.check_wellformed.proofs.Good.{IsGood}
+use Rattle.check_wellformed.proofs.Objects.{cells_below, one_more}
 use Rattle.check_wellformed.proofs.TypedStatements.{all_pass_then, list_right, rows_right}
 
 one_row_more : (columns rows : ℕ) → columns + rows * columns ≡ suc rows * columns
@@ -33,6 +36,25 @@ one_row_more columns rows = add_comm columns (rows * columns) ∙ sym (suc-mul r
 
 filled : (n cells : ℕ) → nat_le n cells ≡ true → n + (cells - n) ≡ cells
 filled n cells h = grind (arith, nat_tests)
+
+last_chosen : (a b : Bool) (one other : Sizes) → a ≡ false → b ≡ false → cond (a || b) one other ≡ other
+last_chosen false false one other h k = refl
+last_chosen false true one other h k = absurd (false≢true (sym k))
+last_chosen true b one other h k = absurd (false≢true (sym h))
+
+not_over : (before : ℕ) → before ≤ most_declared_cells → nat_lt most_declared_cells before ≡ false
+not_over before h = grind (arith, nat_tests)
+
+neither : (a b : Bool) → a ≡ false → b ≡ false → (a || b) ≡ false
+neither false b h k = k
+neither true b h k = absurd (false≢true (sym h))
+
+-- what isn't refused is filled
+all_filled : (before : ℕ) (i : raw.Init) (sizes : Sizes) → before ≤ most_declared_cells → is_wrong_size sizes i ≡ false → passes_limit before (cells_in sizes) ≡ false
+    → filled_sizes before i sizes ≡ sizes
+all_filled before i sizes h k p =
+    last_chosen (is_wrong_size sizes i) (is_over_limit before (cells_in sizes)) Scalar sizes k
+    (neither (nat_lt most_declared_cells before) (passes_limit before (cells_in sizes)) (not_over before h) p)
 
 module _ (p : t.Program) (items : List raw.Item) (entries : List Entry) where
   abbrev Goods : List Part → Type 0
@@ -100,26 +122,43 @@ module _ (p : t.Program) (items : List raw.Item) (entries : List Entry) where
       let room : nat_le (length values) cells ≡ true = rw (rows_fill es d.ty columns rows fits.each) fits.all in
       rw e (both (both (padded_fills cells values room) (padded_in_range d.ty cells values (rows_in_range es d.ty columns rows))) refl)
 
-  names_fit : (s : Scope) (ds : List raw.Declared) → Goods (parts_of_names p.model (bodies_of items) true s ds) → list_all Fits (starts_of_names p.model (bodies_of items) s ds) ≡ true
-  names_fit s [] g = refl
-  names_fit s (d ∷ ds) g =
+  abbrev IsWithin : List Object → Type 0
+  IsWithin os = cells_of_all os ≤ most_declared_cells
+
+  names_fit : (s : Scope) (ds : List raw.Declared) → IsWithin s.objects → Goods (parts_of_names p.model (bodies_of items) true s ds) → list_all Fits (starts_of_names p.model (bodies_of items) s ds) ≡ true
+  names_fit s [] few g = refl
+  names_fit s (d ∷ ds) few g =
       let s' = after_name p.model (bodies_of items) true s d in
       let pd = parts_of_name p.model (bodies_of items) true s d in
       let here = all_behind (IsGood p items entries) (parts_of (seen s) (exps d.sizes)) _ (all_front (IsGood p items entries) pd _ g) in
-      all_pass_then Fits (start_of_init p.model (bodies_of items) (seen s') (length s.objects) d.ty (sizes_of p.model (bodies_of items) (seen s) d.sizes) d.init) _
-      (init_fits s (seen s') d d.init here.0.placed here.0.fair.typed here.0.fair.sized) (names_fit s' ds (all_behind (IsGood p items entries) pd _ g))
+      let o = object_of p.model (bodies_of items) true (seen s) d in
+      let sizes = sizes_of p.model (bodies_of items) (seen s) d.sizes in
+      let whole : filled_for p.model (bodies_of items) s d ≡ sizes = all_filled (cells_of_all s.objects) d.init sizes few here.0.fair.sized here.0.fair.fits in
+      all_pass_then Fits (start_of_name p.model (bodies_of items) s d) _
+      (subst (λ z. list_all Fits (start_of_init p.model (bodies_of items) (seen s') (length s.objects) d.ty z d.init) ≡ true) (sym whole)
+      (init_fits s (seen s') d d.init here.0.placed here.0.fair.typed here.0.fair.sized))
+      (names_fit s' ds (one_more p.model items s.objects o few here.0.fair.fits) (all_behind (IsGood p items entries) pd _ g))
 
-  pub starts_are : (s : Scope) (xs : List raw.Item) → Goods (parts_of_items p.model (bodies_of items) s xs) → list_all Fits (starts_of p.model (bodies_of items) s xs) ≡ true
-  starts_are s [] g = refl
-  starts_are s (raw.Global ds ∷ xs) g =
+  within_behind : (s : Scope) (x : raw.Item) → IsWithin s.objects → Goods (parts_of_item p.model (bodies_of items) s x) → IsWithin (after_item p.model (bodies_of items) s x).objects
+  within_behind s x few g =
+      let l = item_leads p.model (bodies_of items) s x in
+      let px = parts_of_item p.model (bodies_of items) s x in
+      let fair = all_weaker (IsGood p items entries) (IsFair p.model items) (λ part h. h.fair) px g in
+      subst IsWithin (sym l.are) (cells_below p.model items s.objects px fair l.behind few)
+
+  pub starts_are : (s : Scope) (xs : List raw.Item) → IsWithin s.objects → Goods (parts_of_items p.model (bodies_of items) s xs) → list_all Fits (starts_of p.model (bodies_of items) s xs) ≡ true
+  starts_are s [] few g = refl
+  starts_are s (raw.Global ds ∷ xs) few g =
       let px = parts_of_names p.model (bodies_of items) true s ds in
-      all_pass_then Fits (starts_of_names p.model (bodies_of items) s ds) _ (names_fit s ds (all_front (IsGood p items entries) px _ g))
-      (starts_are (after_item p.model (bodies_of items) s (raw.Global ds)) xs (all_behind (IsGood p items entries) px _ g))
-  starts_are s (raw.Function q name result ys body ∷ xs) g =
+      let here = all_front (IsGood p items entries) px _ g in
+      all_pass_then Fits (starts_of_names p.model (bodies_of items) s ds) _ (names_fit s ds few here)
+      (starts_are (after_item p.model (bodies_of items) s (raw.Global ds)) xs (within_behind s (raw.Global ds) few here) (all_behind (IsGood p items entries) px _ g))
+  starts_are s (raw.Function q name result ys body ∷ xs) few g =
       let x = raw.Function q name result ys body in
-      starts_are (after_item p.model (bodies_of items) s x) xs (all_behind (IsGood p items entries) (parts_of_item p.model (bodies_of items) s x) _ g)
-  starts_are s (raw.Prototype q name result types ∷ xs) g = starts_are (after_item p.model (bodies_of items) s (raw.Prototype q name result types)) xs g.1
-  starts_are s (raw.Closed q name ∷ xs) g = starts_are (after_item p.model (bodies_of items) s (raw.Closed q name)) xs g
+      let px = parts_of_item p.model (bodies_of items) s x in
+      starts_are (after_item p.model (bodies_of items) s x) xs (within_behind s x few (all_front (IsGood p items entries) px _ g)) (all_behind (IsGood p items entries) px _ g)
+  starts_are s (raw.Prototype q name result types ∷ xs) few g = starts_are (after_item p.model (bodies_of items) s (raw.Prototype q name result types)) xs few g.1
+  starts_are s (raw.Closed q name ∷ xs) few g = starts_are (after_item p.model (bodies_of items) s (raw.Closed q name)) xs few g
 
 -- ---- the objects that are started rise
 
@@ -161,8 +200,8 @@ module _ (m : DataModel) (bodies : List (List ℕ)) where
   names_rise s [] = omega arith
   names_rise s (d ∷ ds) =
       let s' = after_name m bodies true s d in
-      rising_then (length s.objects) (length s'.objects) _ (start_of_init m bodies (seen s') (length s.objects) d.ty (sizes_of m bodies (seen s) d.sizes) d.init) _
-      (init_rises (seen s') (length s.objects) (length s'.objects) d.ty (sizes_of m bodies (seen s) d.sizes) d.init (next_number s.objects (object_of m bodies true (seen s) d))) (names_rise s' ds)
+      rising_then (length s.objects) (length s'.objects) _ (start_of_name m bodies s d) _
+      (init_rises (seen s') (length s.objects) (length s'.objects) d.ty (filled_for m bodies s d) d.init (next_number s.objects (object_of m bodies true (seen s) d))) (names_rise s' ds)
 
   grown : (a b : List Object) (ps : List Part) → Leads m bodies a b ps → length a ≤ length b
   grown a b ps l = let e = ap length l.are ∙ length-append a (declared m bodies ps) in omega arith

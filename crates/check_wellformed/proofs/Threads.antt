@@ -14,7 +14,7 @@ use Rattle.c_parser.specs.Tree.{Exp, Expr, Node, Number, Char, Var, Index, Unary
 use Rattle.check_rules.specs.Names.{Entry}
 use Rattle.check_rules.specs.Scopes.{Scope, seen, opened, closed, with_object, object_of, after_name, after_names, after_first, after_statement, after_form, after_else, after_block, after_item, after_items, after_parameters, inside, parameter, statements_of, entry_of_function, after_arms}
 use Rattle.check_rules.specs.declared.within.Within.{Within}
-use Rattle.check_rules.specs.Parts.{Role, Value, Target, Effect, Part, Expression, Declaring, Naming, Initializing, Returning, Leaving, Labelling, Label, of_cast, parts, parts_in, parts_of, parts_if, parts_of_values, parts_of_init, parts_of_name, parts_of_names, parts_of_first, parts_of_statement, parts_of_form, parts_of_else, parts_of_block, labels_of, parts_of_labels, parts_of_parameters, parts_of_item, parts_of_items, in_loop, in_body, Choosing, Selecting, parts_of_label, parts_of_arms, in_switch}
+use Rattle.check_rules.specs.Parts.{Role, Value, Target, Effect, Part, Expression, Declaring, Naming, Initializing, Returning, Leaving, Labelling, Label, of_cast, parts, parts_in, parts_of, parts_if, parts_of_values, parts_of_init, parts_of_name, parts_of_names, parts_of_first, parts_of_statement, parts_of_form, parts_of_else, parts_of_block, labels_of, parts_of_labels, parts_of_parameters, parts_of_item, parts_of_items, in_loop, in_body, ArmLabelling, CaseConstant, parts_of_label, parts_of_arms, in_switch}
 use Rattle.check_wellformed.proofs.Lists.{AllOf, all_then, append-nil, append-assoc}
 
 -- ---- parts of expressions
@@ -62,8 +62,8 @@ quiet_of_sees es (Initializing fixed s e ∷ ps) h = absurd h.0
 quiet_of_sees es (Returning result p given ∷ ps) h = absurd h.0
 quiet_of_sees es (Leaving may p ∷ ps) h = absurd h.0
 quiet_of_sees es (Labelling before w p ∷ ps) h = absurd h.0
-quiet_of_sees es (Choosing before l p ∷ ps) h = absurd h.0
-quiet_of_sees es (Selecting es' e ∷ ps) h = absurd h.0
+quiet_of_sees es (ArmLabelling before l p ∷ ps) h = absurd h.0
+quiet_of_sees es (CaseConstant es' e ∷ ps) h = absurd h.0
 
 pub expression_quiet : (es : List Entry) (r : Role) (e : Exp) → AllOf IsQuiet (parts es r e)
 expression_quiet es r e = quiet_of_sees es (parts es r e) (parts_see es r e)
@@ -149,8 +149,8 @@ module _ (m : DataModel) (bodies : List (List ℕ)) where
   none_declared (Returning result p given ∷ ps) h = none_declared ps h.1
   none_declared (Leaving may p ∷ ps) h = none_declared ps h.1
   none_declared (Labelling before w p ∷ ps) h = none_declared ps h.1
-  none_declared (Choosing before l p ∷ ps) h = none_declared ps h.1
-  none_declared (Selecting es e ∷ ps) h = none_declared ps h.1
+  none_declared (ArmLabelling before l p ∷ ps) h = none_declared ps h.1
+  none_declared (CaseConstant es e ∷ ps) h = none_declared ps h.1
 
   behind_quiet : (os : List Object) (ps : List Part) → AllOf IsQuiet ps → AreBehind os ps
   behind_quiet os [] h = tt
@@ -161,8 +161,8 @@ module _ (m : DataModel) (bodies : List (List ℕ)) where
   behind_quiet os (Returning result p given ∷ ps) h = (tt, behind_quiet (os ++ []) ps h.1)
   behind_quiet os (Leaving may p ∷ ps) h = (tt, behind_quiet (os ++ []) ps h.1)
   behind_quiet os (Labelling before w p ∷ ps) h = (tt, behind_quiet (os ++ []) ps h.1)
-  behind_quiet os (Choosing before l p ∷ ps) h = (tt, behind_quiet (os ++ []) ps h.1)
-  behind_quiet os (Selecting es e ∷ ps) h = (tt, behind_quiet (os ++ []) ps h.1)
+  behind_quiet os (ArmLabelling before l p ∷ ps) h = (tt, behind_quiet (os ++ []) ps h.1)
+  behind_quiet os (CaseConstant es e ∷ ps) h = (tt, behind_quiet (os ++ []) ps h.1)
 
   pub leads_quiet : (a : List Object) (ps : List Part) → AllOf IsQuiet ps → Leads a a ps
   leads_quiet a ps h = record { are = sym (append-nil a) ∙ ap (λ l. a ++ l) (sym (none_declared ps h)); behind = behind_quiet a ps h }
@@ -241,7 +241,7 @@ module _ (m : DataModel) (bodies : List (List ℕ)) where
         leads_then (statement_leads result within (opened s) x) (arms_lead result within ty before (closed s (after_statement m bodies (opened s) x)) b)
     arms_lead result within ty before s (raw.MoreCase p l b) =
         let label = label_of m bodies (seen s) ty l in
-        part_leads s.objects _ (Choosing before label p) _ tt
+        part_leads s.objects _ (ArmLabelling before label p) _ tt
         (leads_then (leads_quiet s.objects (parts_of_label (seen s) l) (label_quiet (seen s) l)) (arms_lead result within ty (before ++ label ∷ []) s b))
 
   pub parameter_leads : (s : Scope) (x : raw.Param) (d : raw.Declared) → object_of m bodies false (seen s) d ≡ parameter x → Leads s.objects (s.objects ++ parameter x ∷ []) (Declaring false s d ∷ [])

@@ -13,7 +13,7 @@ use Rattle.c_core.specs.declared.tree.Callee.TheVariants.{ReachError}
 use Rattle.c_core.specs.declared.tree.Object.{Object as Stored}
 use Rattle.c_parser.specs.Tree.{Stm, stms}
 use Rattle.check_rules.specs.Checked.{HasProgram, program_of}
-use Rattle.check_rules.specs.Codes.{cells_in}
+use Rattle.check_rules.specs.Codes.{cells_of_all}
 use Rattle.check_rules.specs.First.{IsUnrefused}
 use Rattle.check_rules.specs.Names.{Object, Entry, kind_of_callee, named}
 use Rattle.check_rules.specs.Parts.{labels_of_block, parts_of_labels, parts_of_source}
@@ -31,11 +31,11 @@ use Rattle.demo_checks.proofs.Statements.{parts_at, parts_behind, stored, with_v
 -- what is declared before the k-th loop: a variable for each loop before it
 pub record IsBefore (k : ℕ) (xs : List Entry) (os : List Stored) : Type 0 where
   pub names : AllByRecursion (IsEarlier k) xs
-  pub cells : cells_in os + 1 ≡ k
+  pub cells : cells_of_all os + 1 ≡ k
 
 before_next : (k : ℕ) (xs : List Entry) (os : List Stored) (p : Spot) → IsBefore k xs os → IsBefore (k + 1) (xs ++ variable (name k) (length os) ∷ []) (os ++ stored (name k) p ∷ [])
 before_next k xs os p h =
-    let more : cells_in (os ++ stored (name k) p ∷ []) ≡ cells_in os + 1 = sum_by_push (λ (o : Stored). o.cells) os (stored (name k) p) in
+    let more : cells_of_all (os ++ stored (name k) p ∷ []) ≡ cells_of_all os + 1 = sum_by_push (λ (o : Stored). o.cells) os (stored (name k) p) in
     record { names = one_more_earlier k (length os) xs h.names; cells = omega (arith, more, h.cells) }
 
 -- no variable of a loop is named as the function
@@ -58,7 +58,7 @@ module _ (ss : List Stm) where
       let is_x : named (outside ++ ys) x ≡ Some (Object (length os) Int 0 false) = named_last (outside ++ xs) x (length os) in
       let others : AreOthers (codes "reach_error") ys = one_more_other (codes "reach_error") x (length os) xs refl (others_before k xs os before) in
       let reach : named (outside ++ ys) (codes "reach_error") ≡ Some (kind_of_callee ReachError) = reach_named ys others in
-      let cells : cells_in os < 100000 = omega (arith, before.cells) in
+      let cells : cells_of_all os < 100000 = omega (arith, before.cells) in
       let declared = declaration_fine ss xs os x (declared_at l k) (is_new k xs (omega arith) before.names) cells in
       let looped = while_fine ss ys ps x (length os) b (looped_at (l + 1) k b) is_x (omega (arith, bound.few)) in
       let tested = guard_fine ss op.Ne ys ps x (length os) b true (tested_at (l + 1 + 1 + 1 + 1) k b) is_x (omega (arith, bound.few)) reach in

@@ -10,7 +10,7 @@ use Rattle.c_core.specs.declared.number.Spot.{Spot}
 use Rattle.c_core.specs.declared.tree.Callee.TheVariants.{Input, ReachError}
 use Rattle.c_core.specs.declared.tree.Object.{Object as Stored}
 use Rattle.c_parser.specs.Tree.{Exp, Expr, Number, Binary, Call, NoExp, Stm, Stmt, Block, Do, If, MoreStm, NoElse, NoStm, One, stms}
-use Rattle.check_rules.specs.Codes.{cells_in}
+use Rattle.check_rules.specs.Codes.{cells_of_all}
 use Rattle.check_rules.specs.Names.{Object, Entry, kind_of_callee, named}
 use Rattle.check_rules.specs.Order.{is_object, reads}
 use Rattle.check_rules.specs.Parts.{Part, Declaring, Initializing, Value, Effect, bodies_of, in_body, parts, parts_of_block, parts_of_statement}
@@ -48,7 +48,7 @@ module _ (ss : List Stm) where
   parts_behind s rest = parts_of_block Ilp32 (bodies_of (items ss)) (Some Int) in_body s (stms rest)
 
   -- a variable that is new is declared
-  declared_fine : (xs : List Entry) (os : List Stored) (x : List ℕ) (p : Spot) (e : Exp) → AreOthers x xs → cells_in os < 100000 →
+  declared_fine : (xs : List Entry) (os : List Stored) (x : List ℕ) (p : Spot) (e : Exp) → AreOthers x xs → cells_of_all os < 100000 →
       IsFine ss (Declaring false (scope outside xs os) (record { spot = p; name = x; ty = Int; sizes = []; init = One e }))
   declared_fine xs os x p e new few = record {
     known = refl;
@@ -57,7 +57,7 @@ module _ (ss : List Stm) where
     sized = refl;
     ordered = λ none. none;
     bodied = refl;
-    few = within_limit (cells_in os) few;
+    few = within_limit (cells_of_all os) few;
   }
 
   -- an initializer that is quiet and reads nothing
@@ -73,7 +73,7 @@ module _ (ss : List Stm) where
     few = refl;
   }
 
-  pub declaration_fine : (xs : List Entry) (os : List Stored) (x : List ℕ) (at : ℕ → Spot) → AreOthers x xs → cells_in os < 100000 →
+  pub declaration_fine : (xs : List Entry) (os : List Stored) (x : List ℕ) (at : ℕ → Spot) → AreOthers x xs → cells_of_all os < 100000 →
       AllByRecursion (IsFine ss) (parts_at (scope outside xs os) (declaration_statement x at))
   declaration_fine xs os x at new few =
       let s = with_variable xs os x (at 1) in
@@ -105,7 +105,7 @@ module _ (ss : List Stm) where
   )
 
   -- `int y = __VERIFIER_nondet_int();`
-  pub drawn_fine : (xs : List Entry) (os : List Stored) (at : ℕ → Spot) → AreOthers (codes "y") xs → cells_in os < 100000 →
+  pub drawn_fine : (xs : List Entry) (os : List Stored) (at : ℕ → Spot) → AreOthers (codes "y") xs → cells_of_all os < 100000 →
       named (seen (with_variable xs os (codes "y") (at 1))) (codes "__VERIFIER_nondet_int") ≡ Some (kind_of_callee (Input Int)) →
       AllByRecursion (IsFine ss) (parts_at (scope outside xs os) (input_statement at))
   drawn_fine xs os at new few input =

@@ -220,3 +220,19 @@ example_52 = refl
 example_53 : checked Ilp32 (codes "int main() { int x; x() + x++ + x; }") ≡ codes "typing 21"
 unfolding level within rows_within header_within statement_level braced_within armed_within
 example_53 = refl
+
+example_54 : checked Ilp32 (codes "int f() { } int g() { } int main() { (f() = g()); }") ≡ codes "order 38"
+unfolding level within rows_within header_within statement_level braced_within armed_within
+example_54 = refl
+
+example_55 : checked Ilp32 (codes "int f() { } int g() { } int main() { f() = g(); }") ≡ codes "typing 38"
+unfolding level within rows_within header_within statement_level braced_within armed_within
+example_55 = refl
+
+example_56 : checked Ilp32 (codes "int g; int f() { g = 1; } int main() { (f() = g); }") ≡ codes "order 40"
+unfolding level within rows_within header_within statement_level braced_within armed_within
+example_56 = refl
+
+example_57 : checked Ilp32 (codes "int f() { } int main() { int x; x = f(); (f() = 1); }") ≡ codes "typing 43"
+unfolding level within rows_within header_within statement_level braced_within armed_within
+example_57 = refl

@@ -2,9 +2,9 @@ use Rattle.std.proofs.Common.{◌≡◌, ◌++◌, ◌∷◌, [], ℕ, List, len
 use Rattle.c_parser.specs.SourceView.{declared_view}
 use Rattle.c_parser.specs.Tree.{exps}
 use Rattle.check_rules.specs.declared.sizes.Sizes.{Sizes}
-use Rattle.check_rules.specs.Checked.{start_of_init}
+use Rattle.check_rules.specs.Checked.{filled_for, start_of_init}
 use Rattle.check_rules.specs.Parts.{Declaring, parts_of, parts_of_init}
-use Rattle.check_rules.specs.Scopes.{Scope, seen, sizes_of, after_name}
+use Rattle.check_rules.specs.Scopes.{Scope, seen, after_name}
 use Rattle.check_elaborate.specs.Walks.{scope_at, items_in, bodies_in, found_at, with_parts, declarator}
 use Rattle.check_elaborate.proofs.FoundLaws.{found_then}
 use Rattle.check_elaborate.proofs.globals.global.Goals as goal
@@ -15,9 +15,9 @@ returns-clause-starts c =
     let bodies = bodies_in c.args.context.now in
     let d = declared_view c.args.d.now in
     c.in_ok-initializer.ensures.starts
-    ∙ ap (λ (n : ℕ). c.args.starts.now ++ start_of_init m bodies (seen (scope_at c.declare.new.walk)) n d.ty c.in_ok-declared.declared.sizes d.init) c.in_ok-declared.ensures.number
-    ∙ ap (λ (z : Sizes). c.args.starts.now ++ start_of_init m bodies (seen (scope_at c.declare.new.walk)) (length c.args.walk.now.objects) d.ty z d.init) c.in_ok-declared.ensures.sizes
-    ∙ ap (λ (x : Scope). c.args.starts.now ++ start_of_init m bodies (seen x) (length c.args.walk.now.objects) d.ty (sizes_of m bodies (seen (scope_at c.args.walk.now)) d.sizes) d.init) c.in_ok-declared.ensures.scope
+    ∙ ap (λ (n : ℕ). c.args.starts.now ++ start_of_init m bodies (seen (scope_at c.declare.new.walk)) n d.ty c.in_ok-declared.declared.filled d.init) c.in_ok-declared.ensures.number
+    ∙ ap (λ (z : Sizes). c.args.starts.now ++ start_of_init m bodies (seen (scope_at c.declare.new.walk)) (length c.args.walk.now.objects) d.ty z d.init) c.in_ok-declared.ensures.filled
+    ∙ ap (λ (x : Scope). c.args.starts.now ++ start_of_init m bodies (seen x) (length c.args.walk.now.objects) d.ty (filled_for m bodies (scope_at c.args.walk.now) d) d.init) c.in_ok-declared.ensures.scope
 
 pub returns-clause-noted : goal.returns-clause-noted
 returns-clause-noted c =
