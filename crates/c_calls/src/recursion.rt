@@ -3,7 +3,7 @@ ghost use Rattle.std.specs.Prelude.{◌≡◌, ℕ, ◌↔◌, nat_le, [], ◌�
 ghost use Rattle.c_core.specs.View.{program_view, stmt_view};
 ghost use Rattle.c_meaning.specs.Parts.{is_in};
 ghost use Rattle.c_calls.specs.Uses.{uses_of_statement};
-ghost use Rattle.c_calls.specs.Calling.{HasReached, IsFirstOnCycle, IsFirstRecursion, Reaches};
+ghost use Rattle.c_calls.specs.Calling.{HasReached, IsFirstOnCycle, IsFirstRecursion, IsReached, Reaches};
 ghost use Rattle.c_calls.specs.Levels.{each_call, level_of, IsLevelled};
 ghost use Rattle.c_calls.specs.Marks.{is_marked};
 
@@ -25,6 +25,14 @@ fn from_main(alloc: Global, program: &Program) -> Result<Found, OutOfMemory>
     add(&mut found, program.main)?;
     spread(alloc, program, &mut found)?;
     Ok(found)
+}
+
+/// Main and the functions that it reaches.
+pub fn reached_functions(alloc: Global, program: &Program) -> Result<Vec<u32>, OutOfMemory>
+    ensures { IfOk result (λ list. (f : ℕ) → IsTrue (is_in f list.items) ↔ IsReached (program_view program.now) f) }
+{
+    let found = from_main(alloc, program)?;
+    Ok(found.order)
 }
 
 fn level_of(levels: &[u32], function: usize) -> u32
