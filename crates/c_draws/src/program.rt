@@ -32,7 +32,8 @@ fn push_functions(
     program: &Program,
     functions: &[u32],
 ) -> Result<(), OutOfMemory>
-    ensures { OnOk result (list.new.items ≡ list.old.items ++ flat_map (draws_of_function (program_view program.now)) functions.now) }
+    ensures { OnOk result (list.new.items
+        ≡ list.old.items ++ flat_map (draws_of_function (program_view program.now)) functions.now) }
 {
     for function in functions {
         push_function(alloc, list, program, *function)?;

@@ -28,7 +28,8 @@ fn push_cells(
     object: u32,
     init: &Init,
 ) -> Result<(), OutOfMemory>
-    ensures { OnOk result (list.new.items ≡ list.old.items ++ cells_by (program_view program.now) spot object (init_view init.now)) }
+    ensures { OnOk result (list.new.items ≡ list.old.items ++ cells_by (program_view program.now) spot object
+        (init_view init.now)) }
 {
     let fixed = is_fixed(program, object);
     let ty = type_of_object(program, object);
@@ -54,7 +55,8 @@ fn push_names(
     program: &Program,
     names: &[Declared],
 ) -> Result<(), OutOfMemory>
-    ensures { OnOk result (list.new.items ≡ list.old.items ++ draws_of_names (program_view program.now) (names_view names.now)) }
+    ensures { OnOk result (list.new.items
+        ≡ list.old.items ++ draws_of_names (program_view program.now) (names_view names.now)) }
 {
     for name in names {
         push_cells(list, program, name.spot, name.object, &name.init)?;
@@ -68,7 +70,8 @@ fn push_first(
     program: &Program,
     first: &First,
 ) -> Result<(), OutOfMemory>
-    ensures { OnOk result (list.new.items ≡ list.old.items ++ draws_of_first (program_view program.now) (first_view first.now)) }
+    ensures { OnOk result (list.new.items
+        ≡ list.old.items ++ draws_of_first (program_view program.now) (first_view first.now)) }
 {
     match first {
         First::Absent => Ok(()),
@@ -83,7 +86,8 @@ fn push_objects(
     spot: Spot,
     objects: &[u32],
 ) -> Result<(), OutOfMemory>
-    ensures { OnOk result (list.new.items ≡ list.old.items ++ map (change (program_view program.now) spot) objects.now) }
+    ensures { OnOk result (list.new.items
+        ≡ list.old.items ++ map (change (program_view program.now) spot) objects.now) }
 {
     for object in objects {
         let ty = type_of_object(program, *object);
@@ -103,7 +107,8 @@ fn push_looked_up(
     spot: Spot,
     form: &Form,
 ) -> Result<(), OutOfMemory>
-    ensures { OnOk result (list.new.items ≡ list.old.items ++ changes_of (program_view program.now) spot (form_view form.now)) }
+    ensures { OnOk result (list.new.items
+        ≡ list.old.items ++ changes_of (program_view program.now) spot (form_view form.now)) }
 {
     let objects = changed_in(alloc, program, form)?;
     push_objects(list, program, spot, objects.as_slice())?;
@@ -118,7 +123,8 @@ fn push_changed(
     spot: Spot,
     form: &Form,
 ) -> Result<(), OutOfMemory>
-    ensures { OnOk result (list.new.items ≡ list.old.items ++ changes_of (program_view program.now) spot (form_view form.now)) }
+    ensures { OnOk result (list.new.items
+        ≡ list.old.items ++ changes_of (program_view program.now) spot (form_view form.now)) }
 {
     match form {
         Form::While { .. } => push_looked_up(alloc, list, program, spot, form),
@@ -136,7 +142,8 @@ pub fn push_statement(
     program: &Program,
     s: &Stmt,
 ) -> Result<(), OutOfMemory>
-    ensures { OnOk result (list.new.items ≡ list.old.items ++ draws_of_statement (program_view program.now) (stmt_view s.now)) }
+    ensures { OnOk result (list.new.items
+        ≡ list.old.items ++ draws_of_statement (program_view program.now) (stmt_view s.now)) }
 {
     push_changed(alloc, list, program, s.spot, &s.form)?;
     push_form(alloc, list, program, &s.form)?;
@@ -150,7 +157,8 @@ fn push_form(
     program: &Program,
     form: &Form,
 ) -> Result<(), OutOfMemory>
-    ensures { OnOk result (list.new.items ≡ list.old.items ++ draws_of_form (program_view program.now) (form_view form.now)) }
+    ensures { OnOk result (list.new.items
+        ≡ list.old.items ++ draws_of_form (program_view program.now) (form_view form.now)) }
 {
     match form {
         Form::Empty => {}
@@ -202,7 +210,8 @@ fn push_block(
     program: &Program,
     body: &[Stmt],
 ) -> Result<(), OutOfMemory>
-    ensures { OnOk result (list.new.items ≡ list.old.items ++ draws_of_block (program_view program.now) (stmts_view body.now)) }
+    ensures { OnOk result (list.new.items
+        ≡ list.old.items ++ draws_of_block (program_view program.now) (stmts_view body.now)) }
 {
     for s in body {
         push_statement(alloc, list, program, s)?;
@@ -217,7 +226,8 @@ fn push_arms(
     program: &Program,
     arms: &[Arm],
 ) -> Result<(), OutOfMemory>
-    ensures { OnOk result (list.new.items ≡ list.old.items ++ draws_of_block (program_view program.now) (switch_view arms.now)) }
+    ensures { OnOk result (list.new.items
+        ≡ list.old.items ++ draws_of_block (program_view program.now) (switch_view arms.now)) }
 {
     for arm in arms {
         push_block(alloc, list, program, arm.body.as_slice())?;

@@ -98,7 +98,8 @@ pub fn obligations(
     invariants: &Seq<PlacedInvariant>,
 ) -> Result<Obligations, SymFault>
     requires { All (IsInvariant (program_view program.now)) (placed_view invariants.now) }
-    ensures { AnswersFor (program_view program.now) (names_of program.now.functions) (placed_view invariants.now) result }
+    ensures { AnswersFor (program_view program.now) (names_of program.now.functions) (placed_view invariants.now)
+        result }
 {
     if let Some(function) = calls_itself(alloc, program)? {
         let name = recursive(alloc, program, function)?;
