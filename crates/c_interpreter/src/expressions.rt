@@ -1,5 +1,5 @@
 // Expressions: one function for each form.
-ghost use Rattle.std.specs.Prelude.{◌≤◌, [], None, Some, true, false};
+ghost use Rattle.std.specs.Prelude.{◌≡◌, ◌≤◌, [], None, Some, true, false};
 ghost use Rattle.std.specs.Option.{option_copied};
 ghost use Rattle.c_core.specs.Tree as t;
 ghost use Rattle.c_core.specs.View.{program_view, expr_view, exprs_view, node_view};
@@ -50,25 +50,12 @@ fn node<W: Watcher>(
 {
     match &e.node {
         Node::Const(value) => Ok(*value),
-        Node::Var(object) => Ok(look(
-            machine,
-            Element {
-                object: *object,
-                index: 0,
-            },
-        )),
+        Node::Var(object) => Ok(look(machine, scalar(*object))),
         Node::Binary { op, left, right } => binary(
             program, machine, watcher, depth, at, e.spot, *op, left, right,
         ),
         Node::Index { object, at: place } => index(
-            program,
-            machine,
-            watcher,
-            depth,
-            at,
-            e.spot,
-            *object,
-            place.as_slice(),
+            program, machine, watcher, depth, at, e.spot, *object, place,
         ),
         Node::Unary { op, of } => unary(program, machine, watcher, depth, at, e.spot, *op, of),
         Node::Cast(of) => cast(program, machine, watcher, depth, at, e.ty, of),
@@ -76,11 +63,9 @@ fn node<W: Watcher>(
         Node::Logic { both, left, right } => logic(
             program, machine, watcher, depth, at, *both, left, right,
         ),
-        Node::Assign {
-            op,
-            target: to,
-            from,
-        } => assign(program, machine, watcher, depth, at, e.spot, *op, to, from),
+        Node::Assign { op, target, from } => assign(
+            program, machine, watcher, depth, at, e.spot, *op, target, from,
+        ),
         Node::Step { op, target: to } => step(
             program, machine, watcher, depth, at, e.spot, *op, to,
         ),
@@ -97,19 +82,16 @@ fn node<W: Watcher>(
             args,
             close,
         } => call(
-            program,
-            machine,
-            watcher,
-            depth,
-            at,
-            used,
-            e.spot,
-            e.ty,
-            *callee,
-            args.as_slice(),
-            *close,
+            program, machine, watcher, depth, at, used, e, *callee, args, *close,
         ),
     }
+}
+
+// The element of an object without an index.
+fn scalar(object: u32) -> Element
+    ensures { result ≡ record { object = object; index = 0 } }
+{
+    Element { object, index: 0 }
 }
 
 #[cycle(run)]
@@ -189,15 +171,9 @@ fn place<W: Watcher>(
             *object,
             place.as_slice(),
         ),
-        Node::Var(object) => Ok(Element {
-            object: *object,
-            index: 0,
-        }),
+        Node::Var(object) => Ok(scalar(*object)),
         // no target of a checked program
-        _ => Ok(Element {
-            object: 0,
-            index: 0,
-        }),
+        _ => Ok(scalar(0)),
     }
 }
 
@@ -264,13 +240,14 @@ fn index<W: Watcher>(
     at: Around,
     spot: Spot,
     object: u32,
-    indexes: &[Expr],
+    indexes: &Seq<Expr>,
 ) -> Result<i128, Halt>
     requires bound { machine.old.steps ≤ depth }
     ensures gives { Gives same result (state_of machine.new (W.seen watcher.new)) (noded (program_view program.now) W.Seen W.after depth (where_of at) Used spot None (t.Index object (exprs_view indexes.now)) (state_of machine.old (W.seen watcher.old))) }
     ensures spends { machine.new.steps ≤ machine.old.steps }
 {
-    let found = element_at(program, machine, watcher, depth, at, spot, object, indexes)?;
+    let place = indexes.as_slice();
+    let found = element_at(program, machine, watcher, depth, at, spot, object, place)?;
     Ok(look(machine, found))
 }
 
@@ -587,6 +564,7 @@ fn assign<W: Watcher>(
     }
 }
 
+// A call, which is the expression `e`: its arguments, then what is called.
 #[cycle(run)]
 fn call<W: Watcher>(
     program: &Program,
@@ -595,22 +573,21 @@ fn call<W: Watcher>(
     depth: u64,
     at: Around,
     used: bool,
-    spot: Spot,
-    ty: Option<IntType>,
+    e: &Expr,
     callee: Callee,
-    args: &[Expr],
+    args: &Seq<Expr>,
     close: Spot,
 ) -> Result<i128, Halt>
     requires bound { machine.old.steps ≤ depth }
-    ensures gives { Gives same result (state_of machine.new (W.seen watcher.new)) (noded (program_view program.now) W.Seen W.after depth (where_of at) (use_of used) spot ty (t.Call callee (exprs_view args.now) close) (state_of machine.old (W.seen watcher.old))) }
+    ensures gives { Gives same result (state_of machine.new (W.seen watcher.new)) (noded (program_view program.now) W.Seen W.after depth (where_of at) (use_of used) e.now.spot e.now.ty (t.Call callee (exprs_view args.now) close) (state_of machine.old (W.seen watcher.old))) }
     ensures spends { machine.new.steps ≤ machine.old.steps }
 {
-    let values = arguments(program, machine, watcher, depth, at, args)?;
+    let values = arguments(program, machine, watcher, depth, at, args.as_slice())?;
     tell(machine, watcher, Event::Enter(close))?;
     let site = CallSite {
-        spot,
+        spot: e.spot,
         close,
-        needed: is_needed(used, ty),
+        needed: is_needed(used, e.ty),
     };
     called(
         program,
