@@ -128,6 +128,7 @@ fn at_row(
 
 /// An assignment; its value is that of the target behind it (ISO C11 6.5.16).
 #[cycle(walk)]
+#[inline(never)]
 pub fn assign(
     walk: &Walk,
     sym: &mut Sym,
@@ -217,6 +218,7 @@ fn value_of_step(prefix: bool, after: Bits, before: Bits) -> Bits
 
 /// `++` or `--`, before or behind its target (ISO C11 6.5.2.4, 6.5.3.1).
 #[cycle(walk)]
+#[inline(never)]
 pub fn step(
     walk: &Walk,
     sym: &mut Sym,

@@ -135,6 +135,7 @@ fn function_at(program: &Program, depth: u32, function: u32) -> Option<&Function
 
 // The function of a number is called; where no call may be so deep, or there is no such function, the run ends.
 #[cycle(walk)]
+#[inline(never)]
 fn call_found(
     walk: &Walk,
     sym: &mut Sym,

@@ -20,6 +20,7 @@ use sym_values::{choose, convert, end, input, operate, operate_one, reach, test,
 use wv_base::{OutOfMemory, Seq};
 
 /// An expression, at a statement and a full expression, with calls at most `depth` deep. A void one gives any bits.
+/// Each form has a frame of its own, never inlined here: nested expressions take the stack of their own forms alone.
 #[cycle(walk)]
 pub fn eval(
     walk: &Walk,
@@ -109,6 +110,7 @@ fn scalar(
 }
 
 #[cycle(walk)]
+#[inline(never)]
 fn element(
     walk: &Walk,
     sym: &mut Sym,
@@ -130,6 +132,7 @@ fn element(
 }
 
 #[cycle(walk)]
+#[inline(never)]
 fn unary(
     walk: &Walk,
     sym: &mut Sym,
@@ -151,6 +154,7 @@ fn unary(
 }
 
 #[cycle(walk)]
+#[inline(never)]
 fn binary(
     walk: &Walk,
     sym: &mut Sym,
@@ -176,6 +180,7 @@ fn binary(
 }
 
 #[cycle(walk)]
+#[inline(never)]
 fn cast(
     walk: &Walk,
     sym: &mut Sym,
@@ -204,6 +209,7 @@ fn cast(
 }
 
 #[cycle(walk)]
+#[inline(never)]
 fn comma(
     walk: &Walk,
     sym: &mut Sym,
@@ -248,6 +254,7 @@ fn eval_where(
 }
 
 #[cycle(walk)]
+#[inline(never)]
 fn logic(
     walk: &Walk,
     sym: &mut Sym,
@@ -277,6 +284,7 @@ fn logic(
 }
 
 #[cycle(walk)]
+#[inline(never)]
 fn conditional(
     walk: &Walk,
     sym: &mut Sym,
@@ -367,6 +375,7 @@ fn void_arms(
 }
 
 #[cycle(walk)]
+#[inline(never)]
 fn call(
     walk: &Walk,
     sym: &mut Sym,
