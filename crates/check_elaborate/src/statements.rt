@@ -115,8 +115,7 @@ fn form<'a>(
         }
         RawForm::Label { of, .. } => {
             let of = arm(context, walk, gives, within, of)?;
-            let form = label_of(context.alloc, of)?;
-            Ok(form)
+            Ok(label_of(context.alloc, of)?)
         }
         RawForm::Switch { test, arms } => {
             let form = switch(context, walk, gives, within, spot, arms.as_slice(), test)?;
