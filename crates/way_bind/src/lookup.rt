@@ -2,7 +2,7 @@ ghost use Rattle.std.specs.Prelude.{◌≡◌, IfOk};
 
 use c_core::Program;
 use std::alloc::Global;
-use way_names::Names;
+use way_names::{Keys, Names};
 use way_places::Index;
 use wv_base::OutOfMemory;
 
@@ -11,7 +11,9 @@ use wv_base::OutOfMemory;
 pub struct Lookup<'a> {
     pub index: Index<'a>,
     pub names: Names<'a>,
+    pub keys: Keys<'a>,
     ghost one_program: { names ≡ index },
+    ghost keyed: { keys.objects.now ≡ index.objects },
 }
 
 impl<'a> Lookup<'a> {
@@ -21,6 +23,7 @@ impl<'a> Lookup<'a> {
     {
         let index = Index::new(alloc, program)?;
         let names = Names::new(alloc, program)?;
-        Ok(Lookup { index, names })
+        let keys = Keys::of(alloc, program.objects.as_slice())?;
+        Ok(Lookup { index, names, keys })
     }
 }

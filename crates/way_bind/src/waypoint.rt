@@ -14,8 +14,9 @@ use crate::way::way_at;
 use c_core::{Expr, PlaceKind, Program, Spot};
 use c_parser::{ExprFault, RawExpr, parse_expr, parse_result};
 use std::alloc::Global;
-use way_constraint::check_expr;
+use way_constraint::{check_among, check_expr};
 use way_match::{Aim, Point, ReturnTest};
+use way_names::Keys;
 use way_places::Index;
 use wv_base::Seq;
 use wv_schema::{Constraint, Location, WayKind, Waypoint};
@@ -56,13 +57,15 @@ fn is_valued(index: &Index, close: Spot) -> bool
 fn expression_of(
     alloc: Global,
     program: &Program,
+    keys: &Keys,
     names: &Seq<u32>,
     text: &str,
 ) -> Result<Expr, Unbound>
+    requires { keys.now.objects.now ≡ program.now.objects }
     ensures { BindsExpression (program_view program.now) names.now text.now (seen expr_view result) }
 {
     let expr = parse_expr(alloc, text.as_bytes())?;
-    let test = check_expr(alloc, program, names, &expr)?;
+    let test = check_among(alloc, program, keys, names, &expr)?;
     Ok(test)
 }
 
@@ -78,7 +81,8 @@ pub fn expression_at(
     ensures { BindsExpression (program_view lookup.now.index) (names_at (program_view lookup.now.index) kind spot) text.now (seen expr_view result) }
 {
     let names = lookup.names.visible_at(alloc, kind, spot)?;
-    expression_of(alloc, lookup.index.program(), &names, text)
+    let program = lookup.index.program();
+    expression_of(alloc, program, &lookup.keys, &names, text)
 }
 
 /// A constant, which sees no names, typed.

@@ -4,3 +4,6 @@ mod NameLaws
 mod PartLaws
 mod TreeLaws
 mod AnswerLaws
+mod SameLaws
+mod WordLaws
+mod FewLaws

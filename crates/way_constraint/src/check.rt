@@ -1,16 +1,18 @@
-ghost use Rattle.std.specs.Prelude.{IfOk};
+ghost use Rattle.std.specs.Prelude.{◌≡◌, IfOk};
 ghost use Rattle.c_core.specs.View.{program_view, expr_view as typed_view};
 ghost use Rattle.c_parser.specs.View.{expr_view};
 ghost use Rattle.way_constraint.specs.Constraints.{AnswersConstraint, AnswersIn, FitsConstraint, entries};
 
 use crate::known::names_objects;
 use crate::names::names_in_scope;
+use crate::words::named_in;
 use c_core::{DataModel, Expr, Object, Program};
 use c_parser::{ExprFault, RawExpr};
 use check_rules::Role;
 use check_scope::Functions;
 use check_types::expression;
 use std::alloc::Global;
+use way_names::Keys;
 use wv_base::Seq;
 
 /// The typed tree of an expression whose words are objects, given by their numbers.
@@ -64,4 +66,26 @@ pub fn check_expr(
         expr,
     )?;
     Ok(tree)
+}
+
+/// The same, by the keys of the program's names: only those that are words of the expression are declared.
+pub fn check_among(
+    alloc: Global,
+    program: &Program,
+    keys: &Keys,
+    names: &Seq<u32>,
+    expr: &RawExpr,
+) -> Result<Expr, ExprFault>
+    requires { keys.now.objects.now ≡ program.now.objects }
+    ensures answer { AnswersConstraint (program_view program.now) names.now (expr_view expr.now) result }
+    ensures fits { IfOk result (λ tree. FitsConstraint names.now (expr_view expr.now) (typed_view tree)) }
+{
+    let few = named_in(alloc, keys, names, expr)?;
+    constraint_in(
+        alloc,
+        program.model,
+        &program.objects,
+        few.as_slice(),
+        expr,
+    )
 }

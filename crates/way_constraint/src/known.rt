@@ -30,8 +30,8 @@ fn is_object(table: &Table, name: &str) -> bool
     means_object(table.meaning(name))
 }
 
-// The name that a node uses itself.
-fn name_in(node: &RawNode) -> Option<&str>
+/// The name that a node uses itself.
+pub fn name_in(node: &RawNode) -> Option<&str>
     ensures { option_map (λ name. name.now) result ≡ word_of (node_view node.now) }
 {
     match node {

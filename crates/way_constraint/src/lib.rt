@@ -4,5 +4,6 @@
 mod check;
 mod known;
 mod names;
+mod words;
 
-pub use check::check_expr;
+pub use check::{check_among, check_expr};

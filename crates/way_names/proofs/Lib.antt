@@ -5,3 +5,4 @@ pub mod FrontLaws
 pub mod StaticLaws
 pub mod ObjectLaws
 pub mod NamesLaws
+pub mod KeyLaws

@@ -2,10 +2,12 @@
 #![tactic(auto)]
 
 mod examples;
+mod keys;
 mod names;
 mod places;
 mod scope;
 mod statics;
 mod walk;
 
+pub use keys::{Keys, mark};
 pub use names::{Names, names_at};
