@@ -44,24 +44,29 @@ fn mark_parts(keys: &Keys, marks: &mut Vec<bool>, node: &RawNode)
         RawNode::Unary { of, .. } => mark_words(keys, marks, of),
         RawNode::Cast { of, .. } => mark_words(keys, marks, of),
         RawNode::Step { target, .. } => mark_words(keys, marks, target),
-        RawNode::Binary { left, right, .. } => mark_both(keys, marks, left, right),
-        RawNode::Logic { left, right, .. } => mark_both(keys, marks, left, right),
+        RawNode::Binary { left, right, .. } => {
+            mark_words(keys, marks, left);
+            mark_words(keys, marks, right);
+        }
+        RawNode::Logic { left, right, .. } => {
+            mark_words(keys, marks, left);
+            mark_words(keys, marks, right);
+        }
         RawNode::Choose { test, yes, no, .. } => {
             mark_words(keys, marks, test);
-            mark_both(keys, marks, yes, no);
+            mark_words(keys, marks, yes);
+            mark_words(keys, marks, no);
         }
-        RawNode::Comma { first, last } => mark_both(keys, marks, first, last),
-        RawNode::Assign { target, from, .. } => mark_both(keys, marks, target, from),
+        RawNode::Comma { first, last } => {
+            mark_words(keys, marks, first);
+            mark_words(keys, marks, last);
+        }
+        RawNode::Assign { target, from, .. } => {
+            mark_words(keys, marks, target);
+            mark_words(keys, marks, from);
+        }
         RawNode::Call { args, .. } => mark_all(keys, marks, args.as_slice()),
     }
-}
-
-#[cycle(words)]
-fn mark_both(keys: &Keys, marks: &mut Vec<bool>, left: &RawExpr, right: &RawExpr)
-    ensures { marks.new.items ≡ with_words (key_of keys.now.objects.now) (expr_view right.now) (with_words (key_of keys.now.objects.now) (expr_view left.now) marks.old.items) }
-{
-    mark_words(keys, marks, left);
-    mark_words(keys, marks, right);
 }
 
 #[cycle(words)]
