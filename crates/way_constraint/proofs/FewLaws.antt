@@ -16,7 +16,7 @@ use Rattle.check_rules.specs.Codes.{count_stated, or_else}
 use Rattle.check_rules.specs.Names.{Kind, Object, Entry, later, declared_as, named, built_in, or_built_in}
 use Rattle.check_rules.specs.Typed.{typed}
 use Rattle.way_names.specs.Keys.{is_marked, is_wanted, key_at, key_of}
-use Rattle.way_constraint.specs.Constraints.{entries, entry_at, is_among, in_scope, is_refused, IsTyped, IsMistyped, AnswersIn, FitsConstraint}
+use Rattle.way_constraint.specs.Constraints.{entries, entry_at, is_among, in_scope, is_refused, IsTyped, AnswersIn, FitsConstraint}
 use Rattle.way_constraint.specs.Known.{is_object}
 use Rattle.way_constraint.specs.Words.{all_pass, is_word_marked, TakesFew}
 use Rattle.way_constraint.proofs.AnswerLaws.{fits, objects_in_scope}

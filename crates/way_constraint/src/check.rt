@@ -81,11 +81,5 @@ pub fn check_among(
     ensures fits { IfOk result (λ tree. FitsConstraint names.now (expr_view expr.now) (typed_view tree)) }
 {
     let few = named_in(alloc, keys, names, expr)?;
-    constraint_in(
-        alloc,
-        program.model,
-        &program.objects,
-        few.as_slice(),
-        expr,
-    )
+    constraint_in(alloc, program.model, &program.objects, few.as_slice(), expr)
 }

@@ -79,7 +79,8 @@ fn mark_all(keys: &Keys, marks: &mut Vec<bool>, es: &[RawExpr])
 }
 
 fn words_marked(alloc: Global, keys: &Keys, e: &RawExpr) -> Result<Vec<bool>, OutOfMemory>
-    ensures { IfOk result (λ marks. all_pass (is_word_marked (key_of keys.now.objects.now) marks.items) (expr_view e.now) ≡ true) }
+    ensures { IfOk result (λ marks.
+        all_pass (is_word_marked (key_of keys.now.objects.now) marks.items) (expr_view e.now) ≡ true) }
 {
     let mut marks = vec![in alloc; false; keys.objects.len()]?;
     mark_words(keys, &mut marks, e);

@@ -34,7 +34,8 @@ fn keep_first<'a>(
     number: usize,
 ) -> Result<usize, OutOfMemory>
     ensures first { IfOk result (λ first. Some first ≡ or_else (number_in numbers.old name.now) (Some number)) }
-    ensures kept { OnOk result ((x : List ℕ) → number_in numbers.new x ≡ or_else (number_in numbers.old x) (cond (bytes_eq name.now x) (Some number) None)) }
+    ensures kept { OnOk result ((x : List ℕ) → number_in numbers.new x
+        ≡ or_else (number_in numbers.old x) (cond (bytes_eq name.now x) (Some number) None)) }
 {
     let first = number_in(numbers, name).unwrap_or(number);
     numbers.insert(name, first)?;
