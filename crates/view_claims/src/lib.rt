@@ -10,6 +10,7 @@ mod obligations;
 mod unbound;
 mod verdict;
 mod violation;
+mod weeding;
 
 pub use unbound::explain_unbound_invariant;
 pub use verdict::explain_verdict;
