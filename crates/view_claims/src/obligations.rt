@@ -110,6 +110,21 @@ pub fn note_invariant(
     out.remark(File::Witness, Some(spot), "the invariant stands here")
 }
 
+/// An obligation that belongs to the message before, with why it is told.
+pub fn note_obligation(
+    alloc: Global,
+    files: &Files<'_>,
+    witness: &Witness,
+    index: u32,
+    duty: Duty,
+    why: &str,
+    out: &mut Messages,
+) -> Result<(), OutOfMemory> {
+    let told = obligation_text(alloc, witness, index, duty, why)?;
+    out.note(File::Program, Some(duty.spot), told)?;
+    note_invariant(alloc, files, witness, duty, out)
+}
+
 /// A cell of an object.
 #[derive(Clone, Copy)]
 struct Cell {
