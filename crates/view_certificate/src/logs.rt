@@ -120,7 +120,7 @@ fn told_of(
         )?);
     }
     Ok(format!(in alloc;
-        "the log of obligation {obligation} ends here, and its last chain doesn't give the empty clause"
+        "the log of obligation {obligation} ends here, without a last chain that gives the empty clause"
     )?)
 }
 
