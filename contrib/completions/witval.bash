@@ -9,7 +9,7 @@ _witval() {
   esac
   words='--program --property --witness --steps --conflicts'
   case $command in
-    witval-view) words+=' --list --sarif --html --help --version validate' ;;
+    witval-view) words+=' --list --sarif --html --certificate --manifest --dimacs --lrat --help --version validate' ;;
     witval-task) words+=' --data-model --language --json validate' ;;
     *) words+=' --number --certificate --values --model --uuid --time --json --help --version validate show normalise demo certify recheck author weed view' ;;
   esac

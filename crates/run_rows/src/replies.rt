@@ -6,16 +6,26 @@ use std::str;
 use witval::run;
 use wv_base::{MemorySink, OutOfMemory};
 
-/// Whether a word of the viewer's is one of `validate` too.
+/// Whether a word of the viewer's is one of the validator's too.
 fn is_shared(word: &str) -> bool {
     word != "validate" && word != "--sarif" && word != "--html"
 }
 
-/// The viewer's words as those of `validate`.
-fn validate_words(alloc: Global, line: &str) -> Result<Vec<String>, OutOfMemory> {
+/// The mode of the validator that the viewer's words are for.
+fn mode_of(line: &str) -> &'static str {
+    for word in line.split(' ') {
+        if word == "--certificate" {
+            return "recheck";
+        }
+    }
+    "validate"
+}
+
+/// The viewer's words as those of the validator.
+fn validator_words(alloc: Global, line: &str) -> Result<Vec<String>, OutOfMemory> {
     let mut words = Vec::new(alloc);
     words.push(String::from_str(alloc, "witval")?)?;
-    words.push(String::from_str(alloc, "validate")?)?;
+    words.push(String::from_str(alloc, mode_of(line))?)?;
     for word in line.split(' ').skip(1) {
         if is_shared(word) {
             words.push(String::from_str(alloc, word)?)?;
@@ -27,7 +37,7 @@ fn validate_words(alloc: Global, line: &str) -> Result<Vec<String>, OutOfMemory>
 /// Whether a text begins with the status and the reply of the top call.
 pub fn begins_with_reply(files: &Files<'_>, row: &Row, text: &str) -> Result<bool, NotTried> {
     let alloc = files.alloc();
-    let words = validate_words(alloc, row.wanted_text("words")?)?;
+    let words = validator_words(alloc, row.wanted_text("words")?)?;
     let mut shelf = shelf(files, row)?;
     let mut out = MemorySink::new(alloc, 65536, 4096)?;
     let status = run(alloc, &words, &mut shelf, &mut out);

@@ -4,21 +4,57 @@ use crate::replies::begins_with_reply;
 use row_files::{Files, NotTried, Row};
 use row_sarif::lacking;
 use std::alloc::Global;
-use view_inputs::{Asked, Form, read_words};
-use view_judging::{shown, usage_reply};
+use view_inputs::{Asked, Form, Part, read_words};
+use view_judging::{handed, shown, usage_reply};
 use wv_arguments::{Budgets, Names};
 use wv_base::OutOfMemory;
+
+/// Checking a certificate again spends none of it.
+const LEAST: Budgets = Budgets {
+    steps: 1,
+    conflicts: 1,
+};
+
+/// What is judged, or checked again.
+#[derive(Clone, Copy)]
+struct Judged<'a> {
+    names: Names<'a>,
+    certificate: Option<&'a str>,
+    budgets: Budgets,
+}
+
+/// A part of a certificate, with the status before it, and behind it what goes to standard error.
+fn given_out(
+    files: &Files<'_>,
+    row: &Row,
+    names: &Names<'_>,
+    certificate: &str,
+    part: Part,
+) -> Result<String, NotTried> {
+    let alloc = files.alloc();
+    let handed = handed(alloc, names, certificate, part, shelf(files, row)?)?;
+    let status = handed.output.status;
+    let text = String::from_utf8_lossy(alloc, handed.output.bytes.as_slice())?;
+    let told = handed.told.as_str();
+    Ok(format!(in alloc; "{status} {text}{told}")?)
+}
 
 /// What is shown of files in one form, with its status before it.
 fn shown_as(
     files: &Files<'_>,
     row: &Row,
-    names: &Names<'_>,
-    budgets: Budgets,
+    asked: &Judged<'_>,
     form: Form,
 ) -> Result<String, NotTried> {
     let alloc = files.alloc();
-    let shown = shown(alloc, names, budgets, form, shelf(files, row)?)?;
+    let shown = shown(
+        alloc,
+        &asked.names,
+        asked.certificate,
+        asked.budgets,
+        form,
+        shelf(files, row)?,
+    )?;
     let status = shown.status;
     let text = String::from_utf8_lossy(alloc, shown.bytes.as_slice())?;
     Ok(format!(in alloc; "{status} {text}")?)
@@ -28,22 +64,21 @@ fn shown_as(
 fn judged(
     files: &Files<'_>,
     row: &Row,
-    names: &Names<'_>,
-    budgets: Budgets,
+    asked: &Judged<'_>,
     form: Form,
 ) -> Result<String, NotTried> {
-    let text = shown_as(files, row, names, budgets, Form::Text)?;
+    let text = shown_as(files, row, asked, Form::Text)?;
     if !begins_with_reply(files, row, text.as_str())? {
         return Ok(format!(in files.alloc(); "the reply isn't that of `run`: {text}")?);
     }
-    let log = shown_as(files, row, names, budgets, Form::Sarif)?;
+    let log = shown_as(files, row, asked, Form::Sarif)?;
     if let Some(member) = lacking(files.alloc(), log.as_str())? {
         return Ok(format!(in files.alloc(); "the log lacks {member}: {log}")?);
     }
     match form {
         Form::Text => Ok(text),
         Form::Sarif => Ok(log),
-        Form::Html => shown_as(files, row, names, budgets, form),
+        Form::Html => shown_as(files, row, asked, form),
     }
 }
 
@@ -64,7 +99,31 @@ pub fn told(files: &Files<'_>, row: &Row) -> Result<String, NotTried> {
             names,
             budgets,
             form,
-        } => judged(files, row, &names, budgets, form),
+        } => {
+            let asked = Judged {
+                names,
+                certificate: None,
+                budgets,
+            };
+            judged(files, row, &asked, form)
+        }
+        Asked::Recheck {
+            names,
+            certificate,
+            form,
+        } => {
+            let asked = Judged {
+                names,
+                certificate: Some(certificate),
+                budgets: LEAST,
+            };
+            judged(files, row, &asked, form)
+        }
+        Asked::Export {
+            names,
+            certificate,
+            part,
+        } => given_out(files, row, &names, certificate, part),
         Asked::Help(text) => Ok(format!(in alloc; "0 {text}")?),
         Asked::Misuse(text) => Ok(misused(alloc, text.as_str())?),
         Asked::List { .. } => Err(NotTried::Lacks("files, or it is a list")),

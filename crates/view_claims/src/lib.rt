@@ -10,7 +10,9 @@ mod obligations;
 mod unbound;
 mod verdict;
 mod violation;
+mod weeding;
 
+pub use obligations::note_obligation;
 pub use unbound::explain_unbound_invariant;
-pub use verdict::explain_verdict;
+pub use verdict::{explain_verdict, show_obligations};
 pub use violation::explain_sequence;

@@ -1,6 +1,7 @@
 // An obligation that fails: its invariant, its place, and the values of the havoc run that ends there, by the names of their objects.
 use crate::binding::{claim_of_invariant, head};
 use crate::names::name_of;
+use crate::weeding::note_weeding;
 use c_calls::changed;
 use c_core::{Object, Program, Spot};
 use c_meaning::{Draw, DrawKind, Duty, DutyKind, size_of_object};
@@ -107,6 +108,21 @@ pub fn note_invariant(
     let steps = steps_of(alloc, path.as_str())?;
     let spot = place_of_path(alloc, files.text(File::Witness), steps.as_slice())?;
     out.remark(File::Witness, Some(spot), "the invariant stands here")
+}
+
+/// An obligation that belongs to the message before, with why it is told.
+pub fn note_obligation(
+    alloc: Global,
+    files: &Files<'_>,
+    witness: &Witness,
+    index: u32,
+    duty: Duty,
+    why: &str,
+    out: &mut Messages,
+) -> Result<(), OutOfMemory> {
+    let told = obligation_text(alloc, witness, index, duty, why)?;
+    out.note(File::Program, Some(duty.spot), told)?;
+    note_invariant(alloc, files, witness, duty, out)
 }
 
 /// A cell of an object.
@@ -280,5 +296,9 @@ pub fn explain_failed(
     let told = obligation_text(alloc, witness, index, duty, meaning_of(duty.kind))?;
     out.warning("obligation", File::Program, Some(duty.spot), told)?;
     note_draws(alloc, program, draws, out)?;
-    note_invariant(alloc, files, witness, duty, out)
+    if duty.invariant.is_none() {
+        return Ok(());
+    }
+    note_invariant(alloc, files, witness, duty, out)?;
+    note_weeding(alloc, files, out)
 }

@@ -18,8 +18,8 @@ fn meaning_of(kind: DutyKind) -> &'static str {
     }
 }
 
-/// Obligations that hold.
-fn show_obligations(
+/// Obligations that hold, as a confirmation.
+pub fn show_obligations(
     alloc: Global,
     witness: &Witness,
     duties: &[Duty],

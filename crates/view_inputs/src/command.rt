@@ -1,4 +1,5 @@
 // The words of the command line, read by `clap`.
+use crate::certificate_words::{wanted_part, with_parts};
 use clap::builder::ValueParser;
 use clap::error::ErrorKind;
 use clap::{Arg, ArgAction, ArgMatches, Command};
@@ -7,13 +8,14 @@ use wv_arguments::{Budgets, Names};
 use wv_base::OutOfMemory;
 
 const ABOUT: &str =
-    "Judges a software verification witness as `witval validate` does, and shows what there is to look at in the files: \
-what a refusal speaks of, why a violation isn't confirmed, which obligation fails and with which values.";
+    "Judges a software verification witness as `witval validate` does, or a certificate as `witval recheck` does, and shows what \
+there is to look at in the files: what a refusal speaks of, why a violation isn't confirmed, which obligation fails and with which \
+values, which line of a certificate is wrong. It also hands a certificate out, in the forms of other checkers.";
 
 const AFTER: &str =
-    "It prints the reply of `witval validate` word for word, and then messages in the form of compilers: \
+    "It prints the reply of `witval validate` or `witval recheck` word for word, and then messages in the form of compilers: \
 FILE:LINE:COLUMN: error: TEXT [code], the line, a caret. Messages are no verdicts of their own.\n\n\
-Status: that of `witval validate`: 0 confirmed, 1 not confirmed, 2 undecided, 3 refused, 4 a read fault, 5 a write fault, \
+Status: that of `witval validate` or `witval recheck`: 0 confirmed, 1 not confirmed, 2 undecided, 3 refused, 4 a read fault, 5 a write fault, \
 6 want of memory, 7 misused words; 0 for this help.";
 
 /// How a judgement is shown.
@@ -24,6 +26,17 @@ pub enum Form {
     Html,
 }
 
+/// What is handed out of a certificate, for other checkers.
+#[derive(Clone, Copy, Debug, PartialEq, Eq)]
+pub enum Part {
+    /// What its obligations are, and of which files.
+    Manifest,
+    /// The clauses of the obligation of this number.
+    Dimacs(u64),
+    /// The log of the obligation of this number.
+    Lrat(u64),
+}
+
 /// What the words ask for.
 #[derive(Drop)]
 pub enum Asked<'a> {
@@ -31,6 +44,18 @@ pub enum Asked<'a> {
         names: Names<'a>,
         budgets: Budgets,
         form: Form,
+    },
+    /// A certificate, checked again.
+    Recheck {
+        names: Names<'a>,
+        certificate: &'a str,
+        form: Form,
+    },
+    /// A part of a certificate.
+    Export {
+        names: Names<'a>,
+        certificate: &'a str,
+        part: Part,
     },
     /// Many judgements, by the name of their list.
     List {
@@ -135,6 +160,7 @@ fn command<'a>(alloc: Global) -> Result<Command<'a>, AllocError> {
         .arg(mode)?;
     let command = with_files(alloc, command)?;
     let command = with_forms(alloc, command)?;
+    let command = with_parts(alloc, command)?;
     with_budgets(alloc, command)
 }
 
@@ -177,12 +203,32 @@ fn asked_by<'a>(alloc: Global, matches: &ArgMatches<'a>) -> Result<Asked<'a>, Ou
         return Ok(Asked::List { name, budgets });
     }
     match names(matches) {
-        Some(names) => Ok(Asked::Judge {
+        Some(names) => Ok(asked_of(matches, names, budgets)),
+        None => misuse(alloc, "error: a file isn't named\n"),
+    }
+}
+
+/// What is asked of three files, and of a certificate where one is named.
+fn asked_of<'a>(matches: &ArgMatches<'a>, names: Names<'a>, budgets: Budgets) -> Asked<'a> {
+    let form = wanted_form(matches);
+    let Some(certificate) = matches.get_str("certificate") else {
+        return Asked::Judge {
             names,
             budgets,
-            form: wanted_form(matches),
-        }),
-        None => misuse(alloc, "error: a file isn't named\n"),
+            form,
+        };
+    };
+    match wanted_part(matches) {
+        Some(part) => Asked::Export {
+            names,
+            certificate,
+            part,
+        },
+        None => Asked::Recheck {
+            names,
+            certificate,
+            form,
+        },
     }
 }
 

@@ -2,12 +2,13 @@
 //! written.
 #![tactic(auto)]
 
+mod certificate_words;
 mod command;
 mod keeping;
 mod names;
 mod reply_sink;
 
-pub use command::{Asked, Form, read_words};
+pub use command::{Asked, Form, Part, read_words};
 pub use keeping::Keeping;
 pub use names::names_in;
 pub use reply_sink::ReplySink;

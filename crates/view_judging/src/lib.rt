@@ -2,10 +2,12 @@
 //! or a SARIF log or a page of HTML; or a line of JSON for each task of a list. The reply is that of `witval::run`, over any shelf.
 #![tactic(auto)]
 
+mod handing;
 mod listed;
 mod replying;
 mod showing;
 
+pub use handing::{Handed, handed};
 pub use listed::{Progress, Stop, judge_lines};
 pub use replying::{Replied, replied_to, usage_reply};
 pub use showing::{Output, shown};

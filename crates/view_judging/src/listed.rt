@@ -70,7 +70,7 @@ fn judge_line<S: Shelf, O: Sink>(
     let Some(names) = names_in(line) else {
         return Err(Stop::NoTask(number));
     };
-    let replied = replied_to(alloc, &names, budgets, shelf)?;
+    let replied = replied_to(alloc, &names, None, budgets, shelf)?;
     if replied.status > 4 {
         return Err(Stop::NoTask(number));
     }

@@ -12,10 +12,19 @@ pub struct Replied {
     pub reply: Vec<u8>,
 }
 
+/// A certificate is checked again, and all else is judged.
+fn mode_for(certificate: Option<&str>) -> &'static str {
+    match certificate {
+        Some(_) => "recheck",
+        None => "validate",
+    }
+}
+
 /// The words with which the validator is asked.
 fn words_for(
     alloc: Global,
     names: &Names<'_>,
+    certificate: Option<&str>,
     budgets: Budgets,
 ) -> Result<Vec<String>, OutOfMemory> {
     let program = names.program;
@@ -25,12 +34,15 @@ fn words_for(
     let conflicts = budgets.conflicts;
     let mut words = Vec::new(alloc);
     words.push(String::from_str(alloc, "witval")?)?;
-    words.push(String::from_str(alloc, "validate")?)?;
+    words.push(String::from_str(alloc, mode_for(certificate))?)?;
     words.push(format!(in alloc; "--program={program}")?)?;
     words.push(format!(in alloc; "--property={property}")?)?;
     words.push(format!(in alloc; "--witness={witness}")?)?;
     words.push(format!(in alloc; "--steps={steps}")?)?;
     words.push(format!(in alloc; "--conflicts={conflicts}")?)?;
+    if let Some(certificate) = certificate {
+        words.push(format!(in alloc; "--certificate={certificate}")?)?;
+    }
     Ok(words)
 }
 
@@ -51,14 +63,15 @@ fn reply_to<S: Shelf>(
     })
 }
 
-/// The reply to three files of a shelf.
+/// The reply to three files of a shelf, and to a certificate where one is named.
 pub fn replied_to<S: Shelf>(
     alloc: Global,
     names: &Names<'_>,
+    certificate: Option<&str>,
     budgets: Budgets,
     shelf: &mut S,
 ) -> Result<Replied, OutOfMemory> {
-    let words = words_for(alloc, names, budgets)?;
+    let words = words_for(alloc, names, certificate, budgets)?;
     reply_to(alloc, &words, shelf)
 }
 

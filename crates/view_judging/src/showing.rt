@@ -1,6 +1,7 @@
 // One judgement: the reply of the validator, and what there is to look at.
 use crate::replying::{Replied, replied_to};
 use std::alloc::Global;
+use view_certificate::explain_certificate;
 use view_inputs::{Form, Keeping};
 use view_pages::{log_of, page_of};
 use view_program::explain;
@@ -21,10 +22,33 @@ fn unread(reply: &str) -> Option<(&'static str, File)> {
         "fault read program\n" => Some(("fault", File::Program)),
         "fault read property\n" => Some(("fault", File::Property)),
         "fault read witness\n" => Some(("fault", File::Witness)),
+        "fault read certificate\n" => Some(("fault", File::Certificate)),
         "refused too-long program\n" => Some(("too-long", File::Program)),
         "refused too-long property\n" => Some(("too-long", File::Property)),
         "refused too-long witness\n" => Some(("too-long", File::Witness)),
+        "refused too-long certificate\n" => Some(("too-long", File::Certificate)),
         _ => None,
+    }
+}
+
+/// What was asked: a verdict, or whether a certificate is accepted.
+#[derive(Clone, Copy, Debug)]
+pub enum Asking {
+    Judge(Budgets),
+    Recheck,
+}
+
+/// What there is to say of files that were read whole.
+fn explain_reply(
+    alloc: Global,
+    files: &Files<'_>,
+    reply: &str,
+    asking: Asking,
+    messages: &mut Messages,
+) -> Result<(), OutOfMemory> {
+    match asking {
+        Asking::Judge(budgets) => explain(alloc, files, budgets, messages),
+        Asking::Recheck => explain_certificate(alloc, files, reply, messages),
     }
 }
 
@@ -33,7 +57,7 @@ fn messages_of(
     alloc: Global,
     replied: &Replied,
     files: &Files<'_>,
-    budgets: Budgets,
+    asking: Asking,
 ) -> Result<Messages, OutOfMemory> {
     let reply = String::from_utf8_lossy(alloc, replied.reply.as_slice())?;
     let mut messages = Messages::new(alloc);
@@ -42,7 +66,7 @@ fn messages_of(
             let told = String::from_str(alloc, advice(code))?;
             messages.error(code, file, None, told)?;
         }
-        None => explain(alloc, files, budgets, &mut messages)?,
+        None => explain_reply(alloc, files, reply.as_str(), asking, &mut messages)?,
     }
     Ok(messages)
 }
@@ -97,49 +121,53 @@ fn printed(
     Ok(text.into_bytes())
 }
 
-/// Three files, by their names and by what was read of them.
-fn files_of<'a>(
-    program_name: &'a str,
-    property_name: &'a str,
-    witness_name: &'a str,
-    program: &'a [u8],
-    property: &'a [u8],
-    witness: &'a [u8],
-) -> Files<'a> {
-    Files {
-        names: [program_name, property_name, witness_name],
-        texts: [program, property, witness],
-    }
+/// The files that are judged, by their names and by what was read of them.
+pub fn files_of<'a>(names: [&'a str; 4], texts: [&'a [u8]; 4]) -> Files<'a> {
+    Files { names, texts }
 }
 
-/// A judgement over the files of a shelf, in one of its forms.
+/// All that is shown of a reply, in one of its forms.
+pub fn output_of(
+    alloc: Global,
+    files: &Files<'_>,
+    replied: &Replied,
+    asking: Asking,
+    form: Form,
+) -> Result<Output, OutOfMemory> {
+    let messages = messages_of(alloc, replied, files, asking)?;
+    let bytes = printed(alloc, files, replied, &messages, form)?;
+    Ok(Output {
+        bytes,
+        status: replied.status,
+    })
+}
+
+/// A judgement over the files of a shelf, or a certificate checked again where one is named, in one of its forms.
 pub fn shown<S: Shelf + Drop>(
     alloc: Global,
     names: &Names<'_>,
+    certificate: Option<&str>,
     budgets: Budgets,
     form: Form,
     shelf: S,
 ) -> Result<Output, OutOfMemory> {
     let mut shelf = Keeping::new(alloc, shelf);
-    let replied = replied_to(alloc, names, budgets, &mut shelf)?;
+    let replied = replied_to(alloc, names, certificate, budgets, &mut shelf)?;
     if shelf.is_lost() {
         return Err(OutOfMemory);
     }
+    let asking = match certificate {
+        Some(_) => Asking::Recheck,
+        None => Asking::Judge(budgets),
+    };
     let program = shelf.kept(0);
     let property = shelf.kept(1);
     let witness = shelf.kept(2);
+    let kept = shelf.kept(3);
+    let name = certificate.unwrap_or("");
     let files = files_of(
-        names.program,
-        names.property,
-        names.witness,
-        program,
-        property,
-        witness,
+        [names.program, names.property, names.witness, name],
+        [program, property, witness, kept],
     );
-    let messages = messages_of(alloc, &replied, &files, budgets)?;
-    let bytes = printed(alloc, &files, &replied, &messages, form)?;
-    Ok(Output {
-        bytes,
-        status: replied.status,
-    })
+    output_of(alloc, &files, &replied, asking, form)
 }

@@ -6,12 +6,12 @@ use std::alloc::Global;
 use view_text::{File, Files, Message, Messages, by_line, parted_at};
 use wv_base::OutOfMemory;
 
-/// What the anchors of a file's lines begin with; the property isn't shown.
+/// What the anchors of a file's lines begin with; the property and a certificate aren't shown.
 fn anchor_word(file: File) -> Option<&'static str> {
     match file {
         File::Program => Some("program"),
         File::Witness => Some("witness"),
-        File::Property => None,
+        File::Property | File::Certificate => None,
     }
 }
 

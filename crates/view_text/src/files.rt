@@ -1,10 +1,10 @@
 use crate::message::File;
 
-/// The names of the judged files, as they were given, and the bytes that were read of them.
+/// The names of the judged files, as they were given, and the bytes that were read of them: program, property, witness, and a certificate.
 #[derive(Clone, Copy, Debug)]
 pub struct Files<'a> {
-    pub names: [&'a str; 3],
-    pub texts: [&'a [u8]; 3],
+    pub names: [&'a str; 4],
+    pub texts: [&'a [u8]; 4],
 }
 
 impl<'a> Files<'a> {
@@ -14,6 +14,7 @@ impl<'a> Files<'a> {
             File::Program => self.names[0],
             File::Property => self.names[1],
             File::Witness => self.names[2],
+            File::Certificate => self.names[3],
         }
     }
 
@@ -23,6 +24,7 @@ impl<'a> Files<'a> {
             File::Program => self.texts[0],
             File::Property => self.texts[1],
             File::Witness => self.texts[2],
+            File::Certificate => self.texts[3],
         }
     }
 }

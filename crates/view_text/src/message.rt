@@ -8,6 +8,7 @@ pub enum File {
     Program,
     Property,
     Witness,
+    Certificate,
 }
 
 /// How grave a message is. A note belongs to the message before it.

@@ -6,7 +6,7 @@ pub fn advice(code: &str) -> &'static str {
         "fault" => "this file isn't there, or can't be read",
         "usage" => "the words of the command line are misused",
         "too-long" =>
-            "the file is too long: 1,048,576 bytes of a program or a witness, 4,096 of a property",
+            "the file is too long: 1,048,576 bytes of a program or a witness, 4,096 of a property, 67,108,864 of a certificate",
         "property" => "the file holds neither the property of unreach-call nor that of no-overflow",
         "yaml-bytes" => "no such character may stand in a witness",
         "yaml-grammar" =>
@@ -19,6 +19,7 @@ pub fn advice(code: &str) -> &'static str {
         "schema-shape" =>
             "a segment is waypoints to avoid and then one to follow; a target is the follow of the last segment and stands nowhere else",
         "schema-entries" => "a witness is one violation sequence, or invariant sets alone",
+        "kind" => "certificates are of invariant sets, and this witness is a violation sequence",
         "files" => "an entry names one input file, and one hash, whose key is that file's name",
         "hash" => "the witness was made for other bytes of the program",
         "specification" =>

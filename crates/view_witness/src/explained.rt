@@ -1,6 +1,6 @@
 // What is wrong in a witness that can't be read, or doesn't meet the schema.
 use crate::paths::{Step, place_of_path, reached, steps_of};
-use crate::stopping::{first_bad, repeated_at, stopped_at};
+use crate::stopping::{first_bad, is_cut, repeated_at, stopped_at};
 use c_core::Spot;
 use std::alloc::Global;
 use view_text::{File, Messages, advice, spot_at};
@@ -8,16 +8,44 @@ use wv_base::OutOfMemory;
 use wv_schema::SchemaFault;
 use wv_yaml::{Tree, YamlFault};
 
-/// The code of a text that spells no tree, and the place where that shows.
-fn yaml_place(
-    alloc: Global,
-    text: &[u8],
-    fault: YamlFault,
-) -> Result<(&'static str, Spot), OutOfMemory> {
+/// What is said of a witness that ends before it is whole.
+const CUT: &str =
+    "the witness ends here, too early: a quote or a bracket is left open, or a value is missing";
+
+/// What is wrong in a text, and the place where that shows.
+#[derive(Clone, Copy)]
+struct Shown {
+    code: &'static str,
+    rule: &'static str,
+    spot: Spot,
+}
+
+fn by_code(code: &'static str, spot: Spot) -> Shown {
+    Shown {
+        code,
+        rule: advice(code),
+        spot,
+    }
+}
+
+/// A text that is outside the grammar.
+fn outside_grammar(alloc: Global, text: &[u8]) -> Result<Shown, OutOfMemory> {
+    if !is_cut(alloc, text)? {
+        return Ok(by_code("yaml-grammar", stopped_at(alloc, text)?));
+    }
+    Ok(Shown {
+        code: "yaml-grammar",
+        rule: CUT,
+        spot: spot_at(text, text.len()),
+    })
+}
+
+/// A text that spells no tree.
+fn unread(alloc: Global, text: &[u8], fault: YamlFault) -> Result<Shown, OutOfMemory> {
     match fault {
-        YamlFault::Bytes => Ok(("yaml-bytes", spot_at(text, first_bad(text)))),
-        YamlFault::Grammar => Ok(("yaml-grammar", stopped_at(alloc, text)?)),
-        YamlFault::Duplicate => Ok(("yaml-duplicate", repeated_at(alloc, text)?)),
+        YamlFault::Bytes => Ok(by_code("yaml-bytes", spot_at(text, first_bad(text)))),
+        YamlFault::Grammar => outside_grammar(alloc, text),
+        YamlFault::Duplicate => Ok(by_code("yaml-duplicate", repeated_at(alloc, text)?)),
         YamlFault::OutOfMemory => Err(OutOfMemory),
     }
 }
@@ -29,9 +57,9 @@ pub fn explain_yaml(
     fault: YamlFault,
     out: &mut Messages,
 ) -> Result<(), OutOfMemory> {
-    let (code, spot) = yaml_place(alloc, text, fault)?;
-    let told = String::from_str(alloc, advice(code))?;
-    out.error(code, File::Witness, Some(spot), told)
+    let shown = unread(alloc, text, fault)?;
+    let told = String::from_str(alloc, shown.rule)?;
+    out.error(shown.code, File::Witness, Some(shown.spot), told)
 }
 
 /// What may stand at a path, by its last keys.

@@ -8,9 +8,16 @@ use listing::judge_list;
 use std::alloc::Global;
 use std::process::ExitCode;
 use view_inputs::{Asked, read_words};
-use view_judging::{shown, usage_reply};
-use wv_base::write_all;
+use view_judging::{Handed, Output, handed, shown, usage_reply};
+use wv_arguments::Budgets;
+use wv_base::{OutOfMemory, write_all};
 use wv_process::{FileShelf, OutSink, words_of};
+
+/// Checking a certificate again spends none of it.
+const LEAST: Budgets = Budgets {
+    steps: 1,
+    conflicts: 1,
+};
 
 /// Writes all bytes to standard output; the status that the program ends with.
 fn written(rt: &HostRuntime, bytes: &[u8], status: u8) -> u8 {
@@ -32,6 +39,26 @@ fn misused(rt: &HostRuntime, alloc: Global, text: &str) -> u8 {
     }
 }
 
+/// The status of a judgement, once it is written.
+fn judged(rt: &HostRuntime, shown: Result<Output, OutOfMemory>) -> u8 {
+    match shown {
+        Ok(shown) => written(rt, shown.bytes.as_slice(), shown.status),
+        Err(_) => 6,
+    }
+}
+
+/// The same of a part of a certificate.
+fn given_out(rt: &HostRuntime, handed: Result<Handed, OutOfMemory>) -> u8 {
+    match handed {
+        Ok(handed) => {
+            let _ = rt.eprint(handed.told.as_str());
+            let output = &handed.output;
+            written(rt, output.bytes.as_slice(), output.status)
+        }
+        Err(_) => 6,
+    }
+}
+
 /// The status of what is asked for, once it is answered.
 fn answered(rt: &HostRuntime, alloc: Global, asked: &Asked<'_>) -> u8 {
     match asked {
@@ -39,10 +66,27 @@ fn answered(rt: &HostRuntime, alloc: Global, asked: &Asked<'_>) -> u8 {
             names,
             budgets,
             form,
-        } => match shown(alloc, names, *budgets, *form, FileShelf::new(rt, alloc)) {
-            Ok(shown) => written(rt, shown.bytes.as_slice(), shown.status),
-            Err(_) => 6,
-        },
+        } => {
+            let shelf = FileShelf::new(rt, alloc);
+            judged(rt, shown(alloc, names, None, *budgets, *form, shelf))
+        }
+        Asked::Recheck {
+            names,
+            certificate,
+            form,
+        } => {
+            let shelf = FileShelf::new(rt, alloc);
+            let certificate = Some(*certificate);
+            judged(rt, shown(alloc, names, certificate, LEAST, *form, shelf))
+        }
+        Asked::Export {
+            names,
+            certificate,
+            part,
+        } => {
+            let shelf = FileShelf::new(rt, alloc);
+            given_out(rt, handed(alloc, names, *certificate, *part, shelf))
+        }
         Asked::List { name, budgets } => judge_list(rt, alloc, *name, *budgets),
         Asked::Help(text) => written(rt, text.as_bytes(), 0),
         Asked::Misuse(text) => misused(rt, alloc, text.as_str()),
