@@ -27,7 +27,9 @@ pub fn eval<W: Watcher>(
     e: &Expr,
 ) -> Result<i128, Halt>
     requires bound { machine.old.steps ≤ depth }
-    ensures gives { Gives same result (state_of machine.new (W.seen watcher.new)) (evaluated (program_view program.now) W.Seen W.after depth (where_of at) (use_of used) (expr_view e.now) (state_of machine.old (W.seen watcher.old))) }
+    ensures gives { Gives same result (state_of machine.new (W.seen watcher.new))
+        (evaluated (program_view program.now) W.Seen W.after depth (where_of at) (use_of used) (expr_view e.now)
+        (state_of machine.old (W.seen watcher.old))) }
     ensures spends { machine.new.steps ≤ machine.old.steps }
 {
     tick::<W>(machine)?;
@@ -45,7 +47,9 @@ fn node<W: Watcher>(
     e: &Expr,
 ) -> Result<i128, Halt>
     requires bound { machine.old.steps ≤ depth }
-    ensures gives { Gives same result (state_of machine.new (W.seen watcher.new)) (noded (program_view program.now) W.Seen W.after depth (where_of at) (use_of used) e.now.spot e.now.ty (node_view e.now.node) (state_of machine.old (W.seen watcher.old))) }
+    ensures gives { Gives same result (state_of machine.new (W.seen watcher.new))
+        (noded (program_view program.now) W.Seen W.after depth (where_of at) (use_of used) e.now.spot e.now.ty
+        (node_view e.now.node) (state_of machine.old (W.seen watcher.old))) }
     ensures spends { machine.new.steps ≤ machine.old.steps }
 {
     match &e.node {
@@ -107,7 +111,9 @@ fn binary<W: Watcher>(
     right: &Expr,
 ) -> Result<i128, Halt>
     requires bound { machine.old.steps ≤ depth }
-    ensures gives { Gives same result (state_of machine.new (W.seen watcher.new)) (noded (program_view program.now) W.Seen W.after depth (where_of at) Used spot None (t.Binary op (expr_view left.now) (expr_view right.now)) (state_of machine.old (W.seen watcher.old))) }
+    ensures gives { Gives same result (state_of machine.new (W.seen watcher.new))
+        (noded (program_view program.now) W.Seen W.after depth (where_of at) Used spot None
+        (t.Binary op (expr_view left.now) (expr_view right.now)) (state_of machine.old (W.seen watcher.old))) }
     ensures spends { machine.new.steps ≤ machine.old.steps }
 {
     let a = eval(program, machine, watcher, depth, at, true, left)?;
@@ -140,7 +146,9 @@ fn target<W: Watcher>(
     e: &Expr,
 ) -> Result<Element, Halt>
     requires bound { machine.old.steps ≤ depth }
-    ensures gives { Gives key_of result (state_of machine.new (W.seen watcher.new)) (targeted (program_view program.now) W.Seen W.after depth (where_of at) (expr_view e.now) (state_of machine.old (W.seen watcher.old))) }
+    ensures gives { Gives key_of result (state_of machine.new (W.seen watcher.new))
+        (targeted (program_view program.now) W.Seen W.after depth (where_of at) (expr_view e.now)
+        (state_of machine.old (W.seen watcher.old))) }
     ensures spends { machine.new.steps ≤ machine.old.steps }
 {
     tick::<W>(machine)?;
@@ -157,7 +165,9 @@ fn place<W: Watcher>(
     e: &Expr,
 ) -> Result<Element, Halt>
     requires bound { machine.old.steps ≤ depth }
-    ensures gives { Gives key_of result (state_of machine.new (W.seen watcher.new)) (placed (program_view program.now) W.Seen W.after depth (where_of at) e.now.spot (node_view e.now.node) (state_of machine.old (W.seen watcher.old))) }
+    ensures gives { Gives key_of result (state_of machine.new (W.seen watcher.new))
+        (placed (program_view program.now) W.Seen W.after depth (where_of at) e.now.spot (node_view e.now.node)
+        (state_of machine.old (W.seen watcher.old))) }
     ensures spends { machine.new.steps ≤ machine.old.steps }
 {
     match &e.node {
@@ -190,7 +200,9 @@ fn element_at<W: Watcher>(
     indexes: &[Expr],
 ) -> Result<Element, Halt>
     requires bound { machine.old.steps ≤ depth }
-    ensures gives { Gives key_of result (state_of machine.new (W.seen watcher.new)) (placed (program_view program.now) W.Seen W.after depth (where_of at) spot (t.Index object (exprs_view indexes.now)) (state_of machine.old (W.seen watcher.old))) }
+    ensures gives { Gives key_of result (state_of machine.new (W.seen watcher.new))
+        (placed (program_view program.now) W.Seen W.after depth (where_of at) spot
+        (t.Index object (exprs_view indexes.now)) (state_of machine.old (W.seen watcher.old))) }
     ensures spends { machine.new.steps ≤ machine.old.steps }
 {
     match indexes {
@@ -222,7 +234,9 @@ fn evaluate_all<W: Watcher>(
     es: &[Expr],
 ) -> Result<(), Halt>
     requires bound { machine.old.steps ≤ depth }
-    ensures gives { Gives same result (state_of machine.new (W.seen watcher.new)) (evaluated_all (program_view program.now) W.Seen W.after depth (where_of at) (exprs_view es.now) (state_of machine.old (W.seen watcher.old))) }
+    ensures gives { Gives same result (state_of machine.new (W.seen watcher.new))
+        (evaluated_all (program_view program.now) W.Seen W.after depth (where_of at) (exprs_view es.now)
+        (state_of machine.old (W.seen watcher.old))) }
     ensures spends { machine.new.steps ≤ machine.old.steps }
 {
     for e in es {
@@ -243,7 +257,9 @@ fn index<W: Watcher>(
     indexes: &Seq<Expr>,
 ) -> Result<i128, Halt>
     requires bound { machine.old.steps ≤ depth }
-    ensures gives { Gives same result (state_of machine.new (W.seen watcher.new)) (noded (program_view program.now) W.Seen W.after depth (where_of at) Used spot None (t.Index object (exprs_view indexes.now)) (state_of machine.old (W.seen watcher.old))) }
+    ensures gives { Gives same result (state_of machine.new (W.seen watcher.new))
+        (noded (program_view program.now) W.Seen W.after depth (where_of at) Used spot None
+        (t.Index object (exprs_view indexes.now)) (state_of machine.old (W.seen watcher.old))) }
     ensures spends { machine.new.steps ≤ machine.old.steps }
 {
     let place = indexes.as_slice();
@@ -263,7 +279,9 @@ fn unary<W: Watcher>(
     of: &Expr,
 ) -> Result<i128, Halt>
     requires bound { machine.old.steps ≤ depth }
-    ensures gives { Gives same result (state_of machine.new (W.seen watcher.new)) (noded (program_view program.now) W.Seen W.after depth (where_of at) Used spot None (t.Unary op (expr_view of.now)) (state_of machine.old (W.seen watcher.old))) }
+    ensures gives { Gives same result (state_of machine.new (W.seen watcher.new))
+        (noded (program_view program.now) W.Seen W.after depth (where_of at) Used spot None
+        (t.Unary op (expr_view of.now)) (state_of machine.old (W.seen watcher.old))) }
     ensures spends { machine.new.steps ≤ machine.old.steps }
 {
     let value = eval(program, machine, watcher, depth, at, true, of)?;
@@ -292,7 +310,9 @@ fn cast<W: Watcher>(
     of: &Expr,
 ) -> Result<i128, Halt>
     requires bound { machine.old.steps ≤ depth }
-    ensures gives { Gives same result (state_of machine.new (W.seen watcher.new)) (noded (program_view program.now) W.Seen W.after depth (where_of at) Used at.full ty (t.Cast (expr_view of.now)) (state_of machine.old (W.seen watcher.old))) }
+    ensures gives { Gives same result (state_of machine.new (W.seen watcher.new))
+        (noded (program_view program.now) W.Seen W.after depth (where_of at) Used at.full ty (t.Cast (expr_view of.now))
+        (state_of machine.old (W.seen watcher.old))) }
     ensures spends { machine.new.steps ≤ machine.old.steps }
 {
     match ty {
@@ -312,7 +332,9 @@ fn cast_to<W: Watcher>(
     of: &Expr,
 ) -> Result<i128, Halt>
     requires bound { machine.old.steps ≤ depth }
-    ensures gives { Gives same result (state_of machine.new (W.seen watcher.new)) (noded (program_view program.now) W.Seen W.after depth (where_of at) Used at.full (Some to) (t.Cast (expr_view of.now)) (state_of machine.old (W.seen watcher.old))) }
+    ensures gives { Gives same result (state_of machine.new (W.seen watcher.new))
+        (noded (program_view program.now) W.Seen W.after depth (where_of at) Used at.full (Some to)
+        (t.Cast (expr_view of.now)) (state_of machine.old (W.seen watcher.old))) }
     ensures spends { machine.new.steps ≤ machine.old.steps }
 {
     let value = eval(program, machine, watcher, depth, at, true, of)?;
@@ -330,7 +352,9 @@ fn comma<W: Watcher>(
     last: &Expr,
 ) -> Result<i128, Halt>
     requires bound { machine.old.steps ≤ depth }
-    ensures gives { Gives same result (state_of machine.new (W.seen watcher.new)) (noded (program_view program.now) W.Seen W.after depth (where_of at) Used at.full None (t.Comma (expr_view first.now) (expr_view last.now)) (state_of machine.old (W.seen watcher.old))) }
+    ensures gives { Gives same result (state_of machine.new (W.seen watcher.new))
+        (noded (program_view program.now) W.Seen W.after depth (where_of at) Used at.full None
+        (t.Comma (expr_view first.now) (expr_view last.now)) (state_of machine.old (W.seen watcher.old))) }
     ensures spends { machine.new.steps ≤ machine.old.steps }
 {
     eval(program, machine, watcher, depth, at, false, first)?;
@@ -348,7 +372,9 @@ fn and<W: Watcher>(
     right: &Expr,
 ) -> Result<i128, Halt>
     requires bound { machine.old.steps ≤ depth }
-    ensures gives { Gives same result (state_of machine.new (W.seen watcher.new)) (noded (program_view program.now) W.Seen W.after depth (where_of at) Used at.full None (t.Logic true (expr_view left.now) (expr_view right.now)) (state_of machine.old (W.seen watcher.old))) }
+    ensures gives { Gives same result (state_of machine.new (W.seen watcher.new))
+        (noded (program_view program.now) W.Seen W.after depth (where_of at) Used at.full None
+        (t.Logic true (expr_view left.now) (expr_view right.now)) (state_of machine.old (W.seen watcher.old))) }
     ensures spends { machine.new.steps ≤ machine.old.steps }
 {
     let value = eval(program, machine, watcher, depth, at, true, left)?;
@@ -370,7 +396,9 @@ fn or<W: Watcher>(
     right: &Expr,
 ) -> Result<i128, Halt>
     requires bound { machine.old.steps ≤ depth }
-    ensures gives { Gives same result (state_of machine.new (W.seen watcher.new)) (noded (program_view program.now) W.Seen W.after depth (where_of at) Used at.full None (t.Logic false (expr_view left.now) (expr_view right.now)) (state_of machine.old (W.seen watcher.old))) }
+    ensures gives { Gives same result (state_of machine.new (W.seen watcher.new))
+        (noded (program_view program.now) W.Seen W.after depth (where_of at) Used at.full None
+        (t.Logic false (expr_view left.now) (expr_view right.now)) (state_of machine.old (W.seen watcher.old))) }
     ensures spends { machine.new.steps ≤ machine.old.steps }
 {
     let value = eval(program, machine, watcher, depth, at, true, left)?;
@@ -391,7 +419,9 @@ fn tested<W: Watcher>(
     e: &Expr,
 ) -> Result<i128, Halt>
     requires bound { machine.old.steps ≤ depth }
-    ensures gives { Gives same result (state_of machine.new (W.seen watcher.new)) (truthed (program_view program.now) W.Seen W.after depth (where_of at) (expr_view e.now) (state_of machine.old (W.seen watcher.old))) }
+    ensures gives { Gives same result (state_of machine.new (W.seen watcher.new))
+        (truthed (program_view program.now) W.Seen W.after depth (where_of at) (expr_view e.now)
+        (state_of machine.old (W.seen watcher.old))) }
     ensures spends { machine.new.steps ≤ machine.old.steps }
 {
     let value = eval(program, machine, watcher, depth, at, true, e)?;
@@ -410,7 +440,9 @@ fn replace<W: Watcher>(
     from: &Expr,
 ) -> Result<i128, Halt>
     requires bound { machine.old.steps ≤ depth }
-    ensures gives { Gives same result (state_of machine.new (W.seen watcher.new)) (noded (program_view program.now) W.Seen W.after depth (where_of at) Used spot None (t.Assign None (expr_view to.now) (expr_view from.now)) (state_of machine.old (W.seen watcher.old))) }
+    ensures gives { Gives same result (state_of machine.new (W.seen watcher.new))
+        (noded (program_view program.now) W.Seen W.after depth (where_of at) Used spot None
+        (t.Assign None (expr_view to.now) (expr_view from.now)) (state_of machine.old (W.seen watcher.old))) }
     ensures spends { machine.new.steps ≤ machine.old.steps }
 {
     let key = target(program, machine, watcher, depth, at, to)?;
@@ -431,7 +463,9 @@ fn update<W: Watcher>(
     from: &Expr,
 ) -> Result<i128, Halt>
     requires bound { machine.old.steps ≤ depth }
-    ensures gives { Gives same result (state_of machine.new (W.seen watcher.new)) (noded (program_view program.now) W.Seen W.after depth (where_of at) Used spot None (t.Assign (Some op) (expr_view to.now) (expr_view from.now)) (state_of machine.old (W.seen watcher.old))) }
+    ensures gives { Gives same result (state_of machine.new (W.seen watcher.new))
+        (noded (program_view program.now) W.Seen W.after depth (where_of at) Used spot None
+        (t.Assign (Some op) (expr_view to.now) (expr_view from.now)) (state_of machine.old (W.seen watcher.old))) }
     ensures spends { machine.new.steps ≤ machine.old.steps }
 {
     let key = target(program, machine, watcher, depth, at, to)?;
@@ -468,7 +502,9 @@ fn step<W: Watcher>(
     to: &Expr,
 ) -> Result<i128, Halt>
     requires bound { machine.old.steps ≤ depth }
-    ensures gives { Gives same result (state_of machine.new (W.seen watcher.new)) (noded (program_view program.now) W.Seen W.after depth (where_of at) Used spot None (t.Step op (expr_view to.now)) (state_of machine.old (W.seen watcher.old))) }
+    ensures gives { Gives same result (state_of machine.new (W.seen watcher.new))
+        (noded (program_view program.now) W.Seen W.after depth (where_of at) Used spot None
+        (t.Step op (expr_view to.now)) (state_of machine.old (W.seen watcher.old))) }
     ensures spends { machine.new.steps ≤ machine.old.steps }
 {
     let key = target(program, machine, watcher, depth, at, to)?;
@@ -489,7 +525,10 @@ fn choose<W: Watcher>(
     no: &Expr,
 ) -> Result<i128, Halt>
     requires bound { machine.old.steps ≤ depth }
-    ensures gives { Gives same result (state_of machine.new (W.seen watcher.new)) (noded (program_view program.now) W.Seen W.after depth (where_of at) Used at.full ty (t.Choose mark (expr_view test.now) (expr_view yes.now) (expr_view no.now)) (state_of machine.old (W.seen watcher.old))) }
+    ensures gives { Gives same result (state_of machine.new (W.seen watcher.new))
+        (noded (program_view program.now) W.Seen W.after depth (where_of at) Used at.full ty
+        (t.Choose mark (expr_view test.now) (expr_view yes.now) (expr_view no.now))
+        (state_of machine.old (W.seen watcher.old))) }
     ensures spends { machine.new.steps ≤ machine.old.steps }
 {
     let value = eval(program, machine, watcher, depth, at, true, test)?;
@@ -513,7 +552,9 @@ fn converted<W: Watcher>(
     e: &Expr,
 ) -> Result<i128, Halt>
     requires bound { machine.old.steps ≤ depth }
-    ensures gives { Gives same result (state_of machine.new (W.seen watcher.new)) (convertible (program_view program.now) W.Seen W.after depth (where_of at) ty (expr_view e.now) (state_of machine.old (W.seen watcher.old))) }
+    ensures gives { Gives same result (state_of machine.new (W.seen watcher.new))
+        (convertible (program_view program.now) W.Seen W.after depth (where_of at) ty (expr_view e.now)
+        (state_of machine.old (W.seen watcher.old))) }
     ensures spends { machine.new.steps ≤ machine.old.steps }
 {
     let value = eval(program, machine, watcher, depth, at, true, e)?;
@@ -532,7 +573,9 @@ fn logic<W: Watcher>(
     right: &Expr,
 ) -> Result<i128, Halt>
     requires bound { machine.old.steps ≤ depth }
-    ensures gives { Gives same result (state_of machine.new (W.seen watcher.new)) (noded (program_view program.now) W.Seen W.after depth (where_of at) Used at.full None (t.Logic both (expr_view left.now) (expr_view right.now)) (state_of machine.old (W.seen watcher.old))) }
+    ensures gives { Gives same result (state_of machine.new (W.seen watcher.new))
+        (noded (program_view program.now) W.Seen W.after depth (where_of at) Used at.full None
+        (t.Logic both (expr_view left.now) (expr_view right.now)) (state_of machine.old (W.seen watcher.old))) }
     ensures spends { machine.new.steps ≤ machine.old.steps }
 {
     if both {
@@ -555,7 +598,9 @@ fn assign<W: Watcher>(
     from: &Expr,
 ) -> Result<i128, Halt>
     requires bound { machine.old.steps ≤ depth }
-    ensures gives { Gives same result (state_of machine.new (W.seen watcher.new)) (noded (program_view program.now) W.Seen W.after depth (where_of at) Used spot None (t.Assign op (expr_view to.now) (expr_view from.now)) (state_of machine.old (W.seen watcher.old))) }
+    ensures gives { Gives same result (state_of machine.new (W.seen watcher.new))
+        (noded (program_view program.now) W.Seen W.after depth (where_of at) Used spot None
+        (t.Assign op (expr_view to.now) (expr_view from.now)) (state_of machine.old (W.seen watcher.old))) }
     ensures spends { machine.new.steps ≤ machine.old.steps }
 {
     match op {
@@ -579,7 +624,9 @@ fn call<W: Watcher>(
     close: Spot,
 ) -> Result<i128, Halt>
     requires bound { machine.old.steps ≤ depth }
-    ensures gives { Gives same result (state_of machine.new (W.seen watcher.new)) (noded (program_view program.now) W.Seen W.after depth (where_of at) (use_of used) e.now.spot e.now.ty (t.Call callee (exprs_view args.now) close) (state_of machine.old (W.seen watcher.old))) }
+    ensures gives { Gives same result (state_of machine.new (W.seen watcher.new))
+        (noded (program_view program.now) W.Seen W.after depth (where_of at) (use_of used) e.now.spot e.now.ty
+        (t.Call callee (exprs_view args.now) close) (state_of machine.old (W.seen watcher.old))) }
     ensures spends { machine.new.steps ≤ machine.old.steps }
 {
     let values = arguments(program, machine, watcher, depth, at, args.as_slice())?;
@@ -612,7 +659,9 @@ fn arguments<W: Watcher>(
     args: &[Expr],
 ) -> Result<Seq<Typed>, Halt>
     requires bound { machine.old.steps ≤ depth }
-    ensures gives { Gives pairs_of result (state_of machine.new (W.seen watcher.new)) (listed (program_view program.now) W.Seen W.after depth (where_of at) [] (exprs_view args.now) (state_of machine.old (W.seen watcher.old))) }
+    ensures gives { Gives pairs_of result (state_of machine.new (W.seen watcher.new))
+        (listed (program_view program.now) W.Seen W.after depth (where_of at) [] (exprs_view args.now)
+        (state_of machine.old (W.seen watcher.old))) }
     ensures spends { machine.new.steps ≤ machine.old.steps }
 {
     let mut values = Seq::new(machine.alloc);
@@ -639,7 +688,9 @@ fn called<W: Watcher>(
     values: &[Typed],
 ) -> Result<i128, Halt>
     requires bound { machine.old.steps ≤ depth }
-    ensures gives { Gives same result (state_of machine.new (W.seen watcher.new)) (callee_gives (program_view program.now) W.Seen W.after depth (where_of at) (site_of site) callee (pairs_of values.now) (state_of machine.old (W.seen watcher.old))) }
+    ensures gives { Gives same result (state_of machine.new (W.seen watcher.new))
+        (callee_gives (program_view program.now) W.Seen W.after depth (where_of at) (site_of site) callee
+        (pairs_of values.now) (state_of machine.old (W.seen watcher.old))) }
     ensures spends { machine.new.steps ≤ machine.old.steps }
 {
     match callee {
