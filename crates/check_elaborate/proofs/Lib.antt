@@ -11,6 +11,5 @@ mod ParameterLaws
 mod StartLaws
 mod SizeLaws
 mod RowLaws
-mod ArmLabelLaws
 mod ArmLaws
 mod ItemLaws

@@ -1,4 +1,3 @@
-pub mod ArmLabels
 pub mod Items
 pub mod InArms
 pub mod Walks
