@@ -78,11 +78,11 @@ pub fn expression_at(
     text: &str,
 ) -> Result<Expr, Unbound>
     requires { IsTrue (is_scoped (program_view lookup.now.index) kind spot) }
-    ensures { BindsExpression (program_view lookup.now.index) (names_at (program_view lookup.now.index) kind spot) text.now (seen expr_view result) }
+    ensures { BindsExpression (program_view lookup.now.index) (names_at (program_view lookup.now.index) kind spot)
+        text.now (seen expr_view result) }
 {
     let names = lookup.names.visible_at(alloc, kind, spot)?;
-    let program = lookup.index.program();
-    expression_of(alloc, program, &lookup.keys, &names, text)
+    expression_of(alloc, lookup.index.program(), &lookup.keys, &names, text)
 }
 
 /// A constant, which sees no names, typed.
