@@ -28,18 +28,21 @@ module _ (N : ℕ) (p : Program) (I : List Placed) (left : List ℕ) (o : Obliga
   pub passed : BitTells p (picked left I) o at b → IsNeverTrue o.net b → IsPassed N p I left at
   passed tells never d named of = tells.passes never
 
-  pub lost : BitTells p (picked left I) o at b → AreLeft p I left → AreObligationsOf p (picked left I) o → FailuresDrop p I → (k : ℕ) (v : ℕ → Bool) → IsDutyOf o.list at k → holds v o.net b ≡ true → IsLost N p I left k
+  pub lost : BitTells p (picked left I) o at b → AreLeft p I left → AreObligationsOf p (picked left I) o
+      → FailuresDrop p I → (k : ℕ) (v : ℕ → Bool) → IsDutyOf o.list at k → holds v o.net b ≡ true → IsLost N p I left k
   lost tells a promised drops k v of on =
       let run = tells.ends v on in
       lost_at N p I left a drops at k run.0 (subst (λ list. IsDutyOf list at k) promised.list of) run.1
 
-  pub still_open : BitTells p (picked left I) o at b → AreLeft p I left → AreObligationsOf p (picked left I) o → (k : ℕ) (s : SpentAt) → IsDutyOf o.list at k → 1 ≤ N → IsSpentOn N o.net b s → IsOpenAt N p I left (suc at) s
+  pub still_open : BitTells p (picked left I) o at b → AreLeft p I left → AreObligationsOf p (picked left I) o
+      → (k : ℕ) (s : SpentAt) → IsDutyOf o.list at k → 1 ≤ N → IsSpentOn N o.net b s → IsOpenAt N p I left (suc at) s
   still_open tells a promised k s of some on = record {
     selection = a.selection;
     holding = a.holding;
     real = omega arith;
     duty = of.duty;
-    named = ap (slice_get (Duties p (picked left I))) (index_of at) ∙ ap (λ list. slice_get list at) (sym promised.list) ∙ of.named;
+    named = ap (slice_get (Duties p (picked left I))) (index_of at) ∙ ap (λ list. slice_get list at) (sym promised.list)
+        ∙ of.named;
     of_invariant = of.of_invariant;
     obligations = o;
     promised = promised;
