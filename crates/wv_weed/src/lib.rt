@@ -2,6 +2,7 @@
 #![tactic(auto)]
 
 mod copies;
+mod known;
 mod numbers;
 mod rounds;
 mod weeding;
