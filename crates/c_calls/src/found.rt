@@ -31,7 +31,8 @@ pub fn nothing_found(alloc: Global, count: usize) -> Result<Found, OutOfMemory>
 
 /// Appends a function of the program that wasn't found before.
 pub fn add(found: &mut Found, function: u32) -> Result<(), OutOfMemory>
-    ensures order { OnOk result (found.new.order.items ≡ added (length found.old.marks.items) found.old.order.items function) }
+    ensures order { OnOk result
+        (found.new.order.items ≡ added (length found.old.marks.items) found.old.order.items function) }
     ensures count { length found.new.marks.items ≡ length found.old.marks.items }
 {
     let at = function as usize;
@@ -44,7 +45,8 @@ pub fn add(found: &mut Found, function: u32) -> Result<(), OutOfMemory>
 
 /// Appends the called functions among these.
 pub fn add_called(found: &mut Found, uses: &[Use]) -> Result<(), OutOfMemory>
-    ensures order { OnOk result (found.new.order.items ≡ all_added (length found.old.marks.items) found.old.order.items uses.now) }
+    ensures order { OnOk result
+        (found.new.order.items ≡ all_added (length found.old.marks.items) found.old.order.items uses.now) }
     ensures count { length found.new.marks.items ≡ length found.old.marks.items }
 {
     for used in uses {

@@ -18,6 +18,9 @@ pub fn called_functions_are_found()
 /// calls with which havoc runs are defined is never met, and each larger bound gives the same run.
 pub fn depth_is_bounded()
     ensures chains { (p : Program) → IsTrue (has_main p) → IsFirstRecursion p None → ChainsAreShort p }
-    ensures never_met { (p : Program) → IsFirstRecursion p None → (invariants : List Placed) (n : ℕ) → length p.functions < n → IsNeverMet p invariants n }
-    ensures havoc_runs { (p : Program) → IsFirstRecursion p None → (invariants : List Placed) (n : ℕ) (values : List ℤ) → length p.functions < n → havoc_in p invariants n values ≡ havoc_in p invariants (suc (length p.functions)) values }
+    ensures never_met { (p : Program) → IsFirstRecursion p None → (invariants : List Placed) (n : ℕ)
+        → length p.functions < n → IsNeverMet p invariants n }
+    ensures havoc_runs { (p : Program) → IsFirstRecursion p None → (invariants : List Placed) (n : ℕ) (values : List ℤ)
+        → length p.functions < n → havoc_in p invariants n values
+        ≡ havoc_in p invariants (suc (length p.functions)) values }
 {}

@@ -14,4 +14,4 @@ mod uses;
 
 pub use laws::{called_functions_are_found, depth_is_bounded};
 pub use loop_changes::{changed, changed_in};
-pub use recursion::calls_itself;
+pub use recursion::{calls_itself, reached_functions};

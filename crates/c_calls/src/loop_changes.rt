@@ -45,7 +45,8 @@ fn mark_all(marks: &mut [bool], numbers: &[u32])
 
 // Of so many objects those that are declared in the body of a loop.
 fn declared_there(alloc: Global, count: usize, form: &Form) -> Result<Vec<bool>, OutOfMemory>
-    ensures { IfOk result (λ marks. AreMarked count (λ o. is_in o (declared_in_loop (form_view form.now))) marks.items) }
+    ensures { IfOk result (λ marks. AreMarked count (λ o. is_in o (declared_in_loop (form_view form.now)))
+        marks.items) }
 {
     let mut objects = Vec::new(alloc);
     match form {
@@ -65,7 +66,9 @@ fn mark_by_functions(
     marks: &mut [bool],
     functions: &[u32],
 ) -> Result<(), OutOfMemory>
-    ensures { OnOk result (IsMarked (λ o. some_of (λ f. some_of (is_change o) (uses_of_function (program_view program.now) f)) functions.now) marks.old marks.new) }
+    ensures { OnOk result (IsMarked (λ o. some_of
+        (λ f. some_of (is_change o) (uses_of_function (program_view program.now) f)) functions.now) marks.old
+        marks.new) }
 {
     for function in functions {
         let uses = function_uses(alloc, program, *function)?;
@@ -81,7 +84,9 @@ fn changed_by_functions(
     count: usize,
     functions: &[u32],
 ) -> Result<Vec<bool>, OutOfMemory>
-    ensures { IfOk result (λ marks. AreMarked count (λ o. some_of (λ f. some_of (is_change o) (uses_of_function (program_view program.now) f)) functions.now) marks.items) }
+    ensures { IfOk result (λ marks. AreMarked count
+        (λ o. some_of (λ f. some_of (is_change o) (uses_of_function (program_view program.now) f)) functions.now)
+        marks.items) }
 {
     let mut marks = no_marks(alloc, count)?;
     mark_by_functions(alloc, program, marks.as_mut_slice(), functions)?;
@@ -103,7 +108,9 @@ fn collect(
     there: &[bool],
 ) -> Result<Vec<u32>, OutOfMemory>
     requires { length program.now.objects ≤ 100000 }
-    ensures { IfOk result (λ objects. objects.items ≡ those (λ o. is_changed here.now inside.now there.now o (is_fixed (program_view program.now) o)) (object_numbers (program_view program.now))) }
+    ensures { IfOk result (λ objects. objects.items
+        ≡ those (λ o. is_changed here.now inside.now there.now o (is_fixed (program_view program.now) o))
+        (object_numbers (program_view program.now))) }
 {
     let mut objects = Vec::new(alloc);
     for (number, object) in program.objects.as_slice().iter().enumerate() {
@@ -139,7 +146,8 @@ pub fn changed_in(alloc: Global, program: &Program, form: &Form) -> Result<Seq<u
 
 /// The objects that the loop at a place changes, as `changed_in` lists them. No object where no loop is there.
 pub fn changed(alloc: Global, program: &Program, at: Spot) -> Result<Seq<u32>, OutOfMemory>
-    ensures { IfOk result (λ objects. objects ≡ changed_if (program_view program.now) (loop_at (program_view program.now) at)) }
+    ensures { IfOk result (λ objects. objects
+        ≡ changed_if (program_view program.now) (loop_at (program_view program.now) at)) }
 {
     match form_at(program, at) {
         Some(form) => changed_in(alloc, program, form),

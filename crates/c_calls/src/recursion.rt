@@ -3,7 +3,7 @@ ghost use Rattle.std.specs.Prelude.{◌≡◌, ℕ, ◌↔◌, nat_le, [], ◌�
 ghost use Rattle.c_core.specs.View.{program_view, stmt_view};
 ghost use Rattle.c_meaning.specs.Parts.{is_in};
 ghost use Rattle.c_calls.specs.Uses.{uses_of_statement};
-ghost use Rattle.c_calls.specs.Calling.{HasReached, IsFirstOnCycle, IsFirstRecursion, Reaches};
+ghost use Rattle.c_calls.specs.Calling.{HasReached, IsFirstOnCycle, IsFirstRecursion, IsReached, Reaches};
 ghost use Rattle.c_calls.specs.Levels.{each_call, level_of, IsLevelled};
 ghost use Rattle.c_calls.specs.Marks.{is_marked};
 
@@ -18,13 +18,22 @@ use wv_base::OutOfMemory;
 
 // Main and the functions that it comes to.
 fn from_main(alloc: Global, program: &Program) -> Result<Found, OutOfMemory>
-    ensures members { IfOk result (λ found. HasReached (program_view program.now) (program.now.main ∷ []) found.order.items) }
+    ensures members { IfOk result (λ found. HasReached (program_view program.now) (program.now.main ∷ [])
+        found.order.items) }
     ensures count { IfOk result (λ found. length found.marks.items ≡ length program.now.functions) }
 {
     let mut found = nothing_found(alloc, program.functions.len())?;
     add(&mut found, program.main)?;
     spread(alloc, program, &mut found)?;
     Ok(found)
+}
+
+/// Main and the functions that it reaches.
+pub fn reached_functions(alloc: Global, program: &Program) -> Result<Vec<u32>, OutOfMemory>
+    ensures { IfOk result (λ list. (f : ℕ) → IsTrue (is_in f list.items) ↔ IsReached (program_view program.now) f) }
+{
+    let reached = from_main(alloc, program)?;
+    Ok(reached.order)
 }
 
 fn level_of(levels: &[u32], function: usize) -> u32
@@ -57,7 +66,9 @@ fn rises(
     number: usize,
     function: &Function,
 ) -> Result<bool, OutOfMemory>
-    ensures { IfOk result (λ holds. holds ≡ each_call (λ g. nat_le (level_of levels.now number) (level_of levels.now g)) (uses_of_statement (stmt_view function.now.body))) }
+    ensures { IfOk result (λ holds. holds
+        ≡ each_call (λ g. nat_le (level_of levels.now number) (level_of levels.now g))
+        (uses_of_statement (stmt_view function.now.body))) }
 {
     let mut uses = Vec::new(alloc);
     push_statement(&mut uses, &function.body)?;

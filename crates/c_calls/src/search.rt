@@ -46,7 +46,8 @@ pub fn spread(alloc: Global, program: &Program, found: &mut Found) -> Result<(),
 
 /// The functions called from where these uses stand, directly or through further calls.
 pub fn called(alloc: Global, program: &Program, uses: &[Use]) -> Result<Found, OutOfMemory>
-    ensures members { (es : List Exp) → uses.now ≡ uses_of_all es → IfOk result (λ found. HasCalled (program_view program.now) es found.order.items) }
+    ensures members { (es : List Exp) → uses.now ≡ uses_of_all es
+        → IfOk result (λ found. HasCalled (program_view program.now) es found.order.items) }
     ensures count { IfOk result (λ found. length found.marks.items ≡ length program.now.functions) }
 {
     let mut found = nothing_found(alloc, program.functions.len())?;

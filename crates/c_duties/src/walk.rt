@@ -11,7 +11,8 @@ use c_meaning::{Duty, DutyKind};
 use wv_base::OutOfMemory;
 
 fn push(list: &mut Vec<Duty>, program: &Program, e: &Expr) -> Result<(), OutOfMemory>
-    ensures { OnOk result (list.new.items ≡ list.old.items ++ property_duties (program_view program.now) (expr_view e.now ∷ [])) }
+    ensures { OnOk result (list.new.items
+        ≡ list.old.items ++ property_duties (program_view program.now) (expr_view e.now ∷ [])) }
 {
     if violates(program.property, program.model, e) {
         list.push(Duty {
@@ -24,7 +25,8 @@ fn push(list: &mut Vec<Duty>, program: &Program, e: &Expr) -> Result<(), OutOfMe
 }
 
 fn push_if(list: &mut Vec<Duty>, program: &Program, e: &Option<Expr>) -> Result<(), OutOfMemory>
-    ensures { OnOk result (list.new.items ≡ list.old.items ++ property_duties (program_view program.now) (exp_if (expr_view_if e.now))) }
+    ensures { OnOk result (list.new.items
+        ≡ list.old.items ++ property_duties (program_view program.now) (exp_if (expr_view_if e.now))) }
 {
     if let Some(e) = e {
         push(list, program, e)?;
@@ -33,7 +35,8 @@ fn push_if(list: &mut Vec<Duty>, program: &Program, e: &Option<Expr>) -> Result<
 }
 
 fn push_list(list: &mut Vec<Duty>, program: &Program, es: &[Expr]) -> Result<(), OutOfMemory>
-    ensures { OnOk result (list.new.items ≡ list.old.items ++ property_duties (program_view program.now) (exps_in (exprs_view es.now))) }
+    ensures { OnOk result (list.new.items
+        ≡ list.old.items ++ property_duties (program_view program.now) (exps_in (exprs_view es.now))) }
 {
     for e in es {
         push(list, program, e)?;
@@ -42,7 +45,8 @@ fn push_list(list: &mut Vec<Duty>, program: &Program, es: &[Expr]) -> Result<(),
 }
 
 fn push_init(list: &mut Vec<Duty>, program: &Program, init: &Init) -> Result<(), OutOfMemory>
-    ensures { OnOk result (list.new.items ≡ list.old.items ++ property_duties (program_view program.now) (fulls_of_init (init_view init.now))) }
+    ensures { OnOk result (list.new.items
+        ≡ list.old.items ++ property_duties (program_view program.now) (fulls_of_init (init_view init.now))) }
 {
     match init {
         Init::Absent => Ok(()),
@@ -53,7 +57,8 @@ fn push_init(list: &mut Vec<Duty>, program: &Program, init: &Init) -> Result<(),
 }
 
 fn push_rows(list: &mut Vec<Duty>, program: &Program, rows: &[Row]) -> Result<(), OutOfMemory>
-    ensures { OnOk result (list.new.items ≡ list.old.items ++ property_duties (program_view program.now) (flat_map exps_in (rows_view rows.now))) }
+    ensures { OnOk result (list.new.items
+        ≡ list.old.items ++ property_duties (program_view program.now) (flat_map exps_in (rows_view rows.now))) }
 {
     for row in rows {
         push_list(list, program, row.values.as_slice())?;
@@ -66,7 +71,8 @@ fn push_names(
     program: &Program,
     names: &[Declared],
 ) -> Result<(), OutOfMemory>
-    ensures { OnOk result (list.new.items ≡ list.old.items ++ property_duties (program_view program.now) (fulls_of_names (names_view names.now))) }
+    ensures { OnOk result (list.new.items
+        ≡ list.old.items ++ property_duties (program_view program.now) (fulls_of_names (names_view names.now))) }
 {
     for name in names {
         push_init(list, program, &name.init)?;
@@ -75,7 +81,8 @@ fn push_names(
 }
 
 fn push_first(list: &mut Vec<Duty>, program: &Program, first: &First) -> Result<(), OutOfMemory>
-    ensures { OnOk result (list.new.items ≡ list.old.items ++ property_duties (program_view program.now) (fulls_of_first (first_view first.now))) }
+    ensures { OnOk result (list.new.items
+        ≡ list.old.items ++ property_duties (program_view program.now) (fulls_of_first (first_view first.now))) }
 {
     match first {
         First::Absent => Ok(()),
@@ -86,7 +93,8 @@ fn push_first(list: &mut Vec<Duty>, program: &Program, first: &First) -> Result<
 
 #[cycle(statement)]
 fn push_statement(list: &mut Vec<Duty>, program: &Program, s: &Stmt) -> Result<(), OutOfMemory>
-    ensures { OnOk result (list.new.items ≡ list.old.items ++ property_duties (program_view program.now) (fulls_of (stmt_view s.now))) }
+    ensures { OnOk result (list.new.items
+        ≡ list.old.items ++ property_duties (program_view program.now) (fulls_of (stmt_view s.now))) }
 {
     push_form(list, program, &s.form)?;
     Ok(())
@@ -94,7 +102,8 @@ fn push_statement(list: &mut Vec<Duty>, program: &Program, s: &Stmt) -> Result<(
 
 #[cycle(statement)]
 fn push_form(list: &mut Vec<Duty>, program: &Program, form: &Form) -> Result<(), OutOfMemory>
-    ensures { OnOk result (list.new.items ≡ list.old.items ++ property_duties (program_view program.now) (fulls_of_form (form_view form.now))) }
+    ensures { OnOk result (list.new.items
+        ≡ list.old.items ++ property_duties (program_view program.now) (fulls_of_form (form_view form.now))) }
 {
     match form {
         Form::Empty => {}
@@ -141,7 +150,8 @@ fn push_form(list: &mut Vec<Duty>, program: &Program, form: &Form) -> Result<(),
 
 #[cycle(statement)]
 fn push_block(list: &mut Vec<Duty>, program: &Program, body: &[Stmt]) -> Result<(), OutOfMemory>
-    ensures { OnOk result (list.new.items ≡ list.old.items ++ property_duties (program_view program.now) (fulls_of_block (stmts_view body.now))) }
+    ensures { OnOk result (list.new.items
+        ≡ list.old.items ++ property_duties (program_view program.now) (fulls_of_block (stmts_view body.now))) }
 {
     for s in body {
         push_statement(list, program, s)?;
@@ -151,7 +161,8 @@ fn push_block(list: &mut Vec<Duty>, program: &Program, body: &[Stmt]) -> Result<
 
 #[cycle(statement)]
 fn push_arms(list: &mut Vec<Duty>, program: &Program, arms: &[Arm]) -> Result<(), OutOfMemory>
-    ensures { OnOk result (list.new.items ≡ list.old.items ++ property_duties (program_view program.now) (fulls_of_block (switch_view arms.now))) }
+    ensures { OnOk result (list.new.items
+        ≡ list.old.items ++ property_duties (program_view program.now) (fulls_of_block (switch_view arms.now))) }
 {
     for arm in arms {
         push_block(list, program, arm.body.as_slice())?;
@@ -165,7 +176,8 @@ pub fn push_functions(
     program: &Program,
     functions: &[Function],
 ) -> Result<(), OutOfMemory>
-    ensures { OnOk result (list.new.items ≡ list.old.items ++ function_duties (program_view program.now) (functions_view functions.now)) }
+    ensures { OnOk result (list.new.items
+        ≡ list.old.items ++ function_duties (program_view program.now) (functions_view functions.now)) }
 {
     for function in functions {
         push_statement(list, program, &function.body)?;

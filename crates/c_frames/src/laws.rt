@@ -18,7 +18,8 @@ pub fn heads_are_framed()
 
 /// Where cells are the same but for some objects, each other object's cells read as before.
 pub fn others_read_as_before()
-    ensures { (p : Program) (changed : List ℕ) (before now : List Cell) → SameBut p changed before now → (k : Key) → IsTrue (not (is_in k.object changed)) → read k now ≡ read k before }
+    ensures { (p : Program) (changed : List ℕ) (before now : List Cell) → SameBut p changed before now → (k : Key)
+        → IsTrue (not (is_in k.object changed)) → read k now ≡ read k before }
 {}
 
 /// Each turn of a loop in a checked program that comes back to the loop's head leaves the cells that lived when it began, and changes only those that the

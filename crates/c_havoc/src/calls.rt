@@ -20,7 +20,9 @@ pub fn body(
     depth: u64,
     function: &Function,
 ) -> Result<Flow, Halt>
-    ensures { Gives flow_of result (left_of machine.new) (in_function (program_view program.now) (placed_view invariants.now) (suc depth) (function_view function.now) (left_of machine.old)) }
+    ensures { Gives flow_of result (left_of machine.new)
+        (in_function (program_view program.now) (placed_view invariants.now) (suc depth) (function_view function.now)
+        (left_of machine.old)) }
 {
     form(
         program,
@@ -42,7 +44,9 @@ fn body_within(
     depth: u64,
     function: &Function,
 ) -> Result<Flow, Halt>
-    ensures { Gives flow_of result (left_of machine.new) (in_function (program_view program.now) (placed_view invariants.now) depth (function_view function.now) (left_of machine.old)) }
+    ensures { Gives flow_of result (left_of machine.new)
+        (in_function (program_view program.now) (placed_view invariants.now) depth (function_view function.now)
+        (left_of machine.old)) }
 {
     if depth == 0 {
         return Err(Halt::Ends(Ending::Passes));
@@ -60,7 +64,9 @@ fn enter(
     function: &Function,
     values: &[Typed],
 ) -> Result<Flow, Halt>
-    ensures { Gives flow_of result (left_of machine.new) (with_arguments (program_view program.now) (placed_view invariants.now) depth (function_view function.now) (pairs_of values.now) (left_of machine.old)) }
+    ensures { Gives flow_of result (left_of machine.new)
+        (with_arguments (program_view program.now) (placed_view invariants.now) depth (function_view function.now)
+        (pairs_of values.now) (left_of machine.old)) }
 {
     set_parameters(program, machine, function.params.as_slice(), values)?;
     body_within(program, invariants, machine, depth, function)
@@ -76,7 +82,9 @@ fn scope(
     function: &Function,
     values: &[Typed],
 ) -> Result<Flow, Halt>
-    ensures { Gives flow_of result (left_of machine.new) (scoped_with (program_view program.now) (placed_view invariants.now) depth (function_view function.now) (pairs_of values.now) (left_of machine.old)) }
+    ensures { Gives flow_of result (left_of machine.new)
+        (scoped_with (program_view program.now) (placed_view invariants.now) depth (function_view function.now)
+        (pairs_of values.now) (left_of machine.old)) }
 {
     let cells = machine.memory.count();
     let flow = enter(program, invariants, machine, depth, function, values)?;
@@ -95,7 +103,9 @@ fn run_call(
     function: &Function,
     values: &[Typed],
 ) -> Result<i128, Halt>
-    ensures { Gives same result (left_of machine.new) (called_with (program_view program.now) (placed_view invariants.now) depth (site_of site) (function_view function.now) (pairs_of values.now) (left_of machine.old)) }
+    ensures { Gives same result (left_of machine.new)
+        (called_with (program_view program.now) (placed_view invariants.now) depth (site_of site)
+        (function_view function.now) (pairs_of values.now) (left_of machine.old)) }
 {
     let flow = scope(program, invariants, machine, depth, function, values)?;
     returned(program, site, flow)
@@ -112,7 +122,9 @@ pub fn call_number(
     number: u32,
     values: &[Typed],
 ) -> Result<i128, Halt>
-    ensures { Gives same result (left_of machine.new) (number_called (program_view program.now) (placed_view invariants.now) depth (site_of site) number (pairs_of values.now) (left_of machine.old)) }
+    ensures { Gives same result (left_of machine.new)
+        (number_called (program_view program.now) (placed_view invariants.now) depth (site_of site) number
+        (pairs_of values.now) (left_of machine.old)) }
 {
     match program.functions.get(number as usize) {
         Some(function) => run_call(program, invariants, machine, depth, site, function, values),

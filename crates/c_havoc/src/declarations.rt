@@ -23,7 +23,9 @@ fn initial_value(
     index: u32,
     e: &Expr,
 ) -> Result<(), Halt>
-    ensures { Gives same result (left_of machine.new) (initialised_one (program_view program.now) (placed_view invariants.now) depth at object index (expr_view e.now) (left_of machine.old)) }
+    ensures { Gives same result (left_of machine.new)
+        (initialised_one (program_view program.now) (placed_view invariants.now) depth at object index (expr_view e.now)
+        (left_of machine.old)) }
 {
     let value = full(program, invariants, machine, depth, at, true, e)?;
     let ty = type_of_object(program, object);
@@ -53,7 +55,9 @@ fn initial_values(
     first: u128,
     es: &[Expr],
 ) -> Result<(), Halt>
-    ensures { Gives same result (left_of machine.new) (initialised_by (program_view program.now) (placed_view invariants.now) depth at object first (exprs_view es.now) (left_of machine.old)) }
+    ensures { Gives same result (left_of machine.new)
+        (initialised_by (program_view program.now) (placed_view invariants.now) depth at object first
+        (exprs_view es.now) (left_of machine.old)) }
 {
     for (index, e) in es.iter().enumerate() {
         let Some(cell) = cell_number(first, index) else {
@@ -75,7 +79,9 @@ fn initial_rows(
     object: u32,
     rows: &[Row],
 ) -> Result<(), Halt>
-    ensures { Gives same result (left_of machine.new) (initialised_rows (program_view program.now) (placed_view invariants.now) depth at object 0 (rows_view rows.now) (left_of machine.old)) }
+    ensures { Gives same result (left_of machine.new)
+        (initialised_rows (program_view program.now) (placed_view invariants.now) depth at object 0 (rows_view rows.now)
+        (left_of machine.old)) }
 {
     let columns = columns_of_object(program, object);
     for (index, row) in rows.iter().enumerate() {
@@ -100,7 +106,9 @@ fn initial(
     object: u32,
     init: &Init,
 ) -> Result<(), Halt>
-    ensures { Gives same result (left_of machine.new) (initialised (program_view program.now) (placed_view invariants.now) depth at spot object (init_view init.now) (left_of machine.old)) }
+    ensures { Gives same result (left_of machine.new)
+        (initialised (program_view program.now) (placed_view invariants.now) depth at spot object (init_view init.now)
+        (left_of machine.old)) }
 {
     match init {
         Init::Absent => draw_cells(program, machine, spot, object),
@@ -137,7 +145,9 @@ fn introduce(
     at: Spot,
     name: &Declared,
 ) -> Result<(), Halt>
-    ensures { Gives same result (left_of machine.new) (introduced (program_view program.now) (placed_view invariants.now) depth at name.now.spot name.now.object (init_view name.now.init) (left_of machine.old)) }
+    ensures { Gives same result (left_of machine.new)
+        (introduced (program_view program.now) (placed_view invariants.now) depth at name.now.spot name.now.object
+        (init_view name.now.init) (left_of machine.old)) }
 {
     let size = size_of_object(program, name.object);
     add_started(&mut machine.memory, name.object, size, &[])?;
@@ -163,7 +173,9 @@ pub fn declare(
     at: Spot,
     names: &[Declared],
 ) -> Result<Flow, Halt>
-    ensures { Gives flow_of result (left_of machine.new) (declaring (program_view program.now) (placed_view invariants.now) depth at (names_view names.now) (left_of machine.old)) }
+    ensures { Gives flow_of result (left_of machine.new)
+        (declaring (program_view program.now) (placed_view invariants.now) depth at (names_view names.now)
+        (left_of machine.old)) }
 {
     for name in names {
         introduce(program, invariants, machine, depth, at, name)?;
@@ -181,7 +193,9 @@ pub fn begin(
     at: Spot,
     first: &First,
 ) -> Result<Flow, Halt>
-    ensures { Gives flow_of result (left_of machine.new) (begun (program_view program.now) (placed_view invariants.now) depth at (first_view first.now) (left_of machine.old)) }
+    ensures { Gives flow_of result (left_of machine.new)
+        (begun (program_view program.now) (placed_view invariants.now) depth at (first_view first.now)
+        (left_of machine.old)) }
 {
     match first {
         First::Absent => Ok(Flow::Next),

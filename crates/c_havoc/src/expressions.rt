@@ -28,7 +28,9 @@ pub fn eval(
     used: bool,
     e: &Expr,
 ) -> Result<i128, Halt>
-    ensures { Gives same result (left_of machine.new) (evaluated (program_view program.now) (placed_view invariants.now) depth (where_of at) (use_of used) (expr_view e.now) (left_of machine.old)) }
+    ensures { Gives same result (left_of machine.new)
+        (evaluated (program_view program.now) (placed_view invariants.now) depth (where_of at) (use_of used)
+        (expr_view e.now) (left_of machine.old)) }
 {
     match &e.node {
         Node::Const(value) => Ok(*value),
@@ -97,7 +99,9 @@ fn binary(
     left: &Expr,
     right: &Expr,
 ) -> Result<i128, Halt>
-    ensures { Gives same result (left_of machine.new) (noded (program_view program.now) (placed_view invariants.now) depth (where_of at) Used at.full None (t.Binary op (expr_view left.now) (expr_view right.now)) (left_of machine.old)) }
+    ensures { Gives same result (left_of machine.new)
+        (noded (program_view program.now) (placed_view invariants.now) depth (where_of at) Used at.full None
+        (t.Binary op (expr_view left.now) (expr_view right.now)) (left_of machine.old)) }
 {
     let a = eval(program, invariants, machine, depth, at, true, left)?;
     let b = eval(program, invariants, machine, depth, at, true, right)?;
@@ -126,7 +130,9 @@ fn target(
     at: Around,
     e: &Expr,
 ) -> Result<Element, Halt>
-    ensures { Gives key_of result (left_of machine.new) (targeted (program_view program.now) (placed_view invariants.now) depth (where_of at) (expr_view e.now) (left_of machine.old)) }
+    ensures { Gives key_of result (left_of machine.new)
+        (targeted (program_view program.now) (placed_view invariants.now) depth (where_of at) (expr_view e.now)
+        (left_of machine.old)) }
 {
     match &e.node {
         Node::Index { object, at: place } => element_at(
@@ -161,7 +167,9 @@ fn element_at(
     object: u32,
     indexes: &[Expr],
 ) -> Result<Element, Halt>
-    ensures { Gives key_of result (left_of machine.new) (placed_at (program_view program.now) (placed_view invariants.now) depth (where_of at) at.full (t.Index object (exprs_view indexes.now)) (left_of machine.old)) }
+    ensures { Gives key_of result (left_of machine.new)
+        (placed_at (program_view program.now) (placed_view invariants.now) depth (where_of at) at.full
+        (t.Index object (exprs_view indexes.now)) (left_of machine.old)) }
 {
     match indexes {
         [index] => {
@@ -191,7 +199,9 @@ fn evaluate_all(
     at: Around,
     es: &[Expr],
 ) -> Result<(), Halt>
-    ensures { Gives same result (left_of machine.new) (evaluated_all (program_view program.now) (placed_view invariants.now) depth (where_of at) (exprs_view es.now) (left_of machine.old)) }
+    ensures { Gives same result (left_of machine.new)
+        (evaluated_all (program_view program.now) (placed_view invariants.now) depth (where_of at) (exprs_view es.now)
+        (left_of machine.old)) }
 {
     for e in es {
         eval(program, invariants, machine, depth, at, true, e)?;
@@ -209,7 +219,9 @@ fn index(
     object: u32,
     indexes: &[Expr],
 ) -> Result<i128, Halt>
-    ensures { Gives same result (left_of machine.new) (noded (program_view program.now) (placed_view invariants.now) depth (where_of at) Used at.full None (t.Index object (exprs_view indexes.now)) (left_of machine.old)) }
+    ensures { Gives same result (left_of machine.new)
+        (noded (program_view program.now) (placed_view invariants.now) depth (where_of at) Used at.full None
+        (t.Index object (exprs_view indexes.now)) (left_of machine.old)) }
 {
     let found = element_at(program, invariants, machine, depth, at, object, indexes)?;
     Ok(look(machine, found))
@@ -225,7 +237,9 @@ fn unary(
     op: UnOp,
     of: &Expr,
 ) -> Result<i128, Halt>
-    ensures { Gives same result (left_of machine.new) (noded (program_view program.now) (placed_view invariants.now) depth (where_of at) Used at.full None (t.Unary op (expr_view of.now)) (left_of machine.old)) }
+    ensures { Gives same result (left_of machine.new)
+        (noded (program_view program.now) (placed_view invariants.now) depth (where_of at) Used at.full None
+        (t.Unary op (expr_view of.now)) (left_of machine.old)) }
 {
     let value = eval(program, invariants, machine, depth, at, true, of)?;
     operate_one(
@@ -249,7 +263,9 @@ fn cast(
     ty: Option<IntType>,
     of: &Expr,
 ) -> Result<i128, Halt>
-    ensures { Gives same result (left_of machine.new) (noded (program_view program.now) (placed_view invariants.now) depth (where_of at) Used at.full ty (t.Cast (expr_view of.now)) (left_of machine.old)) }
+    ensures { Gives same result (left_of machine.new)
+        (noded (program_view program.now) (placed_view invariants.now) depth (where_of at) Used at.full ty
+        (t.Cast (expr_view of.now)) (left_of machine.old)) }
 {
     match ty {
         None => eval(program, invariants, machine, depth, at, false, of),
@@ -267,7 +283,9 @@ fn cast_to(
     to: IntType,
     of: &Expr,
 ) -> Result<i128, Halt>
-    ensures { Gives same result (left_of machine.new) (noded (program_view program.now) (placed_view invariants.now) depth (where_of at) Used at.full (Some to) (t.Cast (expr_view of.now)) (left_of machine.old)) }
+    ensures { Gives same result (left_of machine.new)
+        (noded (program_view program.now) (placed_view invariants.now) depth (where_of at) Used at.full (Some to)
+        (t.Cast (expr_view of.now)) (left_of machine.old)) }
 {
     let value = eval(program, invariants, machine, depth, at, true, of)?;
     Ok(convert(program.model, to, value))
@@ -283,7 +301,9 @@ fn comma(
     first: &Expr,
     last: &Expr,
 ) -> Result<i128, Halt>
-    ensures { Gives same result (left_of machine.new) (noded (program_view program.now) (placed_view invariants.now) depth (where_of at) Used at.full None (t.Comma (expr_view first.now) (expr_view last.now)) (left_of machine.old)) }
+    ensures { Gives same result (left_of machine.new)
+        (noded (program_view program.now) (placed_view invariants.now) depth (where_of at) Used at.full None
+        (t.Comma (expr_view first.now) (expr_view last.now)) (left_of machine.old)) }
 {
     eval(program, invariants, machine, depth, at, false, first)?;
     eval(program, invariants, machine, depth, at, true, last)
@@ -299,7 +319,9 @@ fn and(
     left: &Expr,
     right: &Expr,
 ) -> Result<i128, Halt>
-    ensures { Gives same result (left_of machine.new) (noded (program_view program.now) (placed_view invariants.now) depth (where_of at) Used at.full None (t.Logic true (expr_view left.now) (expr_view right.now)) (left_of machine.old)) }
+    ensures { Gives same result (left_of machine.new)
+        (noded (program_view program.now) (placed_view invariants.now) depth (where_of at) Used at.full None
+        (t.Logic true (expr_view left.now) (expr_view right.now)) (left_of machine.old)) }
 {
     let value = eval(program, invariants, machine, depth, at, true, left)?;
     if holds(value) {
@@ -319,7 +341,9 @@ fn or(
     left: &Expr,
     right: &Expr,
 ) -> Result<i128, Halt>
-    ensures { Gives same result (left_of machine.new) (noded (program_view program.now) (placed_view invariants.now) depth (where_of at) Used at.full None (t.Logic false (expr_view left.now) (expr_view right.now)) (left_of machine.old)) }
+    ensures { Gives same result (left_of machine.new)
+        (noded (program_view program.now) (placed_view invariants.now) depth (where_of at) Used at.full None
+        (t.Logic false (expr_view left.now) (expr_view right.now)) (left_of machine.old)) }
 {
     let value = eval(program, invariants, machine, depth, at, true, left)?;
     if holds(value) {
@@ -338,7 +362,9 @@ fn tested(
     at: Around,
     e: &Expr,
 ) -> Result<i128, Halt>
-    ensures { Gives same result (left_of machine.new) (truthed (program_view program.now) (placed_view invariants.now) depth (where_of at) (expr_view e.now) (left_of machine.old)) }
+    ensures { Gives same result (left_of machine.new)
+        (truthed (program_view program.now) (placed_view invariants.now) depth (where_of at) (expr_view e.now)
+        (left_of machine.old)) }
 {
     let value = eval(program, invariants, machine, depth, at, true, e)?;
     Ok(truth(value))
@@ -354,7 +380,9 @@ fn replace(
     to: &Expr,
     from: &Expr,
 ) -> Result<i128, Halt>
-    ensures { Gives same result (left_of machine.new) (noded (program_view program.now) (placed_view invariants.now) depth (where_of at) Used at.full None (t.Assign None (expr_view to.now) (expr_view from.now)) (left_of machine.old)) }
+    ensures { Gives same result (left_of machine.new)
+        (noded (program_view program.now) (placed_view invariants.now) depth (where_of at) Used at.full None
+        (t.Assign None (expr_view to.now) (expr_view from.now)) (left_of machine.old)) }
 {
     let key = target(program, invariants, machine, depth, at, to)?;
     let value = eval(program, invariants, machine, depth, at, true, from)?;
@@ -372,7 +400,9 @@ fn update(
     to: &Expr,
     from: &Expr,
 ) -> Result<i128, Halt>
-    ensures { Gives same result (left_of machine.new) (noded (program_view program.now) (placed_view invariants.now) depth (where_of at) Used at.full None (t.Assign (Some op) (expr_view to.now) (expr_view from.now)) (left_of machine.old)) }
+    ensures { Gives same result (left_of machine.new)
+        (noded (program_view program.now) (placed_view invariants.now) depth (where_of at) Used at.full None
+        (t.Assign (Some op) (expr_view to.now) (expr_view from.now)) (left_of machine.old)) }
 {
     let key = target(program, invariants, machine, depth, at, to)?;
     let old = look(machine, key);
@@ -404,7 +434,9 @@ fn step(
     op: StepOp,
     to: &Expr,
 ) -> Result<i128, Halt>
-    ensures { Gives same result (left_of machine.new) (noded (program_view program.now) (placed_view invariants.now) depth (where_of at) Used at.full None (t.Step op (expr_view to.now)) (left_of machine.old)) }
+    ensures { Gives same result (left_of machine.new)
+        (noded (program_view program.now) (placed_view invariants.now) depth (where_of at) Used at.full None
+        (t.Step op (expr_view to.now)) (left_of machine.old)) }
 {
     let key = target(program, invariants, machine, depth, at, to)?;
     bump(program, machine, at, op, key, type_of(to))
@@ -422,7 +454,9 @@ fn choose(
     yes: &Expr,
     no: &Expr,
 ) -> Result<i128, Halt>
-    ensures { Gives same result (left_of machine.new) (noded (program_view program.now) (placed_view invariants.now) depth (where_of at) Used at.full ty (t.Choose at.full (expr_view test.now) (expr_view yes.now) (expr_view no.now)) (left_of machine.old)) }
+    ensures { Gives same result (left_of machine.new)
+        (noded (program_view program.now) (placed_view invariants.now) depth (where_of at) Used at.full ty
+        (t.Choose at.full (expr_view test.now) (expr_view yes.now) (expr_view no.now)) (left_of machine.old)) }
 {
     let value = eval(program, invariants, machine, depth, at, true, test)?;
     if holds(value) {
@@ -442,7 +476,9 @@ fn converted(
     ty: Option<IntType>,
     e: &Expr,
 ) -> Result<i128, Halt>
-    ensures { Gives same result (left_of machine.new) (convertible (program_view program.now) (placed_view invariants.now) depth (where_of at) ty (expr_view e.now) (left_of machine.old)) }
+    ensures { Gives same result (left_of machine.new)
+        (convertible (program_view program.now) (placed_view invariants.now) depth (where_of at) ty (expr_view e.now)
+        (left_of machine.old)) }
 {
     let value = eval(program, invariants, machine, depth, at, true, e)?;
     Ok(convert_to(program, ty, value))
@@ -459,7 +495,9 @@ fn logic(
     left: &Expr,
     right: &Expr,
 ) -> Result<i128, Halt>
-    ensures { Gives same result (left_of machine.new) (noded (program_view program.now) (placed_view invariants.now) depth (where_of at) Used at.full None (t.Logic both (expr_view left.now) (expr_view right.now)) (left_of machine.old)) }
+    ensures { Gives same result (left_of machine.new)
+        (noded (program_view program.now) (placed_view invariants.now) depth (where_of at) Used at.full None
+        (t.Logic both (expr_view left.now) (expr_view right.now)) (left_of machine.old)) }
 {
     if both {
         and(program, invariants, machine, depth, at, left, right)
@@ -479,7 +517,9 @@ fn assign(
     to: &Expr,
     from: &Expr,
 ) -> Result<i128, Halt>
-    ensures { Gives same result (left_of machine.new) (noded (program_view program.now) (placed_view invariants.now) depth (where_of at) Used at.full None (t.Assign op (expr_view to.now) (expr_view from.now)) (left_of machine.old)) }
+    ensures { Gives same result (left_of machine.new)
+        (noded (program_view program.now) (placed_view invariants.now) depth (where_of at) Used at.full None
+        (t.Assign op (expr_view to.now) (expr_view from.now)) (left_of machine.old)) }
 {
     match op {
         None => replace(program, invariants, machine, depth, at, to, from),
@@ -501,7 +541,9 @@ fn call(
     args: &[Expr],
     close: Spot,
 ) -> Result<i128, Halt>
-    ensures { Gives same result (left_of machine.new) (noded (program_view program.now) (placed_view invariants.now) depth (where_of at) (use_of used) spot ty (t.Call callee (exprs_view args.now) close) (left_of machine.old)) }
+    ensures { Gives same result (left_of machine.new)
+        (noded (program_view program.now) (placed_view invariants.now) depth (where_of at) (use_of used) spot ty
+        (t.Call callee (exprs_view args.now) close) (left_of machine.old)) }
 {
     let values = arguments(program, invariants, machine, depth, at, args)?;
     let site = CallSite {
@@ -531,7 +573,9 @@ fn arguments(
     at: Around,
     args: &[Expr],
 ) -> Result<Seq<Typed>, Halt>
-    ensures { Gives pairs_of result (left_of machine.new) (listed (program_view program.now) (placed_view invariants.now) depth (where_of at) [] (exprs_view args.now) (left_of machine.old)) }
+    ensures { Gives pairs_of result (left_of machine.new)
+        (listed (program_view program.now) (placed_view invariants.now) depth (where_of at) [] (exprs_view args.now)
+        (left_of machine.old)) }
 {
     let mut values = Seq::new(machine.alloc);
     for arg in args {
@@ -556,7 +600,9 @@ fn called(
     callee: Callee,
     values: &[Typed],
 ) -> Result<i128, Halt>
-    ensures { Gives same result (left_of machine.new) (callee_gives (program_view program.now) (placed_view invariants.now) depth (where_of at) (site_of site) callee (pairs_of values.now) (left_of machine.old)) }
+    ensures { Gives same result (left_of machine.new)
+        (callee_gives (program_view program.now) (placed_view invariants.now) depth (where_of at) (site_of site) callee
+        (pairs_of values.now) (left_of machine.old)) }
 {
     match callee {
         Callee::Defined(number) => {

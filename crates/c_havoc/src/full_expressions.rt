@@ -22,7 +22,9 @@ pub fn full(
     used: bool,
     e: &Expr,
 ) -> Result<i128, Halt>
-    ensures { Gives same result (left_of machine.new) (fulled (program_view program.now) (placed_view invariants.now) depth at (use_of used) (expr_view e.now) (left_of machine.old)) }
+    ensures { Gives same result (left_of machine.new)
+        (fulled (program_view program.now) (placed_view invariants.now) depth at (use_of used) (expr_view e.now)
+        (left_of machine.old)) }
 {
     eval(
         program,
@@ -48,7 +50,9 @@ pub fn decide(
     at: Spot,
     test: &Expr,
 ) -> Result<bool, Halt>
-    ensures { Gives same result (left_of machine.new) (decided (program_view program.now) (placed_view invariants.now) depth at (expr_view test.now) (left_of machine.old)) }
+    ensures { Gives same result (left_of machine.new)
+        (decided (program_view program.now) (placed_view invariants.now) depth at (expr_view test.now)
+        (left_of machine.old)) }
 {
     let value = full(program, invariants, machine, depth, at, true, test)?;
     Ok(holds(value))
@@ -65,7 +69,9 @@ pub fn only(
     at: Spot,
     e: &Expr,
 ) -> Result<Flow, Halt>
-    ensures { Gives flow_of result (left_of machine.new) (formed (program_view program.now) (placed_view invariants.now) depth wanted at (t.Do (expr_view e.now)) (left_of machine.old)) }
+    ensures { Gives flow_of result (left_of machine.new)
+        (formed (program_view program.now) (placed_view invariants.now) depth wanted at (t.Do (expr_view e.now))
+        (left_of machine.old)) }
 {
     full(program, invariants, machine, depth, at, false, e)?;
     Ok(Flow::Next)
@@ -82,7 +88,9 @@ pub fn give(
     at: Spot,
     e: &Option<Expr>,
 ) -> Result<Flow, Halt>
-    ensures { Gives flow_of result (left_of machine.new) (formed (program_view program.now) (placed_view invariants.now) depth wanted at (t.Return (expr_view_if e.now)) (left_of machine.old)) }
+    ensures { Gives flow_of result (left_of machine.new)
+        (formed (program_view program.now) (placed_view invariants.now) depth wanted at (t.Return (expr_view_if e.now))
+        (left_of machine.old)) }
 {
     match e {
         None => Ok(Flow::Gave(None)),
@@ -103,7 +111,9 @@ pub fn test_turn(
     at: Spot,
     test: &Expr,
 ) -> Result<Flow, Halt>
-    ensures { Gives flow_of result (left_of machine.new) (test_turned (program_view program.now) (placed_view invariants.now) depth at (expr_view test.now) (left_of machine.old)) }
+    ensures { Gives flow_of result (left_of machine.new)
+        (test_turned (program_view program.now) (placed_view invariants.now) depth at (expr_view test.now)
+        (left_of machine.old)) }
 {
     if decide(program, invariants, machine, depth, at, test)? {
         Ok(Flow::Next)
@@ -122,7 +132,9 @@ pub fn for_goes_on(
     at: Spot,
     test: &Option<Expr>,
 ) -> Result<bool, Halt>
-    ensures { Gives same result (left_of machine.new) (goes_on (program_view program.now) (placed_view invariants.now) depth at (expr_view_if test.now) (left_of machine.old)) }
+    ensures { Gives same result (left_of machine.new)
+        (goes_on (program_view program.now) (placed_view invariants.now) depth at (expr_view_if test.now)
+        (left_of machine.old)) }
 {
     match test {
         None => Ok(true),
@@ -140,7 +152,9 @@ pub fn step_on(
     at: Spot,
     step: &Option<Expr>,
 ) -> Result<Flow, Halt>
-    ensures { Gives flow_of result (left_of machine.new) (stepped_on (program_view program.now) (placed_view invariants.now) depth at (expr_view_if step.now) (left_of machine.old)) }
+    ensures { Gives flow_of result (left_of machine.new)
+        (stepped_on (program_view program.now) (placed_view invariants.now) depth at (expr_view_if step.now)
+        (left_of machine.old)) }
 {
     match step {
         None => Ok(Flow::Next),

@@ -19,7 +19,9 @@ pub fn open_loop(
     at: Spot,
     f: &Form,
 ) -> Result<(), Halt>
-    ensures { Gives same result (left_of machine.new) (opened (program_view program.now) (placed_view invariants.now) at (loop_of (form_view f.now)) (left_of machine.old)) }
+    ensures { Gives same result (left_of machine.new)
+        (opened (program_view program.now) (placed_view invariants.now) at (loop_of (form_view f.now))
+        (left_of machine.old)) }
 {
     check(program, invariants, machine, true, at, DutyKind::Entry)?;
     let objects = changed_in(machine.alloc, program, f)?;

@@ -53,7 +53,8 @@ fn failed(
     invariants: &Seq<PlacedInvariant>,
     duty: Duty,
 ) -> Result<HavocEnd, OutOfMemory>
-    ensures { IfOk result (λ end. end ≡ end_among (Duties (program_view program.now) (placed_view invariants.now)) (Fails duty)) }
+    ensures { IfOk result (λ end. end
+        ≡ end_among (Duties (program_view program.now) (placed_view invariants.now)) (Fails duty)) }
 {
     let duties = duties(alloc, program, invariants)?;
     let number = number_among(duties.as_slice(), duty)?;
@@ -85,7 +86,8 @@ fn run_main(
     machine: &mut Machine,
     depth: u64,
 ) -> Result<Flow, Halt>
-    ensures { Gives flow_of result (left_of machine.new) (in_main (program_view program.now) (placed_view invariants.now) (suc depth) (left_of machine.old)) }
+    ensures { Gives flow_of result (left_of machine.new)
+        (in_main (program_view program.now) (placed_view invariants.now) (suc depth) (left_of machine.old)) }
 {
     match program.functions.get(program.main as usize) {
         Some(function) => body(program, invariants, machine, depth, function),

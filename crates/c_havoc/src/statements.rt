@@ -25,7 +25,9 @@ fn exec(
     wanted: Option<IntType>,
     s: &Stmt,
 ) -> Result<Flow, Halt>
-    ensures { Gives flow_of result (left_of machine.new) (executed (program_view program.now) (placed_view invariants.now) depth wanted (stmt_view s.now) (left_of machine.old)) }
+    ensures { Gives flow_of result (left_of machine.new)
+        (executed (program_view program.now) (placed_view invariants.now) depth wanted (stmt_view s.now)
+        (left_of machine.old)) }
 {
     arrive(program, invariants, machine, s.spot)?;
     form(program, invariants, machine, depth, wanted, s.spot, &s.form)
@@ -42,7 +44,9 @@ pub fn form(
     at: Spot,
     f: &Form,
 ) -> Result<Flow, Halt>
-    ensures { Gives flow_of result (left_of machine.new) (formed (program_view program.now) (placed_view invariants.now) depth wanted at (form_view f.now) (left_of machine.old)) }
+    ensures { Gives flow_of result (left_of machine.new)
+        (formed (program_view program.now) (placed_view invariants.now) depth wanted at (form_view f.now)
+        (left_of machine.old)) }
 {
     match f {
         Form::Empty => Ok(Flow::Next),
@@ -86,7 +90,9 @@ fn sequence(
     wanted: Option<IntType>,
     body: &[Stmt],
 ) -> Result<Flow, Halt>
-    ensures { Gives flow_of result (left_of machine.new) (sequenced (program_view program.now) (placed_view invariants.now) depth wanted (stmts_view body.now) (left_of machine.old)) }
+    ensures { Gives flow_of result (left_of machine.new)
+        (sequenced (program_view program.now) (placed_view invariants.now) depth wanted (stmts_view body.now)
+        (left_of machine.old)) }
 {
     for s in body {
         match exec(program, invariants, machine, depth, wanted, s)? {
@@ -107,7 +113,9 @@ fn block(
     wanted: Option<IntType>,
     body: &[Stmt],
 ) -> Result<Flow, Halt>
-    ensures { Gives flow_of result (left_of machine.new) (blocked (program_view program.now) (placed_view invariants.now) depth wanted (stmts_view body.now) (left_of machine.old)) }
+    ensures { Gives flow_of result (left_of machine.new)
+        (blocked (program_view program.now) (placed_view invariants.now) depth wanted (stmts_view body.now)
+        (left_of machine.old)) }
 {
     let cells = machine.memory.count();
     let flow = sequence(program, invariants, machine, depth, wanted, body)?;
@@ -125,7 +133,9 @@ fn arm(
     wanted: Option<IntType>,
     s: &Stmt,
 ) -> Result<Flow, Halt>
-    ensures { Gives flow_of result (left_of machine.new) (armed (program_view program.now) (placed_view invariants.now) depth wanted (stmt_view s.now) (left_of machine.old)) }
+    ensures { Gives flow_of result (left_of machine.new)
+        (armed (program_view program.now) (placed_view invariants.now) depth wanted (stmt_view s.now)
+        (left_of machine.old)) }
 {
     let cells = machine.memory.count();
     let flow = exec(program, invariants, machine, depth, wanted, s)?;
@@ -142,7 +152,9 @@ fn otherwise(
     wanted: Option<IntType>,
     no: &Option<Box<Stmt>>,
 ) -> Result<Flow, Halt>
-    ensures { Gives flow_of result (left_of machine.new) (otherwised (program_view program.now) (placed_view invariants.now) depth wanted (else_part no.now) (left_of machine.old)) }
+    ensures { Gives flow_of result (left_of machine.new)
+        (otherwised (program_view program.now) (placed_view invariants.now) depth wanted (else_part no.now)
+        (left_of machine.old)) }
 {
     match no {
         None => Ok(Flow::Next),
@@ -162,7 +174,9 @@ fn choose(
     yes: &Stmt,
     no: &Option<Box<Stmt>>,
 ) -> Result<Flow, Halt>
-    ensures { Gives flow_of result (left_of machine.new) (formed (program_view program.now) (placed_view invariants.now) depth wanted at (t.If (expr_view test.now) (stmt_view yes.now) (else_part no.now)) (left_of machine.old)) }
+    ensures { Gives flow_of result (left_of machine.new)
+        (formed (program_view program.now) (placed_view invariants.now) depth wanted at
+        (t.If (expr_view test.now) (stmt_view yes.now) (else_part no.now)) (left_of machine.old)) }
 {
     if decide(program, invariants, machine, depth, at, test)? {
         arm(program, invariants, machine, depth, wanted, yes)
@@ -183,7 +197,9 @@ fn switch(
     test: &Expr,
     arms: &[Arm],
 ) -> Result<Flow, Halt>
-    ensures { Gives flow_of result (left_of machine.new) (formed (program_view program.now) (placed_view invariants.now) depth wanted at (t.Switch (expr_view test.now) (switch_view arms.now)) (left_of machine.old)) }
+    ensures { Gives flow_of result (left_of machine.new)
+        (formed (program_view program.now) (placed_view invariants.now) depth wanted at
+        (t.Switch (expr_view test.now) (switch_view arms.now)) (left_of machine.old)) }
 {
     let value = full(program, invariants, machine, depth, at, true, test)?;
     let ty = promote(program.model, type_of(test));
@@ -202,7 +218,9 @@ fn arms_from(
     first: usize,
     arms: &[Arm],
 ) -> Result<Flow, Halt>
-    ensures { Gives flow_of result (left_of machine.new) (arms_done (program_view program.now) (placed_view invariants.now) depth wanted first (switch_view arms.now) (left_of machine.old)) }
+    ensures { Gives flow_of result (left_of machine.new)
+        (arms_done (program_view program.now) (placed_view invariants.now) depth wanted first (switch_view arms.now)
+        (left_of machine.old)) }
 {
     if first < arms.len() {
         hold_arms(program, invariants, machine, depth, wanted, &arms[first..])
@@ -221,7 +239,9 @@ fn sequence_arms(
     wanted: Option<IntType>,
     arms: &[Arm],
 ) -> Result<Flow, Halt>
-    ensures { Gives flow_of result (left_of machine.new) (sequenced (program_view program.now) (placed_view invariants.now) depth wanted (switch_view arms.now) (left_of machine.old)) }
+    ensures { Gives flow_of result (left_of machine.new)
+        (sequenced (program_view program.now) (placed_view invariants.now) depth wanted (switch_view arms.now)
+        (left_of machine.old)) }
 {
     for arm in arms {
         let body = arm.body.as_slice();
@@ -243,7 +263,9 @@ fn scope_arms(
     wanted: Option<IntType>,
     arms: &[Arm],
 ) -> Result<Flow, Halt>
-    ensures { Gives flow_of result (left_of machine.new) (blocked (program_view program.now) (placed_view invariants.now) depth wanted (switch_view arms.now) (left_of machine.old)) }
+    ensures { Gives flow_of result (left_of machine.new)
+        (blocked (program_view program.now) (placed_view invariants.now) depth wanted (switch_view arms.now)
+        (left_of machine.old)) }
 {
     let cells = machine.memory.count();
     let flow = sequence_arms(program, invariants, machine, depth, wanted, arms)?;
@@ -261,7 +283,9 @@ fn hold_arms(
     wanted: Option<IntType>,
     arms: &[Arm],
 ) -> Result<Flow, Halt>
-    ensures { Gives flow_of result (left_of machine.new) (held_arms (program_view program.now) (placed_view invariants.now) depth wanted (switch_view arms.now) (left_of machine.old)) }
+    ensures { Gives flow_of result (left_of machine.new)
+        (held_arms (program_view program.now) (placed_view invariants.now) depth wanted (switch_view arms.now)
+        (left_of machine.old)) }
 {
     let flow = scope_arms(program, invariants, machine, depth, wanted, arms)?;
     Ok(after_arms(flow))
@@ -297,7 +321,9 @@ fn loop_body(
     wanted: Option<IntType>,
     body: &Stmt,
 ) -> Result<Flow, Halt>
-    ensures { Gives flow_of result (left_of machine.new) (bodied (program_view program.now) (placed_view invariants.now) depth wanted (stmt_view body.now) (left_of machine.old)) }
+    ensures { Gives flow_of result (left_of machine.new)
+        (bodied (program_view program.now) (placed_view invariants.now) depth wanted (stmt_view body.now)
+        (left_of machine.old)) }
 {
     let flow = arm(program, invariants, machine, depth, wanted, body)?;
     Ok(after_body(flow))
@@ -314,7 +340,9 @@ fn while_turn(
     test: &Expr,
     body: &Stmt,
 ) -> Result<Flow, Halt>
-    ensures { Gives flow_of result (left_of machine.new) (while_turned (program_view program.now) (placed_view invariants.now) depth wanted at (expr_view test.now) (stmt_view body.now) (left_of machine.old)) }
+    ensures { Gives flow_of result (left_of machine.new)
+        (while_turned (program_view program.now) (placed_view invariants.now) depth wanted at (expr_view test.now)
+        (stmt_view body.now) (left_of machine.old)) }
 {
     if decide(program, invariants, machine, depth, at, test)? {
         loop_body(program, invariants, machine, depth, wanted, body)
@@ -334,7 +362,9 @@ fn do_turn(
     body: &Stmt,
     test: &Expr,
 ) -> Result<Flow, Halt>
-    ensures { Gives flow_of result (left_of machine.new) (do_turned (program_view program.now) (placed_view invariants.now) depth wanted at (stmt_view body.now) (expr_view test.now) (left_of machine.old)) }
+    ensures { Gives flow_of result (left_of machine.new)
+        (do_turned (program_view program.now) (placed_view invariants.now) depth wanted at (stmt_view body.now)
+        (expr_view test.now) (left_of machine.old)) }
 {
     match loop_body(program, invariants, machine, depth, wanted, body)? {
         Flow::Next => test_turn(program, invariants, machine, depth, at, test),
@@ -354,7 +384,9 @@ fn for_body(
     step: &Option<Expr>,
     body: &Stmt,
 ) -> Result<Flow, Halt>
-    ensures { Gives flow_of result (left_of machine.new) (for_rest (program_view program.now) (placed_view invariants.now) depth wanted at (expr_view_if step.now) (stmt_view body.now) (left_of machine.old)) }
+    ensures { Gives flow_of result (left_of machine.new)
+        (for_rest (program_view program.now) (placed_view invariants.now) depth wanted at (expr_view_if step.now)
+        (stmt_view body.now) (left_of machine.old)) }
 {
     match loop_body(program, invariants, machine, depth, wanted, body)? {
         Flow::Next => step_on(program, invariants, machine, depth, at, step),
@@ -374,7 +406,9 @@ fn for_turn(
     step: &Option<Expr>,
     body: &Stmt,
 ) -> Result<Flow, Halt>
-    ensures { Gives flow_of result (left_of machine.new) (for_turned (program_view program.now) (placed_view invariants.now) depth wanted at (expr_view_if test.now) (expr_view_if step.now) (stmt_view body.now) (left_of machine.old)) }
+    ensures { Gives flow_of result (left_of machine.new)
+        (for_turned (program_view program.now) (placed_view invariants.now) depth wanted at (expr_view_if test.now)
+        (expr_view_if step.now) (stmt_view body.now) (left_of machine.old)) }
 {
     if for_goes_on(program, invariants, machine, depth, at, test)? {
         for_body(program, invariants, machine, depth, wanted, at, step, body)
@@ -394,7 +428,9 @@ fn turn(
     at: Spot,
     f: &Form,
 ) -> Result<Flow, Halt>
-    ensures { Gives flow_of result (left_of machine.new) (turning (program_view program.now) (placed_view invariants.now) depth wanted at (loop_of (form_view f.now)) (left_of machine.old)) }
+    ensures { Gives flow_of result (left_of machine.new)
+        (turning (program_view program.now) (placed_view invariants.now) depth wanted at (loop_of (form_view f.now))
+        (left_of machine.old)) }
 {
     match f {
         Form::While { test, body } => while_turn(
@@ -426,7 +462,9 @@ fn turn_once(
     at: Spot,
     f: &Form,
 ) -> Result<Flow, Halt>
-    ensures { Gives flow_of result (left_of machine.new) (turned_once (program_view program.now) (placed_view invariants.now) depth wanted at (loop_of (form_view f.now)) (left_of machine.old)) }
+    ensures { Gives flow_of result (left_of machine.new)
+        (turned_once (program_view program.now) (placed_view invariants.now) depth wanted at (loop_of (form_view f.now))
+        (left_of machine.old)) }
 {
     open_loop(program, invariants, machine, at, f)?;
     let flow = turn(program, invariants, machine, depth, wanted, at, f)?;
@@ -444,7 +482,9 @@ fn loop_scope(
     at: Spot,
     f: &Form,
 ) -> Result<Flow, Halt>
-    ensures { Gives flow_of result (left_of machine.new) (looped (program_view program.now) (placed_view invariants.now) depth wanted at (loop_of (form_view f.now)) (left_of machine.old)) }
+    ensures { Gives flow_of result (left_of machine.new)
+        (looped (program_view program.now) (placed_view invariants.now) depth wanted at (loop_of (form_view f.now))
+        (left_of machine.old)) }
 {
     let cells = machine.memory.count();
     let flow = turn_once(program, invariants, machine, depth, wanted, at, f)?;
@@ -463,7 +503,9 @@ fn for_parts(
     first: &First,
     f: &Form,
 ) -> Result<Flow, Halt>
-    ensures { Gives flow_of result (left_of machine.new) (for_parts_of (program_view program.now) (placed_view invariants.now) depth wanted at (first_view first.now) (loop_of (form_view f.now)) (left_of machine.old)) }
+    ensures { Gives flow_of result (left_of machine.new)
+        (for_parts_of (program_view program.now) (placed_view invariants.now) depth wanted at (first_view first.now)
+        (loop_of (form_view f.now)) (left_of machine.old)) }
 {
     match begin(program, invariants, machine, depth, at, first)? {
         Flow::Next => loop_scope(program, invariants, machine, depth, wanted, at, f),
@@ -483,7 +525,9 @@ fn for_scope(
     first: &First,
     f: &Form,
 ) -> Result<Flow, Halt>
-    ensures { Gives flow_of result (left_of machine.new) (for_looped (program_view program.now) (placed_view invariants.now) depth wanted at (first_view first.now) (loop_of (form_view f.now)) (left_of machine.old)) }
+    ensures { Gives flow_of result (left_of machine.new)
+        (for_looped (program_view program.now) (placed_view invariants.now) depth wanted at (first_view first.now)
+        (loop_of (form_view f.now)) (left_of machine.old)) }
 {
     let cells = machine.memory.count();
     let flow = for_parts(program, invariants, machine, depth, wanted, at, first, f)?;

@@ -20,7 +20,9 @@ pub fn body<W: Watcher>(
     function: &Function,
 ) -> Result<Flow, Halt>
     requires bound { machine.old.steps ≤ suc depth }
-    ensures gives { Gives flow_of result (state_of machine.new (W.seen watcher.new)) (in_function (program_view program.now) W.Seen W.after (suc depth) (function_view function.now) (state_of machine.old (W.seen watcher.old))) }
+    ensures gives { Gives flow_of result (state_of machine.new (W.seen watcher.new))
+        (in_function (program_view program.now) W.Seen W.after (suc depth) (function_view function.now)
+        (state_of machine.old (W.seen watcher.old))) }
     ensures spends { machine.new.steps ≤ machine.old.steps }
 {
     tick::<W>(machine)?;
@@ -45,7 +47,9 @@ fn body_within<W: Watcher>(
     function: &Function,
 ) -> Result<Flow, Halt>
     requires bound { machine.old.steps ≤ depth }
-    ensures gives { Gives flow_of result (state_of machine.new (W.seen watcher.new)) (in_function (program_view program.now) W.Seen W.after depth (function_view function.now) (state_of machine.old (W.seen watcher.old))) }
+    ensures gives { Gives flow_of result (state_of machine.new (W.seen watcher.new))
+        (in_function (program_view program.now) W.Seen W.after depth (function_view function.now)
+        (state_of machine.old (W.seen watcher.old))) }
     ensures spends { machine.new.steps ≤ machine.old.steps }
 {
     if depth == 0 {
@@ -65,7 +69,9 @@ fn enter<W: Watcher>(
     values: &[Typed],
 ) -> Result<Flow, Halt>
     requires bound { machine.old.steps ≤ depth }
-    ensures gives { Gives flow_of result (state_of machine.new (W.seen watcher.new)) (with_arguments (program_view program.now) W.Seen W.after depth (function_view function.now) (pairs_of values.now) (state_of machine.old (W.seen watcher.old))) }
+    ensures gives { Gives flow_of result (state_of machine.new (W.seen watcher.new))
+        (with_arguments (program_view program.now) W.Seen W.after depth (function_view function.now)
+        (pairs_of values.now) (state_of machine.old (W.seen watcher.old))) }
     ensures spends { machine.new.steps ≤ machine.old.steps }
 {
     set_parameters::<W>(program, machine, function.params.as_slice(), values)?;
@@ -84,7 +90,9 @@ fn run_call<W: Watcher>(
     values: &[Typed],
 ) -> Result<i128, Halt>
     requires bound { machine.old.steps ≤ depth }
-    ensures gives { Gives same result (state_of machine.new (W.seen watcher.new)) (called_with (program_view program.now) W.Seen W.after depth (site_of site) (function_view function.now) (pairs_of values.now) (state_of machine.old (W.seen watcher.old))) }
+    ensures gives { Gives same result (state_of machine.new (W.seen watcher.new))
+        (called_with (program_view program.now) W.Seen W.after depth (site_of site) (function_view function.now)
+        (pairs_of values.now) (state_of machine.old (W.seen watcher.old))) }
     ensures spends { machine.new.steps ≤ machine.old.steps }
 {
     machine.active = one_more(machine.active)?;
@@ -107,7 +115,9 @@ fn call_found<W: Watcher>(
     values: &[Typed],
 ) -> Result<i128, Halt>
     requires bound { machine.old.steps ≤ depth }
-    ensures gives { Gives same result (state_of machine.new (W.seen watcher.new)) (function_called (program_view program.now) W.Seen W.after depth (site_of site) (function_view function.now) (pairs_of values.now) (state_of machine.old (W.seen watcher.old))) }
+    ensures gives { Gives same result (state_of machine.new (W.seen watcher.new))
+        (function_called (program_view program.now) W.Seen W.after depth (site_of site) (function_view function.now)
+        (pairs_of values.now) (state_of machine.old (W.seen watcher.old))) }
     ensures spends { machine.new.steps ≤ machine.old.steps }
 {
     let parameters = function.params.len() as u64;
@@ -129,7 +139,9 @@ pub fn call_number<W: Watcher>(
     values: &[Typed],
 ) -> Result<i128, Halt>
     requires bound { machine.old.steps ≤ depth }
-    ensures gives { Gives same result (state_of machine.new (W.seen watcher.new)) (number_called (program_view program.now) W.Seen W.after depth (site_of site) number (pairs_of values.now) (state_of machine.old (W.seen watcher.old))) }
+    ensures gives { Gives same result (state_of machine.new (W.seen watcher.new))
+        (number_called (program_view program.now) W.Seen W.after depth (site_of site) number (pairs_of values.now)
+        (state_of machine.old (W.seen watcher.old))) }
     ensures spends { machine.new.steps ≤ machine.old.steps }
 {
     match program.functions.get(number as usize) {

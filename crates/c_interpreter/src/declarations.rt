@@ -23,7 +23,9 @@ fn initial_value<W: Watcher>(
     e: &Expr,
 ) -> Result<(), Halt>
     requires bound { machine.old.steps ≤ depth }
-    ensures gives { Gives same result (state_of machine.new (W.seen watcher.new)) (initialised_one (program_view program.now) W.Seen W.after depth at object index (expr_view e.now) (state_of machine.old (W.seen watcher.old))) }
+    ensures gives { Gives same result (state_of machine.new (W.seen watcher.new))
+        (initialised_one (program_view program.now) W.Seen W.after depth at object index (expr_view e.now)
+        (state_of machine.old (W.seen watcher.old))) }
     ensures spends { machine.new.steps ≤ machine.old.steps }
 {
     let value = full(program, machine, watcher, depth, at, true, e)?;
@@ -55,7 +57,9 @@ fn initial_values<W: Watcher>(
     es: &[Expr],
 ) -> Result<(), Halt>
     requires bound { machine.old.steps ≤ depth }
-    ensures gives { Gives same result (state_of machine.new (W.seen watcher.new)) (initialised_by (program_view program.now) W.Seen W.after depth at object first (exprs_view es.now) (state_of machine.old (W.seen watcher.old))) }
+    ensures gives { Gives same result (state_of machine.new (W.seen watcher.new))
+        (initialised_by (program_view program.now) W.Seen W.after depth at object first (exprs_view es.now)
+        (state_of machine.old (W.seen watcher.old))) }
     ensures spends { machine.new.steps ≤ machine.old.steps }
 {
     for (index, e) in es.iter().enumerate() {
@@ -79,7 +83,9 @@ fn initial_rows<W: Watcher>(
     rows: &[Row],
 ) -> Result<(), Halt>
     requires bound { machine.old.steps ≤ depth }
-    ensures gives { Gives same result (state_of machine.new (W.seen watcher.new)) (initialised_rows (program_view program.now) W.Seen W.after depth at object 0 (rows_view rows.now) (state_of machine.old (W.seen watcher.old))) }
+    ensures gives { Gives same result (state_of machine.new (W.seen watcher.new))
+        (initialised_rows (program_view program.now) W.Seen W.after depth at object 0 (rows_view rows.now)
+        (state_of machine.old (W.seen watcher.old))) }
     ensures spends { machine.new.steps ≤ machine.old.steps }
 {
     let columns = columns_of_object(program, object);
@@ -104,7 +110,9 @@ fn initial<W: Watcher>(
     init: &Init,
 ) -> Result<(), Halt>
     requires bound { machine.old.steps ≤ depth }
-    ensures gives { Gives same result (state_of machine.new (W.seen watcher.new)) (initialised (program_view program.now) W.Seen W.after depth at spot object (init_view init.now) (state_of machine.old (W.seen watcher.old))) }
+    ensures gives { Gives same result (state_of machine.new (W.seen watcher.new))
+        (initialised (program_view program.now) W.Seen W.after depth at spot object (init_view init.now)
+        (state_of machine.old (W.seen watcher.old))) }
     ensures spends { machine.new.steps ≤ machine.old.steps }
 {
     match init {
@@ -143,7 +151,9 @@ fn introduce<W: Watcher>(
     name: &Declared,
 ) -> Result<(), Halt>
     requires bound { machine.old.steps ≤ depth }
-    ensures gives { Gives same result (state_of machine.new (W.seen watcher.new)) (introduced (program_view program.now) W.Seen W.after depth at name.now.spot name.now.object (init_view name.now.init) (state_of machine.old (W.seen watcher.old))) }
+    ensures gives { Gives same result (state_of machine.new (W.seen watcher.new))
+        (introduced (program_view program.now) W.Seen W.after depth at name.now.spot name.now.object
+        (init_view name.now.init) (state_of machine.old (W.seen watcher.old))) }
     ensures spends { machine.new.steps ≤ machine.old.steps }
 {
     let size = size_of_object(program, name.object);
@@ -173,7 +183,9 @@ pub fn declare<W: Watcher>(
     names: &[Declared],
 ) -> Result<Flow, Halt>
     requires bound { machine.old.steps ≤ depth }
-    ensures gives { Gives flow_of result (state_of machine.new (W.seen watcher.new)) (declaring (program_view program.now) W.Seen W.after depth at (names_view names.now) (state_of machine.old (W.seen watcher.old))) }
+    ensures gives { Gives flow_of result (state_of machine.new (W.seen watcher.new))
+        (declaring (program_view program.now) W.Seen W.after depth at (names_view names.now)
+        (state_of machine.old (W.seen watcher.old))) }
     ensures spends { machine.new.steps ≤ machine.old.steps }
 {
     for name in names {
@@ -193,7 +205,9 @@ pub fn begin<W: Watcher>(
     first: &First,
 ) -> Result<Flow, Halt>
     requires bound { machine.old.steps ≤ depth }
-    ensures gives { Gives flow_of result (state_of machine.new (W.seen watcher.new)) (begun (program_view program.now) W.Seen W.after depth at (first_view first.now) (state_of machine.old (W.seen watcher.old))) }
+    ensures gives { Gives flow_of result (state_of machine.new (W.seen watcher.new))
+        (begun (program_view program.now) W.Seen W.after depth at (first_view first.now)
+        (state_of machine.old (W.seen watcher.old))) }
     ensures spends { machine.new.steps ≤ machine.old.steps }
 {
     match first {

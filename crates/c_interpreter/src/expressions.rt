@@ -1,5 +1,5 @@
 // Expressions: one function for each form.
-ghost use Rattle.std.specs.Prelude.{◌≤◌, [], None, Some, true, false};
+ghost use Rattle.std.specs.Prelude.{◌≡◌, ◌≤◌, [], None, Some, true, false};
 ghost use Rattle.std.specs.Option.{option_copied};
 ghost use Rattle.c_core.specs.Tree as t;
 ghost use Rattle.c_core.specs.View.{program_view, expr_view, exprs_view, node_view};
@@ -27,7 +27,9 @@ pub fn eval<W: Watcher>(
     e: &Expr,
 ) -> Result<i128, Halt>
     requires bound { machine.old.steps ≤ depth }
-    ensures gives { Gives same result (state_of machine.new (W.seen watcher.new)) (evaluated (program_view program.now) W.Seen W.after depth (where_of at) (use_of used) (expr_view e.now) (state_of machine.old (W.seen watcher.old))) }
+    ensures gives { Gives same result (state_of machine.new (W.seen watcher.new))
+        (evaluated (program_view program.now) W.Seen W.after depth (where_of at) (use_of used) (expr_view e.now)
+        (state_of machine.old (W.seen watcher.old))) }
     ensures spends { machine.new.steps ≤ machine.old.steps }
 {
     tick::<W>(machine)?;
@@ -45,30 +47,19 @@ fn node<W: Watcher>(
     e: &Expr,
 ) -> Result<i128, Halt>
     requires bound { machine.old.steps ≤ depth }
-    ensures gives { Gives same result (state_of machine.new (W.seen watcher.new)) (noded (program_view program.now) W.Seen W.after depth (where_of at) (use_of used) e.now.spot e.now.ty (node_view e.now.node) (state_of machine.old (W.seen watcher.old))) }
+    ensures gives { Gives same result (state_of machine.new (W.seen watcher.new))
+        (noded (program_view program.now) W.Seen W.after depth (where_of at) (use_of used) e.now.spot e.now.ty
+        (node_view e.now.node) (state_of machine.old (W.seen watcher.old))) }
     ensures spends { machine.new.steps ≤ machine.old.steps }
 {
     match &e.node {
         Node::Const(value) => Ok(*value),
-        Node::Var(object) => Ok(look(
-            machine,
-            Element {
-                object: *object,
-                index: 0,
-            },
-        )),
+        Node::Var(object) => Ok(look(machine, scalar(*object))),
         Node::Binary { op, left, right } => binary(
             program, machine, watcher, depth, at, e.spot, *op, left, right,
         ),
         Node::Index { object, at: place } => index(
-            program,
-            machine,
-            watcher,
-            depth,
-            at,
-            e.spot,
-            *object,
-            place.as_slice(),
+            program, machine, watcher, depth, at, e.spot, *object, place,
         ),
         Node::Unary { op, of } => unary(program, machine, watcher, depth, at, e.spot, *op, of),
         Node::Cast(of) => cast(program, machine, watcher, depth, at, e.ty, of),
@@ -76,11 +67,9 @@ fn node<W: Watcher>(
         Node::Logic { both, left, right } => logic(
             program, machine, watcher, depth, at, *both, left, right,
         ),
-        Node::Assign {
-            op,
-            target: to,
-            from,
-        } => assign(program, machine, watcher, depth, at, e.spot, *op, to, from),
+        Node::Assign { op, target, from } => assign(
+            program, machine, watcher, depth, at, e.spot, *op, target, from,
+        ),
         Node::Step { op, target: to } => step(
             program, machine, watcher, depth, at, e.spot, *op, to,
         ),
@@ -97,19 +86,16 @@ fn node<W: Watcher>(
             args,
             close,
         } => call(
-            program,
-            machine,
-            watcher,
-            depth,
-            at,
-            used,
-            e.spot,
-            e.ty,
-            *callee,
-            args.as_slice(),
-            *close,
+            program, machine, watcher, depth, at, used, e, *callee, args, *close,
         ),
     }
+}
+
+// The element of an object without an index.
+fn scalar(object: u32) -> Element
+    ensures { result ≡ record { object = object; index = 0 } }
+{
+    Element { object, index: 0 }
 }
 
 #[cycle(run)]
@@ -125,7 +111,9 @@ fn binary<W: Watcher>(
     right: &Expr,
 ) -> Result<i128, Halt>
     requires bound { machine.old.steps ≤ depth }
-    ensures gives { Gives same result (state_of machine.new (W.seen watcher.new)) (noded (program_view program.now) W.Seen W.after depth (where_of at) Used spot None (t.Binary op (expr_view left.now) (expr_view right.now)) (state_of machine.old (W.seen watcher.old))) }
+    ensures gives { Gives same result (state_of machine.new (W.seen watcher.new))
+        (noded (program_view program.now) W.Seen W.after depth (where_of at) Used spot None
+        (t.Binary op (expr_view left.now) (expr_view right.now)) (state_of machine.old (W.seen watcher.old))) }
     ensures spends { machine.new.steps ≤ machine.old.steps }
 {
     let a = eval(program, machine, watcher, depth, at, true, left)?;
@@ -158,7 +146,9 @@ fn target<W: Watcher>(
     e: &Expr,
 ) -> Result<Element, Halt>
     requires bound { machine.old.steps ≤ depth }
-    ensures gives { Gives key_of result (state_of machine.new (W.seen watcher.new)) (targeted (program_view program.now) W.Seen W.after depth (where_of at) (expr_view e.now) (state_of machine.old (W.seen watcher.old))) }
+    ensures gives { Gives key_of result (state_of machine.new (W.seen watcher.new))
+        (targeted (program_view program.now) W.Seen W.after depth (where_of at) (expr_view e.now)
+        (state_of machine.old (W.seen watcher.old))) }
     ensures spends { machine.new.steps ≤ machine.old.steps }
 {
     tick::<W>(machine)?;
@@ -175,7 +165,9 @@ fn place<W: Watcher>(
     e: &Expr,
 ) -> Result<Element, Halt>
     requires bound { machine.old.steps ≤ depth }
-    ensures gives { Gives key_of result (state_of machine.new (W.seen watcher.new)) (placed (program_view program.now) W.Seen W.after depth (where_of at) e.now.spot (node_view e.now.node) (state_of machine.old (W.seen watcher.old))) }
+    ensures gives { Gives key_of result (state_of machine.new (W.seen watcher.new))
+        (placed (program_view program.now) W.Seen W.after depth (where_of at) e.now.spot (node_view e.now.node)
+        (state_of machine.old (W.seen watcher.old))) }
     ensures spends { machine.new.steps ≤ machine.old.steps }
 {
     match &e.node {
@@ -189,15 +181,9 @@ fn place<W: Watcher>(
             *object,
             place.as_slice(),
         ),
-        Node::Var(object) => Ok(Element {
-            object: *object,
-            index: 0,
-        }),
+        Node::Var(object) => Ok(scalar(*object)),
         // no target of a checked program
-        _ => Ok(Element {
-            object: 0,
-            index: 0,
-        }),
+        _ => Ok(scalar(0)),
     }
 }
 
@@ -214,7 +200,9 @@ fn element_at<W: Watcher>(
     indexes: &[Expr],
 ) -> Result<Element, Halt>
     requires bound { machine.old.steps ≤ depth }
-    ensures gives { Gives key_of result (state_of machine.new (W.seen watcher.new)) (placed (program_view program.now) W.Seen W.after depth (where_of at) spot (t.Index object (exprs_view indexes.now)) (state_of machine.old (W.seen watcher.old))) }
+    ensures gives { Gives key_of result (state_of machine.new (W.seen watcher.new))
+        (placed (program_view program.now) W.Seen W.after depth (where_of at) spot
+        (t.Index object (exprs_view indexes.now)) (state_of machine.old (W.seen watcher.old))) }
     ensures spends { machine.new.steps ≤ machine.old.steps }
 {
     match indexes {
@@ -246,7 +234,9 @@ fn evaluate_all<W: Watcher>(
     es: &[Expr],
 ) -> Result<(), Halt>
     requires bound { machine.old.steps ≤ depth }
-    ensures gives { Gives same result (state_of machine.new (W.seen watcher.new)) (evaluated_all (program_view program.now) W.Seen W.after depth (where_of at) (exprs_view es.now) (state_of machine.old (W.seen watcher.old))) }
+    ensures gives { Gives same result (state_of machine.new (W.seen watcher.new))
+        (evaluated_all (program_view program.now) W.Seen W.after depth (where_of at) (exprs_view es.now)
+        (state_of machine.old (W.seen watcher.old))) }
     ensures spends { machine.new.steps ≤ machine.old.steps }
 {
     for e in es {
@@ -264,13 +254,16 @@ fn index<W: Watcher>(
     at: Around,
     spot: Spot,
     object: u32,
-    indexes: &[Expr],
+    indexes: &Seq<Expr>,
 ) -> Result<i128, Halt>
     requires bound { machine.old.steps ≤ depth }
-    ensures gives { Gives same result (state_of machine.new (W.seen watcher.new)) (noded (program_view program.now) W.Seen W.after depth (where_of at) Used spot None (t.Index object (exprs_view indexes.now)) (state_of machine.old (W.seen watcher.old))) }
+    ensures gives { Gives same result (state_of machine.new (W.seen watcher.new))
+        (noded (program_view program.now) W.Seen W.after depth (where_of at) Used spot None
+        (t.Index object (exprs_view indexes.now)) (state_of machine.old (W.seen watcher.old))) }
     ensures spends { machine.new.steps ≤ machine.old.steps }
 {
-    let found = element_at(program, machine, watcher, depth, at, spot, object, indexes)?;
+    let place = indexes.as_slice();
+    let found = element_at(program, machine, watcher, depth, at, spot, object, place)?;
     Ok(look(machine, found))
 }
 
@@ -286,7 +279,9 @@ fn unary<W: Watcher>(
     of: &Expr,
 ) -> Result<i128, Halt>
     requires bound { machine.old.steps ≤ depth }
-    ensures gives { Gives same result (state_of machine.new (W.seen watcher.new)) (noded (program_view program.now) W.Seen W.after depth (where_of at) Used spot None (t.Unary op (expr_view of.now)) (state_of machine.old (W.seen watcher.old))) }
+    ensures gives { Gives same result (state_of machine.new (W.seen watcher.new))
+        (noded (program_view program.now) W.Seen W.after depth (where_of at) Used spot None
+        (t.Unary op (expr_view of.now)) (state_of machine.old (W.seen watcher.old))) }
     ensures spends { machine.new.steps ≤ machine.old.steps }
 {
     let value = eval(program, machine, watcher, depth, at, true, of)?;
@@ -315,7 +310,9 @@ fn cast<W: Watcher>(
     of: &Expr,
 ) -> Result<i128, Halt>
     requires bound { machine.old.steps ≤ depth }
-    ensures gives { Gives same result (state_of machine.new (W.seen watcher.new)) (noded (program_view program.now) W.Seen W.after depth (where_of at) Used at.full ty (t.Cast (expr_view of.now)) (state_of machine.old (W.seen watcher.old))) }
+    ensures gives { Gives same result (state_of machine.new (W.seen watcher.new))
+        (noded (program_view program.now) W.Seen W.after depth (where_of at) Used at.full ty (t.Cast (expr_view of.now))
+        (state_of machine.old (W.seen watcher.old))) }
     ensures spends { machine.new.steps ≤ machine.old.steps }
 {
     match ty {
@@ -335,7 +332,9 @@ fn cast_to<W: Watcher>(
     of: &Expr,
 ) -> Result<i128, Halt>
     requires bound { machine.old.steps ≤ depth }
-    ensures gives { Gives same result (state_of machine.new (W.seen watcher.new)) (noded (program_view program.now) W.Seen W.after depth (where_of at) Used at.full (Some to) (t.Cast (expr_view of.now)) (state_of machine.old (W.seen watcher.old))) }
+    ensures gives { Gives same result (state_of machine.new (W.seen watcher.new))
+        (noded (program_view program.now) W.Seen W.after depth (where_of at) Used at.full (Some to)
+        (t.Cast (expr_view of.now)) (state_of machine.old (W.seen watcher.old))) }
     ensures spends { machine.new.steps ≤ machine.old.steps }
 {
     let value = eval(program, machine, watcher, depth, at, true, of)?;
@@ -353,7 +352,9 @@ fn comma<W: Watcher>(
     last: &Expr,
 ) -> Result<i128, Halt>
     requires bound { machine.old.steps ≤ depth }
-    ensures gives { Gives same result (state_of machine.new (W.seen watcher.new)) (noded (program_view program.now) W.Seen W.after depth (where_of at) Used at.full None (t.Comma (expr_view first.now) (expr_view last.now)) (state_of machine.old (W.seen watcher.old))) }
+    ensures gives { Gives same result (state_of machine.new (W.seen watcher.new))
+        (noded (program_view program.now) W.Seen W.after depth (where_of at) Used at.full None
+        (t.Comma (expr_view first.now) (expr_view last.now)) (state_of machine.old (W.seen watcher.old))) }
     ensures spends { machine.new.steps ≤ machine.old.steps }
 {
     eval(program, machine, watcher, depth, at, false, first)?;
@@ -371,7 +372,9 @@ fn and<W: Watcher>(
     right: &Expr,
 ) -> Result<i128, Halt>
     requires bound { machine.old.steps ≤ depth }
-    ensures gives { Gives same result (state_of machine.new (W.seen watcher.new)) (noded (program_view program.now) W.Seen W.after depth (where_of at) Used at.full None (t.Logic true (expr_view left.now) (expr_view right.now)) (state_of machine.old (W.seen watcher.old))) }
+    ensures gives { Gives same result (state_of machine.new (W.seen watcher.new))
+        (noded (program_view program.now) W.Seen W.after depth (where_of at) Used at.full None
+        (t.Logic true (expr_view left.now) (expr_view right.now)) (state_of machine.old (W.seen watcher.old))) }
     ensures spends { machine.new.steps ≤ machine.old.steps }
 {
     let value = eval(program, machine, watcher, depth, at, true, left)?;
@@ -393,7 +396,9 @@ fn or<W: Watcher>(
     right: &Expr,
 ) -> Result<i128, Halt>
     requires bound { machine.old.steps ≤ depth }
-    ensures gives { Gives same result (state_of machine.new (W.seen watcher.new)) (noded (program_view program.now) W.Seen W.after depth (where_of at) Used at.full None (t.Logic false (expr_view left.now) (expr_view right.now)) (state_of machine.old (W.seen watcher.old))) }
+    ensures gives { Gives same result (state_of machine.new (W.seen watcher.new))
+        (noded (program_view program.now) W.Seen W.after depth (where_of at) Used at.full None
+        (t.Logic false (expr_view left.now) (expr_view right.now)) (state_of machine.old (W.seen watcher.old))) }
     ensures spends { machine.new.steps ≤ machine.old.steps }
 {
     let value = eval(program, machine, watcher, depth, at, true, left)?;
@@ -414,7 +419,9 @@ fn tested<W: Watcher>(
     e: &Expr,
 ) -> Result<i128, Halt>
     requires bound { machine.old.steps ≤ depth }
-    ensures gives { Gives same result (state_of machine.new (W.seen watcher.new)) (truthed (program_view program.now) W.Seen W.after depth (where_of at) (expr_view e.now) (state_of machine.old (W.seen watcher.old))) }
+    ensures gives { Gives same result (state_of machine.new (W.seen watcher.new))
+        (truthed (program_view program.now) W.Seen W.after depth (where_of at) (expr_view e.now)
+        (state_of machine.old (W.seen watcher.old))) }
     ensures spends { machine.new.steps ≤ machine.old.steps }
 {
     let value = eval(program, machine, watcher, depth, at, true, e)?;
@@ -433,7 +440,9 @@ fn replace<W: Watcher>(
     from: &Expr,
 ) -> Result<i128, Halt>
     requires bound { machine.old.steps ≤ depth }
-    ensures gives { Gives same result (state_of machine.new (W.seen watcher.new)) (noded (program_view program.now) W.Seen W.after depth (where_of at) Used spot None (t.Assign None (expr_view to.now) (expr_view from.now)) (state_of machine.old (W.seen watcher.old))) }
+    ensures gives { Gives same result (state_of machine.new (W.seen watcher.new))
+        (noded (program_view program.now) W.Seen W.after depth (where_of at) Used spot None
+        (t.Assign None (expr_view to.now) (expr_view from.now)) (state_of machine.old (W.seen watcher.old))) }
     ensures spends { machine.new.steps ≤ machine.old.steps }
 {
     let key = target(program, machine, watcher, depth, at, to)?;
@@ -454,7 +463,9 @@ fn update<W: Watcher>(
     from: &Expr,
 ) -> Result<i128, Halt>
     requires bound { machine.old.steps ≤ depth }
-    ensures gives { Gives same result (state_of machine.new (W.seen watcher.new)) (noded (program_view program.now) W.Seen W.after depth (where_of at) Used spot None (t.Assign (Some op) (expr_view to.now) (expr_view from.now)) (state_of machine.old (W.seen watcher.old))) }
+    ensures gives { Gives same result (state_of machine.new (W.seen watcher.new))
+        (noded (program_view program.now) W.Seen W.after depth (where_of at) Used spot None
+        (t.Assign (Some op) (expr_view to.now) (expr_view from.now)) (state_of machine.old (W.seen watcher.old))) }
     ensures spends { machine.new.steps ≤ machine.old.steps }
 {
     let key = target(program, machine, watcher, depth, at, to)?;
@@ -491,7 +502,9 @@ fn step<W: Watcher>(
     to: &Expr,
 ) -> Result<i128, Halt>
     requires bound { machine.old.steps ≤ depth }
-    ensures gives { Gives same result (state_of machine.new (W.seen watcher.new)) (noded (program_view program.now) W.Seen W.after depth (where_of at) Used spot None (t.Step op (expr_view to.now)) (state_of machine.old (W.seen watcher.old))) }
+    ensures gives { Gives same result (state_of machine.new (W.seen watcher.new))
+        (noded (program_view program.now) W.Seen W.after depth (where_of at) Used spot None
+        (t.Step op (expr_view to.now)) (state_of machine.old (W.seen watcher.old))) }
     ensures spends { machine.new.steps ≤ machine.old.steps }
 {
     let key = target(program, machine, watcher, depth, at, to)?;
@@ -512,7 +525,10 @@ fn choose<W: Watcher>(
     no: &Expr,
 ) -> Result<i128, Halt>
     requires bound { machine.old.steps ≤ depth }
-    ensures gives { Gives same result (state_of machine.new (W.seen watcher.new)) (noded (program_view program.now) W.Seen W.after depth (where_of at) Used at.full ty (t.Choose mark (expr_view test.now) (expr_view yes.now) (expr_view no.now)) (state_of machine.old (W.seen watcher.old))) }
+    ensures gives { Gives same result (state_of machine.new (W.seen watcher.new))
+        (noded (program_view program.now) W.Seen W.after depth (where_of at) Used at.full ty
+        (t.Choose mark (expr_view test.now) (expr_view yes.now) (expr_view no.now))
+        (state_of machine.old (W.seen watcher.old))) }
     ensures spends { machine.new.steps ≤ machine.old.steps }
 {
     let value = eval(program, machine, watcher, depth, at, true, test)?;
@@ -536,7 +552,9 @@ fn converted<W: Watcher>(
     e: &Expr,
 ) -> Result<i128, Halt>
     requires bound { machine.old.steps ≤ depth }
-    ensures gives { Gives same result (state_of machine.new (W.seen watcher.new)) (convertible (program_view program.now) W.Seen W.after depth (where_of at) ty (expr_view e.now) (state_of machine.old (W.seen watcher.old))) }
+    ensures gives { Gives same result (state_of machine.new (W.seen watcher.new))
+        (convertible (program_view program.now) W.Seen W.after depth (where_of at) ty (expr_view e.now)
+        (state_of machine.old (W.seen watcher.old))) }
     ensures spends { machine.new.steps ≤ machine.old.steps }
 {
     let value = eval(program, machine, watcher, depth, at, true, e)?;
@@ -555,7 +573,9 @@ fn logic<W: Watcher>(
     right: &Expr,
 ) -> Result<i128, Halt>
     requires bound { machine.old.steps ≤ depth }
-    ensures gives { Gives same result (state_of machine.new (W.seen watcher.new)) (noded (program_view program.now) W.Seen W.after depth (where_of at) Used at.full None (t.Logic both (expr_view left.now) (expr_view right.now)) (state_of machine.old (W.seen watcher.old))) }
+    ensures gives { Gives same result (state_of machine.new (W.seen watcher.new))
+        (noded (program_view program.now) W.Seen W.after depth (where_of at) Used at.full None
+        (t.Logic both (expr_view left.now) (expr_view right.now)) (state_of machine.old (W.seen watcher.old))) }
     ensures spends { machine.new.steps ≤ machine.old.steps }
 {
     if both {
@@ -578,7 +598,9 @@ fn assign<W: Watcher>(
     from: &Expr,
 ) -> Result<i128, Halt>
     requires bound { machine.old.steps ≤ depth }
-    ensures gives { Gives same result (state_of machine.new (W.seen watcher.new)) (noded (program_view program.now) W.Seen W.after depth (where_of at) Used spot None (t.Assign op (expr_view to.now) (expr_view from.now)) (state_of machine.old (W.seen watcher.old))) }
+    ensures gives { Gives same result (state_of machine.new (W.seen watcher.new))
+        (noded (program_view program.now) W.Seen W.after depth (where_of at) Used spot None
+        (t.Assign op (expr_view to.now) (expr_view from.now)) (state_of machine.old (W.seen watcher.old))) }
     ensures spends { machine.new.steps ≤ machine.old.steps }
 {
     match op {
@@ -587,6 +609,7 @@ fn assign<W: Watcher>(
     }
 }
 
+// A call, which is the expression `e`: its arguments, then what is called.
 #[cycle(run)]
 fn call<W: Watcher>(
     program: &Program,
@@ -595,22 +618,23 @@ fn call<W: Watcher>(
     depth: u64,
     at: Around,
     used: bool,
-    spot: Spot,
-    ty: Option<IntType>,
+    e: &Expr,
     callee: Callee,
-    args: &[Expr],
+    args: &Seq<Expr>,
     close: Spot,
 ) -> Result<i128, Halt>
     requires bound { machine.old.steps ≤ depth }
-    ensures gives { Gives same result (state_of machine.new (W.seen watcher.new)) (noded (program_view program.now) W.Seen W.after depth (where_of at) (use_of used) spot ty (t.Call callee (exprs_view args.now) close) (state_of machine.old (W.seen watcher.old))) }
+    ensures gives { Gives same result (state_of machine.new (W.seen watcher.new))
+        (noded (program_view program.now) W.Seen W.after depth (where_of at) (use_of used) e.now.spot e.now.ty
+        (t.Call callee (exprs_view args.now) close) (state_of machine.old (W.seen watcher.old))) }
     ensures spends { machine.new.steps ≤ machine.old.steps }
 {
-    let values = arguments(program, machine, watcher, depth, at, args)?;
+    let values = arguments(program, machine, watcher, depth, at, args.as_slice())?;
     tell(machine, watcher, Event::Enter(close))?;
     let site = CallSite {
-        spot,
+        spot: e.spot,
         close,
-        needed: is_needed(used, ty),
+        needed: is_needed(used, e.ty),
     };
     called(
         program,
@@ -635,7 +659,9 @@ fn arguments<W: Watcher>(
     args: &[Expr],
 ) -> Result<Seq<Typed>, Halt>
     requires bound { machine.old.steps ≤ depth }
-    ensures gives { Gives pairs_of result (state_of machine.new (W.seen watcher.new)) (listed (program_view program.now) W.Seen W.after depth (where_of at) [] (exprs_view args.now) (state_of machine.old (W.seen watcher.old))) }
+    ensures gives { Gives pairs_of result (state_of machine.new (W.seen watcher.new))
+        (listed (program_view program.now) W.Seen W.after depth (where_of at) [] (exprs_view args.now)
+        (state_of machine.old (W.seen watcher.old))) }
     ensures spends { machine.new.steps ≤ machine.old.steps }
 {
     let mut values = Seq::new(machine.alloc);
@@ -662,7 +688,9 @@ fn called<W: Watcher>(
     values: &[Typed],
 ) -> Result<i128, Halt>
     requires bound { machine.old.steps ≤ depth }
-    ensures gives { Gives same result (state_of machine.new (W.seen watcher.new)) (callee_gives (program_view program.now) W.Seen W.after depth (where_of at) (site_of site) callee (pairs_of values.now) (state_of machine.old (W.seen watcher.old))) }
+    ensures gives { Gives same result (state_of machine.new (W.seen watcher.new))
+        (callee_gives (program_view program.now) W.Seen W.after depth (where_of at) (site_of site) callee
+        (pairs_of values.now) (state_of machine.old (W.seen watcher.old))) }
     ensures spends { machine.new.steps ≤ machine.old.steps }
 {
     match callee {

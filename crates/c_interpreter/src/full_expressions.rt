@@ -21,7 +21,9 @@ pub fn full<W: Watcher>(
     e: &Expr,
 ) -> Result<i128, Halt>
     requires bound { machine.old.steps ≤ depth }
-    ensures gives { Gives same result (state_of machine.new (W.seen watcher.new)) (fulled (program_view program.now) W.Seen W.after depth at (use_of used) (expr_view e.now) (state_of machine.old (W.seen watcher.old))) }
+    ensures gives { Gives same result (state_of machine.new (W.seen watcher.new))
+        (fulled (program_view program.now) W.Seen W.after depth at (use_of used) (expr_view e.now)
+        (state_of machine.old (W.seen watcher.old))) }
     ensures spends { machine.new.steps ≤ machine.old.steps }
 {
     eval(
@@ -49,7 +51,9 @@ pub fn decide<W: Watcher>(
     test: &Expr,
 ) -> Result<bool, Halt>
     requires bound { machine.old.steps ≤ depth }
-    ensures gives { Gives same result (state_of machine.new (W.seen watcher.new)) (decided (program_view program.now) W.Seen W.after depth at (expr_view test.now) (state_of machine.old (W.seen watcher.old))) }
+    ensures gives { Gives same result (state_of machine.new (W.seen watcher.new))
+        (decided (program_view program.now) W.Seen W.after depth at (expr_view test.now)
+        (state_of machine.old (W.seen watcher.old))) }
     ensures spends { machine.new.steps ≤ machine.old.steps }
 {
     let value = full(program, machine, watcher, depth, at, true, test)?;
@@ -68,7 +72,9 @@ pub fn only<W: Watcher>(
     e: &Expr,
 ) -> Result<Flow, Halt>
     requires bound { machine.old.steps ≤ depth }
-    ensures gives { Gives flow_of result (state_of machine.new (W.seen watcher.new)) (formed (program_view program.now) W.Seen W.after depth wanted at (t.Do (expr_view e.now)) (state_of machine.old (W.seen watcher.old))) }
+    ensures gives { Gives flow_of result (state_of machine.new (W.seen watcher.new))
+        (formed (program_view program.now) W.Seen W.after depth wanted at (t.Do (expr_view e.now))
+        (state_of machine.old (W.seen watcher.old))) }
     ensures spends { machine.new.steps ≤ machine.old.steps }
 {
     full(program, machine, watcher, depth, at, false, e)?;
@@ -87,7 +93,9 @@ pub fn give<W: Watcher>(
     e: &Option<Expr>,
 ) -> Result<Flow, Halt>
     requires bound { machine.old.steps ≤ depth }
-    ensures gives { Gives flow_of result (state_of machine.new (W.seen watcher.new)) (formed (program_view program.now) W.Seen W.after depth wanted at (t.Return (expr_view_if e.now)) (state_of machine.old (W.seen watcher.old))) }
+    ensures gives { Gives flow_of result (state_of machine.new (W.seen watcher.new))
+        (formed (program_view program.now) W.Seen W.after depth wanted at (t.Return (expr_view_if e.now))
+        (state_of machine.old (W.seen watcher.old))) }
     ensures spends { machine.new.steps ≤ machine.old.steps }
 {
     match e {
@@ -110,7 +118,9 @@ pub fn test_turn<W: Watcher>(
     test: &Expr,
 ) -> Result<Flow, Halt>
     requires bound { machine.old.steps ≤ depth }
-    ensures gives { Gives flow_of result (state_of machine.new (W.seen watcher.new)) (test_turned (program_view program.now) W.Seen W.after depth at (expr_view test.now) (state_of machine.old (W.seen watcher.old))) }
+    ensures gives { Gives flow_of result (state_of machine.new (W.seen watcher.new))
+        (test_turned (program_view program.now) W.Seen W.after depth at (expr_view test.now)
+        (state_of machine.old (W.seen watcher.old))) }
     ensures spends { machine.new.steps ≤ machine.old.steps }
 {
     if decide(program, machine, watcher, depth, at, test)? {
@@ -131,7 +141,9 @@ pub fn for_goes_on<W: Watcher>(
     test: &Option<Expr>,
 ) -> Result<bool, Halt>
     requires bound { machine.old.steps ≤ depth }
-    ensures gives { Gives same result (state_of machine.new (W.seen watcher.new)) (goes_on (program_view program.now) W.Seen W.after depth at (expr_view_if test.now) (state_of machine.old (W.seen watcher.old))) }
+    ensures gives { Gives same result (state_of machine.new (W.seen watcher.new))
+        (goes_on (program_view program.now) W.Seen W.after depth at (expr_view_if test.now)
+        (state_of machine.old (W.seen watcher.old))) }
     ensures spends { machine.new.steps ≤ machine.old.steps }
 {
     match test {
@@ -151,7 +163,9 @@ pub fn step_on<W: Watcher>(
     step: &Option<Expr>,
 ) -> Result<Flow, Halt>
     requires bound { machine.old.steps ≤ depth }
-    ensures gives { Gives flow_of result (state_of machine.new (W.seen watcher.new)) (stepped_on (program_view program.now) W.Seen W.after depth at (expr_view_if step.now) (state_of machine.old (W.seen watcher.old))) }
+    ensures gives { Gives flow_of result (state_of machine.new (W.seen watcher.new))
+        (stepped_on (program_view program.now) W.Seen W.after depth at (expr_view_if step.now)
+        (state_of machine.old (W.seen watcher.old))) }
     ensures spends { machine.new.steps ≤ machine.old.steps }
 {
     match step {

@@ -33,10 +33,14 @@ pub fn run_plain<W: Watcher>(
     watcher: &mut W,
 ) -> Result<Run, OutOfMemory>
     ensures run { IfOk result (λ r. r ≡ runs.Run (program_view program.now) choices.now steps) }
-    ensures seen { IfOk result (λ r. W.seen watcher.new ≡ seen_after W.after (W.seen watcher.old) (runs.Moments (program_view program.now) choices.now steps)) }
-    ensures front { OnErr result (SawFront W.after (runs.Moments (program_view program.now) choices.now steps) (W.seen watcher.old) (W.seen watcher.new)) }
-    ensures framed { All (IsFramed (program_view program.now)) (runs.Moments (program_view program.now) choices.now steps) }
-    ensures room { IfOk result (λ r. let p = program_view program.now in IsFirstRecursion p None → length p.functions ≤ most_functions → r.end ≡ End.Deep → ⊥) }
+    ensures seen { IfOk result (λ r. W.seen watcher.new
+        ≡ seen_after W.after (W.seen watcher.old) (runs.Moments (program_view program.now) choices.now steps)) }
+    ensures front { OnErr result (SawFront W.after (runs.Moments (program_view program.now) choices.now steps)
+        (W.seen watcher.old) (W.seen watcher.new)) }
+    ensures framed { All (IsFramed (program_view program.now))
+        (runs.Moments (program_view program.now) choices.now steps) }
+    ensures room { IfOk result (λ r. let p = program_view program.now in IsFirstRecursion p None
+        → length p.functions ≤ most_functions → r.end ≡ End.Deep → ⊥) }
 {
     heads_are_framed();
     runs_have_room();
@@ -70,7 +74,8 @@ fn run_main<W: Watcher>(
     steps: u64,
 ) -> Result<Flow, Halt>
     requires bound { machine.old.steps ≤ steps }
-    ensures gives { Gives flow_of result (state_of machine.new (W.seen watcher.new)) (in_main (program_view program.now) W.Seen W.after (suc steps) (state_of machine.old (W.seen watcher.old))) }
+    ensures gives { Gives flow_of result (state_of machine.new (W.seen watcher.new))
+        (in_main (program_view program.now) W.Seen W.after (suc steps) (state_of machine.old (W.seen watcher.old))) }
     ensures spends { machine.new.steps ≤ machine.old.steps }
 {
     match program.functions.get(program.main as usize) {

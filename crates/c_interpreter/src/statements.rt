@@ -21,7 +21,9 @@ fn exec<W: Watcher>(
     s: &Stmt,
 ) -> Result<Flow, Halt>
     requires bound { machine.old.steps ≤ depth }
-    ensures gives { Gives flow_of result (state_of machine.new (W.seen watcher.new)) (executed (program_view program.now) W.Seen W.after depth wanted (stmt_view s.now) (state_of machine.old (W.seen watcher.old))) }
+    ensures gives { Gives flow_of result (state_of machine.new (W.seen watcher.new))
+        (executed (program_view program.now) W.Seen W.after depth wanted (stmt_view s.now)
+        (state_of machine.old (W.seen watcher.old))) }
     ensures spends { machine.new.steps ≤ machine.old.steps }
     ensures takes { OnOk result (machine.new.steps < machine.old.steps) }
 {
@@ -42,7 +44,9 @@ pub fn form<W: Watcher>(
     f: &Form,
 ) -> Result<Flow, Halt>
     requires bound { machine.old.steps ≤ depth }
-    ensures gives { Gives flow_of result (state_of machine.new (W.seen watcher.new)) (formed (program_view program.now) W.Seen W.after depth wanted at (form_view f.now) (state_of machine.old (W.seen watcher.old))) }
+    ensures gives { Gives flow_of result (state_of machine.new (W.seen watcher.new))
+        (formed (program_view program.now) W.Seen W.after depth wanted at (form_view f.now)
+        (state_of machine.old (W.seen watcher.old))) }
     ensures spends { machine.new.steps ≤ machine.old.steps }
 {
     match f {
@@ -86,7 +90,9 @@ fn sequence<W: Watcher>(
     body: &[Stmt],
 ) -> Result<Flow, Halt>
     requires bound { machine.old.steps ≤ depth }
-    ensures gives { Gives flow_of result (state_of machine.new (W.seen watcher.new)) (sequenced (program_view program.now) W.Seen W.after depth wanted (stmts_view body.now) (state_of machine.old (W.seen watcher.old))) }
+    ensures gives { Gives flow_of result (state_of machine.new (W.seen watcher.new))
+        (sequenced (program_view program.now) W.Seen W.after depth wanted (stmts_view body.now)
+        (state_of machine.old (W.seen watcher.old))) }
     ensures spends { machine.new.steps ≤ machine.old.steps }
 {
     for s in body {
@@ -109,7 +115,9 @@ fn block<W: Watcher>(
     body: &[Stmt],
 ) -> Result<Flow, Halt>
     requires bound { machine.old.steps ≤ depth }
-    ensures gives { Gives flow_of result (state_of machine.new (W.seen watcher.new)) (blocked (program_view program.now) W.Seen W.after depth wanted (stmts_view body.now) (state_of machine.old (W.seen watcher.old))) }
+    ensures gives { Gives flow_of result (state_of machine.new (W.seen watcher.new))
+        (blocked (program_view program.now) W.Seen W.after depth wanted (stmts_view body.now)
+        (state_of machine.old (W.seen watcher.old))) }
     ensures spends { machine.new.steps ≤ machine.old.steps }
 {
     let cells = machine.memory.count();
@@ -129,7 +137,9 @@ fn arm<W: Watcher>(
     s: &Stmt,
 ) -> Result<Flow, Halt>
     requires bound { machine.old.steps ≤ depth }
-    ensures gives { Gives flow_of result (state_of machine.new (W.seen watcher.new)) (armed (program_view program.now) W.Seen W.after depth wanted (stmt_view s.now) (state_of machine.old (W.seen watcher.old))) }
+    ensures gives { Gives flow_of result (state_of machine.new (W.seen watcher.new))
+        (armed (program_view program.now) W.Seen W.after depth wanted (stmt_view s.now)
+        (state_of machine.old (W.seen watcher.old))) }
     ensures spends { machine.new.steps ≤ machine.old.steps }
     ensures takes { OnOk result (machine.new.steps < machine.old.steps) }
 {
@@ -149,7 +159,9 @@ fn otherwise<W: Watcher>(
     no: &Option<Box<Stmt>>,
 ) -> Result<Flow, Halt>
     requires bound { machine.old.steps ≤ depth }
-    ensures gives { Gives flow_of result (state_of machine.new (W.seen watcher.new)) (otherwised (program_view program.now) W.Seen W.after depth wanted (else_part no.now) (state_of machine.old (W.seen watcher.old))) }
+    ensures gives { Gives flow_of result (state_of machine.new (W.seen watcher.new))
+        (otherwised (program_view program.now) W.Seen W.after depth wanted (else_part no.now)
+        (state_of machine.old (W.seen watcher.old))) }
     ensures spends { machine.new.steps ≤ machine.old.steps }
 {
     match no {
@@ -171,7 +183,10 @@ fn choose<W: Watcher>(
     no: &Option<Box<Stmt>>,
 ) -> Result<Flow, Halt>
     requires bound { machine.old.steps ≤ depth }
-    ensures gives { Gives flow_of result (state_of machine.new (W.seen watcher.new)) (formed (program_view program.now) W.Seen W.after depth wanted at (t.If (expr_view test.now) (stmt_view yes.now) (else_part no.now)) (state_of machine.old (W.seen watcher.old))) }
+    ensures gives { Gives flow_of result (state_of machine.new (W.seen watcher.new))
+        (formed (program_view program.now) W.Seen W.after depth wanted at
+        (t.If (expr_view test.now) (stmt_view yes.now) (else_part no.now))
+        (state_of machine.old (W.seen watcher.old))) }
     ensures spends { machine.new.steps ≤ machine.old.steps }
 {
     if decide(program, machine, watcher, depth, at, test)? {
@@ -194,7 +209,9 @@ fn switch<W: Watcher>(
     arms: &[Arm],
 ) -> Result<Flow, Halt>
     requires bound { machine.old.steps ≤ depth }
-    ensures gives { Gives flow_of result (state_of machine.new (W.seen watcher.new)) (formed (program_view program.now) W.Seen W.after depth wanted at (t.Switch (expr_view test.now) (switch_view arms.now)) (state_of machine.old (W.seen watcher.old))) }
+    ensures gives { Gives flow_of result (state_of machine.new (W.seen watcher.new))
+        (formed (program_view program.now) W.Seen W.after depth wanted at
+        (t.Switch (expr_view test.now) (switch_view arms.now)) (state_of machine.old (W.seen watcher.old))) }
     ensures spends { machine.new.steps ≤ machine.old.steps }
 {
     let value = full(program, machine, watcher, depth, at, true, test)?;
@@ -216,7 +233,9 @@ fn arms_from<W: Watcher>(
     arms: &[Arm],
 ) -> Result<Flow, Halt>
     requires bound { machine.old.steps ≤ depth }
-    ensures gives { Gives flow_of result (state_of machine.new (W.seen watcher.new)) (arms_done (program_view program.now) W.Seen W.after depth wanted first (switch_view arms.now) (state_of machine.old (W.seen watcher.old))) }
+    ensures gives { Gives flow_of result (state_of machine.new (W.seen watcher.new))
+        (arms_done (program_view program.now) W.Seen W.after depth wanted first (switch_view arms.now)
+        (state_of machine.old (W.seen watcher.old))) }
     ensures spends { machine.new.steps ≤ machine.old.steps }
 {
     if first < arms.len() {
@@ -237,7 +256,9 @@ fn sequence_arms<W: Watcher>(
     arms: &[Arm],
 ) -> Result<Flow, Halt>
     requires bound { machine.old.steps ≤ depth }
-    ensures gives { Gives flow_of result (state_of machine.new (W.seen watcher.new)) (sequenced (program_view program.now) W.Seen W.after depth wanted (switch_view arms.now) (state_of machine.old (W.seen watcher.old))) }
+    ensures gives { Gives flow_of result (state_of machine.new (W.seen watcher.new))
+        (sequenced (program_view program.now) W.Seen W.after depth wanted (switch_view arms.now)
+        (state_of machine.old (W.seen watcher.old))) }
     ensures spends { machine.new.steps ≤ machine.old.steps }
 {
     for arm in arms {
@@ -267,7 +288,9 @@ fn scope_arms<W: Watcher>(
     arms: &[Arm],
 ) -> Result<Flow, Halt>
     requires bound { machine.old.steps ≤ depth }
-    ensures gives { Gives flow_of result (state_of machine.new (W.seen watcher.new)) (blocked (program_view program.now) W.Seen W.after depth wanted (switch_view arms.now) (state_of machine.old (W.seen watcher.old))) }
+    ensures gives { Gives flow_of result (state_of machine.new (W.seen watcher.new))
+        (blocked (program_view program.now) W.Seen W.after depth wanted (switch_view arms.now)
+        (state_of machine.old (W.seen watcher.old))) }
     ensures spends { machine.new.steps ≤ machine.old.steps }
 {
     let cells = machine.memory.count();
@@ -287,7 +310,9 @@ fn hold_arms<W: Watcher>(
     arms: &[Arm],
 ) -> Result<Flow, Halt>
     requires bound { machine.old.steps ≤ depth }
-    ensures gives { Gives flow_of result (state_of machine.new (W.seen watcher.new)) (held_arms (program_view program.now) W.Seen W.after depth wanted (switch_view arms.now) (state_of machine.old (W.seen watcher.old))) }
+    ensures gives { Gives flow_of result (state_of machine.new (W.seen watcher.new))
+        (held_arms (program_view program.now) W.Seen W.after depth wanted (switch_view arms.now)
+        (state_of machine.old (W.seen watcher.old))) }
     ensures spends { machine.new.steps ≤ machine.old.steps }
 {
     let flow = scope_arms(program, machine, watcher, depth, wanted, arms)?;
@@ -325,7 +350,9 @@ fn loop_body<W: Watcher>(
     body: &Stmt,
 ) -> Result<Flow, Halt>
     requires bound { machine.old.steps ≤ depth }
-    ensures gives { Gives flow_of result (state_of machine.new (W.seen watcher.new)) (bodied (program_view program.now) W.Seen W.after depth wanted (stmt_view body.now) (state_of machine.old (W.seen watcher.old))) }
+    ensures gives { Gives flow_of result (state_of machine.new (W.seen watcher.new))
+        (bodied (program_view program.now) W.Seen W.after depth wanted (stmt_view body.now)
+        (state_of machine.old (W.seen watcher.old))) }
     ensures spends { machine.new.steps ≤ machine.old.steps }
     ensures takes { OnOk result (machine.new.steps < machine.old.steps) }
 {
@@ -345,7 +372,9 @@ fn while_turn<W: Watcher>(
     body: &Stmt,
 ) -> Result<Flow, Halt>
     requires bound { machine.old.steps ≤ depth }
-    ensures gives { Gives flow_of result (state_of machine.new (W.seen watcher.new)) (while_turned (program_view program.now) W.Seen W.after depth wanted at (expr_view test.now) (stmt_view body.now) (state_of machine.old (W.seen watcher.old))) }
+    ensures gives { Gives flow_of result (state_of machine.new (W.seen watcher.new))
+        (while_turned (program_view program.now) W.Seen W.after depth wanted at (expr_view test.now)
+        (stmt_view body.now) (state_of machine.old (W.seen watcher.old))) }
     ensures spends { machine.new.steps ≤ machine.old.steps }
     ensures ends { StepsIfNext result machine.new.steps machine.old.steps }
 {
@@ -368,7 +397,9 @@ fn do_turn<W: Watcher>(
     test: &Expr,
 ) -> Result<Flow, Halt>
     requires bound { machine.old.steps ≤ depth }
-    ensures gives { Gives flow_of result (state_of machine.new (W.seen watcher.new)) (do_turned (program_view program.now) W.Seen W.after depth wanted at (stmt_view body.now) (expr_view test.now) (state_of machine.old (W.seen watcher.old))) }
+    ensures gives { Gives flow_of result (state_of machine.new (W.seen watcher.new))
+        (do_turned (program_view program.now) W.Seen W.after depth wanted at (stmt_view body.now) (expr_view test.now)
+        (state_of machine.old (W.seen watcher.old))) }
     ensures spends { machine.new.steps ≤ machine.old.steps }
     ensures ends { StepsIfNext result machine.new.steps machine.old.steps }
 {
@@ -391,7 +422,9 @@ fn for_body<W: Watcher>(
     body: &Stmt,
 ) -> Result<Flow, Halt>
     requires bound { machine.old.steps ≤ depth }
-    ensures gives { Gives flow_of result (state_of machine.new (W.seen watcher.new)) (for_rest (program_view program.now) W.Seen W.after depth wanted at (expr_view_if step.now) (stmt_view body.now) (state_of machine.old (W.seen watcher.old))) }
+    ensures gives { Gives flow_of result (state_of machine.new (W.seen watcher.new))
+        (for_rest (program_view program.now) W.Seen W.after depth wanted at (expr_view_if step.now) (stmt_view body.now)
+        (state_of machine.old (W.seen watcher.old))) }
     ensures spends { machine.new.steps ≤ machine.old.steps }
     ensures ends { StepsIfNext result machine.new.steps machine.old.steps }
 {
@@ -414,7 +447,9 @@ fn for_turn<W: Watcher>(
     body: &Stmt,
 ) -> Result<Flow, Halt>
     requires bound { machine.old.steps ≤ depth }
-    ensures gives { Gives flow_of result (state_of machine.new (W.seen watcher.new)) (for_turned (program_view program.now) W.Seen W.after depth wanted at (expr_view_if test.now) (expr_view_if step.now) (stmt_view body.now) (state_of machine.old (W.seen watcher.old))) }
+    ensures gives { Gives flow_of result (state_of machine.new (W.seen watcher.new))
+        (for_turned (program_view program.now) W.Seen W.after depth wanted at (expr_view_if test.now)
+        (expr_view_if step.now) (stmt_view body.now) (state_of machine.old (W.seen watcher.old))) }
     ensures spends { machine.new.steps ≤ machine.old.steps }
     ensures ends { StepsIfNext result machine.new.steps machine.old.steps }
 {
@@ -437,7 +472,9 @@ fn turn<W: Watcher>(
     f: &Form,
 ) -> Result<Flow, Halt>
     requires bound { machine.old.steps ≤ depth }
-    ensures gives { Gives flow_of result (state_of machine.new (W.seen watcher.new)) (turning (program_view program.now) W.Seen W.after depth wanted at (loop_in (form_view f.now)) (state_of machine.old (W.seen watcher.old))) }
+    ensures gives { Gives flow_of result (state_of machine.new (W.seen watcher.new))
+        (turning (program_view program.now) W.Seen W.after depth wanted at (loop_in (form_view f.now))
+        (state_of machine.old (W.seen watcher.old))) }
     ensures spends { machine.new.steps ≤ machine.old.steps }
     ensures ends { StepsIfNext result machine.new.steps machine.old.steps }
 {
@@ -472,7 +509,9 @@ fn turns<W: Watcher>(
     f: &Form,
 ) -> Result<Flow, Halt>
     requires bound { machine.old.steps ≤ depth }
-    ensures gives { Gives flow_of result (state_of machine.new (W.seen watcher.new)) (all_rounds (program_view program.now) W.Seen W.after depth wanted at (loop_in (form_view f.now)) (state_of machine.old (W.seen watcher.old))) }
+    ensures gives { Gives flow_of result (state_of machine.new (W.seen watcher.new))
+        (all_rounds (program_view program.now) W.Seen W.after depth wanted at (loop_in (form_view f.now))
+        (state_of machine.old (W.seen watcher.old))) }
     ensures spends { machine.new.steps ≤ machine.old.steps }
 {
     'turns: loop {
@@ -496,7 +535,9 @@ fn loop_scope<W: Watcher>(
     f: &Form,
 ) -> Result<Flow, Halt>
     requires bound { machine.old.steps ≤ depth }
-    ensures gives { Gives flow_of result (state_of machine.new (W.seen watcher.new)) (looped (program_view program.now) W.Seen W.after depth wanted at (loop_in (form_view f.now)) (state_of machine.old (W.seen watcher.old))) }
+    ensures gives { Gives flow_of result (state_of machine.new (W.seen watcher.new))
+        (looped (program_view program.now) W.Seen W.after depth wanted at (loop_in (form_view f.now))
+        (state_of machine.old (W.seen watcher.old))) }
     ensures spends { machine.new.steps ≤ machine.old.steps }
 {
     let cells = machine.memory.count();
@@ -517,7 +558,9 @@ fn for_parts<W: Watcher>(
     f: &Form,
 ) -> Result<Flow, Halt>
     requires bound { machine.old.steps ≤ depth }
-    ensures gives { Gives flow_of result (state_of machine.new (W.seen watcher.new)) (for_parts_of (program_view program.now) W.Seen W.after depth wanted at (first_view first.now) (loop_in (form_view f.now)) (state_of machine.old (W.seen watcher.old))) }
+    ensures gives { Gives flow_of result (state_of machine.new (W.seen watcher.new))
+        (for_parts_of (program_view program.now) W.Seen W.after depth wanted at (first_view first.now)
+        (loop_in (form_view f.now)) (state_of machine.old (W.seen watcher.old))) }
     ensures spends { machine.new.steps ≤ machine.old.steps }
 {
     match begin(program, machine, watcher, depth, at, first)? {
@@ -539,7 +582,9 @@ fn for_scope<W: Watcher>(
     f: &Form,
 ) -> Result<Flow, Halt>
     requires bound { machine.old.steps ≤ depth }
-    ensures gives { Gives flow_of result (state_of machine.new (W.seen watcher.new)) (for_looped (program_view program.now) W.Seen W.after depth wanted at (first_view first.now) (loop_in (form_view f.now)) (state_of machine.old (W.seen watcher.old))) }
+    ensures gives { Gives flow_of result (state_of machine.new (W.seen watcher.new))
+        (for_looped (program_view program.now) W.Seen W.after depth wanted at (first_view first.now)
+        (loop_in (form_view f.now)) (state_of machine.old (W.seen watcher.old))) }
     ensures spends { machine.new.steps ≤ machine.old.steps }
 {
     let cells = machine.memory.count();

@@ -21,7 +21,8 @@ pub struct ArmLabels {
 }
 
 fn add_constant(constants: &mut BTreeSet<i128>, constant: i128) -> Result<(), OutOfMemory>
-    ensures { OnOk result ((c : ℤ) → contains int_cmp constants.new c ≡ (contains int_cmp constants.old c || int_eq c constant)) }
+    ensures { OnOk result ((c : ℤ) → contains int_cmp constants.new c
+        ≡ (contains int_cmp constants.old c || int_eq c constant)) }
 {
     constants.insert(constant)?;
     Ok(())

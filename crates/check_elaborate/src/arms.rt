@@ -44,7 +44,8 @@ fn note_label(
 )
     requires { AreFound before.now }
     ensures scope { scope_at walk.new ≡ scope_at walk.old }
-    ensures noted { walk.new.best ≡ noted_part context.now.model (items_in context.now) walk.old.best (part.ArmLabelling before.now.all label spot) }
+    ensures noted { walk.new.best ≡ noted_part context.now.model (items_in context.now) walk.old.best
+        (part.ArmLabelling before.now.all label spot) }
     ensures kept { walk.new.kept ≡ walk.old.kept }
 {
     let _ = context;
@@ -54,9 +55,11 @@ fn note_label(
 
 // What is refused of a case constant itself: that it is none.
 fn note_constant(context: &Context, walk: &mut Walk, e: &RawExpr, typed: &Expr)
-    requires { typed_view typed.now ≡ typing.typed context.now.model (bodies_in context.now) (seen (scope_at walk.old)) (expr_view e.now) }
+    requires { typed_view typed.now ≡ typing.typed context.now.model (bodies_in context.now) (seen (scope_at walk.old))
+        (expr_view e.now) }
     ensures scope { scope_at walk.new ≡ scope_at walk.old }
-    ensures noted { walk.new.best ≡ noted_part context.now.model (items_in context.now) walk.old.best (part.CaseConstant (seen (scope_at walk.old)) (expr_view e.now)) }
+    ensures noted { walk.new.best ≡ noted_part context.now.model (items_in context.now) walk.old.best
+        (part.CaseConstant (seen (scope_at walk.old)) (expr_view e.now)) }
     ensures kept { walk.new.kept ≡ walk.old.kept }
 {
     let mistyped = constant(context.model, typed).is_none();
@@ -80,9 +83,12 @@ fn case(
     ty: IntType,
     e: &RawExpr,
 ) -> Result<Option<Label>, OutOfMemory>
-    ensures label { IfOk result (λ r. r ≡ arm.label_of context.now.model (bodies_in context.now) (seen (scope_at walk.old)) ty (raw.Case (expr_view e.now))) }
+    ensures label { IfOk result (λ r. r
+        ≡ arm.label_of context.now.model (bodies_in context.now) (seen (scope_at walk.old)) ty
+        (raw.Case (expr_view e.now))) }
     ensures scope { OnOk result (scope_at walk.new ≡ scope_at walk.old) }
-    ensures noted { OnOk result (IsNoted context.now walk.old walk.new (part.parts_of_label (seen (scope_at walk.old)) (raw.Case (expr_view e.now)))) }
+    ensures noted { OnOk result (IsNoted context.now walk.old walk.new
+        (part.parts_of_label (seen (scope_at walk.old)) (raw.Case (expr_view e.now)))) }
 {
     let typed = full(context, walk, Role::Value, e)?;
     note_constant(context, walk, e, &typed);
@@ -98,9 +104,11 @@ fn chosen(
     ty: IntType,
     label: &RawLabel,
 ) -> Result<Option<Label>, OutOfMemory>
-    ensures label { IfOk result (λ r. r ≡ arm.label_of context.now.model (bodies_in context.now) (seen (scope_at walk.old)) ty (label_view label.now)) }
+    ensures label { IfOk result (λ r. r
+        ≡ arm.label_of context.now.model (bodies_in context.now) (seen (scope_at walk.old)) ty (label_view label.now)) }
     ensures scope { OnOk result (scope_at walk.new ≡ scope_at walk.old) }
-    ensures noted { OnOk result (IsNoted context.now walk.old walk.new (part.parts_of_label (seen (scope_at walk.old)) (label_view label.now))) }
+    ensures noted { OnOk result (IsNoted context.now walk.old walk.new
+        (part.parts_of_label (seen (scope_at walk.old)) (label_view label.now))) }
 {
     match label {
         RawLabel::Case(e) => {
@@ -127,11 +135,17 @@ pub fn label(
     label: &RawLabel,
 ) -> Result<Label, OutOfMemory>
     requires { AreFound before.old }
-    ensures typed { IfOk result (λ r. r ≡ checked.typed_label context.now.model (bodies_in context.now) (seen (scope_at walk.old)) ty (label_view label.now)) }
+    ensures typed { IfOk result (λ r. r
+        ≡ checked.typed_label context.now.model (bodies_in context.now) (seen (scope_at walk.old)) ty
+        (label_view label.now)) }
     ensures found { OnOk result (AreFound before.new) }
-    ensures before { OnOk result (before.new.all ≡ before.old.all ++ arm.label_of context.now.model (bodies_in context.now) (seen (scope_at walk.old)) ty (label_view label.now) ∷ []) }
+    ensures before { OnOk result (before.new.all
+        ≡ before.old.all ++ arm.label_of context.now.model (bodies_in context.now) (seen (scope_at walk.old)) ty
+        (label_view label.now) ∷ []) }
     ensures scope { OnOk result (scope_at walk.new ≡ scope_at walk.old) }
-    ensures noted { OnOk result (IsNoted context.now walk.old walk.new (labelling before.old.all (arm.label_of context.now.model (bodies_in context.now) (seen (scope_at walk.old)) ty (label_view label.now)) spot (seen (scope_at walk.old)) (label_view label.now))) }
+    ensures noted { OnOk result (IsNoted context.now walk.old walk.new
+        (labelling before.old.all (arm.label_of context.now.model (bodies_in context.now) (seen (scope_at walk.old)) ty
+        (label_view label.now)) spot (seen (scope_at walk.old)) (label_view label.now))) }
 {
     let label = chosen(context, walk, ty, label)?;
     note_label(context, walk, before, label, spot);

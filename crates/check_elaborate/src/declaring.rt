@@ -75,9 +75,11 @@ fn note_declared(
     d: &RawDeclared,
 )
     requires number { number ≡ length walk.old.objects }
-    requires sizes { sizes ≡ scopes.sizes_of context.now.model (bodies_in context.now) (seen (scope_at walk.old)) (exprs_view d.now.sizes) }
+    requires sizes { sizes ≡ scopes.sizes_of context.now.model (bodies_in context.now) (seen (scope_at walk.old))
+        (exprs_view d.now.sizes) }
     ensures scope { scope_at walk.new ≡ scope_at walk.old }
-    ensures noted { walk.new.best ≡ noted_part context.now.model (items_in context.now) walk.old.best (part.Declaring fixed (scope_at walk.old) (declared_view d.now)) }
+    ensures noted { walk.new.best ≡ noted_part context.now.model (items_in context.now) walk.old.best
+        (part.Declaring fixed (scope_at walk.old) (declared_view d.now)) }
     ensures kept { walk.new.kept ≡ walk.old.kept }
 {
     let count = dims(sizes);
@@ -102,7 +104,10 @@ fn object(
     sizes: Sizes,
     d: &RawDeclared,
 ) -> Result<Object, OutOfMemory>
-    ensures { (es : List Entry) → sizes ≡ scopes.sizes_of context.now.model (bodies_in context.now) es (exprs_view d.now.sizes) → IfOk result (λ o. o ≡ scopes.object_of context.now.model (bodies_in context.now) fixed es (declared_view d.now)) }
+    ensures { (es : List Entry) → sizes
+        ≡ scopes.sizes_of context.now.model (bodies_in context.now) es (exprs_view d.now.sizes)
+        → IfOk result (λ o. o
+        ≡ scopes.object_of context.now.model (bodies_in context.now) fixed es (declared_view d.now)) }
 {
     Ok(Object {
         name: Text::of(context.alloc, d.name.as_str())?,
@@ -117,18 +122,23 @@ fn object(
 
 // An initializer in a function, which may be any value.
 fn value(context: &Context, walk: &mut Walk, e: &RawExpr) -> Result<Expr, OutOfMemory>
-    ensures typed { IfOk result (λ r. typed_view r ≡ typing.typed context.now.model (bodies_in context.now) (seen (scope_at walk.old)) (expr_view e.now)) }
+    ensures typed { IfOk result (λ r. typed_view r
+        ≡ typing.typed context.now.model (bodies_in context.now) (seen (scope_at walk.old)) (expr_view e.now)) }
     ensures scope { OnOk result (scope_at walk.new ≡ scope_at walk.old) }
-    ensures noted { OnOk result (IsNoted context.now walk.old walk.new (part.parts_of_value false (scope_at walk.old) (expr_view e.now))) }
+    ensures noted { OnOk result (IsNoted context.now walk.old walk.new
+        (part.parts_of_value false (scope_at walk.old) (expr_view e.now))) }
 {
     let typed = full(context, walk, Role::Value, e)?;
     Ok(typed)
 }
 
 fn values(context: &Context, walk: &mut Walk, es: &[RawExpr]) -> Result<Seq<Expr>, OutOfMemory>
-    ensures typed { IfOk result (λ r. typed_views r ≡ typing.typed_all context.now.model (bodies_in context.now) (seen (scope_at walk.old)) (exps (exprs_view es.now))) }
+    ensures typed { IfOk result (λ r. typed_views r
+        ≡ typing.typed_all context.now.model (bodies_in context.now) (seen (scope_at walk.old))
+        (exps (exprs_view es.now))) }
     ensures scope { OnOk result (scope_at walk.new ≡ scope_at walk.old) }
-    ensures noted { OnOk result (IsNoted context.now walk.old walk.new (part.parts_of_values false (scope_at walk.old) (exps (exprs_view es.now)))) }
+    ensures noted { OnOk result (IsNoted context.now walk.old walk.new
+        (part.parts_of_values false (scope_at walk.old) (exps (exprs_view es.now)))) }
 {
     let mut all = Seq::new(context.alloc);
     for e in es {
@@ -139,9 +149,12 @@ fn values(context: &Context, walk: &mut Walk, es: &[RawExpr]) -> Result<Seq<Expr
 }
 
 fn rows(context: &Context, walk: &mut Walk, rows: &[RawRow]) -> Result<Seq<Row>, OutOfMemory>
-    ensures typed { IfOk result (λ r. rows_view r ≡ map (typing.typed_all context.now.model (bodies_in context.now) (seen (scope_at walk.old))) (map values_view rows.now)) }
+    ensures typed { IfOk result (λ r. rows_view r
+        ≡ map (typing.typed_all context.now.model (bodies_in context.now) (seen (scope_at walk.old)))
+        (map values_view rows.now)) }
     ensures scope { OnOk result (scope_at walk.new ≡ scope_at walk.old) }
-    ensures noted { OnOk result (IsNoted context.now walk.old walk.new (flat_map (part.parts_of_values false (scope_at walk.old)) (map values_view rows.now))) }
+    ensures noted { OnOk result (IsNoted context.now walk.old walk.new
+        (flat_map (part.parts_of_values false (scope_at walk.old)) (map values_view rows.now))) }
 {
     let mut all = Seq::new(context.alloc);
     for row in rows {
@@ -153,9 +166,12 @@ fn rows(context: &Context, walk: &mut Walk, rows: &[RawRow]) -> Result<Seq<Row>,
 
 // The initializer of the last name of the scope.
 fn initializer(context: &Context, walk: &mut Walk, init: &RawInit) -> Result<Init, OutOfMemory>
-    ensures typed { IfOk result (λ r. typed_init_view r ≡ checked.typed_init context.now.model (bodies_in context.now) (seen (scope_at walk.old)) (init_view init.now)) }
+    ensures typed { IfOk result (λ r. typed_init_view r
+        ≡ checked.typed_init context.now.model (bodies_in context.now) (seen (scope_at walk.old))
+        (init_view init.now)) }
     ensures scope { OnOk result (scope_at walk.new ≡ scope_at walk.old) }
-    ensures noted { OnOk result (IsNoted context.now walk.old walk.new (part.parts_of_init false (scope_at walk.old) (init_view init.now))) }
+    ensures noted { OnOk result (IsNoted context.now walk.old walk.new
+        (part.parts_of_init false (scope_at walk.old) (init_view init.now))) }
 {
     match init {
         RawInit::Absent => Ok(Init::Absent),
@@ -189,9 +205,12 @@ pub fn declare<'a>(
     d: &'a RawDeclared,
 ) -> Result<Numbered, OutOfMemory>
     ensures number { IfOk result (λ r. r.number ≡ length walk.old.objects) }
-    ensures filled { IfOk result (λ r. r.filled ≡ checked.filled_for context.now.model (bodies_in context.now) (scope_at walk.old) (declared_view d.now)) }
-    ensures scope { OnOk result (scope_at walk.new ≡ scopes.after_name context.now.model (bodies_in context.now) fixed (scope_at walk.old) (declared_view d.now)) }
-    ensures noted { OnOk result (IsNoted context.now walk.old walk.new (declarator fixed (scope_at walk.old) (declared_view d.now))) }
+    ensures filled { IfOk result (λ r. r.filled
+        ≡ checked.filled_for context.now.model (bodies_in context.now) (scope_at walk.old) (declared_view d.now)) }
+    ensures scope { OnOk result (scope_at walk.new
+        ≡ scopes.after_name context.now.model (bodies_in context.now) fixed (scope_at walk.old) (declared_view d.now)) }
+    ensures noted { OnOk result (IsNoted context.now walk.old walk.new
+        (declarator fixed (scope_at walk.old) (declared_view d.now))) }
 {
     let sizes = sizes(context, walk, d.sizes.as_slice())?;
     let number = walk.next_number()?;
@@ -210,9 +229,15 @@ fn name<'a>(
 ) -> Result<Declared, OutOfMemory>
     ensures spot { IfOk result (λ r. r.spot ≡ d.now.spot) }
     ensures number { IfOk result (λ r. r.object ≡ length walk.old.objects) }
-    ensures typed { IfOk result (λ r. typed_init_view r.init ≡ checked.typed_init context.now.model (bodies_in context.now) (seen (scopes.after_name context.now.model (bodies_in context.now) false (scope_at walk.old) (declared_view d.now))) (init_view d.now.init)) }
-    ensures scope { OnOk result (scope_at walk.new ≡ scopes.after_name context.now.model (bodies_in context.now) false (scope_at walk.old) (declared_view d.now)) }
-    ensures noted { OnOk result (IsNoted context.now walk.old walk.new (part.parts_of_name context.now.model (bodies_in context.now) false (scope_at walk.old) (declared_view d.now))) }
+    ensures typed { IfOk result (λ r. typed_init_view r.init
+        ≡ checked.typed_init context.now.model (bodies_in context.now)
+        (seen (scopes.after_name context.now.model (bodies_in context.now) false (scope_at walk.old)
+        (declared_view d.now))) (init_view d.now.init)) }
+    ensures scope { OnOk result (scope_at walk.new
+        ≡ scopes.after_name context.now.model (bodies_in context.now) false (scope_at walk.old) (declared_view d.now)) }
+    ensures noted { OnOk result (IsNoted context.now walk.old walk.new
+        (part.parts_of_name context.now.model (bodies_in context.now) false (scope_at walk.old)
+        (declared_view d.now))) }
 {
     let declared = declare(context, walk, false, d)?;
     let init = initializer(context, walk, &d.init)?;
@@ -229,9 +254,15 @@ pub fn names<'a>(
     walk: &mut Walk<'a>,
     ds: &'a [RawDeclared],
 ) -> Result<Seq<Declared>, OutOfMemory>
-    ensures typed { IfOk result (λ r. names_view r ≡ checked.typed_names context.now.model (bodies_in context.now) (scope_at walk.old) (map declared_view ds.now)) }
-    ensures scope { OnOk result (scope_at walk.new ≡ scopes.after_names context.now.model (bodies_in context.now) false (scope_at walk.old) (map declared_view ds.now)) }
-    ensures noted { OnOk result (IsNoted context.now walk.old walk.new (part.parts_of_names context.now.model (bodies_in context.now) false (scope_at walk.old) (map declared_view ds.now))) }
+    ensures typed { IfOk result (λ r. names_view r
+        ≡ checked.typed_names context.now.model (bodies_in context.now) (scope_at walk.old)
+        (map declared_view ds.now)) }
+    ensures scope { OnOk result (scope_at walk.new
+        ≡ scopes.after_names context.now.model (bodies_in context.now) false (scope_at walk.old)
+        (map declared_view ds.now)) }
+    ensures noted { OnOk result (IsNoted context.now walk.old walk.new
+        (part.parts_of_names context.now.model (bodies_in context.now) false (scope_at walk.old)
+        (map declared_view ds.now))) }
 {
     let mut all = Seq::new(context.alloc);
     for d in ds {

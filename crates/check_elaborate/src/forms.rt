@@ -59,7 +59,8 @@ pub fn for_of(
     step: Option<Expr>,
     body: Stmt,
 ) -> Result<Form, OutOfMemory>
-    ensures { IfOk result (λ r. form_view r ≡ t.For (first_view first) (expr_view_if test) (expr_view_if step) (stmt_view body)) }
+    ensures { IfOk result (λ r. form_view r
+        ≡ t.For (first_view first) (expr_view_if test) (expr_view_if step) (stmt_view body)) }
 {
     let body = boxed(alloc, body)?;
     Ok(Form::For {

@@ -25,9 +25,11 @@ pub fn full(
     role: Role,
     e: &RawExpr,
 ) -> Result<Expr, OutOfMemory>
-    ensures typed { IfOk result (λ r. typed_view r ≡ typing.typed context.now.model (bodies_in context.now) (seen (scope_at walk.old)) (expr_view e.now)) }
+    ensures typed { IfOk result (λ r. typed_view r
+        ≡ typing.typed context.now.model (bodies_in context.now) (seen (scope_at walk.old)) (expr_view e.now)) }
     ensures scope { OnOk result (scope_at walk.new ≡ scope_at walk.old) }
-    ensures noted { OnOk result (IsNoted context.now walk.old walk.new (part.parts (seen (scope_at walk.old)) (role_of role) (expr_view e.now))) }
+    ensures noted { OnOk result (IsNoted context.now walk.old walk.new
+        (part.parts (seen (scope_at walk.old)) (role_of role) (expr_view e.now))) }
 {
     let typed = expression(
         context.alloc,
@@ -48,9 +50,12 @@ pub fn full_if(
     role: Role,
     e: &Option<RawExpr>,
 ) -> Result<Option<Expr>, OutOfMemory>
-    ensures typed { IfOk result (λ r. typed_view_if r ≡ checked.typed_if context.now.model (bodies_in context.now) (seen (scope_at walk.old)) (option_map expr_view e.now)) }
+    ensures typed { IfOk result (λ r. typed_view_if r
+        ≡ checked.typed_if context.now.model (bodies_in context.now) (seen (scope_at walk.old))
+        (option_map expr_view e.now)) }
     ensures scope { OnOk result (scope_at walk.new ≡ scope_at walk.old) }
-    ensures noted { OnOk result (IsNoted context.now walk.old walk.new (part.parts_if (seen (scope_at walk.old)) (role_of role) (option_map expr_view e.now))) }
+    ensures noted { OnOk result (IsNoted context.now walk.old walk.new
+        (part.parts_if (seen (scope_at walk.old)) (role_of role) (option_map expr_view e.now))) }
 {
     match e {
         None => Ok(None),

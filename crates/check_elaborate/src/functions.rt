@@ -61,10 +61,20 @@ fn body_of<'a>(
     gives: Option<IntType>,
     body: &'a RawStmt,
 ) -> Result<Body, OutOfMemory>
-    ensures typed { IfOk result (λ r. stmts_view r.statements ≡ checked.typed_block context.now.model (bodies_in context.now) (scope_at walk.old) (scopes.statements_of (stmt_view body.now))) }
-    ensures scope { OnOk result (scope_at walk.new ≡ scopes.after_block context.now.model (bodies_in context.now) (scope_at walk.old) (scopes.statements_of (stmt_view body.now))) }
-    ensures noted { OnOk result (IsJudged context.now walk.old walk.new (part.parts_of_block context.now.model (bodies_in context.now) gives part.in_body (scope_at walk.old) (scopes.statements_of (stmt_view body.now)))) }
-    ensures kept { IfOk result (λ r. kept_views r.kept ≡ kept_of_parts context.now.model (bodies_in context.now) (part.parts_of_block context.now.model (bodies_in context.now) gives part.in_body (scope_at walk.old) (scopes.statements_of (stmt_view body.now)))) }
+    ensures typed { IfOk result (λ r. stmts_view r.statements
+        ≡ checked.typed_block context.now.model (bodies_in context.now) (scope_at walk.old)
+        (scopes.statements_of (stmt_view body.now))) }
+    ensures scope { OnOk result (scope_at walk.new
+        ≡ scopes.after_block context.now.model (bodies_in context.now) (scope_at walk.old)
+        (scopes.statements_of (stmt_view body.now))) }
+    ensures noted { OnOk result
+        (IsJudged context.now walk.old walk.new
+        (part.parts_of_block context.now.model (bodies_in context.now) gives part.in_body (scope_at walk.old)
+        (scopes.statements_of (stmt_view body.now)))) }
+    ensures kept { IfOk result (λ r. kept_views r.kept
+        ≡ kept_of_parts context.now.model (bodies_in context.now)
+        (part.parts_of_block context.now.model (bodies_in context.now) gives part.in_body (scope_at walk.old)
+        (scopes.statements_of (stmt_view body.now)))) }
     ensures outside { OnOk result (walk.new.kept ≡ walk.old.kept) }
 {
     let empty = Seq::new(context.alloc);
@@ -85,10 +95,19 @@ pub fn function<'a>(
     body: &'a RawStmt,
 ) -> Result<Defined, OutOfMemory>
     ensures name { IfOk result (λ r. r.function.name ≡ name.now) }
-    ensures typed { IfOk result (λ r. function_view r.function ≡ checked.typed_function context.now.model (bodies_in context.now) (scope_at walk.old) name.now gives (map param_view xs.now) (stmt_view body.now)) }
-    ensures scope { OnOk result (scope_at walk.new ≡ scopes.after_item context.now.model (bodies_in context.now) (scope_at walk.old) (raw.Function spot name.now gives (map param_view xs.now) (stmt_view body.now))) }
-    ensures noted { OnOk result (IsJudged context.now walk.old walk.new (part.parts_of_item context.now.model (bodies_in context.now) (scope_at walk.old) (raw.Function spot name.now gives (map param_view xs.now) (stmt_view body.now)))) }
-    ensures kept { IfOk result (λ r. kept_views r.kept ≡ kept_of_parts context.now.model (bodies_in context.now) (part.parts_of_body context.now.model (bodies_in context.now) (scope_at walk.old) name.now gives (map param_view xs.now) (stmt_view body.now))) }
+    ensures typed { IfOk result (λ r. function_view r.function
+        ≡ checked.typed_function context.now.model (bodies_in context.now) (scope_at walk.old) name.now gives
+        (map param_view xs.now) (stmt_view body.now)) }
+    ensures scope { OnOk result (scope_at walk.new
+        ≡ scopes.after_item context.now.model (bodies_in context.now) (scope_at walk.old)
+        (raw.Function spot name.now gives (map param_view xs.now) (stmt_view body.now))) }
+    ensures noted { OnOk result (IsJudged context.now walk.old walk.new
+        (part.parts_of_item context.now.model (bodies_in context.now) (scope_at walk.old)
+        (raw.Function spot name.now gives (map param_view xs.now) (stmt_view body.now)))) }
+    ensures kept { IfOk result (λ r. kept_views r.kept
+        ≡ kept_of_parts context.now.model (bodies_in context.now)
+        (part.parts_of_body context.now.model (bodies_in context.now) (scope_at walk.old) name.now gives
+        (map param_view xs.now) (stmt_view body.now))) }
     ensures outside { OnOk result (kept_views walk.new.kept ≡ kept_views walk.old.kept) }
 {
     let known = Known::Function {

@@ -28,9 +28,11 @@ use wv_base::{OutOfMemory, Seq};
 
 // What is refused of an initializer itself: that it is no constant.
 fn note_value(context: &Context, walk: &mut Walk, e: &RawExpr, typed: &Expr)
-    requires { typed_view typed.now ≡ typing.typed context.now.model (bodies_in context.now) (seen (scope_at walk.old)) (expr_view e.now) }
+    requires { typed_view typed.now ≡ typing.typed context.now.model (bodies_in context.now) (seen (scope_at walk.old))
+        (expr_view e.now) }
     ensures scope { scope_at walk.new ≡ scope_at walk.old }
-    ensures noted { walk.new.best ≡ noted_part context.now.model (items_in context.now) walk.old.best (part.Initializing true (scope_at walk.old) (expr_view e.now)) }
+    ensures noted { walk.new.best ≡ noted_part context.now.model (items_in context.now) walk.old.best
+        (part.Initializing true (scope_at walk.old) (expr_view e.now)) }
     ensures kept { walk.new.kept ≡ walk.old.kept }
 {
     let mistyped = constant(context.model, typed).is_none();
@@ -39,7 +41,8 @@ fn note_value(context: &Context, walk: &mut Walk, e: &RawExpr, typed: &Expr)
 
 // The value of a constant, converted to the type of the object that starts with it.
 fn start_value(context: &Context, ty: IntType, e: &Expr) -> i128
-    ensures { result ≡ fit context.now.model ty (checked.or_zero (constants.constant context.now.model (typed_view e.now))) }
+    ensures { result ≡ fit context.now.model ty
+        (checked.or_zero (constants.constant context.now.model (typed_view e.now))) }
 {
     let value = constant(context.model, e).unwrap_or(0);
     convert(context.model, ty, value)
@@ -54,9 +57,12 @@ fn value(
     e: &RawExpr,
 ) -> Result<i128, OutOfMemory>
     requires { number ≡ length walk.old.objects - 1 }
-    ensures value { IfOk result (λ r. r ≡ checked.start_value context.now.model (bodies_in context.now) (seen (scope_at walk.old)) ty (expr_view e.now)) }
+    ensures value { IfOk result (λ r. r
+        ≡ checked.start_value context.now.model (bodies_in context.now) (seen (scope_at walk.old)) ty
+        (expr_view e.now)) }
     ensures scope { OnOk result (scope_at walk.new ≡ scope_at walk.old) }
-    ensures noted { OnOk result (IsNoted context.now walk.old walk.new (part.parts_of_value true (scope_at walk.old) (expr_view e.now))) }
+    ensures noted { OnOk result (IsNoted context.now walk.old walk.new
+        (part.parts_of_value true (scope_at walk.old) (expr_view e.now))) }
 {
     let typed = full(context, walk, Role::Value, e)?;
     note_value(context, walk, e, &typed);
@@ -73,9 +79,12 @@ fn values(
     es: &[RawExpr],
 ) -> Result<Seq<i128>, OutOfMemory>
     requires { number ≡ length walk.old.objects - 1 }
-    ensures values { IfOk result (λ r. r ≡ checked.start_values context.now.model (bodies_in context.now) (seen (scope_at walk.old)) ty (exps (exprs_view es.now))) }
+    ensures values { IfOk result (λ r. r
+        ≡ checked.start_values context.now.model (bodies_in context.now) (seen (scope_at walk.old)) ty
+        (exps (exprs_view es.now))) }
     ensures scope { OnOk result (scope_at walk.new ≡ scope_at walk.old) }
-    ensures noted { OnOk result (IsNoted context.now walk.old walk.new (part.parts_of_values true (scope_at walk.old) (exps (exprs_view es.now)))) }
+    ensures noted { OnOk result (IsNoted context.now walk.old walk.new
+        (part.parts_of_values true (scope_at walk.old) (exps (exprs_view es.now)))) }
 {
     let mut all = Seq::new(context.alloc);
     for e in es {
@@ -115,9 +124,12 @@ fn row_values(
     rows: &[RawRow],
 ) -> Result<Seq<i128>, OutOfMemory>
     requires { number ≡ length walk.old.objects - 1 }
-    ensures values { IfOk result (λ r. r ≡ checked.row_values context.now.model (bodies_in context.now) (seen (scope_at walk.old)) ty columns (map values_view rows.now)) }
+    ensures values { IfOk result (λ r. r
+        ≡ checked.row_values context.now.model (bodies_in context.now) (seen (scope_at walk.old)) ty columns
+        (map values_view rows.now)) }
     ensures scope { OnOk result (scope_at walk.new ≡ scope_at walk.old) }
-    ensures noted { OnOk result (IsNoted context.now walk.old walk.new (flat_map (part.parts_of_values true (scope_at walk.old)) (map values_view rows.now))) }
+    ensures noted { OnOk result (IsNoted context.now walk.old walk.new
+        (flat_map (part.parts_of_values true (scope_at walk.old)) (map values_view rows.now))) }
 {
     let mut all = Seq::new(context.alloc);
     for row in rows {
@@ -138,9 +150,12 @@ fn initializer(
     init: &RawInit,
 ) -> Result<(), OutOfMemory>
     requires { declared.number ≡ length walk.old.objects - 1 }
-    ensures starts { OnOk result (starts.new ≡ starts.old ++ checked.start_of_init context.now.model (bodies_in context.now) (seen (scope_at walk.old)) declared.number ty declared.filled (init_view init.now)) }
+    ensures starts { OnOk result (starts.new
+        ≡ starts.old ++ checked.start_of_init context.now.model (bodies_in context.now) (seen (scope_at walk.old))
+        declared.number ty declared.filled (init_view init.now)) }
     ensures scope { OnOk result (scope_at walk.new ≡ scope_at walk.old) }
-    ensures noted { OnOk result (IsNoted context.now walk.old walk.new (part.parts_of_init true (scope_at walk.old) (init_view init.now))) }
+    ensures noted { OnOk result (IsNoted context.now walk.old walk.new
+        (part.parts_of_init true (scope_at walk.old) (init_view init.now))) }
 {
     match init {
         RawInit::Absent => Ok(()),
@@ -184,9 +199,13 @@ fn global<'a>(
     starts: &mut Seq<Start>,
     d: &'a RawDeclared,
 ) -> Result<(), OutOfMemory>
-    ensures starts { OnOk result (starts.new ≡ starts.old ++ checked.start_of_name context.now.model (bodies_in context.now) (scope_at walk.old) (declared_view d.now)) }
-    ensures scope { OnOk result (scope_at walk.new ≡ scopes.after_name context.now.model (bodies_in context.now) true (scope_at walk.old) (declared_view d.now)) }
-    ensures noted { OnOk result (IsNoted context.now walk.old walk.new (part.parts_of_name context.now.model (bodies_in context.now) true (scope_at walk.old) (declared_view d.now))) }
+    ensures starts { OnOk result (starts.new
+        ≡ starts.old ++ checked.start_of_name context.now.model (bodies_in context.now) (scope_at walk.old)
+        (declared_view d.now)) }
+    ensures scope { OnOk result (scope_at walk.new
+        ≡ scopes.after_name context.now.model (bodies_in context.now) true (scope_at walk.old) (declared_view d.now)) }
+    ensures noted { OnOk result (IsNoted context.now walk.old walk.new
+        (part.parts_of_name context.now.model (bodies_in context.now) true (scope_at walk.old) (declared_view d.now))) }
 {
     let declared = declare(context, walk, true, d)?;
     initializer(context, walk, starts, declared, d.ty, &d.init)?;
@@ -200,9 +219,15 @@ pub fn globals<'a>(
     starts: &mut Seq<Start>,
     ds: &'a [RawDeclared],
 ) -> Result<(), OutOfMemory>
-    ensures starts { OnOk result (starts.new ≡ starts.old ++ checked.starts_of_names context.now.model (bodies_in context.now) (scope_at walk.old) (map declared_view ds.now)) }
-    ensures scope { OnOk result (scope_at walk.new ≡ scopes.after_names context.now.model (bodies_in context.now) true (scope_at walk.old) (map declared_view ds.now)) }
-    ensures noted { OnOk result (IsNoted context.now walk.old walk.new (part.parts_of_names context.now.model (bodies_in context.now) true (scope_at walk.old) (map declared_view ds.now))) }
+    ensures starts { OnOk result (starts.new
+        ≡ starts.old ++ checked.starts_of_names context.now.model (bodies_in context.now) (scope_at walk.old)
+        (map declared_view ds.now)) }
+    ensures scope { OnOk result (scope_at walk.new
+        ≡ scopes.after_names context.now.model (bodies_in context.now) true (scope_at walk.old)
+        (map declared_view ds.now)) }
+    ensures noted { OnOk result (IsNoted context.now walk.old walk.new
+        (part.parts_of_names context.now.model (bodies_in context.now) true (scope_at walk.old)
+        (map declared_view ds.now))) }
 {
     for d in ds {
         global(context, walk, starts, d)?;

@@ -31,8 +31,12 @@ fn prototype<'a>(
     gives: Option<IntType>,
     types: &'a Option<Seq<IntType>>,
 ) -> Result<(), OutOfMemory>
-    ensures scope { OnOk result (scope_at walk.new ≡ scopes.after_item context.now.model (bodies_in context.now) (scope_at walk.old) (raw.Prototype spot name.now gives types.now)) }
-    ensures noted { OnOk result (IsJudged context.now walk.old walk.new (part.parts_of_item context.now.model (bodies_in context.now) (scope_at walk.old) (raw.Prototype spot name.now gives types.now))) }
+    ensures scope { OnOk result (scope_at walk.new
+        ≡ scopes.after_item context.now.model (bodies_in context.now) (scope_at walk.old)
+        (raw.Prototype spot name.now gives types.now)) }
+    ensures noted { OnOk result (IsJudged context.now walk.old walk.new
+        (part.parts_of_item context.now.model (bodies_in context.now) (scope_at walk.old)
+        (raw.Prototype spot name.now gives types.now))) }
     ensures kept { OnOk result (walk.new.kept ≡ walk.old.kept) }
 {
     let stated = stated_by(name.as_str(), types);
@@ -56,11 +60,19 @@ fn add_function<'a>(
     xs: &'a [RawParam],
     body: &'a RawStmt,
 ) -> Result<(), OutOfMemory>
-    ensures functions { OnOk result (functions_view functions.new ≡ functions_view functions.old ++ functions_by context.now.model (bodies_in context.now) (scope_at walk.old) (raw.Function spot name.now gives (map param_view xs.now) (stmt_view body.now))) }
+    ensures functions { OnOk result (functions_view functions.new
+        ≡ functions_view functions.old ++ functions_by context.now.model (bodies_in context.now) (scope_at walk.old)
+        (raw.Function spot name.now gives (map param_view xs.now) (stmt_view body.now))) }
     ensures names { OnOk result (names_of functions.new ≡ names_of functions.old ++ name.now ∷ []) }
-    ensures scope { OnOk result (scope_at walk.new ≡ scopes.after_item context.now.model (bodies_in context.now) (scope_at walk.old) (raw.Function spot name.now gives (map param_view xs.now) (stmt_view body.now))) }
-    ensures noted { OnOk result (IsJudged context.now walk.old walk.new (part.parts_of_item context.now.model (bodies_in context.now) (scope_at walk.old) (raw.Function spot name.now gives (map param_view xs.now) (stmt_view body.now)))) }
-    ensures kept { OnOk result (kept_lists kept.new ≡ kept_lists kept.old ++ kept_by context.now.model (bodies_in context.now) (scope_at walk.old) (raw.Function spot name.now gives (map param_view xs.now) (stmt_view body.now))) }
+    ensures scope { OnOk result (scope_at walk.new
+        ≡ scopes.after_item context.now.model (bodies_in context.now) (scope_at walk.old)
+        (raw.Function spot name.now gives (map param_view xs.now) (stmt_view body.now))) }
+    ensures noted { OnOk result (IsJudged context.now walk.old walk.new
+        (part.parts_of_item context.now.model (bodies_in context.now) (scope_at walk.old)
+        (raw.Function spot name.now gives (map param_view xs.now) (stmt_view body.now)))) }
+    ensures kept { OnOk result (kept_lists kept.new
+        ≡ kept_lists kept.old ++ kept_by context.now.model (bodies_in context.now) (scope_at walk.old)
+        (raw.Function spot name.now gives (map param_view xs.now) (stmt_view body.now))) }
     ensures outside { OnOk result (kept_views walk.new.kept ≡ kept_views walk.old.kept) }
 {
     let walked = function(context, walk, spot, name, gives, xs, body)?;
@@ -71,7 +83,8 @@ fn add_function<'a>(
 
 // An item of which the name alone is known.
 fn close_name<'a>(walk: &mut Walk<'a>, name: &'a Text) -> Result<(), OutOfMemory>
-    ensures scope { OnOk result (scope_at walk.new ≡ scopes.with_entry (scope_at walk.old) (known_as.entry name.now known_as.Closed)) }
+    ensures scope { OnOk result (scope_at walk.new
+        ≡ scopes.with_entry (scope_at walk.old) (known_as.entry name.now known_as.Closed)) }
     ensures best { OnOk result (walk.new.best ≡ walk.old.best) }
     ensures kept { OnOk result (walk.new.kept ≡ walk.old.kept) }
 {
@@ -88,13 +101,23 @@ fn item<'a>(
     kept: &mut Seq<Seq<Kept>>,
     item: &'a Item,
 ) -> Result<(), OutOfMemory>
-    ensures starts { OnOk result (starts.new ≡ starts.old ++ starts_by context.now.model (bodies_in context.now) (scope_at walk.old) (item_view item.now)) }
-    ensures functions { OnOk result (functions_view functions.new ≡ functions_view functions.old ++ functions_by context.now.model (bodies_in context.now) (scope_at walk.old) (item_view item.now)) }
-    ensures names { OnOk result (names_of functions.new ≡ names_of functions.old ++ part.bodies_of (item_view item.now ∷ [])) }
-    ensures scope { OnOk result (scope_at walk.new ≡ scopes.after_item context.now.model (bodies_in context.now) (scope_at walk.old) (item_view item.now)) }
-    ensures noted { OnOk result (IsJudged context.now walk.old walk.new (part.parts_of_item context.now.model (bodies_in context.now) (scope_at walk.old) (item_view item.now))) }
-    ensures kept { OnOk result (kept_lists kept.new ≡ kept_lists kept.old ++ kept_by context.now.model (bodies_in context.now) (scope_at walk.old) (item_view item.now)) }
-    ensures outside { OnOk result (kept_views walk.new.kept ≡ kept_views walk.old.kept ++ outside_by context.now.model (bodies_in context.now) (scope_at walk.old) (item_view item.now)) }
+    ensures starts { OnOk result (starts.new
+        ≡ starts.old ++ starts_by context.now.model (bodies_in context.now) (scope_at walk.old) (item_view item.now)) }
+    ensures functions { OnOk result (functions_view functions.new
+        ≡ functions_view functions.old ++ functions_by context.now.model (bodies_in context.now) (scope_at walk.old)
+        (item_view item.now)) }
+    ensures names { OnOk result (names_of functions.new
+        ≡ names_of functions.old ++ part.bodies_of (item_view item.now ∷ [])) }
+    ensures scope { OnOk result (scope_at walk.new
+        ≡ scopes.after_item context.now.model (bodies_in context.now) (scope_at walk.old) (item_view item.now)) }
+    ensures noted { OnOk result (IsJudged context.now walk.old walk.new
+        (part.parts_of_item context.now.model (bodies_in context.now) (scope_at walk.old) (item_view item.now))) }
+    ensures kept { OnOk result (kept_lists kept.new
+        ≡ kept_lists kept.old ++ kept_by context.now.model (bodies_in context.now) (scope_at walk.old)
+        (item_view item.now)) }
+    ensures outside { OnOk result (kept_views walk.new.kept
+        ≡ kept_views walk.old.kept ++ outside_by context.now.model (bodies_in context.now) (scope_at walk.old)
+        (item_view item.now)) }
 {
     match item {
         Item::Function {
@@ -140,13 +163,25 @@ pub fn items<'a>(
     kept: &mut Seq<Seq<Kept>>,
     items: &'a [Item],
 ) -> Result<(), OutOfMemory>
-    ensures starts { OnOk result (starts.new ≡ starts.old ++ checked.starts_of context.now.model (bodies_in context.now) (scope_at walk.old) (map item_view items.now)) }
-    ensures functions { OnOk result (functions_view functions.new ≡ functions_view functions.old ++ checked.functions_of context.now.model (bodies_in context.now) (scope_at walk.old) (map item_view items.now)) }
-    ensures names { OnOk result (names_of functions.new ≡ names_of functions.old ++ part.bodies_of (map item_view items.now)) }
-    ensures scope { OnOk result (scope_at walk.new ≡ scopes.after_items context.now.model (bodies_in context.now) (scope_at walk.old) (map item_view items.now)) }
-    ensures noted { OnOk result (IsJudged context.now walk.old walk.new (part.parts_of_items context.now.model (bodies_in context.now) (scope_at walk.old) (map item_view items.now))) }
-    ensures kept { OnOk result (kept_lists kept.new ≡ kept_lists kept.old ++ map (kept_of_parts context.now.model (bodies_in context.now)) (parts_of_bodies context.now.model (bodies_in context.now) (scope_at walk.old) (map item_view items.now))) }
-    ensures outside { OnOk result (kept_views walk.new.kept ≡ kept_views walk.old.kept ++ kept_outside context.now.model (bodies_in context.now) (scope_at walk.old) (map item_view items.now)) }
+    ensures starts { OnOk result (starts.new
+        ≡ starts.old ++ checked.starts_of context.now.model (bodies_in context.now) (scope_at walk.old)
+        (map item_view items.now)) }
+    ensures functions { OnOk result (functions_view functions.new
+        ≡ functions_view functions.old ++ checked.functions_of context.now.model (bodies_in context.now)
+        (scope_at walk.old) (map item_view items.now)) }
+    ensures names { OnOk result (names_of functions.new
+        ≡ names_of functions.old ++ part.bodies_of (map item_view items.now)) }
+    ensures scope { OnOk result (scope_at walk.new
+        ≡ scopes.after_items context.now.model (bodies_in context.now) (scope_at walk.old) (map item_view items.now)) }
+    ensures noted { OnOk result
+        (IsJudged context.now walk.old walk.new
+        (part.parts_of_items context.now.model (bodies_in context.now) (scope_at walk.old) (map item_view items.now))) }
+    ensures kept { OnOk result (kept_lists kept.new
+        ≡ kept_lists kept.old ++ map (kept_of_parts context.now.model (bodies_in context.now))
+        (parts_of_bodies context.now.model (bodies_in context.now) (scope_at walk.old) (map item_view items.now))) }
+    ensures outside { OnOk result (kept_views walk.new.kept
+        ≡ kept_views walk.old.kept ++ kept_outside context.now.model (bodies_in context.now) (scope_at walk.old)
+        (map item_view items.now)) }
 {
     for x in items {
         item(context, walk, starts, functions, kept, x)?;

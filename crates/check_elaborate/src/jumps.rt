@@ -36,7 +36,8 @@ fn note_return(
     e: &Option<RawExpr>,
 )
     ensures scope { scope_at walk.new ≡ scope_at walk.old }
-    ensures noted { walk.new.best ≡ noted_part context.now.model (items_in context.now) walk.old.best (part.Returning gives spot (is_some (option_map expr_view e.now))) }
+    ensures noted { walk.new.best ≡ noted_part context.now.model (items_in context.now) walk.old.best
+        (part.Returning gives spot (is_some (option_map expr_view e.now))) }
     ensures kept { walk.new.kept ≡ walk.old.kept }
 {
     let _ = context;
@@ -53,9 +54,13 @@ pub fn give(
     spot: Spot,
     e: &Option<RawExpr>,
 ) -> Result<Form, OutOfMemory>
-    ensures typed { IfOk result (λ r. typed_form_view r ≡ checked.typed_form context.now.model (bodies_in context.now) (scope_at walk.old) (raw.Return (option_map expr_view e.now))) }
+    ensures typed { IfOk result (λ r. typed_form_view r
+        ≡ checked.typed_form context.now.model (bodies_in context.now) (scope_at walk.old)
+        (raw.Return (option_map expr_view e.now))) }
     ensures scope { OnOk result (scope_at walk.new ≡ scope_at walk.old) }
-    ensures noted { OnOk result (IsNoted context.now walk.old walk.new (part.parts_of_form context.now.model (bodies_in context.now) gives within (scope_at walk.old) spot (raw.Return (option_map expr_view e.now)))) }
+    ensures noted { OnOk result (IsNoted context.now walk.old walk.new
+        (part.parts_of_form context.now.model (bodies_in context.now) gives within (scope_at walk.old) spot
+        (raw.Return (option_map expr_view e.now)))) }
 {
     note_return(context, walk, gives, spot, e);
     let e = full_if(context, walk, Role::Value, e)?;
@@ -65,7 +70,8 @@ pub fn give(
 /// `break` or `continue`, where it may stand or not.
 pub fn leave(context: &Context, walk: &mut Walk, may: bool, spot: Spot)
     ensures scope { scope_at walk.new ≡ scope_at walk.old }
-    ensures noted { walk.new.best ≡ noted_part context.now.model (items_in context.now) walk.old.best (part.Leaving may spot) }
+    ensures noted { walk.new.best ≡ noted_part context.now.model (items_in context.now) walk.old.best
+        (part.Leaving may spot) }
     ensures kept { walk.new.kept ≡ walk.old.kept }
 {
     let _ = context;

@@ -74,7 +74,8 @@ fn gather_labelled<'a>(
     spot: Spot,
     of: &'a RawStmt,
 ) -> Result<(), OutOfMemory>
-    ensures { OnOk result (labels_seen all.new.items ≡ labels_seen all.old.items ++ label name.now spot ∷ part.labels_of (stmt_view of.now)) }
+    ensures { OnOk result (labels_seen all.new.items
+        ≡ labels_seen all.old.items ++ label name.now spot ∷ part.labels_of (stmt_view of.now)) }
 {
     add(all, name, spot)?;
     gather(all, of)?;
@@ -83,7 +84,8 @@ fn gather_labelled<'a>(
 
 #[cycle(gather)]
 fn gather_else<'a>(all: &mut Vec<Label<'a>>, s: &'a Option<Box<RawStmt>>) -> Result<(), OutOfMemory>
-    ensures { OnOk result (labels_seen all.new.items ≡ labels_seen all.old.items ++ part.labels_of_else (else_if s.now)) }
+    ensures { OnOk result (labels_seen all.new.items
+        ≡ labels_seen all.old.items ++ part.labels_of_else (else_if s.now)) }
 {
     match s {
         None => Ok(()),
@@ -93,7 +95,8 @@ fn gather_else<'a>(all: &mut Vec<Label<'a>>, s: &'a Option<Box<RawStmt>>) -> Res
 
 #[cycle(gather)]
 fn gather_block<'a>(all: &mut Vec<Label<'a>>, ss: &'a [RawStmt]) -> Result<(), OutOfMemory>
-    ensures { OnOk result (labels_seen all.new.items ≡ labels_seen all.old.items ++ part.labels_of_block (stms (map stmt_view ss.now))) }
+    ensures { OnOk result (labels_seen all.new.items
+        ≡ labels_seen all.old.items ++ part.labels_of_block (stms (map stmt_view ss.now))) }
 {
     for s in ss {
         gather(all, s)?;
@@ -103,7 +106,8 @@ fn gather_block<'a>(all: &mut Vec<Label<'a>>, ss: &'a [RawStmt]) -> Result<(), O
 
 #[cycle(gather)]
 fn gather_arms<'a>(all: &mut Vec<Label<'a>>, arms: &'a [RawArm]) -> Result<(), OutOfMemory>
-    ensures { OnOk result (labels_seen all.new.items ≡ labels_seen all.old.items ++ part.labels_of_block (arms_of (map raw_arm_view arms.now))) }
+    ensures { OnOk result (labels_seen all.new.items
+        ≡ labels_seen all.old.items ++ part.labels_of_block (arms_of (map raw_arm_view arms.now))) }
 {
     for arm in arms {
         gather_block(all, arm.body.as_slice())?;
@@ -117,7 +121,9 @@ fn first_doubled(
     best: Option<Refusal>,
     labels: &[Label],
 ) -> Result<Option<Refusal>, OutOfMemory>
-    ensures { IfOk result (λ r. r ≡ noted_parts context.now.model (items_in context.now) best (part.parts_of_labels [] (labels_seen labels.now))) }
+    ensures { IfOk result (λ r. r
+        ≡ noted_parts context.now.model (items_in context.now) best
+        (part.parts_of_labels [] (labels_seen labels.now))) }
 {
     let mut best = best;
     let mut names = BTreeMap::new(context.alloc);
@@ -132,7 +138,8 @@ fn first_doubled(
 /// What is refused of the labels of a function's body.
 pub fn note_labels(context: &Context, walk: &mut Walk, body: &RawStmt) -> Result<(), OutOfMemory>
     ensures scope { OnOk result (scope_at walk.new ≡ scope_at walk.old) }
-    ensures noted { OnOk result (IsJudged context.now walk.old walk.new (part.parts_of_labels [] (part.labels_of (stmt_view body.now)))) }
+    ensures noted { OnOk result (IsJudged context.now walk.old walk.new
+        (part.parts_of_labels [] (part.labels_of (stmt_view body.now)))) }
     ensures kept { OnOk result (walk.new.kept ≡ walk.old.kept) }
 {
     let mut all = Vec::new(context.alloc);

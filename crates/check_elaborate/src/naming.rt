@@ -63,7 +63,8 @@ fn alters(built: Option<Callee>, known: Known) -> bool
 
 fn note_named(context: &Context, walk: &mut Walk, spot: Spot, name: &str, known: Known)
     ensures scope { scope_at walk.new ≡ scope_at walk.old }
-    ensures noted { walk.new.best ≡ noted_part context.now.model (items_in context.now) walk.old.best (part.Naming (scope_at walk.old) (names.entry name.now (kind_of known.entry)) spot) }
+    ensures noted { walk.new.best ≡ noted_part context.now.model (items_in context.now) walk.old.best
+        (part.Naming (scope_at walk.old) (names.entry name.now (kind_of known.entry)) spot) }
     ensures kept { walk.new.kept ≡ walk.old.kept }
 {
     let _ = context;
@@ -79,8 +80,11 @@ pub fn declare<'a>(
     name: &'a Text,
     known: Known<'a>,
 ) -> Result<(), OutOfMemory>
-    ensures scope { OnOk result (scope_at walk.new ≡ scopes.with_entry (scope_at walk.old) (names.entry name.now (kind_of known.entry))) }
-    ensures noted { OnOk result (walk.new.best ≡ noted_part context.now.model (items_in context.now) walk.old.best (part.Naming (scope_at walk.old) (names.entry name.now (kind_of known.entry)) spot)) }
+    ensures scope { OnOk result (scope_at walk.new
+        ≡ scopes.with_entry (scope_at walk.old) (names.entry name.now (kind_of known.entry))) }
+    ensures noted { OnOk result (walk.new.best
+        ≡ noted_part context.now.model (items_in context.now) walk.old.best
+        (part.Naming (scope_at walk.old) (names.entry name.now (kind_of known.entry)) spot)) }
     ensures kept { OnOk result (walk.new.kept ≡ walk.old.kept) }
 {
     let word = name.as_str();

@@ -19,7 +19,8 @@ use wv_base::{OutOfMemory, Seq, Text};
 fn note_parameter(context: &Context, walk: &mut Walk, number: u32, x: &RawParam)
     requires { number ≡ length walk.old.objects }
     ensures scope { scope_at walk.new ≡ scope_at walk.old }
-    ensures noted { IsJudged context.now walk.old walk.new (part.parts_of_parameters (scope_at walk.old) (param_view x.now ∷ [])) }
+    ensures noted { IsJudged context.now walk.old walk.new
+        (part.parts_of_parameters (scope_at walk.old) (param_view x.now ∷ [])) }
     ensures kept { walk.new.kept ≡ walk.old.kept }
 {
     let _ = context;
@@ -56,8 +57,10 @@ fn parameter<'a>(
     x: &'a RawParam,
 ) -> Result<u32, OutOfMemory>
     ensures number { IfOk result (λ n. n ≡ length walk.old.objects) }
-    ensures scope { OnOk result (scope_at walk.new ≡ scopes.with_object (scope_at walk.old) (scopes.parameter (param_view x.now))) }
-    ensures noted { OnOk result (IsJudged context.now walk.old walk.new (part.parts_of_parameters (scope_at walk.old) (param_view x.now ∷ []))) }
+    ensures scope { OnOk result (scope_at walk.new
+        ≡ scopes.with_object (scope_at walk.old) (scopes.parameter (param_view x.now))) }
+    ensures noted { OnOk result (IsJudged context.now walk.old walk.new
+        (part.parts_of_parameters (scope_at walk.old) (param_view x.now ∷ []))) }
     ensures kept { OnOk result (kept_views walk.new.kept ≡ kept_views walk.old.kept) }
 {
     let number = walk.next_number()?;
@@ -73,9 +76,13 @@ pub fn parameters<'a>(
     walk: &mut Walk<'a>,
     xs: &'a [RawParam],
 ) -> Result<Seq<u32>, OutOfMemory>
-    ensures numbers { IfOk result (λ r. r ≡ checked.numbers_from context.now.model (bodies_in context.now) (length walk.old.objects) (map param_view xs.now)) }
-    ensures scope { OnOk result (scope_at walk.new ≡ scopes.after_parameters (scope_at walk.old) (map param_view xs.now)) }
-    ensures noted { OnOk result (IsJudged context.now walk.old walk.new (part.parts_of_parameters (scope_at walk.old) (map param_view xs.now))) }
+    ensures numbers { IfOk result (λ r. r
+        ≡ checked.numbers_from context.now.model (bodies_in context.now) (length walk.old.objects)
+        (map param_view xs.now)) }
+    ensures scope { OnOk result (scope_at walk.new
+        ≡ scopes.after_parameters (scope_at walk.old) (map param_view xs.now)) }
+    ensures noted { OnOk result (IsJudged context.now walk.old walk.new
+        (part.parts_of_parameters (scope_at walk.old) (map param_view xs.now))) }
     ensures kept { OnOk result (kept_views walk.new.kept ≡ kept_views walk.old.kept) }
 {
     let mut numbers = Seq::new(context.alloc);

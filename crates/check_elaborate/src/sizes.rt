@@ -46,7 +46,8 @@ fn as_size(value: Option<i128>) -> Option<u16>
 pub fn keep(walk: &mut Walk, object: Option<u32>, value: Expr) -> Result<(), OutOfMemory>
     ensures scope { OnOk result (scope_at walk.new ≡ scope_at walk.old) }
     ensures best { OnOk result (walk.new.best ≡ walk.old.best) }
-    ensures kept { OnOk result (kept_views walk.new.kept ≡ kept_views walk.old.kept ++ kept object (typed_view value) ∷ []) }
+    ensures kept { OnOk result (kept_views walk.new.kept
+        ≡ kept_views walk.old.kept ++ kept object (typed_view value) ∷ []) }
 {
     walk.kept.push(Kept { object, value })?;
     Ok(())
@@ -54,10 +55,14 @@ pub fn keep(walk: &mut Walk, object: Option<u32>, value: Expr) -> Result<(), Out
 
 // The size of an array.
 fn size_of(context: &Context, walk: &mut Walk, e: &RawExpr) -> Result<Option<u16>, OutOfMemory>
-    ensures size { IfOk result (λ r. r ≡ scopes.size_of context.now.model (bodies_in context.now) (seen (scope_at walk.old)) (expr_view e.now)) }
+    ensures size { IfOk result (λ r. r
+        ≡ scopes.size_of context.now.model (bodies_in context.now) (seen (scope_at walk.old)) (expr_view e.now)) }
     ensures scope { OnOk result (scope_at walk.new ≡ scope_at walk.old) }
-    ensures noted { OnOk result (IsJudged context.now walk.old walk.new (part.parts (seen (scope_at walk.old)) part.Value (expr_view e.now))) }
-    ensures kept { OnOk result (kept_views walk.new.kept ≡ kept_views walk.old.kept ++ kept None (typing.typed context.now.model (bodies_in context.now) (seen (scope_at walk.old)) (expr_view e.now)) ∷ []) }
+    ensures noted { OnOk result (IsJudged context.now walk.old walk.new
+        (part.parts (seen (scope_at walk.old)) part.Value (expr_view e.now))) }
+    ensures kept { OnOk result (kept_views walk.new.kept
+        ≡ kept_views walk.old.kept ++ kept None
+        (typing.typed context.now.model (bodies_in context.now) (seen (scope_at walk.old)) (expr_view e.now)) ∷ []) }
 {
     let typed = expression(
         context.alloc,
@@ -86,10 +91,14 @@ fn with_size(stated: Sizes, size: Option<u16>) -> Sizes
 
 /// The sizes that a declaration states.
 pub fn sizes(context: &Context, walk: &mut Walk, es: &[RawExpr]) -> Result<Sizes, OutOfMemory>
-    ensures sizes { IfOk result (λ r. r ≡ scopes.sizes_of context.now.model (bodies_in context.now) (seen (scope_at walk.old)) (exprs_view es.now)) }
+    ensures sizes { IfOk result (λ r. r
+        ≡ scopes.sizes_of context.now.model (bodies_in context.now) (seen (scope_at walk.old)) (exprs_view es.now)) }
     ensures scope { OnOk result (scope_at walk.new ≡ scope_at walk.old) }
-    ensures noted { OnOk result (IsJudged context.now walk.old walk.new (part.parts_of (seen (scope_at walk.old)) (exps (exprs_view es.now)))) }
-    ensures kept { OnOk result (kept_views walk.new.kept ≡ kept_views walk.old.kept ++ kept_sizes context.now.model (bodies_in context.now) (seen (scope_at walk.old)) (exprs_view es.now)) }
+    ensures noted { OnOk result (IsJudged context.now walk.old walk.new
+        (part.parts_of (seen (scope_at walk.old)) (exps (exprs_view es.now)))) }
+    ensures kept { OnOk result (kept_views walk.new.kept
+        ≡ kept_views walk.old.kept ++ kept_sizes context.now.model (bodies_in context.now) (seen (scope_at walk.old))
+        (exprs_view es.now)) }
 {
     let mut stated = Sizes::Scalar;
     for e in es {

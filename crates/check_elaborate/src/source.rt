@@ -37,13 +37,21 @@ pub struct Walked {
 
 // All items, from the outermost scope on.
 fn walk_items(context: &Context, source: &[Item]) -> Result<Walked, OutOfMemory>
-    ensures objects { IfOk result (λ w. w.objects ≡ (after_items context.now.model (bodies_in context.now) outermost (map item_view source.now)).objects) }
-    ensures starts { IfOk result (λ w. w.starts ≡ starts_of context.now.model (bodies_in context.now) outermost (map item_view source.now)) }
-    ensures functions { IfOk result (λ w. functions_view w.functions ≡ functions_of context.now.model (bodies_in context.now) outermost (map item_view source.now)) }
+    ensures objects { IfOk result (λ w. w.objects
+        ≡ (after_items context.now.model (bodies_in context.now) outermost (map item_view source.now)).objects) }
+    ensures starts { IfOk result (λ w. w.starts
+        ≡ starts_of context.now.model (bodies_in context.now) outermost (map item_view source.now)) }
+    ensures functions { IfOk result (λ w. functions_view w.functions
+        ≡ functions_of context.now.model (bodies_in context.now) outermost (map item_view source.now)) }
     ensures names { IfOk result (λ w. names_of w.functions ≡ bodies_of (map item_view source.now)) }
-    ensures kept { IfOk result (λ w. kept_lists w.kept ≡ map (kept_of_parts context.now.model (bodies_in context.now)) (parts_of_bodies context.now.model (bodies_in context.now) outermost (map item_view source.now))) }
-    ensures outside { IfOk result (λ w. kept_views w.outside ≡ kept_outside context.now.model (bodies_in context.now) outermost (map item_view source.now)) }
-    ensures best { IfOk result (λ w. w.best ≡ noted_parts context.now.model (items_in context.now) None (parts_of_items context.now.model (bodies_in context.now) outermost (map item_view source.now))) }
+    ensures kept { IfOk result (λ w. kept_lists w.kept
+        ≡ map (kept_of_parts context.now.model (bodies_in context.now))
+        (parts_of_bodies context.now.model (bodies_in context.now) outermost (map item_view source.now))) }
+    ensures outside { IfOk result (λ w. kept_views w.outside
+        ≡ kept_outside context.now.model (bodies_in context.now) outermost (map item_view source.now)) }
+    ensures best { IfOk result (λ w. w.best
+        ≡ noted_parts context.now.model (items_in context.now) None
+        (parts_of_items context.now.model (bodies_in context.now) outermost (map item_view source.now))) }
 {
     let mut walk = Walk::new(context.alloc);
     let mut starts = Seq::new(context.alloc);
@@ -69,13 +77,18 @@ fn walk_items(context: &Context, source: &[Item]) -> Result<Walked, OutOfMemory>
 
 /// Goes through all parts of a source.
 pub fn walk_source(alloc: Global, source: &[Item], model: DataModel) -> Result<Walked, OutOfMemory>
-    ensures objects { IfOk result (λ w. w.objects ≡ (after_items model (bodies_of (map item_view source.now)) outermost (map item_view source.now)).objects) }
-    ensures starts { IfOk result (λ w. w.starts ≡ starts_of model (bodies_of (map item_view source.now)) outermost (map item_view source.now)) }
-    ensures functions { IfOk result (λ w. functions_view w.functions ≡ functions_of model (bodies_of (map item_view source.now)) outermost (map item_view source.now)) }
+    ensures objects { IfOk result (λ w. w.objects
+        ≡ (after_items model (bodies_of (map item_view source.now)) outermost (map item_view source.now)).objects) }
+    ensures starts { IfOk result (λ w. w.starts
+        ≡ starts_of model (bodies_of (map item_view source.now)) outermost (map item_view source.now)) }
+    ensures functions { IfOk result (λ w. functions_view w.functions
+        ≡ functions_of model (bodies_of (map item_view source.now)) outermost (map item_view source.now)) }
     ensures names { IfOk result (λ w. names_of w.functions ≡ bodies_of (map item_view source.now)) }
     ensures kept { IfOk result (λ w. kept_lists w.kept ≡ kept_in_bodies model (map item_view source.now)) }
-    ensures outside { IfOk result (λ w. kept_views w.outside ≡ kept_outside model (bodies_of (map item_view source.now)) outermost (map item_view source.now)) }
-    ensures best { IfOk result (λ w. w.best ≡ noted_parts model (map item_view source.now) None (parts_of_source model (map item_view source.now))) }
+    ensures outside { IfOk result (λ w. kept_views w.outside
+        ≡ kept_outside model (bodies_of (map item_view source.now)) outermost (map item_view source.now)) }
+    ensures best { IfOk result (λ w. w.best
+        ≡ noted_parts model (map item_view source.now) None (parts_of_source model (map item_view source.now))) }
 {
     let known = Functions::of(alloc, source)?;
     let context = Context {

@@ -42,9 +42,14 @@ fn statement<'a>(
     within: Within,
     s: &'a RawStmt,
 ) -> Result<Stmt, OutOfMemory>
-    ensures typed { IfOk result (λ r. typed_stmt_view r ≡ checked.typed_statement context.now.model (bodies_in context.now) (scope_at walk.old) (stmt_view s.now)) }
-    ensures scope { OnOk result (scope_at walk.new ≡ scopes.after_statement context.now.model (bodies_in context.now) (scope_at walk.old) (stmt_view s.now)) }
-    ensures noted { OnOk result (IsNoted context.now walk.old walk.new (part.parts_of_statement context.now.model (bodies_in context.now) gives within (scope_at walk.old) (stmt_view s.now))) }
+    ensures typed { IfOk result (λ r. typed_stmt_view r
+        ≡ checked.typed_statement context.now.model (bodies_in context.now) (scope_at walk.old) (stmt_view s.now)) }
+    ensures scope { OnOk result (scope_at walk.new
+        ≡ scopes.after_statement context.now.model (bodies_in context.now) (scope_at walk.old) (stmt_view s.now)) }
+    ensures noted { OnOk result
+        (IsNoted context.now walk.old walk.new
+        (part.parts_of_statement context.now.model (bodies_in context.now) gives within (scope_at walk.old)
+        (stmt_view s.now))) }
 {
     let form = form(context, walk, gives, within, s.spot, &s.form)?;
     Ok(Stmt { spot: s.spot, form })
@@ -59,9 +64,13 @@ fn form<'a>(
     spot: Spot,
     f: &'a RawForm,
 ) -> Result<Form, OutOfMemory>
-    ensures typed { IfOk result (λ r. typed_form_view r ≡ checked.typed_form context.now.model (bodies_in context.now) (scope_at walk.old) (form_view f.now)) }
-    ensures scope { OnOk result (scope_at walk.new ≡ scopes.after_form context.now.model (bodies_in context.now) (scope_at walk.old) (form_view f.now)) }
-    ensures noted { OnOk result (IsNoted context.now walk.old walk.new (part.parts_of_form context.now.model (bodies_in context.now) gives within (scope_at walk.old) spot (form_view f.now))) }
+    ensures typed { IfOk result (λ r. typed_form_view r
+        ≡ checked.typed_form context.now.model (bodies_in context.now) (scope_at walk.old) (form_view f.now)) }
+    ensures scope { OnOk result (scope_at walk.new
+        ≡ scopes.after_form context.now.model (bodies_in context.now) (scope_at walk.old) (form_view f.now)) }
+    ensures noted { OnOk result (IsNoted context.now walk.old walk.new
+        (part.parts_of_form context.now.model (bodies_in context.now) gives within (scope_at walk.old) spot
+        (form_view f.now))) }
 {
     match f {
         RawForm::Empty => Ok(Form::Empty),
@@ -115,8 +124,7 @@ fn form<'a>(
         }
         RawForm::Label { of, .. } => {
             let of = arm(context, walk, gives, within, of)?;
-            let form = label_of(context.alloc, of)?;
-            Ok(form)
+            Ok(label_of(context.alloc, of)?)
         }
         RawForm::Switch { test, arms } => {
             let form = switch(context, walk, gives, within, spot, arms.as_slice(), test)?;
@@ -136,9 +144,15 @@ fn while_loop<'a>(
     body: &'a RawStmt,
     test: &RawExpr,
 ) -> Result<Form, OutOfMemory>
-    ensures typed { IfOk result (λ r. typed_form_view r ≡ checked.typed_form context.now.model (bodies_in context.now) (scope_at walk.old) (raw.While (expr_view test.now) (stmt_view body.now))) }
-    ensures scope { OnOk result (scope_at walk.new ≡ scopes.after_form context.now.model (bodies_in context.now) (scope_at walk.old) (raw.While (expr_view test.now) (stmt_view body.now))) }
-    ensures noted { OnOk result (IsNoted context.now walk.old walk.new (part.parts_of_form context.now.model (bodies_in context.now) gives within (scope_at walk.old) spot (raw.While (expr_view test.now) (stmt_view body.now)))) }
+    ensures typed { IfOk result (λ r. typed_form_view r
+        ≡ checked.typed_form context.now.model (bodies_in context.now) (scope_at walk.old)
+        (raw.While (expr_view test.now) (stmt_view body.now))) }
+    ensures scope { OnOk result (scope_at walk.new
+        ≡ scopes.after_form context.now.model (bodies_in context.now) (scope_at walk.old)
+        (raw.While (expr_view test.now) (stmt_view body.now))) }
+    ensures noted { OnOk result (IsNoted context.now walk.old walk.new
+        (part.parts_of_form context.now.model (bodies_in context.now) gives within (scope_at walk.old) spot
+        (raw.While (expr_view test.now) (stmt_view body.now)))) }
 {
     let test = full(context, walk, Role::Value, test)?;
     let body = arm(context, walk, gives, IN_LOOP, body)?;
@@ -156,9 +170,15 @@ fn do_loop<'a>(
     body: &'a RawStmt,
     test: &RawExpr,
 ) -> Result<Form, OutOfMemory>
-    ensures typed { IfOk result (λ r. typed_form_view r ≡ checked.typed_form context.now.model (bodies_in context.now) (scope_at walk.old) (raw.DoWhile (stmt_view body.now) (expr_view test.now))) }
-    ensures scope { OnOk result (scope_at walk.new ≡ scopes.after_form context.now.model (bodies_in context.now) (scope_at walk.old) (raw.DoWhile (stmt_view body.now) (expr_view test.now))) }
-    ensures noted { OnOk result (IsNoted context.now walk.old walk.new (part.parts_of_form context.now.model (bodies_in context.now) gives within (scope_at walk.old) spot (raw.DoWhile (stmt_view body.now) (expr_view test.now)))) }
+    ensures typed { IfOk result (λ r. typed_form_view r
+        ≡ checked.typed_form context.now.model (bodies_in context.now) (scope_at walk.old)
+        (raw.DoWhile (stmt_view body.now) (expr_view test.now))) }
+    ensures scope { OnOk result (scope_at walk.new
+        ≡ scopes.after_form context.now.model (bodies_in context.now) (scope_at walk.old)
+        (raw.DoWhile (stmt_view body.now) (expr_view test.now))) }
+    ensures noted { OnOk result (IsNoted context.now walk.old walk.new
+        (part.parts_of_form context.now.model (bodies_in context.now) gives within (scope_at walk.old) spot
+        (raw.DoWhile (stmt_view body.now) (expr_view test.now)))) }
 {
     let body = arm(context, walk, gives, IN_LOOP, body)?;
     let test = full(context, walk, Role::Value, test)?;
@@ -179,9 +199,18 @@ fn for_loop<'a>(
     test: &Option<RawExpr>,
     step: &Option<RawExpr>,
 ) -> Result<Form, OutOfMemory>
-    ensures typed { IfOk result (λ r. typed_form_view r ≡ checked.typed_form context.now.model (bodies_in context.now) (scope_at walk.old) (raw.For (first_view first.now) (option_map expr_view test.now) (option_map expr_view step.now) (stmt_view body.now))) }
-    ensures scope { OnOk result (scope_at walk.new ≡ scopes.after_form context.now.model (bodies_in context.now) (scope_at walk.old) (raw.For (first_view first.now) (option_map expr_view test.now) (option_map expr_view step.now) (stmt_view body.now))) }
-    ensures noted { OnOk result (IsNoted context.now walk.old walk.new (part.parts_of_form context.now.model (bodies_in context.now) gives within (scope_at walk.old) spot (raw.For (first_view first.now) (option_map expr_view test.now) (option_map expr_view step.now) (stmt_view body.now)))) }
+    ensures typed { IfOk result (λ r. typed_form_view r
+        ≡ checked.typed_form context.now.model (bodies_in context.now) (scope_at walk.old)
+        (raw.For (first_view first.now) (option_map expr_view test.now) (option_map expr_view step.now)
+        (stmt_view body.now))) }
+    ensures scope { OnOk result (scope_at walk.new
+        ≡ scopes.after_form context.now.model (bodies_in context.now) (scope_at walk.old)
+        (raw.For (first_view first.now) (option_map expr_view test.now) (option_map expr_view step.now)
+        (stmt_view body.now))) }
+    ensures noted { OnOk result (IsNoted context.now walk.old walk.new
+        (part.parts_of_form context.now.model (bodies_in context.now) gives within (scope_at walk.old) spot
+        (raw.For (first_view first.now) (option_map expr_view test.now) (option_map expr_view step.now)
+        (stmt_view body.now)))) }
 {
     let outside = walk.open();
     let first = begin(context, walk, first)?;
@@ -203,9 +232,15 @@ fn switch<'a>(
     all: &'a [RawArm],
     test: &RawExpr,
 ) -> Result<Form, OutOfMemory>
-    ensures typed { IfOk result (λ r. typed_form_view r ≡ checked.typed_form context.now.model (bodies_in context.now) (scope_at walk.old) (raw.Switch (expr_view test.now) (arms_of (map raw_arm_view all.now)))) }
-    ensures scope { OnOk result (scope_at walk.new ≡ scopes.after_form context.now.model (bodies_in context.now) (scope_at walk.old) (raw.Switch (expr_view test.now) (arms_of (map raw_arm_view all.now)))) }
-    ensures noted { OnOk result (IsNoted context.now walk.old walk.new (part.parts_of_form context.now.model (bodies_in context.now) gives within (scope_at walk.old) spot (raw.Switch (expr_view test.now) (arms_of (map raw_arm_view all.now))))) }
+    ensures typed { IfOk result (λ r. typed_form_view r
+        ≡ checked.typed_form context.now.model (bodies_in context.now) (scope_at walk.old)
+        (raw.Switch (expr_view test.now) (arms_of (map raw_arm_view all.now)))) }
+    ensures scope { OnOk result (scope_at walk.new
+        ≡ scopes.after_form context.now.model (bodies_in context.now) (scope_at walk.old)
+        (raw.Switch (expr_view test.now) (arms_of (map raw_arm_view all.now)))) }
+    ensures noted { OnOk result (IsNoted context.now walk.old walk.new
+        (part.parts_of_form context.now.model (bodies_in context.now) gives within (scope_at walk.old) spot
+        (raw.Switch (expr_view test.now) (arms_of (map raw_arm_view all.now))))) }
 {
     let test = full(context, walk, Role::Value, test)?;
     let ty = switch_type(context.model, test.ty);
@@ -227,9 +262,15 @@ fn arms<'a>(
     ty: IntType,
     arms: &'a [RawArm],
 ) -> Result<Seq<Arm>, OutOfMemory>
-    ensures typed { IfOk result (λ r. typed_switch_view r ≡ checked.typed_arms context.now.model (bodies_in context.now) ty (scope_at walk.old) (arms_of (map raw_arm_view arms.now))) }
-    ensures scope { OnOk result (scope_at walk.new ≡ scopes.after_arms context.now.model (bodies_in context.now) (scope_at walk.old) (arms_of (map raw_arm_view arms.now))) }
-    ensures noted { OnOk result (IsNoted context.now walk.old walk.new (part.parts_of_arms context.now.model (bodies_in context.now) gives within ty [] (scope_at walk.old) (arms_of (map raw_arm_view arms.now)))) }
+    ensures typed { IfOk result (λ r. typed_switch_view r
+        ≡ checked.typed_arms context.now.model (bodies_in context.now) ty (scope_at walk.old)
+        (arms_of (map raw_arm_view arms.now))) }
+    ensures scope { OnOk result (scope_at walk.new
+        ≡ scopes.after_arms context.now.model (bodies_in context.now) (scope_at walk.old)
+        (arms_of (map raw_arm_view arms.now))) }
+    ensures noted { OnOk result (IsNoted context.now walk.old walk.new
+        (part.parts_of_arms context.now.model (bodies_in context.now) gives within ty [] (scope_at walk.old)
+        (arms_of (map raw_arm_view arms.now)))) }
 {
     let mut all = Seq::new(context.alloc);
     let mut before = ArmLabels::new(context.alloc);
@@ -250,9 +291,13 @@ fn in_arm<'a>(
     within: Within,
     ss: &'a [RawStmt],
 ) -> Result<Seq<Stmt>, OutOfMemory>
-    ensures typed { IfOk result (λ r. typed_stmts_view r ≡ typed_in_arm context.now.model (bodies_in context.now) (scope_at walk.old) (map stmt_view ss.now)) }
-    ensures scope { OnOk result (scope_at walk.new ≡ after_in_arm context.now.model (bodies_in context.now) (scope_at walk.old) (map stmt_view ss.now)) }
-    ensures noted { OnOk result (IsNoted context.now walk.old walk.new (parts_in_arm context.now.model (bodies_in context.now) gives within (scope_at walk.old) (map stmt_view ss.now))) }
+    ensures typed { IfOk result (λ r. typed_stmts_view r
+        ≡ typed_in_arm context.now.model (bodies_in context.now) (scope_at walk.old) (map stmt_view ss.now)) }
+    ensures scope { OnOk result (scope_at walk.new
+        ≡ after_in_arm context.now.model (bodies_in context.now) (scope_at walk.old) (map stmt_view ss.now)) }
+    ensures noted { OnOk result (IsNoted context.now walk.old walk.new
+        (parts_in_arm context.now.model (bodies_in context.now) gives within (scope_at walk.old)
+        (map stmt_view ss.now))) }
 {
     let mut all = Seq::new(context.alloc);
     for s in ss {
@@ -268,9 +313,12 @@ fn begin<'a>(
     walk: &mut Walk<'a>,
     first: &'a RawFirst,
 ) -> Result<First, OutOfMemory>
-    ensures typed { IfOk result (λ r. typed_first_view r ≡ checked.typed_first context.now.model (bodies_in context.now) (scope_at walk.old) (first_view first.now)) }
-    ensures scope { OnOk result (scope_at walk.new ≡ scopes.after_first context.now.model (bodies_in context.now) (scope_at walk.old) (first_view first.now)) }
-    ensures noted { OnOk result (IsNoted context.now walk.old walk.new (part.parts_of_first context.now.model (bodies_in context.now) (scope_at walk.old) (first_view first.now))) }
+    ensures typed { IfOk result (λ r. typed_first_view r
+        ≡ checked.typed_first context.now.model (bodies_in context.now) (scope_at walk.old) (first_view first.now)) }
+    ensures scope { OnOk result (scope_at walk.new
+        ≡ scopes.after_first context.now.model (bodies_in context.now) (scope_at walk.old) (first_view first.now)) }
+    ensures noted { OnOk result (IsNoted context.now walk.old walk.new
+        (part.parts_of_first context.now.model (bodies_in context.now) (scope_at walk.old) (first_view first.now))) }
 {
     match first {
         RawFirst::Absent => Ok(First::Absent),
@@ -293,9 +341,13 @@ fn other_arm<'a>(
     within: Within,
     s: &'a Option<Box<RawStmt>>,
 ) -> Result<Option<Box<Stmt>>, OutOfMemory>
-    ensures typed { IfOk result (λ r. else_of r ≡ checked.typed_else context.now.model (bodies_in context.now) (scope_at walk.old) (else_if s.now)) }
-    ensures scope { OnOk result (scope_at walk.new ≡ scopes.after_else context.now.model (bodies_in context.now) (scope_at walk.old) (else_if s.now)) }
-    ensures noted { OnOk result (IsNoted context.now walk.old walk.new (part.parts_of_else context.now.model (bodies_in context.now) gives within (scope_at walk.old) (else_if s.now))) }
+    ensures typed { IfOk result (λ r. else_of r
+        ≡ checked.typed_else context.now.model (bodies_in context.now) (scope_at walk.old) (else_if s.now)) }
+    ensures scope { OnOk result (scope_at walk.new
+        ≡ scopes.after_else context.now.model (bodies_in context.now) (scope_at walk.old) (else_if s.now)) }
+    ensures noted { OnOk result (IsNoted context.now walk.old walk.new
+        (part.parts_of_else context.now.model (bodies_in context.now) gives within (scope_at walk.old)
+        (else_if s.now))) }
 {
     match s {
         None => Ok(None),
@@ -316,9 +368,17 @@ fn arm<'a>(
     within: Within,
     s: &'a RawStmt,
 ) -> Result<Stmt, OutOfMemory>
-    ensures typed { IfOk result (λ r. typed_stmt_view r ≡ checked.typed_statement context.now.model (bodies_in context.now) (scopes.opened (scope_at walk.old)) (stmt_view s.now)) }
-    ensures scope { OnOk result (scope_at walk.new ≡ scopes.closed (scope_at walk.old) (scopes.after_statement context.now.model (bodies_in context.now) (scopes.opened (scope_at walk.old)) (stmt_view s.now))) }
-    ensures noted { OnOk result (IsNoted context.now walk.old walk.new (part.parts_of_statement context.now.model (bodies_in context.now) gives within (scopes.opened (scope_at walk.old)) (stmt_view s.now))) }
+    ensures typed { IfOk result (λ r. typed_stmt_view r
+        ≡ checked.typed_statement context.now.model (bodies_in context.now) (scopes.opened (scope_at walk.old))
+        (stmt_view s.now)) }
+    ensures scope { OnOk result (scope_at walk.new
+        ≡ scopes.closed (scope_at walk.old)
+        (scopes.after_statement context.now.model (bodies_in context.now) (scopes.opened (scope_at walk.old))
+        (stmt_view s.now))) }
+    ensures noted { OnOk result
+        (IsNoted context.now walk.old walk.new
+        (part.parts_of_statement context.now.model (bodies_in context.now) gives within
+        (scopes.opened (scope_at walk.old)) (stmt_view s.now))) }
 {
     let outside = walk.open();
     let s = statement(context, walk, gives, within, s)?;
@@ -335,9 +395,16 @@ fn block<'a>(
     within: Within,
     ss: &'a [RawStmt],
 ) -> Result<Seq<Stmt>, OutOfMemory>
-    ensures typed { IfOk result (λ r. typed_stmts_view r ≡ checked.typed_block context.now.model (bodies_in context.now) (scopes.opened (scope_at walk.old)) (stms (map stmt_view ss.now))) }
-    ensures scope { OnOk result (scope_at walk.new ≡ scopes.closed (scope_at walk.old) (scopes.after_block context.now.model (bodies_in context.now) (scopes.opened (scope_at walk.old)) (stms (map stmt_view ss.now)))) }
-    ensures noted { OnOk result (IsNoted context.now walk.old walk.new (part.parts_of_block context.now.model (bodies_in context.now) gives within (scopes.opened (scope_at walk.old)) (stms (map stmt_view ss.now)))) }
+    ensures typed { IfOk result (λ r. typed_stmts_view r
+        ≡ checked.typed_block context.now.model (bodies_in context.now) (scopes.opened (scope_at walk.old))
+        (stms (map stmt_view ss.now))) }
+    ensures scope { OnOk result (scope_at walk.new
+        ≡ scopes.closed (scope_at walk.old)
+        (scopes.after_block context.now.model (bodies_in context.now) (scopes.opened (scope_at walk.old))
+        (stms (map stmt_view ss.now)))) }
+    ensures noted { OnOk result (IsNoted context.now walk.old walk.new
+        (part.parts_of_block context.now.model (bodies_in context.now) gives within (scopes.opened (scope_at walk.old))
+        (stms (map stmt_view ss.now)))) }
 {
     let outside = walk.open();
     let ss = statements(context, walk, gives, within, ss)?;
@@ -354,9 +421,15 @@ pub fn statements<'a>(
     within: Within,
     ss: &'a [RawStmt],
 ) -> Result<Seq<Stmt>, OutOfMemory>
-    ensures typed { IfOk result (λ r. typed_stmts_view r ≡ checked.typed_block context.now.model (bodies_in context.now) (scope_at walk.old) (stms (map stmt_view ss.now))) }
-    ensures scope { OnOk result (scope_at walk.new ≡ scopes.after_block context.now.model (bodies_in context.now) (scope_at walk.old) (stms (map stmt_view ss.now))) }
-    ensures noted { OnOk result (IsNoted context.now walk.old walk.new (part.parts_of_block context.now.model (bodies_in context.now) gives within (scope_at walk.old) (stms (map stmt_view ss.now)))) }
+    ensures typed { IfOk result (λ r. typed_stmts_view r
+        ≡ checked.typed_block context.now.model (bodies_in context.now) (scope_at walk.old)
+        (stms (map stmt_view ss.now))) }
+    ensures scope { OnOk result (scope_at walk.new
+        ≡ scopes.after_block context.now.model (bodies_in context.now) (scope_at walk.old)
+        (stms (map stmt_view ss.now))) }
+    ensures noted { OnOk result (IsNoted context.now walk.old walk.new
+        (part.parts_of_block context.now.model (bodies_in context.now) gives within (scope_at walk.old)
+        (stms (map stmt_view ss.now)))) }
 {
     let mut all = Seq::new(context.alloc);
     for s in ss {

@@ -65,8 +65,10 @@ fn add_item<'a>(
     count: &mut u32,
     item: &'a Item,
 ) -> Result<(), OutOfMemory>
-    ensures bodies { OnOk result ((w : List ℕ) → body_in bodies.new w ≡ body_with count.old (item_view item.now) w (body_in bodies.old w)) }
-    ensures closed { OnOk result ((w : List ℕ) → has_name closed.new w ≡ closed_with (item_view item.now) w (has_name closed.old w)) }
+    ensures bodies { OnOk result ((w : List ℕ) → body_in bodies.new w
+        ≡ body_with count.old (item_view item.now) w (body_in bodies.old w)) }
+    ensures closed { OnOk result ((w : List ℕ) → has_name closed.new w
+        ≡ closed_with (item_view item.now) w (has_name closed.old w)) }
     ensures count { OnOk result (count.new ≡ count_with (item_view item.now) count.old) }
 {
     match item {

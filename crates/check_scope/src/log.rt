@@ -69,14 +69,16 @@ impl<'a> Log<'a> {
 
     /// Whether one more declaration clashes with one of its name, the first of them at a place.
     pub fn is_clash(&self, start: usize, name: &str, known: Known) -> bool
-        ensures { result ≡ list_any (λ earlier. bytes_eq earlier.name name.now && Codes.clashes earlier.kind (kind_of known.entry)) (drop start (entries_of self.now.lines.items)) }
+        ensures { result ≡ list_any (λ earlier. bytes_eq earlier.name name.now && Codes.clashes earlier.kind
+            (kind_of known.entry)) (drop start (entries_of self.now.lines.items)) }
     {
         is_clash(start, self.past(name), known)
     }
 
     /// Appends a declaration; nothing changes where memory runs out.
     pub fn push(&mut self, name: &'a str, known: Known<'a>) -> Result<(), OutOfMemory>
-        ensures pushed { OnOk result (entries_of self.new.lines.items ≡ entries_of self.old.lines.items ++ Names.entry name.now (kind_of known.entry) ∷ []) }
+        ensures pushed { OnOk result (entries_of self.new.lines.items
+            ≡ entries_of self.old.lines.items ++ Names.entry name.now (kind_of known.entry) ∷ []) }
         ensures refused { OnErr result (self.new.lines.items ≡ self.old.lines.items) }
     {
         let len = self.len();

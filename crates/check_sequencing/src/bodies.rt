@@ -20,7 +20,8 @@ fn push<'a>(
     object: Option<u32>,
     value: &'a Expr,
 ) -> Result<(), OutOfMemory>
-    ensures { OnOk result (fulls_view list.new.items ≡ fulls_view list.old.items ++ full object (expr_view value.now) ∷ []) }
+    ensures { OnOk result (fulls_view list.new.items
+        ≡ fulls_view list.old.items ++ full object (expr_view value.now) ∷ []) }
 {
     list.push(FullExpression { object, value })?;
     Ok(())
@@ -40,7 +41,8 @@ fn push_initializers<'a>(
     object: u32,
     es: &'a [Expr],
 ) -> Result<(), OutOfMemory>
-    ensures { OnOk result (fulls_view list.new.items ≡ fulls_view list.old.items ++ initializers object (exprs_view es.now)) }
+    ensures { OnOk result (fulls_view list.new.items
+        ≡ fulls_view list.old.items ++ initializers object (exprs_view es.now)) }
 {
     for e in es {
         push(list, Some(object), e)?;
@@ -53,7 +55,8 @@ fn push_rows<'a>(
     object: u32,
     rows: &'a [Row],
 ) -> Result<(), OutOfMemory>
-    ensures { OnOk result (fulls_view list.new.items ≡ fulls_view list.old.items ++ flat_map (initializers object) (rows_view rows.now)) }
+    ensures { OnOk result (fulls_view list.new.items
+        ≡ fulls_view list.old.items ++ flat_map (initializers object) (rows_view rows.now)) }
 {
     for row in rows {
         push_initializers(list, object, row.values.as_slice())?;
@@ -66,7 +69,8 @@ fn push_init<'a>(
     object: u32,
     init: &'a Init,
 ) -> Result<(), OutOfMemory>
-    ensures { OnOk result (fulls_view list.new.items ≡ fulls_view list.old.items ++ fulls_of_init object (init_view init.now)) }
+    ensures { OnOk result (fulls_view list.new.items
+        ≡ fulls_view list.old.items ++ fulls_of_init object (init_view init.now)) }
 {
     match init {
         Init::Absent => Ok(()),
@@ -80,7 +84,8 @@ fn push_names<'a>(
     list: &mut Vec<FullExpression<'a>>,
     names: &'a [Declared],
 ) -> Result<(), OutOfMemory>
-    ensures { OnOk result (fulls_view list.new.items ≡ fulls_view list.old.items ++ fulls_of_names (names_view names.now)) }
+    ensures { OnOk result (fulls_view list.new.items
+        ≡ fulls_view list.old.items ++ fulls_of_names (names_view names.now)) }
 {
     for name in names {
         push_init(list, name.object, &name.init)?;
@@ -89,7 +94,8 @@ fn push_names<'a>(
 }
 
 fn push_first<'a>(list: &mut Vec<FullExpression<'a>>, first: &'a First) -> Result<(), OutOfMemory>
-    ensures { OnOk result (fulls_view list.new.items ≡ fulls_view list.old.items ++ fulls_of_first (first_view first.now)) }
+    ensures { OnOk result (fulls_view list.new.items
+        ≡ fulls_view list.old.items ++ fulls_of_first (first_view first.now)) }
 {
     match first {
         First::Absent => Ok(()),
@@ -155,7 +161,8 @@ fn push_form<'a>(list: &mut Vec<FullExpression<'a>>, form: &'a Form) -> Result<(
 
 #[cycle(statement)]
 fn push_block<'a>(list: &mut Vec<FullExpression<'a>>, body: &'a [Stmt]) -> Result<(), OutOfMemory>
-    ensures { OnOk result (fulls_view list.new.items ≡ fulls_view list.old.items ++ fulls_of_block (stmts_view body.now)) }
+    ensures { OnOk result (fulls_view list.new.items
+        ≡ fulls_view list.old.items ++ fulls_of_block (stmts_view body.now)) }
 {
     for s in body {
         push_statement(list, s)?;
@@ -165,7 +172,8 @@ fn push_block<'a>(list: &mut Vec<FullExpression<'a>>, body: &'a [Stmt]) -> Resul
 
 #[cycle(statement)]
 fn push_arms<'a>(list: &mut Vec<FullExpression<'a>>, arms: &'a [Arm]) -> Result<(), OutOfMemory>
-    ensures { OnOk result (fulls_view list.new.items ≡ fulls_view list.old.items ++ fulls_of_block (switch_view arms.now)) }
+    ensures { OnOk result (fulls_view list.new.items
+        ≡ fulls_view list.old.items ++ fulls_of_block (switch_view arms.now)) }
 {
     for arm in arms {
         push_block(list, arm.body.as_slice())?;

@@ -78,7 +78,8 @@ impl<'a> Source<'a> {
     fn call_changes(&mut self, object: u32, function: u32) -> Result<bool, OutOfMemory>
         requires { IsKnown self.old }
         ensures same { IsSameSource self.old self.new }
-        ensures told { IfOk result (λ b. Tells b (CallDoes (bodies_of self.old) (objects_of self.old) changes object function)) }
+        ensures told { IfOk result (λ b. Tells b
+            (CallDoes (bodies_of self.old) (objects_of self.old) changes object function)) }
     {
         if !is_fixed(self.declared.objects, object) {
             return Ok(false);
@@ -91,7 +92,8 @@ impl<'a> Source<'a> {
     fn call_touches(&mut self, object: u32, function: u32) -> Result<bool, OutOfMemory>
         requires { IsKnown self.old }
         ensures same { IsSameSource self.old self.new }
-        ensures told { IfOk result (λ b. Tells b (CallDoes (bodies_of self.old) (objects_of self.old) touches object function)) }
+        ensures told { IfOk result (λ b. Tells b
+            (CallDoes (bodies_of self.old) (objects_of self.old) touches object function)) }
     {
         if !is_fixed(self.declared.objects, object) {
             return Ok(false);
@@ -103,7 +105,8 @@ impl<'a> Source<'a> {
     fn meets_call(&mut self, effect: Effect, function: u32) -> Result<bool, OutOfMemory>
         requires { IsKnown self.old }
         ensures same { IsSameSource self.old self.new }
-        ensures told { IfOk result (λ b. Tells b (MeetsCall (bodies_of self.old) (objects_of self.old) function effect)) }
+        ensures told { IfOk result (λ b. Tells b
+            (MeetsCall (bodies_of self.old) (objects_of self.old) function effect)) }
     {
         match effect {
             Effect::Reads(object) => self.call_changes(object, function),
@@ -116,7 +119,8 @@ impl<'a> Source<'a> {
     fn some_meets_call(&mut self, effects: &[Effect], function: u32) -> Result<bool, OutOfMemory>
         requires { IsKnown self.old }
         ensures same { IsSameSource self.old self.new }
-        ensures told { IfOk result (λ b. Tells b (OneOf (MeetsCall (bodies_of self.old) (objects_of self.old) function) effects.now)) }
+        ensures told { IfOk result (λ b. Tells b
+            (OneOf (MeetsCall (bodies_of self.old) (objects_of self.old) function) effects.now)) }
     {
         for effect in effects {
             if self.meets_call(*effect, function)? {
@@ -129,7 +133,8 @@ impl<'a> Source<'a> {
     fn changes_by_call(&mut self, effect: Effect, object: u32) -> Result<bool, OutOfMemory>
         requires { IsKnown self.old }
         ensures same { IsSameSource self.old self.new }
-        ensures told { IfOk result (λ b. Tells b (IsCallThatDoes (bodies_of self.old) (objects_of self.old) changes object effect)) }
+        ensures told { IfOk result (λ b. Tells b
+            (IsCallThatDoes (bodies_of self.old) (objects_of self.old) changes object effect)) }
     {
         match effect {
             Effect::Calls(function) => self.call_changes(object, function),
@@ -141,7 +146,8 @@ impl<'a> Source<'a> {
     fn some_call_changes(&mut self, effects: &[Effect], object: u32) -> Result<bool, OutOfMemory>
         requires { IsKnown self.old }
         ensures same { IsSameSource self.old self.new }
-        ensures told { IfOk result (λ b. Tells b (Through (bodies_of self.old) (objects_of self.old) changes object effects.now)) }
+        ensures told { IfOk result (λ b. Tells b
+            (Through (bodies_of self.old) (objects_of self.old) changes object effects.now)) }
     {
         for effect in effects {
             if self.changes_by_call(*effect, object)? {
@@ -154,7 +160,8 @@ impl<'a> Source<'a> {
     fn touches_by_call(&mut self, effect: Effect, object: u32) -> Result<bool, OutOfMemory>
         requires { IsKnown self.old }
         ensures same { IsSameSource self.old self.new }
-        ensures told { IfOk result (λ b. Tells b (IsCallThatDoes (bodies_of self.old) (objects_of self.old) touches object effect)) }
+        ensures told { IfOk result (λ b. Tells b
+            (IsCallThatDoes (bodies_of self.old) (objects_of self.old) touches object effect)) }
     {
         match effect {
             Effect::Calls(function) => self.call_touches(object, function),
@@ -166,7 +173,8 @@ impl<'a> Source<'a> {
     fn some_call_touches(&mut self, effects: &[Effect], object: u32) -> Result<bool, OutOfMemory>
         requires { IsKnown self.old }
         ensures same { IsSameSource self.old self.new }
-        ensures told { IfOk result (λ b. Tells b (Through (bodies_of self.old) (objects_of self.old) touches object effects.now)) }
+        ensures told { IfOk result (λ b. Tells b
+            (Through (bodies_of self.old) (objects_of self.old) touches object effects.now)) }
     {
         for effect in effects {
             if self.touches_by_call(*effect, object)? {
@@ -180,7 +188,8 @@ impl<'a> Source<'a> {
     pub fn some_changes(&mut self, effects: &[Effect], object: u32) -> Result<bool, OutOfMemory>
         requires { IsKnown self.old }
         ensures same { IsSameSource self.old self.new }
-        ensures told { IfOk result (λ b. Tells b (Changes (bodies_of self.old) (objects_of self.old) object effects.now)) }
+        ensures told { IfOk result (λ b. Tells b
+            (Changes (bodies_of self.old) (objects_of self.old) object effects.now)) }
     {
         if one_changes(effects, object) {
             return Ok(true);
@@ -192,7 +201,8 @@ impl<'a> Source<'a> {
     pub fn some_touches(&mut self, effects: &[Effect], object: u32) -> Result<bool, OutOfMemory>
         requires { IsKnown self.old }
         ensures same { IsSameSource self.old self.new }
-        ensures told { IfOk result (λ b. Tells b (Touches (bodies_of self.old) (objects_of self.old) object effects.now)) }
+        ensures told { IfOk result (λ b. Tells b
+            (Touches (bodies_of self.old) (objects_of self.old) object effects.now)) }
     {
         if one_touches(effects, object) {
             return Ok(true);
@@ -209,7 +219,8 @@ impl<'a> Source<'a> {
         requires known { IsKnown self.old }
         requires seen { IsSeen seen.now before.now }
         ensures same { IsSameSource self.old self.new }
-        ensures told { IfOk result (λ b. Tells b (Changes (bodies_of self.old) (objects_of self.old) object before.now)) }
+        ensures told { IfOk result (λ b. Tells b
+            (Changes (bodies_of self.old) (objects_of self.old) object before.now)) }
     {
         if seen.changed.contains(&object) {
             return Ok(true);
@@ -226,7 +237,8 @@ impl<'a> Source<'a> {
         requires known { IsKnown self.old }
         requires seen { IsSeen seen.now before.now }
         ensures same { IsSameSource self.old self.new }
-        ensures told { IfOk result (λ b. Tells b (Touches (bodies_of self.old) (objects_of self.old) object before.now)) }
+        ensures told { IfOk result (λ b. Tells b
+            (Touches (bodies_of self.old) (objects_of self.old) object before.now)) }
     {
         if seen.touched.contains(&object) {
             return Ok(true);
@@ -243,7 +255,8 @@ impl<'a> Source<'a> {
         requires known { IsKnown self.old }
         requires seen { IsSeen seen.now before.now }
         ensures same { IsSameSource self.old self.new }
-        ensures told { IfOk result (λ b. Tells b (CallsOne before.now ⊎ OneOf (MeetsCall (bodies_of self.old) (objects_of self.old) function) before.now)) }
+        ensures told { IfOk result (λ b. Tells b
+            (CallsOne before.now ⊎ OneOf (MeetsCall (bodies_of self.old) (objects_of self.old) function) before.now)) }
     {
         if seen.is_calling {
             return Ok(true);
@@ -276,7 +289,8 @@ impl<'a> Source<'a> {
         requires known { IsKnown self.old }
         requires seen { IsSeen seen.now before.now }
         ensures same { IsSameSource self.old self.new }
-        ensures told { IfOk result (λ b. Tells b (OneOf (Meets (bodies_of self.old) (objects_of self.old) before.now) effects.now)) }
+        ensures told { IfOk result (λ b. Tells b
+            (OneOf (Meets (bodies_of self.old) (objects_of self.old) before.now) effects.now)) }
     {
         for effect in effects {
             if self.meets(seen, before, *effect)? {
@@ -295,7 +309,8 @@ impl<'a> Source<'a> {
     ) -> Result<bool, OutOfMemory>
         requires { IsKnown self.old }
         ensures same { IsSameSource self.old self.new }
-        ensures told { IfOk result (λ b. Tells b (AreUnsequenced (bodies_of self.old) (objects_of self.old) before.now after.now)) }
+        ensures told { IfOk result (λ b. Tells b
+            (AreUnsequenced (bodies_of self.old) (objects_of self.old) before.now after.now)) }
     {
         if is_quiet(before) && is_quiet(after) {
             return Ok(false);

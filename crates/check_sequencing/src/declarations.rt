@@ -42,7 +42,8 @@ impl<'a> Declarations<'a> {
         stored: bool,
         object: u32,
     ) -> Result<(), OutOfMemory>
-        ensures { OnOk result (list.new.items ≡ list.old.items ++ on_object self.now.objects.now self.now.bodies stored object) }
+        ensures { OnOk result (list.new.items
+            ≡ list.old.items ++ on_object self.now.objects.now self.now.bodies stored object) }
     {
         if self.is_object(object) {
             list.push(if stored {
@@ -67,7 +68,8 @@ impl<'a> Declarations<'a> {
 
     /// What an expression does by itself.
     fn push_own(&self, list: &mut Vec<Effect>, stored: bool, node: &Node) -> Result<(), OutOfMemory>
-        ensures { OnOk result (list.new.items ≡ list.old.items ++ own self.now.objects.now self.now.bodies stored (node_view node.now)) }
+        ensures { OnOk result (list.new.items
+            ≡ list.old.items ++ own self.now.objects.now self.now.bodies stored (node_view node.now)) }
     {
         match node {
             Node::Var(object) => self.push_object(list, stored, *object),
@@ -80,7 +82,8 @@ impl<'a> Declarations<'a> {
     /// Appends what an expression does, with all in it.
     #[cycle(effects)]
     pub fn push(&self, list: &mut Vec<Effect>, stored: bool, e: &Expr) -> Result<(), OutOfMemory>
-        ensures { OnOk result (list.new.items ≡ list.old.items ++ effects self.now.objects.now self.now.bodies stored (expr_view e.now)) }
+        ensures { OnOk result (list.new.items
+            ≡ list.old.items ++ effects self.now.objects.now self.now.bodies stored (expr_view e.now)) }
     {
         self.push_own(list, stored, &e.node)?;
         self.push_inner(list, &e.node)?;
@@ -90,7 +93,8 @@ impl<'a> Declarations<'a> {
     /// Appends what stands in an expression does, without its own effect.
     #[cycle(effects)]
     pub fn push_inner(&self, list: &mut Vec<Effect>, node: &Node) -> Result<(), OutOfMemory>
-        ensures { OnOk result (list.new.items ≡ list.old.items ++ inner self.now.objects.now self.now.bodies (node_view node.now)) }
+        ensures { OnOk result (list.new.items
+            ≡ list.old.items ++ inner self.now.objects.now self.now.bodies (node_view node.now)) }
     {
         match node {
             Node::Const(_) => {}
@@ -127,7 +131,8 @@ impl<'a> Declarations<'a> {
 
     #[cycle(effects)]
     fn push_all(&self, list: &mut Vec<Effect>, es: &[Expr]) -> Result<(), OutOfMemory>
-        ensures { OnOk result (list.new.items ≡ list.old.items ++ effects_all self.now.objects.now self.now.bodies (exprs_view es.now)) }
+        ensures { OnOk result (list.new.items
+            ≡ list.old.items ++ effects_all self.now.objects.now self.now.bodies (exprs_view es.now)) }
     {
         for e in es {
             self.push(list, false, e)?;
@@ -140,7 +145,8 @@ impl<'a> Declarations<'a> {
         list: &mut Vec<Effect>,
         fulls: &[FullExpression<'_>],
     ) -> Result<(), OutOfMemory>
-        ensures { OnOk result (list.new.items ≡ list.old.items ++ effects_of_fulls self.now.objects.now self.now.bodies (fulls_view fulls.now)) }
+        ensures { OnOk result (list.new.items
+            ≡ list.old.items ++ effects_of_fulls self.now.objects.now self.now.bodies (fulls_view fulls.now)) }
     {
         for full in fulls {
             self.push(list, false, full.value)?;
@@ -155,7 +161,8 @@ impl<'a> Declarations<'a> {
         list: &mut Vec<Effect>,
         body: &Stmt,
     ) -> Result<(), OutOfMemory>
-        ensures { OnOk result (list.new.items ≡ list.old.items ++ effects_of_fulls self.now.objects.now self.now.bodies (fulls (stmt_view body.now))) }
+        ensures { OnOk result (list.new.items
+            ≡ list.old.items ++ effects_of_fulls self.now.objects.now self.now.bodies (fulls (stmt_view body.now))) }
     {
         let fulls = fulls_of(alloc, body)?;
         self.push_fulls(list, fulls.as_slice())?;

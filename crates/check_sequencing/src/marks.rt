@@ -72,7 +72,8 @@ fn visit(
     requires function { function < length bodies.now }
     requires length { length marks.old ≡ length bodies.now }
     ensures length { length marks.new ≡ length marks.old }
-    ensures sound { AreSound bodies.now (wanted only_changes object) marks.old → AreSound bodies.now (wanted only_changes object) marks.new }
+    ensures sound { AreSound bodies.now (wanted only_changes object) marks.old
+        → AreSound bodies.now (wanted only_changes object) marks.new }
     ensures same { result ≡ false → marks.new ≡ marks.old }
     ensures closed { result ≡ false → IsClosedAt bodies.now (wanted only_changes object) marks.old function }
     ensures fewer { unmarked marks.new ≤ unmarked marks.old }
@@ -89,7 +90,8 @@ fn visit(
 fn sweep_up(bodies: &[Seq<Effect>], marks: &mut [bool], only_changes: bool, object: u32) -> bool
     requires { length marks.old ≡ length bodies.now }
     ensures length { length marks.new ≡ length marks.old }
-    ensures sound { AreSound bodies.now (wanted only_changes object) marks.old → AreSound bodies.now (wanted only_changes object) marks.new }
+    ensures sound { AreSound bodies.now (wanted only_changes object) marks.old
+        → AreSound bodies.now (wanted only_changes object) marks.new }
     ensures closed { result ≡ false → AreClosed bodies.now (wanted only_changes object) marks.new }
     ensures fewer { result ≡ true → unmarked marks.new < unmarked marks.old }
 {
@@ -106,7 +108,8 @@ fn sweep_up(bodies: &[Seq<Effect>], marks: &mut [bool], only_changes: bool, obje
 fn sweep_down(bodies: &[Seq<Effect>], marks: &mut [bool], only_changes: bool, object: u32)
     requires { length marks.old ≡ length bodies.now }
     ensures length { length marks.new ≡ length marks.old }
-    ensures sound { AreSound bodies.now (wanted only_changes object) marks.old → AreSound bodies.now (wanted only_changes object) marks.new }
+    ensures sound { AreSound bodies.now (wanted only_changes object) marks.old
+        → AreSound bodies.now (wanted only_changes object) marks.new }
     ensures fewer { unmarked marks.new ≤ unmarked marks.old }
 {
     for function in (0..bodies.len()).rev() {

@@ -36,7 +36,8 @@ impl<'a> Memo<'a> {
         ensures right { IsRight self.new }
         ensures bodies { self.new.bodies.now ≡ self.old.bodies.now }
         ensures only_changes { self.new.only_changes ≡ self.old.only_changes }
-        ensures told { IfOk result (λ b. Tells b (Does self.old.bodies.now (wanted self.old.only_changes object) function)) }
+        ensures told { IfOk result (λ b. Tells b
+            (Does self.old.bodies.now (wanted self.old.only_changes object) function)) }
     {
         if let Some(marks) = self.made.get(&object) {
             return Ok(is_marked(marks.as_slice(), function));

@@ -82,7 +82,9 @@ impl<'a> Source<'a> {
     fn is_binary_unordered(&mut self, left: &Expr, right: &Expr) -> Result<bool, OutOfMemory>
         requires { IsKnown self.old }
         ensures same { IsSameSource self.old self.new }
-        ensures told { IfOk result (λ b. Tells b (SomePairBy self.old (effects_by self.old (expr_view left.now) ∷ effects_by self.old (expr_view right.now) ∷ []))) }
+        ensures told { IfOk result (λ b. Tells b
+            (SomePairBy self.old (effects_by self.old (expr_view left.now) ∷ effects_by self.old (expr_view right.now) ∷
+            []))) }
     {
         let first = self.effects(left)?;
         let last = self.effects(right)?;
@@ -105,7 +107,9 @@ impl<'a> Source<'a> {
     fn is_assigned_unordered(&mut self, target: &Expr, from: &Expr) -> Result<bool, OutOfMemory>
         requires { IsKnown self.old }
         ensures same { IsSameSource self.old self.new }
-        ensures told { IfOk result (λ b. Tells b (SomePairBy self.old (left_side_by self.old (expr_view target.now) ∷ effects_by self.old (expr_view from.now) ∷ []))) }
+        ensures told { IfOk result (λ b. Tells b
+            (SomePairBy self.old (left_side_by self.old (expr_view target.now) ∷ effects_by self.old
+            (expr_view from.now) ∷ []))) }
     {
         let first = self.left_side(target)?;
         let last = self.effects(from)?;
@@ -137,7 +141,8 @@ impl<'a> Source<'a> {
         ensures same { IsSameSource self.old self.new }
         ensures seen { OnOk result (IsSeen seen.new before.new.items) }
         ensures joined { OnOk result (before.new.items ≡ before.old.items ++ effects_by self.old (expr_view arg.now)) }
-        ensures told { IfOk result (λ b. Tells b (AreUnsequencedBy self.old before.old.items (effects_by self.old (expr_view arg.now)))) }
+        ensures told { IfOk result (λ b. Tells b
+            (AreUnsequencedBy self.old before.old.items (effects_by self.old (expr_view arg.now)))) }
     {
         let effects = self.effects(arg)?;
         let told = self.some_meets(seen, before.as_slice(), effects.as_slice())?;

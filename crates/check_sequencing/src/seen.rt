@@ -27,7 +27,8 @@ impl Seen {
     }
 
     fn add_one(&mut self, effect: Effect) -> Result<(), OutOfMemory>
-        ensures { OnOk result ((before : List Effect) → IsSeen self.old before → IsSeen self.new (before ++ effect ∷ [])) }
+        ensures { OnOk result ((before : List Effect) → IsSeen self.old before
+            → IsSeen self.new (before ++ effect ∷ [])) }
     {
         match effect {
             Effect::Reads(object) => {
@@ -44,7 +45,8 @@ impl Seen {
 
     /// Adds what a further operand does.
     pub fn add(&mut self, effects: &[Effect]) -> Result<(), OutOfMemory>
-        ensures { OnOk result ((before : List Effect) → IsSeen self.old before → IsSeen self.new (before ++ effects.now)) }
+        ensures { OnOk result ((before : List Effect) → IsSeen self.old before
+            → IsSeen self.new (before ++ effects.now)) }
     {
         for effect in effects {
             self.add_one(*effect)?;

@@ -38,7 +38,8 @@ impl<'a> Walk<'a> {
 
     fn note(&mut self, is_found: bool, spot: Spot) -> Result<(), OutOfMemory>
         ensures source { self.new.source ≡ self.old.source }
-        ensures noted { OnOk result (self.new.unordered.items ≡ self.old.unordered.items ++ cond is_found (spot ∷ []) []) }
+        ensures noted { OnOk result (self.new.unordered.items
+            ≡ self.old.unordered.items ++ cond is_found (spot ∷ []) []) }
     {
         if is_found {
             self.unordered.push(spot)?;
@@ -147,7 +148,8 @@ impl<'a> Walk<'a> {
     pub fn initializer(&mut self, object: u32, e: &Expr) -> Result<(), OutOfMemory>
         requires { IsReady self.old }
         ensures same { IsSameWalk self.old self.new }
-        ensures gone { OnOk result (IsGone self.old self.new (Initial object (expr_view e.now) ∷ tested (expr_view e.now))) }
+        ensures gone { OnOk result (IsGone self.old self.new
+            (Initial object (expr_view e.now) ∷ tested (expr_view e.now))) }
     {
         self.test_initializer(object, e)?;
         self.full_expression(e)?;

@@ -24,7 +24,9 @@ fn of_rank(
     unsigned: IntType,
     higher: Option<IntType>,
 ) -> Option<IntType>
-    ensures { (tys : List NumberType) → higher ≡ constants.first_that_holds model value tys → result ≡ constants.first_that_holds model value (constants.of_rank decimal with_u (record { signed = signed; unsigned = unsigned }) ++ tys) }
+    ensures { (tys : List NumberType) → higher ≡ constants.first_that_holds model value tys → result
+        ≡ constants.first_that_holds model value
+        (constants.of_rank decimal with_u (record { signed = signed; unsigned = unsigned }) ++ tys) }
 {
     if !with_u && holds(model, signed, value) {
         Some(signed)

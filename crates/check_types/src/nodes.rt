@@ -23,7 +23,8 @@ pub fn number(
     unsigned: bool,
     longs: u8,
 ) -> Expr
-    ensures { expr_view result ≡ t.Expr spot (Some (constants.valued (constants.constant_type model value decimal unsigned longs))) (t.Const (pos value)) }
+    ensures { expr_view result ≡ t.Expr spot
+        (Some (constants.valued (constants.constant_type model value decimal unsigned longs))) (t.Const (pos value)) }
 {
     let ty = valued(constant_type(model, value, decimal, unsigned, longs));
     Expr {
@@ -77,7 +78,8 @@ pub fn unary(
     op: UnOp,
     of: Expr,
 ) -> Result<Expr, OutOfMemory>
-    ensures { IfOk result (λ r. expr_view r ≡ t.Expr spot (Some (typed.unary_type op (constants.valued of.ty))) (t.Unary op (expr_view of))) }
+    ensures { IfOk result (λ r. expr_view r
+        ≡ t.Expr spot (Some (typed.unary_type op (constants.valued of.ty))) (t.Unary op (expr_view of))) }
 {
     let ty = unary_type(model, op, valued(of.ty));
     let node = Node::Unary {
@@ -101,7 +103,8 @@ pub fn cast(alloc: Global, spot: Spot, to: Option<IntType>, of: Expr) -> Result<
 
 /// A step of a target.
 pub fn step(alloc: Global, spot: Spot, op: StepOp, target: Expr) -> Result<Expr, OutOfMemory>
-    ensures { IfOk result (λ r. expr_view r ≡ t.Expr spot (Some (constants.valued target.ty)) (t.Step op (expr_view target))) }
+    ensures { IfOk result (λ r. expr_view r
+        ≡ t.Expr spot (Some (constants.valued target.ty)) (t.Step op (expr_view target))) }
 {
     let ty = valued(target.ty);
     let node = Node::Step {
@@ -124,7 +127,9 @@ pub fn binary(
     left: Expr,
     right: Expr,
 ) -> Result<Expr, OutOfMemory>
-    ensures { IfOk result (λ r. expr_view r ≡ t.Expr spot (Some (typing.binary_type model op (constants.valued left.ty) (constants.valued right.ty))) (t.Binary op (expr_view left) (expr_view right))) }
+    ensures { IfOk result (λ r. expr_view r
+        ≡ t.Expr spot (Some (typing.binary_type model op (constants.valued left.ty) (constants.valued right.ty)))
+        (t.Binary op (expr_view left) (expr_view right))) }
 {
     let ty = binary_type(model, op, valued(left.ty), valued(right.ty));
     let node = Node::Binary {
@@ -147,7 +152,8 @@ pub fn logic(
     left: Expr,
     right: Expr,
 ) -> Result<Expr, OutOfMemory>
-    ensures { IfOk result (λ r. expr_view r ≡ t.Expr spot (Some Int) (t.Logic both (expr_view left) (expr_view right))) }
+    ensures { IfOk result (λ r. expr_view r
+        ≡ t.Expr spot (Some Int) (t.Logic both (expr_view left) (expr_view right))) }
 {
     let node = Node::Logic {
         both,
@@ -171,7 +177,9 @@ pub fn choose(
     yes: Expr,
     no: Expr,
 ) -> Result<Expr, OutOfMemory>
-    ensures { IfOk result (λ r. expr_view r ≡ t.Expr spot (typed.choice_type model yes.ty no.ty) (t.Choose mark (expr_view test) (expr_view yes) (expr_view no))) }
+    ensures { IfOk result (λ r. expr_view r
+        ≡ t.Expr spot (typed.choice_type model yes.ty no.ty)
+        (t.Choose mark (expr_view test) (expr_view yes) (expr_view no))) }
 {
     let ty = choice_type(model, yes.ty, no.ty);
     let node = Node::Choose {
@@ -203,7 +211,8 @@ pub fn assign(
     target: Expr,
     from: Expr,
 ) -> Result<Expr, OutOfMemory>
-    ensures { IfOk result (λ r. expr_view r ≡ t.Expr spot (Some (constants.valued target.ty)) (t.Assign op (expr_view target) (expr_view from))) }
+    ensures { IfOk result (λ r. expr_view r
+        ≡ t.Expr spot (Some (constants.valued target.ty)) (t.Assign op (expr_view target) (expr_view from))) }
 {
     let ty = valued(target.ty);
     let node = Node::Assign {

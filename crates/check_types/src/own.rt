@@ -36,7 +36,9 @@ fn has_one_void(e: &Expr) -> bool
 // Is an object called, or a function with another number of arguments?
 fn is_miscalled(functions: &Functions, table: &Table, name: &str, count: usize, word: Word) -> bool
     requires { word ≡ word_as (names.named (all_of table.now) name.now) }
-    ensures { (m : Model) → result ≡ codes.miscalled m (items_of functions.now) (all_of table.now) name.now count (names.named (all_of table.now) name.now) }
+    ensures { (m : Model) → result
+        ≡ codes.miscalled m (items_of functions.now) (all_of table.now) name.now count
+        (names.named (all_of table.now) name.now) }
 {
     if word.is_function {
         match count_for(functions, table, name) {
@@ -65,7 +67,8 @@ fn is_misused(
     typed: &Expr,
 ) -> bool
     requires word { word ≡ word_at (all_of table.now) (codes.word_of (node_view e.now.node)) }
-    requires typed { typed_view typed.now ≡ typing.typed model (bodies_of (items_of functions.now)) (all_of table.now) (expr_view e.now) }
+    requires typed { typed_view typed.now ≡ typing.typed model (bodies_of (items_of functions.now)) (all_of table.now)
+        (expr_view e.now) }
     ensures { result ≡ codes.misused model (items_of functions.now) (all_of table.now) (node_view e.now.node) }
 {
     match &e.node {
@@ -129,8 +132,10 @@ fn is_mistyped(
     typed: &Expr,
 ) -> bool
     requires word { word ≡ word_at (all_of table.now) (codes.word_of (node_view e.now.node)) }
-    requires typed { typed_view typed.now ≡ typing.typed model (bodies_of (items_of functions.now)) (all_of table.now) (expr_view e.now) }
-    ensures { result ≡ (codes.misused model (items_of functions.now) (all_of table.now) (node_view e.now.node) || unfit_by (role_of role) typed.now.ty (node_view e.now.node)) }
+    requires typed { typed_view typed.now ≡ typing.typed model (bodies_of (items_of functions.now)) (all_of table.now)
+        (expr_view e.now) }
+    ensures { result ≡ (codes.misused model (items_of functions.now) (all_of table.now) (node_view e.now.node) ||
+        unfit_by (role_of role) typed.now.ty (node_view e.now.node)) }
 {
     let misused = is_misused(functions, table, model, e, word, typed);
     let unfit = is_unfit(role, &e.node, typed.ty);
@@ -150,7 +155,8 @@ fn name_called(node: &RawNode) -> Option<&str>
 // Is a function called that has no body?
 fn is_bodiless(functions: &Functions, table: &Table, node: &RawNode, word: Word) -> bool
     requires { word ≡ word_at (all_of table.now) (codes.word_of (node_view node.now)) }
-    ensures { (m : Model) → result ≡ codes.calls_bodiless m (items_of functions.now) (all_of table.now) (node_view node.now) }
+    ensures { (m : Model) → result
+        ≡ codes.calls_bodiless m (items_of functions.now) (all_of table.now) (node_view node.now) }
 {
     match name_called(node) {
         Some(name) => word.is_function && functions.is_bodiless(name),
@@ -182,8 +188,10 @@ pub fn note_own(
     typed: &Expr,
 ) -> Option<Refusal>
     requires word { word ≡ word_at (all_of table.now) (codes.word_of (node_view e.now.node)) }
-    requires typed { typed_view typed.now ≡ typing.typed model (bodies_of (items_of functions.now)) (all_of table.now) (expr_view e.now) }
-    ensures { result ≡ noted_part model (items_of functions.now) best (Expression (all_of table.now) (role_of role) (expr_view e.now)) }
+    requires typed { typed_view typed.now ≡ typing.typed model (bodies_of (items_of functions.now)) (all_of table.now)
+        (expr_view e.now) }
+    ensures { result ≡ noted_part model (items_of functions.now) best
+        (Expression (all_of table.now) (role_of role) (expr_view e.now)) }
 {
     let place = place_of_word(e.spot, &e.node);
     let best = noted(best, word.is_nameless, CheckCode::Name, place);

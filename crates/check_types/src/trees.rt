@@ -45,8 +45,11 @@ pub fn expression(
     role: Role,
     e: &RawExpr,
 ) -> Result<Expr, OutOfMemory>
-    ensures typed { IfOk result (λ r. typed_view r ≡ typing.typed model (bodies_of (items_of functions.now)) (all_of table.now) (expr_view e.now)) }
-    ensures noted { OnOk result (best.new ≡ noted_parts model (items_of functions.now) best.old (part.parts (all_of table.now) (role_of role) (expr_view e.now))) }
+    ensures typed { IfOk result (λ r. typed_view r
+        ≡ typing.typed model (bodies_of (items_of functions.now)) (all_of table.now) (expr_view e.now)) }
+    ensures noted { OnOk result (best.new
+        ≡ noted_parts model (items_of functions.now) best.old
+        (part.parts (all_of table.now) (role_of role) (expr_view e.now))) }
 {
     let word = word_at(table, &e.node);
     let typed = node(alloc, functions, table, model, best, e.spot, word, &e.node)?;
@@ -67,8 +70,10 @@ fn node(
     node: &RawNode,
 ) -> Result<Expr, OutOfMemory>
     requires { word ≡ word_at (all_of table.now) (codes.word_of (node_view node.now)) }
-    ensures typed { IfOk result (λ r. typed_view r ≡ typing.typed_node model (bodies_of (items_of functions.now)) (all_of table.now) spot (node_view node.now)) }
-    ensures noted { OnOk result (best.new ≡ noted_parts model (items_of functions.now) best.old (part.parts_in (all_of table.now) (node_view node.now))) }
+    ensures typed { IfOk result (λ r. typed_view r
+        ≡ typing.typed_node model (bodies_of (items_of functions.now)) (all_of table.now) spot (node_view node.now)) }
+    ensures noted { OnOk result (best.new
+        ≡ noted_parts model (items_of functions.now) best.old (part.parts_in (all_of table.now) (node_view node.now))) }
 {
     match node {
         RawNode::Number {
@@ -158,8 +163,11 @@ pub fn expressions(
     best: &mut Option<Refusal>,
     es: &[RawExpr],
 ) -> Result<Seq<Expr>, OutOfMemory>
-    ensures typed { IfOk result (λ r. typed_views r ≡ typing.typed_all model (bodies_of (items_of functions.now)) (all_of table.now) (exps (exprs_view es.now))) }
-    ensures noted { OnOk result (best.new ≡ noted_parts model (items_of functions.now) best.old (part.parts_of (all_of table.now) (exps (exprs_view es.now)))) }
+    ensures typed { IfOk result (λ r. typed_views r
+        ≡ typing.typed_all model (bodies_of (items_of functions.now)) (all_of table.now) (exps (exprs_view es.now))) }
+    ensures noted { OnOk result (best.new
+        ≡ noted_parts model (items_of functions.now) best.old
+        (part.parts_of (all_of table.now) (exps (exprs_view es.now)))) }
 {
     let mut all = Seq::new(alloc);
     for e in es {

@@ -129,7 +129,8 @@ fn parameters_of(callee: Callee) -> usize
 
 /// How many arguments a call of this name has, where that is known.
 pub fn count_for(functions: &Functions, table: &Table, name: &str) -> Option<usize>
-    ensures { (m : DataModel) → result ≡ codes.count_for m (items_of functions.now) (names.built_in name.now) (all_of table.now) name.now }
+    ensures { (m : DataModel) → result
+        ≡ codes.count_for m (items_of functions.now) (names.built_in name.now) (all_of table.now) name.now }
 {
     match built_in(name) {
         Some(callee) => Some(parameters_of(callee)),

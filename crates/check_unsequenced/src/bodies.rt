@@ -14,7 +14,9 @@ fn push_kept(
     list: &mut Vec<Effect>,
     kept: &[Kept],
 ) -> Result<(), OutOfMemory>
-    ensures { OnOk result (list.new.items ≡ list.old.items ++ effects_of_fulls declared.now.objects.now declared.now.bodies (kept_fulls (kept_views kept.now))) }
+    ensures { OnOk result
+        (list.new.items ≡ list.old.items ++ effects_of_fulls declared.now.objects.now declared.now.bodies
+        (kept_fulls (kept_views kept.now))) }
 {
     for one in kept {
         declared.push(list, false, &one.value)?;
@@ -28,7 +30,9 @@ fn push_kept_at(
     kept: &[Seq<Kept>],
     at: usize,
 ) -> Result<(), OutOfMemory>
-    ensures { OnOk result (list.new.items ≡ list.old.items ++ effects_of_fulls declared.now.objects.now declared.now.bodies (kept_fulls (kept_views (get_or kept.now at [])))) }
+    ensures { OnOk result
+        (list.new.items ≡ list.old.items ++ effects_of_fulls declared.now.objects.now declared.now.bodies
+        (kept_fulls (kept_views (get_or kept.now at [])))) }
 {
     if at < kept.len() {
         push_kept(declared, list, kept[at].as_slice())?;
@@ -43,7 +47,9 @@ fn effects_of_function(
     kept: &[Seq<Kept>],
     at: usize,
 ) -> Result<Seq<Effect>, OutOfMemory>
-    ensures { IfOk result (λ list. list ≡ function_effects declared.now.objects.now declared.now.bodies (stmt_view function.now.body) (kept_views (get_or kept.now at []))) }
+    ensures { IfOk result (λ list. list
+        ≡ function_effects declared.now.objects.now declared.now.bodies (stmt_view function.now.body)
+        (kept_views (get_or kept.now at []))) }
 {
     let mut list = Vec::new(alloc);
     declared.push_body(alloc, &mut list, &function.body)?;
@@ -58,7 +64,9 @@ pub fn effects_of_functions(
     functions: &[Function],
     kept: &[Seq<Kept>],
 ) -> Result<Vec<Seq<Effect>>, OutOfMemory>
-    ensures { IfOk result (λ list. list.items ≡ body_effects declared.now.objects.now declared.now.bodies (functions_view functions.now) (map kept_views kept.now)) }
+    ensures { IfOk result (λ list. list.items
+        ≡ body_effects declared.now.objects.now declared.now.bodies (functions_view functions.now)
+        (map kept_views kept.now)) }
 {
     let mut bodies = Vec::new(alloc);
     for (at, function) in functions.iter().enumerate() {

@@ -35,7 +35,8 @@ pub fn walk_kept(walk: &mut Walk<'_>, kept: &[Kept]) -> Result<(), OutOfMemory>
 fn walk_kept_at(walk: &mut Walk<'_>, kept: &[Seq<Kept>], at: usize) -> Result<(), OutOfMemory>
     requires { IsReady walk.old }
     ensures same { IsSameWalk walk.old walk.new }
-    ensures gone { OnOk result (IsGone walk.old walk.new (tested_fulls (kept_fulls (kept_views (get_or kept.now at []))))) }
+    ensures gone { OnOk result (IsGone walk.old walk.new
+        (tested_fulls (kept_fulls (kept_views (get_or kept.now at []))))) }
 {
     if at < kept.len() {
         walk_kept(walk, kept[at].as_slice())?;
@@ -51,7 +52,8 @@ fn walk_function(
 ) -> Result<(), OutOfMemory>
     requires { IsReady walk.old }
     ensures same { IsSameWalk walk.old walk.new }
-    ensures gone { OnOk result (IsGone walk.old walk.new (tested_fulls (function_fulls (stmt_view function.now.body) (kept_views (get_or kept.now at []))))) }
+    ensures gone { OnOk result (IsGone walk.old walk.new
+        (tested_fulls (function_fulls (stmt_view function.now.body) (kept_views (get_or kept.now at []))))) }
 {
     walk.body(&function.body)?;
     walk_kept_at(walk, kept, at)?;
@@ -66,7 +68,8 @@ pub fn walk_functions(
 ) -> Result<(), OutOfMemory>
     requires { IsReady walk.old }
     ensures same { IsSameWalk walk.old walk.new }
-    ensures gone { OnOk result (IsGone walk.old walk.new (tested_fulls (all_fulls (functions_view functions.now) (map kept_views kept.now)))) }
+    ensures gone { OnOk result (IsGone walk.old walk.new
+        (tested_fulls (all_fulls (functions_view functions.now) (map kept_views kept.now)))) }
 {
     for (at, function) in functions.iter().enumerate() {
         walk_function(walk, function, kept, at)?;

@@ -10,5 +10,6 @@ ghost use Rattle.check_rules.specs.Checked.{program_of};
 
 /// The program of a source without refusal is a checked program: its objects, types, scopes, blocks, jumps and places are in order.
 pub fn checked_programs_fit()
-    ensures { (m : DataModel) (property : Property) (items : List Item) → IsUnrefused m items → wrong_main items ≡ None → IsFormed items → IsProgram (program_of m property items) }
+    ensures { (m : DataModel) (property : Property) (items : List Item) → IsUnrefused m items → wrong_main items ≡ None
+        → IsFormed items → IsProgram (program_of m property items) }
 {}

@@ -19,7 +19,8 @@ fn clause_at<'a>(
     number: u32,
 ) -> Option<&'a Clause>
     requires { chains ≤ length log.now.chains }
-    ensures { let clauses = cnf.now.clauses ++ given (take chains log.now.chains) in MatchOption result ((c : List ℤ) → IsClauseAt clauses number c → ⊥) (λ c. IsClauseAt clauses number c.now) }
+    ensures { let clauses = cnf.now.clauses ++ given (take chains log.now.chains) in MatchOption result
+        ((c : List ℤ) → IsClauseAt clauses number c → ⊥) (λ c. IsClauseAt clauses number c.now) }
 {
     if number == 0 {
         return None;
@@ -89,7 +90,8 @@ fn is_right(
     requires before { at ≤ length log.now.chains }
     requires clear { IsClear cells.old }
     requires within { All (All (Fits cells.old)) (cnf.now.clauses ++ given (take at log.now.chains)) }
-    ensures { IfOk result (λ r. ChainJudged cells.old (cnf.now.clauses ++ given (take at log.now.chains)) chain.now r cells.new) }
+    ensures { IfOk result (λ r. ChainJudged cells.old (cnf.now.clauses ++ given (take at log.now.chains)) chain.now r
+        cells.new) }
 {
     let mut touched = Vec::new(alloc);
     let Some(first) = clause_at(cnf, log, at, chain.start) else {

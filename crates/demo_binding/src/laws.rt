@@ -19,16 +19,20 @@ ghost use Rattle.wv_author.specs.Witnesses.{invariants, violation};
 
 /// No waypoint of a demo's violation witness is refused: they are bound to the input that gives n and to the call behind it.
 pub fn violations_are_bound()
-    ensures { (n : ℕ) (bs text : List ℕ) (answer : Result Bound BindFault) → n < 2 ^ 31 → length bs ≡ loop_count → Binds (faulty_typed n bs) (violation n text) answer → AreSegments (demo_segments n (spot 1 12)) answer }
+    ensures { (n : ℕ) (bs text : List ℕ) (answer : Result Bound BindFault) → n < 2 ^ 31 → length bs ≡ loop_count
+        → Binds (faulty_typed n bs) (violation n text) answer → AreSegments (demo_segments n (spot 1 12)) answer }
 {}
 
 /// No invariant of a demo's other witness is refused: each is bound to its loop, whose variable it reads.
 pub fn sets_are_bound()
-    ensures { (n : ℕ) (text : List ℕ) (answer : Result (List PlacedInvariant) BindFault) → BindsInvariants (correct_typed (bounds n loop_count)) (invariants n text) answer → ArePlaced (placed_ranges 4 1 0 (bounds n loop_count)) answer }
+    ensures { (n : ℕ) (text : List ℕ) (answer : Result (List PlacedInvariant) BindFault)
+        → BindsInvariants (correct_typed (bounds n loop_count)) (invariants n text) answer
+        → ArePlaced (placed_ranges 4 1 0 (bounds n loop_count)) answer }
 {}
 
 /// Nor is the program too big for its invariants to be judged, and main reaches no cycle of calls.
 pub fn sets_can_be_judged()
     ensures judged { (bs : List ℕ) → AreBounds bs → CanBeJudged (correct_typed bs) (placed_ranges 4 1 0 bs) }
-    ensures no_fault { (bs : List ℕ) (names : List (List ℕ)) (fault : SymFault) → AreBounds bs → IsFault (correct_typed bs) names (placed_ranges 4 1 0 bs) fault → fault ≡ OutOfMemory }
+    ensures no_fault { (bs : List ℕ) (names : List (List ℕ)) (fault : SymFault) → AreBounds bs
+        → IsFault (correct_typed bs) names (placed_ranges 4 1 0 bs) fault → fault ≡ OutOfMemory }
 {}

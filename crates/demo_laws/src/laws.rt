@@ -22,8 +22,10 @@ pub fn demos_have_bounds()
 
 /// The programs of a number are the tokens of their lines.
 pub fn demos_are_tokens()
-    ensures correct { (n : ℕ) → AreWithin (demo_of n) → Tokens (correct_program n) (tokens_from 1 (correct_pieces (bounds n loop_count))) Whole }
-    ensures faulty { (n : ℕ) → n ≤ 999999 → AreWithin (demo_of n) → Tokens (faulty_program n) (tokens_from 1 (faulty_pieces n (bounds n loop_count))) Whole }
+    ensures correct { (n : ℕ) → AreWithin (demo_of n)
+        → Tokens (correct_program n) (tokens_from 1 (correct_pieces (bounds n loop_count))) Whole }
+    ensures faulty { (n : ℕ) → n ≤ 999999 → AreWithin (demo_of n)
+        → Tokens (faulty_program n) (tokens_from 1 (faulty_pieces n (bounds n loop_count))) Whole }
 {}
 
 /// The tokens of their lines spell these sources, whatever the bounds of the loops are.
@@ -34,8 +36,10 @@ pub fn demos_are_sources()
 
 /// So no answer to these tokens is a refusal, and each that isn't want of memory has these items.
 pub fn demos_are_parsed()
-    ensures correct { (bs : List ℕ) (answer : Result Source ParseFault) → Answers (tokens_from 1 (correct_pieces bs)) answer → IsFound answer (correct_items bs) }
-    ensures faulty { (n : ℕ) (bs : List ℕ) (answer : Result Source ParseFault) → Answers (tokens_from 1 (faulty_pieces n bs)) answer → IsFound answer (faulty_items n bs) }
+    ensures correct { (bs : List ℕ) (answer : Result Source ParseFault)
+        → Answers (tokens_from 1 (correct_pieces bs)) answer → IsFound answer (correct_items bs) }
+    ensures faulty { (n : ℕ) (bs : List ℕ) (answer : Result Source ParseFault)
+        → Answers (tokens_from 1 (faulty_pieces n bs)) answer → IsFound answer (faulty_items n bs) }
 {
     one_source();
     source_or_syntax();

@@ -14,8 +14,10 @@ ghost use Rattle.demo_run.specs.Typed.{correct_typed, faulty_typed};
 
 /// The checked programs of a demo's sources, whatever the bounds of their loops are.
 pub fn demos_are_typed()
-    ensures correct { (bs : List ℕ) → AreBounds bs → program_of Ilp32 UnreachCall (correct_items bs) ≡ correct_typed bs }
-    ensures faulty { (n : ℕ) (bs : List ℕ) → n ≤ 999999 → AreBounds bs → program_of Ilp32 UnreachCall (faulty_items n bs) ≡ faulty_typed n bs }
+    ensures correct { (bs : List ℕ) → AreBounds bs → program_of Ilp32 UnreachCall (correct_items bs)
+        ≡ correct_typed bs }
+    ensures faulty { (n : ℕ) (bs : List ℕ) → n ≤ 999999 → AreBounds bs
+        → program_of Ilp32 UnreachCall (faulty_items n bs) ≡ faulty_typed n bs }
 {}
 
 /// With 100,000 steps or more the given run of the faulty program violates the property, and passes the segments of the violation witness.

@@ -33,7 +33,8 @@ pub fn arguments(
     args: &[Expr],
     then: Then,
 ) -> Result<u32, OutOfMemory>
-    ensures code { IfOk result (λ n. ops.new ≡ ops.old ++ args_code (program_view program.now) around (length ops.old) steps then (exprs_view args.now)) }
+    ensures code { IfOk result (λ n. ops.new
+        ≡ ops.old ++ args_code (program_view program.now) around (length ops.old) steps then (exprs_view args.now)) }
     ensures due { IfOk result (λ n. n ≡ left_by (exprs_view args.now) steps) }
 {
     let mut left = steps;
@@ -59,7 +60,8 @@ pub fn call(
     close: Spot,
     then: Then,
 ) -> Result<(), OutOfMemory>
-    ensures { OnOk result (ops.new ≡ ops.old ++ node_code (program_view program.now) around (length ops.old) steps (use_of used) spot ty (t.Call callee (exprs_view args.now) close) (preparing.only then)) }
+    ensures { OnOk result (ops.new ≡ ops.old ++ node_code (program_view program.now) around (length ops.old) steps
+        (use_of used) spot ty (t.Call callee (exprs_view args.now) close) (preparing.only then)) }
 {
     let needed = is_needed(used, ty);
     let site = CallSite {
@@ -84,7 +86,8 @@ fn called(
     callee: Callee,
     then: Then,
 ) -> Result<(), OutOfMemory>
-    ensures { OnOk result (ops.new ≡ ops.old ++ callee_code (program_view program.now) around site arguments then callee) }
+    ensures { OnOk result (ops.new ≡ ops.old ++ callee_code (program_view program.now) around site arguments then
+        callee) }
 {
     match callee {
         Callee::Defined(function) => {
@@ -132,7 +135,8 @@ fn call_function(
     function: u32,
     count: usize,
 ) -> Result<(), OutOfMemory>
-    ensures { OnOk result (ops.new ≡ ops.old ++ call_of function count site (slice_get (functions_view program.now.functions) function) ∷ []) }
+    ensures { OnOk result (ops.new ≡ ops.old ++ call_of function count site
+        (slice_get (functions_view program.now.functions) function) ∷ []) }
 {
     match program.functions.get(function as usize) {
         Some(found) => {

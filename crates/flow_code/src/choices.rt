@@ -41,7 +41,9 @@ fn truth(
     e: &Expr,
     then: Then,
 ) -> Result<(), OutOfMemory>
-    ensures { OnOk result (ops.new ≡ ops.old ++ with_operand (operand_of (expr_view e.now)) 0 (code (program_view program.now) around (length ops.old) 0 Used (expr_view e.now) Push) (λ y. Truth y (preparing.only then))) }
+    ensures { OnOk result (ops.new ≡ ops.old ++ with_operand (operand_of (expr_view e.now)) 0
+        (code (program_view program.now) around (length ops.old) 0 Used (expr_view e.now) Push)
+        (λ y. Truth y (preparing.only then))) }
 {
     let value = prepare(program, ops, 0, around, e)?;
     let into = only(then);
@@ -68,7 +70,8 @@ pub fn logic(
     right: &Expr,
     then: Then,
 ) -> Result<(), OutOfMemory>
-    ensures { OnOk result (ops.new ≡ ops.old ++ node_code (program_view program.now) around (length ops.old) steps Used around.full None (t.Logic both (expr_view left.now) (expr_view right.now)) (preparing.only then)) }
+    ensures { OnOk result (ops.new ≡ ops.old ++ node_code (program_view program.now) around (length ops.old) steps Used
+        around.full None (t.Logic both (expr_view left.now) (expr_view right.now)) (preparing.only then)) }
 {
     let first = size(left)?;
     let second = size_with_one(right)?;
@@ -121,7 +124,8 @@ fn arm(
     e: &Expr,
     then: Then,
 ) -> Result<(), OutOfMemory>
-    ensures { OnOk result (ops.new ≡ ops.old ++ conditional_arm (program_view program.now) around (length ops.old) ty (expr_view e.now) (preparing.only then)) }
+    ensures { OnOk result (ops.new ≡ ops.old ++ conditional_arm (program_view program.now) around (length ops.old) ty
+        (expr_view e.now) (preparing.only then)) }
 {
     expression(program, ops, 0, around, true, e, Then::Push)?;
     convert_top(ops, program.model, ty, then)?;
@@ -142,7 +146,9 @@ pub fn choose(
     no: &Expr,
     then: Then,
 ) -> Result<(), OutOfMemory>
-    ensures { OnOk result (ops.new ≡ ops.old ++ node_code (program_view program.now) around (length ops.old) steps Used around.full ty (t.Choose mark (expr_view test.now) (expr_view yes.now) (expr_view no.now)) (preparing.only then)) }
+    ensures { OnOk result (ops.new ≡ ops.old ++ node_code (program_view program.now) around (length ops.old) steps Used
+        around.full ty (t.Choose mark (expr_view test.now) (expr_view yes.now) (expr_view no.now))
+        (preparing.only then)) }
 {
     let tested = size(test)?;
     let taken = size(yes)?;

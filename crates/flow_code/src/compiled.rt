@@ -49,8 +49,11 @@ fn entry_of(functions: &Seq<Body>, number: u32) -> u32
 
 // All functions, one behind another.
 fn functions(alloc: Global, program: &Program, ops: &mut Seq<Op>) -> Result<Seq<Body>, OutOfMemory>
-    ensures code { IfOk result (λ found. ops.new ≡ ops.old ++ functions_code (program_view program.now) (length ops.old) (functions_view program.now.functions)) }
-    ensures found { IfOk result (λ found. found ≡ bodies (program_view program.now) (length ops.old) (functions_view program.now.functions)) }
+    ensures code { IfOk result (λ found. ops.new
+        ≡ ops.old ++ functions_code (program_view program.now) (length ops.old)
+        (functions_view program.now.functions)) }
+    ensures found { IfOk result (λ found. found
+        ≡ bodies (program_view program.now) (length ops.old) (functions_view program.now.functions)) }
 {
     let mut found = Seq::new(alloc);
     for function in program.functions.as_slice() {
@@ -69,7 +72,8 @@ fn add_body(
     ops: &mut Seq<Op>,
     function: &Function,
 ) -> Result<(), OutOfMemory>
-    ensures { OnOk result (ops.new ≡ ops.old ++ function_code (program_view program.now) (length ops.old) (function_view function.now)) }
+    ensures { OnOk result (ops.new ≡ ops.old ++ function_code (program_view program.now) (length ops.old)
+        (function_view function.now)) }
 {
     let depth = outermost();
     let size = size_of_form(&function.body.form, depth)?;

@@ -20,7 +20,8 @@ pub fn declare(
     at: Spot,
     names: &[Declared],
 ) -> Result<(), OutOfMemory>
-    ensures { OnOk result (ops.new ≡ ops.old ++ names_code (program_view program.now) (length ops.old) at (names_view names.now)) }
+    ensures { OnOk result (ops.new ≡ ops.old ++ names_code (program_view program.now) (length ops.old) at
+        (names_view names.now)) }
 {
     for name in names {
         introduce(program, ops, at, name)?;
@@ -46,7 +47,8 @@ fn introduce(
     at: Spot,
     name: &Declared,
 ) -> Result<(), OutOfMemory>
-    ensures { OnOk result (ops.new ≡ ops.old ++ name_code (program_view program.now) (length ops.old) at name.now.spot name.now.object (init_view name.now.init)) }
+    ensures { OnOk result (ops.new ≡ ops.old ++ name_code (program_view program.now) (length ops.old) at name.now.spot
+        name.now.object (init_view name.now.init)) }
 {
     let object = name.object;
     let size = size_of_object(program, object);
@@ -74,7 +76,8 @@ fn initializer(
     object: u32,
     init: &Init,
 ) -> Result<(), OutOfMemory>
-    ensures { OnOk result (ops.new ≡ ops.old ++ init_code (program_view program.now) (length ops.old) at object (init_view init.now)) }
+    ensures { OnOk result (ops.new ≡ ops.old ++ init_code (program_view program.now) (length ops.old) at object
+        (init_view init.now)) }
 {
     match init {
         Init::Absent => Ok(()),
@@ -92,7 +95,8 @@ fn row_initials(
     object: u32,
     rows: &[Row],
 ) -> Result<(), OutOfMemory>
-    ensures { OnOk result (ops.new ≡ ops.old ++ rows_code (program_view program.now) (length ops.old) at object 0 (rows_view rows.now)) }
+    ensures { OnOk result (ops.new ≡ ops.old ++ rows_code (program_view program.now) (length ops.old) at object 0
+        (rows_view rows.now)) }
 {
     let columns = columns_of_object(program, object);
     let mut index = 0;
@@ -112,7 +116,8 @@ fn initials(
     start: u32,
     values: &[Expr],
 ) -> Result<(), OutOfMemory>
-    ensures { OnOk result (ops.new ≡ ops.old ++ initials_code (program_view program.now) (length ops.old) at object start (exprs_view values.now)) }
+    ensures { OnOk result (ops.new ≡ ops.old ++ initials_code (program_view program.now) (length ops.old) at object
+        start (exprs_view values.now)) }
 {
     let mut index = start;
     for e in values {
@@ -131,7 +136,8 @@ fn initial(
     index: u32,
     e: &Expr,
 ) -> Result<(), OutOfMemory>
-    ensures { OnOk result (ops.new ≡ ops.old ++ initial_code (program_view program.now) (length ops.old) at object index (expr_view e.now)) }
+    ensures { OnOk result (ops.new ≡ ops.old ++ initial_code (program_view program.now) (length ops.old) at object index
+        (expr_view e.now)) }
 {
     let object_type = type_of_object(program, object);
     let ty = native(program.model, object_type);

@@ -34,7 +34,8 @@ pub fn element_cell(
     object: u32,
     indexes: &[Expr],
 ) -> Result<Prepared, OutOfMemory>
-    ensures { IfOk result (λ q. IsReady q ops.old ops.new (element_code (program_view program.now) around (length ops.old) steps spot object (exprs_view indexes.now))) }
+    ensures { IfOk result (λ q. IsReady q ops.old ops.new
+        (element_code (program_view program.now) around (length ops.old) steps spot object (exprs_view indexes.now))) }
 {
     match indexes {
         [] => Ok(Prepared {
@@ -66,7 +67,10 @@ fn in_row(
     row: &Expr,
     column: &Expr,
 ) -> Result<Prepared, OutOfMemory>
-    ensures { IfOk result (λ q. IsReady q ops.old ops.new (spec.in_row (program_view program.now) object spot (both_ready (program_view program.now) around (length ops.old) steps (expr_view row.now) (expr_view column.now)))) }
+    ensures { IfOk result (λ q. IsReady q ops.old ops.new
+        (spec.in_row (program_view program.now) object spot
+        (both_ready (program_view program.now) around (length ops.old) steps (expr_view row.now)
+        (expr_view column.now)))) }
 {
     let pair = prepare_both(program, ops, steps, around, row, column)?;
     let rows = rows_of_object(program, object);

@@ -31,7 +31,8 @@ pub fn expression(
     e: &Expr,
     then: Then,
 ) -> Result<(), OutOfMemory>
-    ensures { OnOk result (ops.new ≡ ops.old ++ code (program_view program.now) around (length ops.old) steps (use_of used) (expr_view e.now) then) }
+    ensures { OnOk result (ops.new ≡ ops.old ++ code (program_view program.now) around (length ops.old) steps
+        (use_of used) (expr_view e.now) then) }
 {
     let sum = more(steps, 1)?;
     match &e.node {
@@ -107,7 +108,8 @@ pub fn binary(
     right: &Expr,
     into: Into,
 ) -> Result<(), OutOfMemory>
-    ensures { OnOk result (ops.new ≡ ops.old ++ node_code (program_view program.now) around (length ops.old) steps Used spot None (t.Binary op (expr_view left.now) (expr_view right.now)) into) }
+    ensures { OnOk result (ops.new ≡ ops.old ++ node_code (program_view program.now) around (length ops.old) steps Used
+        spot None (t.Binary op (expr_view left.now) (expr_view right.now)) into) }
 {
     let pair = prepare_both(program, ops, steps, around, left, right)?;
     let from = Source { around, spot };
@@ -128,7 +130,8 @@ fn element(
     indexes: &[Expr],
     then: Then,
 ) -> Result<(), OutOfMemory>
-    ensures { OnOk result (ops.new ≡ ops.old ++ node_code (program_view program.now) around (length ops.old) steps Used spot None (t.Index object (exprs_view indexes.now)) (preparing.only then)) }
+    ensures { OnOk result (ops.new ≡ ops.old ++ node_code (program_view program.now) around (length ops.old) steps Used
+        spot None (t.Index object (exprs_view indexes.now)) (preparing.only then)) }
 {
     let found = element_cell(program, ops, steps, around, spot, object, indexes)?;
     let size = size_of_object(program, object);
@@ -158,7 +161,8 @@ fn unary(
     of: &Expr,
     then: Then,
 ) -> Result<(), OutOfMemory>
-    ensures { OnOk result (ops.new ≡ ops.old ++ node_code (program_view program.now) around (length ops.old) steps Used spot None (t.Unary op (expr_view of.now)) (preparing.only then)) }
+    ensures { OnOk result (ops.new ≡ ops.old ++ node_code (program_view program.now) around (length ops.old) steps Used
+        spot None (t.Unary op (expr_view of.now)) (preparing.only then)) }
 {
     let value = prepare(program, ops, steps, around, of)?;
     let ty = type_of(of);
@@ -190,7 +194,8 @@ fn cast(
     of: &Expr,
     then: Then,
 ) -> Result<(), OutOfMemory>
-    ensures { OnOk result (ops.new ≡ ops.old ++ node_code (program_view program.now) around (length ops.old) steps Used around.full ty (t.Cast (expr_view of.now)) (preparing.only then)) }
+    ensures { OnOk result (ops.new ≡ ops.old ++ node_code (program_view program.now) around (length ops.old) steps Used
+        around.full ty (t.Cast (expr_view of.now)) (preparing.only then)) }
 {
     match ty {
         None => expression(program, ops, steps, around, false, of, then),
@@ -208,7 +213,8 @@ fn cast_to(
     of: &Expr,
     then: Then,
 ) -> Result<(), OutOfMemory>
-    ensures { OnOk result (ops.new ≡ ops.old ++ node_code (program_view program.now) around (length ops.old) steps Used around.full (Some to) (t.Cast (expr_view of.now)) (preparing.only then)) }
+    ensures { OnOk result (ops.new ≡ ops.old ++ node_code (program_view program.now) around (length ops.old) steps Used
+        around.full (Some to) (t.Cast (expr_view of.now)) (preparing.only then)) }
 {
     let value = prepare(program, ops, steps, around, of)?;
     let ty = native(program.model, to);
@@ -235,7 +241,8 @@ fn comma(
     last: &Expr,
     then: Then,
 ) -> Result<(), OutOfMemory>
-    ensures { OnOk result (ops.new ≡ ops.old ++ node_code (program_view program.now) around (length ops.old) steps Used around.full None (t.Comma (expr_view first.now) (expr_view last.now)) (preparing.only then)) }
+    ensures { OnOk result (ops.new ≡ ops.old ++ node_code (program_view program.now) around (length ops.old) steps Used
+        around.full None (t.Comma (expr_view first.now) (expr_view last.now)) (preparing.only then)) }
 {
     expression(program, ops, steps, around, false, first, Then::Drop)?;
     expression(program, ops, 0, around, true, last, then)

@@ -35,7 +35,8 @@ fn test_at(
     test: &Expr,
     to: u32,
 ) -> Result<(), OutOfMemory>
-    ensures { OnOk result (ops.new ≡ ops.old ++ test_code (program_view program.now) (length ops.old) at (Some (expr_view test.now)) to) }
+    ensures { OnOk result (ops.new ≡ ops.old ++ test_code (program_view program.now) (length ops.old) at
+        (Some (expr_view test.now)) to) }
 {
     let branch = Then::Branch { at, way: true, to };
     let around = full_of(at, test);
@@ -54,7 +55,8 @@ pub fn while_loop(
     test: &Expr,
     body: &Stmt,
 ) -> Result<(), OutOfMemory>
-    ensures { OnOk result (ops.new ≡ ops.old ++ form_code (program_view program.now) (length ops.old) inside at (t.While (expr_view test.now) (stmt_view body.now))) }
+    ensures { OnOk result (ops.new ≡ ops.old ++ form_code (program_view program.now) (length ops.old) inside at
+        (t.While (expr_view test.now) (stmt_view body.now))) }
 {
     let start = ahead(ops, 1)?;
     let turn = size_of_arm(body, in_turn(inside.depth))?;
@@ -79,7 +81,8 @@ pub fn do_loop(
     body: &Stmt,
     test: &Expr,
 ) -> Result<(), OutOfMemory>
-    ensures { OnOk result (ops.new ≡ ops.old ++ form_code (program_view program.now) (length ops.old) inside at (t.DoWhile (stmt_view body.now) (expr_view test.now))) }
+    ensures { OnOk result (ops.new ≡ ops.old ++ form_code (program_view program.now) (length ops.old) inside at
+        (t.DoWhile (stmt_view body.now) (expr_view test.now))) }
 {
     let start = here(ops)?;
     let turn = size_of_arm(body, in_turn(inside.depth))?;
@@ -94,7 +97,8 @@ pub fn do_loop(
 
 // The first part of a `for`.
 fn begin(program: &Program, ops: &mut Seq<Op>, at: Spot, first: &First) -> Result<(), OutOfMemory>
-    ensures { OnOk result (ops.new ≡ ops.old ++ first_code (program_view program.now) (length ops.old) at (first_view first.now)) }
+    ensures { OnOk result (ops.new ≡ ops.old ++ first_code (program_view program.now) (length ops.old) at
+        (first_view first.now)) }
 {
     match first {
         First::Absent => Ok(()),
@@ -116,7 +120,8 @@ pub fn for_loop(
     step: &Option<Expr>,
     body: &Stmt,
 ) -> Result<(), OutOfMemory>
-    ensures { OnOk result (ops.new ≡ ops.old ++ form_code (program_view program.now) (length ops.old) inside at (t.For (first_view first.now) (expr_view_if test.now) (expr_view_if step.now) (stmt_view body.now))) }
+    ensures { OnOk result (ops.new ≡ ops.old ++ form_code (program_view program.now) (length ops.old) inside at
+        (t.For (first_view first.now) (expr_view_if test.now) (expr_view_if step.now) (stmt_view body.now))) }
 {
     let there = first_leaks(first);
     let within = deeper(inside, there)?;
@@ -134,7 +139,8 @@ fn evaluate_if(
     at: Spot,
     e: &Option<Expr>,
 ) -> Result<(), OutOfMemory>
-    ensures { OnOk result (ops.new ≡ ops.old ++ only_if (program_view program.now) (length ops.old) at (expr_view_if e.now)) }
+    ensures { OnOk result (ops.new ≡ ops.old ++ only_if (program_view program.now) (length ops.old) at
+        (expr_view_if e.now)) }
 {
     match e {
         None => Ok(()),
@@ -150,7 +156,8 @@ fn test_if(
     test: &Option<Expr>,
     to: u32,
 ) -> Result<(), OutOfMemory>
-    ensures { OnOk result (ops.new ≡ ops.old ++ test_code (program_view program.now) (length ops.old) at (expr_view_if test.now) to) }
+    ensures { OnOk result (ops.new ≡ ops.old ++ test_code (program_view program.now) (length ops.old) at
+        (expr_view_if test.now) to) }
 {
     match test {
         None => emit(ops, 0, Action::Jump(to)),
@@ -170,7 +177,8 @@ fn turns(
     step: &Option<Expr>,
     body: &Stmt,
 ) -> Result<(), OutOfMemory>
-    ensures { OnOk result (ops.new ≡ ops.old ++ turns_code (program_view program.now) (length ops.old) inside at (expr_view_if test.now) (expr_view_if step.now) (stmt_view body.now)) }
+    ensures { OnOk result (ops.new ≡ ops.old ++ turns_code (program_view program.now) (length ops.old) inside at
+        (expr_view_if test.now) (expr_view_if step.now) (stmt_view body.now)) }
 {
     let start = ahead(ops, 1)?;
     let turn = size_of_arm(body, in_turn(inside.depth))?;

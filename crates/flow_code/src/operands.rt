@@ -41,7 +41,9 @@ pub fn prepare(
     around: Around,
     e: &Expr,
 ) -> Result<Prepared, OutOfMemory>
-    ensures { IfOk result (λ q. IsReady q ops.old ops.new (prepared (operand_of (expr_view e.now)) steps (code (program_view program.now) around (length ops.old) steps Used (expr_view e.now) Push))) }
+    ensures { IfOk result (λ q. IsReady q ops.old ops.new
+        (prepared (operand_of (expr_view e.now)) steps
+        (code (program_view program.now) around (length ops.old) steps Used (expr_view e.now) Push))) }
 {
     match operand_of(e) {
         Some(operand) => {
@@ -82,7 +84,10 @@ pub fn prepare_second(
     left: Operand,
     e: &Expr,
 ) -> Result<Pair, OutOfMemory>
-    ensures { IfOk result (λ q. AreReady q ops.old ops.new (paired left steps (operand_of (expr_view e.now)) (code (program_view program.now) around (length ops.old + length (kept left steps)) (rest left steps) Used (expr_view e.now) Push))) }
+    ensures { IfOk result (λ q. AreReady q ops.old ops.new
+        (paired left steps (operand_of (expr_view e.now))
+        (code (program_view program.now) around (length ops.old + length (kept left steps)) (rest left steps) Used
+        (expr_view e.now) Push))) }
 {
     match operand_of(e) {
         Some(right) => {
@@ -111,7 +116,8 @@ pub fn prepare_both(
     a: &Expr,
     b: &Expr,
 ) -> Result<Pair, OutOfMemory>
-    ensures { IfOk result (λ q. AreReady q ops.old ops.new (both_ready (program_view program.now) around (length ops.old) steps (expr_view a.now) (expr_view b.now))) }
+    ensures { IfOk result (λ q. AreReady q ops.old ops.new
+        (both_ready (program_view program.now) around (length ops.old) steps (expr_view a.now) (expr_view b.now))) }
 {
     let first = prepare(program, ops, steps, around, a)?;
     let pair = prepare_second(program, ops, first.steps, around, first.operand, b)?;
@@ -129,7 +135,8 @@ pub fn operate(
     b: IntType,
     into: Into,
 ) -> Result<(), OutOfMemory>
-    ensures { OnOk result (ops.new ≡ ops.old ++ preparing.op pair.steps (operator (program_view program.now) from op a b into pair.left pair.right) ∷ []) }
+    ensures { OnOk result (ops.new ≡ ops.old ++ preparing.op pair.steps
+        (operator (program_view program.now) from op a b into pair.left pair.right) ∷ []) }
 {
     let ty = type_for(program.model, op, a, b);
     let count_type = right_type_for(program.model, op, ty, b);

@@ -210,7 +210,9 @@ pub fn size_with_one(e: &Expr) -> Result<u32, OutOfMemory>
 // The code of two operands, and an operation that takes them.
 #[cycle(size)]
 fn size_with_two(a: &Expr, b: &Expr) -> Result<u32, OutOfMemory>
-    ensures { IfOk result (λ n. n ≡ spec.with_two (spec.operand_of (expr_view a.now)) (spec.operand_of (expr_view b.now)) (spec.size (expr_view a.now)) (spec.size (expr_view b.now))) }
+    ensures { IfOk result (λ n. n
+        ≡ spec.with_two (spec.operand_of (expr_view a.now)) (spec.operand_of (expr_view b.now))
+        (spec.size (expr_view a.now)) (spec.size (expr_view b.now))) }
 {
     match operand_of(a) {
         Some(_) => size_behind_operand(b),
@@ -226,7 +228,8 @@ fn size_with_two(a: &Expr, b: &Expr) -> Result<u32, OutOfMemory>
 // The code of a second operand behind one that isn't on the stack, and an operation that takes both.
 #[cycle(size)]
 fn size_behind_operand(b: &Expr) -> Result<u32, OutOfMemory>
-    ensures { IfOk result (λ n. n ≡ spec.behind_operand (spec.operand_of (expr_view b.now)) (spec.size (expr_view b.now))) }
+    ensures { IfOk result (λ n. n
+        ≡ spec.behind_operand (spec.operand_of (expr_view b.now)) (spec.size (expr_view b.now))) }
 {
     match operand_of(b) {
         Some(_) => Ok(1),
@@ -252,7 +255,9 @@ fn size_of_aim(target: &Expr) -> Result<u32, OutOfMemory>
 // The code of a right side whose left side is a target's value.
 #[cycle(size)]
 fn size_of_second(target: &Expr, from: &Expr) -> Result<u32, OutOfMemory>
-    ensures { IfOk result (λ n. n ≡ spec.with_target (node_view target.now.node) (spec.operand_of (expr_view from.now)) (spec.size (expr_view from.now))) }
+    ensures { IfOk result (λ n. n
+        ≡ spec.with_target (node_view target.now.node) (spec.operand_of (expr_view from.now))
+        (spec.size (expr_view from.now))) }
 {
     match &target.node {
         Node::Index { .. } => size_with_one(from),
@@ -468,7 +473,8 @@ fn size_of_choice(
     no: &Option<Box<Stmt>>,
     depth: Depth,
 ) -> Result<u32, OutOfMemory>
-    ensures { IfOk result (λ n. n ≡ spec.size_of_form depth (t.If (expr_view test.now) (stmt_view yes.now) (else_part no.now))) }
+    ensures { IfOk result (λ n. n
+        ≡ spec.size_of_form depth (t.If (expr_view test.now) (stmt_view yes.now) (else_part no.now))) }
 {
     let tested = size(test)?;
     let first = size_of_arm(yes, depth)?;
@@ -494,7 +500,8 @@ fn size_of_else(no: &Option<Box<Stmt>>, depth: Depth) -> Result<u32, OutOfMemory
 // A loop's body and its test.
 #[cycle(size_of_statement)]
 fn size_of_loop(test: &Expr, body: &Stmt, depth: Depth) -> Result<u32, OutOfMemory>
-    ensures { IfOk result (λ n. n ≡ spec.size (expr_view test.now) + spec.size_of_arm (spec.in_turn depth) (stmt_view body.now)) }
+    ensures { IfOk result (λ n. n
+        ≡ spec.size (expr_view test.now) + spec.size_of_arm (spec.in_turn depth) (stmt_view body.now)) }
 {
     let tested = size(test)?;
     let arm = size_of_arm(body, in_turn(depth))?;
@@ -534,7 +541,9 @@ fn size_of_for(
     body: &Stmt,
     depth: Depth,
 ) -> Result<u32, OutOfMemory>
-    ensures { IfOk result (λ n. n ≡ spec.size_of_form depth (t.For (first_view first.now) (expr_view_if test.now) (expr_view_if step.now) (stmt_view body.now))) }
+    ensures { IfOk result (λ n. n
+        ≡ spec.size_of_form depth
+        (t.For (first_view first.now) (expr_view_if test.now) (expr_view_if step.now) (stmt_view body.now))) }
 {
     let there = first_leaks(first);
     let begins = size_of_first(first)?;

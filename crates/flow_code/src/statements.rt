@@ -94,7 +94,8 @@ pub fn statement(
     inside: Inside,
     s: &Stmt,
 ) -> Result<(), OutOfMemory>
-    ensures { OnOk result (ops.new ≡ ops.old ++ statement_code (program_view program.now) (length ops.old) inside (stmt_view s.now)) }
+    ensures { OnOk result (ops.new ≡ ops.old ++ statement_code (program_view program.now) (length ops.old) inside
+        (stmt_view s.now)) }
 {
     emit(ops, 1, Action::Arrive(s.spot))?;
     form(alloc, program, ops, inside, s.spot, &s.form)?;
@@ -111,7 +112,8 @@ pub fn form(
     at: Spot,
     f: &Form,
 ) -> Result<(), OutOfMemory>
-    ensures { OnOk result (ops.new ≡ ops.old ++ form_code (program_view program.now) (length ops.old) inside at (form_view f.now)) }
+    ensures { OnOk result (ops.new ≡ ops.old ++ form_code (program_view program.now) (length ops.old) inside at
+        (form_view f.now)) }
 {
     match f {
         Form::Empty => Ok(()),
@@ -164,7 +166,8 @@ fn give_back(
     at: Spot,
     e: &Expr,
 ) -> Result<(), OutOfMemory>
-    ensures { OnOk result (ops.new ≡ ops.old ++ return_code (program_view program.now) (length ops.old) at inside.result (expr_view e.now) inside.depth.scopes) }
+    ensures { OnOk result (ops.new ≡ ops.old ++ return_code (program_view program.now) (length ops.old) at inside.result
+        (expr_view e.now) inside.depth.scopes) }
 {
     let around = full_of(at, e);
     expression(program, ops, 0, around, true, e, Then::Push)?;
@@ -182,7 +185,8 @@ fn block(
     inside: Inside,
     body: &[Stmt],
 ) -> Result<(), OutOfMemory>
-    ensures { OnOk result (ops.new ≡ ops.old ++ spec.scoped_block (program_view program.now) (length ops.old) inside (stmts_view body.now)) }
+    ensures { OnOk result (ops.new ≡ ops.old ++ spec.scoped_block (program_view program.now) (length ops.old) inside
+        (stmts_view body.now)) }
 {
     let there = any_leaks(body);
     let within = deeper(inside, there)?;
@@ -201,7 +205,8 @@ pub fn sequence(
     inside: Inside,
     body: &[Stmt],
 ) -> Result<(), OutOfMemory>
-    ensures { OnOk result (ops.new ≡ ops.old ++ block_code (program_view program.now) (length ops.old) inside (stmts_view body.now)) }
+    ensures { OnOk result (ops.new ≡ ops.old ++ block_code (program_view program.now) (length ops.old) inside
+        (stmts_view body.now)) }
 {
     for s in body {
         statement(alloc, program, ops, inside, s)?;
@@ -218,7 +223,8 @@ pub fn arm(
     inside: Inside,
     s: &Stmt,
 ) -> Result<(), OutOfMemory>
-    ensures { OnOk result (ops.new ≡ ops.old ++ arm_code (program_view program.now) (length ops.old) inside (stmt_view s.now)) }
+    ensures { OnOk result (ops.new ≡ ops.old ++ arm_code (program_view program.now) (length ops.old) inside
+        (stmt_view s.now)) }
 {
     let there = leaks(s);
     let within = deeper(inside, there)?;
@@ -250,7 +256,8 @@ fn choose(
     yes: &Stmt,
     no: &Option<Box<Stmt>>,
 ) -> Result<(), OutOfMemory>
-    ensures { OnOk result (ops.new ≡ ops.old ++ form_code (program_view program.now) (length ops.old) inside at (t.If (expr_view test.now) (stmt_view yes.now) (else_part no.now))) }
+    ensures { OnOk result (ops.new ≡ ops.old ++ form_code (program_view program.now) (length ops.old) inside at
+        (t.If (expr_view test.now) (stmt_view yes.now) (else_part no.now))) }
 {
     let tested = size(test)?;
     let taken = size_of_arm(yes, inside.depth)?;
@@ -276,7 +283,8 @@ fn otherwise(
     to: u32,
     no: &Option<Box<Stmt>>,
 ) -> Result<(), OutOfMemory>
-    ensures { OnOk result (ops.new ≡ ops.old ++ else_code (program_view program.now) (length ops.old) to inside (else_part no.now)) }
+    ensures { OnOk result (ops.new ≡ ops.old ++ else_code (program_view program.now) (length ops.old) to inside
+        (else_part no.now)) }
 {
     match no {
         None => Ok(()),
@@ -293,7 +301,8 @@ fn second_arm(
     to: u32,
     s: &Stmt,
 ) -> Result<(), OutOfMemory>
-    ensures { OnOk result (ops.new ≡ ops.old ++ else_code (program_view program.now) (length ops.old) to inside (t.OrElse (stmt_view s.now))) }
+    ensures { OnOk result (ops.new ≡ ops.old ++ else_code (program_view program.now) (length ops.old) to inside
+        (t.OrElse (stmt_view s.now))) }
 {
     let taken = size_of_arm(s, inside.depth)?;
     let end = more(to, taken)?;

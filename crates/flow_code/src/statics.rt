@@ -72,7 +72,8 @@ fn add_static(
     number: u32,
     object: &Object,
 ) -> Result<(), OutOfMemory>
-    ensures { OnOk result (cells_of cells.new ≡ cells_of cells.old ++ cond object.now.fixed (cells_from number 0 object.now.cells values.now) []) }
+    ensures { OnOk result (cells_of cells.new
+        ≡ cells_of cells.old ++ cond object.now.fixed (cells_from number 0 object.now.cells values.now) []) }
 {
     if object.fixed {
         add_started(cells, number, object.cells, values)?;

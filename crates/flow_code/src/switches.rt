@@ -43,7 +43,8 @@ pub fn switch(
     test: &Expr,
     arms: &[Arm],
 ) -> Result<(), OutOfMemory>
-    ensures { OnOk result (ops.new ≡ ops.old ++ form_code (program_view program.now) (length ops.old) inside at (t.Switch (expr_view test.now) (switch_view arms.now))) }
+    ensures { OnOk result (ops.new ≡ ops.old ++ form_code (program_view program.now) (length ops.old) inside at
+        (t.Switch (expr_view test.now) (switch_view arms.now))) }
 {
     switch_test(program, ops, at, test)?;
     let there = any_arm_leaks(arms);
@@ -63,7 +64,8 @@ fn switch_test(
     at: Spot,
     test: &Expr,
 ) -> Result<(), OutOfMemory>
-    ensures { OnOk result (ops.new ≡ ops.old ++ switch_test_code (program_view program.now) (length ops.old) at (expr_view test.now)) }
+    ensures { OnOk result (ops.new ≡ ops.old ++ switch_test_code (program_view program.now) (length ops.old) at
+        (expr_view test.now)) }
 {
     let around = full_of(at, test);
     let value = prepare(program, ops, 0, around, test)?;
@@ -92,7 +94,8 @@ fn selected_arms(
     at: Spot,
     arms: &[Arm],
 ) -> Result<(), OutOfMemory>
-    ensures { OnOk result (ops.new ≡ ops.old ++ arms_code (program_view program.now) (length ops.old) inside at (switch_view arms.now)) }
+    ensures { OnOk result (ops.new ≡ ops.old ++ arms_code (program_view program.now) (length ops.old) inside at
+        (switch_view arms.now)) }
 {
     let start = ahead(ops, 1)?;
     select(alloc, ops, inside.depth, at, start, arms)?;
@@ -156,7 +159,9 @@ fn is_default(label: Label) -> bool
 
 // Where the statements of the `default` begin, or the end where there is none.
 fn default_at(depth: Depth, start: u32, arms: &[Arm]) -> Result<u32, OutOfMemory>
-    ensures { IfOk result (λ n. n ≡ arm_at depth start (first_label typing.is_default (labels_in (switch_view arms.now))) (switch_view arms.now)) }
+    ensures { IfOk result (λ n. n
+        ≡ arm_at depth start (first_label typing.is_default (labels_in (switch_view arms.now)))
+        (switch_view arms.now)) }
 {
     let mut to = start;
     for arm in arms {
@@ -178,7 +183,8 @@ fn bodies(
     inside: Inside,
     arms: &[Arm],
 ) -> Result<(), OutOfMemory>
-    ensures { OnOk result (ops.new ≡ ops.old ++ block_code (program_view program.now) (length ops.old) inside (switch_view arms.now)) }
+    ensures { OnOk result (ops.new ≡ ops.old ++ block_code (program_view program.now) (length ops.old) inside
+        (switch_view arms.now)) }
 {
     for arm in arms {
         sequence(alloc, program, ops, inside, arm.body.as_slice())?;

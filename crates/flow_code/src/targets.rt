@@ -31,7 +31,8 @@ pub fn stored(
     e: &Expr,
     into: Into,
 ) -> Result<(), OutOfMemory>
-    ensures { OnOk result (ops.new ≡ ops.old ++ stored_code (program_view program.now) around (length ops.old) steps (expr_view e.now) into) }
+    ensures { OnOk result (ops.new ≡ ops.old ++ stored_code (program_view program.now) around (length ops.old) steps
+        (expr_view e.now) into) }
 {
     match &e.node {
         Node::Binary { op, left, right } => {
@@ -69,7 +70,8 @@ fn aim(
     target: &Expr,
     reads: bool,
 ) -> Result<Prepared, OutOfMemory>
-    ensures { IfOk result (λ q. IsReady q ops.old ops.new (aim_code (program_view program.now) around (length ops.old) steps (expr_view target.now) reads)) }
+    ensures { IfOk result (λ q. IsReady q ops.old ops.new
+        (aim_code (program_view program.now) around (length ops.old) steps (expr_view target.now) reads)) }
 {
     let sum = more(steps, 1)?;
     match &target.node {
@@ -129,7 +131,8 @@ pub fn assign(
     from: &Expr,
     then: Then,
 ) -> Result<(), OutOfMemory>
-    ensures { OnOk result (ops.new ≡ ops.old ++ node_code (program_view program.now) around (length ops.old) steps Used spot None (t.Assign op (expr_view target.now) (expr_view from.now)) (preparing.only then)) }
+    ensures { OnOk result (ops.new ≡ ops.old ++ node_code (program_view program.now) around (length ops.old) steps Used
+        spot None (t.Assign op (expr_view target.now) (expr_view from.now)) (preparing.only then)) }
 {
     match op {
         None => replace(program, ops, steps, around, target, from, then),
@@ -147,7 +150,8 @@ fn replace(
     from: &Expr,
     then: Then,
 ) -> Result<(), OutOfMemory>
-    ensures { OnOk result (ops.new ≡ ops.old ++ node_code (program_view program.now) around (length ops.old) steps Used around.full None (t.Assign None (expr_view target.now) (expr_view from.now)) (preparing.only then)) }
+    ensures { OnOk result (ops.new ≡ ops.old ++ node_code (program_view program.now) around (length ops.old) steps Used
+        around.full None (t.Assign None (expr_view target.now) (expr_view from.now)) (preparing.only then)) }
 {
     let found = aim(program, ops, steps, around, target, false)?;
     let place = place_in(target);
@@ -169,7 +173,8 @@ fn update(
     from: &Expr,
     then: Then,
 ) -> Result<(), OutOfMemory>
-    ensures { OnOk result (ops.new ≡ ops.old ++ node_code (program_view program.now) around (length ops.old) steps Used spot None (t.Assign (Some op) (expr_view target.now) (expr_view from.now)) (preparing.only then)) }
+    ensures { OnOk result (ops.new ≡ ops.old ++ node_code (program_view program.now) around (length ops.old) steps Used
+        spot None (t.Assign (Some op) (expr_view target.now) (expr_view from.now)) (preparing.only then)) }
 {
     let old = aim(program, ops, steps, around, target, true)?;
     let pair = prepare_second(program, ops, old.steps, around, old.operand, from)?;
@@ -206,7 +211,8 @@ pub fn step(
     target: &Expr,
     then: Then,
 ) -> Result<(), OutOfMemory>
-    ensures { OnOk result (ops.new ≡ ops.old ++ node_code (program_view program.now) around (length ops.old) steps Used spot None (t.Step op (expr_view target.now)) (preparing.only then)) }
+    ensures { OnOk result (ops.new ≡ ops.old ++ node_code (program_view program.now) around (length ops.old) steps Used
+        spot None (t.Step op (expr_view target.now)) (preparing.only then)) }
 {
     let old = aim(program, ops, steps, around, target, true)?;
     let place = place_in(target);

@@ -14,7 +14,8 @@ use run_state::{Around, CallSite, Flow};
 
 /// The call of `reach_error`: the violation where the property is about it, else the run passes.
 pub fn reach(program: &Program, at: Around) -> Result<i128, Halt>
-    ensures { (s : Left) → Gives same result s (havoc.reached (program_view program.now) [] program.now.property (where_of at) s) }
+    ensures { (s : Left) → Gives same result s
+        (havoc.reached (program_view program.now) [] program.now.property (where_of at) s) }
 {
     match program.property {
         Property::UnreachCall => Err(violate(at)),
@@ -24,7 +25,8 @@ pub fn reach(program: &Program, at: Around) -> Result<i128, Halt>
 
 /// The value that a function gave comes back; without one, 0 does where none is needed, and else the run passes.
 pub fn returned(program: &Program, site: CallSite, flow: Flow) -> Result<i128, Halt>
-    ensures { (s : Left) → Gives same result s (havoc.returned (program_view program.now) [] (site_of site) (given (flow_of flow)) s) }
+    ensures { (s : Left) → Gives same result s
+        (havoc.returned (program_view program.now) [] (site_of site) (given (flow_of flow)) s) }
 {
     match flow {
         Flow::Gave(Some(value)) => Ok(value),

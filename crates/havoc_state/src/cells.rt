@@ -17,7 +17,8 @@ fn draw_cell(
     object: u32,
     index: u32,
 ) -> Result<(), Halt>
-    ensures { Gives same result (left_of machine.new) (cell_drawn (program_view program.now) [] spot object index (left_of machine.old)) }
+    ensures { Gives same result (left_of machine.new)
+        (cell_drawn (program_view program.now) [] spot object index (left_of machine.old)) }
 {
     let ty = type_of_object(program, object);
     let value = draw(program, machine, DrawKind::Cell, spot, ty)?;
@@ -32,7 +33,8 @@ pub fn draw_cells(
     spot: Spot,
     object: u32,
 ) -> Result<(), Halt>
-    ensures { (n : ℕ) → Gives same result (left_of machine.new) (cells_drawn (program_view program.now) [] n spot object (left_of machine.old)) }
+    ensures { (n : ℕ) → Gives same result (left_of machine.new)
+        (cells_drawn (program_view program.now) [] n spot object (left_of machine.old)) }
 {
     let size = size_of_object(program, object);
     for index in 0..size {

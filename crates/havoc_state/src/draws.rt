@@ -36,7 +36,8 @@ pub fn draw(
     spot: Spot,
     ty: IntType,
 ) -> Result<i128, Halt>
-    ensures { Gives same result (left_of machine.new) (havoc.draw (program_view program.now) [] kind spot ty (left_of machine.old)) }
+    ensures { Gives same result (left_of machine.new)
+        (havoc.draw (program_view program.now) [] kind spot ty (left_of machine.old)) }
 {
     let value = convert(program.model, ty, or_zero(take(&mut machine.left)));
     machine.draws.push(Draw {

@@ -68,7 +68,9 @@ pub fn check(
     spot: Spot,
     kind: DutyKind,
 ) -> Result<(), Halt>
-    ensures { Gives same result (left_of machine.now) (havoc.test_from (program_view program.now) (placed_view invariants.now) 0 (placed_view invariants.now) at_loop spot kind (left_of machine.now)) }
+    ensures { Gives same result (left_of machine.now)
+        (havoc.test_from (program_view program.now) (placed_view invariants.now) 0 (placed_view invariants.now) at_loop
+        spot kind (left_of machine.now)) }
 {
     for (index, invariant) in invariants.iter().enumerate() {
         if is_broken(program, &machine.memory, invariant, at_loop, spot) {
@@ -85,7 +87,8 @@ pub fn arrive(
     machine: &Machine,
     spot: Spot,
 ) -> Result<(), Halt>
-    ensures { Gives same result (left_of machine.now) (arrived (program_view program.now) (placed_view invariants.now) spot (left_of machine.now)) }
+    ensures { Gives same result (left_of machine.now)
+        (arrived (program_view program.now) (placed_view invariants.now) spot (left_of machine.now)) }
 {
     check(
         program,
@@ -104,7 +107,9 @@ pub fn assume(
     machine: &Machine,
     spot: Spot,
 ) -> Result<(), Halt>
-    ensures { Gives same result (left_of machine.now) (havoc.assume_all (program_view program.now) (placed_view invariants.now) (placed_view invariants.now) spot (left_of machine.now)) }
+    ensures { Gives same result (left_of machine.now)
+        (havoc.assume_all (program_view program.now) (placed_view invariants.now) (placed_view invariants.now) spot
+        (left_of machine.now)) }
 {
     for invariant in invariants {
         if is_broken(program, &machine.memory, invariant, true, spot) {

@@ -21,7 +21,8 @@ fn redraw_cell(
     object: u32,
     index: u32,
 ) -> Result<(), Halt>
-    ensures { Gives same result (left_of machine.new) (cell_redrawn (program_view program.now) [] spot object index (left_of machine.old)) }
+    ensures { Gives same result (left_of machine.new)
+        (cell_redrawn (program_view program.now) [] spot object index (left_of machine.old)) }
 {
     let ty = type_of_object(program, object);
     let value = draw(program, machine, DrawKind::Havoc, spot, ty)?;
@@ -36,7 +37,8 @@ fn redraw_object(
     spot: Spot,
     object: u32,
 ) -> Result<(), Halt>
-    ensures { Gives same result (left_of machine.new) (object_redrawn (program_view program.now) [] spot object (left_of machine.old)) }
+    ensures { Gives same result (left_of machine.new)
+        (object_redrawn (program_view program.now) [] spot object (left_of machine.old)) }
 {
     let size = size_of_object(program, object);
     for index in 0..size {
@@ -52,7 +54,8 @@ pub fn redraw(
     spot: Spot,
     objects: &[u32],
 ) -> Result<(), Halt>
-    ensures { Gives same result (left_of machine.new) (havoc.redraw (program_view program.now) [] spot objects.now (left_of machine.old)) }
+    ensures { Gives same result (left_of machine.new)
+        (havoc.redraw (program_view program.now) [] spot objects.now (left_of machine.old)) }
 {
     for object in objects {
         redraw_object(program, machine, spot, *object)?;
@@ -69,7 +72,9 @@ pub fn close(
     spot: Spot,
     flow: Flow,
 ) -> Result<Flow, Halt>
-    ensures { Gives flow_of result (left_of machine.now) (havoc.close (program_view program.now) (placed_view invariants.now) spot (flow_of flow) (left_of machine.now)) }
+    ensures { Gives flow_of result (left_of machine.now)
+        (havoc.close (program_view program.now) (placed_view invariants.now) spot (flow_of flow)
+        (left_of machine.now)) }
 {
     match flow {
         Flow::Next => {

@@ -17,7 +17,8 @@ pub fn set_parameters(
     parameters: &[u32],
     values: &[Typed],
 ) -> Result<(), Halt>
-    ensures { Gives same result (left_of machine.new) (parameters_set (program_view program.now) [] parameters.now (pairs_of values.now) (left_of machine.old)) }
+    ensures { Gives same result (left_of machine.new)
+        (parameters_set (program_view program.now) [] parameters.now (pairs_of values.now) (left_of machine.old)) }
 {
     for (index, parameter) in parameters.iter().enumerate() {
         set_next(program, machine, *parameter, values, index)?;
@@ -33,7 +34,8 @@ fn set_next(
     values: &[Typed],
     index: usize,
 ) -> Result<(), Halt>
-    ensures { Gives same result (left_of machine.new) (next_set (program_view program.now) [] parameter (pairs_of (drop index values.now)) (left_of machine.old)) }
+    ensures { Gives same result (left_of machine.new)
+        (next_set (program_view program.now) [] parameter (pairs_of (drop index values.now)) (left_of machine.old)) }
 {
     match values.get(index) {
         Some(value) => set_parameter(program, machine, parameter, *value),
@@ -51,7 +53,8 @@ fn set_parameter(
     parameter: u32,
     value: Typed,
 ) -> Result<(), Halt>
-    ensures { Gives same result (left_of machine.new) (parameter_set (program_view program.now) [] parameter value.value value.ty (left_of machine.old)) }
+    ensures { Gives same result (left_of machine.new)
+        (parameter_set (program_view program.now) [] parameter value.value value.ty (left_of machine.old)) }
 {
     add_started(&mut machine.memory, parameter, 1, &[])?;
     let ty = type_of_object(program, parameter);

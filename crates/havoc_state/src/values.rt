@@ -58,7 +58,9 @@ pub fn operate(
     left: Typed,
     right: Typed,
 ) -> Result<i128, Halt>
-    ensures { (s : Left) → Gives same result s (operate_of (program_view program.now) (havocked (program_view program.now) []) (where_of at) at.full op left.ty left.value right.ty right.value s) }
+    ensures { (s : Left) → Gives same result s
+        (operate_of (program_view program.now) (havocked (program_view program.now) []) (where_of at) at.full op left.ty
+        left.value right.ty right.value s) }
 {
     let done = computed(
         program.model,
@@ -74,7 +76,9 @@ pub fn operate(
 
 /// A unary operator over a value of a type.
 pub fn operate_one(program: &Program, at: Around, op: UnOp, of: Typed) -> Result<i128, Halt>
-    ensures { (s : Left) → Gives same result s (havoc.answered (program_view program.now) [] (where_of at) (apply_one_of program.now.model op (promote_of of.ty) (fit program.now.model (promote_of of.ty) of.value)) s) }
+    ensures { (s : Left) → Gives same result s
+        (havoc.answered (program_view program.now) [] (where_of at)
+        (apply_one_of program.now.model op (promote_of of.ty) (fit program.now.model (promote_of of.ty) of.value)) s) }
 {
     let done = computed_one(program.model, op, of.ty, of.value);
     let value = finish(program, at, done)?;
@@ -83,7 +87,9 @@ pub fn operate_one(program: &Program, at: Around, op: UnOp, of: Typed) -> Result
 
 /// The element of an array at an index.
 pub fn element(program: &Program, object: u32, index: i128) -> Result<Element, Halt>
-    ensures { (s : Left) → Gives key_of result s (havoc.key_of (program_view program.now) [] object (run.index_below (objects.size_of_object (program_view program.now) object) index) s) }
+    ensures { (s : Left) → Gives key_of result s
+        (havoc.key_of (program_view program.now) [] object
+        (run.index_below (objects.size_of_object (program_view program.now) object) index) s) }
 {
     let size = size_of_object(program, object);
     if index >= 0 && index < size as i128 {
@@ -104,7 +110,12 @@ pub fn element_in_row(
     row: i128,
     column: i128,
 ) -> Result<Element, Halt>
-    ensures { (s : Left) → Gives key_of result s (havoc.key_of (program_view program.now) [] object (run.in_row (objects.columns_of_object (program_view program.now) object) (run.index_below (objects.size_of_object (program_view program.now) object / objects.columns_of_object (program_view program.now) object) row) (run.index_below (objects.columns_of_object (program_view program.now) object) column)) s) }
+    ensures { (s : Left) → Gives key_of result s
+        (havoc.key_of (program_view program.now) [] object
+        (run.in_row (objects.columns_of_object (program_view program.now) object)
+        (run.index_below (objects.size_of_object (program_view program.now) object / objects.columns_of_object
+        (program_view program.now) object) row)
+        (run.index_below (objects.columns_of_object (program_view program.now) object) column)) s) }
 {
     let size = size_of_object(program, object);
     let columns = columns_of_object(program, object);
@@ -139,7 +150,9 @@ pub fn store(
     to: IntType,
     value: i128,
 ) -> i128
-    ensures { (from : NumberType) → Gives same (Ok result) (left_of machine.new) (store_of (program_view program.now) (havocked (program_view program.now) []) (key_of at) from to value (left_of machine.old)) }
+    ensures { (from : NumberType) → Gives same (Ok result) (left_of machine.new)
+        (store_of (program_view program.now) (havocked (program_view program.now) []) (key_of at) from to value
+        (left_of machine.old)) }
 {
     let stored = convert(program.model, to, value);
     machine.memory.set(at.object, at.index, stored);
@@ -148,7 +161,9 @@ pub fn store(
 
 /// Converts a value where it is to have a type.
 pub fn convert_to(program: &Program, ty: Option<IntType>, value: i128) -> i128
-    ensures { (from : NumberType) (s : Left) → Gives same (Ok result) s (convert_to_of (program_view program.now) (havocked (program_view program.now) []) ty from value s) }
+    ensures { (from : NumberType) (s : Left)
+        → Gives same (Ok result) s
+        (convert_to_of (program_view program.now) (havocked (program_view program.now) []) ty from value s) }
 {
     match ty {
         None => value,
@@ -166,7 +181,9 @@ pub fn change(
     old: Typed,
     with: Typed,
 ) -> Result<i128, Halt>
-    ensures { Gives same result (left_of machine.new) (changed (program_view program.now) [] (where_of at) at.full op (key_of key) old.ty old.value with.ty with.value (left_of machine.old)) }
+    ensures { Gives same result (left_of machine.new)
+        (changed (program_view program.now) [] (where_of at) at.full op (key_of key) old.ty old.value with.ty with.value
+        (left_of machine.old)) }
 {
     let value = operate(program, at, op, old, with)?;
     Ok(store(program, machine, key, old.ty, value))
@@ -191,7 +208,8 @@ pub fn bump(
     key: Element,
     ty: IntType,
 ) -> Result<i128, Halt>
-    ensures { Gives same result (left_of machine.new) (bumped (program_view program.now) [] (where_of at) at.full op (key_of key) ty (left_of machine.old)) }
+    ensures { Gives same result (left_of machine.new)
+        (bumped (program_view program.now) [] (where_of at) at.full op (key_of key) ty (left_of machine.old)) }
 {
     let old = look(machine, key);
     let one = Typed {

@@ -27,12 +27,15 @@ pub fn judge_correctness(
     requires invariants { All (IsInvariant (program_view program.now)) (placed_view invariants.now) }
     requires some { 1 ≤ conflicts }
     requires bounded { conflicts ≤ 1000000 }
-    ensures right { IfOk result (λ r. IsRightOnInvariants conflicts (program_view program.now) (placed_view invariants.now) r.verdict) }
-    ensures confirmed { IfOk result (λ r. IsConfirmed (program_view program.now) (placed_view invariants.now) r.verdict) }
+    ensures right { IfOk result (λ r. IsRightOnInvariants conflicts (program_view program.now)
+        (placed_view invariants.now) r.verdict) }
+    ensures confirmed { IfOk result (λ r. IsConfirmed (program_view program.now) (placed_view invariants.now)
+        r.verdict) }
     ensures kept { IfOk result (λ r. IsKeptOf conflicts (program_view program.now) (placed_view invariants.now) r) }
     ensures decided { IfOk result (λ r. IsDecidedBeyond conflicts (program_view program.now) r.verdict) }
     ensures judged { IfOk result (λ r. CanBeJudged (program_view program.now) (placed_view invariants.now)) }
-    ensures fault { IfErr result (λ e. IsFault (program_view program.now) (names_of program.now.functions) (placed_view invariants.now) e) }
+    ensures fault { IfErr result (λ e. IsFault (program_view program.now) (names_of program.now.functions)
+        (placed_view invariants.now) e) }
 {
     runs_are_lifted();
     let found = obligations(alloc, program, invariants)?;

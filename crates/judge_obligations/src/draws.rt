@@ -39,7 +39,8 @@ fn number_of(values: &[bool], bits: &[Bit]) -> u64
 // what a run draws at a site
 fn draw_of(program: &Program, values: &[bool], site: &DrawSite) -> Draw
     requires wide { IsWide program.now.model site.now }
-    ensures { (v : ℕ → Bool) (net : List NetNode) → values.now ≡ values_of v net → result ≡ draw_at (program_view program.now) v net site.now }
+    ensures { (v : ℕ → Bool) (net : List NetNode) → values.now ≡ values_of v net → result
+        ≡ draw_at (program_view program.now) v net site.now }
 {
     let number = number_of(values, site.bits.bits.as_slice());
     Draw {

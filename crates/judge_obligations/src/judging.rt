@@ -93,8 +93,10 @@ pub fn settle(
     requires before { AreNeverTrue obligations.now.net obligations.now.failing at }
     requires some { 1 ≤ conflicts }
     requires bounded { conflicts ≤ 1000000 }
-    ensures settled { IfOk result (IsSettledAs conflicts (program_view program.now) (placed_view invariants.now) obligations.now at) }
-    ensures decided { IfOk result (λ r. 2 ^ (count_inputs obligations.now.net + 1) - 2 < conflicts → IsSettledUnspent r) }
+    ensures settled { IfOk result
+        (IsSettledAs conflicts (program_view program.now) (placed_view invariants.now) obligations.now at) }
+    ensures decided { IfOk result (λ r. 2 ^ (count_inputs obligations.now.net + 1) - 2 < conflicts
+        → IsSettledUnspent r) }
 {
     let net = &obligations.net;
     let _ = net.nodes();
@@ -121,9 +123,11 @@ pub fn decide(
     requires promised { AreObligationsOf (program_view program.now) (placed_view invariants.now) obligations.now }
     requires some { 1 ≤ conflicts }
     requires bounded { conflicts ≤ 1000000 }
-    ensures right { IfOk result (λ r. IsRightOnInvariants conflicts (program_view program.now) (placed_view invariants.now) r.verdict) }
+    ensures right { IfOk result (λ r. IsRightOnInvariants conflicts (program_view program.now)
+        (placed_view invariants.now) r.verdict) }
     ensures kept { IfOk result (λ r. IsKept conflicts obligations.now r.verdict r.spent) }
-    ensures decided { IfOk result (λ r. 2 ^ (count_inputs obligations.now.net + 1) - 2 < conflicts → IsDecided r.verdict) }
+    ensures decided { IfOk result (λ r. 2 ^ (count_inputs obligations.now.net + 1) - 2 < conflicts
+        → IsDecided r.verdict) }
 {
     let net = &obligations.net;
     let many = obligations.failing.len();

@@ -32,7 +32,8 @@ pub fn judge_logged(
     requires promised { AreObligationsOf (program_view program.now) (placed_view invariants.now) obligations.now }
     requires some { 1 ≤ conflicts }
     requires bounded { conflicts ≤ 1000000 }
-    ensures logged { IfOk result (IsLogged conflicts (program_view program.now) (placed_view invariants.now) obligations.now) }
+    ensures logged { IfOk result
+        (IsLogged conflicts (program_view program.now) (placed_view invariants.now) obligations.now) }
     ensures decided { IfOk result (λ r. 2 ^ (count_inputs obligations.now.net + 1) - 2 < conflicts → IsUnspent r) }
 {
     let mut logs = Seq::new(alloc);

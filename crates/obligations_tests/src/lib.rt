@@ -26,6 +26,8 @@ mod loops;
 #[cfg(test)]
 mod operators;
 #[cfg(test)]
+mod sites;
+#[cfg(test)]
 mod table;
 #[cfg(test)]
 mod told;

@@ -32,7 +32,8 @@ fn is_other(label: Label) -> bool
 
 // The number of the first arm whose constant is the value, if any.
 fn case_arm(value: i128, arms: &[Arm]) -> Option<usize>
-    ensures { MatchOption result (list_any (is_case value) (labels_in (switch_view arms.now)) ≡ false) (IsFirstCase value (labels_in (switch_view arms.now))) }
+    ensures { MatchOption result (list_any (is_case value) (labels_in (switch_view arms.now)) ≡ false)
+        (IsFirstCase value (labels_in (switch_view arms.now))) }
 {
     for (number, arm) in arms.iter().enumerate() {
         if has_constant(arm.label, value) {
@@ -73,7 +74,9 @@ pub fn select<W: Watcher>(
     value: i128,
     arms: &[Arm],
 ) -> Result<usize, Halt>
-    ensures gives { Gives same result (state_of machine.now (W.seen watcher.new)) (selecting (program_view program.now) W.Seen W.after spot value (labels_in (switch_view arms.now)) (state_of machine.now (W.seen watcher.old))) }
+    ensures gives { Gives same result (state_of machine.now (W.seen watcher.new))
+        (selecting (program_view program.now) W.Seen W.after spot value (labels_in (switch_view arms.now))
+        (state_of machine.now (W.seen watcher.old))) }
 {
     match case_arm(value, arms) {
         Some(number) => {

@@ -26,7 +26,9 @@ pub fn input<W: Watcher>(
     site: CallSite,
     ty: IntType,
 ) -> Result<i128, Halt>
-    ensures gives { Gives same result (state_of machine.new (W.seen watcher.new)) (input_of (program_view program.now) W.Seen W.after (site_of site) ty (state_of machine.old (W.seen watcher.old))) }
+    ensures gives { Gives same result (state_of machine.new (W.seen watcher.new))
+        (input_of (program_view program.now) W.Seen W.after (site_of site) ty
+        (state_of machine.old (W.seen watcher.old))) }
     ensures spends { machine.new.steps ≤ machine.old.steps }
 {
     let value = draw::<W>(program, machine, DrawKind::Input, site.spot, ty)?;
@@ -41,7 +43,9 @@ fn hand_back<W: Watcher>(
     close: Spot,
     value: i128,
 ) -> Result<i128, Halt>
-    ensures gives { Gives same result (state_of machine.now (W.seen watcher.new)) (handed_back (program_view program.now) W.Seen W.after close value (state_of machine.now (W.seen watcher.old))) }
+    ensures gives { Gives same result (state_of machine.now (W.seen watcher.new))
+        (handed_back (program_view program.now) W.Seen W.after close value
+        (state_of machine.now (W.seen watcher.old))) }
 {
     tell(machine, watcher, Event::Return(close, Some(value)))?;
     Ok(value)
@@ -55,7 +59,9 @@ pub fn reach<W: Watcher>(
     at: Around,
     site: CallSite,
 ) -> Result<i128, Halt>
-    ensures gives { Gives same result (state_of machine.now (W.seen watcher.new)) (reaching (program_view program.now) W.Seen W.after program.now.property (where_of at) (site_of site) (state_of machine.now (W.seen watcher.old))) }
+    ensures gives { Gives same result (state_of machine.now (W.seen watcher.new))
+        (reaching (program_view program.now) W.Seen W.after program.now.property (where_of at) (site_of site)
+        (state_of machine.now (W.seen watcher.old))) }
 {
     match program.property {
         Property::UnreachCall => violate(machine, watcher, at, site.spot, Some(site.spot)),
@@ -71,7 +77,9 @@ pub fn returned<W: Watcher>(
     site: CallSite,
     flow: Flow,
 ) -> Result<i128, Halt>
-    ensures gives { Gives same result (state_of machine.now (W.seen watcher.new)) (returning (program_view program.now) W.Seen W.after (site_of site) (given (flow_of flow)) (state_of machine.now (W.seen watcher.old))) }
+    ensures gives { Gives same result (state_of machine.now (W.seen watcher.new))
+        (returning (program_view program.now) W.Seen W.after (site_of site) (given (flow_of flow))
+        (state_of machine.now (W.seen watcher.old))) }
 {
     match flow {
         Flow::Gave(Some(value)) => hand_back(program, machine, watcher, site.close, value),
@@ -86,7 +94,9 @@ fn hand_none<W: Watcher>(
     watcher: &mut W,
     site: CallSite,
 ) -> Result<i128, Halt>
-    ensures gives { Gives same result (state_of machine.now (W.seen watcher.new)) (returning (program_view program.now) W.Seen W.after (site_of site) None (state_of machine.now (W.seen watcher.old))) }
+    ensures gives { Gives same result (state_of machine.now (W.seen watcher.new))
+        (returning (program_view program.now) W.Seen W.after (site_of site) None
+        (state_of machine.now (W.seen watcher.old))) }
 {
     tell(machine, watcher, Event::Return(site.close, None))?;
     if site.needed {

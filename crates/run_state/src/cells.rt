@@ -15,7 +15,9 @@ use wv_base::OutOfMemory;
 
 /// Takes so many steps, or all that are left.
 pub fn ticks<W: Watcher>(machine: &mut Machine, count: u64) -> Result<(), Halt>
-    ensures gives { (p : Tree) (tick : Tick) (x : W.Seen) → Gives same result (state_of machine.new x) (ticks_of p (watched p W.Seen W.after) tick count (state_of machine.old x)) }
+    ensures gives { (p : Tree) (tick : Tick) (x : W.Seen)
+        → Gives same result (state_of machine.new x)
+        (ticks_of p (watched p W.Seen W.after) tick count (state_of machine.old x)) }
     ensures spends { machine.new.steps ≤ machine.old.steps }
 {
     if count <= machine.steps {
@@ -73,7 +75,8 @@ fn draw_cell<W: Watcher>(
     object: u32,
     index: u32,
 ) -> Result<(), Halt>
-    ensures gives { (x : W.Seen) → Gives same result (state_of machine.new x) (cell_drawn (program_view program.now) W.Seen W.after spot object index (state_of machine.old x)) }
+    ensures gives { (x : W.Seen) → Gives same result (state_of machine.new x)
+        (cell_drawn (program_view program.now) W.Seen W.after spot object index (state_of machine.old x)) }
     ensures spends { machine.new.steps ≡ machine.old.steps }
 {
     let ty = type_of_object(program, object);
@@ -89,7 +92,9 @@ pub fn draw_cells<W: Watcher>(
     spot: Spot,
     object: u32,
 ) -> Result<(), Halt>
-    ensures gives { (n : ℕ) (x : W.Seen) → Gives same result (state_of machine.new x) (cells_drawn (program_view program.now) W.Seen W.after n spot object (state_of machine.old x)) }
+    ensures gives { (n : ℕ) (x : W.Seen)
+        → Gives same result (state_of machine.new x)
+        (cells_drawn (program_view program.now) W.Seen W.after n spot object (state_of machine.old x)) }
     ensures spends { machine.new.steps ≡ machine.old.steps }
 {
     let size = size_of_object(program, object);

@@ -26,7 +26,8 @@ pub fn draw<W: Watcher>(
     spot: Spot,
     ty: IntType,
 ) -> Result<i128, Halt>
-    ensures gives { (x : W.Seen) → Gives same result (state_of machine.new x) (drawing (program_view program.now) W.Seen W.after kind spot ty (state_of machine.old x)) }
+    ensures gives { (x : W.Seen) → Gives same result (state_of machine.new x)
+        (drawing (program_view program.now) W.Seen W.after kind spot ty (state_of machine.old x)) }
     ensures spends { machine.new.steps ≡ machine.old.steps }
 {
     let taken = take_choice(&mut machine.left, kind, spot);

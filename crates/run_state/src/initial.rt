@@ -20,7 +20,8 @@ pub fn start(
     choices: &Choices,
     steps: u64,
 ) -> Result<Machine, OutOfMemory>
-    ensures { IfOk result (λ machine. state_of machine tt ≡ first_state (program_view program.now) (Unit {0}) tt choices.now steps) }
+    ensures { IfOk result (λ machine. state_of machine tt
+        ≡ first_state (program_view program.now) (Unit {0}) tt choices.now steps) }
 {
     let memory = static_cells(alloc, program)?;
     let left = all_left(alloc, choices)?;
@@ -55,7 +56,9 @@ fn add_static(
     number: u32,
     object: &Object,
 ) -> Result<(), OutOfMemory>
-    ensures { OnOk result (memory.new.cells ≡ memory.old.cells ++ cond object.now.fixed (cells_from number 0 object.now.cells (start_values_of number program.now.starts)) []) }
+    ensures { OnOk result (memory.new.cells
+        ≡ memory.old.cells ++ cond object.now.fixed
+        (cells_from number 0 object.now.cells (start_values_of number program.now.starts)) []) }
 {
     if object.fixed {
         add_started(memory, number, object.cells, start_values(program, number))?;

@@ -17,7 +17,9 @@ pub fn set_parameters<W: Watcher>(
     parameters: &[u32],
     values: &[Typed],
 ) -> Result<(), Halt>
-    ensures gives { (x : W.Seen) → Gives same result (state_of machine.new x) (parameters_set (program_view program.now) W.Seen W.after parameters.now (pairs_of values.now) (state_of machine.old x)) }
+    ensures gives { (x : W.Seen) → Gives same result (state_of machine.new x)
+        (parameters_set (program_view program.now) W.Seen W.after parameters.now (pairs_of values.now)
+        (state_of machine.old x)) }
     ensures spends { machine.new.steps ≡ machine.old.steps }
 {
     for (index, parameter) in parameters.iter().enumerate() {
@@ -34,7 +36,9 @@ fn set_next<W: Watcher>(
     values: &[Typed],
     index: usize,
 ) -> Result<(), Halt>
-    ensures gives { (x : W.Seen) → Gives same result (state_of machine.new x) (next_set (program_view program.now) W.Seen W.after parameter (pairs_of (drop index values.now)) (state_of machine.old x)) }
+    ensures gives { (x : W.Seen) → Gives same result (state_of machine.new x)
+        (next_set (program_view program.now) W.Seen W.after parameter (pairs_of (drop index values.now))
+        (state_of machine.old x)) }
     ensures spends { machine.new.steps ≡ machine.old.steps }
 {
     match values.get(index) {
@@ -53,7 +57,9 @@ fn set_parameter<W: Watcher>(
     parameter: u32,
     value: Typed,
 ) -> Result<(), Halt>
-    ensures gives { (x : W.Seen) → Gives same result (state_of machine.new x) (parameter_set (program_view program.now) W.Seen W.after parameter value.value value.ty (state_of machine.old x)) }
+    ensures gives { (x : W.Seen) → Gives same result (state_of machine.new x)
+        (parameter_set (program_view program.now) W.Seen W.after parameter value.value value.ty
+        (state_of machine.old x)) }
     ensures spends { machine.new.steps ≡ machine.old.steps }
 {
     add_cells(&mut machine.memory, parameter, 1)?;

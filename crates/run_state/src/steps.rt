@@ -10,7 +10,8 @@ use c_meaning::{End, Event, Watcher, Way};
 
 /// Takes a step.
 pub fn tick<W: Watcher>(machine: &mut Machine) -> Result<(), Halt>
-    ensures gives { (p : Tree) (x : W.Seen) → Gives same result (state_of machine.new x) (ticked p W.Seen W.after (state_of machine.old x)) }
+    ensures gives { (p : Tree) (x : W.Seen)
+        → Gives same result (state_of machine.new x) (ticked p W.Seen W.after (state_of machine.old x)) }
     ensures spends { machine.new.steps ≤ machine.old.steps }
     ensures takes { OnOk result (suc machine.new.steps ≡ machine.old.steps) }
 {
@@ -33,7 +34,8 @@ pub fn tell<W: Watcher>(machine: &Machine, watcher: &mut W, event: Event) -> Res
 
 /// Room for so many cells more.
 pub fn room<W: Watcher>(machine: &Machine, cells: u64) -> Result<(), Halt>
-    ensures gives { (p : Tree) (x : W.Seen) → Gives same result (state_of machine.now x) (roomed p W.Seen W.after cells (state_of machine.now x)) }
+    ensures gives { (p : Tree) (x : W.Seen)
+        → Gives same result (state_of machine.now x) (roomed p W.Seen W.after cells (state_of machine.now x)) }
 {
     let live = machine.memory.count() as u128 + machine.active as u128 + cells as u128;
     if live <= 1_000_000 {
@@ -51,7 +53,8 @@ pub fn violate<W: Watcher>(
     spot: Spot,
     call: Option<Spot>,
 ) -> Result<i128, Halt>
-    ensures gives { (p : Tree) → Gives same result (state_of machine.now (W.seen watcher.new)) (violating p W.Seen W.after (where_of at) spot call (state_of machine.now (W.seen watcher.old))) }
+    ensures gives { (p : Tree) → Gives same result (state_of machine.now (W.seen watcher.new))
+        (violating p W.Seen W.after (where_of at) spot call (state_of machine.now (W.seen watcher.old))) }
 {
     tell(
         machine,
@@ -72,7 +75,8 @@ pub fn arrive<W: Watcher>(
     watcher: &mut W,
     spot: Spot,
 ) -> Result<(), Halt>
-    ensures gives { Gives same result (state_of machine.now (W.seen watcher.new)) (arrived (program_view program.now) W.Seen W.after spot (state_of machine.now (W.seen watcher.old))) }
+    ensures gives { Gives same result (state_of machine.now (W.seen watcher.new))
+        (arrived (program_view program.now) W.Seen W.after spot (state_of machine.now (W.seen watcher.old))) }
 {
     tell(machine, watcher, Event::At(spot))
 }
@@ -85,7 +89,8 @@ pub fn branch<W: Watcher>(
     spot: Spot,
     value: i128,
 ) -> Result<bool, Halt>
-    ensures gives { Gives same result (state_of machine.now (W.seen watcher.new)) (branching (program_view program.now) W.Seen W.after spot value (state_of machine.now (W.seen watcher.old))) }
+    ensures gives { Gives same result (state_of machine.now (W.seen watcher.new))
+        (branching (program_view program.now) W.Seen W.after spot value (state_of machine.now (W.seen watcher.old))) }
 {
     let taken = value != 0;
     tell(machine, watcher, Event::Branch(spot, Way::Truth(taken)))?;

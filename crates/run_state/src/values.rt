@@ -27,7 +27,9 @@ fn finish<W: Watcher>(
     spot: Spot,
     done: Done,
 ) -> Result<i128, Halt>
-    ensures gives { Gives same result (state_of machine.now (W.seen watcher.new)) (answering (program_view program.now) W.Seen W.after (where_of at) spot done (state_of machine.now (W.seen watcher.old))) }
+    ensures gives { Gives same result (state_of machine.now (W.seen watcher.new))
+        (answering (program_view program.now) W.Seen W.after (where_of at) spot done
+        (state_of machine.now (W.seen watcher.old))) }
 {
     match done {
         Done::Value(value) => Ok(value),
@@ -50,7 +52,9 @@ pub fn operate<W: Watcher>(
     left: Typed,
     right: Typed,
 ) -> Result<i128, Halt>
-    ensures gives { Gives same result (state_of machine.now (W.seen watcher.new)) (operate_of (program_view program.now) (watched (program_view program.now) W.Seen W.after) (where_of at) spot op left.ty left.value right.ty right.value (state_of machine.now (W.seen watcher.old))) }
+    ensures gives { Gives same result (state_of machine.now (W.seen watcher.new))
+        (operate_of (program_view program.now) (watched (program_view program.now) W.Seen W.after) (where_of at) spot op
+        left.ty left.value right.ty right.value (state_of machine.now (W.seen watcher.old))) }
 {
     let done = computed(
         program.model,
@@ -74,7 +78,9 @@ pub fn operate_one<W: Watcher>(
     op: UnOp,
     of: Typed,
 ) -> Result<i128, Halt>
-    ensures gives { Gives same result (state_of machine.now (W.seen watcher.new)) (answering (program_view program.now) W.Seen W.after (where_of at) spot (computed_one_of program.now.model op of.ty of.value) (state_of machine.now (W.seen watcher.old))) }
+    ensures gives { Gives same result (state_of machine.now (W.seen watcher.new))
+        (answering (program_view program.now) W.Seen W.after (where_of at) spot
+        (computed_one_of program.now.model op of.ty of.value) (state_of machine.now (W.seen watcher.old))) }
 {
     let done = computed_one(program.model, op, of.ty, of.value);
     let value = finish(program, machine, watcher, at, spot, done)?;
@@ -88,7 +94,9 @@ pub fn element<W: Watcher>(
     object: u32,
     index: i128,
 ) -> Result<Element, Halt>
-    ensures gives { (s : State W.Seen) → Gives key_of result s (keyed (program_view program.now) W.Seen W.after spot object (run.index_below (objects.size_of_object (program_view program.now) object) index) s) }
+    ensures gives { (s : State W.Seen) → Gives key_of result s
+        (keyed (program_view program.now) W.Seen W.after spot object
+        (run.index_below (objects.size_of_object (program_view program.now) object) index) s) }
 {
     let size = size_of_object(program, object);
     if index >= 0 && index < size as i128 {
@@ -120,7 +128,12 @@ pub fn element_in_row<W: Watcher>(
     row: i128,
     column: i128,
 ) -> Result<Element, Halt>
-    ensures gives { (s : State W.Seen) → Gives key_of result s (keyed (program_view program.now) W.Seen W.after spot object (run.in_row (objects.columns_of_object (program_view program.now) object) (run.index_below (objects.size_of_object (program_view program.now) object / objects.columns_of_object (program_view program.now) object) row) (run.index_below (objects.columns_of_object (program_view program.now) object) column)) s) }
+    ensures gives { (s : State W.Seen) → Gives key_of result s
+        (keyed (program_view program.now) W.Seen W.after spot object
+        (run.in_row (objects.columns_of_object (program_view program.now) object)
+        (run.index_below (objects.size_of_object (program_view program.now) object / objects.columns_of_object
+        (program_view program.now) object) row)
+        (run.index_below (objects.columns_of_object (program_view program.now) object) column)) s) }
 {
     let size = size_of_object(program, object);
     let columns = columns_of_object(program, object);
@@ -155,7 +168,10 @@ pub fn store<W: Watcher>(
     to: IntType,
     value: i128,
 ) -> i128
-    ensures gives { (from : NumberType) (x : W.Seen) → Gives same (Ok result) (state_of machine.new x) (store_of (program_view program.now) (watched (program_view program.now) W.Seen W.after) (key_of at) from to value (state_of machine.old x)) }
+    ensures gives { (from : NumberType) (x : W.Seen)
+        → Gives same (Ok result) (state_of machine.new x)
+        (store_of (program_view program.now) (watched (program_view program.now) W.Seen W.after) (key_of at) from to
+        value (state_of machine.old x)) }
     ensures spends { machine.new.steps ≡ machine.old.steps }
 {
     let stored = convert(program.model, to, value);
@@ -175,7 +191,9 @@ pub fn gave(program: &Program, wanted: Option<IntType>, value: i128) -> Flow
 
 /// Converts a value where it is to have a type.
 pub fn convert_to<W: Watcher>(program: &Program, ty: Option<IntType>, value: i128) -> i128
-    ensures gives { (from : NumberType) (s : State W.Seen) → Gives same (Ok result) s (convert_to_of (program_view program.now) (watched (program_view program.now) W.Seen W.after) ty from value s) }
+    ensures gives { (from : NumberType) (s : State W.Seen)
+        → Gives same (Ok result) s
+        (convert_to_of (program_view program.now) (watched (program_view program.now) W.Seen W.after) ty from value s) }
 {
     match ty {
         None => value,
@@ -195,7 +213,9 @@ pub fn change<W: Watcher>(
     old: Typed,
     with: Typed,
 ) -> Result<i128, Halt>
-    ensures gives { Gives same result (state_of machine.new (W.seen watcher.new)) (changed (program_view program.now) W.Seen W.after (where_of at) spot op (key_of key) old.ty old.value with.ty with.value (state_of machine.old (W.seen watcher.old))) }
+    ensures gives { Gives same result (state_of machine.new (W.seen watcher.new))
+        (changed (program_view program.now) W.Seen W.after (where_of at) spot op (key_of key) old.ty old.value with.ty
+        with.value (state_of machine.old (W.seen watcher.old))) }
     ensures spends { machine.new.steps ≡ machine.old.steps }
 {
     let value = operate(program, machine, watcher, at, spot, op, old, with)?;
@@ -223,7 +243,9 @@ pub fn bump<W: Watcher>(
     key: Element,
     ty: IntType,
 ) -> Result<i128, Halt>
-    ensures gives { Gives same result (state_of machine.new (W.seen watcher.new)) (bumped (program_view program.now) W.Seen W.after (where_of at) spot op (key_of key) ty (state_of machine.old (W.seen watcher.old))) }
+    ensures gives { Gives same result (state_of machine.new (W.seen watcher.new))
+        (bumped (program_view program.now) W.Seen W.after (where_of at) spot op (key_of key) ty
+        (state_of machine.old (W.seen watcher.old))) }
     ensures spends { machine.new.steps ≡ machine.old.steps }
 {
     let old = look(machine, key);

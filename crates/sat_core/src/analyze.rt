@@ -56,7 +56,11 @@ pub fn resolve_at(
     requires sized { length seen.old ≡ length trail.now.values.items }
     requires few { length given.now < 2 ^ 30 }
     requires few_more { length chains.now < 2 ^ 30 }
-    ensures { OnOk result ((start : ℕ) → IsAnalyzed (clauses_of given.now chains.now) (length trail.now.values.items) trail.now.entries.items start (at + 1) steps.old.items seen.old → IsAnalyzed (clauses_of given.now chains.now) (length trail.now.values.items) trail.now.entries.items start at steps.new.items seen.new) }
+    ensures { OnOk result ((start : ℕ)
+        → IsAnalyzed (clauses_of given.now chains.now) (length trail.now.values.items) trail.now.entries.items start
+        (at + 1) steps.old.items seen.old
+        → IsAnalyzed (clauses_of given.now chains.now) (length trail.now.values.items) trail.now.entries.items start at
+        steps.new.items seen.new) }
 {
     let entry = trail.entries[at];
     if !seen[entry.variable as usize] {
@@ -88,7 +92,8 @@ pub fn analyze(
     requires conflict { IsConflict (clauses_of given.now chains.now) trail.now.entries.items conflict }
     requires few { length given.now < 2 ^ 30 }
     requires few_more { length chains.now < 2 ^ 30 }
-    ensures { IfOk result (λ r. IsAnalyzed (clauses_of given.now chains.now) (length trail.now.values.items) trail.now.entries.items conflict 0 r.steps.items r.seen.items) }
+    ensures { IfOk result (λ r. IsAnalyzed (clauses_of given.now chains.now) (length trail.now.values.items)
+        trail.now.entries.items conflict 0 r.steps.items r.seen.items) }
 {
     let count = trail.entries.len();
     let mut seen = unseen(alloc, trail.values.len())?;

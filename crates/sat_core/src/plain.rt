@@ -27,9 +27,11 @@ pub fn search(
     requires size { length trail.old.values.items ≤ 2 ^ 32 }
     requires few { length given.now < 2 ^ 30 }
     requires few_more { length chains.now < 2 ^ 30 }
-    ensures state { OnOk result (IsState (clauses_of given.now chains.now) trail.new.values.items trail.new.entries.items) }
+    ensures state { OnOk result
+        (IsState (clauses_of given.now chains.now) trail.new.values.items trail.new.entries.items) }
     ensures size { length trail.new.values.items ≡ length trail.old.values.items }
-    ensures found { IfOk result (λ r. IsSearched (clauses_of given.now chains.now) (length trail.new.values.items) trail.new.entries.items r) }
+    ensures found { IfOk result (λ r. IsSearched (clauses_of given.now chains.now) (length trail.new.values.items)
+        trail.new.entries.items r) }
 {
     loop {
         if let Some(conflict) = propagate(given, chains, trail)? {
@@ -67,7 +69,8 @@ pub fn learn(
     requires conflict { IsConflict (clauses_of given.now chains.old) trail.old.entries.items conflict }
     requires few { length given.now < 2 ^ 30 }
     requires few_more { length chains.old < 2 ^ 30 }
-    ensures state { OnOk result (IsState (clauses_of given.now chains.new) trail.new.values.items trail.new.entries.items) }
+    ensures state { OnOk result
+        (IsState (clauses_of given.now chains.new) trail.new.values.items trail.new.entries.items) }
     ensures size { length trail.new.values.items ≡ length trail.old.values.items }
     ensures learned { IfOk result (λ r. HasLearned given.now (length trail.old.values.items) chains.old chains.new r) }
 {

@@ -58,10 +58,12 @@ pub fn scan(
     requires state { IsState (clauses_of given.now chains.now) trail.old.values.items trail.old.entries.items }
     requires few { length given.now < 2 ^ 30 }
     requires few_more { length chains.now < 2 ^ 30 }
-    ensures state { OnOk result (IsState (clauses_of given.now chains.now) trail.new.values.items trail.new.entries.items) }
+    ensures state { OnOk result
+        (IsState (clauses_of given.now chains.now) trail.new.values.items trail.new.entries.items) }
     ensures size { length trail.new.values.items ≡ length trail.old.values.items }
     ensures fewer { OnOk result (open_variables trail.new.values.items ≤ open_variables trail.old.values.items) }
-    ensures found { IfOk result (λ r. IsScan (clauses_of given.now chains.now) trail.new.entries.items (open_variables trail.old.values.items) (open_variables trail.new.values.items) r) }
+    ensures found { IfOk result (λ r. IsScan (clauses_of given.now chains.now) trail.new.entries.items
+        (open_variables trail.old.values.items) (open_variables trail.new.values.items) r) }
 {
     let mut quiet = true;
     for at in 0..given.len() + chains.len() {
@@ -90,7 +92,8 @@ pub fn propagate(
     requires state { IsState (clauses_of given.now chains.now) trail.old.values.items trail.old.entries.items }
     requires few { length given.now < 2 ^ 30 }
     requires few_more { length chains.now < 2 ^ 30 }
-    ensures state { OnOk result (IsState (clauses_of given.now chains.now) trail.new.values.items trail.new.entries.items) }
+    ensures state { OnOk result
+        (IsState (clauses_of given.now chains.now) trail.new.values.items trail.new.entries.items) }
     ensures size { length trail.new.values.items ≡ length trail.old.values.items }
     ensures fewer { OnOk result (open_variables trail.new.values.items ≤ open_variables trail.old.values.items) }
     ensures found { IfOk result (λ r. IsPropagated (clauses_of given.now chains.now) trail.new.entries.items r) }

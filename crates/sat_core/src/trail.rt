@@ -62,7 +62,8 @@ impl Trail {
         requires within { variable < length self.old.values.items }
         requires told { Told self.old.values.items self.old.entries.items }
         requires first { HasValue self.old.entries.items (length self.old.entries.items) variable → ⊥ }
-        ensures entries { OnOk result (self.new.entries.items ≡ self.old.entries.items ++ record { variable = variable; value = value; reason = reason } ∷ []) }
+        ensures entries { OnOk result (self.new.entries.items
+            ≡ self.old.entries.items ++ record { variable = variable; value = value; reason = reason } ∷ []) }
         ensures told { OnOk result (Told self.new.values.items self.new.entries.items) }
         ensures size { length self.new.values.items ≡ length self.old.values.items }
         ensures fewer { OnOk result (open_variables self.new.values.items < open_variables self.old.values.items) }
@@ -80,8 +81,10 @@ impl Trail {
     pub fn cancel_until(&mut self, kept: usize)
         requires within { kept ≤ length self.old.entries.items }
         requires told { Told self.old.values.items self.old.entries.items }
-        requires bounded { (n : ℕ) (e : Assigned) → slice_get self.old.entries.items n ≡ Some e → e.variable < length self.old.values.items }
-        requires once { (n : ℕ) (e : Assigned) → slice_get self.old.entries.items n ≡ Some e → HasValue self.old.entries.items n e.variable → ⊥ }
+        requires bounded { (n : ℕ) (e : Assigned) → slice_get self.old.entries.items n ≡ Some e
+            → e.variable < length self.old.values.items }
+        requires once { (n : ℕ) (e : Assigned) → slice_get self.old.entries.items n ≡ Some e
+            → HasValue self.old.entries.items n e.variable → ⊥ }
         ensures entries { self.new.entries.items ≡ take kept self.old.entries.items }
         ensures told { Told self.new.values.items self.new.entries.items }
         ensures size { length self.new.values.items ≡ length self.old.values.items }

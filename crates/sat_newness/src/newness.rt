@@ -47,7 +47,8 @@ fn is_new(
     requires many { length pairs.old ≡ length clauses.now + count }
     requires held { ArePairs (clauses_of clauses.now chains.now) pairs.old }
     ensures held { ArePairs (clauses_of clauses.now chains.now) pairs.new }
-    ensures next { IsTrue result → AreNew clauses.now (given (take count chains.now)) → AreNew clauses.now (given (take (count + 1) chains.now)) }
+    ensures next { IsTrue result → AreNew clauses.now (given (take count chains.now))
+        → AreNew clauses.now (given (take (count + 1) chains.now)) }
 {
     if !is_table(table) {
         return false;

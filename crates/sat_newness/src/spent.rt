@@ -12,7 +12,8 @@ use wv_base::OutOfMemory;
 // whether no first variables decide the clauses that are too few for a budget
 fn is_earned(alloc: Global, cnf: &Cnf, budget: u64) -> Result<bool, OutOfMemory>
     requires { budget ≤ 2 ^ 30 }
-    ensures { IfOk result (λ r. IsTrue r → (k : ℕ) → Decides k cnf.now.variables cnf.now.clauses → budget ≤ 2 ^ (k + 1) - 2) }
+    ensures { IfOk result (λ r. IsTrue r → (k : ℕ) → Decides k cnf.now.variables cnf.now.clauses
+        → budget ≤ 2 ^ (k + 1) - 2) }
 {
     let Some(k) = few_variables(budget) else {
         return Ok(false);

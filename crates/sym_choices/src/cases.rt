@@ -32,7 +32,8 @@ fn equals(
     requires x_in { AreTyped program.now.model ty sym.old.net x.now.bits }
     requires constant_in { IsTrue (in_range program.now.model ty constant) }
     requires room { length sym.old.net + equality_cost program.now.model ty < 2 ^ 28 }
-    ensures { IfOk result (λ r. Decided (program_view program.now) (equality_cost program.now.model ty) sym.old sym.new r (λ v. int_eq (typed program.now.model ty v sym.old.net x.now.bits) constant)) }
+    ensures { IfOk result (λ r. Decided (program_view program.now) (equality_cost program.now.model ty) sym.old sym.new
+        r (λ v. int_eq (typed program.now.model ty v sym.old.net x.now.bits) constant)) }
 {
     let other = const_bits(alloc, &sym.net, program.model, ty, constant)?;
     let same = apply_bits(
@@ -63,7 +64,8 @@ fn case_bit(
     requires x_in { AreTyped program.now.model ty sym.old.net x.now.bits }
     requires label_in { IsTrue (label_fits program.now.model ty label) }
     requires room { length sym.old.net + case_cost program.now.model ty label < 2 ^ 28 }
-    ensures { IfOk result (λ r. Decided (program_view program.now) (case_cost program.now.model ty label) sym.old sym.new r (λ v. is_case (typed program.now.model ty v sym.old.net x.now.bits) label)) }
+    ensures { IfOk result (λ r. Decided (program_view program.now) (case_cost program.now.model ty label) sym.old
+        sym.new r (λ v. is_case (typed program.now.model ty v sym.old.net x.now.bits) label)) }
 {
     match label {
         Label::Case(constant) => {
@@ -88,7 +90,8 @@ pub fn case_bits(
     requires x_in { AreTyped program.now.model ty sym.old.net x.now.bits }
     requires labels_in { IsTrue (list_all (label_fits program.now.model ty) (labels_in (switch_view arms.now))) }
     requires room { length sym.old.net + cases_cost program.now.model ty (labels_in (switch_view arms.now)) < 2 ^ 28 }
-    ensures { IfOk result (λ r. AreCases (program_view program.now) ty x.now.bits (labels_in (switch_view arms.now)) sym.old sym.new r.items) }
+    ensures { IfOk result (λ r. AreCases (program_view program.now) ty x.now.bits (labels_in (switch_view arms.now))
+        sym.old sym.new r.items) }
 {
     let mut out = Vec::new(alloc);
     for arm in arms {

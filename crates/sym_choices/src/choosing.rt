@@ -31,7 +31,8 @@ fn either(net: &mut Net, a: Bit, b: Bit) -> Result<Bit, OutOfMemory>
 fn any_of(net: &mut Net, bits: &[Bit]) -> Result<Bit, OutOfMemory>
     requires bits_in { AreIn net.old bits.now }
     requires room { length net.old + length bits.now < 2 ^ 28 }
-    ensures { IfOk result (λ r. Grown (length bits.now) net.old net.new × Means net.new r (λ v. list_any (λ b. holds v net.old b) bits.now)) }
+    ensures { IfOk result (λ r. Grown (length bits.now) net.old net.new
+        × Means net.new r (λ v. list_any (λ b. holds v net.old b) bits.now)) }
 {
     let mut any = not(net.yes());
     for bit in bits {
@@ -62,7 +63,8 @@ fn entries(
     requires cases_in { AreIn net.old cases.now }
     requires none_in { IsIn net.old none }
     requires room { length net.old + length arms.now < 2 ^ 28 }
-    ensures { IfOk result (λ r. AreEntries (length arms.now) (labels_in (switch_view arms.now)) cases.now none net.old net.new r.items) }
+    ensures { IfOk result (λ r. AreEntries (length arms.now) (labels_in (switch_view arms.now)) cases.now none net.old
+        net.new r.items) }
 {
     let mut entered = not(net.yes());
     let mut out = Vec::new(alloc);
@@ -85,7 +87,11 @@ pub fn enter_arms(
     requires many { length cases.now ≡ length arms.now }
     requires cases_in { AreIn sym.old.net cases.now }
     requires room { length sym.old.net + 2 * length arms.now < 2 ^ 28 }
-    ensures { IfOk result (λ r. (w : (ℕ → Bool) → ℤ) → ((v : ℕ → Bool) → map (holds v sym.old.net) cases.now ≡ map (is_case (w v)) (labels_in (switch_view arms.now))) → Entered (program_view program.now) (2 * length arms.now) (labels_in (switch_view arms.now)) w sym.old sym.new r.items) }
+    ensures { IfOk result (λ r. (w : (ℕ → Bool) → ℤ)
+        → ((v : ℕ → Bool) → map (holds v sym.old.net) cases.now
+        ≡ map (is_case (w v)) (labels_in (switch_view arms.now)))
+        → Entered (program_view program.now) (2 * length arms.now) (labels_in (switch_view arms.now)) w sym.old sym.new
+        r.items) }
 {
     let any = any_of(&mut sym.net, cases)?;
     let bits = entries(alloc, &mut sym.net, cases, not(any), arms)?;

@@ -22,7 +22,8 @@ fn end_outside(program: &Program, sym: &mut Sym, places: &[Bit]) -> Result<(), O
     requires fits { IsState (program_view program.now) sym.old }
     requires inside { AreIn sym.old.net places.now }
     requires room { length sym.old.net + length places.now < 2 ^ 28 }
-    ensures { IfOk result (λ r. Turned (program_view program.now) (length places.now + 1) 0 sym.old sym.new (λ v. stopped (none_true (map (holds v sym.old.net) places.now)))) }
+    ensures { IfOk result (λ r. Turned (program_view program.now) (length places.now + 1) 0 sym.old sym.new
+        (λ v. stopped (none_true (map (holds v sym.old.net) places.now)))) }
 {
     let outside = none_of(&mut sym.net, places)?;
     stop(sym, program, outside)?;
@@ -41,7 +42,9 @@ pub fn find(
     requires fits { IsState (program_view program.now) sym.old }
     requires index_in { AreTyped program.now.model ty sym.old.net index.now.bits }
     requires room { length sym.old.net + found_cost (program_view program.now) ty object < 2 ^ 28 }
-    ensures { IfOk result (λ r. (I : List Placed) → Finds (program_view program.now) I object (found_cost (program_view program.now) ty object) (index_in (program_view program.now) object ty index.now.bits sym.old) sym.old sym.new r) }
+    ensures { IfOk result (λ r. (I : List Placed)
+        → Finds (program_view program.now) I object (found_cost (program_view program.now) ty object)
+        (index_in (program_view program.now) object ty index.now.bits sym.old) sym.old sym.new r) }
 {
     let count = size_of_object(program, object) as usize;
     let yes = sym.net.yes();
@@ -64,8 +67,13 @@ pub fn find_in_row(
     requires fits { IsState (program_view program.now) sym.old }
     requires row_in { AreTyped program.now.model row_type sym.old.net row.now.bits }
     requires column_in { AreTyped program.now.model column_type sym.old.net column.now.bits }
-    requires room { length sym.old.net + found_row_cost (program_view program.now) row_type column_type object < 2 ^ 28 }
-    ensures { IfOk result (λ r. (I : List Placed) → Finds (program_view program.now) I object (found_row_cost (program_view program.now) row_type column_type object) (row_in (program_view program.now) object row_type row.now.bits column_type column.now.bits sym.old) sym.old sym.new r) }
+    requires room { length sym.old.net + found_row_cost (program_view program.now) row_type column_type object < 2 ^
+        28 }
+    ensures { IfOk result (λ r. (I : List Placed)
+        → Finds (program_view program.now) I object
+        (found_row_cost (program_view program.now) row_type column_type object)
+        (row_in (program_view program.now) object row_type row.now.bits column_type column.now.bits sym.old) sym.old
+        sym.new r) }
 {
     let yes = sym.net.yes();
     let places = place_row(

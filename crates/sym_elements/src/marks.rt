@@ -78,7 +78,8 @@ pub fn crossed(
     requires columns_in { AreIn net.old columns.now }
     requires some { 0 < length columns.now }
     requires room { length net.old + length rows.now * length columns.now < 2 ^ 31 }
-    ensures { IfOk result (λ r. AreCrossed net.old net.new rows.now columns.now (length rows.now * length columns.now) r.items) }
+    ensures { IfOk result (λ r. AreCrossed net.old net.new rows.now columns.now (length rows.now * length columns.now)
+        r.items) }
 {
     let mut out = Vec::new(alloc);
     let width = columns.len();

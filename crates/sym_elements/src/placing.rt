@@ -39,7 +39,8 @@ pub fn columns_of_object(program: &Program, object: u32) -> u32
 fn not_negative(net: &Net, ty: IntType, digits: &[Bit]) -> Bit
     requires some { 0 < length digits.now }
     requires digits_in { AreIn net.now digits.now }
-    ensures { Means net.now result (λ v. not (negative (length digits.now) (is_signed ty) (number v net.now digits.now))) }
+    ensures { Means net.now result (λ v. not
+        (negative (length digits.now) (is_signed ty) (number v net.now digits.now))) }
 {
     if signed(ty) {
         return not(digits[digits.len() - 1]);
@@ -60,7 +61,8 @@ pub fn place_index(
     requires some { 0 < length index.now }
     requires index_in { AreIn net.old index.now }
     requires room { length net.old + index_cost count (length index.now) < 2 ^ 31 }
-    ensures { IfOk result (λ r. ArePlaced net.old net.new (index_cost count (length index.now)) count (index_where net.old here count (is_signed ty) index.now) r) }
+    ensures { IfOk result (λ r. ArePlaced net.old net.new (index_cost count (length index.now)) count
+        (index_where net.old here count (is_signed ty) index.now) r) }
 {
     let inside = not_negative(net, ty, index);
     let there = net.and(here, inside)?;
@@ -95,7 +97,9 @@ fn place_among(
     requires column_in { AreIn net.old column.now }
     requires some { 0 < columns }
     requires room { length net.old + crossed_cost rows columns (length row.now) (length column.now) < 2 ^ 31 }
-    ensures { IfOk result (λ r. ArePlaced net.old net.new (crossed_cost rows columns (length row.now) (length column.now)) (rows * columns) (row_where net.old here rows columns (is_signed row_type) row.now (is_signed column_type) column.now) r) }
+    ensures { IfOk result (λ r. ArePlaced net.old net.new
+        (crossed_cost rows columns (length row.now) (length column.now)) (rows * columns)
+        (row_where net.old here rows columns (is_signed row_type) row.now (is_signed column_type) column.now) r) }
 {
     let first = place_index(alloc, net, here, row_type, row, rows as usize)?;
     let last = place_index(alloc, net, here, column_type, column, columns as usize)?;
@@ -130,9 +134,16 @@ pub fn place_row(
     requires row_in { AreIn net.old row.now }
     requires some_column { 0 < length column.now }
     requires column_in { AreIn net.old column.now }
-    requires room { length net.old + row_cost (objects.size_of_object (program_view program.now) object) (length row.now) (length column.now) < 2 ^ 31 }
-    ensures few { rows_of (program_view program.now) object * objects.columns_of_object (program_view program.now) object ≤ objects.size_of_object (program_view program.now) object }
-    ensures placed { IfOk result (λ r. ArePlaced net.old net.new (row_cost (objects.size_of_object (program_view program.now) object) (length row.now) (length column.now)) (rows_of (program_view program.now) object * objects.columns_of_object (program_view program.now) object) (row_where net.old here (rows_of (program_view program.now) object) (objects.columns_of_object (program_view program.now) object) (is_signed row_type) row.now (is_signed column_type) column.now) r) }
+    requires room { length net.old + row_cost (objects.size_of_object (program_view program.now) object)
+        (length row.now) (length column.now) < 2 ^ 31 }
+    ensures few { rows_of (program_view program.now) object * objects.columns_of_object (program_view program.now)
+        object ≤ objects.size_of_object (program_view program.now) object }
+    ensures placed { IfOk result (λ r. ArePlaced net.old net.new
+        (row_cost (objects.size_of_object (program_view program.now) object) (length row.now) (length column.now))
+        (rows_of (program_view program.now) object * objects.columns_of_object (program_view program.now) object)
+        (row_where net.old here (rows_of (program_view program.now) object)
+        (objects.columns_of_object (program_view program.now) object) (is_signed row_type) row.now
+        (is_signed column_type) column.now) r) }
 {
     let cells = size_of_object(program, object);
     let columns = columns_of_object(program, object);

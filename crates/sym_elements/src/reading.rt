@@ -61,7 +61,8 @@ pub fn read_among(
     requires some { 0 < columns }
     requires within { low + count < 2 ^ 32 }
     requires room { length sym.old.net + picked_cost (program_view program.now) object count < 2 ^ 28 }
-    ensures { IfOk result (λ r. IsPicked (program_view program.now) object inner columns low count digits.now sym.old sym.new r.bits) }
+    ensures { IfOk result (λ r. IsPicked (program_view program.now) object inner columns low count digits.now sym.old
+        sym.new r.bits) }
 {
     if digits.is_empty() {
         let held = look(alloc, program, sym, object, low, ty)?;
@@ -100,7 +101,9 @@ pub fn read_element(
     requires typed { ty ≡ type_of_object (program_view program.now) object }
     requires places_of { ArePlaces (program_view program.now) sym.old object places.now }
     requires room { length sym.old.net + read_cost (program_view program.now) object < 2 ^ 28 }
-    ensures { IfOk result (λ r. (I : List Placed) → Gives (program_view program.now) I (read_cost (program_view program.now) object) 0 sym.old sym.new (Some ty) r.bits (read_in (program_view program.now) I object places.now.bits sym.old)) }
+    ensures { IfOk result (λ r. (I : List Placed)
+        → Gives (program_view program.now) I (read_cost (program_view program.now) object) 0 sym.old sym.new (Some ty)
+        r.bits (read_in (program_view program.now) I object places.now.bits sym.old)) }
 {
     let digits = places.digits.as_slice();
     let count = places.bits.len() as u32;

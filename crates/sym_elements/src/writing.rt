@@ -30,9 +30,13 @@ fn write_place(
 ) -> Result<(), OutOfMemory>
     requires fits { IsState (program_view program.now) sym.old }
     requires here_in { IsIn sym.old.net here }
-    requires value_in { AreTyped program.now.model (type_of_object (program_view program.now) object) sym.old.net value.now.bits }
+    requires value_in { AreTyped program.now.model (type_of_object (program_view program.now) object) sym.old.net
+        value.now.bits }
     requires room { length sym.old.net + 1 < 2 ^ 28 }
-    ensures { IfOk result (λ r. Turned (program_view program.now) (4 * width_of_element (program_view program.now) object + 1) 0 sym.old sym.new (λ v s. stored (s.live && holds v sym.old.net here) (key object index) (typed program.now.model (type_of_object (program_view program.now) object) v sym.old.net value.now.bits) s)) }
+    ensures { IfOk result (λ r. Turned (program_view program.now)
+        (4 * width_of_element (program_view program.now) object + 1) 0 sym.old sym.new
+        (λ v s. stored (s.live && holds v sym.old.net here) (key object index)
+        (typed program.now.model (type_of_object (program_view program.now) object) v sym.old.net value.now.bits) s)) }
 {
     let now = sym.net.and(sym.live, here)?;
     write(alloc, program, sym, now, object, index, value)?;
@@ -50,9 +54,12 @@ pub fn write_element(
 ) -> Result<(), OutOfMemory>
     requires fits { IsState (program_view program.now) sym.old }
     requires places_of { ArePlaces (program_view program.now) sym.old object places.now }
-    requires value_in { AreTyped program.now.model (type_of_object (program_view program.now) object) sym.old.net value.now.bits }
+    requires value_in { AreTyped program.now.model (type_of_object (program_view program.now) object) sym.old.net
+        value.now.bits }
     requires room { length sym.old.net + written_cost (program_view program.now) object < 2 ^ 28 }
-    ensures { IfOk result (λ r. Turned (program_view program.now) (written_cost (program_view program.now) object) 0 sym.old sym.new (λ v. stored (holds v sym.old.net sym.old.live) (key_at object v sym.old.net places.now.bits) (typed program.now.model (type_of_object (program_view program.now) object) v sym.old.net value.now.bits))) }
+    ensures { IfOk result (λ r. Turned (program_view program.now) (written_cost (program_view program.now) object) 0
+        sym.old sym.new (λ v. stored (holds v sym.old.net sym.old.live) (key_at object v sym.old.net places.now.bits)
+        (typed program.now.model (type_of_object (program_view program.now) object) v sym.old.net value.now.bits))) }
 {
     let bits = places.bits.as_slice();
     for i in 0..bits.len() {
@@ -77,7 +84,9 @@ pub fn store_element(
     requires places_of { ArePlaces (program_view program.now) sym.old object places.now }
     requires value_in { AreTyped program.now.model from sym.old.net value.now.bits }
     requires room { length sym.old.net + stored_cost (program_view program.now) from object < 2 ^ 28 }
-    ensures { IfOk result (λ r. (I : List Placed) → Gives (program_view program.now) I (stored_cost (program_view program.now) from object) 0 sym.old sym.new (Some to) r.bits (stored_in (program_view program.now) I object places.now.bits from value.now.bits sym.old)) }
+    ensures { IfOk result (λ r. (I : List Placed)
+        → Gives (program_view program.now) I (stored_cost (program_view program.now) from object) 0 sym.old sym.new
+        (Some to) r.bits (stored_in (program_view program.now) I object places.now.bits from value.now.bits sym.old)) }
 {
     let bits = convert(alloc, program, sym, from, to, value)?;
     write_element(alloc, program, sym, object, places, &bits)?;

@@ -1,5 +1,6 @@
 -- Main's body, from the first state.
 use Rattle.std.proofs.Common.{◌≡◌, ℕ, zero, suc, ◌+◌, ◌<◌, ◌^◌, IsTrue, List, [], ◌∷◌, length, length-append, refl, sym, ◌∙◌, ap, subst, arith, Option, Some, None, slice_get, get_or, unwrap_or, true≢false}
+use Rattle.std.specs.List.{All}
 use Rattle.std.specs.Option.{option_map}
 use Rattle.std.proofs.lemmas.Option.{slice_get_read, slice_get_within, slice_get-map}
 use Rattle.c_calls.specs.Calling.{IsCalledFrom, directly, further, IsFirstRecursion}
@@ -23,6 +24,7 @@ use Rattle.circuits.proofs.Nets.{count_ands-append, inputs-append}
 use Rattle.sym_eval.specs.Doing.{weight_of_form, bits_of_form, FormReady, FormDoes}
 use Rattle.sym_eval.specs.Whole.{IsLight, IsWhole, AreMade}
 use Rattle.sym_duties.specs.Answers.{names_of}
+use Rattle.sym_duties.specs.Promise.{StandsFor}
 use Rattle.sym_flow.specs.Calling.{Enters}
 use Rattle.sym_state.specs.declared.state.DrawSite.{DrawSite}
 use Rattle.sym_state.specs.declared.state.Sym.{Sym}
@@ -82,13 +84,14 @@ module _ (p : Program) (I : List Placed) (r : _) (ps : List ℕ) (at : Spot) (f 
 
 -- ---- what is told of the whole
 pub are_made : (p : Program) (I : List Placed) (s : Sym) (list : List Duty) (failing : List Bit) (sites : List DrawSite) → IsWhole p I s → IsLight p I → list ≡ Duties p I → failing ≡ s.failing.items → sites ≡ s.sites.items
-    → AreMade p I (record { list = list; net = s.net; failing = failing; sites = sites })
-are_made p I s list failing sites h light a b c = rw (a, b, c) (record {
+    → All (StandsFor p) s.sites.items → AreMade p I (record { list = list; net = s.net; failing = failing; sites = sites })
+are_made p I s list failing sites h light a b c stand = rw (a, b, c) (record {
   list = refl;
   numbered = h.numbered;
   many = h.decides.many;
   failing_in = h.fits.failing;
   sites_in = h.fits.sites;
+  stand = stand;
   each = λ v. let t = h.decides.each v in record { draws = t.draws; ends = t.ends };
   all = λ w. let t = h.decides.all w in (t.0, record { draws = t.1.draws; ends = t.1.ends });
   gates = h.gates;

@@ -30,8 +30,10 @@ fn target(
     e: &Expr,
 ) -> Result<Target, OutOfMemory>
     requires walk { IsWalk walk.now }
-    requires ready { TargetReady (program_of walk.now) (invariants_of walk.now) depth at (finding (program_of walk.now) (expr_view e.now)) sym.old (expr_view e.now) }
-    ensures { IfOk result (λ cell. Found (program_of walk.now) (invariants_of walk.now) depth at (expr_view e.now) sym.old sym.new cell) }
+    requires ready { TargetReady (program_of walk.now) (invariants_of walk.now) depth at
+        (finding (program_of walk.now) (expr_view e.now)) sym.old (expr_view e.now) }
+    ensures { IfOk result (λ cell. Found (program_of walk.now) (invariants_of walk.now) depth at (expr_view e.now)
+        sym.old sym.new cell) }
 {
     match &e.node {
         Node::Var(object) => Ok(Target::Scalar(*object)),
@@ -56,8 +58,11 @@ pub fn indexed(
     indexes: &[Expr],
 ) -> Result<Target, OutOfMemory>
     requires walk { IsWalk walk.now }
-    requires ready { TargetReady (program_of walk.now) (invariants_of walk.now) depth at (finding (program_of walk.now) (t.Expr e.now.spot e.now.ty (t.Index object (exprs_view indexes.now)))) sym.old (t.Expr e.now.spot e.now.ty (t.Index object (exprs_view indexes.now))) }
-    ensures { IfOk result (λ cell. Found (program_of walk.now) (invariants_of walk.now) depth at (t.Expr e.now.spot e.now.ty (t.Index object (exprs_view indexes.now))) sym.old sym.new cell) }
+    requires ready { TargetReady (program_of walk.now) (invariants_of walk.now) depth at
+        (finding (program_of walk.now) (t.Expr e.now.spot e.now.ty (t.Index object (exprs_view indexes.now)))) sym.old
+        (t.Expr e.now.spot e.now.ty (t.Index object (exprs_view indexes.now))) }
+    ensures { IfOk result (λ cell. Found (program_of walk.now) (invariants_of walk.now) depth at
+        (t.Expr e.now.spot e.now.ty (t.Index object (exprs_view indexes.now))) sym.old sym.new cell) }
 {
     match indexes {
         [index] => at_index(walk, sym, depth, at, e, object, index),
@@ -78,8 +83,12 @@ fn at_index(
     index: &Expr,
 ) -> Result<Target, OutOfMemory>
     requires walk { IsWalk walk.now }
-    requires ready { TargetReady (program_of walk.now) (invariants_of walk.now) depth at (finding (program_of walk.now) (t.Expr e.now.spot e.now.ty (t.Index object (t.MoreExp (expr_view index.now) t.NoExp)))) sym.old (t.Expr e.now.spot e.now.ty (t.Index object (t.MoreExp (expr_view index.now) t.NoExp))) }
-    ensures { IfOk result (λ cell. Found (program_of walk.now) (invariants_of walk.now) depth at (t.Expr e.now.spot e.now.ty (t.Index object (t.MoreExp (expr_view index.now) t.NoExp))) sym.old sym.new cell) }
+    requires ready { TargetReady (program_of walk.now) (invariants_of walk.now) depth at
+        (finding (program_of walk.now)
+        (t.Expr e.now.spot e.now.ty (t.Index object (t.MoreExp (expr_view index.now) t.NoExp)))) sym.old
+        (t.Expr e.now.spot e.now.ty (t.Index object (t.MoreExp (expr_view index.now) t.NoExp))) }
+    ensures { IfOk result (λ cell. Found (program_of walk.now) (invariants_of walk.now) depth at
+        (t.Expr e.now.spot e.now.ty (t.Index object (t.MoreExp (expr_view index.now) t.NoExp))) sym.old sym.new cell) }
 {
     let i = eval(walk, sym, depth, at, true, index)?;
     let places = find(walk.alloc, walk.program, sym, object, type_of(index), &i)?;
@@ -99,8 +108,16 @@ fn at_row(
     column: &Expr,
 ) -> Result<Target, OutOfMemory>
     requires walk { IsWalk walk.now }
-    requires ready { TargetReady (program_of walk.now) (invariants_of walk.now) depth at (finding (program_of walk.now) (t.Expr e.now.spot e.now.ty (t.Index object (t.MoreExp (expr_view row.now) (t.MoreExp (expr_view column.now) t.NoExp))))) sym.old (t.Expr e.now.spot e.now.ty (t.Index object (t.MoreExp (expr_view row.now) (t.MoreExp (expr_view column.now) t.NoExp)))) }
-    ensures { IfOk result (λ cell. Found (program_of walk.now) (invariants_of walk.now) depth at (t.Expr e.now.spot e.now.ty (t.Index object (t.MoreExp (expr_view row.now) (t.MoreExp (expr_view column.now) t.NoExp)))) sym.old sym.new cell) }
+    requires ready { TargetReady (program_of walk.now) (invariants_of walk.now) depth at
+        (finding (program_of walk.now)
+        (t.Expr e.now.spot e.now.ty
+        (t.Index object (t.MoreExp (expr_view row.now) (t.MoreExp (expr_view column.now) t.NoExp))))) sym.old
+        (t.Expr e.now.spot e.now.ty
+        (t.Index object (t.MoreExp (expr_view row.now) (t.MoreExp (expr_view column.now) t.NoExp)))) }
+    ensures { IfOk result (λ cell. Found (program_of walk.now) (invariants_of walk.now) depth at
+        (t.Expr e.now.spot e.now.ty
+        (t.Index object (t.MoreExp (expr_view row.now) (t.MoreExp (expr_view column.now) t.NoExp)))) sym.old sym.new
+        cell) }
 {
     let i = eval(walk, sym, depth, at, true, row)?;
     let j = eval(walk, sym, depth, at, true, column)?;
@@ -111,6 +128,7 @@ fn at_row(
 
 /// An assignment; its value is that of the target behind it (ISO C11 6.5.16).
 #[cycle(walk)]
+#[inline(never)]
 pub fn assign(
     walk: &Walk,
     sym: &mut Sym,
@@ -122,8 +140,10 @@ pub fn assign(
     from: &Expr,
 ) -> Result<Bits, OutOfMemory>
     requires walk { IsWalk walk.now }
-    requires ready { Ready (program_of walk.now) (invariants_of walk.now) depth at sym.old (t.Expr e.now.spot e.now.ty (t.Assign op (expr_view to.now) (expr_view from.now))) }
-    ensures { IfOk result (λ r. Values (program_of walk.now) (invariants_of walk.now) depth at Used (t.Expr e.now.spot e.now.ty (t.Assign op (expr_view to.now) (expr_view from.now))) sym.old sym.new r.bits) }
+    requires ready { Ready (program_of walk.now) (invariants_of walk.now) depth at sym.old
+        (t.Expr e.now.spot e.now.ty (t.Assign op (expr_view to.now) (expr_view from.now))) }
+    ensures { IfOk result (λ r. Values (program_of walk.now) (invariants_of walk.now) depth at Used
+        (t.Expr e.now.spot e.now.ty (t.Assign op (expr_view to.now) (expr_view from.now))) sym.old sym.new r.bits) }
 {
     match op {
         None => {
@@ -148,8 +168,10 @@ fn replace(
     from: &Expr,
 ) -> Result<Bits, OutOfMemory>
     requires walk { IsWalk walk.now }
-    requires ready { Ready (program_of walk.now) (invariants_of walk.now) depth at sym.old (t.Expr e.now.spot e.now.ty (t.Assign None (expr_view to.now) (expr_view from.now))) }
-    ensures { IfOk result (λ r. Values (program_of walk.now) (invariants_of walk.now) depth at Used (t.Expr e.now.spot e.now.ty (t.Assign None (expr_view to.now) (expr_view from.now))) sym.old sym.new r.bits) }
+    requires ready { Ready (program_of walk.now) (invariants_of walk.now) depth at sym.old
+        (t.Expr e.now.spot e.now.ty (t.Assign None (expr_view to.now) (expr_view from.now))) }
+    ensures { IfOk result (λ r. Values (program_of walk.now) (invariants_of walk.now) depth at Used
+        (t.Expr e.now.spot e.now.ty (t.Assign None (expr_view to.now) (expr_view from.now))) sym.old sym.new r.bits) }
 {
     let cell = target(walk, sym, depth, at, to)?;
     let y = eval(walk, sym, depth, at, true, from)?;
@@ -170,8 +192,11 @@ fn update(
     from: &Expr,
 ) -> Result<Bits, OutOfMemory>
     requires walk { IsWalk walk.now }
-    requires ready { Ready (program_of walk.now) (invariants_of walk.now) depth at sym.old (t.Expr e.now.spot e.now.ty (t.Assign (Some op) (expr_view to.now) (expr_view from.now))) }
-    ensures { IfOk result (λ r. Values (program_of walk.now) (invariants_of walk.now) depth at Used (t.Expr e.now.spot e.now.ty (t.Assign (Some op) (expr_view to.now) (expr_view from.now))) sym.old sym.new r.bits) }
+    requires ready { Ready (program_of walk.now) (invariants_of walk.now) depth at sym.old
+        (t.Expr e.now.spot e.now.ty (t.Assign (Some op) (expr_view to.now) (expr_view from.now))) }
+    ensures { IfOk result (λ r. Values (program_of walk.now) (invariants_of walk.now) depth at Used
+        (t.Expr e.now.spot e.now.ty (t.Assign (Some op) (expr_view to.now) (expr_view from.now))) sym.old sym.new
+        r.bits) }
 {
     let cell = target(walk, sym, depth, at, to)?;
     let a = type_of(to);
@@ -193,6 +218,7 @@ fn value_of_step(prefix: bool, after: Bits, before: Bits) -> Bits
 
 /// `++` or `--`, before or behind its target (ISO C11 6.5.2.4, 6.5.3.1).
 #[cycle(walk)]
+#[inline(never)]
 pub fn step(
     walk: &Walk,
     sym: &mut Sym,
@@ -203,8 +229,10 @@ pub fn step(
     to: &Expr,
 ) -> Result<Bits, OutOfMemory>
     requires walk { IsWalk walk.now }
-    requires ready { Ready (program_of walk.now) (invariants_of walk.now) depth at sym.old (t.Expr e.now.spot e.now.ty (t.Step op (expr_view to.now))) }
-    ensures { IfOk result (λ r. Values (program_of walk.now) (invariants_of walk.now) depth at Used (t.Expr e.now.spot e.now.ty (t.Step op (expr_view to.now))) sym.old sym.new r.bits) }
+    requires ready { Ready (program_of walk.now) (invariants_of walk.now) depth at sym.old
+        (t.Expr e.now.spot e.now.ty (t.Step op (expr_view to.now))) }
+    ensures { IfOk result (λ r. Values (program_of walk.now) (invariants_of walk.now) depth at Used
+        (t.Expr e.now.spot e.now.ty (t.Step op (expr_view to.now))) sym.old sym.new r.bits) }
 {
     let cell = target(walk, sym, depth, at, to)?;
     let a = type_of(to);

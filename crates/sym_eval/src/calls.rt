@@ -44,7 +44,8 @@ pub fn evals(
 ) -> Result<Vec<Argument>, OutOfMemory>
     requires walk { IsWalk walk.now }
     requires ready { AllReady (program_of walk.now) (invariants_of walk.now) depth at sym.old (exprs_view args.now) }
-    ensures { IfOk result (λ r. AllValues (program_of walk.now) (invariants_of walk.now) depth at (exprs_view args.now) sym.old sym.new r.items) }
+    ensures { IfOk result (λ r. AllValues (program_of walk.now) (invariants_of walk.now) depth at (exprs_view args.now)
+        sym.old sym.new r.items) }
 {
     let mut arguments = Vec::new(walk.alloc);
     for e in args {
@@ -92,8 +93,10 @@ fn run_function(
     arguments: &[Argument],
 ) -> Result<Bits, OutOfMemory>
     requires walk { IsWalk walk.now }
-    requires ready { RunReady (program_of walk.now) (invariants_of walk.now) depth needed (function_view function.now) sym.old arguments.now }
-    ensures { IfOk result (λ r. HasRun (program_of walk.now) (invariants_of walk.now) depth needed (function_view function.now) arguments.now sym.old sym.new r.bits) }
+    requires ready { RunReady (program_of walk.now) (invariants_of walk.now) depth needed (function_view function.now)
+        sym.old arguments.now }
+    ensures { IfOk result (λ r. HasRun (program_of walk.now) (invariants_of walk.now) depth needed
+        (function_view function.now) arguments.now sym.old sym.new r.bits) }
 {
     let cells = sym.cells.len();
     let caller = enter(walk.alloc, walk.program, sym, type_or_int(function.result))?;
@@ -118,7 +121,8 @@ fn run_function(
 
 // The function of a number, where calls may be so many deep.
 fn function_at(program: &Program, depth: u32, function: u32) -> Option<&Function>
-    ensures { MatchOption result (0 < depth → slice_get (program_view program.now).functions function ≡ None) (λ f. (0 < depth) × (slice_get (program_view program.now).functions function ≡ Some (function_view f.now))) }
+    ensures { MatchOption result (0 < depth → slice_get (program_view program.now).functions function ≡ None)
+        (λ f. (0 < depth) × (slice_get (program_view program.now).functions function ≡ Some (function_view f.now))) }
 {
     if depth == 0 {
         return None;
@@ -131,6 +135,7 @@ fn function_at(program: &Program, depth: u32, function: u32) -> Option<&Function
 
 // The function of a number is called; where no call may be so deep, or there is no such function, the run ends.
 #[cycle(walk)]
+#[inline(never)]
 fn call_found(
     walk: &Walk,
     sym: &mut Sym,
@@ -141,8 +146,10 @@ fn call_found(
     arguments: &[Argument],
 ) -> Result<Bits, OutOfMemory>
     requires walk { IsWalk walk.now }
-    requires ready { CallReady (program_of walk.now) (invariants_of walk.now) depth function needed ty sym.old arguments.now }
-    ensures { IfOk result (λ r. Called (program_of walk.now) (invariants_of walk.now) depth function needed ty arguments.now sym.old sym.new r.bits) }
+    requires ready { CallReady (program_of walk.now) (invariants_of walk.now) depth function needed ty sym.old
+        arguments.now }
+    ensures { IfOk result (λ r. Called (program_of walk.now) (invariants_of walk.now) depth function needed ty
+        arguments.now sym.old sym.new r.bits) }
 {
     match function_at(walk.program, depth, function) {
         Some(found) => {
@@ -171,8 +178,10 @@ pub fn call_defined(
     close: Spot,
 ) -> Result<Bits, OutOfMemory>
     requires walk { IsWalk walk.now }
-    requires ready { Ready (program_of walk.now) (invariants_of walk.now) depth at sym.old (t.Expr spot ty (t.Call (Defined function) (exprs_view args.now) close)) }
-    ensures { IfOk result (λ r. Values (program_of walk.now) (invariants_of walk.now) depth at (use_of used) (t.Expr spot ty (t.Call (Defined function) (exprs_view args.now) close)) sym.old sym.new r.bits) }
+    requires ready { Ready (program_of walk.now) (invariants_of walk.now) depth at sym.old
+        (t.Expr spot ty (t.Call (Defined function) (exprs_view args.now) close)) }
+    ensures { IfOk result (λ r. Values (program_of walk.now) (invariants_of walk.now) depth at (use_of used)
+        (t.Expr spot ty (t.Call (Defined function) (exprs_view args.now) close)) sym.old sym.new r.bits) }
 {
     let arguments = evals(walk, sym, depth, at, args)?;
     let needed = is_needed(used, ty);

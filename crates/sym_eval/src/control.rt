@@ -31,7 +31,8 @@ pub fn full(
 ) -> Result<Bits, OutOfMemory>
     requires walk { IsWalk walk.now }
     requires ready { FullReady (program_of walk.now) (invariants_of walk.now) depth sym.old (expr_view e.now) }
-    ensures { IfOk result (λ r. FullGives (program_of walk.now) (invariants_of walk.now) depth at (use_of used) (expr_view e.now) sym.old sym.new r.bits) }
+    ensures { IfOk result (λ r. FullGives (program_of walk.now) (invariants_of walk.now) depth at (use_of used)
+        (expr_view e.now) sym.old sym.new r.bits) }
 {
     let place = around(walk, at, e);
     let bits = eval(walk, sym, depth, place, used, e)?;
@@ -49,7 +50,8 @@ pub fn decided(
 ) -> Result<Bit, OutOfMemory>
     requires walk { IsWalk walk.now }
     requires ready { ControlReady (program_of walk.now) (invariants_of walk.now) depth sym.old (expr_view e.now) }
-    ensures { IfOk result (λ r. Decides (program_of walk.now) (invariants_of walk.now) depth at (expr_view e.now) sym.old sym.new r) }
+    ensures { IfOk result (λ r. Decides (program_of walk.now) (invariants_of walk.now) depth at (expr_view e.now)
+        sym.old sym.new r) }
 {
     let x = full(walk, sym, depth, at, true, e)?;
     let bit = test(walk.alloc, walk.program, sym, type_of(e), &x)?;
@@ -61,7 +63,8 @@ fn leave_unless(sym: &mut Sym, program: &Program, bit: Bit) -> Result<(), OutOfM
     requires fits { IsState (program_view program.now) sym.old }
     requires bit_in { IsIn sym.old.net bit }
     requires room { length sym.old.net < 2 ^ 27 }
-    ensures { IfOk result (λ r. Became (program_view program.now) 3 sym.old sym.new (λ v. parting (holds v sym.old.net bit))) }
+    ensures { IfOk result (λ r. Became (program_view program.now) 3 sym.old sym.new
+        (λ v. parting (holds v sym.old.net bit))) }
 {
     let before = sym.live;
     narrow(sym, program, before, not(bit))?;
@@ -81,7 +84,8 @@ pub fn test_turn(
 ) -> Result<(), OutOfMemory>
     requires walk { IsWalk walk.now }
     requires ready { TestReady (program_of walk.now) (invariants_of walk.now) depth sym.old (expr_view e.now) }
-    ensures { IfOk result (λ r. TestDoes (program_of walk.now) (invariants_of walk.now) depth at (expr_view e.now) sym.old sym.new) }
+    ensures { IfOk result (λ r. TestDoes (program_of walk.now) (invariants_of walk.now) depth at (expr_view e.now)
+        sym.old sym.new) }
 {
     let bit = decided(walk, sym, depth, at, e)?;
     leave_unless(sym, walk.program, bit)?;
@@ -99,7 +103,8 @@ pub fn test_turn_if(
 ) -> Result<(), OutOfMemory>
     requires walk { IsWalk walk.now }
     requires ready { TestIfReady (program_of walk.now) (invariants_of walk.now) depth sym.old (expr_view_if e.now) }
-    ensures { IfOk result (λ r. TestIfDoes (program_of walk.now) (invariants_of walk.now) depth at (expr_view_if e.now) sym.old sym.new) }
+    ensures { IfOk result (λ r. TestIfDoes (program_of walk.now) (invariants_of walk.now) depth at (expr_view_if e.now)
+        sym.old sym.new) }
 {
     match e {
         Some(test) => {
@@ -121,7 +126,8 @@ pub fn step_on(
 ) -> Result<(), OutOfMemory>
     requires walk { IsWalk walk.now }
     requires ready { StepReady (program_of walk.now) (invariants_of walk.now) depth sym.old (expr_view_if e.now) }
-    ensures { IfOk result (λ r. StepDoes (program_of walk.now) (invariants_of walk.now) depth at (expr_view_if e.now) sym.old sym.new) }
+    ensures { IfOk result (λ r. StepDoes (program_of walk.now) (invariants_of walk.now) depth at (expr_view_if e.now)
+        sym.old sym.new) }
 {
     match e {
         Some(step) => {

@@ -27,8 +27,10 @@ fn initial_value(
     e: &Expr,
 ) -> Result<(), OutOfMemory>
     requires walk { IsWalk walk.now }
-    requires ready { InitialsReady (program_of walk.now) (invariants_of walk.now) depth object sym.old (t.MoreExp (expr_view e.now) t.NoExp) }
-    ensures { IfOk result (λ r. InitialsDo (program_of walk.now) (invariants_of walk.now) depth at object index (t.MoreExp (expr_view e.now) t.NoExp) sym.old sym.new) }
+    requires ready { InitialsReady (program_of walk.now) (invariants_of walk.now) depth object sym.old
+        (t.MoreExp (expr_view e.now) t.NoExp) }
+    ensures { IfOk result (λ r. InitialsDo (program_of walk.now) (invariants_of walk.now) depth at object index
+        (t.MoreExp (expr_view e.now) t.NoExp) sym.old sym.new) }
 {
     let ty = type_of_object(walk.program, object);
     let x = full(walk, sym, depth, at, true, e)?;
@@ -50,8 +52,10 @@ fn initial_values(
     es: &[Expr],
 ) -> Result<(), OutOfMemory>
     requires walk { IsWalk walk.now }
-    requires ready { InitialsReady (program_of walk.now) (invariants_of walk.now) depth object sym.old (exprs_view es.now) }
-    ensures { IfOk result (λ r. InitialsDo (program_of walk.now) (invariants_of walk.now) depth at object first (exprs_view es.now) sym.old sym.new) }
+    requires ready { InitialsReady (program_of walk.now) (invariants_of walk.now) depth object sym.old
+        (exprs_view es.now) }
+    ensures { IfOk result (λ r. InitialsDo (program_of walk.now) (invariants_of walk.now) depth at object first
+        (exprs_view es.now) sym.old sym.new) }
 {
     for (index, e) in es.iter().enumerate() {
         // cells are numbered by 32 bits
@@ -88,8 +92,10 @@ fn initial_rows(
     rows: &[Row],
 ) -> Result<(), OutOfMemory>
     requires walk { IsWalk walk.now }
-    requires ready { RowsReady (program_of walk.now) (invariants_of walk.now) depth object sym.old (rows_view rows.now) }
-    ensures { IfOk result (λ r. RowsDo (program_of walk.now) (invariants_of walk.now) depth at object (rows_view rows.now) sym.old sym.new) }
+    requires ready { RowsReady (program_of walk.now) (invariants_of walk.now) depth object sym.old
+        (rows_view rows.now) }
+    ensures { IfOk result (λ r. RowsDo (program_of walk.now) (invariants_of walk.now) depth at object
+        (rows_view rows.now) sym.old sym.new) }
 {
     let columns = columns_of_object(walk.program, object);
     for (index, row) in rows.iter().enumerate() {
@@ -111,8 +117,10 @@ fn initial(
     init: &Init,
 ) -> Result<(), OutOfMemory>
     requires walk { IsWalk walk.now }
-    requires ready { InitialReady (program_of walk.now) (invariants_of walk.now) depth object sym.old (init_view init.now) }
-    ensures { IfOk result (λ r. InitialDoes (program_of walk.now) (invariants_of walk.now) depth at spot object (init_view init.now) sym.old sym.new) }
+    requires ready { InitialReady (program_of walk.now) (invariants_of walk.now) depth object sym.old
+        (init_view init.now) }
+    ensures { IfOk result (λ r. InitialDoes (program_of walk.now) (invariants_of walk.now) depth at spot object
+        (init_view init.now) sym.old sym.new) }
 {
     match init {
         Init::Absent => {
@@ -144,8 +152,10 @@ fn introduce(
     name: &Declared,
 ) -> Result<(), OutOfMemory>
     requires walk { IsWalk walk.now }
-    requires ready { NamesReady (program_of walk.now) (invariants_of walk.now) depth sym.old (t.MoreName name.now.spot name.now.object (init_view name.now.init) t.NoName) }
-    ensures { IfOk result (λ r. NamesDo (program_of walk.now) (invariants_of walk.now) depth at (t.MoreName name.now.spot name.now.object (init_view name.now.init) t.NoName) sym.old sym.new) }
+    requires ready { NamesReady (program_of walk.now) (invariants_of walk.now) depth sym.old
+        (t.MoreName name.now.spot name.now.object (init_view name.now.init) t.NoName) }
+    ensures { IfOk result (λ r. NamesDo (program_of walk.now) (invariants_of walk.now) depth at
+        (t.MoreName name.now.spot name.now.object (init_view name.now.init) t.NoName) sym.old sym.new) }
 {
     let object = name.object;
     let size = size_of_object(walk.program, object);
@@ -165,7 +175,8 @@ pub fn declare_names(
 ) -> Result<(), OutOfMemory>
     requires walk { IsWalk walk.now }
     requires ready { NamesReady (program_of walk.now) (invariants_of walk.now) depth sym.old (names_view names.now) }
-    ensures { IfOk result (λ r. NamesDo (program_of walk.now) (invariants_of walk.now) depth at (names_view names.now) sym.old sym.new) }
+    ensures { IfOk result (λ r. NamesDo (program_of walk.now) (invariants_of walk.now) depth at (names_view names.now)
+        sym.old sym.new) }
 {
     for name in names {
         introduce(walk, sym, depth, at, name)?;
@@ -184,7 +195,8 @@ pub fn first(
 ) -> Result<(), OutOfMemory>
     requires walk { IsWalk walk.now }
     requires ready { FirstReady (program_of walk.now) (invariants_of walk.now) depth sym.old (first_view start.now) }
-    ensures { IfOk result (λ r. FirstDoes (program_of walk.now) (invariants_of walk.now) depth at (first_view start.now) sym.old sym.new) }
+    ensures { IfOk result (λ r. FirstDoes (program_of walk.now) (invariants_of walk.now) depth at (first_view start.now)
+        sym.old sym.new) }
 {
     match start {
         First::Absent => Ok(()),

@@ -20,6 +20,7 @@ use sym_values::{choose, convert, end, input, operate, operate_one, reach, test,
 use wv_base::{OutOfMemory, Seq};
 
 /// An expression, at a statement and a full expression, with calls at most `depth` deep. A void one gives any bits.
+/// Each form has a frame of its own, never inlined here: nested expressions take the stack of their own forms alone.
 #[cycle(walk)]
 pub fn eval(
     walk: &Walk,
@@ -31,7 +32,8 @@ pub fn eval(
 ) -> Result<Bits, OutOfMemory>
     requires walk { IsWalk walk.now }
     requires ready { Ready (program_of walk.now) (invariants_of walk.now) depth at sym.old (expr_view e.now) }
-    ensures { IfOk result (λ r. Values (program_of walk.now) (invariants_of walk.now) depth at (use_of used) (expr_view e.now) sym.old sym.new r.bits) }
+    ensures { IfOk result (λ r. Values (program_of walk.now) (invariants_of walk.now) depth at (use_of used)
+        (expr_view e.now) sym.old sym.new r.bits) }
 {
     match &e.node {
         Node::Const(value) => constant(walk, sym, depth, at, e, *value),
@@ -80,8 +82,10 @@ fn constant(
     value: i128,
 ) -> Result<Bits, OutOfMemory>
     requires walk { IsWalk walk.now }
-    requires ready { Ready (program_of walk.now) (invariants_of walk.now) depth at sym.old (t.Expr e.now.spot e.now.ty (t.Const value)) }
-    ensures { IfOk result (λ r. Values (program_of walk.now) (invariants_of walk.now) depth at Used (t.Expr e.now.spot e.now.ty (t.Const value)) sym.old sym.new r.bits) }
+    requires ready { Ready (program_of walk.now) (invariants_of walk.now) depth at sym.old
+        (t.Expr e.now.spot e.now.ty (t.Const value)) }
+    ensures { IfOk result (λ r. Values (program_of walk.now) (invariants_of walk.now) depth at Used
+        (t.Expr e.now.spot e.now.ty (t.Const value)) sym.old sym.new r.bits) }
 {
     let r = const_bits(walk.alloc, &sym.net, walk.program.model, type_of(e), value)?;
     Ok(r)
@@ -96,14 +100,17 @@ fn scalar(
     object: u32,
 ) -> Result<Bits, OutOfMemory>
     requires walk { IsWalk walk.now }
-    requires ready { Ready (program_of walk.now) (invariants_of walk.now) depth at sym.old (t.Expr e.now.spot e.now.ty (t.Var object)) }
-    ensures { IfOk result (λ r. Values (program_of walk.now) (invariants_of walk.now) depth at Used (t.Expr e.now.spot e.now.ty (t.Var object)) sym.old sym.new r.bits) }
+    requires ready { Ready (program_of walk.now) (invariants_of walk.now) depth at sym.old
+        (t.Expr e.now.spot e.now.ty (t.Var object)) }
+    ensures { IfOk result (λ r. Values (program_of walk.now) (invariants_of walk.now) depth at Used
+        (t.Expr e.now.spot e.now.ty (t.Var object)) sym.old sym.new r.bits) }
 {
     let r = look(walk.alloc, walk.program, sym, object, 0, type_of(e))?;
     Ok(r)
 }
 
 #[cycle(walk)]
+#[inline(never)]
 fn element(
     walk: &Walk,
     sym: &mut Sym,
@@ -114,8 +121,10 @@ fn element(
     indexes: &[Expr],
 ) -> Result<Bits, OutOfMemory>
     requires walk { IsWalk walk.now }
-    requires ready { Ready (program_of walk.now) (invariants_of walk.now) depth at sym.old (t.Expr e.now.spot e.now.ty (t.Index object (exprs_view indexes.now))) }
-    ensures { IfOk result (λ r. Values (program_of walk.now) (invariants_of walk.now) depth at Used (t.Expr e.now.spot e.now.ty (t.Index object (exprs_view indexes.now))) sym.old sym.new r.bits) }
+    requires ready { Ready (program_of walk.now) (invariants_of walk.now) depth at sym.old
+        (t.Expr e.now.spot e.now.ty (t.Index object (exprs_view indexes.now))) }
+    ensures { IfOk result (λ r. Values (program_of walk.now) (invariants_of walk.now) depth at Used
+        (t.Expr e.now.spot e.now.ty (t.Index object (exprs_view indexes.now))) sym.old sym.new r.bits) }
 {
     let cell = indexed(walk, sym, depth, at, e, object, indexes)?;
     let r = look_target(walk.alloc, walk.program, sym, &cell, type_of(e))?;
@@ -123,6 +132,7 @@ fn element(
 }
 
 #[cycle(walk)]
+#[inline(never)]
 fn unary(
     walk: &Walk,
     sym: &mut Sym,
@@ -133,8 +143,10 @@ fn unary(
     of: &Expr,
 ) -> Result<Bits, OutOfMemory>
     requires walk { IsWalk walk.now }
-    requires ready { Ready (program_of walk.now) (invariants_of walk.now) depth at sym.old (t.Expr e.now.spot e.now.ty (t.Unary op (expr_view of.now))) }
-    ensures { IfOk result (λ r. Values (program_of walk.now) (invariants_of walk.now) depth at Used (t.Expr e.now.spot e.now.ty (t.Unary op (expr_view of.now))) sym.old sym.new r.bits) }
+    requires ready { Ready (program_of walk.now) (invariants_of walk.now) depth at sym.old
+        (t.Expr e.now.spot e.now.ty (t.Unary op (expr_view of.now))) }
+    ensures { IfOk result (λ r. Values (program_of walk.now) (invariants_of walk.now) depth at Used
+        (t.Expr e.now.spot e.now.ty (t.Unary op (expr_view of.now))) sym.old sym.new r.bits) }
 {
     let x = eval(walk, sym, depth, at, true, of)?;
     let r = operate_one(walk.alloc, walk.program, sym, at, op, type_of(of), &x)?;
@@ -142,6 +154,7 @@ fn unary(
 }
 
 #[cycle(walk)]
+#[inline(never)]
 fn binary(
     walk: &Walk,
     sym: &mut Sym,
@@ -153,8 +166,10 @@ fn binary(
     right: &Expr,
 ) -> Result<Bits, OutOfMemory>
     requires walk { IsWalk walk.now }
-    requires ready { Ready (program_of walk.now) (invariants_of walk.now) depth at sym.old (t.Expr e.now.spot e.now.ty (t.Binary op (expr_view left.now) (expr_view right.now))) }
-    ensures { IfOk result (λ r. Values (program_of walk.now) (invariants_of walk.now) depth at Used (t.Expr e.now.spot e.now.ty (t.Binary op (expr_view left.now) (expr_view right.now))) sym.old sym.new r.bits) }
+    requires ready { Ready (program_of walk.now) (invariants_of walk.now) depth at sym.old
+        (t.Expr e.now.spot e.now.ty (t.Binary op (expr_view left.now) (expr_view right.now))) }
+    ensures { IfOk result (λ r. Values (program_of walk.now) (invariants_of walk.now) depth at Used
+        (t.Expr e.now.spot e.now.ty (t.Binary op (expr_view left.now) (expr_view right.now))) sym.old sym.new r.bits) }
 {
     let x = eval(walk, sym, depth, at, true, left)?;
     let y = eval(walk, sym, depth, at, true, right)?;
@@ -165,6 +180,7 @@ fn binary(
 }
 
 #[cycle(walk)]
+#[inline(never)]
 fn cast(
     walk: &Walk,
     sym: &mut Sym,
@@ -174,8 +190,10 @@ fn cast(
     of: &Expr,
 ) -> Result<Bits, OutOfMemory>
     requires walk { IsWalk walk.now }
-    requires ready { Ready (program_of walk.now) (invariants_of walk.now) depth at sym.old (t.Expr e.now.spot e.now.ty (t.Cast (expr_view of.now))) }
-    ensures { IfOk result (λ r. Values (program_of walk.now) (invariants_of walk.now) depth at Used (t.Expr e.now.spot e.now.ty (t.Cast (expr_view of.now))) sym.old sym.new r.bits) }
+    requires ready { Ready (program_of walk.now) (invariants_of walk.now) depth at sym.old
+        (t.Expr e.now.spot e.now.ty (t.Cast (expr_view of.now))) }
+    ensures { IfOk result (λ r. Values (program_of walk.now) (invariants_of walk.now) depth at Used
+        (t.Expr e.now.spot e.now.ty (t.Cast (expr_view of.now))) sym.old sym.new r.bits) }
 {
     match e.ty {
         None => {
@@ -191,6 +209,7 @@ fn cast(
 }
 
 #[cycle(walk)]
+#[inline(never)]
 fn comma(
     walk: &Walk,
     sym: &mut Sym,
@@ -201,8 +220,10 @@ fn comma(
     last: &Expr,
 ) -> Result<Bits, OutOfMemory>
     requires walk { IsWalk walk.now }
-    requires ready { Ready (program_of walk.now) (invariants_of walk.now) depth at sym.old (t.Expr e.now.spot e.now.ty (t.Comma (expr_view first.now) (expr_view last.now))) }
-    ensures { IfOk result (λ r. Values (program_of walk.now) (invariants_of walk.now) depth at Used (t.Expr e.now.spot e.now.ty (t.Comma (expr_view first.now) (expr_view last.now))) sym.old sym.new r.bits) }
+    requires ready { Ready (program_of walk.now) (invariants_of walk.now) depth at sym.old
+        (t.Expr e.now.spot e.now.ty (t.Comma (expr_view first.now) (expr_view last.now))) }
+    ensures { IfOk result (λ r. Values (program_of walk.now) (invariants_of walk.now) depth at Used
+        (t.Expr e.now.spot e.now.ty (t.Comma (expr_view first.now) (expr_view last.now))) sym.old sym.new r.bits) }
 {
     let _value = eval(walk, sym, depth, at, false, first)?;
     let r = eval(walk, sym, depth, at, true, last)?;
@@ -221,7 +242,8 @@ fn eval_where(
 ) -> Result<Bits, OutOfMemory>
     requires walk { IsWalk walk.now }
     requires ready { ReadyWhere (program_of walk.now) (invariants_of walk.now) depth at go sym.old (expr_view e.now) }
-    ensures { IfOk result (λ r. ValuesWhere (program_of walk.now) (invariants_of walk.now) depth at go (expr_view e.now) sym.old sym.new r.bits) }
+    ensures { IfOk result (λ r. ValuesWhere (program_of walk.now) (invariants_of walk.now) depth at go (expr_view e.now)
+        sym.old sym.new r.bits) }
 {
     let skipped = sym.net.and(sym.live, not(go))?;
     let live = sym.live;
@@ -232,6 +254,7 @@ fn eval_where(
 }
 
 #[cycle(walk)]
+#[inline(never)]
 fn logic(
     walk: &Walk,
     sym: &mut Sym,
@@ -243,8 +266,10 @@ fn logic(
     right: &Expr,
 ) -> Result<Bits, OutOfMemory>
     requires walk { IsWalk walk.now }
-    requires ready { Ready (program_of walk.now) (invariants_of walk.now) depth at sym.old (t.Expr e.now.spot e.now.ty (t.Logic both (expr_view left.now) (expr_view right.now))) }
-    ensures { IfOk result (λ r. Values (program_of walk.now) (invariants_of walk.now) depth at Used (t.Expr e.now.spot e.now.ty (t.Logic both (expr_view left.now) (expr_view right.now))) sym.old sym.new r.bits) }
+    requires ready { Ready (program_of walk.now) (invariants_of walk.now) depth at sym.old
+        (t.Expr e.now.spot e.now.ty (t.Logic both (expr_view left.now) (expr_view right.now))) }
+    ensures { IfOk result (λ r. Values (program_of walk.now) (invariants_of walk.now) depth at Used
+        (t.Expr e.now.spot e.now.ty (t.Logic both (expr_view left.now) (expr_view right.now))) sym.old sym.new r.bits) }
 {
     let x = eval(walk, sym, depth, at, true, left)?;
     let first = test(walk.alloc, walk.program, sym, type_of(left), &x)?;
@@ -259,6 +284,7 @@ fn logic(
 }
 
 #[cycle(walk)]
+#[inline(never)]
 fn conditional(
     walk: &Walk,
     sym: &mut Sym,
@@ -271,8 +297,11 @@ fn conditional(
     no: &Expr,
 ) -> Result<Bits, OutOfMemory>
     requires walk { IsWalk walk.now }
-    requires ready { Ready (program_of walk.now) (invariants_of walk.now) depth at sym.old (t.Expr e.now.spot e.now.ty (t.Choose mark (expr_view condition.now) (expr_view yes.now) (expr_view no.now))) }
-    ensures { IfOk result (λ r. Values (program_of walk.now) (invariants_of walk.now) depth at Used (t.Expr e.now.spot e.now.ty (t.Choose mark (expr_view condition.now) (expr_view yes.now) (expr_view no.now))) sym.old sym.new r.bits) }
+    requires ready { Ready (program_of walk.now) (invariants_of walk.now) depth at sym.old
+        (t.Expr e.now.spot e.now.ty (t.Choose mark (expr_view condition.now) (expr_view yes.now) (expr_view no.now))) }
+    ensures { IfOk result (λ r. Values (program_of walk.now) (invariants_of walk.now) depth at Used
+        (t.Expr e.now.spot e.now.ty (t.Choose mark (expr_view condition.now) (expr_view yes.now) (expr_view no.now)))
+        sym.old sym.new r.bits) }
 {
     match e.ty {
         Some(to) => {
@@ -300,8 +329,11 @@ fn pick(
     no: &Expr,
 ) -> Result<Bits, OutOfMemory>
     requires walk { IsWalk walk.now }
-    requires ready { Ready (program_of walk.now) (invariants_of walk.now) depth at sym.old (t.Expr spot (Some to) (t.Choose mark (expr_view condition.now) (expr_view yes.now) (expr_view no.now))) }
-    ensures { IfOk result (λ r. Values (program_of walk.now) (invariants_of walk.now) depth at Used (t.Expr spot (Some to) (t.Choose mark (expr_view condition.now) (expr_view yes.now) (expr_view no.now))) sym.old sym.new r.bits) }
+    requires ready { Ready (program_of walk.now) (invariants_of walk.now) depth at sym.old
+        (t.Expr spot (Some to) (t.Choose mark (expr_view condition.now) (expr_view yes.now) (expr_view no.now))) }
+    ensures { IfOk result (λ r. Values (program_of walk.now) (invariants_of walk.now) depth at Used
+        (t.Expr spot (Some to) (t.Choose mark (expr_view condition.now) (expr_view yes.now) (expr_view no.now))) sym.old
+        sym.new r.bits) }
 {
     let e = eval(walk, sym, depth, at, true, condition)?;
     let go = test(walk.alloc, walk.program, sym, type_of(condition), &e)?;
@@ -328,8 +360,11 @@ fn void_arms(
     no: &Expr,
 ) -> Result<Bits, OutOfMemory>
     requires walk { IsWalk walk.now }
-    requires ready { Ready (program_of walk.now) (invariants_of walk.now) depth at sym.old (t.Expr spot None (t.Choose mark (expr_view condition.now) (expr_view yes.now) (expr_view no.now))) }
-    ensures { IfOk result (λ r. Values (program_of walk.now) (invariants_of walk.now) depth at Used (t.Expr spot None (t.Choose mark (expr_view condition.now) (expr_view yes.now) (expr_view no.now))) sym.old sym.new r.bits) }
+    requires ready { Ready (program_of walk.now) (invariants_of walk.now) depth at sym.old
+        (t.Expr spot None (t.Choose mark (expr_view condition.now) (expr_view yes.now) (expr_view no.now))) }
+    ensures { IfOk result (λ r. Values (program_of walk.now) (invariants_of walk.now) depth at Used
+        (t.Expr spot None (t.Choose mark (expr_view condition.now) (expr_view yes.now) (expr_view no.now))) sym.old
+        sym.new r.bits) }
 {
     let e = eval(walk, sym, depth, at, true, condition)?;
     let go = test(walk.alloc, walk.program, sym, type_of(condition), &e)?;
@@ -340,6 +375,7 @@ fn void_arms(
 }
 
 #[cycle(walk)]
+#[inline(never)]
 fn call(
     walk: &Walk,
     sym: &mut Sym,
@@ -352,8 +388,10 @@ fn call(
     close: Spot,
 ) -> Result<Bits, OutOfMemory>
     requires walk { IsWalk walk.now }
-    requires ready { Ready (program_of walk.now) (invariants_of walk.now) depth at sym.old (t.Expr e.now.spot e.now.ty (t.Call callee (exprs_view args.now) close)) }
-    ensures { IfOk result (λ r. Values (program_of walk.now) (invariants_of walk.now) depth at (use_of used) (t.Expr e.now.spot e.now.ty (t.Call callee (exprs_view args.now) close)) sym.old sym.new r.bits) }
+    requires ready { Ready (program_of walk.now) (invariants_of walk.now) depth at sym.old
+        (t.Expr e.now.spot e.now.ty (t.Call callee (exprs_view args.now) close)) }
+    ensures { IfOk result (λ r. Values (program_of walk.now) (invariants_of walk.now) depth at (use_of used)
+        (t.Expr e.now.spot e.now.ty (t.Call callee (exprs_view args.now) close)) sym.old sym.new r.bits) }
 {
     match callee {
         Callee::Defined(f) => {
@@ -388,8 +426,10 @@ fn exit(
     close: Spot,
 ) -> Result<Bits, OutOfMemory>
     requires walk { IsWalk walk.now }
-    requires ready { Ready (program_of walk.now) (invariants_of walk.now) depth at sym.old (t.Expr e.now.spot e.now.ty (t.Call Exit (exprs_view args.now) close)) }
-    ensures { IfOk result (λ r. Values (program_of walk.now) (invariants_of walk.now) depth at Used (t.Expr e.now.spot e.now.ty (t.Call Exit (exprs_view args.now) close)) sym.old sym.new r.bits) }
+    requires ready { Ready (program_of walk.now) (invariants_of walk.now) depth at sym.old
+        (t.Expr e.now.spot e.now.ty (t.Call Exit (exprs_view args.now) close)) }
+    ensures { IfOk result (λ r. Values (program_of walk.now) (invariants_of walk.now) depth at Used
+        (t.Expr e.now.spot e.now.ty (t.Call Exit (exprs_view args.now) close)) sym.old sym.new r.bits) }
 {
     let r = eval(walk, sym, depth, at, true, &args[0])?;
     end(sym, walk.program)?;

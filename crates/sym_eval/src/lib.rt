@@ -10,6 +10,7 @@ mod expressions;
 mod loops;
 mod parameters;
 mod programs;
+mod sites;
 mod statements;
 mod switches;
 mod targets;

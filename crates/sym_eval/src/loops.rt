@@ -32,7 +32,8 @@ fn loop_body(
 ) -> Result<(), OutOfMemory>
     requires walk { IsWalk walk.now }
     requires ready { BodyReady (program_of walk.now) (invariants_of walk.now) depth gives sym.old (stmt_view body.now) }
-    ensures { IfOk result (λ r. BodyDoes (program_of walk.now) (invariants_of walk.now) depth gives (stmt_view body.now) sym.old sym.new) }
+    ensures { IfOk result (λ r. BodyDoes (program_of walk.now) (invariants_of walk.now) depth gives (stmt_view body.now)
+        sym.old sym.new) }
 {
     let cells = sym.cells.len();
     let kept = start_body(sym, walk.program);
@@ -52,8 +53,10 @@ fn while_turn(
     body: &Stmt,
 ) -> Result<(), OutOfMemory>
     requires walk { IsWalk walk.now }
-    requires ready { TurnReady (program_of walk.now) (invariants_of walk.now) depth gives sym.old (Some (WhileLoop (expr_view test.now) (stmt_view body.now))) }
-    ensures { IfOk result (λ r. TurnDoes (program_of walk.now) (invariants_of walk.now) depth gives at (Some (WhileLoop (expr_view test.now) (stmt_view body.now))) sym.old sym.new) }
+    requires ready { TurnReady (program_of walk.now) (invariants_of walk.now) depth gives sym.old
+        (Some (WhileLoop (expr_view test.now) (stmt_view body.now))) }
+    ensures { IfOk result (λ r. TurnDoes (program_of walk.now) (invariants_of walk.now) depth gives at
+        (Some (WhileLoop (expr_view test.now) (stmt_view body.now))) sym.old sym.new) }
 {
     test_turn(walk, sym, depth, at, test)?;
     loop_body(walk, sym, depth, gives, body)?;
@@ -71,8 +74,10 @@ fn do_turn(
     test: &Expr,
 ) -> Result<(), OutOfMemory>
     requires walk { IsWalk walk.now }
-    requires ready { TurnReady (program_of walk.now) (invariants_of walk.now) depth gives sym.old (Some (DoLoop (stmt_view body.now) (expr_view test.now))) }
-    ensures { IfOk result (λ r. TurnDoes (program_of walk.now) (invariants_of walk.now) depth gives at (Some (DoLoop (stmt_view body.now) (expr_view test.now))) sym.old sym.new) }
+    requires ready { TurnReady (program_of walk.now) (invariants_of walk.now) depth gives sym.old
+        (Some (DoLoop (stmt_view body.now) (expr_view test.now))) }
+    ensures { IfOk result (λ r. TurnDoes (program_of walk.now) (invariants_of walk.now) depth gives at
+        (Some (DoLoop (stmt_view body.now) (expr_view test.now))) sym.old sym.new) }
 {
     loop_body(walk, sym, depth, gives, body)?;
     test_turn(walk, sym, depth, at, test)?;
@@ -91,8 +96,10 @@ fn for_turn(
     body: &Stmt,
 ) -> Result<(), OutOfMemory>
     requires walk { IsWalk walk.now }
-    requires ready { TurnReady (program_of walk.now) (invariants_of walk.now) depth gives sym.old (Some (ForLoop (expr_view_if test.now) (expr_view_if step.now) (stmt_view body.now))) }
-    ensures { IfOk result (λ r. TurnDoes (program_of walk.now) (invariants_of walk.now) depth gives at (Some (ForLoop (expr_view_if test.now) (expr_view_if step.now) (stmt_view body.now))) sym.old sym.new) }
+    requires ready { TurnReady (program_of walk.now) (invariants_of walk.now) depth gives sym.old
+        (Some (ForLoop (expr_view_if test.now) (expr_view_if step.now) (stmt_view body.now))) }
+    ensures { IfOk result (λ r. TurnDoes (program_of walk.now) (invariants_of walk.now) depth gives at
+        (Some (ForLoop (expr_view_if test.now) (expr_view_if step.now) (stmt_view body.now))) sym.old sym.new) }
 {
     test_turn_if(walk, sym, depth, at, test)?;
     loop_body(walk, sym, depth, gives, body)?;
@@ -111,8 +118,10 @@ fn turn(
     f: &Form,
 ) -> Result<(), OutOfMemory>
     requires walk { IsWalk walk.now }
-    requires ready { TurnReady (program_of walk.now) (invariants_of walk.now) depth gives sym.old (loop_of (form_view f.now)) }
-    ensures { IfOk result (λ r. TurnDoes (program_of walk.now) (invariants_of walk.now) depth gives at (loop_of (form_view f.now)) sym.old sym.new) }
+    requires ready { TurnReady (program_of walk.now) (invariants_of walk.now) depth gives sym.old
+        (loop_of (form_view f.now)) }
+    ensures { IfOk result (λ r. TurnDoes (program_of walk.now) (invariants_of walk.now) depth gives at
+        (loop_of (form_view f.now)) sym.old sym.new) }
 {
     match f {
         Form::While { test, body } => {
@@ -141,8 +150,10 @@ fn turn(
 fn head(walk: &Walk, sym: &mut Sym, at: Spot, f: &Form) -> Result<(), OutOfMemory>
     requires walk { IsWalk walk.now }
     requires fits { IsState (program_of walk.now) sym.old }
-    requires room { length sym.old.net + (2 * placed_weight (program_of walk.now) (invariants_of walk.now) true at + 5 * changed_bits (program_of walk.now) (loop_of (form_view f.now))) < 2 ^ 27 }
-    ensures { IfOk result (λ r. HeadDoes (program_of walk.now) (invariants_of walk.now) at (loop_of (form_view f.now)) sym.old sym.new) }
+    requires room { length sym.old.net + (2 * placed_weight (program_of walk.now) (invariants_of walk.now) true at + 5 *
+        changed_bits (program_of walk.now) (loop_of (form_view f.now))) < 2 ^ 27 }
+    ensures { IfOk result (λ r. HeadDoes (program_of walk.now) (invariants_of walk.now) at (loop_of (form_view f.now))
+        sym.old sym.new) }
 {
     test_all(walk, sym, true, at, DutyKind::Entry)?;
     let changed = changed_in(walk.alloc, walk.program, f)?;
@@ -162,8 +173,10 @@ fn loop_scope(
     f: &Form,
 ) -> Result<(), OutOfMemory>
     requires walk { IsWalk walk.now }
-    requires ready { LoopReady (program_of walk.now) (invariants_of walk.now) depth gives at sym.old (loop_of (form_view f.now)) }
-    ensures { IfOk result (λ r. LoopDoes (program_of walk.now) (invariants_of walk.now) depth gives at (loop_of (form_view f.now)) sym.old sym.new) }
+    requires ready { LoopReady (program_of walk.now) (invariants_of walk.now) depth gives at sym.old
+        (loop_of (form_view f.now)) }
+    ensures { IfOk result (λ r. LoopDoes (program_of walk.now) (invariants_of walk.now) depth gives at
+        (loop_of (form_view f.now)) sym.old sym.new) }
 {
     let cells = sym.cells.len();
     let kept = start_loop(sym, walk.program);
@@ -187,8 +200,10 @@ fn for_scope(
     f: &Form,
 ) -> Result<(), OutOfMemory>
     requires walk { IsWalk walk.now }
-    requires ready { ForReady (program_of walk.now) (invariants_of walk.now) depth gives at sym.old (first_view start.now) (loop_of (form_view f.now)) }
-    ensures { IfOk result (λ r. ForDoes (program_of walk.now) (invariants_of walk.now) depth gives at (first_view start.now) (loop_of (form_view f.now)) sym.old sym.new) }
+    requires ready { ForReady (program_of walk.now) (invariants_of walk.now) depth gives at sym.old
+        (first_view start.now) (loop_of (form_view f.now)) }
+    ensures { IfOk result (λ r. ForDoes (program_of walk.now) (invariants_of walk.now) depth gives at
+        (first_view start.now) (loop_of (form_view f.now)) sym.old sym.new) }
 {
     let cells = sym.cells.len();
     first(walk, sym, depth, at, start)?;
@@ -210,7 +225,8 @@ pub fn one_loop(
     requires walk { IsWalk walk.now }
     requires looping { IsTrue (is_loop (form_view f.now)) }
     requires ready { FormReady (program_of walk.now) (invariants_of walk.now) depth gives at sym.old (form_view f.now) }
-    ensures { IfOk result (λ r. FormDoes (program_of walk.now) (invariants_of walk.now) depth gives at (form_view f.now) sym.old sym.new) }
+    ensures { IfOk result (λ r. FormDoes (program_of walk.now) (invariants_of walk.now) depth gives at (form_view f.now)
+        sym.old sym.new) }
 {
     match f {
         Form::While { .. } => {

@@ -31,8 +31,10 @@ fn set_parameter(
 ) -> Result<(), OutOfMemory>
     requires fits { IsState (program_view program.now) sym.old }
     requires arguments_in { AreArguments (program_view program.now) sym.old.net arguments.now }
-    requires room { length sym.old.net + set_cost (program_view program.now) (object ∷ []) (drop index arguments.now) < 2 ^ 28 }
-    ensures { IfOk result (λ r. Sets (program_view program.now) (object ∷ []) (drop index arguments.now) sym.old sym.new) }
+    requires room { length sym.old.net + set_cost (program_view program.now) (object ∷ []) (drop index arguments.now) <
+        2 ^ 28 }
+    ensures { IfOk result (λ r. Sets (program_view program.now) (object ∷ []) (drop index arguments.now) sym.old
+        sym.new) }
 {
     declare(alloc, program, sym, object, 1)?;
     match arguments.get(index) {

@@ -9,6 +9,7 @@ ghost use Rattle.sym_eval.specs.Whole.{IsWhole, IsLight, AreMade};
 ghost use Rattle.c_meaning.specs.Placing.{IsInvariant, placed_view};
 
 use crate::calls::type_or_int;
+use crate::sites::test_sites;
 use crate::statements::form;
 use c_calls::calls_itself;
 use c_core::Program;
@@ -81,6 +82,7 @@ fn made(
         duties: list.as_slice(),
     };
     let sym = whole(&walk)?;
+    test_sites(alloc, program, sym.sites.as_slice())?;
     Ok(Obligations {
         list,
         net: sym.net,
@@ -96,7 +98,8 @@ pub fn obligations(
     invariants: &Seq<PlacedInvariant>,
 ) -> Result<Obligations, SymFault>
     requires { All (IsInvariant (program_view program.now)) (placed_view invariants.now) }
-    ensures { AnswersFor (program_view program.now) (names_of program.now.functions) (placed_view invariants.now) result }
+    ensures { AnswersFor (program_view program.now) (names_of program.now.functions) (placed_view invariants.now)
+        result }
 {
     if let Some(function) = calls_itself(alloc, program)? {
         let name = recursive(alloc, program, function)?;

@@ -30,7 +30,8 @@ pub fn statement(
 ) -> Result<(), OutOfMemory>
     requires walk { IsWalk walk.now }
     requires ready { Ready (program_of walk.now) (invariants_of walk.now) depth gives sym.old (stmt_view s.now) }
-    ensures { IfOk result (λ r. Does (program_of walk.now) (invariants_of walk.now) depth gives (stmt_view s.now) sym.old sym.new) }
+    ensures { IfOk result (λ r. Does (program_of walk.now) (invariants_of walk.now) depth gives (stmt_view s.now)
+        sym.old sym.new) }
 {
     test_all(walk, sym, false, s.spot, DutyKind::Location)?;
     form(walk, sym, depth, gives, s.spot, &s.form)?;
@@ -49,7 +50,8 @@ pub fn form(
 ) -> Result<(), OutOfMemory>
     requires walk { IsWalk walk.now }
     requires ready { FormReady (program_of walk.now) (invariants_of walk.now) depth gives at sym.old (form_view f.now) }
-    ensures { IfOk result (λ r. FormDoes (program_of walk.now) (invariants_of walk.now) depth gives at (form_view f.now) sym.old sym.new) }
+    ensures { IfOk result (λ r. FormDoes (program_of walk.now) (invariants_of walk.now) depth gives at (form_view f.now)
+        sym.old sym.new) }
 {
     match f {
         Form::Empty => Ok(()),
@@ -115,8 +117,10 @@ fn only(
     e: &Expr,
 ) -> Result<(), OutOfMemory>
     requires walk { IsWalk walk.now }
-    requires ready { FormReady (program_of walk.now) (invariants_of walk.now) depth gives at sym.old (t.Do (expr_view e.now)) }
-    ensures { IfOk result (λ r. FormDoes (program_of walk.now) (invariants_of walk.now) depth gives at (t.Do (expr_view e.now)) sym.old sym.new) }
+    requires ready { FormReady (program_of walk.now) (invariants_of walk.now) depth gives at sym.old
+        (t.Do (expr_view e.now)) }
+    ensures { IfOk result (λ r. FormDoes (program_of walk.now) (invariants_of walk.now) depth gives at
+        (t.Do (expr_view e.now)) sym.old sym.new) }
 {
     let _value = full(walk, sym, depth, at, false, e)?;
     Ok(())
@@ -133,8 +137,10 @@ fn give_as(
     e: &Expr,
 ) -> Result<(), OutOfMemory>
     requires walk { IsWalk walk.now }
-    requires ready { FormReady (program_of walk.now) (invariants_of walk.now) depth (Some to) at sym.old (t.Return (Some (expr_view e.now))) }
-    ensures { IfOk result (λ r. FormDoes (program_of walk.now) (invariants_of walk.now) depth (Some to) at (t.Return (Some (expr_view e.now))) sym.old sym.new) }
+    requires ready { FormReady (program_of walk.now) (invariants_of walk.now) depth (Some to) at sym.old
+        (t.Return (Some (expr_view e.now))) }
+    ensures { IfOk result (λ r. FormDoes (program_of walk.now) (invariants_of walk.now) depth (Some to) at
+        (t.Return (Some (expr_view e.now))) sym.old sym.new) }
 {
     let x = full(walk, sym, depth, at, true, e)?;
     let y = convert(walk.alloc, walk.program, sym, type_of(e), to, &x)?;
@@ -153,8 +159,10 @@ fn give_value(
     e: &Expr,
 ) -> Result<(), OutOfMemory>
     requires walk { IsWalk walk.now }
-    requires ready { FormReady (program_of walk.now) (invariants_of walk.now) depth gives at sym.old (t.Return (Some (expr_view e.now))) }
-    ensures { IfOk result (λ r. FormDoes (program_of walk.now) (invariants_of walk.now) depth gives at (t.Return (Some (expr_view e.now))) sym.old sym.new) }
+    requires ready { FormReady (program_of walk.now) (invariants_of walk.now) depth gives at sym.old
+        (t.Return (Some (expr_view e.now))) }
+    ensures { IfOk result (λ r. FormDoes (program_of walk.now) (invariants_of walk.now) depth gives at
+        (t.Return (Some (expr_view e.now))) sym.old sym.new) }
 {
     match gives {
         Some(to) => {
@@ -176,8 +184,10 @@ fn give_back(
     e: &Option<Expr>,
 ) -> Result<(), OutOfMemory>
     requires walk { IsWalk walk.now }
-    requires ready { FormReady (program_of walk.now) (invariants_of walk.now) depth gives at sym.old (t.Return (expr_view_if e.now)) }
-    ensures { IfOk result (λ r. FormDoes (program_of walk.now) (invariants_of walk.now) depth gives at (t.Return (expr_view_if e.now)) sym.old sym.new) }
+    requires ready { FormReady (program_of walk.now) (invariants_of walk.now) depth gives at sym.old
+        (t.Return (expr_view_if e.now)) }
+    ensures { IfOk result (λ r. FormDoes (program_of walk.now) (invariants_of walk.now) depth gives at
+        (t.Return (expr_view_if e.now)) sym.old sym.new) }
 {
     match e {
         Some(e) => {
@@ -201,8 +211,10 @@ pub fn execs(
     body: &[Stmt],
 ) -> Result<(), OutOfMemory>
     requires walk { IsWalk walk.now }
-    requires ready { BlockReady (program_of walk.now) (invariants_of walk.now) depth gives sym.old (stmts_view body.now) }
-    ensures { IfOk result (λ r. BlockDoes (program_of walk.now) (invariants_of walk.now) depth gives (stmts_view body.now) sym.old sym.new) }
+    requires ready { BlockReady (program_of walk.now) (invariants_of walk.now) depth gives sym.old
+        (stmts_view body.now) }
+    ensures { IfOk result (λ r. BlockDoes (program_of walk.now) (invariants_of walk.now) depth gives
+        (stmts_view body.now) sym.old sym.new) }
 {
     for s in body {
         statement(walk, sym, depth, gives, s)?;
@@ -221,8 +233,10 @@ fn block(
     body: &[Stmt],
 ) -> Result<(), OutOfMemory>
     requires walk { IsWalk walk.now }
-    requires ready { FormReady (program_of walk.now) (invariants_of walk.now) depth gives at sym.old (t.Block (stmts_view body.now)) }
-    ensures { IfOk result (λ r. FormDoes (program_of walk.now) (invariants_of walk.now) depth gives at (t.Block (stmts_view body.now)) sym.old sym.new) }
+    requires ready { FormReady (program_of walk.now) (invariants_of walk.now) depth gives at sym.old
+        (t.Block (stmts_view body.now)) }
+    ensures { IfOk result (λ r. FormDoes (program_of walk.now) (invariants_of walk.now) depth gives at
+        (t.Block (stmts_view body.now)) sym.old sym.new) }
 {
     let cells = sym.cells.len();
     execs(walk, sym, depth, gives, body)?;
@@ -241,7 +255,8 @@ fn arm(
 ) -> Result<(), OutOfMemory>
     requires walk { IsWalk walk.now }
     requires ready { Ready (program_of walk.now) (invariants_of walk.now) depth gives sym.old (stmt_view s.now) }
-    ensures { IfOk result (λ r. ScopeDoes (program_of walk.now) (invariants_of walk.now) depth gives (stmt_view s.now) sym.old sym.new) }
+    ensures { IfOk result (λ r. ScopeDoes (program_of walk.now) (invariants_of walk.now) depth gives (stmt_view s.now)
+        sym.old sym.new) }
 {
     let outer = sym.cells.len();
     statement(walk, sym, depth, gives, s)?;
@@ -260,7 +275,8 @@ fn otherwise(
 ) -> Result<(), OutOfMemory>
     requires walk { IsWalk walk.now }
     requires ready { ElseReady (program_of walk.now) (invariants_of walk.now) depth gives sym.old (else_of no.now) }
-    ensures { IfOk result (λ r. ElseDoes (program_of walk.now) (invariants_of walk.now) depth gives (else_of no.now) sym.old sym.new) }
+    ensures { IfOk result (λ r. ElseDoes (program_of walk.now) (invariants_of walk.now) depth gives (else_of no.now)
+        sym.old sym.new) }
 {
     match no {
         Some(s) => {
@@ -284,8 +300,10 @@ fn choose(
     no: &Option<Box<Stmt>>,
 ) -> Result<(), OutOfMemory>
     requires walk { IsWalk walk.now }
-    requires ready { FormReady (program_of walk.now) (invariants_of walk.now) depth gives at sym.old (t.If (expr_view test.now) (stmt_view yes.now) (else_of no.now)) }
-    ensures { IfOk result (λ r. FormDoes (program_of walk.now) (invariants_of walk.now) depth gives at (t.If (expr_view test.now) (stmt_view yes.now) (else_of no.now)) sym.old sym.new) }
+    requires ready { FormReady (program_of walk.now) (invariants_of walk.now) depth gives at sym.old
+        (t.If (expr_view test.now) (stmt_view yes.now) (else_of no.now)) }
+    ensures { IfOk result (λ r. FormDoes (program_of walk.now) (invariants_of walk.now) depth gives at
+        (t.If (expr_view test.now) (stmt_view yes.now) (else_of no.now)) sym.old sym.new) }
 {
     let bit = decided(walk, sym, depth, at, test)?;
     let before = sym.live;

@@ -30,8 +30,10 @@ fn chosen(
     arms: &[Arm],
 ) -> Result<Vec<Bit>, OutOfMemory>
     requires walk { IsWalk walk.now }
-    requires ready { ChoiceReady (program_of walk.now) (invariants_of walk.now) depth sym.old (expr_view test.now) (labels_in (switch_view arms.now)) }
-    ensures { IfOk result (λ r. Chooses (program_of walk.now) (invariants_of walk.now) depth at (expr_view test.now) (labels_in (switch_view arms.now)) sym.old sym.new r.items) }
+    requires ready { ChoiceReady (program_of walk.now) (invariants_of walk.now) depth sym.old (expr_view test.now)
+        (labels_in (switch_view arms.now)) }
+    ensures { IfOk result (λ r. Chooses (program_of walk.now) (invariants_of walk.now) depth at (expr_view test.now)
+        (labels_in (switch_view arms.now)) sym.old sym.new r.items) }
 {
     let x = full(walk, sym, depth, at, true, test)?;
     let from = type_of(test);
@@ -53,8 +55,10 @@ fn one_arm(
     body: &[Stmt],
 ) -> Result<(), OutOfMemory>
     requires walk { IsWalk walk.now }
-    requires ready { ArmReady (program_of walk.now) (invariants_of walk.now) depth gives sym.old bit (stmts_view body.now) }
-    ensures { IfOk result (λ r. ArmDoes (program_of walk.now) (invariants_of walk.now) depth gives bit (stmts_view body.now) sym.old sym.new) }
+    requires ready { ArmReady (program_of walk.now) (invariants_of walk.now) depth gives sym.old bit
+        (stmts_view body.now) }
+    ensures { IfOk result (λ r. ArmDoes (program_of walk.now) (invariants_of walk.now) depth gives bit
+        (stmts_view body.now) sym.old sym.new) }
 {
     let before = sym.live;
     let cells = sym.cells.len();
@@ -83,7 +87,8 @@ fn walk_arms(
 ) -> Result<(), OutOfMemory>
     requires walk { IsWalk walk.now }
     requires ready { ArmsReady (program_of walk.now) (invariants_of walk.now) depth gives sym.old bits.now arms.now }
-    ensures { IfOk result (λ r. ArmsDo (program_of walk.now) (invariants_of walk.now) depth gives bits.now arms.now sym.old sym.new) }
+    ensures { IfOk result (λ r. ArmsDo (program_of walk.now) (invariants_of walk.now) depth gives bits.now arms.now
+        sym.old sym.new) }
 {
     for (index, arm) in arms.iter().enumerate() {
         one_arm(walk, sym, depth, gives, bits[index], arm.body.as_slice())?;
@@ -103,8 +108,10 @@ pub fn switch(
     arms: &[Arm],
 ) -> Result<(), OutOfMemory>
     requires walk { IsWalk walk.now }
-    requires ready { FormReady (program_of walk.now) (invariants_of walk.now) depth gives at sym.old (t.Switch (expr_view test.now) (switch_view arms.now)) }
-    ensures { IfOk result (λ r. FormDoes (program_of walk.now) (invariants_of walk.now) depth gives at (t.Switch (expr_view test.now) (switch_view arms.now)) sym.old sym.new) }
+    requires ready { FormReady (program_of walk.now) (invariants_of walk.now) depth gives at sym.old
+        (t.Switch (expr_view test.now) (switch_view arms.now)) }
+    ensures { IfOk result (λ r. FormDoes (program_of walk.now) (invariants_of walk.now) depth gives at
+        (t.Switch (expr_view test.now) (switch_view arms.now)) sym.old sym.new) }
 {
     let bits = chosen(walk, sym, depth, at, test, arms)?;
     let cells = sym.cells.len();

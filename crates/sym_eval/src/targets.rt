@@ -36,7 +36,9 @@ pub fn look_target(
     requires typed { ty ≡ type_of_object (program_view program.now) (object_of target.now) }
     requires is { IsTarget (program_view program.now) sym.old target.now }
     requires room { length sym.old.net + reading (program_view program.now) target.now < 2 ^ 28 }
-    ensures { IfOk result (λ r. (I : List Placed) → Gives (program_view program.now) I (reading (program_view program.now) target.now) 0 sym.old sym.new (Some ty) r.bits (looked_at (program_view program.now) I (keys_of target.now sym.old.net))) }
+    ensures { IfOk result (λ r. (I : List Placed)
+        → Gives (program_view program.now) I (reading (program_view program.now) target.now) 0 sym.old sym.new (Some ty)
+        r.bits (looked_at (program_view program.now) I (keys_of target.now sym.old.net))) }
 {
     match target {
         Target::Scalar(object) => {
@@ -65,7 +67,10 @@ pub fn store_target(
     requires is { IsTarget (program_view program.now) sym.old target.now }
     requires value_in { AreTyped program.now.model from sym.old.net value.now.bits }
     requires room { length sym.old.net + storing (program_view program.now) from target.now < 2 ^ 28 }
-    ensures { IfOk result (λ r. (I : List Placed) → Gives (program_view program.now) I (storing (program_view program.now) from target.now) 0 sym.old sym.new (Some to) r.bits (stored_at (program_view program.now) I (keys_of target.now sym.old.net) from to value.now.bits sym.old)) }
+    ensures { IfOk result (λ r. (I : List Placed)
+        → Gives (program_view program.now) I (storing (program_view program.now) from target.now) 0 sym.old sym.new
+        (Some to) r.bits (stored_at (program_view program.now) I (keys_of target.now sym.old.net) from to value.now.bits
+        sym.old)) }
 {
     match target {
         Target::Scalar(object) => {

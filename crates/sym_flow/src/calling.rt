@@ -66,7 +66,9 @@ fn going_on(
     requires gave_in { IsIn net.old gave }
     requires room { length net.old < 2 ^ 28 }
     ensures grown { Grown 3 net.old net.new }
-    ensures value { IfOk result (λ r. Means net.new r (λ v. cond needed (holds v net.old gave) (holds v net.old live || (holds v net.old broken || (holds v net.old again || holds v net.old gave))))) }
+    ensures value { IfOk result (λ r. Means net.new r
+        (λ v. cond needed (holds v net.old gave)
+        (holds v net.old live || (holds v net.old broken || (holds v net.old again || holds v net.old gave))))) }
 {
     if needed {
         return Ok(gave);

@@ -27,7 +27,11 @@ fn draw_cell(
 ) -> Result<(), OutOfMemory>
     requires fits { IsState (program_view program.now) sym.old }
     requires room { length sym.old.net < 2 ^ 27 }
-    ensures { IfOk result (λ r. (ds : List Duty) → Follows ds (program_view program.now) (4 * width_of program.now.model (objects.type_of_object (program_view program.now) object)) (width_of program.now.model (objects.type_of_object (program_view program.now) object)) sym.old sym.new (λ v u. Unit {0}) (λ v. cell_drawn (program_view program.now) from spot object index)) }
+    ensures { IfOk result (λ r. (ds : List Duty)
+        → Follows ds (program_view program.now)
+        (4 * width_of program.now.model (objects.type_of_object (program_view program.now) object))
+        (width_of program.now.model (objects.type_of_object (program_view program.now) object)) sym.old sym.new
+        (λ v u. Unit {0}) (λ v. cell_drawn (program_view program.now) from spot object index)) }
 {
     let ty = type_of_object(program, object);
     let value = draw(alloc, program, sym, from, spot, ty)?;
@@ -46,8 +50,15 @@ pub fn draw_cells(
     object: u32,
 ) -> Result<(), OutOfMemory>
     requires fits { IsState (program_view program.now) sym.old }
-    requires room { length sym.old.net + 5 * bits_of_cells (program_view program.now) object (objects.size_of_object (program_view program.now) object) < 2 ^ 27 }
-    ensures { IfOk result (λ r. (ds : List Duty) → Follows ds (program_view program.now) (4 * bits_of_cells (program_view program.now) object (objects.size_of_object (program_view program.now) object)) (bits_of_cells (program_view program.now) object (objects.size_of_object (program_view program.now) object)) sym.old sym.new (λ v u. Unit {0}) (λ v. cells_drawn (program_view program.now) from spot object 0 (objects.size_of_object (program_view program.now) object))) }
+    requires room { length sym.old.net + 5 * bits_of_cells (program_view program.now) object
+        (objects.size_of_object (program_view program.now) object) < 2 ^ 27 }
+    ensures { IfOk result (λ r. (ds : List Duty)
+        → Follows ds (program_view program.now)
+        (4 * bits_of_cells (program_view program.now) object (objects.size_of_object (program_view program.now) object))
+        (bits_of_cells (program_view program.now) object (objects.size_of_object (program_view program.now) object))
+        sym.old sym.new (λ v u. Unit {0})
+        (λ v. cells_drawn (program_view program.now) from spot object 0
+        (objects.size_of_object (program_view program.now) object))) }
 {
     let count = size_of_object(program, object);
     for index in 0..count {
@@ -66,7 +77,10 @@ pub fn redraw(
 ) -> Result<(), OutOfMemory>
     requires fits { IsState (program_view program.now) sym.old }
     requires room { length sym.old.net + 5 * bits_of_objects (program_view program.now) objects.now < 2 ^ 27 }
-    ensures { IfOk result (λ r. (ds : List Duty) (I : List Placed) → Follows ds (program_view program.now) (4 * bits_of_objects (program_view program.now) objects.now) (bits_of_objects (program_view program.now) objects.now) sym.old sym.new (λ v u. Unit {0}) (λ v. redraw_of (program_view program.now) I spot objects.now)) }
+    ensures { IfOk result (λ r. (ds : List Duty) (I : List Placed)
+        → Follows ds (program_view program.now) (4 * bits_of_objects (program_view program.now) objects.now)
+        (bits_of_objects (program_view program.now) objects.now) sym.old sym.new (λ v u. Unit {0})
+        (λ v. redraw_of (program_view program.now) I spot objects.now)) }
 {
     for object in objects {
         draw_cells(alloc, program, sym, DrawKind::Havoc, spot, *object)?;

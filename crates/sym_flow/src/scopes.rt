@@ -40,7 +40,8 @@ pub fn end_body(
     requires fits { IsState (program_view program.now) sym.old }
     requires kept_in { IsIn sym.old.net kept }
     requires room { length sym.old.net < 2 ^ 28 }
-    ensures { IfOk result (λ r. Became (program_view program.now) 1 sym.old sym.new (λ v. behind_body (holds v sym.old.net kept) cells)) }
+    ensures { IfOk result (λ r. Became (program_view program.now) 1 sym.old sym.new
+        (λ v. behind_body (holds v sym.old.net kept) cells)) }
 {
     let together = either(&mut sym.net, sym.live, sym.again)?;
     sym.live = together;
@@ -70,7 +71,8 @@ pub fn end_loop(
     requires fits { IsState (program_view program.now) sym.old }
     requires kept_in { IsIn sym.old.net kept }
     requires room { length sym.old.net < 2 ^ 28 }
-    ensures { IfOk result (λ r. Became (program_view program.now) 1 sym.old sym.new (λ v. behind_loop (holds v sym.old.net kept) cells)) }
+    ensures { IfOk result (λ r. Became (program_view program.now) 1 sym.old sym.new
+        (λ v. behind_loop (holds v sym.old.net kept) cells)) }
 {
     let together = either(&mut sym.net, sym.live, sym.broken)?;
     sym.live = together;

@@ -19,7 +19,8 @@ pub fn assume(sym: &mut Sym, program: &Program, test: Bit) -> Result<(), OutOfMe
     requires fits { IsState (program_view program.now) sym.old }
     requires test_in { IsIn sym.old.net test }
     requires room { length sym.old.net < 2 ^ 28 }
-    ensures { IfOk result (λ r. (ds : List Duty) → Follows ds (program_view program.now) 1 0 sym.old sym.new (λ v u. Unit {0}) (tested sym.old test Dismisses)) }
+    ensures { IfOk result (λ r. (ds : List Duty)
+        → Follows ds (program_view program.now) 1 0 sym.old sym.new (λ v u. Unit {0}) (tested sym.old test Dismisses)) }
 {
     stop(sym, program, not(test))?;
     Ok(())
@@ -30,7 +31,8 @@ pub fn assure(sym: &mut Sym, program: &Program, duty: u32, test: Bit) -> Result<
     requires fits { IsState (program_view program.now) sym.old }
     requires test_in { IsIn sym.old.net test }
     requires room { length sym.old.net < 2 ^ 27 }
-    ensures { IfOk result (λ r. (ds : List Duty) (d : Duty) → number_among d ds ≡ suc duty → Follows ds (program_view program.now) 3 0 sym.old sym.new (λ v u. Unit {0}) (tested sym.old test (Fails d))) }
+    ensures { IfOk result (λ r. (ds : List Duty) (d : Duty) → number_among d ds ≡ suc duty
+        → Follows ds (program_view program.now) 3 0 sym.old sym.new (λ v u. Unit {0}) (tested sym.old test (Fails d))) }
 {
     fail(sym, program, duty, not(test))?;
     Ok(())

@@ -80,7 +80,8 @@ pub fn give(
     requires typed { sym.old.result ≡ ty }
     requires value_in { AreTyped program.now.model ty sym.old.net value.now.bits }
     requires room { length sym.old.net < 2 ^ 27 }
-    ensures { IfOk result (λ r. Became (program_view program.now) (4 * width_of program.now.model ty + 1) sym.old sym.new (λ v. giving (typed program.now.model ty v sym.old.net value.now.bits))) }
+    ensures { IfOk result (λ r. Became (program_view program.now) (4 * width_of program.now.model ty + 1) sym.old
+        sym.new (λ v. giving (typed program.now.model ty v sym.old.net value.now.bits))) }
 {
     let given = choose_bits(alloc, &mut sym.net, sym.live, value, &sym.given)?;
     sym.given = given;

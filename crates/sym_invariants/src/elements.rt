@@ -41,7 +41,8 @@ fn live_at(
     requires fits { IsState (program_view program.now) sym.old }
     requires inside { AreIn sym.old.net places.now }
     requires room { length sym.old.net + 3 * length places.now < 2 ^ 27 }
-    ensures { IfOk result (λ r. Decided (program_view program.now) (3 * length places.now) sym.old sym.new r (λ v. is_some (held_in (program_view program.now) object sym.old places.now (length places.now) v))) }
+    ensures { IfOk result (λ r. Decided (program_view program.now) (3 * length places.now) sym.old sym.new r
+        (λ v. is_some (held_in (program_view program.now) object sym.old places.now (length places.now) v))) }
 {
     let mut live = not(sym.net.yes());
     for i in 0..places.len() {
@@ -65,7 +66,11 @@ fn at_places(
     requires some { 0 < places.now.columns }
     requires few { length places.now.bits ≤ objects.size_of_object (program_view program.now) object }
     requires room { length sym.old.net + cell_cost (program_view program.now) object < 2 ^ 27 }
-    ensures { IfOk result (λ r. (before : List NetNode) (i m : ℕ) (cell : MaybeCell) → ArePlaced before sym.old.net i m cell places.now → Sees (program_view program.now) (cell_cost (program_view program.now) object) sym.old sym.new (Some (objects.type_of_object (program_view program.now) object)) r.bits.bits r.defined (λ v. value.and_then (cell v) (seen_cell (program_view program.now) object v sym.old))) }
+    ensures { IfOk result (λ r. (before : List NetNode) (i m : ℕ) (cell : MaybeCell)
+        → ArePlaced before sym.old.net i m cell places.now
+        → Sees (program_view program.now) (cell_cost (program_view program.now) object) sym.old sym.new
+        (Some (objects.type_of_object (program_view program.now) object)) r.bits.bits r.defined
+        (λ v. value.and_then (cell v) (seen_cell (program_view program.now) object v sym.old))) }
 {
     let ty = type_of_object(program, object);
     let bits = places.bits.as_slice();
@@ -92,7 +97,12 @@ pub fn element_at(
     requires index_in { AreTyped program.now.model from sym.old.net index.now.bits.bits }
     requires index_defined { IsIn sym.old.net index.now.defined }
     requires room { length sym.old.net + element_cost (program_view program.now) from object < 2 ^ 27 }
-    ensures { IfOk result (λ r. (f : Perhaps) → IsSeen program.now.model (Some from) sym.old.net index.now.bits.bits index.now.defined f → Sees (program_view program.now) (element_cost (program_view program.now) from object) sym.old sym.new (Some (objects.type_of_object (program_view program.now) object)) r.bits.bits r.defined (λ v. value.and_then (f v) (λ j. value.seen_in (program_view program.now) object j (stand (program_view program.now) v sym.old).cells))) }
+    ensures { IfOk result (λ r. (f : Perhaps)
+        → IsSeen program.now.model (Some from) sym.old.net index.now.bits.bits index.now.defined f
+        → Sees (program_view program.now) (element_cost (program_view program.now) from object) sym.old sym.new
+        (Some (objects.type_of_object (program_view program.now) object)) r.bits.bits r.defined
+        (λ v. value.and_then (f v)
+        (λ j. value.seen_in (program_view program.now) object j (stand (program_view program.now) v sym.old).cells))) }
 {
     let count = size_of_object(program, object) as usize;
     let digits = index.bits.bits.as_slice();
@@ -117,8 +127,17 @@ pub fn element_in_row(
     requires row_defined { IsIn sym.old.net row.now.defined }
     requires column_in { AreTyped program.now.model column_type sym.old.net column.now.bits.bits }
     requires column_defined { IsIn sym.old.net column.now.defined }
-    requires room { length sym.old.net + row_element_cost (program_view program.now) row_type column_type object < 2 ^ 27 }
-    ensures { IfOk result (λ r. (f g : Perhaps) → IsSeen program.now.model (Some row_type) sym.old.net row.now.bits.bits row.now.defined f → IsSeen program.now.model (Some column_type) sym.old.net column.now.bits.bits column.now.defined g → Sees (program_view program.now) (row_element_cost (program_view program.now) row_type column_type object) sym.old sym.new (Some (objects.type_of_object (program_view program.now) object)) r.bits.bits r.defined (λ v. value.and_then (f v) (λ i. value.and_then (g v) (λ j. value.seen_in_row (program_view program.now) object i j (stand (program_view program.now) v sym.old).cells)))) }
+    requires room { length sym.old.net + row_element_cost (program_view program.now) row_type column_type object < 2 ^
+        27 }
+    ensures { IfOk result (λ r. (f g : Perhaps)
+        → IsSeen program.now.model (Some row_type) sym.old.net row.now.bits.bits row.now.defined f
+        → IsSeen program.now.model (Some column_type) sym.old.net column.now.bits.bits column.now.defined g
+        → Sees (program_view program.now) (row_element_cost (program_view program.now) row_type column_type object)
+        sym.old sym.new (Some (objects.type_of_object (program_view program.now) object)) r.bits.bits r.defined
+        (λ v. value.and_then (f v)
+        (λ i. value.and_then (g v)
+        (λ j. value.seen_in_row (program_view program.now) object i j
+        (stand (program_view program.now) v sym.old).cells)))) }
 {
     let both = sym.net.and(row.defined, column.defined)?;
     let places = place_row(

@@ -73,7 +73,9 @@ pub fn cell(
 ) -> Result<Seen, OutOfMemory>
     requires fits { IsState (program_view program.now) sym.now }
     requires typed { ty ≡ objects.type_of_object (program_view program.now) object }
-    ensures { IfOk result (λ r. IsSeen program.now.model (Some ty) sym.now.net r.bits.bits r.defined (λ v. value.seen_at (program_view program.now) (key object index) (stand (program_view program.now) v sym.now).cells)) }
+    ensures { IfOk result (λ r. IsSeen program.now.model (Some ty) sym.now.net r.bits.bits r.defined
+        (λ v. value.seen_at (program_view program.now) (key object index)
+        (stand (program_view program.now) v sym.now).cells)) }
 {
     match place_of(&sym.cells, object, index) {
         Some(_) => {
@@ -100,7 +102,10 @@ pub fn converted(
     requires fits { IsState (program_view program.now) sym.old }
     requires x_in { AreTyped program.now.model from sym.old.net x.now.bits.bits }
     requires room { length sym.old.net < 2 ^ 28 }
-    ensures { IfOk result (λ r. (f : Perhaps) → IsSeen program.now.model (Some from) sym.old.net x.now.bits.bits x.now.defined f → Sees (program_view program.now) (conversion_cost program.now.model from to) sym.old sym.new (Some to) r.bits.bits r.defined (then_value f (λ z. Some (fit program.now.model to z)))) }
+    ensures { IfOk result (λ r. (f : Perhaps)
+        → IsSeen program.now.model (Some from) sym.old.net x.now.bits.bits x.now.defined f
+        → Sees (program_view program.now) (conversion_cost program.now.model from to) sym.old sym.new (Some to)
+        r.bits.bits r.defined (then_value f (λ z. Some (fit program.now.model to z)))) }
 {
     let bits = convert(alloc, program, sym, from, to, &x.bits)?;
     Ok(Seen {
@@ -122,7 +127,11 @@ pub fn operated_one(
     requires x_in { AreTyped program.now.model a sym.old.net x.now.bits.bits }
     requires x_defined { IsIn sym.old.net x.now.defined }
     requires room { length sym.old.net + one_weight program.now.model op a < 2 ^ 27 }
-    ensures { IfOk result (λ r. (f : Perhaps) → IsSeen program.now.model (Some a) sym.old.net x.now.bits.bits x.now.defined f → Sees (program_view program.now) (one_weight program.now.model op a) sym.old sym.new (Some (one_type op (promote_of a))) r.bits.bits r.defined (then_value f (value.operated_one (program_view program.now) op a))) }
+    ensures { IfOk result (λ r. (f : Perhaps)
+        → IsSeen program.now.model (Some a) sym.old.net x.now.bits.bits x.now.defined f
+        → Sees (program_view program.now) (one_weight program.now.model op a) sym.old sym.new
+        (Some (one_type op (promote_of a))) r.bits.bits r.defined
+        (then_value f (value.operated_one (program_view program.now) op a))) }
 {
     let model = program.model;
     let ty = promote(model, a);
@@ -162,7 +171,12 @@ pub fn operated(
     requires y_in { AreTyped program.now.model b sym.old.net y.now.bits.bits }
     requires y_defined { IsIn sym.old.net y.now.defined }
     requires room { length sym.old.net + both_weight program.now.model op a b < 2 ^ 27 }
-    ensures { IfOk result (λ r. (f g : Perhaps) → IsSeen program.now.model (Some a) sym.old.net x.now.bits.bits x.now.defined f → IsSeen program.now.model (Some b) sym.old.net y.now.bits.bits y.now.defined g → Sees (program_view program.now) (both_weight program.now.model op a b) sym.old sym.new (Some (binary_type op (operators.type_for program.now.model op a b))) r.bits.bits r.defined (then_both f g (λ z w. value.operated (program_view program.now) op a z b w))) }
+    ensures { IfOk result (λ r. (f g : Perhaps)
+        → IsSeen program.now.model (Some a) sym.old.net x.now.bits.bits x.now.defined f
+        → IsSeen program.now.model (Some b) sym.old.net y.now.bits.bits y.now.defined g
+        → Sees (program_view program.now) (both_weight program.now.model op a b) sym.old sym.new
+        (Some (binary_type op (operators.type_for program.now.model op a b))) r.bits.bits r.defined
+        (then_both f g (λ z w. value.operated (program_view program.now) op a z b w))) }
 {
     let model = program.model;
     let ty = type_for(model, op, a, b);
@@ -202,7 +216,11 @@ pub fn decided(
     requires y_in { AreTyped program.now.model b sym.old.net y.now.bits.bits }
     requires y_defined { IsIn sym.old.net y.now.defined }
     requires room { length sym.old.net + logic_weight program.now.model a b < 2 ^ 27 }
-    ensures { IfOk result (λ r. (f g : Perhaps) → IsSeen program.now.model (Some a) sym.old.net x.now.bits.bits x.now.defined f → IsSeen program.now.model (Some b) sym.old.net y.now.bits.bits y.now.defined g → Sees (program_view program.now) (logic_weight program.now.model a b) sym.old sym.new (Some Int) r.bits.bits r.defined (λ v. logic_in both (f v) (g v))) }
+    ensures { IfOk result (λ r. (f g : Perhaps)
+        → IsSeen program.now.model (Some a) sym.old.net x.now.bits.bits x.now.defined f
+        → IsSeen program.now.model (Some b) sym.old.net y.now.bits.bits y.now.defined g
+        → Sees (program_view program.now) (logic_weight program.now.model a b) sym.old sym.new (Some Int) r.bits.bits
+        r.defined (λ v. logic_in both (f v) (g v))) }
 {
     let first = test(alloc, program, sym, a, &x.bits)?;
     let second = test(alloc, program, sym, b, &y.bits)?;
@@ -228,7 +246,8 @@ pub fn pick(
     requires yes_in { IsIn sym.old.net yes }
     requires no_in { IsIn sym.old.net no }
     requires room { length sym.old.net < 2 ^ 28 }
-    ensures { IfOk result (λ r. Decided (program_view program.now) 3 sym.old sym.new r (λ v. cond (holds v sym.old.net go) (holds v sym.old.net yes) (holds v sym.old.net no))) }
+    ensures { IfOk result (λ r. Decided (program_view program.now) 3 sym.old sym.new r
+        (λ v. cond (holds v sym.old.net go) (holds v sym.old.net yes) (holds v sym.old.net no))) }
 {
     let taken = sym.net.and(go, yes)?;
     let left = sym.net.and(not(go), no)?;
@@ -248,7 +267,10 @@ pub fn as_type(
     requires fits { IsState (program_view program.now) sym.old }
     requires x_in { AreOf program.now.model (side_type ty from) sym.old.net x.bits.bits }
     requires room { length sym.old.net < 2 ^ 28 }
-    ensures { IfOk result (λ r. (f : Perhaps) → IsSeen program.now.model (side_type ty from) sym.old.net x.bits.bits x.defined f → Sees (program_view program.now) (table.conversion_to program.now.model ty from) sym.old sym.new ty r.bits.bits r.defined (then_value f (λ z. Some (value.converted (program_view program.now) ty z)))) }
+    ensures { IfOk result (λ r. (f : Perhaps)
+        → IsSeen program.now.model (side_type ty from) sym.old.net x.bits.bits x.defined f
+        → Sees (program_view program.now) (table.conversion_to program.now.model ty from) sym.old sym.new ty r.bits.bits
+        r.defined (then_value f (λ z. Some (value.converted (program_view program.now) ty z)))) }
 {
     match ty {
         Some(to) => {
@@ -277,8 +299,15 @@ pub fn chosen(
     requires x_defined { IsIn sym.old.net x.now.defined }
     requires y_in { AreOf program.now.model ty sym.old.net y.now.bits.bits }
     requires y_defined { IsIn sym.old.net y.now.defined }
-    requires room { length sym.old.net + (4 + (conversion_cost program.now.model of BoolType + table.chosen program.now.model ty)) < 2 ^ 27 }
-    ensures { IfOk result (λ r. (h f g : Perhaps) → IsSeen program.now.model (Some of) sym.old.net e.now.bits.bits e.now.defined h → IsSeen program.now.model ty sym.old.net x.now.bits.bits x.now.defined f → IsSeen program.now.model ty sym.old.net y.now.bits.bits y.now.defined g → Sees (program_view program.now) (4 + (conversion_cost program.now.model of BoolType + table.chosen program.now.model ty)) sym.old sym.new ty r.bits.bits r.defined (λ v. choice_in (h v) (f v) (g v))) }
+    requires room { length sym.old.net +
+        (4 + (conversion_cost program.now.model of BoolType + table.chosen program.now.model ty)) < 2 ^ 27 }
+    ensures { IfOk result (λ r. (h f g : Perhaps)
+        → IsSeen program.now.model (Some of) sym.old.net e.now.bits.bits e.now.defined h
+        → IsSeen program.now.model ty sym.old.net x.now.bits.bits x.now.defined f
+        → IsSeen program.now.model ty sym.old.net y.now.bits.bits y.now.defined g
+        → Sees (program_view program.now)
+        (4 + (conversion_cost program.now.model of BoolType + table.chosen program.now.model ty)) sym.old sym.new ty
+        r.bits.bits r.defined (λ v. choice_in (h v) (f v) (g v))) }
 {
     let go = test(alloc, program, sym, of, &e.bits)?;
     let side = pick(program, sym, go, x.defined, y.defined)?;
@@ -303,7 +332,10 @@ pub fn second(program: &Program, sym: &mut Sym, x: &Seen, y: Seen) -> Result<See
     requires x_defined { IsIn sym.old.net x.now.defined }
     requires y_defined { IsIn sym.old.net y.defined }
     requires room { length sym.old.net < 2 ^ 28 }
-    ensures { IfOk result (λ r. (s t : Option IntType) (f g : Perhaps) → IsSeen program.now.model s sym.old.net x.now.bits.bits x.now.defined f → IsSeen program.now.model t sym.old.net y.bits.bits y.defined g → Sees (program_view program.now) 1 sym.old sym.new t r.bits.bits r.defined (then_both f g (λ z w. Some w))) }
+    ensures { IfOk result (λ r. (s t : Option IntType) (f g : Perhaps)
+        → IsSeen program.now.model s sym.old.net x.now.bits.bits x.now.defined f
+        → IsSeen program.now.model t sym.old.net y.bits.bits y.defined g
+        → Sees (program_view program.now) 1 sym.old sym.new t r.bits.bits r.defined (then_both f g (λ z w. Some w))) }
 {
     let defined = sym.net.and(x.defined, y.defined)?;
     Ok(Seen {

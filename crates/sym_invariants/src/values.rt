@@ -27,7 +27,8 @@ fn value_bits(
     e: &Expr,
 ) -> Result<Seen, OutOfMemory>
     requires { Ready (program_view program.now) sym.old (expr_view e.now) }
-    ensures { IfOk result (λ r. SeesExpression (program_view program.now) (expr_view e.now) sym.old sym.new r.bits.bits r.defined) }
+    ensures { IfOk result (λ r. SeesExpression (program_view program.now) (expr_view e.now) sym.old sym.new r.bits.bits
+        r.defined) }
 {
     match &e.node {
         Node::Const(value) => {
@@ -101,7 +102,8 @@ fn element(
     at: &[Expr],
 ) -> Result<Seen, OutOfMemory>
     requires { Ready (program_view program.now) sym.old (t.Expr spot ty (t.Index object (exprs_view at.now))) }
-    ensures { IfOk result (λ r. SeesExpression (program_view program.now) (t.Expr spot ty (t.Index object (exprs_view at.now))) sym.old sym.new r.bits.bits r.defined) }
+    ensures { IfOk result (λ r. SeesExpression (program_view program.now)
+        (t.Expr spot ty (t.Index object (exprs_view at.now))) sym.old sym.new r.bits.bits r.defined) }
 {
     match at {
         [index] => {
@@ -127,8 +129,11 @@ fn indexed(
     object: u32,
     index: &Expr,
 ) -> Result<Seen, OutOfMemory>
-    requires { Ready (program_view program.now) sym.old (t.Expr spot ty (t.Index object (t.MoreExp (expr_view index.now) t.NoExp))) }
-    ensures { IfOk result (λ r. SeesExpression (program_view program.now) (t.Expr spot ty (t.Index object (t.MoreExp (expr_view index.now) t.NoExp))) sym.old sym.new r.bits.bits r.defined) }
+    requires { Ready (program_view program.now) sym.old
+        (t.Expr spot ty (t.Index object (t.MoreExp (expr_view index.now) t.NoExp))) }
+    ensures { IfOk result (λ r. SeesExpression (program_view program.now)
+        (t.Expr spot ty (t.Index object (t.MoreExp (expr_view index.now) t.NoExp))) sym.old sym.new r.bits.bits
+        r.defined) }
 {
     let x = value_bits(alloc, program, sym, index)?;
     let r = element_at(alloc, program, sym, object, type_of(index), &x)?;
@@ -146,8 +151,11 @@ fn indexed_twice(
     row: &Expr,
     column: &Expr,
 ) -> Result<Seen, OutOfMemory>
-    requires { Ready (program_view program.now) sym.old (t.Expr spot ty (t.Index object (t.MoreExp (expr_view row.now) (t.MoreExp (expr_view column.now) t.NoExp)))) }
-    ensures { IfOk result (λ r. SeesExpression (program_view program.now) (t.Expr spot ty (t.Index object (t.MoreExp (expr_view row.now) (t.MoreExp (expr_view column.now) t.NoExp)))) sym.old sym.new r.bits.bits r.defined) }
+    requires { Ready (program_view program.now) sym.old
+        (t.Expr spot ty (t.Index object (t.MoreExp (expr_view row.now) (t.MoreExp (expr_view column.now) t.NoExp)))) }
+    ensures { IfOk result (λ r. SeesExpression (program_view program.now)
+        (t.Expr spot ty (t.Index object (t.MoreExp (expr_view row.now) (t.MoreExp (expr_view column.now) t.NoExp))))
+        sym.old sym.new r.bits.bits r.defined) }
 {
     let x = value_bits(alloc, program, sym, row)?;
     let y = value_bits(alloc, program, sym, column)?;
@@ -175,7 +183,8 @@ fn unary(
     of: &Expr,
 ) -> Result<Seen, OutOfMemory>
     requires { Ready (program_view program.now) sym.old (t.Expr spot ty (t.Unary op (expr_view of.now))) }
-    ensures { IfOk result (λ r. SeesExpression (program_view program.now) (t.Expr spot ty (t.Unary op (expr_view of.now))) sym.old sym.new r.bits.bits r.defined) }
+    ensures { IfOk result (λ r. SeesExpression (program_view program.now)
+        (t.Expr spot ty (t.Unary op (expr_view of.now))) sym.old sym.new r.bits.bits r.defined) }
 {
     let x = value_bits(alloc, program, sym, of)?;
     let r = operated_one(alloc, program, sym, op, type_of(of), &x)?;
@@ -192,7 +201,8 @@ fn cast(
     of: &Expr,
 ) -> Result<Seen, OutOfMemory>
     requires { Ready (program_view program.now) sym.old (t.Expr spot ty (t.Cast (expr_view of.now))) }
-    ensures { IfOk result (λ r. SeesExpression (program_view program.now) (t.Expr spot ty (t.Cast (expr_view of.now))) sym.old sym.new r.bits.bits r.defined) }
+    ensures { IfOk result (λ r. SeesExpression (program_view program.now) (t.Expr spot ty (t.Cast (expr_view of.now)))
+        sym.old sym.new r.bits.bits r.defined) }
 {
     let x = value_bits(alloc, program, sym, of)?;
     match ty {
@@ -215,8 +225,11 @@ fn binary(
     left: &Expr,
     right: &Expr,
 ) -> Result<Seen, OutOfMemory>
-    requires { Ready (program_view program.now) sym.old (t.Expr spot ty (t.Binary op (expr_view left.now) (expr_view right.now))) }
-    ensures { IfOk result (λ r. SeesExpression (program_view program.now) (t.Expr spot ty (t.Binary op (expr_view left.now) (expr_view right.now))) sym.old sym.new r.bits.bits r.defined) }
+    requires { Ready (program_view program.now) sym.old
+        (t.Expr spot ty (t.Binary op (expr_view left.now) (expr_view right.now))) }
+    ensures { IfOk result (λ r. SeesExpression (program_view program.now)
+        (t.Expr spot ty (t.Binary op (expr_view left.now) (expr_view right.now))) sym.old sym.new r.bits.bits
+        r.defined) }
 {
     let x = value_bits(alloc, program, sym, left)?;
     let y = value_bits(alloc, program, sym, right)?;
@@ -244,8 +257,11 @@ fn logic(
     left: &Expr,
     right: &Expr,
 ) -> Result<Seen, OutOfMemory>
-    requires { Ready (program_view program.now) sym.old (t.Expr spot ty (t.Logic both (expr_view left.now) (expr_view right.now))) }
-    ensures { IfOk result (λ r. SeesExpression (program_view program.now) (t.Expr spot ty (t.Logic both (expr_view left.now) (expr_view right.now))) sym.old sym.new r.bits.bits r.defined) }
+    requires { Ready (program_view program.now) sym.old
+        (t.Expr spot ty (t.Logic both (expr_view left.now) (expr_view right.now))) }
+    ensures { IfOk result (λ r. SeesExpression (program_view program.now)
+        (t.Expr spot ty (t.Logic both (expr_view left.now) (expr_view right.now))) sym.old sym.new r.bits.bits
+        r.defined) }
 {
     let x = value_bits(alloc, program, sym, left)?;
     let y = value_bits(alloc, program, sym, right)?;
@@ -274,8 +290,11 @@ fn choice(
     yes: &Expr,
     no: &Expr,
 ) -> Result<Seen, OutOfMemory>
-    requires { Ready (program_view program.now) sym.old (t.Expr spot ty (t.Choose mark (expr_view condition.now) (expr_view yes.now) (expr_view no.now))) }
-    ensures { IfOk result (λ r. SeesExpression (program_view program.now) (t.Expr spot ty (t.Choose mark (expr_view condition.now) (expr_view yes.now) (expr_view no.now))) sym.old sym.new r.bits.bits r.defined) }
+    requires { Ready (program_view program.now) sym.old
+        (t.Expr spot ty (t.Choose mark (expr_view condition.now) (expr_view yes.now) (expr_view no.now))) }
+    ensures { IfOk result (λ r. SeesExpression (program_view program.now)
+        (t.Expr spot ty (t.Choose mark (expr_view condition.now) (expr_view yes.now) (expr_view no.now))) sym.old
+        sym.new r.bits.bits r.defined) }
 {
     let e = value_bits(alloc, program, sym, condition)?;
     let x = value_bits(alloc, program, sym, yes)?;
@@ -296,8 +315,10 @@ fn comma(
     first: &Expr,
     last: &Expr,
 ) -> Result<Seen, OutOfMemory>
-    requires { Ready (program_view program.now) sym.old (t.Expr spot ty (t.Comma (expr_view first.now) (expr_view last.now))) }
-    ensures { IfOk result (λ r. SeesExpression (program_view program.now) (t.Expr spot ty (t.Comma (expr_view first.now) (expr_view last.now))) sym.old sym.new r.bits.bits r.defined) }
+    requires { Ready (program_view program.now) sym.old
+        (t.Expr spot ty (t.Comma (expr_view first.now) (expr_view last.now))) }
+    ensures { IfOk result (λ r. SeesExpression (program_view program.now)
+        (t.Expr spot ty (t.Comma (expr_view first.now) (expr_view last.now))) sym.old sym.new r.bits.bits r.defined) }
 {
     let x = value_bits(alloc, program, sym, first)?;
     let y = value_bits(alloc, program, sym, last)?;

@@ -55,7 +55,8 @@ pub fn look(
 ) -> Result<Bits, OutOfMemory>
     requires fits { IsState (program_view program.now) sym.now }
     requires typed { ty ≡ type_of_object (program_view program.now) object }
-    ensures { IfOk result (λ r. Reads program.now.model ty sym.now.net r.bits (λ v. read (key object index) (stand (program_view program.now) v sym.now).cells)) }
+    ensures { IfOk result (λ r. Reads program.now.model ty sym.now.net r.bits
+        (λ v. read (key object index) (stand (program_view program.now) v sym.now).cells)) }
 {
     match place_of(&sym.cells, object, index) {
         Some(at) => {
@@ -81,9 +82,13 @@ pub fn write(
 ) -> Result<(), OutOfMemory>
     requires fits { IsState (program_view program.now) sym.old }
     requires here_in { IsIn sym.old.net here }
-    requires value_in { AreTyped program.now.model (type_of_object (program_view program.now) object) sym.old.net value.now.bits }
+    requires value_in { AreTyped program.now.model (type_of_object (program_view program.now) object) sym.old.net
+        value.now.bits }
     requires room { length sym.old.net < 2 ^ 28 }
-    ensures { IfOk result (λ r. Turned (program_view program.now) (4 * width_of program.now.model (type_of_object (program_view program.now) object)) 0 sym.old sym.new (λ v. stored (holds v sym.old.net here) (key object index) (typed program.now.model (type_of_object (program_view program.now) object) v sym.old.net value.now.bits))) }
+    ensures { IfOk result (λ r. Turned (program_view program.now)
+        (4 * width_of program.now.model (type_of_object (program_view program.now) object)) 0 sym.old sym.new
+        (λ v. stored (holds v sym.old.net here) (key object index)
+        (typed program.now.model (type_of_object (program_view program.now) object) v sym.old.net value.now.bits))) }
 {
     if let Some(at) = place_of(&sym.cells, object, index) {
         let chosen = choose_bits(alloc, &mut sym.net, here, value, &sym.cells[at].bits)?;

@@ -14,7 +14,8 @@ pub fn stop(sym: &mut Sym, program: &Program, bad: Bit) -> Result<(), OutOfMemor
     requires fits { IsState (program_view program.now) sym.old }
     requires bad_in { IsIn sym.old.net bad }
     requires room { length sym.old.net < 2 ^ 28 }
-    ensures { IfOk result (λ r. Turned (program_view program.now) 1 0 sym.old sym.new (λ v. stopped (holds v sym.old.net bad))) }
+    ensures { IfOk result (λ r. Turned (program_view program.now) 1 0 sym.old sym.new
+        (λ v. stopped (holds v sym.old.net bad))) }
 {
     let live = sym.net.and(sym.live, not(bad))?;
     sym.live = live;
@@ -27,7 +28,8 @@ pub fn narrow(sym: &mut Sym, program: &Program, a: Bit, b: Bit) -> Result<(), Ou
     requires a_in { IsIn sym.old.net a }
     requires b_in { IsIn sym.old.net b }
     requires room { length sym.old.net < 2 ^ 28 }
-    ensures { IfOk result (λ r. Turned (program_view program.now) 1 0 sym.old sym.new (λ v. with_live (holds v sym.old.net a && holds v sym.old.net b))) }
+    ensures { IfOk result (λ r. Turned (program_view program.now) 1 0 sym.old sym.new
+        (λ v. with_live (holds v sym.old.net a && holds v sym.old.net b))) }
 {
     let live = sym.net.and(a, b)?;
     sym.live = live;
@@ -39,7 +41,8 @@ pub fn join(sym: &mut Sym, program: &Program, other: Bit) -> Result<(), OutOfMem
     requires fits { IsState (program_view program.now) sym.old }
     requires other_in { IsIn sym.old.net other }
     requires room { length sym.old.net < 2 ^ 28 }
-    ensures { IfOk result (λ r. Turned (program_view program.now) 1 0 sym.old sym.new (λ v. with_live (holds v sym.old.net other || holds v sym.old.net sym.old.live))) }
+    ensures { IfOk result (λ r. Turned (program_view program.now) 1 0 sym.old sym.new
+        (λ v. with_live (holds v sym.old.net other || holds v sym.old.net sym.old.live))) }
 {
     let neither = sym.net.and(not(other), not(sym.live))?;
     sym.live = not(neither);
@@ -51,7 +54,8 @@ fn mark(sym: &mut Sym, program: &Program, duty: u32, here: Bit) -> Result<(), Ou
     requires fits { IsState (program_view program.now) sym.old }
     requires here_in { IsIn sym.old.net here }
     requires room { length sym.old.net < 2 ^ 28 }
-    ensures { IfOk result (λ r. Turned (program_view program.now) 1 0 sym.old sym.new (λ v. marking duty (holds v sym.old.net here))) }
+    ensures { IfOk result (λ r. Turned (program_view program.now) 1 0 sym.old sym.new
+        (λ v. marking duty (holds v sym.old.net here))) }
 {
     let at = duty as usize;
     if at >= sym.failing.len() {
@@ -67,7 +71,8 @@ pub fn fail(sym: &mut Sym, program: &Program, duty: u32, bad: Bit) -> Result<(),
     requires fits { IsState (program_view program.now) sym.old }
     requires bad_in { IsIn sym.old.net bad }
     requires room { length sym.old.net < 2 ^ 27 }
-    ensures { IfOk result (λ r. Turned (program_view program.now) 3 0 sym.old sym.new (λ v. failed duty (holds v sym.old.net bad))) }
+    ensures { IfOk result (λ r. Turned (program_view program.now) 3 0 sym.old sym.new
+        (λ v. failed duty (holds v sym.old.net bad))) }
 {
     let here = sym.net.and(sym.live, bad)?;
     mark(sym, program, duty, here)?;

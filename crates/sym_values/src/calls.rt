@@ -24,7 +24,9 @@ pub fn input(
 ) -> Result<Bits, OutOfMemory>
     requires fits { IsState (program_view program.now) sym.old }
     requires room { length sym.old.net < 2 ^ 28 }
-    ensures { IfOk result (λ r. (I : List Placed) → Gives (program_view program.now) I 0 (width_of program.now.model ty) sym.old sym.new (Some ty) r.bits (input_of (program_view program.now) I spot ty)) }
+    ensures { IfOk result (λ r. (I : List Placed)
+        → Gives (program_view program.now) I 0 (width_of program.now.model ty) sym.old sym.new (Some ty) r.bits
+        (input_of (program_view program.now) I spot ty)) }
 {
     let bits = draw(alloc, program, sym, DrawKind::Input, spot, ty)?;
     Ok(bits)
@@ -34,7 +36,8 @@ pub fn input(
 pub fn end(sym: &mut Sym, program: &Program) -> Result<(), OutOfMemory>
     requires fits { IsState (program_view program.now) sym.old }
     requires room { length sym.old.net < 2 ^ 27 }
-    ensures { IfOk result (λ r. (I : List Placed) → Ends (program_view program.now) I 1 sym.old sym.new (end_of (program_view program.now) I)) }
+    ensures { IfOk result (λ r. (I : List Placed)
+        → Ends (program_view program.now) I 1 sym.old sym.new (end_of (program_view program.now) I)) }
 {
     let always = sym.net.yes();
     stop(sym, program, always)?;
@@ -45,7 +48,8 @@ pub fn end(sym: &mut Sym, program: &Program) -> Result<(), OutOfMemory>
 pub fn reach(sym: &mut Sym, program: &Program, at: Around) -> Result<(), OutOfMemory>
     requires fits { IsState (program_view program.now) sym.old }
     requires room { length sym.old.net < 2 ^ 27 }
-    ensures { IfOk result (λ r. (I : List Placed) → IsDutyAt (program_view program.now) I at → Ends (program_view program.now) I 3 sym.old sym.new (reach_of (program_view program.now) I at)) }
+    ensures { IfOk result (λ r. (I : List Placed) → IsDutyAt (program_view program.now) I at
+        → Ends (program_view program.now) I 3 sym.old sym.new (reach_of (program_view program.now) I at)) }
 {
     let always = sym.net.yes();
     match program.property {

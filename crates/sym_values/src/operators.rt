@@ -40,7 +40,8 @@ fn end_runs(
     requires overflow_in { IsIn sym.old.net overflow }
     requires undefined_in { IsIn sym.old.net undefined }
     requires room { length sym.old.net < 2 ^ 27 }
-    ensures { IfOk result (λ r. Turned (program_view program.now) 4 0 sym.old sym.new (λ v. judged program.now.property at.duty (holds v sym.old.net overflow) (holds v sym.old.net undefined))) }
+    ensures { IfOk result (λ r. Turned (program_view program.now) 4 0 sym.old sym.new
+        (λ v. judged program.now.property at.duty (holds v sym.old.net overflow) (holds v sym.old.net undefined))) }
 {
     match program.property {
         Property::NoOverflow => {
@@ -72,7 +73,10 @@ pub fn operate(
     requires x_in { AreTyped program.now.model a sym.old.net x.now.bits }
     requires y_in { AreTyped program.now.model b sym.old.net y.now.bits }
     requires room { length sym.old.net + operated_cost program.now.model op a b < 2 ^ 27 }
-    ensures { IfOk result (λ r. (I : List Placed) → IsDutyAt (program_view program.now) I at → Gives (program_view program.now) I (operated_cost program.now.model op a b) 0 sym.old sym.new (Some (binary_type op (operators.type_for program.now.model op a b))) r.bits (operated (program_view program.now) I at spot op a x.now.bits b y.now.bits sym.old)) }
+    ensures { IfOk result (λ r. (I : List Placed) → IsDutyAt (program_view program.now) I at
+        → Gives (program_view program.now) I (operated_cost program.now.model op a b) 0 sym.old sym.new
+        (Some (binary_type op (operators.type_for program.now.model op a b))) r.bits
+        (operated (program_view program.now) I at spot op a x.now.bits b y.now.bits sym.old)) }
 {
     let model = program.model;
     let ty = type_for(model, op, a, b);
@@ -97,7 +101,10 @@ pub fn operate_one(
     requires fits { IsState (program_view program.now) sym.old }
     requires x_in { AreTyped program.now.model a sym.old.net x.now.bits }
     requires room { length sym.old.net + operated_one_cost program.now.model op a < 2 ^ 27 }
-    ensures { IfOk result (λ r. (I : List Placed) → IsDutyAt (program_view program.now) I at → Gives (program_view program.now) I (operated_one_cost program.now.model op a) 0 sym.old sym.new (Some (one_type op (promote_of a))) r.bits (operated_one (program_view program.now) I at op a x.now.bits sym.old)) }
+    ensures { IfOk result (λ r. (I : List Placed) → IsDutyAt (program_view program.now) I at
+        → Gives (program_view program.now) I (operated_one_cost program.now.model op a) 0 sym.old sym.new
+        (Some (one_type op (promote_of a))) r.bits
+        (operated_one (program_view program.now) I at op a x.now.bits sym.old)) }
 {
     let model = program.model;
     let ty = promote(model, a);

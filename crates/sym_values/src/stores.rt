@@ -30,7 +30,9 @@ pub fn store(
     requires typed { to ≡ type_of_object (program_view program.now) object }
     requires value_in { AreTyped program.now.model from sym.old.net value.now.bits }
     requires room { length sym.old.net + stored_cost program.now.model from to < 2 ^ 28 }
-    ensures { IfOk result (λ r. (I : List Placed) → Gives (program_view program.now) I (stored_cost program.now.model from to) 0 sym.old sym.new (Some to) r.bits (stored_in (program_view program.now) I (key object 0) from to value.now.bits sym.old)) }
+    ensures { IfOk result (λ r. (I : List Placed)
+        → Gives (program_view program.now) I (stored_cost program.now.model from to) 0 sym.old sym.new (Some to) r.bits
+        (stored_in (program_view program.now) I (key object 0) from to value.now.bits sym.old)) }
 {
     let bits = convert(alloc, program, sym, from, to, value)?;
     let here = sym.live;

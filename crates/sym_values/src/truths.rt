@@ -28,7 +28,8 @@ pub fn convert(
     requires fits { IsState (program_view program.now) sym.old }
     requires x_in { AreTyped program.now.model from sym.old.net x.now.bits }
     requires room { length sym.old.net < 2 ^ 28 }
-    ensures { IfOk result (λ r. Reckoned (program_view program.now) (conversion_cost program.now.model from to) sym.old sym.new to r.bits (λ v. fit program.now.model to (typed program.now.model from v sym.old.net x.now.bits))) }
+    ensures { IfOk result (λ r. Reckoned (program_view program.now) (conversion_cost program.now.model from to) sym.old
+        sym.new to r.bits (λ v. fit program.now.model to (typed program.now.model from v sym.old.net x.now.bits))) }
 {
     let bits = convert_bits(alloc, &mut sym.net, program.model, from, to, x)?;
     Ok(bits)
@@ -45,7 +46,8 @@ pub fn test(
     requires fits { IsState (program_view program.now) sym.old }
     requires x_in { AreTyped program.now.model ty sym.old.net x.now.bits }
     requires room { length sym.old.net < 2 ^ 28 }
-    ensures { IfOk result (λ r. Decided (program_view program.now) (conversion_cost program.now.model ty BoolType) sym.old sym.new r (λ v. not (is_zero (typed program.now.model ty v sym.old.net x.now.bits)))) }
+    ensures { IfOk result (λ r. Decided (program_view program.now) (conversion_cost program.now.model ty BoolType)
+        sym.old sym.new r (λ v. not (is_zero (typed program.now.model ty v sym.old.net x.now.bits)))) }
 {
     let truth = convert_bits(alloc, &mut sym.net, program.model, ty, IntType::Bool, x)?;
     Ok(truth.bits.as_slice()[0])
@@ -56,7 +58,8 @@ pub fn truth(alloc: Global, program: &Program, sym: &mut Sym, bit: Bit) -> Resul
     requires fits { IsState (program_view program.now) sym.old }
     requires bit_in { IsIn sym.old.net bit }
     requires room { length sym.old.net < 2 ^ 28 }
-    ensures { IfOk result (λ r. Reckoned (program_view program.now) 0 sym.old sym.new Int r.bits (λ v. number_of (holds v sym.old.net bit))) }
+    ensures { IfOk result (λ r. Reckoned (program_view program.now) 0 sym.old sym.new Int r.bits
+        (λ v. number_of (holds v sym.old.net bit))) }
 {
     let mut digit = Vec::new(alloc);
     digit.push(bit)?;
@@ -89,7 +92,9 @@ pub fn choose(
     requires yes_in { AreTyped program.now.model ty sym.old.net yes.now.bits }
     requires no_in { AreTyped program.now.model ty sym.old.net no.now.bits }
     requires room { length sym.old.net < 2 ^ 28 }
-    ensures { IfOk result (λ r. Reckoned (program_view program.now) (4 * width_of program.now.model ty) sym.old sym.new ty r.bits (λ v. cond (holds v sym.old.net test) (typed program.now.model ty v sym.old.net yes.now.bits) (typed program.now.model ty v sym.old.net no.now.bits))) }
+    ensures { IfOk result (λ r. Reckoned (program_view program.now) (4 * width_of program.now.model ty) sym.old sym.new
+        ty r.bits (λ v. cond (holds v sym.old.net test) (typed program.now.model ty v sym.old.net yes.now.bits)
+        (typed program.now.model ty v sym.old.net no.now.bits))) }
 {
     let bits = choose_bits(alloc, &mut sym.net, test, yes, no)?;
     Ok(bits)

@@ -63,8 +63,10 @@ fn called(
     callee: Callee,
     args: &[Expr],
 ) -> Result<Cost, OutOfMemory>
-    ensures cost { IfOk result (λ c. c ≡ (sums.called (program_view program.now) tallying callee (exprs_view args.now)).cost) }
-    ensures calls { OnOk result (calls.new.items ≡ calls.old.items ++ (sums.called (program_view program.now) tallying callee (exprs_view args.now)).calls) }
+    ensures cost { IfOk result (λ c. c
+        ≡ (sums.called (program_view program.now) tallying callee (exprs_view args.now)).cost) }
+    ensures calls { OnOk result (calls.new.items
+        ≡ calls.old.items ++ (sums.called (program_view program.now) tallying callee (exprs_view args.now)).calls) }
 {
     match callee {
         Callee::Defined(function) => {
@@ -80,7 +82,8 @@ fn called(
 #[cycle(expression)]
 pub fn expression(program: &Program, calls: &mut Vec<u32>, e: &Expr) -> Result<Cost, OutOfMemory>
     ensures cost { IfOk result (λ c. c ≡ (sums.expression (program_view program.now) tallying (expr_view e.now)).cost) }
-    ensures calls { OnOk result (calls.new.items ≡ calls.old.items ++ (sums.expression (program_view program.now) tallying (expr_view e.now)).calls) }
+    ensures calls { OnOk result (calls.new.items
+        ≡ calls.old.items ++ (sums.expression (program_view program.now) tallying (expr_view e.now)).calls) }
 {
     let own = draws(
         16 + node_work(program, e.ty, &e.node),
@@ -92,8 +95,10 @@ pub fn expression(program: &Program, calls: &mut Vec<u32>, e: &Expr) -> Result<C
 
 #[cycle(expression)]
 fn operands(program: &Program, calls: &mut Vec<u32>, node: &Node) -> Result<Cost, OutOfMemory>
-    ensures cost { IfOk result (λ c. c ≡ (sums.operands (program_view program.now) tallying (node_view node.now)).cost) }
-    ensures calls { OnOk result (calls.new.items ≡ calls.old.items ++ (sums.operands (program_view program.now) tallying (node_view node.now)).calls) }
+    ensures cost { IfOk result (λ c. c
+        ≡ (sums.operands (program_view program.now) tallying (node_view node.now)).cost) }
+    ensures calls { OnOk result (calls.new.items
+        ≡ calls.old.items ++ (sums.operands (program_view program.now) tallying (node_view node.now)).calls) }
 {
     match node {
         Node::Const(_) => Ok(nothing()),
@@ -148,7 +153,8 @@ fn operands(program: &Program, calls: &mut Vec<u32>, node: &Node) -> Result<Cost
 #[cycle(expression)]
 fn target(program: &Program, calls: &mut Vec<u32>, e: &Expr) -> Result<Cost, OutOfMemory>
     ensures cost { IfOk result (λ c. c ≡ (sums.target (program_view program.now) tallying (expr_view e.now)).cost) }
-    ensures calls { OnOk result (calls.new.items ≡ calls.old.items ++ (sums.target (program_view program.now) tallying (expr_view e.now)).calls) }
+    ensures calls { OnOk result (calls.new.items
+        ≡ calls.old.items ++ (sums.target (program_view program.now) tallying (expr_view e.now)).calls) }
 {
     let indexes = indexes_of(program, calls, &e.node)?;
     Ok(plus(weighs(16), indexes))
@@ -156,8 +162,10 @@ fn target(program: &Program, calls: &mut Vec<u32>, e: &Expr) -> Result<Cost, Out
 
 #[cycle(expression)]
 fn indexes_of(program: &Program, calls: &mut Vec<u32>, node: &Node) -> Result<Cost, OutOfMemory>
-    ensures cost { IfOk result (λ c. c ≡ (sums.indexes_of (program_view program.now) tallying (node_view node.now)).cost) }
-    ensures calls { OnOk result (calls.new.items ≡ calls.old.items ++ (sums.indexes_of (program_view program.now) tallying (node_view node.now)).calls) }
+    ensures cost { IfOk result (λ c. c
+        ≡ (sums.indexes_of (program_view program.now) tallying (node_view node.now)).cost) }
+    ensures calls { OnOk result (calls.new.items
+        ≡ calls.old.items ++ (sums.indexes_of (program_view program.now) tallying (node_view node.now)).calls) }
 {
     match node {
         Node::Index { at, .. } => {
@@ -170,8 +178,10 @@ fn indexes_of(program: &Program, calls: &mut Vec<u32>, node: &Node) -> Result<Co
 
 #[cycle(expression)]
 fn arguments(program: &Program, calls: &mut Vec<u32>, args: &[Expr]) -> Result<Cost, OutOfMemory>
-    ensures cost { IfOk result (λ c. c ≡ (sums.arguments (program_view program.now) tallying (exprs_view args.now)).cost) }
-    ensures calls { OnOk result (calls.new.items ≡ calls.old.items ++ (sums.arguments (program_view program.now) tallying (exprs_view args.now)).calls) }
+    ensures cost { IfOk result (λ c. c
+        ≡ (sums.arguments (program_view program.now) tallying (exprs_view args.now)).cost) }
+    ensures calls { OnOk result (calls.new.items
+        ≡ calls.old.items ++ (sums.arguments (program_view program.now) tallying (exprs_view args.now)).calls) }
 {
     let mut sum = nothing();
     for e in args {

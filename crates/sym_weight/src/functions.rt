@@ -13,7 +13,9 @@ use c_core::Function;
 use wv_base::{OutOfMemory, Seq};
 
 fn tally_of(weigher: Weigher, function: &Function) -> Result<Tally, OutOfMemory>
-    ensures { IfOk result (λ t. IsTallied weigher.entry.heads (tally_view t) (function_of (program_view weigher.entry.program.now) tallying (placed_of weigher.entry) (Some (function_view function.now)))) }
+    ensures { IfOk result (λ t. IsTallied weigher.entry.heads (tally_view t)
+        (function_of (program_view weigher.entry.program.now) tallying (placed_of weigher.entry)
+        (Some (function_view function.now)))) }
 {
     let mut calls = Vec::new(weigher.alloc);
     let body = &function.body;
@@ -40,7 +42,9 @@ pub fn tallies_of(
     functions: &[Function],
     marks: &[bool],
 ) -> Result<Vec<Tally>, OutOfMemory>
-    ensures tallied { IfOk result (λ all. AreTallied (is_wanted marks.now) (tallies_view all.items) (tallies_of (program_view weigher.entry.program.now) (placed_of weigher.entry) (functions_view functions.now))) }
+    ensures tallied { IfOk result (λ all. AreTallied (is_wanted marks.now) (tallies_view all.items)
+        (tallies_of (program_view weigher.entry.program.now) (placed_of weigher.entry)
+        (functions_view functions.now))) }
     ensures count { IfOk result (λ all. length all.items ≡ length functions.now) }
 {
     let mut all = Vec::new(weigher.alloc);

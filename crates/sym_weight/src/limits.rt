@@ -36,7 +36,8 @@ fn judged(total: Total) -> Option<Total>
 
 // What main comes to, by these tallies.
 fn unfolded(alloc: Global, tallies: &[Tally], main: u32) -> Result<Total, OutOfMemory>
-    ensures { IfOk result (λ t. t ≡ totals.total_at (totals.totals_after (tallies_view tallies.now) (min (suc (length tallies.now)) 33)) main) }
+    ensures { IfOk result (λ t. t
+        ≡ totals.total_at (totals.totals_after (tallies_view tallies.now) (min (suc (length tallies.now)) 33)) main) }
 {
     let rounds = depth(tallies.len());
     let all = totals_after(alloc, tallies, rounds)?;
@@ -45,7 +46,9 @@ fn unfolded(alloc: Global, tallies: &[Tally], main: u32) -> Result<Total, OutOfM
 
 // Whether the program is too big even without the heads of its loops.
 fn is_too_big(alloc: Global, tallies: &[Tally], main: u32) -> Result<bool, OutOfMemory>
-    ensures { IfOk result (λ big. IsTrue big → judged (totals.total_at (totals.totals_after (tallies_view tallies.now) (min (suc (length tallies.now)) 33)) main) ≡ None) }
+    ensures { IfOk result (λ big. IsTrue big
+        → judged (totals.total_at (totals.totals_after (tallies_view tallies.now) (min (suc (length tallies.now)) 33))
+        main) ≡ None) }
 {
     let least = unfolded(alloc, tallies, main)?;
     match judged(least) {
@@ -56,8 +59,12 @@ fn is_too_big(alloc: Global, tallies: &[Tally], main: u32) -> Result<bool, OutOf
 
 // The whole weight, by tallies without the heads of loops: heads are counted in the functions that main comes to.
 fn whole(weigher: Weigher, tallies: &[Tally]) -> Result<Total, OutOfMemory>
-    requires { AreTallied (λ f. false) (tallies_view tallies.now) (all_tallies (program_view weigher.program.now) (placed_of weigher)) }
-    ensures { IfOk result (λ t. t ≡ totals.total_at (totals.totals_after (all_tallies (program_view weigher.entry.program.now) (placed_of weigher.entry)) (min (suc (length (program_view weigher.entry.program.now).functions)) 33)) weigher.entry.program.now.main) }
+    requires { AreTallied (λ f. false) (tallies_view tallies.now)
+        (all_tallies (program_view weigher.program.now) (placed_of weigher)) }
+    ensures { IfOk result (λ t. t
+        ≡ totals.total_at
+        (totals.totals_after (all_tallies (program_view weigher.entry.program.now) (placed_of weigher.entry))
+        (min (suc (length (program_view weigher.entry.program.now).functions)) 33)) weigher.entry.program.now.main) }
 {
     let main = weigher.program.main;
     let marks = reached(weigher.alloc, tallies, main)?;

@@ -36,7 +36,8 @@ fn evaluation(alloc: Global, program: &Program, e: &Expr) -> Result<u64, OutOfMe
 }
 
 fn add_weight(weights: &mut Weights, spot: Spot, weight: u64) -> Result<(), OutOfMemory>
-    ensures { OnOk result ((q : Spot) → tally.weight_at weights.new q ≡ cond (same_spot spot q) (capped (tally.weight_at weights.old q + weight)) (tally.weight_at weights.old q)) }
+    ensures { OnOk result ((q : Spot) → tally.weight_at weights.new q
+        ≡ cond (same_spot spot q) (capped (tally.weight_at weights.old q + weight)) (tally.weight_at weights.old q)) }
 {
     let sum = weight_at(weights, spot).saturating_add(weight);
     weights.insert((spot.line, spot.column), sum)?;
@@ -51,7 +52,10 @@ fn add_placed(
     at_loop: bool,
     x: &PlacedInvariant,
 ) -> Result<(), OutOfMemory>
-    ensures { OnOk result ((q : Spot) → tally.weight_at weights.new q ≡ cond (stands (program_view program.now) [] at_loop q (placed x.now)) (capped (tally.weight_at weights.old q + weight.evaluation (program_view program.now) (expr_view x.now.test))) (tally.weight_at weights.old q)) }
+    ensures { OnOk result ((q : Spot) → tally.weight_at weights.new q
+        ≡ cond (stands (program_view program.now) [] at_loop q (placed x.now))
+        (capped (tally.weight_at weights.old q + weight.evaluation (program_view program.now) (expr_view x.now.test)))
+        (tally.weight_at weights.old q)) }
 {
     if x.at_loop == at_loop {
         let weight = evaluation(alloc, program, &x.test)?;
@@ -67,7 +71,8 @@ pub fn placed_weights(
     invariants: &[PlacedInvariant],
     at_loop: bool,
 ) -> Result<Weights, OutOfMemory>
-    ensures { IfOk result (λ weights. (q : Spot) → tally.weight_at weights q ≡ capped (weight.placed_weight (program_view program.now) (placed_view invariants.now) at_loop q)) }
+    ensures { IfOk result (λ weights. (q : Spot) → tally.weight_at weights q
+        ≡ capped (weight.placed_weight (program_view program.now) (placed_view invariants.now) at_loop q)) }
 {
     let mut weights = BTreeMap::new(alloc);
     for x in invariants {

@@ -31,7 +31,8 @@ fn are_wanted(marks: &[bool], calls: &[u32]) -> bool
 
 // Whether a function, if it is marked, calls marked ones alone.
 fn keeps(marks: &[bool], number: usize, tally: &Tally) -> bool
-    ensures { IsTrue result → IsTrue (is_wanted marks.now number) → IsTrue (list_all (is_wanted marks.now) tally.now.calls) }
+    ensures { IsTrue result → IsTrue (is_wanted marks.now number)
+        → IsTrue (list_all (is_wanted marks.now) tally.now.calls) }
 {
     if is_wanted(marks, number) {
         are_wanted(marks, tally.calls.as_slice())
@@ -42,7 +43,8 @@ fn keeps(marks: &[bool], number: usize, tally: &Tally) -> bool
 
 // Whether each marked function calls marked ones alone.
 fn keep_calls(marks: &[bool], tallies: &[Tally]) -> bool
-    ensures { IsTrue result → (f : ℕ) → IsTrue (is_wanted marks.now f) → IsTrue (list_all (is_wanted marks.now) (calls_in (slice_get (tallies_view tallies.now) f))) }
+    ensures { IsTrue result → (f : ℕ) → IsTrue (is_wanted marks.now f)
+        → IsTrue (list_all (is_wanted marks.now) (calls_in (slice_get (tallies_view tallies.now) f))) }
 {
     for (number, tally) in tallies.iter().enumerate() {
         if !keeps(marks, number, tally) {

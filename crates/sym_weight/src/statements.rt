@@ -32,8 +32,10 @@ fn expression_if(
     calls: &mut Vec<u32>,
     e: &Option<Expr>,
 ) -> Result<Cost, OutOfMemory>
-    ensures cost { IfOk result (λ c. c ≡ (sums.expression_if (program_view program.now) tallying (expr_view_if e.now)).cost) }
-    ensures calls { OnOk result (calls.new.items ≡ calls.old.items ++ (sums.expression_if (program_view program.now) tallying (expr_view_if e.now)).calls) }
+    ensures cost { IfOk result (λ c. c
+        ≡ (sums.expression_if (program_view program.now) tallying (expr_view_if e.now)).cost) }
+    ensures calls { OnOk result (calls.new.items
+        ≡ calls.old.items ++ (sums.expression_if (program_view program.now) tallying (expr_view_if e.now)).calls) }
 {
     match e {
         Some(e) => expression(program, calls, e),
@@ -43,7 +45,8 @@ fn expression_if(
 
 fn control(program: &Program, calls: &mut Vec<u32>, e: &Expr) -> Result<Cost, OutOfMemory>
     ensures cost { IfOk result (λ c. c ≡ (sums.control (program_view program.now) tallying (expr_view e.now)).cost) }
-    ensures calls { OnOk result (calls.new.items ≡ calls.old.items ++ (sums.control (program_view program.now) tallying (expr_view e.now)).calls) }
+    ensures calls { OnOk result (calls.new.items
+        ≡ calls.old.items ++ (sums.control (program_view program.now) tallying (expr_view e.now)).calls) }
 {
     let value = expression(program, calls, e)?;
     Ok(plus(value, weighs(tested(program.model, e))))
@@ -54,8 +57,10 @@ fn control_if(
     calls: &mut Vec<u32>,
     e: &Option<Expr>,
 ) -> Result<Cost, OutOfMemory>
-    ensures cost { IfOk result (λ c. c ≡ (sums.control_if (program_view program.now) tallying (expr_view_if e.now)).cost) }
-    ensures calls { OnOk result (calls.new.items ≡ calls.old.items ++ (sums.control_if (program_view program.now) tallying (expr_view_if e.now)).calls) }
+    ensures cost { IfOk result (λ c. c
+        ≡ (sums.control_if (program_view program.now) tallying (expr_view_if e.now)).cost) }
+    ensures calls { OnOk result (calls.new.items
+        ≡ calls.old.items ++ (sums.control_if (program_view program.now) tallying (expr_view_if e.now)).calls) }
 {
     match e {
         Some(e) => control(program, calls, e),
@@ -69,8 +74,10 @@ fn initial(
     object: u32,
     e: &Expr,
 ) -> Result<Cost, OutOfMemory>
-    ensures cost { IfOk result (λ c. c ≡ (sums.initial (program_view program.now) tallying object (expr_view e.now)).cost) }
-    ensures calls { OnOk result (calls.new.items ≡ calls.old.items ++ (sums.initial (program_view program.now) tallying object (expr_view e.now)).calls) }
+    ensures cost { IfOk result (λ c. c
+        ≡ (sums.initial (program_view program.now) tallying object (expr_view e.now)).cost) }
+    ensures calls { OnOk result (calls.new.items
+        ≡ calls.old.items ++ (sums.initial (program_view program.now) tallying object (expr_view e.now)).calls) }
 {
     let value = expression(program, calls, e)?;
     let store = stored(program.model, type_of(e), type_of_object(program, object));
@@ -83,8 +90,10 @@ fn initials(
     object: u32,
     es: &[Expr],
 ) -> Result<Cost, OutOfMemory>
-    ensures cost { IfOk result (λ c. c ≡ (sums.initials (program_view program.now) tallying object (exprs_view es.now)).cost) }
-    ensures calls { OnOk result (calls.new.items ≡ calls.old.items ++ (sums.initials (program_view program.now) tallying object (exprs_view es.now)).calls) }
+    ensures cost { IfOk result (λ c. c
+        ≡ (sums.initials (program_view program.now) tallying object (exprs_view es.now)).cost) }
+    ensures calls { OnOk result (calls.new.items
+        ≡ calls.old.items ++ (sums.initials (program_view program.now) tallying object (exprs_view es.now)).calls) }
 {
     let mut sum = nothing();
     for e in es {
@@ -100,8 +109,11 @@ fn row_initials(
     object: u32,
     rows: &[Row],
 ) -> Result<Cost, OutOfMemory>
-    ensures cost { IfOk result (λ c. c ≡ (sums.row_initials (program_view program.now) tallying object (rows_view rows.now)).cost) }
-    ensures calls { OnOk result (calls.new.items ≡ calls.old.items ++ (sums.row_initials (program_view program.now) tallying object (rows_view rows.now)).calls) }
+    ensures cost { IfOk result (λ c. c
+        ≡ (sums.row_initials (program_view program.now) tallying object (rows_view rows.now)).cost) }
+    ensures calls { OnOk result (calls.new.items
+        ≡ calls.old.items ++
+        (sums.row_initials (program_view program.now) tallying object (rows_view rows.now)).calls) }
 {
     let mut sum = nothing();
     for row in rows {
@@ -117,8 +129,10 @@ fn initialised(
     object: u32,
     init: &Init,
 ) -> Result<Cost, OutOfMemory>
-    ensures cost { IfOk result (λ c. c ≡ (sums.initialised (program_view program.now) tallying object (init_view init.now)).cost) }
-    ensures calls { OnOk result (calls.new.items ≡ calls.old.items ++ (sums.initialised (program_view program.now) tallying object (init_view init.now)).calls) }
+    ensures cost { IfOk result (λ c. c
+        ≡ (sums.initialised (program_view program.now) tallying object (init_view init.now)).cost) }
+    ensures calls { OnOk result (calls.new.items
+        ≡ calls.old.items ++ (sums.initialised (program_view program.now) tallying object (init_view init.now)).calls) }
 {
     let bits = bits_of_object(program, object);
     match init {
@@ -143,8 +157,10 @@ fn declared(
     calls: &mut Vec<u32>,
     names: &[Declared],
 ) -> Result<Cost, OutOfMemory>
-    ensures cost { IfOk result (λ c. c ≡ (sums.declared (program_view program.now) tallying (names_view names.now)).cost) }
-    ensures calls { OnOk result (calls.new.items ≡ calls.old.items ++ (sums.declared (program_view program.now) tallying (names_view names.now)).calls) }
+    ensures cost { IfOk result (λ c. c
+        ≡ (sums.declared (program_view program.now) tallying (names_view names.now)).cost) }
+    ensures calls { OnOk result (calls.new.items
+        ≡ calls.old.items ++ (sums.declared (program_view program.now) tallying (names_view names.now)).calls) }
 {
     let mut sum = nothing();
     for name in names {
@@ -156,7 +172,8 @@ fn declared(
 
 fn first(program: &Program, calls: &mut Vec<u32>, first: &First) -> Result<Cost, OutOfMemory>
     ensures cost { IfOk result (λ c. c ≡ (sums.first (program_view program.now) tallying (first_view first.now)).cost) }
-    ensures calls { OnOk result (calls.new.items ≡ calls.old.items ++ (sums.first (program_view program.now) tallying (first_view first.now)).calls) }
+    ensures calls { OnOk result (calls.new.items
+        ≡ calls.old.items ++ (sums.first (program_view program.now) tallying (first_view first.now)).calls) }
 {
     match first {
         First::Absent => Ok(nothing()),
@@ -177,7 +194,9 @@ fn bits_of_objects(program: &Program, objects: &[u32]) -> u64
 
 // A loop's head, where there is a loop.
 fn head(weigher: Weigher, spot: Spot, form: &Form) -> Result<Cost, OutOfMemory>
-    ensures { IfOk result (λ c. c ≡ (sums.head (program_view weigher.entry.program.now) tallying (placed_of weigher.entry) spot (changed_if (program_view weigher.entry.program.now) (loop_of (form_view form.now)))).cost) }
+    ensures { IfOk result (λ c. c
+        ≡ (sums.head (program_view weigher.entry.program.now) tallying (placed_of weigher.entry) spot
+        (changed_if (program_view weigher.entry.program.now) (loop_of (form_view form.now)))).cost) }
 {
     let objects = changed_in(weigher.alloc, weigher.program, form)?;
     let bits = bits_of_objects(weigher.program, objects.as_slice());
@@ -191,7 +210,9 @@ fn head(weigher: Weigher, spot: Spot, form: &Form) -> Result<Cost, OutOfMemory>
 
 // A loop's head, where heads are counted: only they take a look at all that a loop comes to.
 fn counted_head(weigher: Weigher, spot: Spot, form: &Form) -> Result<Cost, OutOfMemory>
-    ensures { IfOk result (λ c. IsCounted weigher.entry.heads c (sums.head (program_view weigher.entry.program.now) tallying (placed_of weigher.entry) spot (changed_if (program_view weigher.entry.program.now) (loop_of (form_view form.now)))).cost) }
+    ensures { IfOk result (λ c. IsCounted weigher.entry.heads c
+        (sums.head (program_view weigher.entry.program.now) tallying (placed_of weigher.entry) spot
+        (changed_if (program_view weigher.entry.program.now) (loop_of (form_view form.now)))).cost) }
 {
     if weigher.heads {
         let cost = head(weigher, spot, form)?;
@@ -208,8 +229,10 @@ fn given(
     returns: Option<IntType>,
     e: &Option<Expr>,
 ) -> Result<Cost, OutOfMemory>
-    ensures cost { IfOk result (λ c. c ≡ (sums.given (program_view program.now) tallying returns (expr_view_if e.now)).cost) }
-    ensures calls { OnOk result (calls.new.items ≡ calls.old.items ++ (sums.given (program_view program.now) tallying returns (expr_view_if e.now)).calls) }
+    ensures cost { IfOk result (λ c. c
+        ≡ (sums.given (program_view program.now) tallying returns (expr_view_if e.now)).cost) }
+    ensures calls { OnOk result (calls.new.items
+        ≡ calls.old.items ++ (sums.given (program_view program.now) tallying returns (expr_view_if e.now)).calls) }
 {
     match e {
         Some(e) => {
@@ -227,8 +250,13 @@ fn statement(
     returns: Option<IntType>,
     s: &Stmt,
 ) -> Result<Cost, OutOfMemory>
-    ensures cost { IfOk result (λ c. IsCounted weigher.entry.heads c (sums.statement (program_view weigher.entry.program.now) tallying (placed_of weigher.entry) returns (stmt_view s.now)).cost) }
-    ensures calls { OnOk result (calls.new.items ≡ calls.old.items ++ (sums.statement (program_view weigher.entry.program.now) tallying (placed_of weigher.entry) returns (stmt_view s.now)).calls) }
+    ensures cost { IfOk result (λ c. IsCounted weigher.entry.heads c
+        (sums.statement (program_view weigher.entry.program.now) tallying (placed_of weigher.entry) returns
+        (stmt_view s.now)).cost) }
+    ensures calls { OnOk result
+        (calls.new.items ≡ calls.old.items ++
+        (sums.statement (program_view weigher.entry.program.now) tallying (placed_of weigher.entry) returns
+        (stmt_view s.now)).calls) }
 {
     let at = weight_at(weigher.at_statements, s.spot);
     let own = Cost {
@@ -248,8 +276,13 @@ pub fn form(
     spot: Spot,
     form: &Form,
 ) -> Result<Cost, OutOfMemory>
-    ensures cost { IfOk result (λ c. IsCounted weigher.entry.heads c (sums.form (program_view weigher.entry.program.now) tallying (placed_of weigher.entry) returns spot (form_view form.now)).cost) }
-    ensures calls { OnOk result (calls.new.items ≡ calls.old.items ++ (sums.form (program_view weigher.entry.program.now) tallying (placed_of weigher.entry) returns spot (form_view form.now)).calls) }
+    ensures cost { IfOk result (λ c. IsCounted weigher.entry.heads c
+        (sums.form (program_view weigher.entry.program.now) tallying (placed_of weigher.entry) returns spot
+        (form_view form.now)).cost) }
+    ensures calls { OnOk result
+        (calls.new.items ≡ calls.old.items ++
+        (sums.form (program_view weigher.entry.program.now) tallying (placed_of weigher.entry) returns spot
+        (form_view form.now)).calls) }
 {
     let program = weigher.program;
     match form {
@@ -312,8 +345,13 @@ fn otherwise(
     returns: Option<IntType>,
     no: &Option<Box<Stmt>>,
 ) -> Result<Cost, OutOfMemory>
-    ensures cost { IfOk result (λ c. IsCounted weigher.entry.heads c (sums.otherwise (program_view weigher.entry.program.now) tallying (placed_of weigher.entry) returns (else_of no.now)).cost) }
-    ensures calls { OnOk result (calls.new.items ≡ calls.old.items ++ (sums.otherwise (program_view weigher.entry.program.now) tallying (placed_of weigher.entry) returns (else_of no.now)).calls) }
+    ensures cost { IfOk result (λ c. IsCounted weigher.entry.heads c
+        (sums.otherwise (program_view weigher.entry.program.now) tallying (placed_of weigher.entry) returns
+        (else_of no.now)).cost) }
+    ensures calls { OnOk result
+        (calls.new.items ≡ calls.old.items ++
+        (sums.otherwise (program_view weigher.entry.program.now) tallying (placed_of weigher.entry) returns
+        (else_of no.now)).calls) }
 {
     match no {
         Some(no) => statement(weigher, calls, returns, no),
@@ -328,8 +366,13 @@ fn statements(
     returns: Option<IntType>,
     body: &[Stmt],
 ) -> Result<Cost, OutOfMemory>
-    ensures cost { IfOk result (λ c. IsCounted weigher.entry.heads c (sums.statements (program_view weigher.entry.program.now) tallying (placed_of weigher.entry) returns (stmts_view body.now)).cost) }
-    ensures calls { OnOk result (calls.new.items ≡ calls.old.items ++ (sums.statements (program_view weigher.entry.program.now) tallying (placed_of weigher.entry) returns (stmts_view body.now)).calls) }
+    ensures cost { IfOk result (λ c. IsCounted weigher.entry.heads c
+        (sums.statements (program_view weigher.entry.program.now) tallying (placed_of weigher.entry) returns
+        (stmts_view body.now)).cost) }
+    ensures calls { OnOk result
+        (calls.new.items ≡ calls.old.items ++
+        (sums.statements (program_view weigher.entry.program.now) tallying (placed_of weigher.entry) returns
+        (stmts_view body.now)).calls) }
 {
     let mut sum = nothing();
     for s in body {
@@ -346,8 +389,13 @@ fn statements_of_arms(
     returns: Option<IntType>,
     arms: &[Arm],
 ) -> Result<Cost, OutOfMemory>
-    ensures cost { IfOk result (λ c. IsCounted weigher.entry.heads c (sums.statements (program_view weigher.entry.program.now) tallying (placed_of weigher.entry) returns (switch_view arms.now)).cost) }
-    ensures calls { OnOk result (calls.new.items ≡ calls.old.items ++ (sums.statements (program_view weigher.entry.program.now) tallying (placed_of weigher.entry) returns (switch_view arms.now)).calls) }
+    ensures cost { IfOk result (λ c. IsCounted weigher.entry.heads c
+        (sums.statements (program_view weigher.entry.program.now) tallying (placed_of weigher.entry) returns
+        (switch_view arms.now)).cost) }
+    ensures calls { OnOk result
+        (calls.new.items ≡ calls.old.items ++
+        (sums.statements (program_view weigher.entry.program.now) tallying (placed_of weigher.entry) returns
+        (switch_view arms.now)).calls) }
 {
     let mut sum = nothing();
     for arm in arms {

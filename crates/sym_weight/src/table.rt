@@ -240,7 +240,8 @@ pub fn node_work(program: &Program, ty: Option<IntType>, node: &Node) -> u64
 }
 
 fn assignment(program: &Program, op: Option<BinOp>, target: &Expr, from: &Expr) -> u64
-    ensures value { result ≡ table.assignment (program_view program.now) op (expr_view target.now) (expr_view from.now) }
+    ensures value { result ≡ table.assignment (program_view program.now) op (expr_view target.now)
+        (expr_view from.now) }
     ensures bound { result < 2 ^ 44 }
 {
     let model = program.model;

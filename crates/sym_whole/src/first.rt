@@ -28,8 +28,10 @@ fn start_cell(
     value: i128,
 ) -> Result<(), OutOfMemory>
     requires fits { IsState (program_view program.now) sym.old }
-    requires fit { IsTrue (in_range program.now.model (objects.type_of_object (program_view program.now) object) value) }
-    ensures { IfOk result (λ r. Became (program_view program.now) 0 sym.old sym.new (λ v. with_more (record { key = key object index; value = value } ∷ []))) }
+    requires fit { IsTrue (in_range program.now.model (objects.type_of_object (program_view program.now) object)
+        value) }
+    ensures { IfOk result (λ r. Became (program_view program.now) 0 sym.old sym.new
+        (λ v. with_more (record { key = key object index; value = value } ∷ []))) }
 {
     let ty = type_of_object(program, object);
     let bits = const_bits(alloc, &sym.net, program.model, ty, value)?;
@@ -63,7 +65,8 @@ fn start_cells(
 ) -> Result<(), OutOfMemory>
     requires fits { IsState (program_view program.now) sym.old }
     requires fit { FitCells (program_view program.now) (cells_from object 0 count values.now) }
-    ensures { IfOk result (λ r. Became (program_view program.now) 0 sym.old sym.new (λ v. with_more (cells_from object 0 count values.now))) }
+    ensures { IfOk result (λ r. Became (program_view program.now) 0 sym.old sym.new
+        (λ v. with_more (cells_from object 0 count values.now))) }
 {
     for index in 0..count {
         let value = value_at(values, index);
@@ -93,8 +96,12 @@ fn start_object(
     object: &Object,
 ) -> Result<(), OutOfMemory>
     requires fits { IsState (program_view program.now) sym.old }
-    requires fit { FitCells (program_view program.now) (cond object.now.fixed (cells_from number 0 object.now.cells (start_values_of number program.now.starts)) []) }
-    ensures { IfOk result (λ r. Became (program_view program.now) 0 sym.old sym.new (λ v. with_more (cond object.now.fixed (cells_from number 0 object.now.cells (start_values_of number program.now.starts)) []))) }
+    requires fit { FitCells (program_view program.now)
+        (cond object.now.fixed (cells_from number 0 object.now.cells (start_values_of number program.now.starts)) []) }
+    ensures { IfOk result (λ r. Became (program_view program.now) 0 sym.old sym.new
+        (λ v. with_more
+        (cond object.now.fixed (cells_from number 0 object.now.cells (start_values_of number program.now.starts))
+        []))) }
 {
     if !object.fixed {
         return Ok(());
@@ -113,7 +120,8 @@ fn start_object(
 // The cells of all objects of static storage.
 fn start_objects(alloc: Global, program: &Program, sym: &mut Sym) -> Result<(), OutOfMemory>
     requires fits { IsState (program_view program.now) sym.old }
-    ensures { IfOk result (λ r. Became (program_view program.now) 0 sym.old sym.new (λ v. with_more (first_cells (program_view program.now)))) }
+    ensures { IfOk result (λ r. Became (program_view program.now) 0 sym.old sym.new
+        (λ v. with_more (first_cells (program_view program.now)))) }
 {
     let mut number: u32 = 0;
     for object in program.objects.as_slice() {

@@ -25,14 +25,19 @@ pub fn found(program: &Program, sym: &Sym)
 
 /// A state behind a program decides its havoc runs: where they end, and what they draw.
 pub fn decides(program: &Program, first: &Sym, last: &Sym)
-    ensures { (ds : List Duty) (result_type : Option NumberType) (ands inputs : ℕ) (start : List Cell) (run : Left → Res Stopped Left Flow) → IsStart ds (program_view program.now) start first.now → Runs ds (program_view program.now) result_type ands inputs first.now last.now (λ v. run) → Decides ds (program_view program.now) start last.now run }
+    ensures { (ds : List Duty) (result_type : Option NumberType) (ands inputs : ℕ) (start : List Cell)
+        (run : Left → Res Stopped Left Flow) → IsStart ds (program_view program.now) start first.now
+        → Runs ds (program_view program.now) result_type ands inputs first.now last.now (λ v. run)
+        → Decides ds (program_view program.now) start last.now run }
 {
     let _nodes = last.net.nodes();
 }
 
 /// A part adds no more and-nodes and inputs than it states.
 pub fn larger(program: &Program, first: &Sym, last: &Sym)
-    ensures { (ds : List Duty) (result_type : Option NumberType) (ands inputs : ℕ) (deed : Deed Flow) → Runs ds (program_view program.now) result_type ands inputs first.now last.now deed → IsLarger ands inputs first.now last.now }
+    ensures { (ds : List Duty) (result_type : Option NumberType) (ands inputs : ℕ) (deed : Deed Flow)
+        → Runs ds (program_view program.now) result_type ands inputs first.now last.now deed
+        → IsLarger ands inputs first.now last.now }
 {
     let _nodes = last.net.nodes();
 }

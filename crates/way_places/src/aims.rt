@@ -81,7 +81,9 @@ pub fn aims(
     fulls: &[&Expr],
     calls: &[(Spot, &Expr)],
 ) -> Result<Vec<Spot>, OutOfMemory>
-    ensures { IfOk result (λ aims. aims.items ≡ of_kind Statement places.now ++ map spot_of (fulls_view fulls.now) ++ error_starts_in property (ends_view calls.now)) }
+    ensures { IfOk result (λ aims. aims.items
+        ≡ of_kind Statement places.now ++ map spot_of (fulls_view fulls.now) ++ error_starts_in property
+        (ends_view calls.now)) }
 {
     let mut spots = Vec::new(alloc);
     push_of_kind(&mut spots, PlaceKind::Statement, places)?;

@@ -45,7 +45,8 @@ fn before_in_form(spot: Spot, form: &Form) -> Option<&Stmt>
 }
 
 fn own<'a>(spot: Spot, found: Option<&'a Stmt>, s: &'a Stmt) -> Option<&'a Stmt>
-    ensures { option_map stmt_view (option_copied result) ≡ before_of spot (option_map stmt_view (option_copied found.entry)) (stmt_view s.now ∷ []) }
+    ensures { option_map stmt_view (option_copied result)
+        ≡ before_of spot (option_map stmt_view (option_copied found.entry)) (stmt_view s.now ∷ []) }
 {
     match found {
         Some(first) => Some(first),
@@ -55,7 +56,8 @@ fn own<'a>(spot: Spot, found: Option<&'a Stmt>, s: &'a Stmt) -> Option<&'a Stmt>
 
 #[cycle(statement)]
 fn statement<'a>(spot: Spot, found: Option<&'a Stmt>, s: &'a Stmt) -> Option<&'a Stmt>
-    ensures { option_map stmt_view (option_copied result) ≡ before_of spot (option_map stmt_view (option_copied found.entry)) (statements_of (stmt_view s.now)) }
+    ensures { option_map stmt_view (option_copied result)
+        ≡ before_of spot (option_map stmt_view (option_copied found.entry)) (statements_of (stmt_view s.now)) }
 {
     let found = own(spot, found, s);
     inside(spot, found, &s.form)
@@ -64,7 +66,8 @@ fn statement<'a>(spot: Spot, found: Option<&'a Stmt>, s: &'a Stmt) -> Option<&'a
 #[cycle(statement)]
 #[tactic(auto, using(crate::proofs::SeekingLaws::before_of_both))]
 fn inside<'a>(spot: Spot, found: Option<&'a Stmt>, form: &'a Form) -> Option<&'a Stmt>
-    ensures { option_map stmt_view (option_copied result) ≡ before_of spot (option_map stmt_view (option_copied found.entry)) (statements_of_form (form_view form.now)) }
+    ensures { option_map stmt_view (option_copied result)
+        ≡ before_of spot (option_map stmt_view (option_copied found.entry)) (statements_of_form (form_view form.now)) }
 {
     match form {
         Form::Block(body) => block(spot, found, body.as_slice()),
@@ -92,7 +95,9 @@ fn inside<'a>(spot: Spot, found: Option<&'a Stmt>, form: &'a Form) -> Option<&'a
 #[cycle(statement)]
 #[tactic(auto, using(crate::proofs::SeekingLaws::before_of_both))]
 fn block<'a>(spot: Spot, found: Option<&'a Stmt>, body: &'a [Stmt]) -> Option<&'a Stmt>
-    ensures { option_map stmt_view (option_copied result) ≡ before_of spot (option_map stmt_view (option_copied found.entry)) (statements_of_block (stmts_view body.now)) }
+    ensures { option_map stmt_view (option_copied result)
+        ≡ before_of spot (option_map stmt_view (option_copied found.entry))
+        (statements_of_block (stmts_view body.now)) }
 {
     let mut first = found;
     for s in body {
@@ -104,7 +109,9 @@ fn block<'a>(spot: Spot, found: Option<&'a Stmt>, body: &'a [Stmt]) -> Option<&'
 #[cycle(statement)]
 #[tactic(auto, using(crate::proofs::SeekingLaws::before_of_both))]
 fn in_arms<'a>(spot: Spot, found: Option<&'a Stmt>, arms: &'a [Arm]) -> Option<&'a Stmt>
-    ensures { option_map stmt_view (option_copied result) ≡ before_of spot (option_map stmt_view (option_copied found.entry)) (statements_of_block (switch_view arms.now)) }
+    ensures { option_map stmt_view (option_copied result)
+        ≡ before_of spot (option_map stmt_view (option_copied found.entry))
+        (statements_of_block (switch_view arms.now)) }
 {
     let mut first = found;
     for arm in arms {
@@ -115,7 +122,8 @@ fn in_arms<'a>(spot: Spot, found: Option<&'a Stmt>, arms: &'a [Arm]) -> Option<&
 
 #[tactic(auto, using(crate::proofs::SeekingLaws::before_of_both))]
 fn in_functions(spot: Spot, functions: &[Function]) -> Option<&Stmt>
-    ensures { option_map stmt_view (option_copied result) ≡ before_of spot None (statements_of_functions (functions_view functions.now)) }
+    ensures { option_map stmt_view (option_copied result)
+        ≡ before_of spot None (statements_of_functions (functions_view functions.now)) }
 {
     let mut first = None;
     for function in functions {

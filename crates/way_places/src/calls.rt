@@ -66,7 +66,8 @@ fn push_node<'a>(list: &mut Vec<(Spot, &'a Expr)>, node: &'a Node) -> Result<(),
 
 #[cycle(expression)]
 fn push_arguments<'a>(list: &mut Vec<(Spot, &'a Expr)>, es: &'a [Expr]) -> Result<(), OutOfMemory>
-    ensures { OnOk result (ends_view list.new.items ≡ ends_view list.old.items ++ calls_in_arguments (exprs_view es.now)) }
+    ensures { OnOk result (ends_view list.new.items
+        ≡ ends_view list.old.items ++ calls_in_arguments (exprs_view es.now)) }
 {
     for e in es {
         push_expression(list, e)?;
@@ -75,7 +76,8 @@ fn push_arguments<'a>(list: &mut Vec<(Spot, &'a Expr)>, es: &'a [Expr]) -> Resul
 }
 
 fn push_fulls<'a>(list: &mut Vec<(Spot, &'a Expr)>, fulls: &[&'a Expr]) -> Result<(), OutOfMemory>
-    ensures { OnOk result (ends_view list.new.items ≡ ends_view list.old.items ++ flat_map calls_of (fulls_view fulls.now)) }
+    ensures { OnOk result (ends_view list.new.items
+        ≡ ends_view list.old.items ++ flat_map calls_of (fulls_view fulls.now)) }
 {
     for full in fulls {
         push_expression(list, *full)?;
@@ -85,7 +87,8 @@ fn push_fulls<'a>(list: &mut Vec<(Spot, &'a Expr)>, fulls: &[&'a Expr]) -> Resul
 
 /// Every call in these full expressions, one before those in it.
 pub fn calls<'a>(alloc: Global, fulls: &[&'a Expr]) -> Result<Vec<(Spot, &'a Expr)>, OutOfMemory>
-    ensures { IfOk result (λ calls. ends_view calls.items ≡ filter_map call_of (flat_map exps_of (fulls_view fulls.now))) }
+    ensures { IfOk result (λ calls. ends_view calls.items
+        ≡ filter_map call_of (flat_map exps_of (fulls_view fulls.now))) }
 {
     let mut list = Vec::new(alloc);
     push_fulls(&mut list, fulls)?;

@@ -50,7 +50,8 @@ fn is_wanted(wanted: Wanted, e: &Expr) -> bool
 }
 
 fn own<'a>(wanted: Wanted, found: Option<&'a Expr>, e: &'a Expr) -> Option<&'a Expr>
-    ensures { expr_view_if (option_copied result) ≡ first_of (is_wanted wanted) (expr_view_if (option_copied found.entry)) (expr_view e.now ∷ []) }
+    ensures { expr_view_if (option_copied result)
+        ≡ first_of (is_wanted wanted) (expr_view_if (option_copied found.entry)) (expr_view e.now ∷ []) }
 {
     match found {
         Some(first) => Some(first),
@@ -60,7 +61,8 @@ fn own<'a>(wanted: Wanted, found: Option<&'a Expr>, e: &'a Expr) -> Option<&'a E
 
 #[cycle(expression)]
 fn expression<'a>(wanted: Wanted, found: Option<&'a Expr>, e: &'a Expr) -> Option<&'a Expr>
-    ensures { expr_view_if (option_copied result) ≡ first_of (is_wanted wanted) (expr_view_if (option_copied found.entry)) (exps_of (expr_view e.now)) }
+    ensures { expr_view_if (option_copied result)
+        ≡ first_of (is_wanted wanted) (expr_view_if (option_copied found.entry)) (exps_of (expr_view e.now)) }
 {
     let found = own(wanted, found, e);
     node(wanted, found, &e.node)
@@ -69,7 +71,8 @@ fn expression<'a>(wanted: Wanted, found: Option<&'a Expr>, e: &'a Expr) -> Optio
 #[cycle(expression)]
 #[tactic(auto, using(crate::proofs::SeekingLaws::first_of_both))]
 fn node<'a>(wanted: Wanted, found: Option<&'a Expr>, inner: &'a Node) -> Option<&'a Expr>
-    ensures { expr_view_if (option_copied result) ≡ first_of (is_wanted wanted) (expr_view_if (option_copied found.entry)) (exps_of_node (node_view inner.now)) }
+    ensures { expr_view_if (option_copied result)
+        ≡ first_of (is_wanted wanted) (expr_view_if (option_copied found.entry)) (exps_of_node (node_view inner.now)) }
 {
     match inner {
         Node::Const(_) => found,
@@ -106,7 +109,9 @@ fn node<'a>(wanted: Wanted, found: Option<&'a Expr>, inner: &'a Node) -> Option<
 #[cycle(expression)]
 #[tactic(auto, using(crate::proofs::SeekingLaws::first_of_both))]
 fn arguments<'a>(wanted: Wanted, found: Option<&'a Expr>, es: &'a [Expr]) -> Option<&'a Expr>
-    ensures { expr_view_if (option_copied result) ≡ first_of (is_wanted wanted) (expr_view_if (option_copied found.entry)) (exps_of_arguments (exprs_view es.now)) }
+    ensures { expr_view_if (option_copied result)
+        ≡ first_of (is_wanted wanted) (expr_view_if (option_copied found.entry))
+        (exps_of_arguments (exprs_view es.now)) }
 {
     let mut first = found;
     for e in es {
@@ -117,7 +122,8 @@ fn arguments<'a>(wanted: Wanted, found: Option<&'a Expr>, es: &'a [Expr]) -> Opt
 
 /// A full expression.
 fn full<'a>(wanted: Wanted, found: Option<&'a Expr>, e: &'a Expr) -> Option<&'a Expr>
-    ensures { expr_view_if (option_copied result) ≡ first_of (is_wanted wanted) (expr_view_if (option_copied found.entry)) (parts_of wanted (expr_view e.now)) }
+    ensures { expr_view_if (option_copied result)
+        ≡ first_of (is_wanted wanted) (expr_view_if (option_copied found.entry)) (parts_of wanted (expr_view e.now)) }
 {
     match wanted {
         Wanted::Starts(_, _) => own(wanted, found, e),
@@ -127,7 +133,9 @@ fn full<'a>(wanted: Wanted, found: Option<&'a Expr>, e: &'a Expr) -> Option<&'a 
 }
 
 fn optional<'a>(wanted: Wanted, found: Option<&'a Expr>, e: &'a Option<Expr>) -> Option<&'a Expr>
-    ensures { expr_view_if (option_copied result) ≡ first_of (is_wanted wanted) (expr_view_if (option_copied found.entry)) (each_if (parts_of wanted) (expr_view_if e.now)) }
+    ensures { expr_view_if (option_copied result)
+        ≡ first_of (is_wanted wanted) (expr_view_if (option_copied found.entry))
+        (each_if (parts_of wanted) (expr_view_if e.now)) }
 {
     match e {
         None => found,
@@ -137,7 +145,9 @@ fn optional<'a>(wanted: Wanted, found: Option<&'a Expr>, e: &'a Option<Expr>) ->
 
 #[tactic(auto, using(crate::proofs::SeekingLaws::first_of_both))]
 fn listed<'a>(wanted: Wanted, found: Option<&'a Expr>, es: &'a [Expr]) -> Option<&'a Expr>
-    ensures { expr_view_if (option_copied result) ≡ first_of (is_wanted wanted) (expr_view_if (option_copied found.entry)) (each_in_list (parts_of wanted) (exprs_view es.now)) }
+    ensures { expr_view_if (option_copied result)
+        ≡ first_of (is_wanted wanted) (expr_view_if (option_copied found.entry))
+        (each_in_list (parts_of wanted) (exprs_view es.now)) }
 {
     let mut first = found;
     for e in es {
@@ -148,7 +158,9 @@ fn listed<'a>(wanted: Wanted, found: Option<&'a Expr>, es: &'a [Expr]) -> Option
 
 #[tactic(auto, using(crate::proofs::SeekingLaws::first_of_both))]
 fn in_rows<'a>(wanted: Wanted, found: Option<&'a Expr>, rows: &'a [Row]) -> Option<&'a Expr>
-    ensures { expr_view_if (option_copied result) ≡ first_of (is_wanted wanted) (expr_view_if (option_copied found.entry)) (flat_map (each_in_list (parts_of wanted)) (rows_view rows.now)) }
+    ensures { expr_view_if (option_copied result)
+        ≡ first_of (is_wanted wanted) (expr_view_if (option_copied found.entry))
+        (flat_map (each_in_list (parts_of wanted)) (rows_view rows.now)) }
 {
     let mut first = found;
     for row in rows {
@@ -158,7 +170,9 @@ fn in_rows<'a>(wanted: Wanted, found: Option<&'a Expr>, rows: &'a [Row]) -> Opti
 }
 
 fn initial<'a>(wanted: Wanted, found: Option<&'a Expr>, init: &'a Init) -> Option<&'a Expr>
-    ensures { expr_view_if (option_copied result) ≡ first_of (is_wanted wanted) (expr_view_if (option_copied found.entry)) (each_in_init (parts_of wanted) (init_view init.now)) }
+    ensures { expr_view_if (option_copied result)
+        ≡ first_of (is_wanted wanted) (expr_view_if (option_copied found.entry))
+        (each_in_init (parts_of wanted) (init_view init.now)) }
 {
     match init {
         Init::Absent => found,
@@ -170,7 +184,9 @@ fn initial<'a>(wanted: Wanted, found: Option<&'a Expr>, init: &'a Init) -> Optio
 
 #[tactic(auto, using(crate::proofs::SeekingLaws::first_of_both))]
 fn declared<'a>(wanted: Wanted, found: Option<&'a Expr>, names: &'a [Declared]) -> Option<&'a Expr>
-    ensures { expr_view_if (option_copied result) ≡ first_of (is_wanted wanted) (expr_view_if (option_copied found.entry)) (each_in_names (parts_of wanted) (names_view names.now)) }
+    ensures { expr_view_if (option_copied result)
+        ≡ first_of (is_wanted wanted) (expr_view_if (option_copied found.entry))
+        (each_in_names (parts_of wanted) (names_view names.now)) }
 {
     let mut first = found;
     for name in names {
@@ -180,7 +196,9 @@ fn declared<'a>(wanted: Wanted, found: Option<&'a Expr>, names: &'a [Declared]) 
 }
 
 fn beginning<'a>(wanted: Wanted, found: Option<&'a Expr>, first: &'a First) -> Option<&'a Expr>
-    ensures { expr_view_if (option_copied result) ≡ first_of (is_wanted wanted) (expr_view_if (option_copied found.entry)) (each_in_first (parts_of wanted) (first_view first.now)) }
+    ensures { expr_view_if (option_copied result)
+        ≡ first_of (is_wanted wanted) (expr_view_if (option_copied found.entry))
+        (each_in_first (parts_of wanted) (first_view first.now)) }
 {
     match first {
         First::Absent => found,
@@ -191,7 +209,9 @@ fn beginning<'a>(wanted: Wanted, found: Option<&'a Expr>, first: &'a First) -> O
 
 #[cycle(statement)]
 fn statement<'a>(wanted: Wanted, found: Option<&'a Expr>, s: &'a Stmt) -> Option<&'a Expr>
-    ensures { expr_view_if (option_copied result) ≡ first_of (is_wanted wanted) (expr_view_if (option_copied found.entry)) (each_in (parts_of wanted) (stmt_view s.now)) }
+    ensures { expr_view_if (option_copied result)
+        ≡ first_of (is_wanted wanted) (expr_view_if (option_copied found.entry))
+        (each_in (parts_of wanted) (stmt_view s.now)) }
 {
     inside(wanted, found, &s.form)
 }
@@ -199,7 +219,9 @@ fn statement<'a>(wanted: Wanted, found: Option<&'a Expr>, s: &'a Stmt) -> Option
 #[cycle(statement)]
 #[tactic(auto, using(crate::proofs::SeekingLaws::first_of_both))]
 fn inside<'a>(wanted: Wanted, found: Option<&'a Expr>, form: &'a Form) -> Option<&'a Expr>
-    ensures { expr_view_if (option_copied result) ≡ first_of (is_wanted wanted) (expr_view_if (option_copied found.entry)) (each_in_form (parts_of wanted) (form_view form.now)) }
+    ensures { expr_view_if (option_copied result)
+        ≡ first_of (is_wanted wanted) (expr_view_if (option_copied found.entry))
+        (each_in_form (parts_of wanted) (form_view form.now)) }
 {
     match form {
         Form::Empty => found,
@@ -247,7 +269,9 @@ fn inside<'a>(wanted: Wanted, found: Option<&'a Expr>, form: &'a Form) -> Option
 #[cycle(statement)]
 #[tactic(auto, using(crate::proofs::SeekingLaws::first_of_both))]
 fn block<'a>(wanted: Wanted, found: Option<&'a Expr>, body: &'a [Stmt]) -> Option<&'a Expr>
-    ensures { expr_view_if (option_copied result) ≡ first_of (is_wanted wanted) (expr_view_if (option_copied found.entry)) (each_in_block (parts_of wanted) (stmts_view body.now)) }
+    ensures { expr_view_if (option_copied result)
+        ≡ first_of (is_wanted wanted) (expr_view_if (option_copied found.entry))
+        (each_in_block (parts_of wanted) (stmts_view body.now)) }
 {
     let mut first = found;
     for s in body {
@@ -259,7 +283,9 @@ fn block<'a>(wanted: Wanted, found: Option<&'a Expr>, body: &'a [Stmt]) -> Optio
 #[cycle(statement)]
 #[tactic(auto, using(crate::proofs::SeekingLaws::first_of_both))]
 fn in_arms<'a>(wanted: Wanted, found: Option<&'a Expr>, arms: &'a [Arm]) -> Option<&'a Expr>
-    ensures { expr_view_if (option_copied result) ≡ first_of (is_wanted wanted) (expr_view_if (option_copied found.entry)) (each_in_block (parts_of wanted) (switch_view arms.now)) }
+    ensures { expr_view_if (option_copied result)
+        ≡ first_of (is_wanted wanted) (expr_view_if (option_copied found.entry))
+        (each_in_block (parts_of wanted) (switch_view arms.now)) }
 {
     let mut first = found;
     for arm in arms {
@@ -270,7 +296,8 @@ fn in_arms<'a>(wanted: Wanted, found: Option<&'a Expr>, arms: &'a [Arm]) -> Opti
 
 #[tactic(auto, using(crate::proofs::SeekingLaws::first_of_both))]
 fn in_functions<'a>(wanted: Wanted, functions: &'a [Function]) -> Option<&'a Expr>
-    ensures { expr_view_if (option_copied result) ≡ first_of (is_wanted wanted) None (each_in_functions (parts_of wanted) (functions_view functions.now)) }
+    ensures { expr_view_if (option_copied result)
+        ≡ first_of (is_wanted wanted) None (each_in_functions (parts_of wanted) (functions_view functions.now)) }
 {
     let mut first = None;
     for function in functions {

@@ -22,7 +22,8 @@ fn keep_first<V: Copy>(
     spot: Spot,
     value: V,
 ) -> Result<(), OutOfMemory>
-    ensures { OnOk result ((q : Spot) → found_at map.new q ≡ or_else (found_at map.old q) (cond (same_spot spot q) (Some value) None)) }
+    ensures { OnOk result ((q : Spot) → found_at map.new q
+        ≡ or_else (found_at map.old q) (cond (same_spot spot q) (Some value) None)) }
 {
     let first = found_at(map, spot).unwrap_or(value);
     map.insert((spot.line, spot.column), first)?;

@@ -18,7 +18,8 @@ fn push<'a>(list: &mut Vec<&'a Expr>, e: &'a Expr) -> Result<(), OutOfMemory>
 }
 
 fn push_if<'a>(list: &mut Vec<&'a Expr>, e: &'a Option<Expr>) -> Result<(), OutOfMemory>
-    ensures { OnOk result (fulls_view list.new.items ≡ fulls_view list.old.items ++ each_if alone (expr_view_if e.now)) }
+    ensures { OnOk result (fulls_view list.new.items
+        ≡ fulls_view list.old.items ++ each_if alone (expr_view_if e.now)) }
 {
     if let Some(e) = e {
         push(list, e)?;
@@ -27,7 +28,8 @@ fn push_if<'a>(list: &mut Vec<&'a Expr>, e: &'a Option<Expr>) -> Result<(), OutO
 }
 
 fn push_list<'a>(list: &mut Vec<&'a Expr>, es: &'a [Expr]) -> Result<(), OutOfMemory>
-    ensures { OnOk result (fulls_view list.new.items ≡ fulls_view list.old.items ++ each_in_list alone (exprs_view es.now)) }
+    ensures { OnOk result (fulls_view list.new.items
+        ≡ fulls_view list.old.items ++ each_in_list alone (exprs_view es.now)) }
 {
     for e in es {
         push(list, e)?;
@@ -36,7 +38,8 @@ fn push_list<'a>(list: &mut Vec<&'a Expr>, es: &'a [Expr]) -> Result<(), OutOfMe
 }
 
 fn push_rows<'a>(list: &mut Vec<&'a Expr>, rows: &'a [Row]) -> Result<(), OutOfMemory>
-    ensures { OnOk result (fulls_view list.new.items ≡ fulls_view list.old.items ++ flat_map (each_in_list alone) (rows_view rows.now)) }
+    ensures { OnOk result (fulls_view list.new.items
+        ≡ fulls_view list.old.items ++ flat_map (each_in_list alone) (rows_view rows.now)) }
 {
     for row in rows {
         push_list(list, row.values.as_slice())?;
@@ -45,7 +48,8 @@ fn push_rows<'a>(list: &mut Vec<&'a Expr>, rows: &'a [Row]) -> Result<(), OutOfM
 }
 
 fn push_init<'a>(list: &mut Vec<&'a Expr>, init: &'a Init) -> Result<(), OutOfMemory>
-    ensures { OnOk result (fulls_view list.new.items ≡ fulls_view list.old.items ++ each_in_init alone (init_view init.now)) }
+    ensures { OnOk result (fulls_view list.new.items
+        ≡ fulls_view list.old.items ++ each_in_init alone (init_view init.now)) }
 {
     match init {
         Init::Absent => Ok(()),
@@ -56,7 +60,8 @@ fn push_init<'a>(list: &mut Vec<&'a Expr>, init: &'a Init) -> Result<(), OutOfMe
 }
 
 fn push_names<'a>(list: &mut Vec<&'a Expr>, names: &'a [Declared]) -> Result<(), OutOfMemory>
-    ensures { OnOk result (fulls_view list.new.items ≡ fulls_view list.old.items ++ each_in_names alone (names_view names.now)) }
+    ensures { OnOk result (fulls_view list.new.items
+        ≡ fulls_view list.old.items ++ each_in_names alone (names_view names.now)) }
 {
     for name in names {
         push_init(list, &name.init)?;
@@ -65,7 +70,8 @@ fn push_names<'a>(list: &mut Vec<&'a Expr>, names: &'a [Declared]) -> Result<(),
 }
 
 fn push_first<'a>(list: &mut Vec<&'a Expr>, first: &'a First) -> Result<(), OutOfMemory>
-    ensures { OnOk result (fulls_view list.new.items ≡ fulls_view list.old.items ++ each_in_first alone (first_view first.now)) }
+    ensures { OnOk result (fulls_view list.new.items
+        ≡ fulls_view list.old.items ++ each_in_first alone (first_view first.now)) }
 {
     match first {
         First::Absent => Ok(()),
@@ -84,7 +90,8 @@ fn push_statement<'a>(list: &mut Vec<&'a Expr>, s: &'a Stmt) -> Result<(), OutOf
 
 #[cycle(statement)]
 fn push_form<'a>(list: &mut Vec<&'a Expr>, form: &'a Form) -> Result<(), OutOfMemory>
-    ensures { OnOk result (fulls_view list.new.items ≡ fulls_view list.old.items ++ each_in_form alone (form_view form.now)) }
+    ensures { OnOk result (fulls_view list.new.items
+        ≡ fulls_view list.old.items ++ each_in_form alone (form_view form.now)) }
 {
     match form {
         Form::Empty => {}
@@ -131,7 +138,8 @@ fn push_form<'a>(list: &mut Vec<&'a Expr>, form: &'a Form) -> Result<(), OutOfMe
 
 #[cycle(statement)]
 fn push_block<'a>(list: &mut Vec<&'a Expr>, body: &'a [Stmt]) -> Result<(), OutOfMemory>
-    ensures { OnOk result (fulls_view list.new.items ≡ fulls_view list.old.items ++ each_in_block alone (stmts_view body.now)) }
+    ensures { OnOk result (fulls_view list.new.items
+        ≡ fulls_view list.old.items ++ each_in_block alone (stmts_view body.now)) }
 {
     for s in body {
         push_statement(list, s)?;
@@ -141,7 +149,8 @@ fn push_block<'a>(list: &mut Vec<&'a Expr>, body: &'a [Stmt]) -> Result<(), OutO
 
 #[cycle(statement)]
 fn push_arms<'a>(list: &mut Vec<&'a Expr>, arms: &'a [Arm]) -> Result<(), OutOfMemory>
-    ensures { OnOk result (fulls_view list.new.items ≡ fulls_view list.old.items ++ each_in_block alone (switch_view arms.now)) }
+    ensures { OnOk result (fulls_view list.new.items
+        ≡ fulls_view list.old.items ++ each_in_block alone (switch_view arms.now)) }
 {
     for arm in arms {
         push_block(list, arm.body.as_slice())?;
@@ -153,7 +162,8 @@ fn push_functions<'a>(
     list: &mut Vec<&'a Expr>,
     functions: &'a [Function],
 ) -> Result<(), OutOfMemory>
-    ensures { OnOk result (fulls_view list.new.items ≡ fulls_view list.old.items ++ each_in_functions alone (functions_view functions.now)) }
+    ensures { OnOk result (fulls_view list.new.items
+        ≡ fulls_view list.old.items ++ each_in_functions alone (functions_view functions.now)) }
 {
     for function in functions {
         push_statement(list, &function.body)?;

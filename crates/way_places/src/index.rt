@@ -52,7 +52,8 @@ impl<'a> Model for Index<'a> {
 }
 
 fn spots_of_kind(alloc: Global, kind: PlaceKind, places: &[Place]) -> Result<Spots, OutOfMemory>
-    ensures { IfOk result (λ spots. (line : ℕ) (column : Option ℕ) → named_in spots line column ≡ leftmost (filter (is_named line column) (of_kind kind places.now))) }
+    ensures { IfOk result (λ spots. (line : ℕ) (column : Option ℕ) → named_in spots line column
+        ≡ leftmost (filter (is_named line column) (of_kind kind places.now))) }
 {
     let mut spots = Vec::new(alloc);
     push_of_kind(&mut spots, kind, places)?;

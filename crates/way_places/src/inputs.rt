@@ -38,7 +38,8 @@ pub fn input_of(e: &Expr) -> Option<InputCall>
 }
 
 fn push_input(list: &mut Vec<InputCall>, e: &Expr) -> Result<(), OutOfMemory>
-    ensures { OnOk result (calls_view list.new.items ≡ calls_view list.old.items ++ list_if (input_of (expr_view e.now))) }
+    ensures { OnOk result (calls_view list.new.items
+        ≡ calls_view list.old.items ++ list_if (input_of (expr_view e.now))) }
 {
     if let Some(call) = input_of(e) {
         list.push(call)?;
@@ -47,7 +48,8 @@ fn push_input(list: &mut Vec<InputCall>, e: &Expr) -> Result<(), OutOfMemory>
 }
 
 fn push_inputs(list: &mut Vec<InputCall>, calls: &[(Spot, &Expr)]) -> Result<(), OutOfMemory>
-    ensures { OnOk result (calls_view list.new.items ≡ calls_view list.old.items ++ inputs_among (ends_view calls.now)) }
+    ensures { OnOk result (calls_view list.new.items
+        ≡ calls_view list.old.items ++ inputs_among (ends_view calls.now)) }
 {
     for (_, call) in calls {
         push_input(list, *call)?;
@@ -57,7 +59,8 @@ fn push_inputs(list: &mut Vec<InputCall>, calls: &[(Spot, &Expr)]) -> Result<(),
 
 /// Every input call, each function's statements before those in them.
 pub fn input_calls(alloc: Global, program: &Program) -> Result<Vec<InputCall>, OutOfMemory>
-    ensures { IfOk result (λ calls. calls_view calls.items ≡ filter_map input_of (exps_of_program (program_view program.now))) }
+    ensures { IfOk result (λ calls. calls_view calls.items
+        ≡ filter_map input_of (exps_of_program (program_view program.now))) }
 {
     let fulls = fulls(alloc, program)?;
     let calls = calls(alloc, fulls.as_slice())?;

@@ -36,7 +36,9 @@ fn nearer(best: Option<Spot>, spot: Spot) -> Spot
 }
 
 fn keep_under(spots: &mut Spots, column: Option<u32>, spot: Spot) -> Result<(), OutOfMemory>
-    ensures { OnOk result ((line : ℕ) (q : Option ℕ) → named_in spots.new line q ≡ cond (nat_eq spot.line line && same_column column q) (Some (nearer (named_in spots.old line q) spot)) (named_in spots.old line q)) }
+    ensures { OnOk result ((line : ℕ) (q : Option ℕ) → named_in spots.new line q
+        ≡ cond (nat_eq spot.line line && same_column column q) (Some (nearer (named_in spots.old line q) spot))
+        (named_in spots.old line q)) }
 {
     let best = nearer(named_in(spots, spot.line, column), spot);
     spots.insert((spot.line, column), best)?;
@@ -44,7 +46,8 @@ fn keep_under(spots: &mut Spots, column: Option<u32>, spot: Spot) -> Result<(), 
 }
 
 fn keep_leftmost(spots: &mut Spots, spot: Spot) -> Result<(), OutOfMemory>
-    ensures { OnOk result ((line : ℕ) (q : Option ℕ) → named_in spots.new line q ≡ cond (is_named line q spot) (Some (nearer (named_in spots.old line q) spot)) (named_in spots.old line q)) }
+    ensures { OnOk result ((line : ℕ) (q : Option ℕ) → named_in spots.new line q
+        ≡ cond (is_named line q spot) (Some (nearer (named_in spots.old line q) spot)) (named_in spots.old line q)) }
 {
     keep_under(spots, None, spot)?;
     keep_under(spots, Some(spot.column), spot)?;
@@ -53,7 +56,8 @@ fn keep_leftmost(spots: &mut Spots, spot: Spot) -> Result<(), OutOfMemory>
 
 /// Of these spots those that lines and columns name.
 pub fn leftmosts(alloc: Global, all: &[Spot]) -> Result<Spots, OutOfMemory>
-    ensures { IfOk result (λ spots. (line : ℕ) (q : Option ℕ) → named_in spots line q ≡ leftmost (filter (is_named line q) all.now)) }
+    ensures { IfOk result (λ spots. (line : ℕ) (q : Option ℕ) → named_in spots line q
+        ≡ leftmost (filter (is_named line q) all.now)) }
 {
     let mut spots = BTreeMap::new(alloc);
     for spot in all {

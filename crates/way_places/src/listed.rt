@@ -74,7 +74,8 @@ fn push_node(list: &mut Vec<Place>, node: &Node) -> Result<(), OutOfMemory>
 
 #[cycle(expression)]
 fn push_call(list: &mut Vec<Place>, es: &[Expr], close: Spot) -> Result<(), OutOfMemory>
-    ensures { OnOk result (list.new.items ≡ list.old.items ++ (places_in_arguments (exprs_view es.now) ++ place CallEnd close ∷ [])) }
+    ensures { OnOk result (list.new.items ≡ list.old.items ++
+        (places_in_arguments (exprs_view es.now) ++ place CallEnd close ∷ [])) }
 {
     push_arguments(list, es)?;
     push(list, PlaceKind::CallEnd, close)?;

@@ -35,7 +35,8 @@ fn push_pairs_of_arms<'a>(
 }
 
 fn push_own<'a>(list: &mut Vec<(Spot, &'a Stmt)>, form: &'a Form) -> Result<(), OutOfMemory>
-    ensures { OnOk result (pairs_view list.new.items ≡ pairs_view list.old.items ++ pairs_in_form (form_view form.now)) }
+    ensures { OnOk result (pairs_view list.new.items
+        ≡ pairs_view list.old.items ++ pairs_in_form (form_view form.now)) }
 {
     match form {
         Form::Block(body) => push_pairs(list, body.as_slice())?,
@@ -48,7 +49,8 @@ fn push_own<'a>(list: &mut Vec<(Spot, &'a Stmt)>, form: &'a Form) -> Result<(), 
 #[cycle(statement)]
 #[tactic(auto, using(crate::proofs::NeighbourLaws::among_both))]
 fn push_statement<'a>(list: &mut Vec<(Spot, &'a Stmt)>, s: &'a Stmt) -> Result<(), OutOfMemory>
-    ensures { OnOk result (pairs_view list.new.items ≡ pairs_view list.old.items ++ among (statements_of (stmt_view s.now))) }
+    ensures { OnOk result (pairs_view list.new.items
+        ≡ pairs_view list.old.items ++ among (statements_of (stmt_view s.now))) }
 {
     push_own(list, &s.form)?;
     push_form(list, &s.form)?;
@@ -58,7 +60,8 @@ fn push_statement<'a>(list: &mut Vec<(Spot, &'a Stmt)>, s: &'a Stmt) -> Result<(
 #[cycle(statement)]
 #[tactic(auto, using(crate::proofs::NeighbourLaws::among_both))]
 fn push_form<'a>(list: &mut Vec<(Spot, &'a Stmt)>, form: &'a Form) -> Result<(), OutOfMemory>
-    ensures { OnOk result (pairs_view list.new.items ≡ pairs_view list.old.items ++ among (statements_of_form (form_view form.now))) }
+    ensures { OnOk result (pairs_view list.new.items
+        ≡ pairs_view list.old.items ++ among (statements_of_form (form_view form.now))) }
 {
     match form {
         Form::Block(body) => push_block(list, body.as_slice())?,
@@ -86,7 +89,8 @@ fn push_form<'a>(list: &mut Vec<(Spot, &'a Stmt)>, form: &'a Form) -> Result<(),
 #[cycle(statement)]
 #[tactic(auto, using(crate::proofs::NeighbourLaws::among_both))]
 fn push_block<'a>(list: &mut Vec<(Spot, &'a Stmt)>, body: &'a [Stmt]) -> Result<(), OutOfMemory>
-    ensures { OnOk result (pairs_view list.new.items ≡ pairs_view list.old.items ++ among (statements_of_block (stmts_view body.now))) }
+    ensures { OnOk result (pairs_view list.new.items
+        ≡ pairs_view list.old.items ++ among (statements_of_block (stmts_view body.now))) }
 {
     for s in body {
         push_statement(list, s)?;
@@ -97,7 +101,8 @@ fn push_block<'a>(list: &mut Vec<(Spot, &'a Stmt)>, body: &'a [Stmt]) -> Result<
 #[cycle(statement)]
 #[tactic(auto, using(crate::proofs::NeighbourLaws::among_both))]
 fn push_arms<'a>(list: &mut Vec<(Spot, &'a Stmt)>, arms: &'a [Arm]) -> Result<(), OutOfMemory>
-    ensures { OnOk result (pairs_view list.new.items ≡ pairs_view list.old.items ++ among (statements_of_block (switch_view arms.now))) }
+    ensures { OnOk result (pairs_view list.new.items
+        ≡ pairs_view list.old.items ++ among (statements_of_block (switch_view arms.now))) }
 {
     for arm in arms {
         push_block(list, arm.body.as_slice())?;
@@ -110,7 +115,8 @@ fn push_functions<'a>(
     list: &mut Vec<(Spot, &'a Stmt)>,
     functions: &'a [Function],
 ) -> Result<(), OutOfMemory>
-    ensures { OnOk result (pairs_view list.new.items ≡ pairs_view list.old.items ++ among (statements_of_functions (functions_view functions.now))) }
+    ensures { OnOk result (pairs_view list.new.items
+        ≡ pairs_view list.old.items ++ among (statements_of_functions (functions_view functions.now))) }
 {
     for function in functions {
         push_statement(list, &function.body)?;

@@ -69,7 +69,8 @@ impl Location {
     #[cycle(expression)]
     #[tactic(auto, using(crate::proofs::SeekingLaws::best_of_both))]
     fn node(&self, best: Option<Spot>, node: &Node) -> Option<Spot>
-        ensures { result ≡ best_of self.now.kind self.now.line self.now.column best (places_in_node (node_view node.now)) }
+        ensures { result ≡ best_of self.now.kind self.now.line self.now.column best
+            (places_in_node (node_view node.now)) }
     {
         match node {
             Node::Const(_) => best,
@@ -112,7 +113,8 @@ impl Location {
     #[cycle(expression)]
     #[tactic(auto, using(crate::proofs::SeekingLaws::best_of_both))]
     fn call(&self, best: Option<Spot>, es: &[Expr], close: Spot) -> Option<Spot>
-        ensures { result ≡ best_of self.now.kind self.now.line self.now.column best (places_in_arguments (exprs_view es.now) ++ place CallEnd close ∷ []) }
+        ensures { result ≡ best_of self.now.kind self.now.line self.now.column best
+            (places_in_arguments (exprs_view es.now) ++ place CallEnd close ∷ []) }
     {
         let inner = self.arguments(best, es);
         self.own(inner, PlaceKind::CallEnd, close)
@@ -121,7 +123,8 @@ impl Location {
     #[cycle(expression)]
     #[tactic(auto, using(crate::proofs::SeekingLaws::best_of_both))]
     fn arguments(&self, best: Option<Spot>, es: &[Expr]) -> Option<Spot>
-        ensures { result ≡ best_of self.now.kind self.now.line self.now.column best (places_in_arguments (exprs_view es.now)) }
+        ensures { result ≡ best_of self.now.kind self.now.line self.now.column best
+            (places_in_arguments (exprs_view es.now)) }
     {
         let mut nearest = best;
         for e in es {
@@ -141,7 +144,8 @@ impl Location {
 
     #[tactic(auto, using(crate::proofs::SeekingLaws::best_of_both))]
     fn rows(&self, best: Option<Spot>, rows: &[Row]) -> Option<Spot>
-        ensures { result ≡ best_of self.now.kind self.now.line self.now.column best (flat_map places_in_arguments (rows_view rows.now)) }
+        ensures { result ≡ best_of self.now.kind self.now.line self.now.column best
+            (flat_map places_in_arguments (rows_view rows.now)) }
     {
         let mut nearest = best;
         for row in rows {
@@ -151,7 +155,8 @@ impl Location {
     }
 
     fn init(&self, best: Option<Spot>, init: &Init) -> Option<Spot>
-        ensures { result ≡ best_of self.now.kind self.now.line self.now.column best (places_in_init (init_view init.now)) }
+        ensures { result ≡ best_of self.now.kind self.now.line self.now.column best
+            (places_in_init (init_view init.now)) }
     {
         match init {
             Init::Absent => best,
@@ -163,7 +168,8 @@ impl Location {
 
     #[tactic(auto, using(crate::proofs::SeekingLaws::best_of_both))]
     fn names(&self, best: Option<Spot>, names: &[Declared]) -> Option<Spot>
-        ensures { result ≡ best_of self.now.kind self.now.line self.now.column best (places_in_names (names_view names.now)) }
+        ensures { result ≡ best_of self.now.kind self.now.line self.now.column best
+            (places_in_names (names_view names.now)) }
     {
         let mut nearest = best;
         for name in names {
@@ -173,7 +179,8 @@ impl Location {
     }
 
     fn first(&self, best: Option<Spot>, first: &First) -> Option<Spot>
-        ensures { result ≡ best_of self.now.kind self.now.line self.now.column best (places_in_first (first_view first.now)) }
+        ensures { result ≡ best_of self.now.kind self.now.line self.now.column best
+            (places_in_first (first_view first.now)) }
     {
         match first {
             First::Absent => best,
@@ -185,7 +192,8 @@ impl Location {
     #[cycle(statement)]
     #[tactic(auto, using(crate::proofs::SeekingLaws::best_of_both))]
     fn statement(&self, best: Option<Spot>, s: &Stmt) -> Option<Spot>
-        ensures { result ≡ best_of self.now.kind self.now.line self.now.column best (places_of_statement (stmt_view s.now)) }
+        ensures { result ≡ best_of self.now.kind self.now.line self.now.column best
+            (places_of_statement (stmt_view s.now)) }
     {
         let best = self.own(best, PlaceKind::Statement, s.spot);
         self.form(best, s.spot, &s.form)
@@ -194,7 +202,8 @@ impl Location {
     #[cycle(statement)]
     #[tactic(auto, using(crate::proofs::SeekingLaws::best_of_both))]
     fn form(&self, best: Option<Spot>, at: Spot, form: &Form) -> Option<Spot>
-        ensures { result ≡ best_of self.now.kind self.now.line self.now.column best (places_of_form at (form_view form.now)) }
+        ensures { result ≡ best_of self.now.kind self.now.line self.now.column best
+            (places_of_form at (form_view form.now)) }
     {
         match form {
             Form::Empty => best,
@@ -247,7 +256,8 @@ impl Location {
     /// The places of a loop itself.
     #[tactic(auto, using(crate::proofs::SeekingLaws::best_of_both))]
     fn turning(&self, best: Option<Spot>, at: Spot) -> Option<Spot>
-        ensures { result ≡ best_of self.now.kind self.now.line self.now.column best (place Loop at ∷ place Branch at ∷ []) }
+        ensures { result ≡ best_of self.now.kind self.now.line self.now.column best
+            (place Loop at ∷ place Branch at ∷ []) }
     {
         let best = self.own(best, PlaceKind::Loop, at);
         self.own(best, PlaceKind::Branch, at)
@@ -256,7 +266,8 @@ impl Location {
     #[cycle(statement)]
     #[tactic(auto, using(crate::proofs::SeekingLaws::best_of_both))]
     fn block(&self, best: Option<Spot>, body: &[Stmt]) -> Option<Spot>
-        ensures { result ≡ best_of self.now.kind self.now.line self.now.column best (places_of_block (stmts_view body.now)) }
+        ensures { result ≡ best_of self.now.kind self.now.line self.now.column best
+            (places_of_block (stmts_view body.now)) }
     {
         let mut nearest = best;
         for s in body {
@@ -268,7 +279,8 @@ impl Location {
     #[cycle(statement)]
     #[tactic(auto, using(crate::proofs::SeekingLaws::best_of_both))]
     fn arms(&self, best: Option<Spot>, arms: &[Arm]) -> Option<Spot>
-        ensures { result ≡ best_of self.now.kind self.now.line self.now.column best (places_of_block (switch_view arms.now)) }
+        ensures { result ≡ best_of self.now.kind self.now.line self.now.column best
+            (places_of_block (switch_view arms.now)) }
     {
         let mut nearest = best;
         for arm in arms {
@@ -279,7 +291,8 @@ impl Location {
 
     #[tactic(auto, using(crate::proofs::SeekingLaws::best_of_both))]
     fn functions(&self, functions: &[Function]) -> Option<Spot>
-        ensures { result ≡ best_of self.now.kind self.now.line self.now.column None (places_of_functions (functions_view functions.now)) }
+        ensures { result ≡ best_of self.now.kind self.now.line self.now.column None
+            (places_of_functions (functions_view functions.now)) }
     {
         let mut nearest = None;
         for function in functions {

@@ -73,7 +73,8 @@ fn push_block(list: &mut Tests, model: DataModel, body: &[Stmt]) -> Result<(), O
 #[cycle(statement)]
 #[tactic(auto, using(crate::proofs::SwitchLaws::tests_both))]
 fn push_arms(list: &mut Tests, model: DataModel, arms: &[Arm]) -> Result<(), OutOfMemory>
-    ensures { OnOk result (list.new.items ≡ list.old.items ++ tests_among (statements_of_block (switch_view arms.now))) }
+    ensures { OnOk result (list.new.items
+        ≡ list.old.items ++ tests_among (statements_of_block (switch_view arms.now))) }
 {
     for arm in arms {
         push_block(list, model, arm.body.as_slice())?;
@@ -87,7 +88,8 @@ fn push_functions(
     model: DataModel,
     functions: &[Function],
 ) -> Result<(), OutOfMemory>
-    ensures { OnOk result (list.new.items ≡ list.old.items ++ tests_among (statements_of_functions (functions_view functions.now))) }
+    ensures { OnOk result (list.new.items
+        ≡ list.old.items ++ tests_among (statements_of_functions (functions_view functions.now))) }
 {
     for function in functions {
         push_statement(list, model, &function.body)?;

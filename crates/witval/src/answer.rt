@@ -65,7 +65,8 @@ fn validate<S: Shelf>(
     shelf: &mut S,
 ) -> Result<Output, OutOfMemory>
     requires { IsAllowed (limits budgets) }
-    ensures right { IfOk result (RightVerdict (named names.now) (limits budgets) (S.state shelf.old) (S.state shelf.new)) }
+    ensures right { IfOk result (RightVerdict (named names.now) (limits budgets) (S.state shelf.old)
+        (S.state shelf.new)) }
     ensures integers { IfOk result HasIntegers }
     ensures same_files { (S.state shelf.new).files ≡ (S.state shelf.old).files }
 {
@@ -96,7 +97,9 @@ fn certify<S: Shelf>(
 /// What checking a certificate again comes to.
 fn recheck_four(alloc: Global, four: FourInputs) -> Result<Output, OutOfMemory>
     requires { AreWithin four.inputs }
-    ensures { IfOk result (RightOnInputs (Rechecking four.certificate.items) four.inputs.program.items four.inputs.property.items four.inputs.witness.items) }
+    ensures { IfOk result
+        (RightOnInputs (Rechecking four.certificate.items) four.inputs.program.items four.inputs.property.items
+        four.inputs.witness.items) }
 {
     let certificate = Seq::from_vec(four.certificate);
     judge(alloc, &four.inputs, Purpose::Recheck(certificate))
@@ -109,7 +112,8 @@ fn recheck<S: Shelf>(
     certificate: &str,
     shelf: &mut S,
 ) -> Result<Output, OutOfMemory>
-    ensures right { IfOk result (RightRecheck (named names.now) certificate.now (S.state shelf.old) (S.state shelf.new)) }
+    ensures right { IfOk result (RightRecheck (named names.now) certificate.now (S.state shelf.old)
+        (S.state shelf.new)) }
     ensures integers { IfOk result HasIntegers }
     ensures same_files { (S.state shelf.new).files ≡ (S.state shelf.old).files }
 {
@@ -145,7 +149,8 @@ fn author<S: Shelf>(
     steps: u64,
     shelf: &mut S,
 ) -> Result<Output, OutOfMemory>
-    ensures right { IfOk result (RightAuthor (given sources.now) (labelled label.now) steps (S.state shelf.old) (S.state shelf.new)) }
+    ensures right { IfOk result (RightAuthor (given sources.now) (labelled label.now) steps (S.state shelf.old)
+        (S.state shelf.new)) }
     ensures integers { IfOk result HasIntegers }
     ensures same_files { (S.state shelf.new).files ≡ (S.state shelf.old).files }
 {

@@ -55,7 +55,9 @@ pub fn author_inputs(
     draft: &Draft<'_>,
 ) -> Result<Output, OutOfMemory>
     requires { AreWithin inputs.now }
-    ensures { IfOk result (AuthorsOnInputs (labelled draft.now.label) draft.now.steps draft.now.file.now inputs.now.program.items inputs.now.property.items inputs.now.witness.items) }
+    ensures { IfOk result
+        (AuthorsOnInputs (labelled draft.now.label) draft.now.steps draft.now.file.now inputs.now.program.items
+        inputs.now.property.items inputs.now.witness.items) }
 {
     match property(&inputs.property) {
         Ok(property) => author_bytes(alloc, property, &inputs.program, &inputs.witness, draft),
@@ -72,7 +74,8 @@ fn author_bytes(
     draft: &Draft<'_>,
 ) -> Result<Output, OutOfMemory>
     requires { length program.now ≤ 1048576 }
-    ensures { IfOk result (AuthorsUnder (labelled draft.now.label) draft.now.steps draft.now.file.now program.now values.now property) }
+    ensures { IfOk result
+        (AuthorsUnder (labelled draft.now.label) draft.now.steps draft.now.file.now program.now values.now property) }
 {
     match read_values(alloc, values) {
         Ok(values) => author_values(alloc, property, program, &values, draft),
@@ -89,7 +92,9 @@ fn author_values(
     draft: &Draft<'_>,
 ) -> Result<Output, OutOfMemory>
     requires { length program.now ≤ 1048576 }
-    ensures { IfOk result (AuthorsOnValues (labelled draft.now.label) draft.now.steps draft.now.file.now program.now property values.now) }
+    ensures { IfOk result
+        (AuthorsOnValues (labelled draft.now.label) draft.now.steps draft.now.file.now program.now property
+        values.now) }
 {
     if is_short(draft.file) {
         author_file(alloc, property, program, values, draft)
@@ -118,7 +123,8 @@ fn author_file(
 ) -> Result<Output, OutOfMemory>
     requires program { length program.now ≤ 1048576 }
     requires short { length (chars draft.now.file.now) ≤ max_key }
-    ensures { IfOk result (AuthorsOnFile (labelled draft.now.label) draft.now.steps draft.now.file.now program.now property values.now) }
+    ensures { IfOk result
+        (AuthorsOnFile (labelled draft.now.label) draft.now.steps draft.now.file.now program.now property values.now) }
 {
     match model_of(draft.label.model) {
         Some(model) => {
@@ -142,7 +148,9 @@ fn author_model(
 ) -> Result<Output, OutOfMemory>
     requires program { length task.now.bytes.now ≤ 1048576 }
     requires short { length (chars draft.now.file.now) ≤ max_key }
-    ensures { IfOk result (AuthorsOnModel (labelled draft.now.label) draft.now.steps draft.now.file.now task.now.bytes.now task.now.property task.now.model values.now) }
+    ensures { IfOk result
+        (AuthorsOnModel (labelled draft.now.label) draft.now.steps draft.now.file.now task.now.bytes.now
+        task.now.property task.now.model values.now) }
 {
     let uuid = Text::of(alloc, draft.label.uuid)?;
     match identifier(alloc, &uuid)? {
@@ -160,7 +168,9 @@ fn author_text(
 ) -> Result<Output, OutOfMemory>
     requires program { length task.now.bytes.now ≤ 1048576 }
     requires short { length (chars draft.now.file.now) ≤ max_key }
-    ensures { IfOk result (AuthorsOnText (labelled draft.now.label) draft.now.steps draft.now.file.now task.now.bytes.now task.now.property task.now.model values.now) }
+    ensures { IfOk result
+        (AuthorsOnText (labelled draft.now.label) draft.now.steps draft.now.file.now task.now.bytes.now
+        task.now.property task.now.model values.now) }
 {
     match program_tokens(alloc, task.bytes) {
         Ok(tokens) => author_tokens(alloc, task, &tokens, values, draft),
@@ -178,7 +188,9 @@ fn author_tokens(
 ) -> Result<Output, OutOfMemory>
     requires orderly { AreOrderly tokens.now }
     requires short { length (chars draft.now.file.now) ≤ max_key }
-    ensures { IfOk result (AuthorsOnTokens (labelled draft.now.label) draft.now.steps draft.now.file.now task.now.bytes.now task.now.property task.now.model values.now tokens.now) }
+    ensures { IfOk result
+        (AuthorsOnTokens (labelled draft.now.label) draft.now.steps draft.now.file.now task.now.bytes.now
+        task.now.property task.now.model values.now tokens.now) }
 {
     match parse(alloc, tokens) {
         Ok(source) => author_source(alloc, task, &source, values, draft),
@@ -195,7 +207,9 @@ fn author_source(
     draft: &Draft<'_>,
 ) -> Result<Output, OutOfMemory>
     requires { length (chars draft.now.file.now) ≤ max_key }
-    ensures { IfOk result (AuthorsOnSource (labelled draft.now.label) draft.now.steps draft.now.file.now task.now.bytes.now task.now.property task.now.model values.now (source_view source.now)) }
+    ensures { IfOk result
+        (AuthorsOnSource (labelled draft.now.label) draft.now.steps draft.now.file.now task.now.bytes.now
+        task.now.property task.now.model values.now (source_view source.now)) }
 {
     match check(alloc, source, task.model, task.property) {
         Ok(program) => author_program(alloc, task, &program, values, draft),
@@ -212,7 +226,9 @@ fn author_program(
     draft: &Draft<'_>,
 ) -> Result<Output, OutOfMemory>
     requires { length (chars draft.now.file.now) ≤ max_key }
-    ensures { IfOk result (AuthorsOnProgram (labelled draft.now.label) draft.now.steps draft.now.file.now task.now.bytes.now task.now.property task.now.model values.now program.now) }
+    ensures { IfOk result
+        (AuthorsOnProgram (labelled draft.now.label) draft.now.steps draft.now.file.now task.now.bytes.now
+        task.now.property task.now.model values.now program.now) }
 {
     let file = Text::of(alloc, draft.file)?;
     match author(alloc, program, &file, values, draft.steps) {
@@ -230,7 +246,9 @@ fn author_segments(
     draft: &Draft<'_>,
 ) -> Result<Output, OutOfMemory>
     requires { length (chars file.now) ≤ max_key }
-    ensures { IfOk result (AuthorsOnSegments (labelled draft.now.label) file.now task.now.bytes.now task.now.property task.now.model segments) }
+    ensures { IfOk result
+        (AuthorsOnSegments (labelled draft.now.label) file.now task.now.bytes.now task.now.property task.now.model
+        segments) }
 {
     let label = draft.label;
     let witness = authored(

@@ -94,9 +94,11 @@ pub fn read_four<S: Shelf>(
 ) -> Result<FourInputs, FourStop>
     ensures inputs { IfOk result (λ four. Told (named names.now) (S.state shelf.old) (AreInputs four.inputs)) }
     ensures within { IfOk result (λ four. AreWithin four.inputs) }
-    ensures certificate { IfOk result (λ four. ToldOne certificate.now (S.state shelf.old) (λ told. four.certificate.items ≡ told)) }
+    ensures certificate { IfOk result (λ four. ToldOne certificate.now (S.state shelf.old)
+        (λ told. four.certificate.items ≡ told)) }
     ensures within_limit { IfOk result (λ four. length four.certificate.items ≤ certificate_limit) }
-    ensures stop { IfErr result (RightStopOfFour (named names.now) certificate.now (S.state shelf.old) (S.state shelf.new)) }
+    ensures stop { IfErr result (RightStopOfFour (named names.now) certificate.now (S.state shelf.old)
+        (S.state shelf.new)) }
     ensures same_files { (S.state shelf.new).files ≡ (S.state shelf.old).files }
 {
     let inputs = match read_three(alloc, names, shelf) {

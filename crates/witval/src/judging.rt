@@ -42,7 +42,8 @@ use wv_yaml::{Tree, read};
 pub fn judge(alloc: Global, inputs: &Inputs, purpose: Purpose) -> Result<Output, OutOfMemory>
     requires within { AreWithin inputs.now }
     requires allowed { AllowsPurpose (meant purpose) }
-    ensures { IfOk result (RightOnInputs (meant purpose) inputs.now.program.items inputs.now.property.items inputs.now.witness.items) }
+    ensures { IfOk result
+        (RightOnInputs (meant purpose) inputs.now.program.items inputs.now.property.items inputs.now.witness.items) }
 {
     match property(&inputs.property) {
         Ok(property) => judge_bytes(alloc, property, &inputs.program, &inputs.witness, purpose),

@@ -12,8 +12,10 @@ use wv_base::{Shelf, Sink, write_all};
 /// What is asked for is read or made, judged, shown or brought into canonical form, and written.
 fn run_asked<S: Shelf, O: Sink>(alloc: Global, asked: &Asked<'_>, shelf: &mut S, out: &mut O) -> u8
     requires { AreAllowed (stated asked.now).wanted }
-    ensures runs { RunsFor (stated asked.now) (S.state shelf.old) (S.state shelf.new) (O.state out.old) (O.state out.new) result }
-    ensures complete { CompleteFor (stated asked.now) (S.state shelf.old) (S.state shelf.new) (O.state out.old) (O.state out.new) result }
+    ensures runs { RunsFor (stated asked.now) (S.state shelf.old) (S.state shelf.new) (O.state out.old)
+        (O.state out.new) result }
+    ensures complete { CompleteFor (stated asked.now) (S.state shelf.old) (S.state shelf.new) (O.state out.old)
+        (O.state out.new) result }
 {
     let Ok(output) = answer(alloc, asked, shelf) else {
         return 6;
@@ -30,8 +32,10 @@ fn run_asked<S: Shelf, O: Sink>(alloc: Global, asked: &Asked<'_>, shelf: &mut S,
 
 /// The same for the words of a command line.
 fn run_words<S: Shelf, O: Sink>(alloc: Global, words: &[String], shelf: &mut S, out: &mut O) -> u8
-    ensures runs { Runs (map string_bytes words.now) (S.state shelf.old) (S.state shelf.new) (O.state out.old) (O.state out.new) result }
-    ensures complete { Complete (map string_bytes words.now) (S.state shelf.old) (S.state shelf.new) (O.state out.old) (O.state out.new) result }
+    ensures runs { Runs (map string_bytes words.now) (S.state shelf.old) (S.state shelf.new) (O.state out.old)
+        (O.state out.new) result }
+    ensures complete { Complete (map string_bytes words.now) (S.state shelf.old) (S.state shelf.new) (O.state out.old)
+        (O.state out.new) result }
 {
     match read_words(alloc, words) {
         Ok(asked) => run_asked(alloc, &asked, shelf, out),
@@ -46,8 +50,10 @@ fn run_words<S: Shelf, O: Sink>(alloc: Global, words: &[String], shelf: &mut S, 
 /// The status is the output's, 5 where a write failed, 6 where memory was wanted. All bytes stand in memory before the
 /// first of them is written.
 pub fn run<S: Shelf, O: Sink>(alloc: Global, words: &Vec<String>, shelf: &mut S, out: &mut O) -> u8
-    ensures runs { Runs (map string_bytes words.now.items) (S.state shelf.old) (S.state shelf.new) (O.state out.old) (O.state out.new) result }
-    ensures complete { Complete (map string_bytes words.now.items) (S.state shelf.old) (S.state shelf.new) (O.state out.old) (O.state out.new) result }
+    ensures runs { Runs (map string_bytes words.now.items) (S.state shelf.old) (S.state shelf.new) (O.state out.old)
+        (O.state out.new) result }
+    ensures complete { Complete (map string_bytes words.now.items) (S.state shelf.old) (S.state shelf.new)
+        (O.state out.old) (O.state out.new) result }
 {
     run_words(alloc, words, shelf, out)
 }

@@ -44,7 +44,8 @@ fn push_input(
     close: Spot,
     value: i128,
 ) -> Result<(), OutOfMemory>
-    ensures pushed { OnOk result (list.new.items ≡ list.old.items ++ kept_if (back_at close value (input_at (program_view places.now) close))) }
+    ensures pushed { OnOk result (list.new.items
+        ≡ list.old.items ++ kept_if (back_at close value (input_at (program_view places.now) close))) }
     ensures refused { OnErr result (list.new.items ≡ list.old.items) }
 {
     if is_input_end(places, close) {
@@ -59,7 +60,8 @@ fn push_returned(
     list: &mut Vec<Returned>,
     event: Event,
 ) -> Result<(), OutOfMemory>
-    ensures pushed { OnOk result (list.new.items ≡ list.old.items ++ kept_if (back_by (program_view places.now) event)) }
+    ensures pushed { OnOk result (list.new.items
+        ≡ list.old.items ++ kept_if (back_by (program_view places.now) event)) }
     ensures refused { OnErr result (list.new.items ≡ list.old.items) }
 {
     match event {

@@ -43,7 +43,8 @@ pub fn authored(
     uuid: &str,
     time: &str,
 ) -> Result<Witness, OutOfMemory>
-    ensures made { IfOk result (λ witness. witness ≡ authored program.now file.now segments property model uuid.now time.now) }
+    ensures made { IfOk result (λ witness. witness
+        ≡ authored program.now file.now segments property model uuid.now time.now) }
     ensures text { length (chars file.now) ≤ 1024 → IfOk result HasText }
     ensures writable { length (chars file.now) ≤ 1024 → AreSegments segments → IfOk result CanBeWritten }
 {

@@ -28,7 +28,8 @@ impl<'a> Model for Cursor<'a> {
 
 fn begins(text: &[u8], word: &[u8]) -> bool
     ensures within { IsTrue result → length word.now ≤ length text.now }
-    ensures here { MatchBool result (text.now ≡ word.now ++ drop (length word.now) text.now) ((rest : List ℕ) → text.now ≡ word.now ++ rest → ⊥) }
+    ensures here { MatchBool result (text.now ≡ word.now ++ drop (length word.now) text.now)
+        ((rest : List ℕ) → text.now ≡ word.now ++ rest → ⊥) }
 {
     if text.len() < word.len() {
         return false;

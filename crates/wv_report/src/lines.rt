@@ -135,7 +135,8 @@ pub fn add_cause(out: &mut String, cause: Cause) -> Result<(), OutOfMemory>
 
 /// The line of an undecided verdict.
 pub fn add_undecided(out: &mut String, cause: Cause) -> Result<(), OutOfMemory>
-    ensures { OnOk result (string_bytes out.new ≡ string_bytes out.old ++ line (codes "undecided " ++ cause_text cause)) }
+    ensures { OnOk result (string_bytes out.new
+        ≡ string_bytes out.old ++ line (codes "undecided " ++ cause_text cause)) }
 {
     out.push_str("undecided ")?;
     add_cause(out, cause)?;

@@ -29,7 +29,8 @@ fn kind_of(word: &str) -> InvariantKind
 }
 
 fn invariant_fields_of(alloc: Global, at: &str, pairs: &[Pair]) -> Result<Invariant, SchemaFault>
-    ensures { Gives (λ (v : Invariant). v) result (first_fault at.now pairs.now invariant_fields) (invariant_in pairs.now) }
+    ensures { Gives (λ (v : Invariant). v) result (first_fault at.now pairs.now invariant_fields)
+        (invariant_in pairs.now) }
 {
     let word = needed_str(alloc, at, pairs, "type", TextRule::InvariantType)?;
     let location = location_of(alloc, at, pairs)?;
@@ -63,7 +64,8 @@ fn claim_of(alloc: Global, at: &str, item: &Tree) -> Result<Invariant, SchemaFau
 
 /// The content of an invariant set.
 pub fn invariants_of(alloc: Global, at: &str, items: &[Tree]) -> Result<Seq<Invariant>, SchemaFault>
-    ensures { Gives (λ (v : List Invariant). v) result (items_fault claim_fault at.now 0 items.now) (map claim_in items.now) }
+    ensures { Gives (λ (v : List Invariant). v) result (items_fault claim_fault at.now 0 items.now)
+        (map claim_in items.now) }
 {
     let mut invariants = Seq::new(alloc);
     for (index, item) in items.iter().enumerate() {

@@ -29,7 +29,8 @@ fn content_of(
     does_violate: bool,
     items: &[Tree],
 ) -> Result<Content, SchemaFault>
-    ensures { Gives (λ (v : Content). v) result (content_fault at.now does_violate items.now) (content_by does_violate items.now) }
+    ensures { Gives (λ (v : Content). v) result (content_fault at.now does_violate items.now)
+        (content_by does_violate items.now) }
 {
     if does_violate {
         let segments = segments_of(alloc, at, items)?;

@@ -28,7 +28,8 @@ pub fn needed_str<'a>(
     key: &str,
     rule: TextRule,
 ) -> Result<&'a str, SchemaFault>
-    ensures field { Gives (λ s. s.now) result (row_fault at.now pairs.now (needs key.now (AText (rule_of rule)))) (text_at key.now pairs.now) }
+    ensures field { Gives (λ s. s.now) result (row_fault at.now pairs.now (needs key.now (AText (rule_of rule))))
+        (text_at key.now pairs.now) }
     ensures met { IfOk result (λ s. meets (rule_of rule) s.now ≡ true) }
 {
     match find(pairs, key) {
@@ -54,7 +55,8 @@ pub fn optional_str<'a>(
     key: &str,
     rule: TextRule,
 ) -> Result<Option<&'a str>, SchemaFault>
-    ensures field { Gives (λ s. option_copied s) result (row_fault at.now pairs.now (may_have key.now (AText (rule_of rule)))) (text_if key.now pairs.now) }
+    ensures field { Gives (λ s. option_copied s) result
+        (row_fault at.now pairs.now (may_have key.now (AText (rule_of rule)))) (text_if key.now pairs.now) }
     ensures met { IfOk result (λ s. IfSome s (λ text. meets (rule_of rule) text.now ≡ true)) }
 {
     match find(pairs, key) {
@@ -80,7 +82,8 @@ pub fn needed_text(
     key: &str,
     rule: TextRule,
 ) -> Result<Text, SchemaFault>
-    ensures { Gives (λ (s : List ℕ). s) result (row_fault at.now pairs.now (needs key.now (AText (rule_of rule)))) (text_at key.now pairs.now) }
+    ensures { Gives (λ (s : List ℕ). s) result (row_fault at.now pairs.now (needs key.now (AText (rule_of rule))))
+        (text_at key.now pairs.now) }
 {
     let text = needed_str(alloc, at, pairs, key, rule)?;
     let copy = Text::of(alloc, text)?;
@@ -95,7 +98,8 @@ pub fn optional_text(
     key: &str,
     rule: TextRule,
 ) -> Result<Option<Text>, SchemaFault>
-    ensures { Gives (λ (s : Option (List ℕ)). s) result (row_fault at.now pairs.now (may_have key.now (AText (rule_of rule)))) (text_if key.now pairs.now) }
+    ensures { Gives (λ (s : Option (List ℕ)). s) result
+        (row_fault at.now pairs.now (may_have key.now (AText (rule_of rule)))) (text_if key.now pairs.now) }
 {
     match optional_str(alloc, at, pairs, key, rule)? {
         None => Ok(None),
@@ -131,7 +135,8 @@ pub fn needed_map<'a>(
     pairs: &'a [Pair],
     key: &str,
 ) -> Result<&'a [Pair], SchemaFault>
-    ensures field { Gives (λ s. s.now) result (row_fault at.now pairs.now (needs key.now AMap)) (map_at key.now pairs.now) }
+    ensures field { Gives (λ s. s.now) result (row_fault at.now pairs.now (needs key.now AMap))
+        (map_at key.now pairs.now) }
     ensures there { IfOk result (λ s. map_of key.now pairs.now ≡ Some s.now) }
 {
     match find(pairs, key) {
@@ -150,7 +155,8 @@ pub fn optional_map<'a>(
     pairs: &'a [Pair],
     key: &str,
 ) -> Result<Option<&'a [Pair]>, SchemaFault>
-    ensures { Gives (λ s. option_copied s) result (row_fault at.now pairs.now (may_have key.now AMap)) (map_of key.now pairs.now) }
+    ensures { Gives (λ s. option_copied s) result (row_fault at.now pairs.now (may_have key.now AMap))
+        (map_of key.now pairs.now) }
 {
     match find(pairs, key) {
         None => Ok(None),
@@ -163,7 +169,8 @@ pub fn optional_map<'a>(
 
 /// A line or a column that is needed.
 pub fn needed_count(alloc: Global, at: &str, pairs: &[Pair], key: &str) -> Result<u32, SchemaFault>
-    ensures { Gives (λ (n : ℕ). n) result (row_fault at.now pairs.now (needs key.now (AText Count))) (count_of (text_at key.now pairs.now)) }
+    ensures { Gives (λ (n : ℕ). n) result (row_fault at.now pairs.now (needs key.now (AText Count)))
+        (count_of (text_at key.now pairs.now)) }
 {
     let text = needed_str(alloc, at, pairs, key, TextRule::Count)?;
     let number = count_in(text);
@@ -177,7 +184,8 @@ pub fn optional_count(
     pairs: &[Pair],
     key: &str,
 ) -> Result<Option<u32>, SchemaFault>
-    ensures { Gives (λ (n : Option ℕ). n) result (row_fault at.now pairs.now (may_have key.now (AText Count))) (option_map count_of (text_if key.now pairs.now)) }
+    ensures { Gives (λ (n : Option ℕ). n) result (row_fault at.now pairs.now (may_have key.now (AText Count)))
+        (option_map count_of (text_if key.now pairs.now)) }
 {
     match optional_str(alloc, at, pairs, key, TextRule::Count)? {
         None => Ok(None),

@@ -19,7 +19,8 @@ use std::alloc::Global;
 use wv_yaml::Pair;
 
 fn location_fields_of(alloc: Global, at: &str, pairs: &[Pair]) -> Result<Location, SchemaFault>
-    ensures { Gives (λ (l : Location). l) result (first_fault at.now pairs.now location_fields) (location_in pairs.now) }
+    ensures { Gives (λ (l : Location). l) result (first_fault at.now pairs.now location_fields)
+        (location_in pairs.now) }
 {
     let file_name = optional_text(alloc, at, pairs, "file_name", TextRule::Any)?;
     let line = needed_count(alloc, at, pairs, "line")?;
@@ -45,7 +46,8 @@ pub fn location_of(alloc: Global, at: &str, pairs: &[Pair]) -> Result<Location, 
 
 /// The value and the format of an expression.
 pub fn expression_of(alloc: Global, at: &str, pairs: &[Pair]) -> Result<Constraint, SchemaFault>
-    ensures { Gives (λ (x : Constraint). x) result (first_fault at.now pairs.now expression_fields) (constraint_in pairs.now) }
+    ensures { Gives (λ (x : Constraint). x) result (first_fault at.now pairs.now expression_fields)
+        (constraint_in pairs.now) }
 {
     let value = needed_text(alloc, at, pairs, "value", TextRule::Any)?;
     let format = optional_text(alloc, at, pairs, "format", TextRule::Format)?;
@@ -107,7 +109,8 @@ pub fn constraint_at(
     pairs: &[Pair],
     kind: WayKind,
 ) -> Result<Option<Constraint>, SchemaFault>
-    ensures { Gives (λ (x : Option Constraint). x) result (first_fault at.now pairs.now (constraint_rows kind)) (constraint_of kind pairs.now) }
+    ensures { Gives (λ (x : Option Constraint). x) result (first_fault at.now pairs.now (constraint_rows kind))
+        (constraint_of kind pairs.now) }
 {
     match kind {
         WayKind::Assumption => {

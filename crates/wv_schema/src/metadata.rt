@@ -40,7 +40,8 @@ pub struct Task {
 }
 
 fn producer_fields_of(alloc: Global, at: &str, pairs: &[Pair]) -> Result<Producer, SchemaFault>
-    ensures { Gives (λ (p : Producer). p) result (first_fault at.now pairs.now producer_fields) (producer_in pairs.now) }
+    ensures { Gives (λ (p : Producer). p) result (first_fault at.now pairs.now producer_fields)
+        (producer_in pairs.now) }
 {
     let name = needed_text(alloc, at, pairs, "name", TextRule::Any)?;
     let version = needed_text(alloc, at, pairs, "version", TextRule::Any)?;
@@ -70,7 +71,8 @@ fn item_text(alloc: Global, at: &str, item: &Tree) -> Result<Text, SchemaFault>
 }
 
 fn item_texts(alloc: Global, at: &str, items: &[Tree]) -> Result<Seq<Text>, SchemaFault>
-    ensures { Gives (λ (s : List (List ℕ)). s) result (items_fault no_text_fault at.now 0 items.now) (map text_or_empty items.now) }
+    ensures { Gives (λ (s : List (List ℕ)). s) result (items_fault no_text_fault at.now 0 items.now)
+        (map text_or_empty items.now) }
 {
     let mut texts = Seq::new(alloc);
     for (index, item) in items.iter().enumerate() {
@@ -92,7 +94,8 @@ fn input_files_of(alloc: Global, at: &str, pairs: &[Pair]) -> Result<Seq<Text>, 
 
 /// A file name and its hash; `at` is the place of the whole map.
 fn hash_of(alloc: Global, at: &str, pair: &Pair) -> Result<FileHash, SchemaFault>
-    ensures { Gives (λ (h : FileHash). h) result (when_not (is_some (text_in pair.now.value)) (WrongKind at.now)) (hash_in pair.now) }
+    ensures { Gives (λ (h : FileHash). h) result (when_not (is_some (text_in pair.now.value)) (WrongKind at.now))
+        (hash_in pair.now) }
 {
     match text_of(&pair.value) {
         None => Err(wrong_kind(alloc, at)),
@@ -105,7 +108,8 @@ fn hash_of(alloc: Global, at: &str, pair: &Pair) -> Result<FileHash, SchemaFault
 }
 
 fn hashes_of(alloc: Global, at: &str, pairs: &[Pair]) -> Result<Seq<FileHash>, SchemaFault>
-    ensures { Gives (λ (h : List FileHash). h) result (when_not (are_texts pairs.now) (WrongKind at.now)) (map hash_in pairs.now) }
+    ensures { Gives (λ (h : List FileHash). h) result (when_not (are_texts pairs.now) (WrongKind at.now))
+        (map hash_in pairs.now) }
 {
     let mut hashes = Seq::new(alloc);
     for pair in pairs {
@@ -151,7 +155,8 @@ fn task_of(alloc: Global, at: &str, pairs: &[Pair]) -> Result<Task, SchemaFault>
 }
 
 fn metadata_fields_of(alloc: Global, at: &str, pairs: &[Pair]) -> Result<Metadata, SchemaFault>
-    ensures { Gives (λ (m : Metadata). m) result (first_fault at.now pairs.now metadata_fields) (metadata_in pairs.now) }
+    ensures { Gives (λ (m : Metadata). m) result (first_fault at.now pairs.now metadata_fields)
+        (metadata_in pairs.now) }
 {
     let format_version = needed_text(alloc, at, pairs, "format_version", TextRule::FormatVersion)?;
     let uuid = needed_text(alloc, at, pairs, "uuid", TextRule::Any)?;

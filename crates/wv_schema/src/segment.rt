@@ -51,7 +51,8 @@ fn segment_of_steps(
     items: &[Tree],
     is_final: bool,
 ) -> Result<Option<Segment>, SchemaFault>
-    ensures { Gives (λ (s : Option Segment). s) result (items_fault step_fault at.now 0 items.now) (segment_by is_final items.now) }
+    ensures { Gives (λ (s : Option Segment). s) result (items_fault step_fault at.now 0 items.now)
+        (segment_by is_final items.now) }
 {
     if items.is_empty() {
         return Ok(None);
@@ -92,7 +93,8 @@ fn segment_of(
     item: &Tree,
     is_final: bool,
 ) -> Result<Option<Segment>, SchemaFault>
-    ensures { Gives (λ (s : Option Segment). s) result (segment_fault at.now item.now) (segment_by is_final (steps_in item.now)) }
+    ensures { Gives (λ (s : Option Segment). s) result (segment_fault at.now item.now)
+        (segment_by is_final (steps_in item.now)) }
 {
     match pairs_of(item) {
         None => Err(wrong_kind(alloc, at)),

@@ -51,7 +51,8 @@ fn kind_of(word: &str) -> WayKind
 }
 
 fn waypoint_fields_of(alloc: Global, at: &str, pairs: &[Pair]) -> Result<Step, SchemaFault>
-    ensures { Gives (λ (s : Step). s) result (first_fault at.now pairs.now (waypoint_fields (kind_at pairs.now))) (step_by pairs.now) }
+    ensures { Gives (λ (s : Step). s) result (first_fault at.now pairs.now (waypoint_fields (kind_at pairs.now)))
+        (step_by pairs.now) }
 {
     let word = needed_str(alloc, at, pairs, "type", TextRule::WaypointType)?;
     let kind = kind_of(word);

@@ -46,7 +46,8 @@ fn add_waypoint(
     number: u64,
     waypoint: &Waypoint,
 ) -> Result<(), OutOfMemory>
-    ensures { OnOk result (string_bytes out.new ≡ string_bytes out.old ++ waypoint_line action.now number waypoint.now) }
+    ensures { OnOk result (string_bytes out.new
+        ≡ string_bytes out.old ++ waypoint_line action.now number waypoint.now) }
 {
     let kind = word_of_way(waypoint.kind);
     write!(out, "waypoint {number} {action} {kind} ")?;

@@ -72,7 +72,8 @@ fn reads_as(text: &[u8], formula: &[u8]) -> bool
 
 /// The first token, and what is left behind it.
 fn next_token(text: &[u8]) -> Option<(&[u8], &[u8])>
-    ensures token { MatchOption result (spec.tokens text.now ≡ []) (λ next. spec.tokens text.now ≡ next.0.now ∷ spec.tokens next.1.now) }
+    ensures token { MatchOption result (spec.tokens text.now ≡ [])
+        (λ next. spec.tokens text.now ≡ next.0.now ∷ spec.tokens next.1.now) }
     ensures shorter { IfSome result (λ next. length next.1.now < length text.now) }
 {
     let (_, text) = text.split_at(blank_run(text));

@@ -121,29 +121,29 @@ expressions::assign-returns-in-Some-clause-gives g t c =
 
 pub expressions::node-returns-in-Call-clause-gives : goal.expressions::node-returns-in-Call-clause-gives
 expressions::node-returns-in-Call-clause-gives g t c =
-    let v = ap node_view c.in-Call.is ∙ view_of_call c.in-Call.callee c.in-Call.args c.in-Call.close in
-    let e = v ∙ ap (λ es. Call c.in-Call.callee (exprs_view es) c.in-Call.close) (sym c.as_slice-in-Call.ensures) in
+    let e = ap node_view c.in-Call.is ∙ view_of_call c.in-Call.callee c.in-Call.args c.in-Call.close in
     as_form (program_view c.args.program.now) g.W.Watcher.Seen g.W.Watcher.after c.args.depth _ _ _ _ _ _ _ _ c.call.result e c.call.ensures.gives
 
 pub expressions::call-returns-in_err-values-clause-gives : goal.expressions::call-returns-in_err-values-clause-gives
 expressions::call-returns-in_err-values-clause-gives g t c =
     let e : c.from_residual.result ≡ Err c.in_err-values.field-0.0 = search rules in
-    rw e (call_halted (program_view c.args.program.now) g.W.Watcher.Seen g.W.Watcher.after c.args.depth (where_of c.args.at) (use_of c.args.used) c.args.spot c.args.close c.args.ty c.args.callee (exprs_view c.args.args.now)
+    rw e (call_halted (program_view c.args.program.now) g.W.Watcher.Seen g.W.Watcher.after c.args.depth (where_of c.args.at) (use_of c.args.used) c.args.e.now.spot c.args.close c.args.e.now.ty c.args.callee (exprs_view c.args.args.now)
     (state_of c.args.machine.now (g.W.Watcher.seen c.args.watcher.now)) (state_of c.arguments.new.machine (g.W.Watcher.seen c.arguments.new.watcher))
-    c.in_err-values.field-0.0 c.in_err-values.ensures.gives)
+    c.in_err-values.field-0.0 (rw c.as_slice.ensures at c.in_err-values.ensures.gives))
 
 pub expressions::call-returns-in_err-tell-clause-gives : goal.expressions::call-returns-in_err-tell-clause-gives
 expressions::call-returns-in_err-tell-clause-gives g t c =
     let e : c.from_residual-in_err-tell.result ≡ Err c.in_err-tell.field-0.0 = search rules in
-    rw (e, c.in_err-tell.ensures.refused) (enter_halted (program_view c.args.program.now) g.W.Watcher.Seen g.W.Watcher.after c.args.depth (where_of c.args.at) (use_of c.args.used) c.args.spot c.args.close c.args.ty c.args.callee (exprs_view c.args.args.now) c.in_ok-values.values
+    rw (e, c.in_err-tell.ensures.refused) (enter_halted (program_view c.args.program.now) g.W.Watcher.Seen g.W.Watcher.after c.args.depth (where_of c.args.at) (use_of c.args.used) c.args.e.now.spot c.args.close c.args.e.now.ty c.args.callee (exprs_view c.args.args.now) c.in_ok-values.values
     (state_of c.args.machine.now (g.W.Watcher.seen c.args.watcher.now)) (state_of c.arguments.new.machine (g.W.Watcher.seen c.arguments.new.watcher)) (state_of c.arguments.new.machine (g.W.Watcher.seen c.tell.new.watcher))
-    c.in_ok-values.ensures.gives c.in_err-tell.ensures.unseen)
+    (rw c.as_slice.ensures at c.in_ok-values.ensures.gives) c.in_err-tell.ensures.unseen)
 
 pub expressions::call-returns-clause-gives : goal.expressions::call-returns-clause-gives
 expressions::call-returns-clause-gives g t c =
-    let k = rw c.as_slice.ensures at c.called.ensures.gives in
-    entered (program_view c.args.program.now) g.W.Watcher.Seen g.W.Watcher.after c.args.depth (where_of c.args.at) (use_of c.args.used) c.args.spot c.args.close c.args.ty c.args.callee (exprs_view c.args.args.now) c.in_ok-values.values c.is_needed.result
-    (state_of c.args.machine.now (g.W.Watcher.seen c.args.watcher.now)) (state_of c.arguments.new.machine (g.W.Watcher.seen c.arguments.new.watcher)) _ _ c.called.result c.in_ok-values.ensures.gives c.in_ok-tell.ensures.seen c.is_needed.ensures k
+    let k = rw c.as_slice-2.ensures at c.called.ensures.gives in
+    let v = rw c.as_slice.ensures at c.in_ok-values.ensures.gives in
+    entered (program_view c.args.program.now) g.W.Watcher.Seen g.W.Watcher.after c.args.depth (where_of c.args.at) (use_of c.args.used) c.args.e.now.spot c.args.close c.args.e.now.ty c.args.callee (exprs_view c.args.args.now) c.in_ok-values.values c.is_needed.result
+    (state_of c.args.machine.now (g.W.Watcher.seen c.args.watcher.now)) (state_of c.arguments.new.machine (g.W.Watcher.seen c.arguments.new.watcher)) _ _ c.called.result v c.in_ok-tell.ensures.seen c.is_needed.ensures k
 
 pub expressions::arguments-returns-in_err-value-clause-gives : goal.expressions::arguments-returns-in_err-value-clause-gives
 expressions::arguments-returns-in_err-value-clause-gives g t c =
@@ -665,8 +665,7 @@ full_expressions::decide-returns-clause-gives g t c =
 
 pub expressions::node-returns-in-Index-clause-gives : goal.expressions::node-returns-in-Index-clause-gives
 expressions::node-returns-in-Index-clause-gives g t c =
-    let v = ap node_view c.in-Index.is ∙ view_of_index c.in-Index.object c.in-Index.place in
-    let e = v ∙ ap (λ es. Index c.in-Index.object (exprs_view es)) (sym c.as_slice.ensures) in
+    let e = ap node_view c.in-Index.is ∙ view_of_index c.in-Index.object c.in-Index.place in
     as_form (program_view c.args.program.now) g.W.Watcher.Seen g.W.Watcher.after c.args.depth _ _ _ _ _ _ _ _ c.index.result e c.index.ensures.gives
 
 pub expressions::place-returns-in-Index-clause-gives : goal.expressions::place-returns-in-Index-clause-gives

@@ -1,6 +1,8 @@
 use Rattle.std.proofs.Common.{rules, ◌≡◌, ◌∙◌, refl, sym, ap, subst, arith}
+use Rattle.std.specs.List.{All}
 use Rattle.c_core.specs.View.{program_view}
 use Rattle.c_meaning.specs.Placing.{placed_view}
+use Rattle.sym_duties.specs.Promise.{StandsFor}
 use Rattle.sym_eval.specs.Whole.{IsLight, IsWhole}
 use Rattle.sym_eval.proofs.Wholly.{are_made}
 use Rattle.sym_eval.proofs.programs.made.Goals as goal
@@ -12,4 +14,5 @@ pub returns : goal.returns
 returns c =
     let p = program_view c.args.program.now in
     let whole = subst (λ xs. IsWhole p (placed_view xs) c.in_ok-sym.sym) c.as_slice.ensures c.in_ok-sym.ensures in
-    are_made p (placed_view c.args.invariants.now) c.in_ok-sym.sym _ _ _ whole c.requires.light (search rules) (search rules) (search rules)
+    let stand = subst (All (StandsFor p)) c.as_slice-3.ensures.value c.in_ok-test_sites.ensures in
+    are_made p (placed_view c.args.invariants.now) c.in_ok-sym.sym _ _ _ whole c.requires.light (search rules) (search rules) (search rules) stand
