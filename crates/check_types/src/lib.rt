@@ -2,6 +2,7 @@
 #![tactic(auto)]
 
 mod constants;
+mod context;
 mod literals;
 mod nodes;
 mod operators;
@@ -10,4 +11,4 @@ mod trees;
 mod words;
 
 pub use constants::constant;
-pub use trees::{expression, expressions};
+pub use trees::expression;

@@ -1,0 +1,6 @@
+mod TokenLengths
+mod ExpressionLengths
+mod DeclarationLengths
+mod StatementLengths
+mod ItemLengths
+mod Programs
