@@ -19,7 +19,7 @@ use Rattle.wv_weed.specs.Weeded.{IsOpenAt}
 use Rattle.wv_weed.specs.declared.rounds.Open.{Open}
 use Rattle.wv_weed.specs.declared.rounds.Round.{Round}
 use Rattle.wv_weed.specs.declared.rounds.Trial.{Trial}
-use Rattle.wv_weed.proofs.Spared.{false_true, is_spared, none_set, spared_selected}
+use Rattle.wv_weed.proofs.Spared.{false_true, is_spared, none_replicated, none_set, spared_selected}
 
 some_none : (x : Open) → Some x ≡ None → ⊥
 some_none x e = none-some x (sym e)

@@ -1,5 +1,5 @@
 use Rattle.std.proofs.Common.{arith, sym, ◌∙◌, ap, subst, ℕ}
-use Rattle.std.specs.Prelude.{slice_set, true}
+use Rattle.std.specs.Prelude.{slice_set, false, true}
 use Rattle.std.proofs.lemmas.List.{get_or-set_same}
 use Rattle.std.proofs.lemmas.Option.{slice_get_within}
 use Rattle.wv_weed.specs.Numbers.{IsSet}
@@ -9,8 +9,8 @@ use Rattle.wv_weed.proofs.Shared.{flag_within, one_more_known}
 use Rattle.wv_weed.proofs.Rounding.{one_fails, one_open, one_passed, place_within}
 use Rattle.wv_weed.proofs.rounds.enter.Goals as goal
 
-pub raise_flag-requires-in-Holds : goal.raise_flag-requires-in-Holds
-raise_flag-requires-in-Holds c =
+pub raise_flag-requires : goal.raise_flag-requires
+raise_flag-requires c =
     let t = c.args.trial.now in
     let tells =
     c.failing_bits_tell.ensures (program_of t) (left_of t) t.obligations.now c.requires.trial.promised c.args.at
@@ -81,8 +81,8 @@ keep-requires c =
       c.requires.trial.promised.numbered,
     )
 
-pub returns : goal.returns
-returns c =
+pub returns-in-Spent : goal.returns-in-Spent
+returns-in-Spent c =
     let t = c.args.trial.now in
     let r = c.args.round in
     let told = subst (IsFoundIn t c.args.at c.args.place c.args.bit) c.in-Spent.is c.requires.found in

@@ -1,9 +1,7 @@
-use Rattle.std.proofs.Common.{arith}
 use Rattle.c_core.specs.View.{program_view}
 use Rattle.c_inductive.specs.Picking.{picked}
 use Rattle.c_meaning.specs.Placing.{placed_view}
-use Rattle.judge_obligations.proofs.Verdicted.{small}
-use Rattle.wv_weed.proofs.Rounding.{whole}
+use Rattle.wv_weed.proofs.Findings.{small}
 use Rattle.wv_weed.proofs.weeding.round.Goals as goal
 
 pub carried-requires-clause-room : goal.carried-requires-clause-room
