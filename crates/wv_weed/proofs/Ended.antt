@@ -25,29 +25,39 @@ pub record AreWeeding (p : Program) (I : List Placed) (left : List ℕ) : Type 0
   pub are_left : AreLeft p I left
   pub judged : CanBeJudged p (picked left I) → CanBeJudged p I
 
-pub all_weeding : (p : Program) (I : List Placed) (ns : List ℕ) (count : ℕ) → AllArePicked I → ns ≡ numbers_from 1 count → count ≡ length I → AreWeeding p I ns
+pub all_weeding : (p : Program) (I : List Placed) (ns : List ℕ) (count : ℕ) → AllArePicked I → ns ≡ numbers_from 1 count
+    → count ≡ length I → AreWeeding p I ns
 all_weeding p I ns count all e same =
     let are : ns ≡ numbers_from 1 (length I) = e ∙ ap (numbers_from 1) same in
     subst (AreWeeding p I) (sym are) (record { are_left = all_left p I all; judged = subst (CanBeJudged p) all.all })
 
-pub fewer_weeding : (N : ℕ) (p : Program) (I : List Placed) (left fewer : List ℕ) (n : ℕ) (flags : List Bool) (first : Option Open)
-    → AreWeeding p I left → CanBeJudged p (picked left I) → IsRound N p I left n flags first → fewer ≡ unflagged flags left → AreWeeding p I fewer
+pub fewer_weeding : (N : ℕ) (p : Program) (I : List Placed) (left fewer : List ℕ) (n : ℕ) (flags : List Bool)
+    (first : Option Open)
+    → AreWeeding p I left → CanBeJudged p (picked left I) → IsRound N p I left n flags first
+    → fewer ≡ unflagged flags left → AreWeeding p I fewer
 fewer_weeding N p I left fewer n flags first a judged r e =
-    subst (AreWeeding p I) (sym e) (record { are_left = fewer_left N p I left n flags first a.are_left r; judged = λ _. a.judged judged })
+    subst (AreWeeding p I) (sym e) (record {
+      are_left = fewer_left N p I left n flags first a.are_left r;
+      judged = λ _. a.judged judged;
+    })
 
 -- what a round without a failing obligation comes to
-pub comes_to : (N : ℕ) (p : Program) (I : List Placed) (left fewer : List ℕ) (flags : List Bool) (first : Option Open) (w : Weeded) → AreLeft p I left
-    → IsRound N p I left (length (Duties p (picked left I))) flags first → fewer ≡ unflagged flags left → length fewer ≡ length left → IsEnd left first w → IsWeeded N p I w
+pub comes_to : (N : ℕ) (p : Program) (I : List Placed) (left fewer : List ℕ) (flags : List Bool) (first : Option Open)
+    (w : Weeded) → AreLeft p I left
+    → IsRound N p I left (length (Duties p (picked left I))) flags first → fewer ≡ unflagged flags left
+    → length fewer ≡ length left → IsEnd left first w → IsWeeded N p I w
 comes_to N p I left fewer flags None w a r e same end =
     let le : length left ≤ length (unflagged flags left) = omega (arith, sym same ∙ ap length e) in
     subst (IsWeeded N p I) (sym end) (kept N p I left flags None a r le refl)
 comes_to N p I left fewer flags (Some x) w a r e same end = subst (IsWeeded N p I) (sym end) r.spent
 
 -- what hinders a part hinders the whole
-pub faulted : (p : Program) (names : List (List ℕ)) (I J : List Placed) (left : List ℕ) (fault : SymFault) → J ≡ picked left I → IsFault p names J fault → IsFault p names I fault
+pub faulted : (p : Program) (names : List (List ℕ)) (I J : List Placed) (left : List ℕ) (fault : SymFault)
+    → J ≡ picked left I → IsFault p names J fault → IsFault p names I fault
 faulted p names I J left (Recursion name) e f = f
 faulted p names I J left TooBig e f = (f.0, still_too_big p left I (subst (λ K. IsTooBig p K) e f.1))
 faulted p names I J left OutOfMemory e f = f
 
-pub could : (p : Program) (I J : List Placed) (left : List ℕ) (o : Obligations) → J ≡ picked left I → CanBeJudged p J × AreObligationsOf p J o → CanBeJudged p (picked left I) × AreObligationsOf p (picked left I) o
+pub could : (p : Program) (I J : List Placed) (left : List ℕ) (o : Obligations) → J ≡ picked left I
+    → CanBeJudged p J × AreObligationsOf p J o → CanBeJudged p (picked left I) × AreObligationsOf p (picked left I) o
 could p I J left o e h = subst (λ K. CanBeJudged p K × AreObligationsOf p K o) e h

@@ -1,6 +1,7 @@
 mod Picked
 mod Numbered
 mod Spared
+mod Shared
 mod Rounding
 mod Findings
 mod Lighter

@@ -1,4 +1,4 @@
--- Fewer invariants weigh no more, so a program that can be judged with all of them can be judged with some.
+-- Fewer invariants weigh no more: what is too big with some of them is too big with all.
 use Rattle.std.proofs.Common.{ℕ, zero, suc, ◌+◌, ◌*◌, ◌<◌, ◌≤◌, inl, inr, Bool, true, false, cond, List, [], ◌∷◌, arith}
 use Rattle.c_core.specs.Tree.{Program}
 use Rattle.c_core.specs.declared.number.Spot.{Spot}
@@ -7,7 +7,6 @@ use Rattle.c_meaning.specs.Havoc.{stands}
 use Rattle.c_inductive.specs.Picking.{is_among, picked, picked_from}
 use Rattle.sym_weight.specs.Weight.{weighing, evaluation, placed_weight, weight_in, most_active, Weight, IsTooBig, most_weight}
 use Rattle.sym_weight.proofs.Relating.{Relates, related_function}
-use Rattle.sym_duties.specs.Answers.{CanBeJudged}
 
 -- one more of both lists
 both_more : (here : Bool) (w some all : ℕ) → some ≤ all → cond here (w + some) some ≤ cond here (w + all) all
@@ -39,7 +38,8 @@ placed_lighter p ns at_loop spot i (x ∷ xs) =
     (placed_lighter p ns at_loop spot (suc i) xs)
 
 -- amounts that are at most the others stay so
-less_relates : (one other : ℕ → ℕ) → ((f : ℕ) → one f ≤ other f) → Relates (weighing one) (weighing other) (λ a b. a ≤ b)
+less_relates : (one other : ℕ → ℕ) → ((f : ℕ) → one f ≤ other f)
+    → Relates (weighing one) (weighing other) (λ a b. a ≤ b)
 less_relates one other l = record {
   none = omega arith;
   both = λ a b c d k l. omega (arith, k, l);
@@ -65,7 +65,7 @@ function_lighter p J I less (suc n) f =
     (λ at. statement_less (placed_weight p J false at) (placed_weight p I false at) (less false at))
     (λ at bits. head_less (placed_weight p J true at) (placed_weight p I true at) bits (less true at)) f
 
-pub picked_lighter : (p : Program) (ns : List ℕ) (I : List Placed) → Weight p (picked ns I) ≤ Weight p I
+picked_lighter : (p : Program) (ns : List ℕ) (I : List Placed) → Weight p (picked ns I) ≤ Weight p I
 picked_lighter p ns I =
     function_lighter p (picked ns I) I (λ at_loop spot. placed_lighter p ns at_loop spot 1 I) (most_active p) p.main
 
@@ -76,6 +76,3 @@ pub still_too_big : (p : Program) (ns : List ℕ) (I : List Placed) → IsTooBig
 still_too_big p ns I (inl long) = inl long
 still_too_big p ns I (inr heavy) =
     inr (above most_weight (Weight p (picked ns I)) (Weight p I) heavy (picked_lighter p ns I))
-
-pub picked_can_be_judged : (p : Program) (ns : List ℕ) (I : List Placed) → CanBeJudged p I → CanBeJudged p (picked ns I)
-picked_can_be_judged p ns I j = record { straight = j.straight; fits = λ big. j.fits (still_too_big p ns I big) }

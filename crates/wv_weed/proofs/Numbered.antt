@@ -13,7 +13,9 @@ use Rattle.wv_weed.proofs.Spared.{false_true, or_first, or_second}
 
 pub one_more : (i n : ℕ) → numbers_from i n ++ (i + n) ∷ [] ≡ numbers_from i (suc n)
 one_more i zero = let e : i + 0 ≡ i = omega arith in ap (λ m. m ∷ []) e
-one_more i (suc n) = let e : i + suc n ≡ suc i + n = omega arith in ap (λ m. i ∷ (numbers_from (suc i) n ++ m ∷ [])) e ∙ ap (λ ms. i ∷ ms) (one_more (suc i) n)
+one_more i (suc n) =
+    let e : i + suc n ≡ suc i + n = omega arith in
+    ap (λ m. i ∷ (numbers_from (suc i) n ++ m ∷ [])) e ∙ ap (λ ms. i ∷ ms) (one_more (suc i) n)
 
 -- of numbers that rise, each is above the last before
 above : (last n : ℕ) (ms : List ℕ) → Rise last ms → is_among n ms ≡ true → last < n
@@ -36,7 +38,9 @@ among_all : (i count n : ℕ) → i ≤ n → n < i + count → is_among n (numb
 among_all i zero n from to = absurd (omega (arith, from, to))
 among_all i (suc count) n from to = elim (cases_eq n i) as (λ _. is_among n (i ∷ numbers_from (suc i) count) ≡ true) [
   | inl e ↦ or_first (nat_eq n i) (is_among n (numbers_from (suc i) count)) (eq-eqb n i e)
-  | inr other ↦ or_second (nat_eq n i) (is_among n (numbers_from (suc i) count)) (among_all (suc i) count n (omega (arith, from, other)) (omega (arith, to)))
+  | inr other ↦
+      or_second (nat_eq n i) (is_among n (numbers_from (suc i) count))
+      (among_all (suc i) count n (omega (arith, from, other)) (omega (arith, to)))
 ]
 
 -- every set is part of all
@@ -49,8 +53,10 @@ all_left p I all = record {
       among_all 1 (length I) n (omega (arith, from)) (omega (arith, to));
 }
 
-pub next_number : (before number : ℕ) (ns after : List ℕ) → ns ≡ numbers_from 1 before → number ≡ before + 1 → after ≡ ns ++ number ∷ [] → after ≡ numbers_from 1 (before + 1)
+pub next_number : (before number : ℕ) (ns after : List ℕ) → ns ≡ numbers_from 1 before → number ≡ before + 1
+    → after ≡ ns ++ number ∷ [] → after ≡ numbers_from 1 (before + 1)
 next_number before number ns after so_far e pushed =
     let here : number ≡ 1 + before = omega (arith, e) in
     let there : suc before ≡ before + 1 = omega arith in
-    pushed ∙ ap (λ ms. ms ++ number ∷ []) so_far ∙ ap (λ m. numbers_from 1 before ++ m ∷ []) here ∙ one_more 1 before ∙ ap (numbers_from 1) there
+    pushed ∙ ap (λ ms. ms ++ number ∷ []) so_far ∙ ap (λ m. numbers_from 1 before ++ m ∷ []) here ∙ one_more 1 before
+    ∙ ap (numbers_from 1) there

@@ -31,7 +31,8 @@ not_among : (i last : ℕ) (ns : List ℕ) → Rise last ns → i ≤ last → i
 not_among i last [] rise le = refl
 not_among i last (n ∷ ns) rise le =
     let less : last < n = rise.0 in
-    or_false (nat_eq i n) (is_among i ns) (ne_eqb i n (λ e. omega (arith, less, le, e))) (not_among i n ns rise.1 (omega (arith, less, le)))
+    or_false (nat_eq i n) (is_among i ns) (ne_eqb i n (λ e. omega (arith, less, le, e)))
+    (not_among i n ns rise.1 (omega (arith, less, le)))
 
 pub rise_weaker : (low last : ℕ) (ns : List ℕ) → low ≤ last → Rise last ns → Rise low ns
 rise_weaker low last [] le rise = tt
@@ -40,7 +41,9 @@ rise_weaker low last (n ∷ ns) le rise = let less : last < n = rise.0 in (omega
 rise_drop : (i last : ℕ) (ns : List ℕ) → Rise last ns → Rise last (drop i ns)
 rise_drop zero last ns rise = rise
 rise_drop (suc i) last [] rise = tt
-rise_drop (suc i) last (n ∷ ns) rise = let less : last < n = rise.0 in rise_weaker last n (drop i ns) (omega (arith, less)) (rise_drop i n ns rise.1)
+rise_drop (suc i) last (n ∷ ns) rise =
+    let less : last < n = rise.0 in
+    rise_weaker last n (drop i ns) (omega (arith, less)) (rise_drop i n ns rise.1)
 
 pub picked_none : (i : ℕ) (xs : List Placed) → picked_from i [] xs ≡ []
 picked_none i [] = refl
@@ -50,11 +53,14 @@ picked_none i (x ∷ xs) = picked_none (suc i) xs
 picked_passed : (i n : ℕ) (ns : List ℕ) (xs : List Placed) → n < i → picked_from i (n ∷ ns) xs ≡ picked_from i ns xs
 picked_passed i n ns [] lt = refl
 picked_passed i n ns (x ∷ xs) lt =
-    same_front (nat_eq i n || is_among i ns) (is_among i ns) x (picked_from (suc i) (n ∷ ns) xs) (picked_from (suc i) ns xs)
-    (or_right (nat_eq i n) (is_among i ns) (ne_eqb i n (λ e. omega (arith, lt, e)))) (picked_passed (suc i) n ns xs (omega (arith, lt)))
+    same_front (nat_eq i n || is_among i ns) (is_among i ns) x (picked_from (suc i) (n ∷ ns) xs)
+    (picked_from (suc i) ns xs)
+    (or_right (nat_eq i n) (is_among i ns) (ne_eqb i n (λ e. omega (arith, lt, e))))
+    (picked_passed (suc i) n ns xs (omega (arith, lt)))
 
 -- the first number picks the first
-picked_next : (i n : ℕ) (ns : List ℕ) (xs : List Placed) (y : Placed) → i ≤ n → Rise n ns → slice_get xs (n - i) ≡ Some y → picked_from i (n ∷ ns) xs ≡ y ∷ picked_from i ns xs
+picked_next : (i n : ℕ) (ns : List ℕ) (xs : List Placed) (y : Placed) → i ≤ n → Rise n ns
+    → slice_get xs (n - i) ≡ Some y → picked_from i (n ∷ ns) xs ≡ y ∷ picked_from i ns xs
 picked_next i n ns [] y le rise at = absurd (none-some y at)
 picked_next i n ns (x ∷ xs) y le rise at =
     let none = not_among i n ns rise le in
@@ -80,7 +86,8 @@ picked_next i n ns (x ∷ xs) y le rise at =
     now i n le = omega (arith, le)
 
 -- where these numbers were looked at, the next one picks the next
-pub next_picked : (ns : List ℕ) (I : List Placed) (i n : ℕ) (y : Placed) (before : List Placed) → IsSelection (length I) ns → i < length ns → n ≡ get_or ns i 0 → slice_get I (n - 1) ≡ Some y
+pub next_picked : (ns : List ℕ) (I : List Placed) (i n : ℕ) (y : Placed) (before : List Placed)
+    → IsSelection (length I) ns → i < length ns → n ≡ get_or ns i 0 → slice_get I (n - 1) ≡ Some y
     → before ++ picked (drop i ns) I ≡ picked ns I → (before ++ y ∷ []) ++ picked (drop (i + 1) ns) I ≡ picked ns I
 next_picked ns I i n y before selection lt item at so_far =
     let shape : drop i ns ≡ n ∷ drop (i + 1) ns = drop_more ns i 0 lt ∙ ap (λ m. m ∷ drop (i + 1) ns) (sym item) in
@@ -90,7 +97,8 @@ next_picked ns I i n y before selection lt item at so_far =
     ∙ ap (λ ms. before ++ picked ms I) (sym shape) ∙ so_far
 
 -- numbers of a selection are from 1 on, and within
-pub within_at : (count : ℕ) (ns : List ℕ) (i n : ℕ) → IsSelection count ns → i < length ns → n ≡ get_or ns i 0 → (0 < n) × (n ≤ count)
+pub within_at : (count : ℕ) (ns : List ℕ) (i n : ℕ) → IsSelection count ns → i < length ns → n ≡ get_or ns i 0
+    → (0 < n) × (n ≤ count)
 within_at count ns i n selection lt item =
     let shape : drop i ns ≡ n ∷ drop (i + 1) ns = drop_more ns i 0 lt ∙ ap (λ m. m ∷ drop (i + 1) ns) (sym item) in
     let rise : Rise 0 (n ∷ drop (i + 1) ns) = subst (Rise 0) shape (rise_drop i 0 ns selection.rising) in

@@ -8,11 +8,15 @@ use Rattle.c_meaning.specs.declared.run.Duty.{Duty}
 use Rattle.c_meaning.specs.Duties.{Duties, Placed}
 use Rattle.c_meaning.specs.Havoc.{ObligationHolds}
 use Rattle.c_meaning.specs.Placing.{placed_view}
+use Rattle.circuits.specs.declared.net.Bit.{Bit}
+use Rattle.circuits.specs.declared.net.NetNode.{NetNode}
 use Rattle.clauses.specs.declared.log.SpentAt.{SpentAt}
+use Rattle.judge_obligations.specs.Deciding.{IsNeverTrue}
 use Rattle.judge_obligations.specs.Verdicts.{AreObligationsOf}
 use Rattle.sym_duties.specs.Answers.{CanBeJudged, IsFault}
 use Rattle.sym_duties.specs.declared.fault.SymFault.{SymFault}
 use Rattle.sym_duties.specs.declared.obligations.Obligations.{Obligations}
+use Rattle.wv_weed.specs.Known.{AreNever}
 use Rattle.wv_weed.specs.Numbers.{IsSet}
 use Rattle.wv_weed.specs.Weeded.{IsOpenAt}
 use Rattle.wv_weed.specs.declared.rounds.Found.{Found}
@@ -20,6 +24,7 @@ use Rattle.wv_weed.specs.declared.rounds.Found.TheVariants.{Holds, Fails, Spent}
 use Rattle.wv_weed.specs.declared.rounds.Open.{Open}
 use Rattle.wv_weed.specs.declared.rounds.Round.{Round}
 use Rattle.wv_weed.specs.declared.rounds.Trial.{Trial}
+use Rattle.wv_weed.specs.declared.weeding.Turn.{Turn}
 
 -- the obligations with the invariants that are left, or why there are none
 abbrev pub AnswersWith : Program → List (List ℕ) → List Placed → List ℕ → Result Obligations SymFault → Type 0
@@ -85,14 +90,14 @@ module _ (N : ℕ) (p : Program) (I : List Placed) (left : List ℕ) where
   IsLost k = (ms : List ℕ) (n : ℕ) → IsSelection (length I) ms → AreInductive p (picked ms I)
       → slice_get left k ≡ Some n → is_among n ms ≡ false
 
-  -- what came of the obligation at an index, which is of the k-th invariant
-  abbrev pub IsFoundAs : ℕ → ℕ → Found → Type 0
-  IsFoundAs at k Holds = IsPassed at
-  IsFoundAs at k Fails = IsLost k
-  IsFoundAs at k (Spent s) = IsOpenAt N p I left (suc at) s
+  -- what the solver says of the obligation at an index, of the k-th invariant, by its failing bit
+  abbrev pub IsFoundAs : List NetNode → ℕ → ℕ → Bit → Found → Type 0
+  IsFoundAs net at k b Holds = IsNeverTrue net b
+  IsFoundAs net at k b Fails = IsLost k
+  IsFoundAs net at k b (Spent s) = IsOpenAt N p I left (suc at) s
 
-  -- the first n obligations are looked at: an invariant whose flag is set is lost; where no flag is set and none is
-  -- open, those of invariants hold
+  -- of the first n obligations: an invariant whose flag is set is lost; where no flag is set and none is open, those of
+  -- invariants hold. So a round that drops an invariant needn't look at all of them
   pub record IsRound (n : ℕ) (flags : List Bool) (first : Option Open) : Type 0 where
     pub many : length flags ≡ length left
     pub lost : (k : ℕ) → IsSet flags k → IsLost k
@@ -100,14 +105,22 @@ module _ (N : ℕ) (p : Program) (I : List Placed) (left : List ℕ) where
     pub spent : IfSome first (λ x. IsOpenAt N p I left x.number x.at)
 
   -- a whole round, or why there is none
-  abbrev pub Rounds : List (List ℕ) → Result Round SymFault → Type 0
-  Rounds names (Ok r) = CanBeJudged p (picked left I) × IsRound (length (Duties p (picked left I))) r.dropped.items r.first
+  abbrev pub Rounds : List (List ℕ) → Result Turn SymFault → Type 0
+  Rounds names (Ok r) =
+      CanBeJudged p (picked left I) × IsRound (length (Duties p (picked left I))) r.dropped.items r.first
+      × AreNever r.known.net r.known.never.items
   Rounds names (Err fault) = IsFault p names I fault
 
--- the round of a trial so far
-abbrev pub IsRoundOf : Trial → ℕ → Round → Type 0
-IsRoundOf t n r = IsRound t.conflicts (program_of t) (invariants_of t) t.left.now n r.dropped.items r.first
+abbrev pub net_of : Trial → List NetNode
+net_of t = t.obligations.now.net
 
--- what came of the obligation at an index of a trial, which is of the k-th invariant
-abbrev pub IsFoundIn : Trial → ℕ → ℕ → Found → Type 0
-IsFoundIn t at k found = IsFoundAs t.conflicts (program_of t) (invariants_of t) t.left.now at k found
+-- the round of a trial so far
+pub record IsRoundOf (t : Trial) (n : ℕ) (r : Round) : Type 0 where
+  pub round : IsRound t.conflicts (program_of t) (invariants_of t) t.left.now n r.dropped.items r.first
+  -- where the solver found that an obligation fails, an invariant is dropped
+  pub failed : 0 < r.failed → (k : ℕ) × IsSet r.dropped.items k
+  pub known : AreNever (net_of t) r.never.items
+
+-- what the solver says of the obligation at an index of a trial, of the k-th invariant, by its failing bit
+abbrev pub IsFoundIn : Trial → ℕ → ℕ → Bit → Found → Type 0
+IsFoundIn t at k b found = IsFoundAs t.conflicts (program_of t) (invariants_of t) t.left.now (net_of t) at k b found

@@ -14,8 +14,8 @@ use Rattle.sym_weight.specs.Weight.{Bits}
 use Rattle.wv_weed.specs.declared.weeding.Weeded.{Weeded}
 use Rattle.wv_weed.specs.declared.weeding.Weeded.TheVariants.{Kept, Spent}
 
--- the invariants that are left hold every inductive set; an obligation of one of them, by its number from 1, is open: a budget
--- of N was spent on it
+-- the invariants that are left hold every inductive set; an obligation of one of them, by its number from 1, is open: a
+-- budget of N was spent on it
 pub record IsOpenAt (N : ℕ) (p : Program) (I : List Placed) (left : List ℕ) (number : ℕ) (at : SpentAt) : Type 0 where
   pub selection : IsSelection (length I) left
   pub holding : HoldsInductive p I left

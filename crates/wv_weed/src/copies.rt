@@ -1,10 +1,11 @@
 // Copies of typed trees, and of the invariants that are left.
 ghost use Rattle.std.specs.Prelude.{◌≡◌, IfOk, length};
+ghost use Rattle.c_core.specs.Tree.{Call, Index};
 ghost use Rattle.c_core.specs.View.{expr_view, exprs_view, node_view};
 ghost use Rattle.c_inductive.specs.Picking.{picked, IsSelection};
 ghost use Rattle.c_meaning.specs.Placing.{placed, placed_view};
 
-use c_core::{Expr, Node};
+use c_core::{Callee, Expr, Node, Spot};
 use c_meaning::PlacedInvariant;
 use std::alloc::Global;
 use wv_base::{OutOfMemory, Seq};
@@ -22,62 +23,42 @@ fn expression(alloc: Global, e: &Expr) -> Result<Expr, OutOfMemory>
 }
 
 #[cycle(copy)]
+fn boxed(alloc: Global, e: &Expr) -> Result<Box<Expr>, OutOfMemory>
+    ensures { IfOk result (λ r. expr_view r.value ≡ expr_view e.now) }
+{
+    let copy = expression(alloc, e)?;
+    let copy = Box::new(alloc, copy)?;
+    Ok(copy)
+}
+
+#[cycle(copy)]
 fn node(alloc: Global, inner: &Node) -> Result<Node, OutOfMemory>
     ensures { IfOk result (λ r. node_view r ≡ node_view inner.now) }
 {
     match inner {
         Node::Const(value) => Ok(Node::Const(*value)),
         Node::Var(object) => Ok(Node::Var(*object)),
-        Node::Index { object, at } => {
-            let at = expressions(alloc, at.as_slice())?;
-            Ok(Node::Index {
-                object: *object,
-                at,
-            })
-        }
+        Node::Index { object, at } => element(alloc, *object, at.as_slice()),
         Node::Unary { op, of } => {
-            let of = expression(alloc, of)?;
-            let of = Box::new(alloc, of)?;
+            let of = boxed(alloc, of)?;
             Ok(Node::Unary { op: *op, of })
         }
-        Node::Cast(of) => {
-            let of = expression(alloc, of)?;
-            let of = Box::new(alloc, of)?;
-            Ok(Node::Cast(of))
-        }
+        Node::Cast(of) => Ok(Node::Cast(boxed(alloc, of)?)),
         Node::Step { op, target } => {
-            let target = expression(alloc, target)?;
-            let target = Box::new(alloc, target)?;
+            let target = boxed(alloc, target)?;
             Ok(Node::Step { op: *op, target })
         }
         Node::Logic { both, left, right } => {
-            let left = expression(alloc, left)?;
-            let right = expression(alloc, right)?;
-            let left = Box::new(alloc, left)?;
-            let right = Box::new(alloc, right)?;
-            Ok(Node::Logic {
-                both: *both,
-                left,
-                right,
-            })
+            let (both, left, right) = (*both, boxed(alloc, left)?, boxed(alloc, right)?);
+            Ok(Node::Logic { both, left, right })
         }
         Node::Comma { first, last } => {
-            let first = expression(alloc, first)?;
-            let last = expression(alloc, last)?;
-            let first = Box::new(alloc, first)?;
-            let last = Box::new(alloc, last)?;
+            let (first, last) = (boxed(alloc, first)?, boxed(alloc, last)?);
             Ok(Node::Comma { first, last })
         }
         Node::Binary { op, left, right } => {
-            let left = expression(alloc, left)?;
-            let right = expression(alloc, right)?;
-            let left = Box::new(alloc, left)?;
-            let right = Box::new(alloc, right)?;
-            Ok(Node::Binary {
-                op: *op,
-                left,
-                right,
-            })
+            let (op, left, right) = (*op, boxed(alloc, left)?, boxed(alloc, right)?);
+            Ok(Node::Binary { op, left, right })
         }
         Node::Choose {
             mark,
@@ -85,12 +66,7 @@ fn node(alloc: Global, inner: &Node) -> Result<Node, OutOfMemory>
             yes,
             no,
         } => {
-            let test = expression(alloc, test)?;
-            let yes = expression(alloc, yes)?;
-            let no = expression(alloc, no)?;
-            let test = Box::new(alloc, test)?;
-            let yes = Box::new(alloc, yes)?;
-            let no = Box::new(alloc, no)?;
+            let (test, yes, no) = (boxed(alloc, test)?, boxed(alloc, yes)?, boxed(alloc, no)?);
             Ok(Node::Choose {
                 mark: *mark,
                 test,
@@ -99,29 +75,35 @@ fn node(alloc: Global, inner: &Node) -> Result<Node, OutOfMemory>
             })
         }
         Node::Assign { op, target, from } => {
-            let target = expression(alloc, target)?;
-            let from = expression(alloc, from)?;
-            let target = Box::new(alloc, target)?;
-            let from = Box::new(alloc, from)?;
-            Ok(Node::Assign {
-                op: *op,
-                target,
-                from,
-            })
+            let (op, target, from) = (*op, boxed(alloc, target)?, boxed(alloc, from)?);
+            Ok(Node::Assign { op, target, from })
         }
         Node::Call {
             callee,
             args,
             close,
-        } => {
-            let args = expressions(alloc, args.as_slice())?;
-            Ok(Node::Call {
-                callee: *callee,
-                args,
-                close: *close,
-            })
-        }
+        } => call(alloc, *callee, args.as_slice(), *close),
     }
+}
+
+#[cycle(copy)]
+fn element(alloc: Global, object: u32, at: &[Expr]) -> Result<Node, OutOfMemory>
+    ensures { IfOk result (λ r. node_view r ≡ Index object (exprs_view at.now)) }
+{
+    let at = expressions(alloc, at)?;
+    Ok(Node::Index { object, at })
+}
+
+#[cycle(copy)]
+fn call(alloc: Global, callee: Callee, args: &[Expr], close: Spot) -> Result<Node, OutOfMemory>
+    ensures { IfOk result (λ r. node_view r ≡ Call callee (exprs_view args.now) close) }
+{
+    let args = expressions(alloc, args)?;
+    Ok(Node::Call {
+        callee,
+        args,
+        close,
+    })
 }
 
 #[cycle(copy)]

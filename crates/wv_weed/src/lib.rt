@@ -2,10 +2,9 @@
 #![tactic(auto)]
 
 mod copies;
-mod laws;
+mod known;
 mod numbers;
 mod rounds;
 mod weeding;
 
-pub use laws::{parts_are_lighter, parts_can_be_judged};
 pub use weeding::{Weeded, weed};

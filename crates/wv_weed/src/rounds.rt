@@ -1,13 +1,15 @@
 // One round: the obligations of the invariants that are left, one after the other.
-ghost use Rattle.std.specs.Prelude.{◌≡◌, ◌+◌, ◌<◌, ◌^◌, IfOk, Some, length, slice_get, slice_set, true};
+ghost use Rattle.std.specs.Prelude.{◌≡◌, ◌+◌, ◌<◌, ◌^◌, IfOk, IsTrue, Some, length, slice_get};
+ghost use Rattle.wv_weed.specs.Known.{AreNever};
 ghost use Rattle.wv_weed.specs.Rounds.{IsDutyOf, IsFoundIn, IsKeptFirst, IsPlaceOf, IsRoundOf, IsTrial};
 
+use crate::known::{is_known, place_of_flag, raise_flag};
 use c_core::Program;
 use c_inductive::{as_many_are_picked, duties_name_invariants, failures_drop};
 use c_meaning::{DutyKind, PlacedInvariant};
 use circuits::Bit;
 use clauses::SpentAt;
-use judge_obligations::{Finding, decide_bit, failing_bits_tell, is_false};
+use judge_obligations::{Finding, decide_bit, failing_bits_tell};
 use std::alloc::Global;
 use sym_duties::Obligations;
 use wv_base::{OutOfMemory, Seq};
@@ -31,15 +33,19 @@ pub struct Open {
     pub at: SpentAt,
 }
 
-/// What a round has found: a flag for each invariant that was left, set where one of its obligations fails; and the
-/// first obligation that is open.
+/// What a round has found: a flag for each invariant that was left, set where one of its obligations fails; the first
+/// obligation that is open; and a flag for each bit of the net, set where it is known that no inputs make it true. `asked`
+/// counts the calls of the solver, and `failed` those up to the last that found a failing obligation.
 #[derive(Drop)]
 pub struct Round {
     pub dropped: Vec<bool>,
     pub first: Option<Open>,
+    pub never: Vec<bool>,
+    pub asked: u64,
+    pub failed: u64,
 }
 
-/// What came of an obligation.
+/// What the solver says of an obligation.
 #[derive(Drop)]
 pub enum Found {
     Holds,
@@ -55,7 +61,7 @@ fn place_of(obligations: &Obligations, at: usize) -> Option<u32>
     let duty = obligations.list.as_slice()[at];
     match duty.kind {
         DutyKind::Property => None,
-        _ => duty.invariant,
+        DutyKind::Location | DutyKind::Entry | DutyKind::Kept => duty.invariant,
     }
 }
 
@@ -66,33 +72,22 @@ fn failing_at(obligations: &Obligations, at: usize) -> Bit
     obligations.failing.as_slice()[at]
 }
 
-// one obligation, of the invariant at a place
-fn find(trial: &Trial, at: usize, place: u32) -> Result<Found, OutOfMemory>
+// one obligation, of the invariant at a place, by its failing bit
+fn ask(trial: &Trial, at: usize, place: u32, bit: Bit) -> Result<Found, OutOfMemory>
     requires trial { IsTrial trial.now }
-    requires within { at < length trial.now.obligations.now.failing }
     requires of { IsDutyOf trial.now.obligations.now.list at place }
-    ensures { IfOk result (IsFoundIn trial.now at place) }
+    requires bit { Some bit ≡ slice_get trial.now.obligations.now.failing at }
+    ensures { IfOk result (IsFoundIn trial.now at place bit) }
 {
     failing_bits_tell();
     failures_drop();
     let net = &trial.obligations.net;
     let _ = net.nodes();
-    let bit = failing_at(trial.obligations, at);
-    if is_false(net, bit) {
-        return Ok(Found::Holds);
-    }
     match decide_bit(trial.alloc, net, bit, trial.conflicts)? {
         Finding::Holds(_) => Ok(Found::Holds),
         Finding::Fails(_) => Ok(Found::Fails),
         Finding::Spent(spent) => Ok(Found::Spent(spent)),
     }
-}
-
-fn set(flags: &mut Vec<bool>, place: u32)
-    requires { place < length flags.old.items }
-    ensures { flags.new.items ≡ slice_set flags.old.items place true }
-{
-    flags[place as usize] = true;
 }
 
 // the first open obligation stays
@@ -109,6 +104,36 @@ fn keep(first: Option<Open>, at: usize, spent: SpentAt) -> Option<Open>
     }
 }
 
+// what the solver said of one more obligation, of the invariant at a place, by its failing bit
+fn enter(trial: &Trial, at: usize, place: u32, bit: Bit, found: Found, mut round: Round) -> Round
+    requires trial { IsTrial trial.now }
+    requires of { IsDutyOf trial.now.obligations.now.list at place }
+    requires bit { Some bit ≡ slice_get trial.now.obligations.now.failing at }
+    requires found { IsFoundIn trial.now at place bit found }
+    requires so_far { IsRoundOf trial.now at round }
+    ensures { IsRoundOf trial.now (at + 1) result }
+{
+    duties_name_invariants();
+    as_many_are_picked();
+    failing_bits_tell();
+    round.asked = round.asked.saturating_add(1);
+    match found {
+        Found::Holds => {
+            raise_flag(&mut round.never, place_of_flag(bit));
+            round
+        }
+        Found::Fails => {
+            raise_flag(&mut round.dropped, place as usize);
+            round.failed = round.asked;
+            round
+        }
+        Found::Spent(spent) => {
+            round.first = keep(round.first, at, spent);
+            round
+        }
+    }
+}
+
 // one more obligation
 fn step(trial: &Trial, at: usize, round: Round) -> Result<Round, OutOfMemory>
     requires trial { IsTrial trial.now }
@@ -118,37 +143,47 @@ fn step(trial: &Trial, at: usize, round: Round) -> Result<Round, OutOfMemory>
 {
     duties_name_invariants();
     as_many_are_picked();
+    failing_bits_tell();
     let Some(place) = place_of(trial.obligations, at) else {
         return Ok(round);
     };
     if round.dropped[place as usize] {
         return Ok(round);
     }
-    let Round { mut dropped, first } = round;
-    match find(trial, at, place)? {
-        Found::Holds => Ok(Round { dropped, first }),
-        Found::Fails => {
-            set(&mut dropped, place);
-            Ok(Round { dropped, first })
-        }
-        Found::Spent(spent) => {
-            let first = keep(first, at, spent);
-            Ok(Round { dropped, first })
-        }
+    let bit = failing_at(trial.obligations, at);
+    if is_known(&trial.obligations.net, &round.never, bit) {
+        return Ok(round);
     }
+    let found = ask(trial, at, place, bit)?;
+    Ok(enter(trial, at, place, bit, found, round))
+}
+
+// an obligation fails, and the solver was asked as often after the last that does as up to it
+fn is_enough(round: &Round) -> bool
+    ensures { IsTrue result → 0 < round.now.failed }
+{
+    0 < round.failed && round.failed <= round.asked / 2
 }
 
 /// Decides the obligations of the invariants that are left, in their order, but for those of an invariant that fails
-/// already.
-pub fn judge(trial: &Trial) -> Result<Round, OutOfMemory>
-    requires { IsTrial trial.now }
+/// already and those that are known to hold. Where an obligation fails the round needn't be whole: it ends once the solver
+/// was asked twice as often as up to the last that fails.
+pub fn judge(trial: &Trial, never: Vec<bool>) -> Result<Round, OutOfMemory>
+    requires trial { IsTrial trial.now }
+    requires known { AreNever trial.now.obligations.now.net never.items }
     ensures { IfOk result (IsRoundOf trial.now (length trial.now.obligations.now.failing)) }
 {
     let mut round = Round {
         dropped: vec![in trial.alloc; false; trial.left.len()]?,
         first: None,
+        never,
+        asked: 0,
+        failed: 0,
     };
     for at in 0..trial.obligations.failing.len() {
+        if is_enough(&round) {
+            return Ok(round);
+        }
         round = step(trial, at, round)?;
     }
     Ok(round)

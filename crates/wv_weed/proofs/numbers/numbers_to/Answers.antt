@@ -6,4 +6,5 @@ pub loop-before-preserved : goal.loop-before-preserved
 loop-before-preserved c =
     let is : c.in-Ok.number ≡ c.loop-before.before + 1 = search rules in
     let pushed : c.push.new.self ≡ c.loop-before.numbers ++ c.in-Ok.number ∷ [] = search rules in
-    next_number c.loop-before.before c.in-Ok.number c.loop-before.numbers c.push.new.self c.loop-before.invariant is pushed
+    next_number c.loop-before.before c.in-Ok.number c.loop-before.numbers c.push.new.self c.loop-before.invariant is
+    pushed

@@ -16,10 +16,12 @@ loop-at-preserved c =
       | then-not-flags-at+in_ok-push w ↦
           let off : get_or c.args.flags.now i false ≡ false = search rules in
           let pushed : c.if-not-flags-at.others ≡ c.loop-at.others ++ get_or all i 0 ∷ [] = search rules in
-          one_more_left c.args.flags.now ns c.loop-at.others c.if-not-flags-at.others i (get_or all i 0) lt within off (ap (λ (xs : List ℕ). get_or xs i 0) same) pushed c.loop-at.invariant
+          one_more_left c.args.flags.now ns c.loop-at.others c.if-not-flags-at.others i (get_or all i 0) lt within off
+          (ap (λ (xs : List ℕ). get_or xs i 0) same) pushed c.loop-at.invariant
       | else-not-flags-at w ↦
           let on : get_or c.args.flags.now i false ≡ true = search rules in
           let stays : c.if-not-flags-at.others ≡ c.loop-at.others = search rules in
           let rest = unflagged (drop (i + 1) c.args.flags.now) (drop (i + 1) ns) in
-          subst (λ (xs : List ℕ). xs ++ rest ≡ unflagged c.args.flags.now ns) (sym stays) (one_passed_over c.args.flags.now ns c.loop-at.others i lt within on c.loop-at.invariant)
+          subst (λ (xs : List ℕ). xs ++ rest ≡ unflagged c.args.flags.now ns) (sym stays)
+          (one_passed_over c.args.flags.now ns c.loop-at.others i lt within on c.loop-at.invariant)
     ]

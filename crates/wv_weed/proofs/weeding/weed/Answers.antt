@@ -11,8 +11,11 @@ use Rattle.wv_weed.proofs.weeding.weed.Goals as goal
 
 pub loop-left-init : goal.loop-left-init
 loop-left-init c =
-    let I = placed_view c.args.invariants.now in
-    all_weeding (program_view c.args.program.now) I c.in_ok-left.left c.len.result (c.all_are_picked.ensures I) c.in_ok-left.ensures (c.len.ensures ∙ sym (length-map c.args.invariants.now placed))
+    let I = placed_view c.args.invariants.now in (
+      all_weeding (program_view c.args.program.now) I c.in_ok-left.left c.len.result (c.all_are_picked.ensures I)
+          c.in_ok-left.ensures (c.len.ensures ∙ sym (length-map c.args.invariants.now placed)),
+      c.in_ok-known.ensures,
+    )
 
 pub returns-then-len : goal.returns-then-len
 returns-then-len c =
@@ -22,22 +25,34 @@ returns-then-len c =
     let fewer = c.in_ok-fewer.fewer in
     let flags = c.in_ok-round.round.dropped.items in
     let same : c.deref.result.now ≡ flags = c.deref.ensures.value in
-    let dropped : fewer ≡ unflagged flags left = c.in_ok-fewer.ensures ∙ ap (λ (bs : List Bool). unflagged bs left) same in
-    let as_many : length fewer ≡ length left = omega (arith, c.if-len.true, c.len-in-loop-left.ensures, c.len-in-loop-left-2.ensures) in
+    let dropped : fewer ≡ unflagged flags left =
+    c.in_ok-fewer.ensures ∙ ap (λ (bs : List Bool). unflagged bs left) same in
+    let as_many : length fewer ≡ length left =
+    omega (arith, c.if-len.true, c.len-in-loop-left.ensures, c.len-in-loop-left-2.ensures) in
     let r = c.in_ok-round.ensures in
-    (c.loop-left.invariant.judged r.0, comes_to c.args.conflicts p I left fewer flags c.in_ok-round.round.first c.ended.result c.loop-left.invariant.are_left r.1 dropped as_many c.ended.ensures)
+    let weeding = c.loop-left.invariant.0 in (
+      weeding.judged r.0,
+      comes_to c.args.conflicts p I left fewer flags c.in_ok-round.round.first c.ended.result weeding.are_left r.1
+          dropped as_many c.ended.ensures,
+    )
 
 pub loop-left-smaller-else-len : goal.loop-left-smaller-else-len
 loop-left-smaller-else-len c =
-    let p = program_view c.args.program.now in
-    let I = placed_view c.args.invariants.now in
-    let left = c.loop-left.left in
     let fewer = c.in_ok-fewer.fewer in
     let flags = c.in_ok-round.round.dropped.items in
+    let left = c.loop-left.left in
     let same : c.deref.result.now ≡ flags = c.deref.ensures.value in
-    let dropped : fewer ≡ unflagged flags left = c.in_ok-fewer.ensures ∙ ap (λ (bs : List Bool). unflagged bs left) same in
+    let dropped : fewer ≡ unflagged flags left =
+    c.in_ok-fewer.ensures ∙ ap (λ (bs : List Bool). unflagged bs left) same in
     let less : length fewer < length left =
-    omega (arith, no_longer flags left, ap length dropped, c.if-len.false, c.len-in-loop-left.ensures, c.len-in-loop-left-2.ensures) in
+    omega (
+      arith,
+      no_longer flags left,
+      ap length dropped,
+      c.if-len.false,
+      c.len-in-loop-left.ensures,
+      c.len-in-loop-left-2.ensures,
+    ) in
     less
 
 pub loop-left-preserved-else-len : goal.loop-left-preserved-else-len
@@ -48,21 +63,32 @@ loop-left-preserved-else-len c =
     let fewer = c.in_ok-fewer.fewer in
     let flags = c.in_ok-round.round.dropped.items in
     let same : c.deref.result.now ≡ flags = c.deref.ensures.value in
-    let dropped : fewer ≡ unflagged flags left = c.in_ok-fewer.ensures ∙ ap (λ (bs : List Bool). unflagged bs left) same in
+    let dropped : fewer ≡ unflagged flags left =
+    c.in_ok-fewer.ensures ∙ ap (λ (bs : List Bool). unflagged bs left) same in
     let r = c.in_ok-round.ensures in
-    fewer_weeding c.args.conflicts p I left fewer (length (Duties p (picked left I))) flags c.in_ok-round.round.first c.loop-left.invariant r.0 r.1 dropped
+    let first = c.in_ok-round.round.first in (
+      fewer_weeding c.args.conflicts p I left fewer (length (Duties p (picked left I))) flags first
+          c.loop-left.invariant.0 r.0 r.1 dropped,
+      r.2,
+    )
 
 pub loop-left-smaller : goal.loop-left-smaller
 loop-left-smaller c =
-    let p = program_view c.args.program.now in
-    let I = placed_view c.args.invariants.now in
-    let left = c.loop-left.left in
     let fewer = c.in_ok-fewer.fewer in
     let flags = c.in_ok-round.round.dropped.items in
+    let left = c.loop-left.left in
     let same : c.deref.result.now ≡ flags = c.deref.ensures.value in
-    let dropped : fewer ≡ unflagged flags left = c.in_ok-fewer.ensures ∙ ap (λ (bs : List Bool). unflagged bs left) same in
+    let dropped : fewer ≡ unflagged flags left =
+    c.in_ok-fewer.ensures ∙ ap (λ (bs : List Bool). unflagged bs left) same in
     let less : length fewer < length left =
-    omega (arith, no_longer flags left, ap length dropped, c.if-len.false, c.len-in-loop-left.ensures, c.len-in-loop-left-2.ensures) in
+    omega (
+      arith,
+      no_longer flags left,
+      ap length dropped,
+      c.if-len.false,
+      c.len-in-loop-left.ensures,
+      c.len-in-loop-left-2.ensures,
+    ) in
     less
 
 pub loop-left-preserved : goal.loop-left-preserved
@@ -73,6 +99,11 @@ loop-left-preserved c =
     let fewer = c.in_ok-fewer.fewer in
     let flags = c.in_ok-round.round.dropped.items in
     let same : c.deref.result.now ≡ flags = c.deref.ensures.value in
-    let dropped : fewer ≡ unflagged flags left = c.in_ok-fewer.ensures ∙ ap (λ (bs : List Bool). unflagged bs left) same in
+    let dropped : fewer ≡ unflagged flags left =
+    c.in_ok-fewer.ensures ∙ ap (λ (bs : List Bool). unflagged bs left) same in
     let r = c.in_ok-round.ensures in
-    fewer_weeding c.args.conflicts p I left fewer (length (Duties p (picked left I))) flags c.in_ok-round.round.first c.loop-left.invariant r.0 r.1 dropped
+    let first = c.in_ok-round.round.first in (
+      fewer_weeding c.args.conflicts p I left fewer (length (Duties p (picked left I))) flags first
+          c.loop-left.invariant.0 r.0 r.1 dropped,
+      r.2,
+    )
