@@ -4,10 +4,12 @@
 #![tactic(auto)]
 
 mod explained;
+mod formats;
 mod fronts;
 mod numbers;
 mod opened;
 mod paths;
+mod shape;
 mod stopping;
 mod tasks;
 
