@@ -3,6 +3,7 @@ use crate::formats::{GRAPHML, is_graphml, other_format, version_rule};
 use crate::paths::{Step, place_of_path, reached, steps_of};
 use crate::shape::explain_shape;
 use crate::stopping::{first_bad, repeated_at, stopped_at};
+use crate::warned::warn_of_unread;
 use c_core::Spot;
 use std::alloc::Global;
 use view_text::{File, Messages, advice, spot_at};
@@ -218,7 +219,7 @@ fn explain_fault(
     }
 }
 
-/// A tree that is no witness: the path, its place, and what may stand there.
+/// A tree that is no witness: the path, its place, and what may stand there; and the keys that aren't read.
 pub fn explain_schema(
     alloc: Global,
     text: &[u8],
@@ -226,5 +227,6 @@ pub fn explain_schema(
     fault: &SchemaFault,
     out: &mut Messages,
 ) -> Result<(), OutOfMemory> {
-    explain_fault(alloc, text, tree, fault, out)
+    explain_fault(alloc, text, tree, fault, out)?;
+    warn_of_unread(alloc, text, tree, out)
 }
