@@ -39,6 +39,20 @@ const KNOWN: [(&str, &str, &str); 35] = [
     ("invariant", "format", ""),
 ];
 
+/// The maps of the table, in its order.
+const MAPS: [&str; 10] = [
+    "entry",
+    "metadata",
+    "producer",
+    "task",
+    "element",
+    "step",
+    "waypoint",
+    "location",
+    "constraint",
+    "invariant",
+];
+
 /// The name of the items of a list; empty where they aren't looked into.
 pub fn item_of(list: &str) -> &'static str {
     match list {
@@ -171,10 +185,9 @@ fn near_in(map: &str, word: &str) -> Option<&'static str> {
 
 /// The key of any map that is near to a word.
 fn near_anywhere(word: &str) -> Option<&'static str> {
-    for row in KNOWN {
-        let (_, known, _) = row;
-        if is_near(known, word) {
-            return Some(known);
+    for map in MAPS {
+        if let Some(near) = near_in(map, word) {
+            return Some(near);
         }
     }
     None

@@ -115,9 +115,9 @@ fn warn_of_names(
         return Ok(());
     };
     let mut told = name_text(alloc, unread, *found)?;
-    let others = unread.names.count.saturating_sub(1);
-    if others > 0 {
-        write!(told, " (so do {others} more)")?;
+    let count = unread.names.count;
+    if count > 1 {
+        write!(told, " ({count} locations name other files)")?;
     }
     let spot = spot_of(alloc, text, unread, found.node, "file_name", true)?;
     out.warning("file-name", File::Witness, spot, told)
