@@ -2,10 +2,12 @@
 //! line; and the words that messages have for waypoints, types, places and objects.
 #![tactic(auto)]
 
+mod comings;
 mod confirmed;
 mod draws;
 mod passing;
 mod placed;
+mod reads;
 mod route;
 mod segments;
 mod spelled;
