@@ -5,18 +5,22 @@
 mod comings;
 mod confirmed;
 mod draws;
+mod ended;
 mod passing;
 mod placed;
 mod reads;
 mod route;
 mod segments;
 mod spelled;
+mod stored;
 mod tracker;
+mod unfit;
 mod unmatched;
 mod ways;
 
 pub use confirmed::show_run;
 pub use draws::note_unfixed;
+pub use ended::explain_ended;
 pub use segments::{Numbered, waypoint_at};
 pub use spelled::{
     declared_at, invariant_word, is_same_spot, place_text, spot_of, type_word, way_word,

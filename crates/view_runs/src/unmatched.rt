@@ -4,6 +4,7 @@ use crate::route::Waiting;
 use crate::segments::{number_in_segment, number_of_follow};
 use crate::spelled::{place_text, spot_of, times_text, waypoint_text};
 use crate::tracker::{Tracker, event_spot};
+use crate::unfit::note_unfit;
 use c_core::Spot;
 use c_meaning::Event;
 use std::alloc::Global;
@@ -242,6 +243,7 @@ fn explain_segment(
     let told = segment_text(alloc, at, segments.len(), number, segment, seen.as_str())?;
     let spot = spot_of(&segment.follow.location);
     out.warning("unmatched", File::Program, Some(spot), told)?;
+    note_unfit(alloc, tracker, out)?;
     note_avoided(alloc, files, witness, tracker, at, segment, number, out)?;
     note_comings(alloc, tracker, at, spot, waiting.visits, out)?;
     note_violation(alloc, tracker, out)?;
