@@ -105,7 +105,7 @@ fn one_text(alloc: Global, tally: &Tally, taker: &str, given: u64) -> Result<Str
     let remedy = REMEDY;
     if given > 0 {
         return Ok(format!(in alloc;
-            "this input call drew {ty} {value}{taker}, as the witness says"
+            "this input call drew {ty} {value}{taker}, given by the witness"
         )?);
     }
     Ok(format!(in alloc;
@@ -130,7 +130,7 @@ fn input_text(
     let remedy = REMEDY;
     if free == 0 {
         return Ok(format!(in alloc;
-            "this input call drew {count} values of {ty}{taker}, as the witness says: {values}"
+            "this input call drew {count} values of {ty}{taker}, given by the witness: {values}"
         )?);
     }
     Ok(format!(in alloc;
