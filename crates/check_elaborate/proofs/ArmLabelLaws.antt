@@ -24,7 +24,7 @@ constant_put c q old = by_test (int_eq c q) old ∙ ap (λ b. old || b) (same_bo
     by_test false true = refl
     by_test false false = refl
 
-last_one : (b : Bool) → (b || false) ≡ b
+pub last_one : (b : Bool) → (b || false) ≡ b
 last_one true = refl
 last_one false = refl
 
@@ -32,7 +32,6 @@ pub one_more : (l : ArmLabel) (before : List (Option ArmLabel)) (x : Option ArmL
     → list_any (same_label l) (before ++ x ∷ []) ≡ (list_any (same_label l) before || same_label l x)
 one_more l before x = list_any-append (same_label l) before (x ∷ []) ∙ ap (λ b. list_any (same_label l) before || b) (last_one (same_label l x))
 
--- one that is another
-pub other_more : (l : ArmLabel) (before : List (Option ArmLabel)) (x : Option ArmLabel) → same_label l x ≡ false
-    → list_any (same_label l) (before ++ x ∷ []) ≡ list_any (same_label l) before
-other_more l before x e = one_more l before x ∙ ap (λ b. list_any (same_label l) before || b) e ∙ last_one (list_any (same_label l) before)
+pub or_true : (b : Bool) → true ≡ (b || true)
+or_true true = refl
+or_true false = refl

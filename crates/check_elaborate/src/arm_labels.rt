@@ -1,8 +1,7 @@
 // The labels of the arms of a `switch`, of which none may stand twice (C11 6.8.4.2p3).
-ghost use Rattle.std.specs.Prelude.{◌≡◌, ◌∷◌, ◌++◌, ◌||◌, ℤ, [], Some, None, OnOk};
+ghost use Rattle.std.specs.Prelude.{◌≡◌, ◌∷◌, ◌++◌, ◌||◌, ℤ, [], OnOk};
 ghost use Rattle.std.specs.BTreeSet.{contains};
 ghost use Rattle.std.specs.Ordering.{int_cmp, int_eq};
-ghost use Rattle.std.specs.List.{list_any};
 ghost use Rattle.c_core.specs.declared.tree.Label.TheVariants.{Case, Default};
 ghost use Rattle.check_rules.specs.Codes as codes;
 ghost use Rattle.check_elaborate.specs.ArmLabels.{AreFound};
@@ -40,22 +39,6 @@ impl ArmLabels {
         }
     }
 
-    fn has_constant(&self, constant: i128) -> bool
-        ensures { result ≡ contains int_cmp self.now.constants constant }
-    {
-        self.constants.contains(&constant)
-    }
-
-    fn is_found(&self, label: Label) -> bool
-        requires { AreFound self.now }
-        ensures { result ≡ list_any (codes.same_label label) self.now.all }
-    {
-        match label {
-            Label::Case(constant) => self.has_constant(constant),
-            Label::Default => self.has_default,
-        }
-    }
-
     /// Is this label among them?
     pub fn has(&self, label: Option<Label>) -> bool
         requires { AreFound self.now }
@@ -63,37 +46,30 @@ impl ArmLabels {
     {
         match label {
             None => false,
-            Some(label) => self.is_found(label),
+            Some(Label::Case(constant)) => self.constants.contains(&constant),
+            Some(Label::Default) => self.has_default,
         }
     }
 
-    fn push_constant(&mut self, constant: i128) -> Result<(), OutOfMemory>
-        requires { AreFound self.old }
-        ensures all { OnOk result (self.new.all ≡ self.old.all ++ Some (Case constant) ∷ []) }
-        ensures found { OnOk result (AreFound self.new) }
+    // The set and the mark with this label.
+    fn mark(&mut self, label: Option<Label>) -> Result<(), OutOfMemory>
+        ensures all { OnOk result (self.new.all ≡ self.old.all) }
+        ensures constants { OnOk result ((c : ℤ) → contains int_cmp self.new.constants c
+            ≡ (contains int_cmp self.old.constants c || codes.same_label (Case c) label)) }
+        ensures default { OnOk result (self.new.has_default
+            ≡ (self.old.has_default || codes.same_label Default label)) }
     {
-        add_constant(&mut self.constants, constant)?;
-        self.all.push(Some(Label::Case(constant)))?;
-        Ok(())
-    }
-
-    fn push_default(&mut self) -> Result<(), OutOfMemory>
-        requires { AreFound self.old }
-        ensures all { OnOk result (self.new.all ≡ self.old.all ++ Some Default ∷ []) }
-        ensures found { OnOk result (AreFound self.new) }
-    {
-        self.has_default = true;
-        self.all.push(Some(Label::Default))?;
-        Ok(())
-    }
-
-    fn push_none(&mut self) -> Result<(), OutOfMemory>
-        requires { AreFound self.old }
-        ensures all { OnOk result (self.new.all ≡ self.old.all ++ None ∷ []) }
-        ensures found { OnOk result (AreFound self.new) }
-    {
-        self.all.push(None)?;
-        Ok(())
+        match label {
+            None => Ok(()),
+            Some(Label::Case(constant)) => {
+                add_constant(&mut self.constants, constant)?;
+                Ok(())
+            }
+            Some(Label::Default) => {
+                self.has_default = true;
+                Ok(())
+            }
+        }
     }
 
     /// Adds a label.
@@ -102,19 +78,8 @@ impl ArmLabels {
         ensures all { OnOk result (self.new.all ≡ self.old.all ++ label ∷ []) }
         ensures found { OnOk result (AreFound self.new) }
     {
-        match label {
-            Some(Label::Case(constant)) => {
-                self.push_constant(constant)?;
-                Ok(())
-            }
-            Some(Label::Default) => {
-                self.push_default()?;
-                Ok(())
-            }
-            None => {
-                self.push_none()?;
-                Ok(())
-            }
-        }
+        self.mark(label)?;
+        self.all.push(label)?;
+        Ok(())
     }
 }
