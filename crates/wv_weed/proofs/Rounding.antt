@@ -2,7 +2,7 @@
 use Rattle.std.proofs.Common.{◌≡◌, ℕ, suc, ◌+◌, ◌<◌, ◌≤◌, Bool, true, false, List, length, ℤ, sym, ◌∙◌, ap, subst, arith, inl, inr, Option, Some, None}
 use Rattle.std.specs.Prelude.{slice_get, slice_set, replicate}
 use Rattle.std.proofs.lemmas.Bool.{cases_eq, cases_lt}
-use Rattle.std.proofs.lemmas.List.{length-set, length-replicate, get_or-replicate, get_or-set_other, get_or-set_same, get_or_past}
+use Rattle.std.proofs.lemmas.List.{length-set, length-replicate, get_or-set_other, get_or-set_same}
 use Rattle.std.proofs.lemmas.Option.{none-some, same_Some, slice_get_within}
 use Rattle.clauses.specs.declared.log.SpentAt.{SpentAt}
 use Rattle.c_core.specs.Tree.{Program}
@@ -13,7 +13,7 @@ use Rattle.c_meaning.specs.declared.run.HavocEnd.TheVariants.{Failed}
 use Rattle.c_meaning.specs.Duties.{Duties, Placed}
 use Rattle.c_meaning.specs.Havoc.{Havoc}
 use Rattle.wv_weed.specs.Numbers.{IsSet, unflagged}
-use Rattle.wv_weed.specs.Known.{AreNever, flag_place}
+use Rattle.wv_weed.specs.Known.{AreNever}
 use Rattle.wv_weed.specs.Rounds.{AreLeft, IsDutyOf, IsKeptFirst, IsLost, IsPassed, IsPlaceOf, IsRound, IsRoundOf, IsTrial, invariants_of, left_of, net_of, program_of}
 use Rattle.wv_weed.specs.Weeded.{IsOpenAt}
 use Rattle.wv_weed.specs.declared.rounds.Open.{Open}

@@ -1,4 +1,4 @@
-use Rattle.std.proofs.Common.{arith, refl, subst, ◌≡◌, length}
+use Rattle.std.proofs.Common.{arith, subst, ◌≡◌, length}
 use Rattle.wv_weed.specs.Rounds.{IsRoundOf}
 use Rattle.wv_weed.proofs.Rounding.{ends_early}
 use Rattle.wv_weed.proofs.rounds.judge.Goals as goal
