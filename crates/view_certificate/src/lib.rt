@@ -13,5 +13,5 @@ mod walk;
 
 pub use exporting::exported;
 pub use manifest::manifest;
-pub use obliged::{Obliged, obliged_by};
+pub use obliged::{Obliged, obliged};
 pub use replied::explain_certificate;
