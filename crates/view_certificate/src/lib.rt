@@ -4,14 +4,14 @@
 
 mod exporting;
 mod form;
+mod listing;
 mod logs;
-mod manifest;
 mod obliged;
 mod replied;
 mod task;
 mod walk;
 
 pub use exporting::exported;
-pub use manifest::manifest;
-pub use obliged::{Obliged, obliged};
+pub use listing::manifest;
+pub use obliged::{Obliged, obliged_by};
 pub use replied::explain_certificate;

@@ -45,7 +45,7 @@ fn obligations_in(alloc: Global, task: &Task) -> Result<Option<Obligations>, Out
 }
 
 /// The obligations of the files; none where a stage refuses them.
-pub fn obliged(alloc: Global, files: &Files<'_>) -> Result<Option<Obliged>, OutOfMemory> {
+pub fn obliged_by(alloc: Global, files: &Files<'_>) -> Result<Option<Obliged>, OutOfMemory> {
     let Some(task) = task_of(alloc, files)? else {
         return Ok(None);
     };

@@ -1,7 +1,7 @@
 // What there is to say of the reply to a certificate.
 use crate::form::explain_form;
 use crate::logs::explain_log;
-use crate::obliged::obliged;
+use crate::obliged::obliged_by;
 use c_core::Spot;
 use std::alloc::Global;
 use view_claims::show_obligations;
@@ -18,7 +18,7 @@ const LEAST: Budgets = Budgets {
 
 /// The obligations of a certificate that is accepted.
 fn show_accepted(alloc: Global, files: &Files<'_>, out: &mut Messages) -> Result<(), OutOfMemory> {
-    match obliged(alloc, files)? {
+    match obliged_by(alloc, files)? {
         Some(found) => {
             let list = found.obligations.list.as_slice();
             show_obligations(alloc, &found.witness, list, out)
@@ -47,7 +47,7 @@ fn explain_refused(
         return explain_count(alloc, line, out);
     };
     let number = digits.parse::<u32>().unwrap_or(0);
-    match obliged(alloc, files)? {
+    match obliged_by(alloc, files)? {
         Some(found) => explain_log(alloc, files, &found, number, out),
         None => Ok(()),
     }

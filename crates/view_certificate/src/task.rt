@@ -34,15 +34,26 @@ fn holds_sets(witness: &Witness) -> bool {
     }
 }
 
+fn witness_in(alloc: Global, tree: &Tree) -> Result<Option<Witness>, OutOfMemory> {
+    match witness_of(alloc, tree) {
+        Ok(witness) => Ok(Some(witness)),
+        Err(SchemaFault::OutOfMemory) => Err(OutOfMemory),
+        Err(_fault) => Ok(None),
+    }
+}
+
 /// The invariant sets that a text spells.
 fn sets_of(alloc: Global, text: &[u8]) -> Result<Option<Witness>, OutOfMemory> {
     let Some(tree) = tree_of(alloc, text)? else {
         return Ok(None);
     };
-    match witness_of(alloc, &tree) {
-        Ok(witness) if holds_sets(&witness) => Ok(Some(witness)),
-        Err(SchemaFault::OutOfMemory) => Err(OutOfMemory),
-        _ => Ok(None),
+    let Some(witness) = witness_in(alloc, &tree)? else {
+        return Ok(None);
+    };
+    if holds_sets(&witness) {
+        Ok(Some(witness))
+    } else {
+        Ok(None)
     }
 }
 

@@ -2,7 +2,7 @@
 use crate::replying::{replied_to, usage_reply};
 use crate::showing::{Asking, Output, files_of, output_of};
 use std::alloc::Global;
-use view_certificate::{Obliged, exported, manifest, obliged};
+use view_certificate::{Obliged, exported, manifest, obliged_by};
 use view_inputs::{Form, Keeping, Part};
 use view_text::{File, Files};
 use wv_arguments::{Budgets, Names};
@@ -97,7 +97,7 @@ pub fn handed<S: Shelf + Drop>(
         [program, property, witness, kept],
     );
     if replied.status == 0 {
-        if let Some(found) = obliged(alloc, &files)? {
+        if let Some(found) = obliged_by(alloc, &files)? {
             return part_of(alloc, &files, &found, part);
         }
     }
