@@ -5,7 +5,7 @@ use row_files::{Files, NotTried, Row};
 use row_sarif::lacking;
 use std::alloc::Global;
 use view_inputs::{Asked, Form, Part, read_words};
-use view_judging::{handed, shown, usage_reply};
+use view_judging::{hand_out, shown, usage_reply};
 use wv_arguments::{Budgets, Names};
 use wv_base::OutOfMemory;
 
@@ -17,7 +17,7 @@ const LEAST: Budgets = Budgets {
 
 /// What is judged, or checked again.
 #[derive(Clone, Copy)]
-struct Judged<'a> {
+struct Judging<'a> {
     names: Names<'a>,
     certificate: Option<&'a str>,
     budgets: Budgets,
@@ -32,7 +32,7 @@ fn given_out(
     part: Part,
 ) -> Result<String, NotTried> {
     let alloc = files.alloc();
-    let handed = handed(alloc, names, certificate, part, shelf(files, row)?)?;
+    let handed = hand_out(alloc, names, certificate, part, shelf(files, row)?)?;
     let status = handed.output.status;
     let text = String::from_utf8_lossy(alloc, handed.output.bytes.as_slice())?;
     let told = handed.told.as_str();
@@ -43,7 +43,7 @@ fn given_out(
 fn shown_as(
     files: &Files<'_>,
     row: &Row,
-    asked: &Judged<'_>,
+    asked: &Judging<'_>,
     form: Form,
 ) -> Result<String, NotTried> {
     let alloc = files.alloc();
@@ -64,7 +64,7 @@ fn shown_as(
 fn judged(
     files: &Files<'_>,
     row: &Row,
-    asked: &Judged<'_>,
+    asked: &Judging<'_>,
     form: Form,
 ) -> Result<String, NotTried> {
     let text = shown_as(files, row, asked, Form::Text)?;
@@ -100,7 +100,7 @@ pub fn told(files: &Files<'_>, row: &Row) -> Result<String, NotTried> {
             budgets,
             form,
         } => {
-            let asked = Judged {
+            let asked = Judging {
                 names,
                 certificate: None,
                 budgets,
@@ -112,7 +112,7 @@ pub fn told(files: &Files<'_>, row: &Row) -> Result<String, NotTried> {
             certificate,
             form,
         } => {
-            let asked = Judged {
+            let asked = Judging {
                 names,
                 certificate: Some(certificate),
                 budgets: LEAST,

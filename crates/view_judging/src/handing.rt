@@ -76,7 +76,7 @@ fn part_of(
 }
 
 /// A part of a certificate that is accepted; of another one what is shown of it.
-pub fn handed<S: Shelf + Drop>(
+pub fn hand_out<S: Shelf + Drop>(
     alloc: Global,
     names: &Names<'_>,
     certificate: &str,

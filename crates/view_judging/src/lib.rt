@@ -7,7 +7,7 @@ mod listed;
 mod replying;
 mod showing;
 
-pub use handing::{Handed, handed};
+pub use handing::{Handed, hand_out};
 pub use listed::{Progress, Stop, judge_lines};
 pub use replying::{Replied, replied_to, usage_reply};
 pub use showing::{Output, shown};

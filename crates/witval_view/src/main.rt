@@ -8,7 +8,7 @@ use listing::judge_list;
 use std::alloc::Global;
 use std::process::ExitCode;
 use view_inputs::{Asked, read_words};
-use view_judging::{Handed, Output, handed, shown, usage_reply};
+use view_judging::{Handed, Output, hand_out, shown, usage_reply};
 use wv_arguments::Budgets;
 use wv_base::{OutOfMemory, write_all};
 use wv_process::{FileShelf, OutSink, words_of};
@@ -85,7 +85,7 @@ fn answered(rt: &HostRuntime, alloc: Global, asked: &Asked<'_>) -> u8 {
             part,
         } => {
             let shelf = FileShelf::new(rt, alloc);
-            given_out(rt, handed(alloc, names, *certificate, *part, shelf))
+            given_out(rt, hand_out(alloc, names, *certificate, *part, shelf))
         }
         Asked::List { name, budgets } => judge_list(rt, alloc, *name, *budgets),
         Asked::Help(text) => written(rt, text.as_bytes(), 0),
