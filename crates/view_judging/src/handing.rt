@@ -93,8 +93,14 @@ pub fn hand_out<S: Shelf + Drop>(
     let witness = shelf.kept(2);
     let kept = shelf.kept(3);
     let files = files_of(
-        [names.program, names.property, names.witness, certificate],
-        [program, property, witness, kept],
+        names.program,
+        names.property,
+        names.witness,
+        certificate,
+        program,
+        property,
+        witness,
+        kept,
     );
     if replied.status == 0 {
         if let Some(found) = obliged_by(alloc, &files)? {

@@ -122,8 +122,20 @@ fn printed(
 }
 
 /// The files that are judged, by their names and by what was read of them.
-pub fn files_of<'a>(names: [&'a str; 4], texts: [&'a [u8]; 4]) -> Files<'a> {
-    Files { names, texts }
+pub fn files_of<'a>(
+    program_name: &'a str,
+    property_name: &'a str,
+    witness_name: &'a str,
+    certificate_name: &'a str,
+    program: &'a [u8],
+    property: &'a [u8],
+    witness: &'a [u8],
+    certificate: &'a [u8],
+) -> Files<'a> {
+    Files {
+        names: [program_name, property_name, witness_name, certificate_name],
+        texts: [program, property, witness, certificate],
+    }
 }
 
 /// All that is shown of a reply, in one of its forms.
@@ -166,8 +178,14 @@ pub fn shown<S: Shelf + Drop>(
     let kept = shelf.kept(3);
     let name = certificate.unwrap_or("");
     let files = files_of(
-        [names.program, names.property, names.witness, name],
-        [program, property, witness, kept],
+        names.program,
+        names.property,
+        names.witness,
+        name,
+        program,
+        property,
+        witness,
+        kept,
     );
     output_of(alloc, &files, &replied, asking, form)
 }
