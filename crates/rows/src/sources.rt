@@ -54,10 +54,6 @@ fn op_text(op: BinOp) -> &'static str {
     }
 }
 
-fn logic_text(both: bool) -> &'static str {
-    if both { "&&" } else { "||" }
-}
-
 fn sign_text(op: UnOp) -> &'static str {
     match op {
         UnOp::Plus => "+",
@@ -132,8 +128,20 @@ fn show_expr(text: &mut String, expr: &RawExpr) -> Result<(), AllocError> {
             show_expr(text, target)?;
             text.push_str(step_back(*op))
         }
-        RawNode::Binary { op, left, right } => show_pair(text, left, op_text(*op), right),
-        RawNode::Logic { both, left, right } => show_pair(text, left, logic_text(*both), right),
+        RawNode::Binary { op, left, right } => {
+            text.push_str("(")?;
+            show_expr(text, left)?;
+            text.push_str(op_text(*op))?;
+            show_expr(text, right)?;
+            text.push_str(")")
+        }
+        RawNode::Logic { both, left, right } => {
+            text.push_str("(")?;
+            show_expr(text, left)?;
+            text.push_str(if *both { "&&" } else { "||" })?;
+            show_expr(text, right)?;
+            text.push_str(")")
+        }
         RawNode::Choose { test, yes, no, .. } => {
             text.push_str("(")?;
             show_expr(text, test)?;
@@ -143,7 +151,13 @@ fn show_expr(text: &mut String, expr: &RawExpr) -> Result<(), AllocError> {
             show_expr(text, no)?;
             text.push_str(")")
         }
-        RawNode::Comma { first, last } => show_pair(text, first, ",", last),
+        RawNode::Comma { first, last } => {
+            text.push_str("(")?;
+            show_expr(text, first)?;
+            text.push_str(",")?;
+            show_expr(text, last)?;
+            text.push_str(")")
+        }
         RawNode::Assign { op, target, from } => {
             text.push_str("(")?;
             show_expr(text, target)?;
@@ -157,21 +171,6 @@ fn show_expr(text: &mut String, expr: &RawExpr) -> Result<(), AllocError> {
             text.push_str(")")
         }
     }
-}
-
-/// Two operands with a sign between them.
-#[cycle(shown_expr)]
-fn show_pair(
-    text: &mut String,
-    left: &RawExpr,
-    sign: &str,
-    right: &RawExpr,
-) -> Result<(), AllocError> {
-    text.push_str("(")?;
-    show_expr(text, left)?;
-    text.push_str(sign)?;
-    show_expr(text, right)?;
-    text.push_str(")")
 }
 
 /// Sizes or indexes, each in brackets.
@@ -253,45 +252,12 @@ fn show_first(text: &mut String, first: &RawFirst) -> Result<(), AllocError> {
     }
 }
 
-/// A statement up to what its test leads to.
-fn show_tested(text: &mut String, word: &str, test: &RawExpr) -> Result<(), AllocError> {
-    text.push_str(word)?;
-    show_expr(text, test)?;
-    text.push_str(" ")
-}
-
-/// A `for` up to its body.
-fn show_head(
-    text: &mut String,
-    first: &RawFirst,
-    test: &Option<RawExpr>,
-    step: &Option<RawExpr>,
-) -> Result<(), AllocError> {
-    text.push_str("for ")?;
-    show_first(text, first)?;
-    show_if(text, test)?;
-    text.push_str(";")?;
-    show_if(text, step)?;
-    text.push_str(" ")
-}
-
 /// A statement that is a part, in brackets.
 #[cycle(shown_stmt)]
 fn show_part(text: &mut String, stmt: &RawStmt) -> Result<(), AllocError> {
     text.push_str("[")?;
     show_stmt(text, stmt)?;
     text.push_str("]")
-}
-
-#[cycle(shown_stmt)]
-fn show_else(text: &mut String, part: &Option<Box<RawStmt>>) -> Result<(), AllocError> {
-    match part {
-        Some(part) => {
-            text.push_str(" else ")?;
-            show_part(text, part)
-        }
-        None => Ok(()),
-    }
 }
 
 #[cycle(shown_stmt)]
@@ -309,12 +275,22 @@ fn show_stmt(text: &mut String, stmt: &RawStmt) -> Result<(), AllocError> {
             text.push_str("}")
         }
         RawForm::If { test, yes, no } => {
-            show_tested(text, "if ", test)?;
+            text.push_str("if ")?;
+            show_expr(text, test)?;
+            text.push_str(" ")?;
             show_part(text, yes)?;
-            show_else(text, no)
+            match no {
+                Some(no) => {
+                    text.push_str(" else ")?;
+                    show_part(text, no)
+                }
+                None => Ok(()),
+            }
         }
         RawForm::While { test, body } => {
-            show_tested(text, "while ", test)?;
+            text.push_str("while ")?;
+            show_expr(text, test)?;
+            text.push_str(" ")?;
             show_part(text, body)
         }
         RawForm::Do { body, test } => {
@@ -329,7 +305,12 @@ fn show_stmt(text: &mut String, stmt: &RawStmt) -> Result<(), AllocError> {
             step,
             body,
         } => {
-            show_head(text, first, test, step)?;
+            text.push_str("for ")?;
+            show_first(text, first)?;
+            show_if(text, test)?;
+            text.push_str(";")?;
+            show_if(text, step)?;
+            text.push_str(" ")?;
             show_part(text, body)
         }
         RawForm::Break => text.push_str("break;"),
@@ -345,8 +326,9 @@ fn show_stmt(text: &mut String, stmt: &RawStmt) -> Result<(), AllocError> {
             show_part(text, of)
         }
         RawForm::Switch { test, arms } => {
-            show_tested(text, "switch ", test)?;
-            text.push_str("{")?;
+            text.push_str("switch ")?;
+            show_expr(text, test)?;
+            text.push_str(" {")?;
             show_arms(text, arms.as_slice())?;
             text.push_str("}")
         }
