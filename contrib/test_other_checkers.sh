@@ -21,7 +21,7 @@ asked() {
 loop=(--program "$top/examples/loop/p.c" --property "$top/examples/loop/unreach.prp" --witness "$top/examples/loop/w.yml")
 asked 'all obligations' 0 '3 of 3 obligations verified by * programs' "${loop[@]}" --folder all
 holds 'a manifest' test -s all/manifest.json
-same 'the first obligation' "$(head -n 1 <<<"$found" | cut -d' ' -f1-3)" 'obligation 1 entry'
+same 'the first obligation' "$(head -n 1 <<<"$found" | cut -d' ' -f1-3)" 'obligation 1 property'
 same 'the texts of three' "$(cd all && echo [0-9]*)" '1.cnf 1.lrat 2.cnf 2.lrat 3.cnf 3.lrat'
 asked 'a certificate that is given' 0 '3 of 3 *' "${loop[@]}" --certificate all/certificate --folder again
 same 'no other certificate' "$(ls again/certificate 2>&1 | grep -c 'No such file')" 1
