@@ -13,8 +13,8 @@ ghost use Rattle.wv_author.specs.Authored.{IsAuthored, result_text};
 ghost use Rattle.wv_schema.specs.declared.witness.Segment.{Segment};
 ghost use Rattle.wv_schema.specs.declared.witness.Witness.{Witness};
 
-/// The constraint that `author` writes for a value of an input call, from -2^63 to 2^64 - 1, is not refused: it is bound
-/// to a test for this value, which the value meets at every type that has it.
+/// The constraint that `author` writes for a value of an input call, from -2^63 to 2^64 - 1, is not refused: it is
+/// bound to a test for this value, which the value meets at every type that has it.
 pub fn constants_are_bound()
     ensures { (p : Program) (v : ℤ) (answer : Result ReturnTest Unbound) → negsuc (2 ^ 63 - 1) ≤ℤ v
         → v ≤ℤ pos (2 ^ 64 - 1) → BindsTest p true (result_text v) answer → IsTestFor p v answer }

@@ -1,5 +1,5 @@
-//! Runs from which violation witnesses are written: what comes back of their inputs, where they violate the property, and that values
-//! given by place give the run that takes them in turn.
+//! Runs from which violation witnesses are written: what comes back of their inputs, where they violate the property,
+//! and that values given by place give the run that takes them in turn.
 #![tactic(auto)]
 
 mod laws;

@@ -1,4 +1,5 @@
-// Checks the C source that its word names, and prints how many objects and functions its program has: what bench/check times.
+// Checks the C source that its word names, and prints how many objects and functions its program has: what bench/check
+// times.
 use c_check::{CheckCode, CheckFault, check};
 use c_core::{DataModel, Program, Property};
 use c_parser::{Source, parse};

@@ -1,5 +1,5 @@
-//! One part of witval at a time, as the scripts of bench/ count and time it. The first word names the part, and the file of
-//! that name says what the words behind it are.
+//! One part of witval at a time, as the scripts of bench/ count and time it. The first word names the part, and the
+//! file of that name says what the words behind it are.
 #![tactic(auto)]
 
 mod check;

@@ -1,4 +1,5 @@
-// One part of what the obligations of a program need: what bench/obligations times. Its words are the part and the source.
+// One part of what the obligations of a program need: what bench/obligations times. Its words are the part and the
+// source.
 use crate::check::program_of;
 use c_calls::{calls_itself, changed};
 use c_core::{PlaceKind, Program, Spot};

@@ -1,5 +1,6 @@
-// Levels of functions: numbers that no call makes fall, and that functions share where they call each other. They save time, and
-// nothing rests on them: `calls_itself` tests that they don't fall before it passes over a function because of them.
+// Levels of functions: numbers that no call makes fall, and that functions share where they call each other. They save
+// time, and nothing rests on them: `calls_itself` tests that they don't fall before it passes over a function because
+// of them.
 use crate::marks::no_marks;
 use crate::uses::{Use, push_statement};
 use c_core::Program;

@@ -121,9 +121,9 @@ fn collect(
     Ok(objects)
 }
 
-/// The objects that the loop of a statement changes, in the order of declaration: those declared outside the loop that its test,
-/// step or body assigns or steps, and those of static storage that functions called from these do. No object where the form is no
-/// loop.
+/// The objects that the loop of a statement changes, in the order of declaration: those declared outside the loop that
+/// its test, step or body assigns or steps, and those of static storage that functions called from these do. No object
+/// where the form is no loop.
 pub fn changed_in(alloc: Global, program: &Program, form: &Form) -> Result<Seq<u32>, OutOfMemory>
     ensures { IfOk result (λ objects. objects ≡ changed_if (program_view program.now) (loop_of (form_view form.now))) }
 {

@@ -134,8 +134,8 @@ fn first_on_cycle(
     Ok(None)
 }
 
-/// The first function in the order of definitions that main reaches and that lies on a cycle of calls. None exactly where main
-/// reaches no cycle.
+/// The first function in the order of definitions that main reaches and that lies on a cycle of calls. None exactly
+/// where main reaches no cycle.
 pub fn calls_itself(alloc: Global, program: &Program) -> Result<Option<u32>, OutOfMemory>
     ensures { IfOk result (λ first. IsFirstRecursion (program_view program.now) first) }
 {

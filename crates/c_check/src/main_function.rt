@@ -29,7 +29,8 @@ fn is_right(gives: Option<IntType>, params: &[RawParam]) -> bool
     }
 }
 
-/// Where `main` is refused: at its name for parameters or another result, at the start of the source where there is none.
+/// Where `main` is refused: at its name for parameters or another result, at the start of the source where there is
+/// none.
 pub fn wrong_main(items: &[Item]) -> Option<Spot>
     ensures { result ≡ first.wrong_main (map item_view items.now) }
 {

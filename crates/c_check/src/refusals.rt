@@ -21,7 +21,8 @@ fn with_orders(mut best: Option<Refusal>, spots: &[Spot]) -> Option<Refusal>
     best
 }
 
-/// The first refusal of a source that was gone through; more objects than the order rule has numbers for are want of memory.
+/// The first refusal of a source that was gone through; more objects than the order rule has numbers for are want of
+/// memory.
 pub fn first_refusal(alloc: Global, walked: &Walked) -> Result<Option<Refusal>, OutOfMemory>
     ensures { IfOk result (λ first. (m : DataModel) (items : List raw.Item) → IsWalk m items walked.now
         → IsFirstOf m items first) }

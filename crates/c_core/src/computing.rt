@@ -1,4 +1,5 @@
-// What operators give over values of any two types: the conversions to those in which they compute come first (C11 6.5p4, 6.3.1.8).
+// What operators give over values of any two types: the conversions to those in which they compute come first (C11
+// 6.5p4, 6.3.1.8).
 ghost use Rattle.std.specs.Prelude.{◌≡◌, IsTrue};
 ghost use Rattle.c_core.specs.Types.{fit, in_range, IsPromoted};
 ghost use Rattle.c_core.specs.Operators as operators;

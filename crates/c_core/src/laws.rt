@@ -14,7 +14,8 @@ pub fn conversions_settle()
 /// A conversion to a type that holds all values of the old one keeps the number, and promotion is
 /// such a conversion.
 pub fn wider_types_keep()
-    ensures in_range { (m : DataModel) (s t : IntType) (v : ℤ) → IsWithin m s t → IsTrue (in_range m s v) → IsTrue (in_range m t v) }
+    ensures in_range { (m : DataModel) (s t : IntType) (v : ℤ) → IsWithin m s t → IsTrue (in_range m s v)
+        → IsTrue (in_range m t v) }
     ensures kept { (m : DataModel) (s t : IntType) (v : ℤ) → IsWithin m s t → IsTrue (in_range m s v) → fit m t v ≡ v }
     ensures promotion { (m : DataModel) (ty : IntType) → IsWithin m ty (promote_of ty) }
     ensures promoted { (ty : IntType) → IsPromoted (promote_of ty) }

@@ -1,5 +1,5 @@
-//! Where a program draws: its input calls, the cells of its automatic objects without initializer and what its loops change, in
-//! main and in the functions that main reaches. Its one promise: each place that is listed is one of these.
+//! Where a program draws: its input calls, the cells of its automatic objects without initializer and what its loops
+//! change, in main and in the functions that main reaches. Its one promise: each place that is listed is one of these.
 #![tactic(auto)]
 
 mod inputs;

@@ -65,7 +65,8 @@ pub fn sort(list: &mut Vec<DrawPlace>) -> Result<(), OutOfMemory>
     Ok(())
 }
 
-/// Whether a place is one of these, which are in order. The order saves time; that a place which is found is there rests on no order.
+/// Whether a place is one of these, which are in order. The order saves time; that a place which is found is there
+/// rests on no order.
 pub fn is_listed(places: &[DrawPlace], place: DrawPlace) -> bool
     ensures { IsTrue result → Contains places.now place }
 {

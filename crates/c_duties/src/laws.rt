@@ -6,7 +6,8 @@ ghost use Rattle.c_meaning.specs.Duties.{Duties, Placed};
 ghost use Rattle.c_duties.specs.Failing.{FailsAtDuties, TellsEach, TellsObligations};
 ghost use Rattle.c_duties.specs.Ordered.{AllDiffer, AreInOrder};
 
-/// Each havoc run that fails, fails at an obligation of the program, and the number that it tells is that of the first such obligation.
+/// Each havoc run that fails, fails at an obligation of the program, and the number that it tells is that of the first
+/// such obligation.
 pub fn failing_runs_fail_at_duties()
     ensures at_duties { (p : Program) (invariants : List Placed) → FailsAtDuties p invariants }
     ensures by_number { (p : Program) (invariants : List Placed) → TellsObligations p invariants }

@@ -1,4 +1,5 @@
-//! What a loop leaves as it was: at its head each cell that lived at the loop's arrival lives on, and holds another value only where the loop changes its object.
+//! What a loop leaves as it was: at its head each cell that lived at the loop's arrival lives on, and holds another
+//! value only where the loop changes its object.
 #![tactic(auto)]
 
 mod laws;

@@ -1,4 +1,5 @@
-//! Runs programs with invariants as havoc runs: a list of values is drawn in turn, and each loop is done by its invariants.
+//! Runs programs with invariants as havoc runs: a list of values is drawn in turn, and each loop is done by its
+//! invariants.
 #![tactic(auto)]
 
 mod calls;

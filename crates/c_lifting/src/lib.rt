@@ -1,4 +1,5 @@
-//! What holds of every run where all obligations hold: none is violated, and each invariant holds wherever it is placed.
+//! What holds of every run where all obligations hold: none is violated, and each invariant holds wherever it is
+//! placed.
 #![tactic(auto)]
 
 mod laws;

@@ -35,11 +35,14 @@ pub fn few_events()
 /// Each value that a run or a havoc run draws is one of its type, and so a number from -2^63 to 2^64 - 1.
 pub fn draws_fit()
     ensures run { (p : Program) (c : Choices) (N : ℕ) → AreFitting p.model (Run p c N).draws }
-    ensures havoc_run { (p : Program) (invariants : List Placed) (values : List ℤ) → AreFitting p.model (Havoc p invariants values).draws }
+    ensures havoc_run { (p : Program) (invariants : List Placed) (values : List ℤ)
+        → AreFitting p.model (Havoc p invariants values).draws }
 {}
 
-/// At every moment of a run of a checked program each cell holds a value of its object's type, and objects of static storage have their cells; at the end of a run or a havoc run the first still holds.
-/// An expression or a statement that begins where objects in reach have such cells gives a value of its type and leaves them such cells, and so do the parameters of a call and the draws at a loop's head.
+/// At every moment of a run of a checked program each cell holds a value of its object's type, and objects of static
+/// storage have their cells; at the end of a run or a havoc run the first still holds. An expression or a statement
+/// that begins where objects in reach have such cells gives a value of its type and leaves them such cells, and so do
+/// the parameters of a call and the draws at a loop's head.
 pub fn cells_fit()
     ensures { (p : Program) → IsProgram p → CellsFit p }
 {}

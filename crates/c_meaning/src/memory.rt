@@ -17,8 +17,8 @@ pub struct Live {
     pub hides: Option<usize>,
 }
 
-/// The live cells of objects, the innermost last, and where the innermost cell of each name lies: names of a layout in a list of
-/// places, others in a table.
+/// The live cells of objects, the innermost last, and where the innermost cell of each name lies: names of a layout in
+/// a list of places, others in a table.
 #[derive(Debug, Drop)]
 pub struct Memory {
     alloc: Global,
@@ -54,8 +54,8 @@ impl Memory {
         }
     }
 
-    /// Gives each name of objects of these sizes a place of its own, where its innermost cell is found without a search. No cell
-    /// is left.
+    /// Gives each name of objects of these sizes a place of its own, where its innermost cell is found without a
+    /// search. No cell is left.
     pub fn lay_out(&mut self, sizes: &[u32]) -> Result<(), OutOfMemory>
         ensures cells { self.new.cells ≡ [] }
         ensures kept { self.old.room ≤ self.new.room }
@@ -82,7 +82,8 @@ impl Memory {
 
     /// Appends a cell.
     pub fn add(&mut self, object: u32, index: u32, value: i128) -> Result<(), OutOfMemory>
-        ensures ok { OnOk result (self.new.cells ≡ self.old.cells ++ record { key = record { object = object; index = index }; value = value } ∷ []) }
+        ensures ok { OnOk result (self.new.cells ≡ self.old.cells ++
+            record { key = record { object = object; index = index }; value = value } ∷ []) }
         ensures refused { OnErr result (self.new.cells ≡ self.old.cells) }
         ensures kept { self.old.room ≤ self.new.room }
         ensures within { length self.old.cells < self.old.room → IsOk result }
@@ -133,7 +134,8 @@ impl Memory {
     // Where the innermost such cell lies.
     #[inline(always)]
     fn find(&self, object: u32, index: u32) -> Option<usize>
-        ensures { MatchOption result (live (record { object = object; index = index }) self.now.cells ≡ false) (IsInnermost (record { object = object; index = index }) self.now.cells) }
+        ensures { MatchOption result (live (record { object = object; index = index }) self.now.cells ≡ false)
+            (IsInnermost (record { object = object; index = index }) self.now.cells) }
     {
         if let Some(name) = number(self.starts.as_slice(), object, index) {
             return self.places[name];
@@ -162,7 +164,8 @@ impl Memory {
     // Appends a cell where there is room.
     fn append(&mut self, object: u32, index: u32, value: i128) -> Result<(), OutOfMemory>
         requires { length self.old.cells < self.old.room }
-        ensures cells { self.new.cells ≡ self.old.cells ++ record { key = record { object = object; index = index }; value = value } ∷ [] }
+        ensures cells { self.new.cells ≡ self.old.cells ++
+            record { key = record { object = object; index = index }; value = value } ∷ [] }
         ensures room { self.new.room ≡ self.old.room }
         ensures ok { IsOk result }
     {

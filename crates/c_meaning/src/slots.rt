@@ -1,4 +1,5 @@
-// A table that tells where the innermost cell of each name outside of a layout stands: open addressing, with searches from a name's home on.
+// A table that tells where the innermost cell of each name outside of a layout stands: open addressing, with searches
+// from a name's home on.
 ghost use Rattle.std.specs.Prelude.{◌≡◌, ◌<◌, ◌≤◌, length, None, IfOk, MatchOption, replicate};
 ghost use Rattle.c_meaning.specs.Slots.{home_of, stops as stops_of, Passes, IsNext, Ends, IsTable, names_of, outside, slot_of as filled, place_in as placed, free};
 
@@ -39,7 +40,8 @@ fn stops(slot: Option<Entry>, object: u32, index: u32) -> bool
 // The first slot of a range that ends a search.
 fn scan(slots: &[Option<Entry>], object: u32, index: u32, from: usize, to: usize) -> Option<usize>
     requires { to ≤ length slots.now }
-    ensures { MatchOption result (Passes (record { object = object; index = index }) slots.now from to) (IsNext (record { object = object; index = index }) slots.now from to) }
+    ensures { MatchOption result (Passes (record { object = object; index = index }) slots.now from to)
+        (IsNext (record { object = object; index = index }) slots.now from to) }
 {
     for at in from..to {
         if stops(slots[at], object, index) {

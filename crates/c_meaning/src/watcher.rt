@@ -18,7 +18,8 @@ pub trait Watcher {
     /// What follows at an event with the live cells of that moment.
     ghost after: { Event → List Cell → Seen → Seen };
 
-    /// A proposition under which `see` of this type never wants memory: `Unit {0}` where it never does, `⊥` where it may.
+    /// A proposition under which `see` of this type never wants memory: `Unit {0}` where it never does, `⊥` where it
+    /// may.
     ghost sure: { Type 0 };
 
     fn see(&mut self, event: Event, memory: &Memory) -> Result<(), OutOfMemory>

@@ -1,4 +1,5 @@
-// Items of no other form, as those of system headers: up to the first `;` outside brackets, of which the name alone is kept.
+// Items of no other form, as those of system headers: up to the first `;` outside brackets, of which the name alone is
+// kept.
 ghost use Rattle.std.specs.Prelude.{◌≡◌, ◌+◌, ◌<◌, ◌^◌, ℕ, []};
 ghost use Rattle.std.specs.List.{list_all};
 ghost use Rattle.c_parser.specs.Gives.{Reads};

@@ -127,7 +127,8 @@ fn list_at<'a>(
 ) -> Read<'a, RawInit>
     requires brackets { brackets ≤ 2 ^ 15 }
     requires height { height ≤ 2 ^ 15 }
-    ensures { Reads init_view result (read_list brackets (read brackets height) (within brackets height) (rows_within brackets height) tokens.now) }
+    ensures { Reads init_view result (read_list brackets (read brackets height) (within brackets height)
+        (rows_within brackets height) tokens.now) }
 {
     if is_sign(tokens, Punct::BraceOpen) {
         let (rows, rest) = rows_at(alloc, tokens, brackets, height)?;
@@ -147,7 +148,8 @@ fn value_at<'a>(
 ) -> Read<'a, RawInit>
     requires brackets { brackets ≤ 2 ^ 15 }
     requires height { height ≤ 2 ^ 15 }
-    ensures { Reads init_view result (read_value brackets (read brackets height) (within brackets height) (rows_within brackets height) tokens.now) }
+    ensures { Reads init_view result (read_value brackets (read brackets height) (within brackets height)
+        (rows_within brackets height) tokens.now) }
 {
     if is_sign(tokens, Punct::BraceOpen) {
         let (list, rest) = list_at(alloc, behind(tokens), brackets, height)?;
@@ -165,7 +167,8 @@ fn initializer_at<'a>(
 ) -> Read<'a, RawInit>
     requires brackets { brackets ≤ 2 ^ 15 }
     requires height { height ≤ 2 ^ 15 }
-    ensures { Reads init_view result (read_initializer brackets (read brackets height) (within brackets height) (rows_within brackets height) tokens.now) }
+    ensures { Reads init_view result (read_initializer brackets (read brackets height) (within brackets height)
+        (rows_within brackets height) tokens.now) }
 {
     if !is_sign(tokens, Punct::Assign) {
         return Ok((RawInit::Absent, tokens));
@@ -183,7 +186,8 @@ fn declarator_at<'a>(
 ) -> Read<'a, RawDeclared>
     requires brackets { brackets ≤ 2 ^ 15 }
     requires height { height ≤ 2 ^ 15 }
-    ensures { Reads declared_view result (read_declarator brackets (read brackets height) (within brackets height) (rows_within brackets height) ty tokens.now) }
+    ensures { Reads declared_view result (read_declarator brackets (read brackets height) (within brackets height)
+        (rows_within brackets height) ty tokens.now) }
 {
     let Some(word) = name_at(tokens) else {
         return Err(Unread::Unspelled);
@@ -213,7 +217,8 @@ fn declarators_at<'a>(
 ) -> Read<'a, Seq<RawDeclared>>
     requires brackets { brackets ≤ 2 ^ 15 }
     requires height { height ≤ 2 ^ 15 }
-    ensures { Reads (map declared_view) result (read_declarators brackets (read brackets height) (within brackets height) (rows_within brackets height) most ty tokens.now) }
+    ensures { Reads (map declared_view) result (read_declarators brackets (read brackets height)
+        (within brackets height) (rows_within brackets height) most ty tokens.now) }
 {
     let mut declarators = Seq::new(alloc);
     let mut more = most;

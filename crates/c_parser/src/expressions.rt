@@ -25,8 +25,8 @@ use c_tokens::{Punct, Token, TokenKind};
 use std::alloc::Global;
 use wv_base::Text;
 
-/// The expression at the front of tokens whose parts hold together with this strength at least, with at most so many brackets
-/// open at one place and of this height at most.
+/// The expression at the front of tokens whose parts hold together with this strength at least, with at most so many
+/// brackets open at one place and of this height at most.
 #[cycle(expressions)]
 #[tactic(auto, unfolding(crate::specs::ReadExpressions::level))]
 pub fn expression_at<'a>(
@@ -79,7 +79,8 @@ fn full_at<'a>(
 ) -> Read<'a, Measured>
     requires brackets { brackets ≤ 2 ^ 15 }
     requires height { height < 2 ^ 15 }
-    ensures { Gives (height + 1) result (full (has_room brackets) (within brackets) (read brackets height) height strength tokens.now) }
+    ensures { Gives (height + 1) result (full (has_room brackets) (within brackets) (read brackets height) height
+        strength tokens.now) }
 {
     let (first, rest) = operand_at(alloc, tokens, brackets, height, strength)?;
     let (left, rest) = stored_at(alloc, tokens, brackets, height, strength, first, rest)?;
@@ -109,7 +110,8 @@ fn stored_at<'a>(
     requires brackets { brackets ≤ 2 ^ 15 }
     requires height { height < 2 ^ 15 }
     requires left { Fits (height + 1) left }
-    ensures { Gives (height + 1) result (stored (has_room brackets) (within brackets) (read brackets height) height tokens.now strength (expr_view left.expr, rest.now) (assignment_at tokens.now strength rest.now)) }
+    ensures { Gives (height + 1) result (stored (has_room brackets) (within brackets) (read brackets height) height
+        tokens.now strength (expr_view left.expr, rest.now) (assignment_at tokens.now strength rest.now)) }
 {
     let spot = place_at(tokens);
     match assign_at(tokens, strength, rest) {
@@ -148,7 +150,8 @@ fn tail_at<'a>(
     requires brackets { brackets ≤ 2 ^ 15 }
     requires height { height < 2 ^ 15 }
     requires first { Fits (height + 1) first }
-    ensures { Gives (height + 1) result (tail (has_room brackets) (within brackets) (read brackets height) height height spot strength (expr_view first.expr) tokens.now) }
+    ensures { Gives (height + 1) result (tail (has_room brackets) (within brackets) (read brackets height) height height
+        spot strength (expr_view first.expr) tokens.now) }
 {
     let mut left = first;
     let mut rest = tokens;
@@ -180,7 +183,8 @@ fn choice_at<'a>(
     requires brackets { brackets ≤ 2 ^ 15 }
     requires height { height < 2 ^ 15 }
     requires test { Fits (height + 1) test }
-    ensures { Gives (height + 1) result (choice (has_room brackets) (within brackets) (read brackets height) height spot strength (expr_view test.expr, tokens.now)) }
+    ensures { Gives (height + 1) result (choice (has_room brackets) (within brackets) (read brackets height) height spot
+        strength (expr_view test.expr, tokens.now)) }
 {
     if strength <= CONDITIONAL && is_sign(tokens, Punct::Question) {
         let mark = place_at(tokens);
@@ -204,7 +208,8 @@ fn operand_at<'a>(
 ) -> Read<'a, Measured>
     requires brackets { brackets ≤ 2 ^ 15 }
     requires height { height < 2 ^ 15 }
-    ensures { Gives (height + 1) result (operand (has_room brackets) (within brackets) (read brackets height) height strength tokens.now) }
+    ensures { Gives (height + 1) result (operand (has_room brackets) (within brackets) (read brackets height) height
+        strength tokens.now) }
 {
     match tokens {
         [first, rest @ ..] => {
@@ -236,7 +241,8 @@ fn kind_at<'a>(
 ) -> Read<'a, Measured>
     requires brackets { brackets ≤ 2 ^ 15 }
     requires height { height < 2 ^ 15 }
-    ensures { Gives (height + 1) result (operand_at (has_room brackets) (within brackets) (read brackets height) height strength spot kind.now tokens.now) }
+    ensures { Gives (height + 1) result (operand_at (has_room brackets) (within brackets) (read brackets height) height
+        strength spot kind.now tokens.now) }
 {
     match kind {
         TokenKind::Word(word) => {
@@ -289,7 +295,8 @@ fn opened_at<'a>(
 ) -> Read<'a, Measured>
     requires brackets { brackets ≤ 2 ^ 15 }
     requires height { height < 2 ^ 15 }
-    ensures { Gives (height + 1) result (opened (has_room brackets) (within brackets) (read brackets height) height strength spot sign tokens.now) }
+    ensures { Gives (height + 1) result (opened (has_room brackets) (within brackets) (read brackets height) height
+        strength spot sign tokens.now) }
 {
     if is_same(Punct::ParenOpen, sign) {
         let got = parens_at(alloc, spot, tokens, brackets, height, strength)?;
@@ -320,7 +327,8 @@ fn prefixed_at<'a>(
 ) -> Read<'a, Measured>
     requires brackets { brackets ≤ 2 ^ 15 }
     requires height { height < 2 ^ 15 }
-    ensures { Gives (height + 1) result (prefixed (has_room brackets) (within brackets) (read brackets height) height spot step op tokens.now) }
+    ensures { Gives (height + 1) result (prefixed (has_room brackets) (within brackets) (read brackets height) height
+        spot step op tokens.now) }
 {
     match step {
         Some(op) => {
@@ -352,7 +360,8 @@ fn signed_at<'a>(
 ) -> Read<'a, Measured>
     requires brackets { brackets ≤ 2 ^ 15 }
     requires height { height < 2 ^ 15 }
-    ensures { Gives (height + 1) result (signed (has_room brackets) (within brackets) (read brackets height) height spot op tokens.now) }
+    ensures { Gives (height + 1) result (signed (has_room brackets) (within brackets) (read brackets height) height spot
+        op tokens.now) }
 {
     match op {
         Some(op) => {
@@ -381,7 +390,8 @@ fn parens_at<'a>(
 ) -> Read<'a, Measured>
     requires brackets { brackets ≤ 2 ^ 15 }
     requires height { height < 2 ^ 15 }
-    ensures { Gives (height + 1) result (in_parens (has_room brackets) (within brackets) (read brackets height) height strength spot tokens.now) }
+    ensures { Gives (height + 1) result (in_parens (has_room brackets) (within brackets) (read brackets height) height
+        strength spot tokens.now) }
 {
     if begins_type(tokens) {
         if brackets == 0 || strength > CAST {
@@ -406,7 +416,8 @@ fn converted_at<'a>(
 ) -> Read<'a, Measured>
     requires brackets { brackets ≤ 2 ^ 15 }
     requires height { height < 2 ^ 15 }
-    ensures { Gives (height + 1) result (converted (has_room brackets) (within brackets) (read brackets height) height spot (name_words tokens.now)) }
+    ensures { Gives (height + 1) result (converted (has_room brackets) (within brackets) (read brackets height) height
+        spot (name_words tokens.now)) }
 {
     let (counts, rest) = name_words(tokens);
     let operand = closed(rest, Punct::ParenClose)?;
@@ -434,7 +445,8 @@ fn grouped_at<'a>(
 ) -> Read<'a, Measured>
     requires brackets { brackets ≤ 2 ^ 15 }
     requires height { height < 2 ^ 15 }
-    ensures { Gives (height + 1) result (grouped (has_room brackets) (within brackets) (read brackets height) height spot tokens.now) }
+    ensures { Gives (height + 1) result (grouped (has_room brackets) (within brackets) (read brackets height) height
+        spot tokens.now) }
 {
     let (inner, rest) = within_at(alloc, tokens, brackets, height + 1, EXPR)?;
     let end = closed(rest, Punct::ParenClose)?;
@@ -456,7 +468,8 @@ fn word_at<'a>(
 ) -> Read<'a, Measured>
     requires brackets { brackets ≤ 2 ^ 15 }
     requires height { height < 2 ^ 15 }
-    ensures { Gives (height + 1) result (operand_at (has_room brackets) (within brackets) (read brackets height) height 0 spot (kind.Word word.now) tokens.now) }
+    ensures { Gives (height + 1) result (operand_at (has_room brackets) (within brackets) (read brackets height) height
+        0 spot (kind.Word word.now) tokens.now) }
 {
     if !is_name(word.as_bytes()) {
         return Err(Unread::Unspelled);
@@ -478,7 +491,8 @@ fn named_at<'a>(
 ) -> Read<'a, Measured>
     requires brackets { brackets ≤ 2 ^ 15 }
     requires height { height < 2 ^ 15 }
-    ensures { Gives (height + 1) result (named (has_room brackets) (within brackets) (read brackets height) height spot word.now tokens.now) }
+    ensures { Gives (height + 1) result (named (has_room brackets) (within brackets) (read brackets height) height spot
+        word.now tokens.now) }
 {
     if is_sign(tokens, Punct::ParenOpen) {
         let got = called_at(alloc, spot, word, behind(tokens), brackets, height)?;
@@ -494,8 +508,8 @@ fn named_at<'a>(
     Ok((leaf(spot, node), tokens))
 }
 
-/// What stands in square brackets, and in a second pair after it, if there is one: the indexes of an element or the sizes of
-/// an array.
+/// What stands in square brackets, and in a second pair after it, if there is one: the indexes of an element or the
+/// sizes of an array.
 #[cycle(expressions)]
 pub fn dimensions_at<'a>(
     alloc: Global,
@@ -549,7 +563,8 @@ fn called_at<'a>(
 ) -> Read<'a, Measured>
     requires brackets { brackets ≤ 2 ^ 15 }
     requires height { height < 2 ^ 15 }
-    ensures { Gives (height + 1) result (called (has_room brackets) (within brackets) (read brackets height) height spot word.now tokens.now) }
+    ensures { Gives (height + 1) result (called (has_room brackets) (within brackets) (read brackets height) height spot
+        word.now tokens.now) }
 {
     let (arguments, rest) = arguments_at(alloc, tokens, brackets, height)?;
     let close = place_at(rest);
@@ -568,7 +583,8 @@ fn arguments_at<'a>(
 ) -> Read<'a, MeasuredRow>
     requires brackets { brackets ≤ 2 ^ 15 }
     requires height { height < 2 ^ 15 }
-    ensures { GivesAll height result (arguments (has_room brackets) (within brackets) (read brackets height) height tokens.now) }
+    ensures { GivesAll height result (arguments (has_room brackets) (within brackets) (read brackets height) height
+        tokens.now) }
 {
     if is_sign(tokens, Punct::ParenClose) {
         if brackets == 0 {
@@ -590,7 +606,8 @@ fn listed_at<'a>(
 ) -> Read<'a, MeasuredRow>
     requires brackets { brackets ≤ 2 ^ 15 }
     requires height { height < 2 ^ 15 }
-    ensures { GivesAll height result (listed (has_room brackets) (within brackets) (read brackets height) height (length tokens.now) tokens.now) }
+    ensures { GivesAll height result (listed (has_room brackets) (within brackets) (read brackets height) height
+        (length tokens.now) tokens.now) }
 {
     let mut row = MeasuredRow::new(alloc);
     let mut more = tokens.len();

@@ -39,7 +39,8 @@ fn optional_at<'a>(
 ) -> Read<'a, Option<RawExpr>>
     requires brackets { brackets ≤ 2 ^ 15 }
     requires height { height ≤ 2 ^ 15 }
-    ensures { Reads (option_map expr_view) result (optional (read brackets height expr) (declares brackets height false) sign tokens.now) }
+    ensures { Reads (option_map expr_view) result (optional (read brackets height expr) (declares brackets height false)
+        sign tokens.now) }
 {
     if is_sign(tokens, sign) {
         return Ok((None, tokens));
@@ -56,7 +57,8 @@ fn first_at<'a>(
 ) -> Read<'a, RawFirst>
     requires brackets { brackets ≤ 2 ^ 15 }
     requires height { height ≤ 2 ^ 15 }
-    ensures { Reads first_view result (first_part (read brackets height expr) (declares brackets height false) tokens.now) }
+    ensures { Reads first_view result (first_part (read brackets height expr) (declares brackets height false)
+        tokens.now) }
 {
     if begins_declaration(tokens) {
         let (declared, rest) = declaration_at(alloc, tokens, false, brackets, height)?;
@@ -78,7 +80,8 @@ fn parts_at<'a>(
 ) -> Read<'a, Header>
     requires brackets { brackets ≤ 2 ^ 15 }
     requires height { height ≤ 2 ^ 15 }
-    ensures { Reads header_view result (for_parts (read brackets height expr) (declares brackets height false) tokens.now) }
+    ensures { Reads header_view result (for_parts (read brackets height expr) (declares brackets height false)
+        tokens.now) }
 {
     let (first, rest) = first_at(alloc, tokens, brackets, height)?;
     let (test, rest) = optional_at(alloc, rest, Punct::Semicolon, brackets, height)?;

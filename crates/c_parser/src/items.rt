@@ -1,5 +1,5 @@
-// Items: the forms in their order. No form reads further than the item that a later one takes, so each token is read a bounded
-// number of times.
+// Items: the forms in their order. No form reads further than the item that a later one takes, so each token is read a
+// bounded number of times.
 ghost use Rattle.std.specs.Prelude.{◌≡◌, ◌≤◌, ◌^◌, ℕ, [], ◌∷◌};
 ghost use Rattle.c_parser.specs.Gives.{Reads};
 ghost use Rattle.c_parser.specs.SourceView.{stmt_view, item_if};
@@ -152,7 +152,8 @@ fn closed_or_nothing_at<'a>(
 ) -> Read<'a, Option<Item>>
     requires brackets { brackets ≤ 2 ^ 15 }
     requires height { height ≤ 2 ^ 15 }
-    ensures { Reads item_if result (first_form height brackets (read_closed height brackets ∷ read_nothing height brackets ∷ []) tokens.now) }
+    ensures { Reads item_if result (first_form height brackets (read_closed height brackets ∷ read_nothing height
+        brackets ∷ []) tokens.now) }
 {
     match closed_at(alloc, tokens, brackets) {
         Ok(item) => Ok(item),
@@ -169,7 +170,8 @@ fn global_or_later_at<'a>(
 ) -> Read<'a, Option<Item>>
     requires brackets { brackets ≤ 2 ^ 15 }
     requires height { height ≤ 2 ^ 15 }
-    ensures { Reads item_if result (first_form height brackets (read_global height brackets ∷ read_closed height brackets ∷ read_nothing height brackets ∷ []) tokens.now) }
+    ensures { Reads item_if result (first_form height brackets (read_global height brackets ∷ read_closed height
+        brackets ∷ read_nothing height brackets ∷ []) tokens.now) }
 {
     match global_at(alloc, tokens, brackets, height) {
         Ok(item) => Ok(item),
@@ -186,7 +188,8 @@ fn prototype_or_later_at<'a>(
 ) -> Read<'a, Option<Item>>
     requires brackets { brackets ≤ 2 ^ 15 }
     requires height { height ≤ 2 ^ 15 }
-    ensures { Reads item_if result (first_form height brackets (read_prototype height brackets ∷ read_global height brackets ∷ read_closed height brackets ∷ read_nothing height brackets ∷ []) tokens.now) }
+    ensures { Reads item_if result (first_form height brackets (read_prototype height brackets ∷ read_global height
+        brackets ∷ read_closed height brackets ∷ read_nothing height brackets ∷ []) tokens.now) }
 {
     match prototype_at(alloc, tokens, brackets) {
         Ok(item) => Ok(item),
@@ -203,7 +206,9 @@ fn function_or_later_at<'a>(
 ) -> Read<'a, Option<Item>>
     requires brackets { brackets ≤ 2 ^ 15 }
     requires height { height ≤ 2 ^ 15 }
-    ensures { Reads item_if result (first_form height brackets (read_function height brackets ∷ read_prototype height brackets ∷ read_global height brackets ∷ read_closed height brackets ∷ read_nothing height brackets ∷ []) tokens.now) }
+    ensures { Reads item_if result (first_form height brackets (read_function height brackets ∷ read_prototype height
+        brackets ∷ read_global height brackets ∷ read_closed height brackets ∷ read_nothing height brackets ∷ [])
+        tokens.now) }
 {
     match function_at(alloc, tokens, brackets, height) {
         Ok(item) => Ok(item),

@@ -32,18 +32,21 @@ pub fn one_syntax()
 
 /// One item is taken from the front of tokens: what the first form that spells a front of them within the limits gives.
 pub fn one_item()
-    ensures { (ts : List Token) (x y : Option Item) (r s : List Token) → Takes max_height max_brackets ts x r → Takes max_height max_brackets ts y s → (x ≡ y) × (r ≡ s) }
+    ensures { (ts : List Token) (x y : Option Item) (r s : List Token) → Takes max_height max_brackets ts x r
+        → Takes max_height max_brackets ts y s → (x ≡ y) × (r ≡ s) }
 {}
 
 /// Tokens spell at most one expression, whichever strength it has to have (1 is a whole expression, 15 a unary one).
 pub fn one_expression()
-    ensures { (brackets strength : ℕ) (ts : List Token) (e u : Exp) → 1 ≤ strength → strength ≤ 15 → Spells brackets strength ts e [] → Spells brackets strength ts u [] → e ≡ u }
+    ensures { (brackets strength : ℕ) (ts : List Token) (e u : Exp) → 1 ≤ strength → strength ≤ 15
+        → Spells brackets strength ts e [] → Spells brackets strength ts u [] → e ≡ u }
 {}
 
-/// The places of the parts of a source rise, as those of its tokens do: names, statements, expressions, the marks of choices and
-/// the closing parentheses of calls follow the order of the text.
+/// The places of the parts of a source rise, as those of its tokens do: names, statements, expressions, the marks of
+/// choices and the closing parentheses of calls follow the order of the text.
 pub fn text_order()
-    ensures { (ts : List Token) (xs : List Item) → IsSource ts xs → tokens_rise ts ≡ true → rises (spots_of_items xs) ≡ true }
+    ensures { (ts : List Token) (xs : List Item) → IsSource ts xs → tokens_rise ts ≡ true → rises (spots_of_items xs)
+        ≡ true }
 {}
 
 /// What orderly tokens spell meets the invariant of a source.
@@ -53,5 +56,6 @@ pub fn sources_are_formed()
 
 /// The tokens of a text are orderly.
 pub fn tokens_are_orderly()
-    ensures { (text : List ℕ) (ts : List Token) (end : Ending) → length text < 2 ^ 30 → Tokens text ts end → AreOrderly ts }
+    ensures { (text : List ℕ) (ts : List Token) (end : Ending) → length text < 2 ^ 30 → Tokens text ts end
+        → AreOrderly ts }
 {}

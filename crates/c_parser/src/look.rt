@@ -193,8 +193,8 @@ fn assign_of(sign: Punct) -> Option<Option<BinOp>>
     }
 }
 
-/// The assignment that stands behind an operand, where its strength and its first tokens allow one; with the operator of a
-/// compound one.
+/// The assignment that stands behind an operand, where its strength and its first tokens allow one; with the operator
+/// of a compound one.
 pub fn assign_at(tokens: &[Token], strength: usize, rest: &[Token]) -> Option<Option<BinOp>>
     ensures { result ≡ assignment_at tokens.now strength rest.now }
 {

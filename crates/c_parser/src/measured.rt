@@ -63,7 +63,8 @@ pub fn joined<'a>(
     requires limit { limit < 2 ^ 15 }
     requires left { Fits (limit + 1) left }
     requires right { Fits limit right }
-    ensures { Gives (limit + 1) result (grown limit spot (joined (joint_view joint) (expr_view left.expr) (expr_view right.expr)) rest.now) }
+    ensures { Gives (limit + 1) result (grown limit spot (joined (joint_view joint) (expr_view left.expr)
+        (expr_view right.expr)) rest.now) }
 {
     let parts = left.height.max(right.height);
     let left = boxed(alloc, left.expr)?;
@@ -102,7 +103,8 @@ pub fn assigned<'a>(
     requires limit { limit < 2 ^ 15 }
     requires left { Fits (limit + 1) left }
     requires right { Fits limit right }
-    ensures { Gives (limit + 1) result (grown limit spot (t.Assign op (expr_view left.expr) (expr_view right.expr)) rest.now) }
+    ensures { Gives (limit + 1) result (grown limit spot (t.Assign op (expr_view left.expr) (expr_view right.expr))
+        rest.now) }
 {
     let parts = left.height.max(right.height);
     let node = RawNode::Assign {
@@ -129,7 +131,8 @@ pub fn chosen<'a>(
     requires test { Fits (limit + 1) test }
     requires yes { Fits limit yes }
     requires no { Fits limit no }
-    ensures { Gives (limit + 1) result (grown limit spot (t.Choose mark (expr_view test.expr) (expr_view yes.expr) (expr_view no.expr)) rest.now) }
+    ensures { Gives (limit + 1) result (grown limit spot (t.Choose mark (expr_view test.expr) (expr_view yes.expr)
+        (expr_view no.expr)) rest.now) }
 {
     let parts = test.height.max(yes.height.max(no.height));
     let node = RawNode::Choose {
@@ -211,7 +214,8 @@ pub fn element_of(
     indexes: MeasuredRow,
 ) -> Result<Measured, OutOfMemory>
     requires { indexes.height < 2 ^ 15 }
-    ensures expr { IfOk result (λ e. expr_view e.expr ≡ t.Expr spot (t.Index word.now spot (t.exps (exprs_view indexes.exprs)))) }
+    ensures expr { IfOk result (λ e. expr_view e.expr
+        ≡ t.Expr spot (t.Index word.now spot (t.exps (exprs_view indexes.exprs)))) }
     ensures height { IfOk result (λ e. e.height ≡ indexes.height + 1) }
 {
     let height = indexes.height + 1;
@@ -233,7 +237,8 @@ pub fn call_of(
     close: Spot,
 ) -> Result<Measured, OutOfMemory>
     requires { arguments.height < 2 ^ 15 }
-    ensures expr { IfOk result (λ e. expr_view e.expr ≡ t.Expr spot (t.Call word.now spot (t.exps (exprs_view arguments.exprs)) close)) }
+    ensures expr { IfOk result (λ e. expr_view e.expr
+        ≡ t.Expr spot (t.Call word.now spot (t.exps (exprs_view arguments.exprs)) close)) }
     ensures height { IfOk result (λ e. e.height ≡ arguments.height + 1) }
 {
     let height = arguments.height + 1;

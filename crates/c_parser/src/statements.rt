@@ -1,5 +1,5 @@
-// Statements (C11 6.8). Only nesting recurs, which the height bounds: the statements of a block and the arms of a `switch`
-// are loops.
+// Statements (C11 6.8). Only nesting recurs, which the height bounds: the statements of a block and the arms of a
+// `switch` are loops.
 ghost use Rattle.std.specs.Prelude.{◌≡◌, ◌≤◌, ◌^◌, ◌&&◌, map, drop, IfOk};
 ghost use Rattle.c_tokens.specs.declared.token.Punct.TheVariants.{Semicolon};
 ghost use Rattle.c_parser.specs.Tree as t;
@@ -96,7 +96,8 @@ pub fn statement_at<'a>(
 ) -> Read<'a, RawStmt>
     requires brackets { brackets ≤ 2 ^ 15 }
     requires height { height ≤ 2 ^ 15 }
-    ensures { Reads stmt_view result (statement_level brackets (braced_within brackets) (armed_within brackets) height declared tokens.now) }
+    ensures { Reads stmt_view result (statement_level brackets (braced_within brackets) (armed_within brackets) height
+        declared tokens.now) }
 {
     if height == 0 {
         return Err(Unread::Unspelled);
@@ -442,7 +443,8 @@ fn label_at<'a>(
 
 /// `break` or `continue`, with its semicolon.
 fn jump_at(tokens: &[Token], form: RawForm) -> Read<'_, RawStmt>
-    ensures { Reads stmt_view result (closing Semicolon (t.Stmt (place tokens.now) (form_view form)) (drop 1 tokens.now)) }
+    ensures { Reads stmt_view result (closing Semicolon (t.Stmt (place tokens.now) (form_view form))
+        (drop 1 tokens.now)) }
 {
     let spot = place_at(tokens);
     let rest = closed(behind(tokens), Punct::Semicolon)?;

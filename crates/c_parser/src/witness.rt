@@ -21,8 +21,8 @@ pub const MAX_BRACKETS: usize = 200;
 /// So high may an expression be.
 pub const MAX_HEIGHT: usize = 200;
 
-/// The expression that the text of a witness spells: a conditional expression of C tokens, with no directive among them and
-/// without assignments, steps, calls, commas and casts to void.
+/// The expression that the text of a witness spells: a conditional expression of C tokens, with no directive among them
+/// and without assignments, steps, calls, commas and casts to void.
 pub fn parse_expr(alloc: Global, bytes: &[u8]) -> Result<RawExpr, ExprFault>
     ensures { AnswersExpression bytes.now result }
 {

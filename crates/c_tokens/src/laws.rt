@@ -9,5 +9,6 @@ pub fn some_outcome()
 
 /// A text has one outcome.
 pub fn one_outcome()
-    ensures { (text : List ℕ) (ts us : List Token) (end other : Ending) → Tokens text ts end → Tokens text us other → (ts ≡ us) × (end ≡ other) }
+    ensures { (text : List ℕ) (ts us : List Token) (end other : Ending) → Tokens text ts end → Tokens text us other
+        → (ts ≡ us) × (end ≡ other) }
 {}

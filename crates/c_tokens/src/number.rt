@@ -42,7 +42,8 @@ fn suffix_of(text: &[u8]) -> Option<(bool, u8)>
 /// The constant of these digits and this suffix, if it is one.
 fn constant_of(decimal: bool, radix: u64, digits: &[u8], suffix: &[u8]) -> Option<TokenKind>
     requires { 1 ≤ radix }
-    ensures { result ≡ (if nat_lt 0 (length digits.now) then Numbers.with_suffix decimal radix digits.now (Numbers.suffix_of suffix.now) else None) }
+    ensures { result ≡ (if nat_lt 0 (length digits.now) then Numbers.with_suffix decimal radix digits.now
+        (Numbers.suffix_of suffix.now) else None) }
 {
     if digits.is_empty() {
         return None;

@@ -1,5 +1,5 @@
-//! The parts of a source gone through: the typed program of it, and its first refusal. Each name, type, size, label and jump is judged
-//! where it stands; the walk never stops at a refusal, but keeps the first so far.
+//! The parts of a source gone through: the typed program of it, and its first refusal. Each name, type, size, label and
+//! jump is judged where it stands; the walk never stops at a refusal, but keeps the first so far.
 #![tactic(auto)]
 
 mod arms;

@@ -7,8 +7,8 @@ use check_scope::Table;
 use check_sequencing::Kept;
 use wv_base::Seq;
 
-/// What is known so far, while a source is gone through: the names in scope, all objects, the first refusal, and the full
-/// expressions that no typed tree holds.
+/// What is known so far, while a source is gone through: the names in scope, all objects, the first refusal, and the
+/// full expressions that no typed tree holds.
 #[derive(Drop)]
 pub struct Walk<'a> {
     pub table: Table<'a>,

@@ -1,5 +1,5 @@
-//! The rules of names, types and order of operands in C sources, as definitions: which parts of a source are refused, by which code
-//! and where; which refusal is the first; the program of a source that isn't refused.
+//! The rules of names, types and order of operands in C sources, as definitions: which parts of a source are refused,
+//! by which code and where; which refusal is the first; the program of a source that isn't refused.
 #![tactic(auto)]
 
 mod fault;

@@ -1,4 +1,5 @@
-//! The order of operands (C11 6.5p2): what expressions do, through calls too, and which operands must not stand without an order.
+//! The order of operands (C11 6.5p2): what expressions do, through calls too, and which operands must not stand without
+//! an order.
 #![tactic(auto)]
 
 mod bodies;

@@ -9,7 +9,8 @@ pub fn typed_trees_keep_order()
     ensures initializers { InitializersAgree }
 {}
 
-/// The tests of typed trees find exactly what is unordered among the parts of a source; they are put together as the parts are.
+/// The tests of typed trees find exactly what is unordered among the parts of a source; they are put together as the
+/// parts are.
 pub fn tests_find_unordered_parts()
     ensures { TestsAgree }
 {}

@@ -1,5 +1,5 @@
-//! Where operands without an order stand in a whole source (C11 6.5p2): the order rule of the parts of a source is that of its typed
-//! trees, so the places that `check_sequencing` lists are those of the rule.
+//! Where operands without an order stand in a whole source (C11 6.5p2): the order rule of the parts of a source is that
+//! of its typed trees, so the places that `check_sequencing` lists are those of the rule.
 #![tactic(auto)]
 
 mod bodies;

@@ -18,8 +18,9 @@ fn count_of(functions: &[Function]) -> Result<u32, OutOfMemory>
     }
 }
 
-/// The places of all operands without an order in a source, of which these are the objects, the typed functions, the full
-/// expressions that are kept of each function, and those outside of functions. A place is listed once for each that stands there.
+/// The places of all operands without an order in a source, of which these are the objects, the typed functions, the
+/// full expressions that are kept of each function, and those outside of functions. A place is listed once for each
+/// that stands there.
 pub fn unordered(
     alloc: Global,
     objects: &[Object],

@@ -8,7 +8,8 @@ ghost use Rattle.c_parser.specs.Formed.{IsFormed};
 ghost use Rattle.check_rules.specs.First.{IsUnrefused, wrong_main};
 ghost use Rattle.check_rules.specs.Checked.{program_of};
 
-/// The program of a source without refusal is a checked program: its objects, types, scopes, blocks, jumps and places are in order.
+/// The program of a source without refusal is a checked program: its objects, types, scopes, blocks, jumps and places
+/// are in order.
 pub fn checked_programs_fit()
     ensures { (m : DataModel) (property : Property) (items : List Item) → IsUnrefused m items → wrong_main items ≡ None
         → IsFormed items → IsProgram (program_of m property items) }

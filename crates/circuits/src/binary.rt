@@ -49,7 +49,8 @@ pub fn apply_bits(
     requires b_in { AreTyped model right net.old b.now.bits }
     requires room { length net.old < 2 ^ 28 }
     ensures grown { Grown (binary_cost model op ty) net.old net.new }
-    ensures value { IfOk result (λ r. Gives model (binary_type op ty) net.new r (λ v. apply_of model op ty (typed model ty v net.old a.now.bits) (typed model right v net.old b.now.bits))) }
+    ensures value { IfOk result (λ r. Gives model (binary_type op ty) net.new r
+        (λ v. apply_of model op ty (typed model ty v net.old a.now.bits) (typed model right v net.old b.now.bits))) }
 {
     let x = a.bits.as_slice();
     let y = b.bits.as_slice();

@@ -54,7 +54,8 @@ pub fn convert_bits(
     requires a_in { AreTyped model from net.old a.now.bits }
     requires room { length net.old < 2 ^ 28 }
     ensures grown { Grown (conversion_cost model from to) net.old net.new }
-    ensures value { IfOk result (λ r. Reads model to net.new r.bits (λ v. fit model to (typed model from v net.old a.now.bits))) }
+    ensures value { IfOk result (λ r. Reads model to net.new r.bits
+        (λ v. fit model to (typed model from v net.old a.now.bits))) }
 {
     let out = converted(alloc, net, model, from, to, a.bits.as_slice())?;
     let bits = Seq::from_vec(out);
@@ -76,7 +77,8 @@ pub fn choose_bits(
     requires wide { length yes.now.bits ≤ 64 }
     requires room { length net.old < 2 ^ 28 }
     ensures grown { Grown (4 * length yes.now.bits) net.old net.new }
-    ensures value { IfOk result (λ r. Counts net.new r.bits (length yes.now.bits) (λ v. cond (holds v net.old test) (number v net.old yes.now.bits) (number v net.old no.now.bits))) }
+    ensures value { IfOk result (λ r. Counts net.new r.bits (length yes.now.bits)
+        (λ v. cond (holds v net.old test) (number v net.old yes.now.bits) (number v net.old no.now.bits))) }
 {
     let out = choose(alloc, net, test, yes.bits.as_slice(), no.bits.as_slice())?;
     let bits = Seq::from_vec(out);

@@ -29,7 +29,8 @@ pub fn less(
     requires b_in { AreTyped model ty net.old b.now }
     requires room { length net.old + 16 * width_of model ty ≤ 2 ^ 31 }
     ensures grown { Grown (16 * width_of model ty) net.old net.new }
-    ensures value { IfOk result (λ r. Gives model Int net.new r (λ v. apply_of model Lt ty (typed model ty v net.old a.now) (typed model ty v net.old b.now))) }
+    ensures value { IfOk result (λ r. Gives model Int net.new r
+        (λ v. apply_of model Lt ty (typed model ty v net.old a.now) (typed model ty v net.old b.now))) }
 {
     let less = below(net, model, ty, a, b)?;
     let out = truth_bits(alloc, net, model, less)?;
@@ -50,7 +51,8 @@ pub fn at_most(
     requires b_in { AreTyped model ty net.old b.now }
     requires room { length net.old + 16 * width_of model ty ≤ 2 ^ 31 }
     ensures grown { Grown (16 * width_of model ty) net.old net.new }
-    ensures value { IfOk result (λ r. Gives model Int net.new r (λ v. apply_of model Le ty (typed model ty v net.old a.now) (typed model ty v net.old b.now))) }
+    ensures value { IfOk result (λ r. Gives model Int net.new r
+        (λ v. apply_of model Le ty (typed model ty v net.old a.now) (typed model ty v net.old b.now))) }
 {
     let more = below(net, model, ty, b, a)?;
     let out = truth_bits(alloc, net, model, not(more))?;
@@ -70,7 +72,8 @@ pub fn equal(
     requires b_in { AreTyped model ty net.old b.now }
     requires room { length net.old + 16 * width_of model ty ≤ 2 ^ 31 }
     ensures grown { Grown (16 * width_of model ty) net.old net.new }
-    ensures value { IfOk result (λ r. Gives model Int net.new r (λ v. apply_of model Eq ty (typed model ty v net.old a.now) (typed model ty v net.old b.now))) }
+    ensures value { IfOk result (λ r. Gives model Int net.new r
+        (λ v. apply_of model Eq ty (typed model ty v net.old a.now) (typed model ty v net.old b.now))) }
 {
     let other = differ(alloc, net, model, ty, a, b)?;
     let out = truth_bits(alloc, net, model, not(other))?;
@@ -90,7 +93,8 @@ pub fn unequal(
     requires b_in { AreTyped model ty net.old b.now }
     requires room { length net.old + 16 * width_of model ty ≤ 2 ^ 31 }
     ensures grown { Grown (16 * width_of model ty) net.old net.new }
-    ensures value { IfOk result (λ r. Gives model Int net.new r (λ v. apply_of model Ne ty (typed model ty v net.old a.now) (typed model ty v net.old b.now))) }
+    ensures value { IfOk result (λ r. Gives model Int net.new r
+        (λ v. apply_of model Ne ty (typed model ty v net.old a.now) (typed model ty v net.old b.now))) }
 {
     let other = differ(alloc, net, model, ty, a, b)?;
     let out = truth_bits(alloc, net, model, other)?;

@@ -127,7 +127,8 @@ pub fn converted(
     requires a_in { AreTyped model from net.old a.now }
     requires room { length net.old + conversion_cost model from to ≤ 2 ^ 31 }
     ensures grown { Grown (conversion_cost model from to) net.old net.new }
-    ensures value { IfOk result (λ r. Reads model to net.new r.items (λ v. fit model to (typed model from v net.old a.now))) }
+    ensures value { IfOk result (λ r. Reads model to net.new r.items
+        (λ v. fit model to (typed model from v net.old a.now))) }
 {
     match to {
         IntType::Bool => match from {

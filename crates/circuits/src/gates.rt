@@ -67,7 +67,8 @@ pub fn pick(net: &mut Net, test: Bit, yes: Bit, other: Bit) -> Result<Bit, OutOf
     requires other_in { IsIn net.old other }
     requires room { length net.old + 3 ≤ 2 ^ 31 }
     ensures grown { Grown 3 net.old net.new }
-    ensures value { IfOk result (λ r. Means net.new r (λ v. cond (holds v net.old test) (holds v net.old yes) (holds v net.old other))) }
+    ensures value { IfOk result (λ r. Means net.new r (λ v. cond (holds v net.old test) (holds v net.old yes)
+        (holds v net.old other))) }
 {
     let taken = net.and(test, yes)?;
     let left = net.and(not(test), other)?;
@@ -94,14 +95,16 @@ pub fn full(net: &mut Net, a: Bit, b: Bit, c: Bit) -> Result<Sum, OutOfMemory>
     })
 }
 
-/// Whether a number is below another, `a` and `b` being their highest digits: `b` where these differ, else `lower`, the answer for the digits below.
+/// Whether a number is below another, `a` and `b` being their highest digits: `b` where these differ, else `lower`, the
+/// answer for the digits below.
 pub fn compared(net: &mut Net, a: Bit, b: Bit, lower: Bit) -> Result<Bit, OutOfMemory>
     requires a_in { IsIn net.old a }
     requires b_in { IsIn net.old b }
     requires lower_in { IsIn net.old lower }
     requires room { length net.old + 4 ≤ 2 ^ 31 }
     ensures grown { Grown 4 net.old net.new }
-    ensures value { IfOk result (λ r. Means net.new r (λ v. cond (xor (holds v net.old a) (holds v net.old b)) (holds v net.old b) (holds v net.old lower))) }
+    ensures value { IfOk result (λ r. Means net.new r (λ v. cond (xor (holds v net.old a) (holds v net.old b))
+        (holds v net.old b) (holds v net.old lower))) }
 {
     let less = net.and(not(a), b)?;
     let more = net.and(a, not(b))?;

@@ -20,7 +20,8 @@ pub fn input_bits(
     requires room { length net.old < 2 ^ 28 }
     ensures fed { Fed (width_of model ty) net.old net.new }
     ensures all { IfOk result (λ r. count_inputs net.new ≡ count_inputs net.old + width_of model ty) }
-    ensures value { IfOk result (λ r. Counts net.new r.bits (width_of model ty) (λ v. drawn v (count_inputs net.old) (width_of model ty))) }
+    ensures value { IfOk result (λ r. Counts net.new r.bits (width_of model ty)
+        (λ v. drawn v (count_inputs net.old) (width_of model ty))) }
 {
     let mut out = Vec::new(alloc);
     for i in 0..width(model, ty) {

@@ -78,7 +78,8 @@ pub fn choose(
     requires other_in { AreIn net.old other.now }
     requires room { length net.old + 3 * length yes.now ≤ 2 ^ 31 }
     ensures grown { Grown (3 * length yes.now) net.old net.new }
-    ensures value { IfOk result (λ r. Counts net.new r.items (length yes.now) (λ v. cond (holds v net.old test) (number v net.old yes.now) (number v net.old other.now))) }
+    ensures value { IfOk result (λ r. Counts net.new r.items (length yes.now)
+        (λ v. cond (holds v net.old test) (number v net.old yes.now) (number v net.old other.now))) }
 {
     let mut out = Vec::new(alloc);
     for i in 0..yes.len() {
@@ -101,7 +102,8 @@ pub fn bitwise(
     requires b_in { AreIn net.old b.now }
     requires room { length net.old + 3 * length a.now ≤ 2 ^ 31 }
     ensures grown { Grown (3 * length a.now) net.old net.new }
-    ensures value { IfOk result (λ r. Counts net.new r.items (length a.now) (λ v. digits_of kind (number v net.old a.now) (number v net.old b.now))) }
+    ensures value { IfOk result (λ r. Counts net.new r.items (length a.now)
+        (λ v. digits_of kind (number v net.old a.now) (number v net.old b.now))) }
 {
     let mut out = Vec::new(alloc);
     for i in 0..a.len() {
@@ -125,7 +127,8 @@ pub fn sum(
     requires c_in { IsIn net.old c }
     requires room { length net.old + 7 * length a.now ≤ 2 ^ 31 }
     ensures grown { Grown (7 * length a.now) net.old net.new }
-    ensures value { IfOk result (λ r. Counts net.new r.items (length a.now + 1) (λ v. number v net.old a.now + number v net.old b.now + digit (holds v net.old c))) }
+    ensures value { IfOk result (λ r. Counts net.new r.items (length a.now + 1)
+        (λ v. number v net.old a.now + number v net.old b.now + digit (holds v net.old c))) }
 {
     let mut carry = c;
     let mut out = Vec::new(alloc);
@@ -150,7 +153,8 @@ pub fn difference(
     requires b_in { AreIn net.old b.now }
     requires room { length net.old + 7 * length a.now ≤ 2 ^ 31 }
     ensures grown { Grown (7 * length a.now) net.old net.new }
-    ensures value { IfOk result (λ r. Counts net.new r.items (length a.now + 1) (λ v. number v net.old a.now + (2 ^ length a.now - number v net.old b.now))) }
+    ensures value { IfOk result (λ r. Counts net.new r.items (length a.now + 1)
+        (λ v. number v net.old a.now + (2 ^ length a.now - number v net.old b.now))) }
 {
     let other = flipped(alloc, b)?;
     let yes = net.yes();

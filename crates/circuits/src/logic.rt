@@ -54,7 +54,8 @@ pub fn bit_operator(
     requires b_in { AreTyped model ty net.old b.now }
     requires room { length net.old + 4 * width_of model ty ≤ 2 ^ 31 }
     ensures grown { Grown (4 * width_of model ty) net.old net.new }
-    ensures value { IfOk result (λ r. Gives model ty net.new r (λ v. bits model ty (digits_of kind) (typed model ty v net.old a.now) (typed model ty v net.old b.now))) }
+    ensures value { IfOk result (λ r. Gives model ty net.new r
+        (λ v. bits model ty (digits_of kind) (typed model ty v net.old a.now) (typed model ty v net.old b.now))) }
 {
     let never = not(net.yes());
     let value = bitwise(alloc, net, kind, a, b)?;
@@ -76,7 +77,8 @@ pub fn complement(
 ) -> Result<Outcome, OutOfMemory>
     requires promoted { promote_of ty ≡ ty }
     requires a_in { AreTyped model ty net.now a.now }
-    ensures { IfOk result (λ r. Gives model ty net.now r (λ v. apply_one_of model BitNot ty (typed model ty v net.now a.now))) }
+    ensures { IfOk result (λ r. Gives model ty net.now r
+        (λ v. apply_one_of model BitNot ty (typed model ty v net.now a.now))) }
 {
     let value = flipped(alloc, a)?;
     let never = not(net.yes());

@@ -22,7 +22,8 @@ fn scaled(alloc: Global, net: &mut Net, a: &[Bit], b: Bit) -> Result<Vec<Bit>, O
     requires b_in { IsIn net.old b }
     requires room { length net.old + length a.now ≤ 2 ^ 31 }
     ensures grown { Grown (length a.now) net.old net.new }
-    ensures value { IfOk result (λ r. Counts net.new r.items (length a.now) (λ v. digit (holds v net.old b) * number v net.old a.now)) }
+    ensures value { IfOk result (λ r. Counts net.new r.items (length a.now)
+        (λ v. digit (holds v net.old b) * number v net.old a.now)) }
 {
     let mut out = Vec::new(alloc);
     for i in 0..a.len() {
@@ -47,7 +48,8 @@ fn add_row(
     requires wide { length total.items ≡ length a.now + i }
     requires room { length net.old + 8 * length a.now ≤ 2 ^ 31 }
     ensures grown { Grown (8 * length a.now) net.old net.new }
-    ensures value { IfOk result (λ r. Counts net.new r.items (length a.now + i + 1) (λ v. number v net.old total.items + 2 ^ i * (digit (holds v net.old b) * number v net.old a.now))) }
+    ensures value { IfOk result (λ r. Counts net.new r.items (length a.now + i + 1)
+        (λ v. number v net.old total.items + 2 ^ i * (digit (holds v net.old b) * number v net.old a.now))) }
 {
     let row = scaled(alloc, net, a, b)?;
     let never = not(net.yes());
@@ -63,7 +65,8 @@ fn product(alloc: Global, net: &mut Net, a: &[Bit], b: &[Bit]) -> Result<Vec<Bit
     requires b_in { AreIn net.old b.now }
     requires room { length net.old + length b.now * (8 * length a.now) ≤ 2 ^ 31 }
     ensures grown { Grown (length b.now * (8 * length a.now)) net.old net.new }
-    ensures value { IfOk result (λ r. Counts net.new r.items (length a.now + length b.now) (λ v. number v net.old a.now * number v net.old b.now)) }
+    ensures value { IfOk result (λ r. Counts net.new r.items (length a.now + length b.now)
+        (λ v. number v net.old a.now * number v net.old b.now)) }
 {
     let mut total = zeros(alloc, net, a.len())?;
     for i in 0..b.len() {
@@ -87,7 +90,9 @@ fn size_of_product(
     requires b_in { AreIn net.old b.now }
     requires room { length net.old + (20 * length a.now + length a.now * (8 * length a.now)) ≤ 2 ^ 31 }
     ensures grown { Grown (20 * length a.now + length a.now * (8 * length a.now)) net.old net.new }
-    ensures value { IfOk result (λ r. Counts net.new r.items (length a.now + length a.now) (λ v. size (length a.now) (is_signed ty) (number v net.old a.now) * size (length a.now) (is_signed ty) (number v net.old b.now))) }
+    ensures value { IfOk result (λ r. Counts net.new r.items (length a.now + length a.now)
+        (λ v. size (length a.now) (is_signed ty) (number v net.old a.now) * size (length a.now) (is_signed ty)
+        (number v net.old b.now))) }
 {
     let x = magnitude(alloc, net, ty, a)?;
     let y = magnitude(alloc, net, ty, b)?;
@@ -109,7 +114,8 @@ pub fn multiply(
     requires b_in { AreTyped model ty net.old b.now }
     requires room { length net.old + 32 * width_of model ty ^ 2 ≤ 2 ^ 31 }
     ensures grown { Grown (32 * width_of model ty ^ 2) net.old net.new }
-    ensures value { IfOk result (λ r. Gives model ty net.new r (λ v. apply_of model Mul ty (typed model ty v net.old a.now) (typed model ty v net.old b.now))) }
+    ensures value { IfOk result (λ r. Gives model ty net.new r
+        (λ v. apply_of model Mul ty (typed model ty v net.old a.now) (typed model ty v net.old b.now))) }
 {
     let never = not(net.yes());
     let left = sign(net, ty, a);

@@ -64,7 +64,8 @@ fn divide_sizes(alloc: Global, net: &mut Net, a: &[Bit], b: &[Bit]) -> Result<Di
     requires b_in { AreIn net.old b.now }
     requires room { length net.old + length a.now * (10 * (length b.now + 1)) ≤ 2 ^ 31 }
     ensures grown { Grown (length a.now * (10 * (length b.now + 1))) net.old net.new }
-    ensures value { IfOk result (λ r. Divides net.new (length a.now) (length b.now) (λ v. number v net.old a.now) (λ v. number v net.old b.now) r.quotient.items r.rest.items) }
+    ensures value { IfOk result (λ r. Divides net.new (length a.now) (length b.now) (λ v. number v net.old a.now)
+        (λ v. number v net.old b.now) r.quotient.items r.rest.items) }
 {
     let mut rest = zeros(alloc, net, b.len())?;
     let mut quotient = Vec::new(alloc);
@@ -91,7 +92,9 @@ fn divide_magnitudes(
     requires b_in { AreIn net.old b.now }
     requires room { length net.old + (20 * length a.now + length a.now * (10 * (length a.now + 1))) ≤ 2 ^ 31 }
     ensures grown { Grown (20 * length a.now + length a.now * (10 * (length a.now + 1))) net.old net.new }
-    ensures value { IfOk result (λ r. Divides net.new (length a.now) (length a.now) (λ v. size (length a.now) (is_signed ty) (number v net.old a.now)) (λ v. size (length a.now) (is_signed ty) (number v net.old b.now)) r.quotient.items r.rest.items) }
+    ensures value { IfOk result (λ r. Divides net.new (length a.now) (length a.now)
+        (λ v. size (length a.now) (is_signed ty) (number v net.old a.now))
+        (λ v. size (length a.now) (is_signed ty) (number v net.old b.now)) r.quotient.items r.rest.items) }
 {
     let x = magnitude(alloc, net, ty, a)?;
     let y = magnitude(alloc, net, ty, b)?;
@@ -121,7 +124,8 @@ fn judge_quotient(
     requires quotient_in { AreIn net.old quotient.now }
     requires room { length net.old + (5 * length b.now + 2) ≤ 2 ^ 31 }
     ensures grown { Grown (5 * length b.now + 2) net.old net.new }
-    ensures value { IfOk result (λ r. IsJudged net.old net.new (is_signed ty) b.now quotient.now test r.some r.overflow) }
+    ensures value { IfOk result (λ r. IsJudged net.old net.new (is_signed ty) b.now quotient.now test r.some
+        r.overflow) }
 {
     let some = any(net, b)?;
     let far = exceeds(alloc, net, ty, b.len(), test, quotient)?;
@@ -143,7 +147,8 @@ pub fn divide(
     requires b_in { AreTyped model ty net.old b.now }
     requires room { length net.old + 32 * width_of model ty ^ 2 ≤ 2 ^ 31 }
     ensures grown { Grown (32 * width_of model ty ^ 2) net.old net.new }
-    ensures value { IfOk result (λ r. Gives model ty net.new r (λ v. apply_of model Div ty (typed model ty v net.old a.now) (typed model ty v net.old b.now))) }
+    ensures value { IfOk result (λ r. Gives model ty net.new r
+        (λ v. apply_of model Div ty (typed model ty v net.old a.now) (typed model ty v net.old b.now))) }
 {
     let left = sign(net, ty, a);
     let right = sign(net, ty, b);
@@ -173,7 +178,8 @@ pub fn remainder(
     requires b_in { AreTyped model ty net.old b.now }
     requires room { length net.old + 32 * width_of model ty ^ 2 ≤ 2 ^ 31 }
     ensures grown { Grown (32 * width_of model ty ^ 2) net.old net.new }
-    ensures value { IfOk result (λ r. Gives model ty net.new r (λ v. apply_of model Rem ty (typed model ty v net.old a.now) (typed model ty v net.old b.now))) }
+    ensures value { IfOk result (λ r. Gives model ty net.new r
+        (λ v. apply_of model Rem ty (typed model ty v net.old a.now) (typed model ty v net.old b.now))) }
 {
     let left = sign(net, ty, a);
     let right = sign(net, ty, b);

@@ -29,7 +29,8 @@ fn raised(
     requires a_in { AreIn net.old a.now }
     requires room { length net.old + 3 * (length a.now + n) ≤ 2 ^ 31 }
     ensures grown { Grown (3 * (length a.now + n)) net.old net.new }
-    ensures value { IfOk result (λ r. Counts net.new r.items (length a.now + n) (λ v. number v net.old a.now * 2 ^ (n * digit (holds v net.old test)))) }
+    ensures value { IfOk result (λ r. Counts net.new r.items (length a.now + n)
+        (λ v. number v net.old a.now * 2 ^ (n * digit (holds v net.old test)))) }
 {
     let gap = zeros(alloc, net, n)?;
     let moved = joined(alloc, &gap, a)?;
@@ -51,7 +52,8 @@ fn lowered(
     requires within { n ≤ length a.now }
     requires room { length net.old + 3 * length a.now ≤ 2 ^ 31 }
     ensures grown { Grown (3 * length a.now) net.old net.new }
-    ensures value { IfOk result (λ r. Counts net.new r.items (length a.now) (λ v. number v net.old a.now / 2 ^ (n * digit (holds v net.old test)))) }
+    ensures value { IfOk result (λ r. Counts net.new r.items (length a.now)
+        (λ v. number v net.old a.now / 2 ^ (n * digit (holds v net.old test)))) }
 {
     let gap = zeros(alloc, net, n)?;
     let moved = joined(alloc, &a[n..], &gap)?;
@@ -72,7 +74,8 @@ fn raised_by(
     requires tests_in { AreIn net.old tests.now }
     requires room { length net.old + length tests.now * (3 * (length a.now + 2 ^ length tests.now)) ≤ 2 ^ 31 }
     ensures grown { Grown (length tests.now * (3 * (length a.now + 2 ^ length tests.now))) net.old net.new }
-    ensures value { IfOk result (λ r. Counts net.new r.items (length a.now + 2 ^ length tests.now - 1) (λ v. number v net.old a.now * 2 ^ number v net.old tests.now)) }
+    ensures value { IfOk result (λ r. Counts net.new r.items (length a.now + 2 ^ length tests.now - 1)
+        (λ v. number v net.old a.now * 2 ^ number v net.old tests.now)) }
 {
     let mut places = 1;
     let mut out = copied(alloc, a)?;
@@ -96,7 +99,8 @@ fn lowered_by(
     requires tests_in { AreIn net.old tests.now }
     requires room { length net.old + length tests.now * (3 * length a.now) ≤ 2 ^ 31 }
     ensures grown { Grown (length tests.now * (3 * length a.now)) net.old net.new }
-    ensures value { IfOk result (λ r. Counts net.new r.items (length a.now) (λ v. number v net.old a.now / 2 ^ number v net.old tests.now)) }
+    ensures value { IfOk result (λ r. Counts net.new r.items (length a.now)
+        (λ v. number v net.old a.now / 2 ^ number v net.old tests.now)) }
 {
     let mut places = 1;
     let mut out = copied(alloc, a)?;
@@ -125,7 +129,9 @@ fn loses(net: &mut Net, ty: IntType, a: &[Bit], moved: &[Bit]) -> Result<Bit, Ou
     requires moved_in { AreIn net.old moved.now }
     requires room { length net.old + (length a.now + 2) ≤ 2 ^ 31 }
     ensures grown { Grown (length a.now + 2) net.old net.new }
-    ensures value { IfOk result (λ r. Means net.new r (λ v. is_signed ty && (negative (length a.now) (is_signed ty) (number v net.old a.now) || not (nat_eq (number v net.old moved.now / 2 ^ (length a.now - 1)) 0)))) }
+    ensures value { IfOk result (λ r. Means net.new r
+        (λ v. is_signed ty && (negative (length a.now) (is_signed ty) (number v net.old a.now) || not
+        (nat_eq (number v net.old moved.now / 2 ^ (length a.now - 1)) 0)))) }
 {
     let minus = sign(net, ty, a);
     let some = any(net, &moved[a.len() - 1..])?;
@@ -151,7 +157,8 @@ pub fn shift_left(
     requires b_in { AreTyped model right net.old b.now }
     requires room { length net.old + 64 * width_of model ty ≤ 2 ^ 31 }
     ensures grown { Grown (64 * width_of model ty) net.old net.new }
-    ensures value { IfOk result (λ r. Gives model ty net.new r (λ v. apply_of model Shl ty (typed model ty v net.old a.now) (typed model right v net.old b.now))) }
+    ensures value { IfOk result (λ r. Gives model ty net.new r
+        (λ v. apply_of model Shl ty (typed model ty v net.old a.now) (typed model right v net.old b.now))) }
 {
     let k = count_digits(a.len());
     let far = any(net, &b[k..])?;
@@ -183,7 +190,8 @@ pub fn shift_right(
     requires b_in { AreTyped model right net.old b.now }
     requires room { length net.old + 64 * width_of model ty ≤ 2 ^ 31 }
     ensures grown { Grown (64 * width_of model ty) net.old net.new }
-    ensures value { IfOk result (λ r. Gives model ty net.new r (λ v. apply_of model Shr ty (typed model ty v net.old a.now) (typed model right v net.old b.now))) }
+    ensures value { IfOk result (λ r. Gives model ty net.new r
+        (λ v. apply_of model Shr ty (typed model ty v net.old a.now) (typed model right v net.old b.now))) }
 {
     let k = count_digits(a.len());
     let never = not(net.yes());

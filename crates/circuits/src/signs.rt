@@ -35,7 +35,9 @@ pub fn with_sign(
     requires a_in { AreIn net.old a.now }
     requires room { length net.old + 10 * length a.now ≤ 2 ^ 31 }
     ensures grown { Grown (10 * length a.now) net.old net.new }
-    ensures value { IfOk result (λ r. Counts net.new r.items (length a.now) (λ v. cond (holds v net.old test) ((2 ^ length a.now - number v net.old a.now) % 2 ^ length a.now) (number v net.old a.now))) }
+    ensures value { IfOk result (λ r. Counts net.new r.items (length a.now)
+        (λ v. cond (holds v net.old test) ((2 ^ length a.now - number v net.old a.now) % 2 ^ length a.now)
+        (number v net.old a.now))) }
 {
     let zero = zeros(alloc, net, a.len())?;
     let mut opposite = difference(alloc, net, &zero, a)?;
@@ -55,7 +57,8 @@ pub fn complemented(
     requires a_in { AreIn net.old a.now }
     requires room { length net.old + 3 * length a.now ≤ 2 ^ 31 }
     ensures grown { Grown (3 * length a.now) net.old net.new }
-    ensures value { IfOk result (λ r. Counts net.new r.items (length a.now) (λ v. cond (holds v net.old test) (2 ^ length a.now - 1 - number v net.old a.now) (number v net.old a.now))) }
+    ensures value { IfOk result (λ r. Counts net.new r.items (length a.now)
+        (λ v. cond (holds v net.old test) (2 ^ length a.now - 1 - number v net.old a.now) (number v net.old a.now))) }
 {
     let other = flipped(alloc, a)?;
     let out = choose(alloc, net, test, &other, a)?;
@@ -73,7 +76,8 @@ pub fn magnitude(
     requires a_in { AreIn net.old a.now }
     requires room { length net.old + 10 * length a.now ≤ 2 ^ 31 }
     ensures grown { Grown (10 * length a.now) net.old net.new }
-    ensures value { IfOk result (λ r. Counts net.new r.items (length a.now) (λ v. size (length a.now) (is_signed ty) (number v net.old a.now))) }
+    ensures value { IfOk result (λ r. Counts net.new r.items (length a.now)
+        (λ v. size (length a.now) (is_signed ty) (number v net.old a.now))) }
 {
     let test = sign(net, ty, a);
     let out = with_sign(alloc, net, test, a)?;
@@ -110,7 +114,9 @@ pub fn exceeds(
     requires distance_in { AreIn net.old distance.now }
     requires room { length net.old + (4 * length distance.now + 1) ≤ 2 ^ 31 }
     ensures grown { Grown (4 * length distance.now + 1) net.old net.new }
-    ensures value { IfOk result (λ r. Means net.new r (λ v. is_signed ty && not (nat_lt (number v net.old distance.now) (2 ^ (w - 1) + digit (holds v net.old test))))) }
+    ensures value { IfOk result (λ r. Means net.new r
+        (λ v. is_signed ty && not (nat_lt (number v net.old distance.now)
+        (2 ^ (w - 1) + digit (holds v net.old test))))) }
 {
     let least = limit(alloc, net, test, w, distance.len())?;
     let less = smaller(net, distance, &least)?;

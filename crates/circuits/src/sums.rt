@@ -23,7 +23,8 @@ fn turned(net: &mut Net, a: Bit, b: Bit, total: Bit) -> Result<Bit, OutOfMemory>
     requires total_in { IsIn net.old total }
     requires room { length net.old + 7 ≤ 2 ^ 31 }
     ensures grown { Grown 7 net.old net.new }
-    ensures value { IfOk result (λ r. Means net.new r (λ v. not (xor (holds v net.old a) (holds v net.old b)) && xor (holds v net.old a) (holds v net.old total))) }
+    ensures value { IfOk result (λ r. Means net.new r (λ v. not (xor (holds v net.old a) (holds v net.old b)) && xor
+        (holds v net.old a) (holds v net.old total))) }
 {
     let apart = xor(net, a, b)?;
     let other = xor(net, a, total)?;
@@ -45,7 +46,8 @@ pub fn add(
     requires b_in { AreTyped model ty net.old b.now }
     requires room { length net.old + 16 * width_of model ty ≤ 2 ^ 31 }
     ensures grown { Grown (16 * width_of model ty) net.old net.new }
-    ensures value { IfOk result (λ r. Gives model ty net.new r (λ v. apply_of model Add ty (typed model ty v net.old a.now) (typed model ty v net.old b.now))) }
+    ensures value { IfOk result (λ r. Gives model ty net.new r
+        (λ v. apply_of model Add ty (typed model ty v net.old a.now) (typed model ty v net.old b.now))) }
 {
     let never = not(net.yes());
     let mut total = sum(alloc, net, a, b, never)?;
@@ -76,7 +78,8 @@ pub fn subtract(
     requires b_in { AreTyped model ty net.old b.now }
     requires room { length net.old + 16 * width_of model ty ≤ 2 ^ 31 }
     ensures grown { Grown (16 * width_of model ty) net.old net.new }
-    ensures value { IfOk result (λ r. Gives model ty net.new r (λ v. apply_of model Sub ty (typed model ty v net.old a.now) (typed model ty v net.old b.now))) }
+    ensures value { IfOk result (λ r. Gives model ty net.new r
+        (λ v. apply_of model Sub ty (typed model ty v net.old a.now) (typed model ty v net.old b.now))) }
 {
     let never = not(net.yes());
     let mut rest = difference(alloc, net, a, b)?;
@@ -106,7 +109,8 @@ pub fn below(
     requires b_in { AreTyped model ty net.old b.now }
     requires room { length net.old + 16 * width_of model ty ≤ 2 ^ 31 }
     ensures grown { Grown (16 * width_of model ty) net.old net.new }
-    ensures value { IfOk result (λ r. Means net.new r (λ v. int_lt (typed model ty v net.old a.now) (typed model ty v net.old b.now))) }
+    ensures value { IfOk result (λ r. Means net.new r
+        (λ v. int_lt (typed model ty v net.old a.now) (typed model ty v net.old b.now))) }
 {
     let less = smaller(net, a, b)?;
     let left = sign(net, ty, a);
@@ -129,7 +133,8 @@ pub fn differ(
     requires b_in { AreTyped model ty net.old b.now }
     requires room { length net.old + 16 * width_of model ty ≤ 2 ^ 31 }
     ensures grown { Grown (16 * width_of model ty) net.old net.new }
-    ensures value { IfOk result (λ r. Means net.new r (λ v. not (int_eq (typed model ty v net.old a.now) (typed model ty v net.old b.now)))) }
+    ensures value { IfOk result (λ r. Means net.new r
+        (λ v. not (int_eq (typed model ty v net.old a.now) (typed model ty v net.old b.now)))) }
 {
     let apart = bitwise(alloc, net, Gate::Xor, a, b)?;
     let differ = any(net, &apart)?;

@@ -24,7 +24,8 @@ fn unchanged(
     a: &[Bit],
 ) -> Result<Outcome, OutOfMemory>
     requires a_in { AreTyped model ty net.now a.now }
-    ensures { IfOk result (λ r. Gives model ty net.now r (λ v. apply_one_of model Plus ty (typed model ty v net.now a.now))) }
+    ensures { IfOk result (λ r. Gives model ty net.now r
+        (λ v. apply_one_of model Plus ty (typed model ty v net.now a.now))) }
 {
     let never = not(net.yes());
     let value = copied(alloc, a)?;
@@ -47,7 +48,8 @@ fn negate(
     requires a_in { AreTyped model ty net.old a.now }
     requires room { length net.old + 16 * width_of model ty ≤ 2 ^ 31 }
     ensures grown { Grown (16 * width_of model ty) net.old net.new }
-    ensures value { IfOk result (λ r. Gives model ty net.new r (λ v. apply_one_of model Neg ty (typed model ty v net.old a.now))) }
+    ensures value { IfOk result (λ r. Gives model ty net.new r
+        (λ v. apply_one_of model Neg ty (typed model ty v net.old a.now))) }
 {
     let zero = zeros(alloc, net, a.len())?;
     let out = subtract(alloc, net, model, ty, &zero, a)?;
@@ -65,7 +67,8 @@ fn is_zero(
     requires a_in { AreTyped model ty net.old a.now }
     requires room { length net.old + width_of model ty ≤ 2 ^ 31 }
     ensures grown { Grown (width_of model ty) net.old net.new }
-    ensures value { IfOk result (λ r. Gives model Int net.new r (λ v. apply_one_of model Not ty (typed model ty v net.old a.now))) }
+    ensures value { IfOk result (λ r. Gives model Int net.new r
+        (λ v. apply_one_of model Not ty (typed model ty v net.old a.now))) }
 {
     let some = any(net, a)?;
     let out = truth_bits(alloc, net, model, not(some))?;
@@ -85,7 +88,8 @@ pub fn one_bits(
     requires a_in { AreTyped model ty net.old a.now.bits }
     requires room { length net.old < 2 ^ 28 }
     ensures grown { Grown (one_cost model op ty) net.old net.new }
-    ensures value { IfOk result (λ r. Gives model (one_type op ty) net.new r (λ v. apply_one_of model op ty (typed model ty v net.old a.now.bits))) }
+    ensures value { IfOk result (λ r. Gives model (one_type op ty) net.new r
+        (λ v. apply_one_of model op ty (typed model ty v net.old a.now.bits))) }
 {
     let digits = a.bits.as_slice();
     match op {

@@ -33,7 +33,8 @@ fn mark_arguments(flags: &mut [bool], node: NetNode)
     }
 }
 
-/// Which nodes the bit reaches: from the last node down, each flagged and-node flags its arguments, which stand before it.
+/// Which nodes the bit reaches: from the last node down, each flagged and-node flags its arguments, which stand before
+/// it.
 pub fn reached(alloc: Global, net: &Net, bit: Bit) -> Result<Vec<bool>, OutOfMemory>
     requires bit_in { IsIn net.now bit }
     requires room { length net.now < 2 ^ 28 }

@@ -20,7 +20,8 @@ pub fn demos_are_typed()
         → program_of Ilp32 UnreachCall (faulty_items n bs) ≡ faulty_typed n bs }
 {}
 
-/// With 100,000 steps or more the given run of the faulty program violates the property, and passes the segments of the violation witness.
+/// With 100,000 steps or more the given run of the faulty program violates the property, and passes the segments of the
+/// violation witness.
 pub fn demos_violate()
     ensures { (n steps : ℕ) (at : Spot) → n ≤ 999999 → 100000 ≤ steps →
         IsGivenViolation (program_of Ilp32 UnreachCall (faulty_items n (bounds n loop_count))) (demo_segments n at) steps }
@@ -29,5 +30,6 @@ pub fn demos_violate()
 /// So each right verdict on it confirms the violation, by the number as the one drawn value.
 pub fn demos_are_confirmed()
     ensures { (n steps : ℕ) (at : Spot) (verdict : Verdict) → n ≤ 999999 → 100000 ≤ steps →
-        IsRightOnViolation (program_of Ilp32 UnreachCall (faulty_items n (bounds n loop_count))) (demo_segments n at) steps verdict → Confirms n verdict }
+        IsRightOnViolation (program_of Ilp32 UnreachCall (faulty_items n (bounds n loop_count))) (demo_segments n at)
+        steps verdict → Confirms n verdict }
 {}

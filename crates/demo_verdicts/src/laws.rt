@@ -20,10 +20,12 @@ use demo_checks::demos_are_checked;
 use demo_laws::{demos_are_parsed, demos_are_tokens, demos_have_bounds};
 use demo_run::{demos_are_confirmed, demos_are_typed};
 
-/// From the tokens on no stage refuses a demo: the reply to the correct program of a number, with its invariants, is a verdict.
+/// From the tokens on no stage refuses a demo: the reply to the correct program of a number, with its invariants, is a
+/// verdict.
 pub fn correct_demos_are_judged()
     ensures { (n : ℕ) (budgets : Budgets) (reply : Reply) → AreWithin (demo_of n) →
-        RightOnText (ToJudge budgets) UnreachCall (correct_program n) (invariants n (correct_program n)) Ilp32 (Report reply) → IsVerdict reply }
+        RightOnText (ToJudge budgets) UnreachCall (correct_program n) (invariants n (correct_program n)) Ilp32
+        (Report reply) → IsVerdict reply }
 {
     one_outcome();
     demos_have_bounds();
@@ -35,13 +37,16 @@ pub fn correct_demos_are_judged()
     sets_can_be_judged();
 }
 
-/// So is the reply to the faulty program, with its violation witness. With 100,000 steps or more it confirms the violation, and the
-/// number is the one value that is drawn.
+/// So is the reply to the faulty program, with its violation witness. With 100,000 steps or more it confirms the
+/// violation, and the number is the one value that is drawn.
 pub fn faulty_demos_are_confirmed()
     ensures judged { (n : ℕ) (budgets : Budgets) (reply : Reply) → n ≤ 999999 → AreWithin (demo_of n) →
-        RightOnText (ToJudge budgets) UnreachCall (faulty_program n) (violation n (faulty_program n)) Ilp32 (Report reply) → IsVerdict reply }
-    ensures confirmed { (n : ℕ) (budgets : Budgets) (reply : Reply) → n ≤ 999999 → AreWithin (demo_of n) → 100000 ≤ budgets.steps →
-        RightOnText (ToJudge budgets) UnreachCall (faulty_program n) (violation n (faulty_program n)) Ilp32 (Report reply) → ConfirmsDemo n reply }
+        RightOnText (ToJudge budgets) UnreachCall (faulty_program n) (violation n (faulty_program n)) Ilp32
+        (Report reply) → IsVerdict reply }
+    ensures confirmed { (n : ℕ) (budgets : Budgets) (reply : Reply) → n ≤ 999999 → AreWithin (demo_of n) → 100000
+        ≤ budgets.steps →
+        RightOnText (ToJudge budgets) UnreachCall (faulty_program n) (violation n (faulty_program n)) Ilp32
+        (Report reply) → ConfirmsDemo n reply }
 {
     one_outcome();
     demos_have_bounds();
@@ -53,8 +58,8 @@ pub fn faulty_demos_are_confirmed()
     demos_are_confirmed();
 }
 
-/// So what the mode `demo` tells of a number is two verdicts: no refusal applies to its programs and witnesses, and with 100,000 steps
-/// or more the second confirms the violation.
+/// So what the mode `demo` tells of a number is two verdicts: no refusal applies to its programs and witnesses, and
+/// with 100,000 steps or more the second confirms the violation.
 pub fn demonstrations_are_confirmed()
     ensures { (n : ℕ) (budgets : Budgets) (demo : Demonstration) → n ≤ 999999 → IsDemonstration n budgets demo
         → IsConfirmed n budgets demo }

@@ -1,4 +1,5 @@
-//! What the laws on a demo's programs come to: no stage of the validator refuses them, and the reply to the faulty one confirms its violation.
+//! What the laws on a demo's programs come to: no stage of the validator refuses them, and the reply to the faulty one
+//! confirms its violation.
 #![tactic(auto)]
 
 mod laws;

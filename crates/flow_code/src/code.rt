@@ -21,7 +21,8 @@ pub enum Operand {
     Number(i128),
 }
 
-/// A cell that an operation writes: one of this object and index, or the element of this array whose index is on top of the stack.
+/// A cell that an operation writes: one of this object and index, or the element of this array whose index is on top of
+/// the stack.
 #[derive(Clone, Copy)]
 pub enum Place {
     Fixed(u32, u32),
@@ -36,8 +37,8 @@ pub struct Store {
     pub old: bool,
 }
 
-/// What is done with a value: it is left on the stack, or not; where its truth is `way` the machine goes on at an address, for a branch
-/// after having told so.
+/// What is done with a value: it is left on the stack, or not; where its truth is `way` the machine goes on at an
+/// address, for a branch after having told so.
 #[derive(Clone, Copy)]
 pub enum Then {
     Push,
@@ -125,8 +126,8 @@ pub enum Action {
         into: Into,
     },
     Jump(u32),
-    /// At a `switch`: the machine takes the value on top of the stack off, reports the way, and goes on at the value's address, or at
-    /// the one for all others.
+    /// At a `switch`: the machine takes the value on top of the stack off, reports the way, and goes on at the value's
+    /// address, or at the one for all others.
     Select {
         at: Spot,
         cases: Table,

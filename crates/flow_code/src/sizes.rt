@@ -1,5 +1,5 @@
-// How many operations the code of a part has. Each part asks for the sizes of those that its jumps pass: a part is counted at most as
-// often as it is deep, and the front end bounds the depth.
+// How many operations the code of a part has. Each part asks for the sizes of those that its jumps pass: a part is
+// counted at most as often as it is deep, and the front end bounds the depth.
 ghost use Rattle.std.specs.Prelude.{◌≡◌, ◌+◌, None, IfOk};
 ghost use Rattle.c_core.specs.Tree as t;
 ghost use Rattle.c_core.specs.View.{expr_view, exprs_view, rows_view, node_view, expr_view_if, init_view, names_view, first_view, form_view, stmt_view, stmts_view, switch_view};

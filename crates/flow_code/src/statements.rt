@@ -19,7 +19,8 @@ use run_state::Around;
 use std::alloc::Global;
 use wv_base::{OutOfMemory, Seq};
 
-/// Where a statement stands: the addresses at which `break` and `continue` go on, the scopes that are open, and the function's result.
+/// Where a statement stands: the addresses at which `break` and `continue` go on, the scopes that are open, and the
+/// function's result.
 #[derive(Clone, Copy)]
 pub struct Inside {
     pub broken: u32,

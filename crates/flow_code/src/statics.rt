@@ -37,8 +37,8 @@ pub fn first_cells(alloc: Global, program: &Program) -> Result<Seq<First>, OutOf
     Ok(cells)
 }
 
-// For each object the place of its start among all, or one beyond their end. No rule says that starts are in the order of
-// objects, and a search for each object would make this quadratic.
+// For each object the place of its start among all, or one beyond their end. No rule says that starts are in the order
+// of objects, and a search for each object would make this quadratic.
 fn places_of_starts(alloc: Global, program: &Program) -> Result<Vec<usize>, OutOfMemory>
     ensures { IfOk result (λ places. ArePlacesOf places.items (length program.now.objects) program.now.starts) }
 {

@@ -1,5 +1,5 @@
-//! Machines that step code, as definitions, and the law that they run programs: the code of a program ends as the program's run does, in the
-//! same state, with the same events.
+//! Machines that step code, as definitions, and the law that they run programs: the code of a program ends as the
+//! program's run does, in the same state, with the same events.
 #![tactic(auto)]
 
 mod frame;

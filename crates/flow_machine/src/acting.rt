@@ -32,7 +32,8 @@ fn violate<W: Watcher>(
     spot: Spot,
     call: Option<Spot>,
 ) -> Result<i128, Halt>
-    ensures gives { (p : Tree) → Gives same result (state_of run.now (W.seen watcher.new)) (runs.violated p W.Seen (seen_by W.after) (where_of around) spot call (state_of run.now (W.seen watcher.old))) }
+    ensures gives { (p : Tree) → Gives same result (state_of run.now (W.seen watcher.new))
+        (runs.violated p W.Seen (seen_by W.after) (where_of around) spot call (state_of run.now (W.seen watcher.old))) }
     ensures still { OnBroken result (W.seen watcher.new ≡ W.seen watcher.old) }
     ensures lasting { W.sure → Lasts result }
 {
@@ -57,7 +58,9 @@ fn answer<W: Watcher>(
     from: &Source,
     done: Done,
 ) -> Result<i128, Halt>
-    ensures gives { Gives same result (state_of run.now (W.seen watcher.new)) (runs.answered (program_in code.now) W.Seen (seen_by W.after) (where_of from.now.around) from.now.spot done (state_of run.now (W.seen watcher.old))) }
+    ensures gives { Gives same result (state_of run.now (W.seen watcher.new))
+        (runs.answered (program_in code.now) W.Seen (seen_by W.after) (where_of from.now.around) from.now.spot done
+        (state_of run.now (W.seen watcher.old))) }
     ensures still { OnBroken result (W.seen watcher.new ≡ W.seen watcher.old) }
     ensures lasting { W.sure → Lasts result }
 {
@@ -79,7 +82,8 @@ fn reach<W: Watcher>(
     around: Around,
     spot: Spot,
 ) -> Result<i128, Halt>
-    ensures gives { Gives same result (state_of run.now (W.seen watcher.new)) (reached_at code.now W.Seen W.after around spot (state_of run.now (W.seen watcher.old))) }
+    ensures gives { Gives same result (state_of run.now (W.seen watcher.new))
+        (reached_at code.now W.Seen W.after around spot (state_of run.now (W.seen watcher.old))) }
     ensures still { OnBroken result (W.seen watcher.new ≡ W.seen watcher.old) }
     ensures lasting { W.sure → Lasts result }
 {
@@ -99,7 +103,9 @@ fn come_to_error<W: Watcher>(
     around: Around,
     spot: Spot,
 ) -> Result<(), Halt>
-    ensures acts { Acts result (control_of control.now) (state_of run.now (W.seen watcher.new)) (acted code.now W.Seen W.after (Reach around spot) (control_of control.now) (state_of run.now (W.seen watcher.old))) }
+    ensures acts { Acts result (control_of control.now) (state_of run.now (W.seen watcher.new))
+        (acted code.now W.Seen W.after (Reach around spot) (control_of control.now)
+        (state_of run.now (W.seen watcher.old))) }
     ensures still { OnBroken result (W.seen watcher.new ≡ W.seen watcher.old) }
     ensures lasting { W.sure → Lasts result }
 {
@@ -119,11 +125,15 @@ fn take_input<W: Watcher>(
     ty: IntType,
     into: &Into,
 ) -> Result<(), Halt>
-    ensures acts { Acts result (control_of control.new) (state_of run.new (W.seen watcher.new)) (acted code.now W.Seen W.after (Input spot close ty into.now) (control_of control.old) (state_of run.old (W.seen watcher.old))) }
-    ensures front { OnBroken result (SawFront W.after (events_of code.now (Input spot close ty into.now) (control_of control.old) (state_of run.old [])) (W.seen watcher.old) (W.seen watcher.new)) }
+    ensures acts { Acts result (control_of control.new) (state_of run.new (W.seen watcher.new))
+        (acted code.now W.Seen W.after (Input spot close ty into.now) (control_of control.old)
+        (state_of run.old (W.seen watcher.old))) }
+    ensures front { OnBroken result (SawFront W.after (events_of code.now (Input spot close ty into.now)
+        (control_of control.old) (state_of run.old [])) (W.seen watcher.old) (W.seen watcher.new)) }
     ensures kept { KeepsStacks control.old control.new }
     ensures rooms { KeepsRooms run.old run.new }
-    ensures lasting { W.sure → HasSpare control.old → IsCounted run.old → vec_len run.old.draws < vec_capacity run.old.draws → Lasts result }
+    ensures lasting { W.sure → HasSpare control.old → IsCounted run.old → vec_len run.old.draws
+        < vec_capacity run.old.draws → Lasts result }
 {
     let value = input(code, run, watcher, spot, close, ty)?;
     finish(control, run, watcher, value, value, into)
@@ -141,7 +151,9 @@ fn finish_answer<W: Watcher>(
     done: Done,
     into: &Into,
 ) -> Result<(), Halt>
-    ensures acts { Acts result (control_of control.new) (state_of run.new (W.seen watcher.new)) (answer_finished code.now W.Seen W.after from.now left done into.now (control_of control.old) (state_of run.old (W.seen watcher.old))) }
+    ensures acts { Acts result (control_of control.new) (state_of run.new (W.seen watcher.new))
+        (answer_finished code.now W.Seen W.after from.now left done into.now (control_of control.old)
+        (state_of run.old (W.seen watcher.old))) }
     ensures still { OnBroken result (W.seen watcher.new ≡ W.seen watcher.old) }
     ensures kept { KeepsStacks control.old control.new }
     ensures rooms { KeepsRooms run.old run.new }
@@ -163,7 +175,9 @@ fn conclude<W: Watcher>(
     done: Done,
     into: &Into,
 ) -> Result<(), Halt>
-    ensures acts { Acts result (control_of control.new) (state_of run.new (W.seen watcher.new)) (answer_finished code.now W.Seen W.after from.now left done into.now (control_of control.old) (state_of run.old (W.seen watcher.old))) }
+    ensures acts { Acts result (control_of control.new) (state_of run.new (W.seen watcher.new))
+        (answer_finished code.now W.Seen W.after from.now left done into.now (control_of control.old)
+        (state_of run.old (W.seen watcher.old))) }
     ensures still { OnBroken result (W.seen watcher.new ≡ W.seen watcher.old) }
     ensures kept { KeepsStacks control.old control.new }
     ensures rooms { KeepsRooms run.old run.new }
@@ -185,7 +199,8 @@ fn aim<W: Watcher>(
     spot: Spot,
     reads: bool,
 ) -> Result<(), Halt>
-    ensures acts { (c : Code) (x : W.Seen) → Acts result (control_of control.new) (state_of run.now x) (aimed_at c W.Seen W.after object size index.now spot reads (control_of control.old) (state_of run.now x)) }
+    ensures acts { (c : Code) (x : W.Seen) → Acts result (control_of control.new) (state_of run.now x)
+        (aimed_at c W.Seen W.after object size index.now spot reads (control_of control.old) (state_of run.now x)) }
     ensures kept { KeepsStacks control.old control.new }
     ensures lasting { HasSpare control.old → Lasts result }
 {
@@ -211,7 +226,9 @@ fn find_in_row<W: Watcher>(
     right: &Operand,
     spot: Spot,
 ) -> Result<(), Halt>
-    ensures acts { (c : Code) (x : W.Seen) → Acts result (control_of control.new) (state_of run.now x) (acted c W.Seen W.after (Row rows columns left.now right.now spot) (control_of control.old) (state_of run.now x)) }
+    ensures acts { (c : Code) (x : W.Seen) → Acts result (control_of control.new) (state_of run.now x)
+        (acted c W.Seen W.after (Row rows columns left.now right.now spot) (control_of control.old)
+        (state_of run.now x)) }
     ensures kept { KeepsStacks control.old control.new }
     ensures lasting { HasSpare control.old → Lasts result }
 {
@@ -232,7 +249,8 @@ fn send<W: Watcher>(
     way: Way,
     to: u32,
 ) -> Result<(), Halt>
-    ensures acts { (c : Code) → Acts result (control_of control.new) (state_of run.now (W.seen watcher.new)) (sent c W.Seen W.after at way to (control_of control.old) (state_of run.now (W.seen watcher.old))) }
+    ensures acts { (c : Code) → Acts result (control_of control.new) (state_of run.now (W.seen watcher.new))
+        (sent c W.Seen W.after at way to (control_of control.old) (state_of run.now (W.seen watcher.old))) }
     ensures still { OnBroken result (W.seen watcher.new ≡ W.seen watcher.old) }
     ensures kept { KeepsStacks control.old control.new }
     ensures lasting { W.sure → Lasts result }
@@ -252,7 +270,9 @@ fn select<W: Watcher>(
     cases: &Table,
     other: u32,
 ) -> Result<(), Halt>
-    ensures acts { (c : Code) → Acts result (control_of control.new) (state_of run.now (W.seen watcher.new)) (acted c W.Seen W.after (Select at cases.now other) (control_of control.old) (state_of run.now (W.seen watcher.old))) }
+    ensures acts { (c : Code) → Acts result (control_of control.new) (state_of run.now (W.seen watcher.new))
+        (acted c W.Seen W.after (Select at cases.now other) (control_of control.old)
+        (state_of run.now (W.seen watcher.old))) }
     ensures still { OnBroken result (W.seen watcher.new ≡ W.seen watcher.old) }
     ensures kept { KeepsStacks control.old control.new }
     ensures lasting { W.sure → Lasts result }
@@ -266,7 +286,8 @@ fn select<W: Watcher>(
 
 // A scope begins: how many cells live now.
 fn open_scope(control: &mut Control, run: &Running) -> Result<(), Halt>
-    ensures control { OnOk result (control_of control.new ≡ record (control_of control.old) { scopes = length run.now.memory.cells ∷ reverse control.old.scopes.items }) }
+    ensures control { OnOk result (control_of control.new ≡ record (control_of control.old)
+        { scopes = length run.now.memory.cells ∷ reverse control.old.scopes.items }) }
     ensures refused { IsOkUnless result Halt.NoMemory }
     ensures kept { KeepsStacks control.old control.new }
     ensures lasting { vec_len control.old.scopes < vec_capacity control.old.scopes → Lasts result }
@@ -279,7 +300,8 @@ fn open_scope(control: &mut Control, run: &Running) -> Result<(), Halt>
 
 // The innermost scope ends, with the cells that came since.
 fn close_scope<W: Watcher>(control: &mut Control, run: &mut Running)
-    ensures goes { (x : W.Seen) → scope_closed (reverse control.old.scopes.items) (control_of control.old) (state_of run.old x) ≡ Go (control_of control.new) (state_of run.new x) }
+    ensures goes { (x : W.Seen) → scope_closed (reverse control.old.scopes.items) (control_of control.old)
+        (state_of run.old x) ≡ Go (control_of control.new) (state_of run.new x) }
     ensures kept { KeepsStacks control.old control.new }
     ensures rooms { KeepsRooms run.old run.new }
 {
@@ -307,8 +329,11 @@ fn give_back<W: Watcher>(
     watcher: &mut W,
     ty: &Option<IntType>,
 ) -> Result<(), Halt>
-    ensures acts { (c : Code) → Acts result (control_of control.new) (state_of run.new (W.seen watcher.new)) (acted c W.Seen W.after (Return ty.now) (control_of control.old) (state_of run.old (W.seen watcher.old))) }
-    ensures front { (c : Code) → OnBroken result (SawFront W.after (events_of c (Return ty.now) (control_of control.old) (state_of run.old [])) (W.seen watcher.old) (W.seen watcher.new)) }
+    ensures acts { (c : Code) → Acts result (control_of control.new) (state_of run.new (W.seen watcher.new))
+        (acted c W.Seen W.after (Return ty.now) (control_of control.old) (state_of run.old (W.seen watcher.old))) }
+    ensures front { (c : Code) → OnBroken result
+        (SawFront W.after (events_of c (Return ty.now) (control_of control.old) (state_of run.old []))
+        (W.seen watcher.old) (W.seen watcher.new)) }
     ensures kept { KeepsStacks control.old control.new }
     ensures rooms { KeepsRooms run.old run.new }
     ensures lasting { W.sure → HasSpare control.old → Lasts result }
@@ -326,11 +351,15 @@ pub fn act<W: Watcher>(
     watcher: &mut W,
     action: &Action,
 ) -> Result<(), Halt>
-    ensures acts { Acts result (control_of control.new) (state_of run.new (W.seen watcher.new)) (acted code.now W.Seen W.after action.now (control_of control.old) (state_of run.old (W.seen watcher.old))) }
-    ensures front { OnBroken result (SawFront W.after (events_of code.now action.now (control_of control.old) (state_of run.old [])) (W.seen watcher.old) (W.seen watcher.new)) }
+    ensures acts { Acts result (control_of control.new) (state_of run.new (W.seen watcher.new))
+        (acted code.now W.Seen W.after action.now (control_of control.old) (state_of run.old (W.seen watcher.old))) }
+    ensures front { OnBroken result (SawFront W.after (events_of code.now action.now (control_of control.old)
+        (state_of run.old [])) (W.seen watcher.old) (W.seen watcher.new)) }
     ensures kept { KeepsStacks control.old control.new }
     ensures rooms { KeepsRooms run.old run.new }
-    ensures lasting { W.sure → HasSpare control.old → IsCounted run.old → GoesInRoom run.old (acted code.now W.Seen W.after action.now (control_of control.old) (state_of run.old (W.seen watcher.old))) → Lasts result }
+    ensures lasting { W.sure → HasSpare control.old → IsCounted run.old
+        → GoesInRoom run.old (acted code.now W.Seen W.after action.now (control_of control.old)
+        (state_of run.old (W.seen watcher.old))) → Lasts result }
 {
     match action {
         Action::Rest => Ok(()),

@@ -110,7 +110,8 @@ fn quick(op: BinOp, word: Word, a: i128, b: i128) -> Option<i128>
 #[inline(always)]
 fn operate_in(op: BinOp, word: Word, left: i128, right: i128) -> Done
     requires { IsFalse (is_shift_of op) }
-    ensures { result ≡ apply_of Lp64 op (type_of_word word) (fit Lp64 (type_of_word word) left) (fit Lp64 (type_of_word word) right) }
+    ensures { result ≡ apply_of Lp64 op (type_of_word word) (fit Lp64 (type_of_word word) left)
+        (fit Lp64 (type_of_word word) right) }
 {
     let a = in_word(word, left);
     let b = in_word(word, right);
@@ -124,7 +125,8 @@ fn operate_in(op: BinOp, word: Word, left: i128, right: i128) -> Done
 #[inline(always)]
 fn settle_in(op: BinOp, word: Word, left: i128, right: i128) -> Option<i128>
     requires { IsFalse (is_shift_of op) }
-    ensures { IfSome result (λ r. apply_of Lp64 op (type_of_word word) (fit Lp64 (type_of_word word) left) (fit Lp64 (type_of_word word) right) ≡ Value r) }
+    ensures { IfSome result (λ r. apply_of Lp64 op (type_of_word word) (fit Lp64 (type_of_word word) left)
+        (fit Lp64 (type_of_word word) right) ≡ Value r) }
 {
     quick(op, word, in_word(word, left), in_word(word, right))
 }
@@ -132,7 +134,8 @@ fn settle_in(op: BinOp, word: Word, left: i128, right: i128) -> Option<i128>
 /// The value of an operator, where the processor gives it.
 #[inline(always)]
 pub fn settle(op: BinOp, word: Word, left: i128, count: Word, right: i128) -> Option<i128>
-    ensures { IfSome result (λ r. apply_of Lp64 op (type_of_word word) (fit Lp64 (type_of_word word) left) (right_of op word count right) ≡ Value r) }
+    ensures { IfSome result (λ r. apply_of Lp64 op (type_of_word word) (fit Lp64 (type_of_word word) left)
+        (right_of op word count right) ≡ Value r) }
 {
     if is_shift(op) {
         return None;
@@ -149,7 +152,8 @@ pub fn settle(op: BinOp, word: Word, left: i128, count: Word, right: i128) -> Op
 /// An operator that computes in a type.
 #[inline(never)]
 pub fn operate(op: BinOp, word: Word, left: i128, count: Word, right: i128) -> Done
-    ensures { result ≡ apply_of Lp64 op (type_of_word word) (fit Lp64 (type_of_word word) left) (right_of op word count right) }
+    ensures { result ≡ apply_of Lp64 op (type_of_word word) (fit Lp64 (type_of_word word) left)
+        (right_of op word count right) }
 {
     if is_shift(op) {
         return operate_on(op, word, in_word(word, left), in_word(count, right));

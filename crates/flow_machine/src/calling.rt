@@ -49,8 +49,10 @@ fn take_arguments(
     parameters: &[Parameter],
     count: u32,
 ) -> Result<(), Halt>
-    ensures control { OnOk result (control_of control.new ≡ record (control_of control.old) { stack = drop count (reverse control.old.stack.items) }) }
-    ensures cells { OnOk result (memory.new.cells ≡ with_parameters parameters.now (arguments count (reverse control.old.stack.items)) memory.old.cells) }
+    ensures control { OnOk result (control_of control.new ≡ record (control_of control.old)
+        { stack = drop count (reverse control.old.stack.items) }) }
+    ensures cells { OnOk result (memory.new.cells ≡ with_parameters parameters.now
+        (arguments count (reverse control.old.stack.items)) memory.old.cells) }
     ensures refused { IsOkUnless result Halt.NoMemory }
     ensures kept { KeepsStacks control.old control.new }
     ensures room { memory.old.room ≤ memory.new.room }
@@ -64,7 +66,8 @@ fn take_arguments(
 
 // Notes where a call goes on.
 fn push_frame(control: &mut Control, frame: Frame) -> Result<(), Halt>
-    ensures control { OnOk result (control_of control.new ≡ record (control_of control.old) { frames = frame ∷ reverse control.old.frames.items }) }
+    ensures control { OnOk result (control_of control.new ≡ record (control_of control.old)
+        { frames = frame ∷ reverse control.old.frames.items }) }
     ensures refused { IsOkUnless result Halt.NoMemory }
     ensures kept { KeepsStacks control.old control.new }
     ensures lasting { vec_len control.old.frames < vec_capacity control.old.frames → Lasts result }
@@ -83,10 +86,13 @@ fn enter<W: Watcher>(
     arguments: u32,
     site: CallSite,
 ) -> Result<(), Halt>
-    ensures acts { (c : Code) (x : W.Seen) → Acts result (control_of control.new) (state_of run.new x) (called c W.Seen W.after (Some body.now) arguments site (control_of control.old) (state_of run.old x)) }
+    ensures acts { (c : Code) (x : W.Seen) → Acts result (control_of control.new) (state_of run.new x)
+        (called c W.Seen W.after (Some body.now) arguments site (control_of control.old) (state_of run.old x)) }
     ensures kept { KeepsStacks control.old control.new }
     ensures rooms { KeepsRooms run.old run.new }
-    ensures lasting { (c : Code) (x : W.Seen) → HasSpare control.old → GoesInRoom run.old (called c W.Seen W.after (Some body.now) arguments site (control_of control.old) (state_of run.old x)) → Lasts result }
+    ensures lasting { (c : Code) (x : W.Seen) → HasSpare control.old
+        → GoesInRoom run.old (called c W.Seen W.after (Some body.now) arguments site (control_of control.old)
+        (state_of run.old x)) → Lasts result }
 {
     let cells = body.parameters.len() as u128 + 1;
     room::<W>(run, cells)?;
@@ -116,10 +122,14 @@ pub fn call<W: Watcher>(
     arguments: u32,
     site: CallSite,
 ) -> Result<(), Halt>
-    ensures acts { (x : W.Seen) → Acts result (control_of control.new) (state_of run.new x) (called code.now W.Seen W.after (slice_get code.now.functions function) arguments site (control_of control.old) (state_of run.old x)) }
+    ensures acts { (x : W.Seen) → Acts result (control_of control.new) (state_of run.new x)
+        (called code.now W.Seen W.after (slice_get code.now.functions function) arguments site (control_of control.old)
+        (state_of run.old x)) }
     ensures kept { KeepsStacks control.old control.new }
     ensures rooms { KeepsRooms run.old run.new }
-    ensures lasting { (x : W.Seen) → HasSpare control.old → GoesInRoom run.old (called code.now W.Seen W.after (slice_get code.now.functions function) arguments site (control_of control.old) (state_of run.old x)) → Lasts result }
+    ensures lasting { (x : W.Seen) → HasSpare control.old
+        → GoesInRoom run.old (called code.now W.Seen W.after (slice_get code.now.functions function) arguments site
+        (control_of control.old) (state_of run.old x)) → Lasts result }
 {
     match code.functions.get(function as usize) {
         Some(body) => enter::<W>(control, run, body, arguments, site),
@@ -135,8 +145,12 @@ pub fn leave<W: Watcher>(
     watcher: &mut W,
     value: Option<i128>,
 ) -> Result<(), Halt>
-    ensures acts { (c : Code) → Acts result (control_of control.new) (state_of run.new (W.seen watcher.new)) (left_by c W.Seen W.after (reverse control.old.frames.items) value (control_of control.old) (state_of run.old (W.seen watcher.old))) }
-    ensures front { (c : Code) → OnBroken result (SawFront W.after (events_leaving c (reverse control.old.frames.items) value (control_of control.old) (state_of run.old [])) (W.seen watcher.old) (W.seen watcher.new)) }
+    ensures acts { (c : Code) → Acts result (control_of control.new) (state_of run.new (W.seen watcher.new))
+        (left_by c W.Seen W.after (reverse control.old.frames.items) value (control_of control.old)
+        (state_of run.old (W.seen watcher.old))) }
+    ensures front { (c : Code) → OnBroken result
+        (SawFront W.after (events_leaving c (reverse control.old.frames.items) value (control_of control.old)
+        (state_of run.old [])) (W.seen watcher.old) (W.seen watcher.new)) }
     ensures kept { KeepsStacks control.old control.new }
     ensures rooms { KeepsRooms run.old run.new }
     ensures lasting { W.sure → HasSpare control.old → Lasts result }

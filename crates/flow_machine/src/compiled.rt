@@ -11,7 +11,8 @@ use std::alloc::Global;
 use std::marker::Model;
 use wv_base::OutOfMemory;
 
-/// A program as code. Of its operations so many at most follow one another without a step, so a machine comes to an end.
+/// A program as code. Of its operations so many at most follow one another without a step, so a machine comes to an
+/// end.
 #[derive(Drop)]
 pub struct Code {
     pub(crate) operations: Operations,

@@ -14,8 +14,8 @@ use flow_laws::Frame;
 use run_state::{Halt, Left};
 use wv_base::OutOfMemory;
 
-/// What the run is about to do: the operation at an address, of whose steps some are taken, over a stack of values, open scopes with the
-/// cells that lived as they began, and calls.
+/// What the run is about to do: the operation at an address, of whose steps some are taken, over a stack of values,
+/// open scopes with the cells that lived as they began, and calls.
 #[derive(Drop)]
 pub struct Control {
     pub at: usize,
@@ -41,7 +41,8 @@ impl Control {
     #[inline]
     pub fn pop(&mut self) -> i128
         ensures value { result ≡ top (reverse self.old.stack.items) }
-        ensures control { control_of self.new ≡ record (control_of self.old) { stack = below (reverse self.old.stack.items) } }
+        ensures control { control_of self.new ≡ record (control_of self.old)
+            { stack = below (reverse self.old.stack.items) } }
         ensures kept { KeepsStacks self.old self.new }
         ensures spare { HasSpare self.old → HasSpare self.new }
     {
@@ -60,7 +61,8 @@ impl Control {
     /// Puts a value on top of the stack.
     #[inline]
     pub fn push(&mut self, value: i128) -> Result<(), Halt>
-        ensures control { OnOk result (control_of self.new ≡ record (control_of self.old) { stack = value ∷ reverse self.old.stack.items }) }
+        ensures control { OnOk result (control_of self.new
+            ≡ record (control_of self.old) { stack = value ∷ reverse self.old.stack.items }) }
         ensures refused { IsOkUnless result Halt.NoMemory }
         ensures kept { KeepsStacks self.old self.new }
         ensures grown { vec_len self.new.stack ≤ vec_len self.old.stack + 1 }
@@ -90,7 +92,8 @@ pub fn tell<W: Watcher>(run: &Running, watcher: &mut W, event: Event) -> Result<
 /// Room for so many cells more.
 pub fn room<W: Watcher>(run: &Running, cells: u128) -> Result<(), Halt>
     requires { cells ≤ 2 ^ 64 }
-    ensures gives { (p : Tree) (x : W.Seen) → Gives same result (state_of run.now x) (room_for p W.Seen (seen_by W.after) cells (state_of run.now x)) }
+    ensures gives { (p : Tree) (x : W.Seen) → Gives same result (state_of run.now x)
+        (room_for p W.Seen (seen_by W.after) cells (state_of run.now x)) }
     ensures few { OnOk result (run.now.active + cells ≤ 1000000) }
     ensures lasting { Lasts result }
 {

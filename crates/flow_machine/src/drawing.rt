@@ -24,9 +24,11 @@ pub fn draw<W: Watcher>(
     spot: Spot,
     ty: IntType,
 ) -> Result<i128, OutOfMemory>
-    ensures gives { (x : W.Seen) → IfOk result (λ v. runs.draw (program_in code.now) W.Seen (seen_by W.after) kind spot ty (state_of run.old x) ≡ Go v (state_of run.new x)) }
+    ensures gives { (x : W.Seen) → IfOk result (λ v. runs.draw (program_in code.now) W.Seen (seen_by W.after) kind spot
+        ty (state_of run.old x) ≡ Go v (state_of run.new x)) }
     ensures rooms { KeepsRooms run.old run.new }
-    ensures counts { OnOk result ((vec_len run.new.draws ≡ vec_len run.old.draws + 1) × (run.new.unfixed ≤ run.old.unfixed + 1)) }
+    ensures counts { OnOk result ((vec_len run.new.draws ≡ vec_len run.old.draws + 1)
+        × (run.new.unfixed ≤ run.old.unfixed + 1)) }
     ensures within { IsCounted run.old → vec_len run.old.draws < vec_capacity run.old.draws → IsOk result }
 {
     let taken = take_choice(&mut run.left, kind, spot);
@@ -54,7 +56,8 @@ pub fn input<W: Watcher>(
     close: Spot,
     ty: IntType,
 ) -> Result<i128, OutOfMemory>
-    ensures gives { IfOk result (λ v. input_given code.now W.Seen W.after spot close ty (state_of run.old (W.seen watcher.old)) ≡ Go v (state_of run.new (W.seen watcher.new))) }
+    ensures gives { IfOk result (λ v. input_given code.now W.Seen W.after spot close ty
+        (state_of run.old (W.seen watcher.old)) ≡ Go v (state_of run.new (W.seen watcher.new))) }
     ensures still { OnErr result (W.seen watcher.new ≡ W.seen watcher.old) }
     ensures rooms { KeepsRooms run.old run.new }
     ensures within { W.sure → IsCounted run.old → vec_len run.old.draws < vec_capacity run.old.draws → IsOk result }
@@ -75,9 +78,12 @@ pub fn declare<W: Watcher>(
     ty: IntType,
     draws: bool,
 ) -> Result<(), Halt>
-    ensures gives { (x : W.Seen) → Gives same result (state_of run.new x) (declared code.now W.Seen W.after spot object size ty draws (state_of run.old x)) }
+    ensures gives { (x : W.Seen) → Gives same result (state_of run.new x)
+        (declared code.now W.Seen W.after spot object size ty draws (state_of run.old x)) }
     ensures rooms { KeepsRooms run.old run.new }
-    ensures lasting { (x : W.Seen) → IsCounted run.old → GoesInRoom run.old (declared code.now W.Seen W.after spot object size ty draws (state_of run.old x)) → Lasts result }
+    ensures lasting { (x : W.Seen) → IsCounted run.old
+        → GoesInRoom run.old (declared code.now W.Seen W.after spot object size ty draws (state_of run.old x))
+        → Lasts result }
 {
     room::<W>(run, size as u128)?;
     add_cells(&mut run.memory, object, size)?;
@@ -96,7 +102,8 @@ fn draw_cells<W: Watcher>(
     size: u32,
     ty: IntType,
 ) -> Result<(), Halt>
-    ensures gives { (x : W.Seen) → Gives same result (state_of run.new x) (cells_drawn code.now W.Seen W.after spot object ty 0 size (state_of run.old x)) }
+    ensures gives { (x : W.Seen) → Gives same result (state_of run.new x)
+        (cells_drawn code.now W.Seen W.after spot object ty 0 size (state_of run.old x)) }
     ensures rooms { KeepsRooms run.old run.new }
     ensures lasting { IsCounted run.old → vec_len run.old.draws + size ≤ vec_capacity run.old.draws → Lasts result }
 {

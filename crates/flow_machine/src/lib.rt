@@ -1,4 +1,5 @@
-//! A machine that steps the code of a program: it can be stopped and goes on, and keeps the program's calls in a vector.
+//! A machine that steps the code of a program: it can be stopped and goes on, and keeps the program's calls in a
+//! vector.
 #![tactic(auto)]
 
 mod acting;

@@ -91,7 +91,8 @@ impl<'a> Machine<'a> {
 
     /// Makes room for so many cells and draws in all, and for all that a run without recursion needs besides.
     pub fn reserve(&mut self, cells: u32, draws: u32) -> Result<(), OutOfMemory>
-        ensures same { (self.new.code ≡ self.old.code) × (self.new.choices ≡ self.old.choices) × (self.new.sum ≡ self.old.sum) × (self.new.whole ≡ self.old.whole) }
+        ensures same { (self.new.code ≡ self.old.code) × (self.new.choices ≡ self.old.choices)
+            × (self.new.sum ≡ self.old.sum) × (self.new.whole ≡ self.old.whole) }
         ensures rooms { (self.old.cells ≤ self.new.cells) × (self.old.draws ≤ self.new.draws) }
         ensures ok { OnOk result ((cells ≤ self.new.cells) × (draws ≤ self.new.draws) × (self.new.reserved ≡ true)) }
         ensures kept { self.old.reserved ≡ true → self.new.reserved ≡ true }
@@ -106,23 +107,31 @@ impl<'a> Machine<'a> {
         Ok(())
     }
 
-    /// Takes at most so many further steps, and says how the run with all steps so far ends: it is spent and goes on with
-    /// the next call, or later calls give its end again. Where memory runs out, the watcher has seen the first of the
-    /// events that follow, each once; the machine is then only to be dropped, and a further call shows nothing. Memory
-    /// suffices where a `reserve` has answered Ok, the program has no recursion, the watcher never runs out of memory, and
-    /// the cells and draws of the run from here on are within the machine's rooms.
+    /// Takes at most so many further steps, and says how the run with all steps so far ends: it is spent and goes on
+    /// with the next call, or later calls give its end again. Where memory runs out, the watcher has seen the first of
+    /// the events that follow, each once; the machine is then only to be dropped, and a further call shows nothing.
+    /// Memory suffices where a `reserve` has answered Ok, the program has no recursion, the watcher never runs out of
+    /// memory, and the cells and draws of the run from here on are within the machine's rooms.
     pub fn advance<W: Watcher>(&mut self, steps: u64, watcher: &mut W) -> Result<End, OutOfMemory>
         requires within { self.old.sum + steps < 2 ^ 64 }
-        ensures same { (self.new.code ≡ self.old.code) × (self.new.choices ≡ self.old.choices) × (self.new.reserved ≡ self.old.reserved) × (self.new.sum ≡ self.old.sum + steps) }
+        ensures same { (self.new.code ≡ self.old.code) × (self.new.choices ≡ self.old.choices)
+            × (self.new.reserved ≡ self.old.reserved) × (self.new.sum ≡ self.old.sum + steps) }
         ensures rooms { (self.old.cells ≤ self.new.cells) × (self.old.draws ≤ self.new.draws) }
         ensures whole { OnOk result (self.new.whole ≡ self.old.whole) }
         ensures lost { OnErr result (self.new.whole ≡ false) }
         ensures gone { self.old.whole ≡ false → IsErr result }
-        ensures run { IfOk result (λ end. self.old.whole ≡ true → (p : Program) → IsCodeOf p self.old.code → Advances p self.old.choices self.old.sum self.new.sum W.after (W.seen watcher.old) (W.seen watcher.new) end) }
-        ensures front { OnErr result (self.old.whole ≡ true → (p : Program) → IsCodeOf p self.old.code → BreaksOff p self.old.choices self.old.sum self.new.sum W.after (W.seen watcher.old) (W.seen watcher.new)) }
+        ensures run { IfOk result (λ end. self.old.whole ≡ true → (p : Program) → IsCodeOf p self.old.code
+            → Advances p self.old.choices self.old.sum self.new.sum W.after (W.seen watcher.old) (W.seen watcher.new)
+            end) }
+        ensures front { OnErr result (self.old.whole ≡ true → (p : Program) → IsCodeOf p self.old.code
+            → BreaksOff p self.old.choices self.old.sum self.new.sum W.after (W.seen watcher.old)
+            (W.seen watcher.new)) }
         ensures silent { self.old.whole ≡ false → W.seen watcher.new ≡ W.seen watcher.old }
-        ensures again { self.old.whole ≡ true → (p : Program) → IsCodeOf p self.old.code → ((runs.Run p self.old.choices self.old.sum).end ≡ Spent → ⊥) → IsOk result }
-        ensures enough { W.sure → self.old.reserved ≡ true → self.old.whole ≡ true → (p : Program) → IsCodeOf p self.old.code → IsFirstRecursion p None → NeedsAtMost self.old.code self.old.choices (self.old.sum + steps) steps self.old.cells self.old.draws → IsOk result }
+        ensures again { self.old.whole ≡ true → (p : Program) → IsCodeOf p self.old.code
+            → ((runs.Run p self.old.choices self.old.sum).end ≡ Spent → ⊥) → IsOk result }
+        ensures enough { W.sure → self.old.reserved ≡ true → self.old.whole ≡ true → (p : Program)
+            → IsCodeOf p self.old.code → IsFirstRecursion p None → NeedsAtMost self.old.code self.old.choices
+            (self.old.sum + steps) steps self.old.cells self.old.draws → IsOk result }
     {
         chains_are_bounded();
         rooms_are_bounded();
@@ -158,7 +167,8 @@ impl<'a> Machine<'a> {
 
     /// The run so far.
     pub fn finish(self) -> Run
-        ensures { (p : Program) → IsCodeOf p self.entry.code → self.entry.whole ≡ true → result ≡ runs.Run p self.entry.choices self.entry.sum }
+        ensures { (p : Program) → IsCodeOf p self.entry.code → self.entry.whole ≡ true → result
+            ≡ runs.Run p self.entry.choices self.entry.sum }
     {
         code_is_simulated();
         let Machine {

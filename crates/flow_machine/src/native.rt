@@ -1,4 +1,5 @@
-// Operators that are done often, as the processor does them; where a result isn't one of the type, and for the other operators, there is none.
+// Operators that are done often, as the processor does them; where a result isn't one of the type, and for the other
+// operators, there is none.
 ghost use Rattle.std.specs.Prelude.{◌≡◌, pos, IfSome};
 ghost use Rattle.c_core.specs.Operators.{apply_of};
 ghost use Rattle.c_core.specs.declared.number.DataModel.TheVariants.{Lp64};

@@ -24,7 +24,8 @@ pub fn look(run: &Running, object: u32, index: u32) -> i128
 #[inline(always)]
 pub fn take(control: &mut Control, run: &Running, operand: &Operand) -> i128
     ensures value { result ≡ value_of operand.now (reverse control.old.stack.items) run.now.memory.cells }
-    ensures control { control_of control.new ≡ record (control_of control.old) { stack = stack_of operand.now (reverse control.old.stack.items) } }
+    ensures control { control_of control.new ≡ record (control_of control.old)
+        { stack = stack_of operand.now (reverse control.old.stack.items) } }
     ensures kept { KeepsStacks control.old control.new }
     ensures spare { HasSpare control.old → HasSpare control.new }
 {

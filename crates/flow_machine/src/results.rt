@@ -18,7 +18,8 @@ use run_state::Halt;
 // The index of an element that is written: the number on top of the stack.
 fn element(control: &mut Control) -> u32
     ensures value { result ≡ index_of (top (reverse control.old.stack.items)) }
-    ensures control { control_of control.new ≡ record (control_of control.old) { stack = below (reverse control.old.stack.items) } }
+    ensures control { control_of control.new ≡ record (control_of control.old)
+        { stack = below (reverse control.old.stack.items) } }
     ensures kept { KeepsStacks control.old control.new }
     ensures spare { HasSpare control.old → HasSpare control.new }
 {
@@ -34,11 +35,13 @@ fn element(control: &mut Control) -> u32
 #[inline(always)]
 fn store(control: &mut Control, memory: &mut Memory, left: i128, value: i128, store: &Store) -> i128
     ensures value { result ≡ kept_value store.now left (fit Lp64 store.now.ty value) }
-    ensures control { control_of control.new ≡ record (control_of control.old) { stack = stack_at store.now.place (reverse control.old.stack.items) } }
+    ensures control { control_of control.new ≡ record (control_of control.old)
+        { stack = stack_at store.now.place (reverse control.old.stack.items) } }
     ensures kept { KeepsStacks control.old control.new }
     ensures spare { HasSpare control.old → HasSpare control.new }
     ensures room { memory.old.room ≤ memory.new.room }
-    ensures cells { memory.new.cells ≡ put (key_at store.now.place (reverse control.old.stack.items)) (fit Lp64 store.now.ty value) memory.old.cells }
+    ensures cells { memory.new.cells ≡ put (key_at store.now.place (reverse control.old.stack.items))
+        (fit Lp64 store.now.ty value) memory.old.cells }
 {
     let new = convert(store.ty, value);
     match &store.place {
@@ -71,7 +74,8 @@ fn pass<W: Watcher>(
     value: i128,
     then: &Then,
 ) -> Result<(), Halt>
-    ensures acts { (c : Code) → Acts result (control_of control.new) (state_of run.now (W.seen watcher.new)) (passed_on c W.Seen W.after value then.now (control_of control.old) (state_of run.now (W.seen watcher.old))) }
+    ensures acts { (c : Code) → Acts result (control_of control.new) (state_of run.now (W.seen watcher.new))
+        (passed_on c W.Seen W.after value then.now (control_of control.old) (state_of run.now (W.seen watcher.old))) }
     ensures still { OnBroken result (W.seen watcher.new ≡ W.seen watcher.old) }
     ensures kept { KeepsStacks control.old control.new }
     ensures lasting { W.sure → HasSpare control.old → Lasts result }
@@ -101,7 +105,9 @@ pub fn finish<W: Watcher>(
     value: i128,
     into: &Into,
 ) -> Result<(), Halt>
-    ensures acts { (c : Code) → Acts result (control_of control.new) (state_of run.new (W.seen watcher.new)) (finished c W.Seen W.after left value into.now (control_of control.old) (state_of run.old (W.seen watcher.old))) }
+    ensures acts { (c : Code) → Acts result (control_of control.new) (state_of run.new (W.seen watcher.new))
+        (finished c W.Seen W.after left value into.now (control_of control.old)
+        (state_of run.old (W.seen watcher.old))) }
     ensures still { OnBroken result (W.seen watcher.new ≡ W.seen watcher.old) }
     ensures kept { KeepsStacks control.old control.new }
     ensures rooms { KeepsRooms run.old run.new }

@@ -22,8 +22,10 @@ pub fn run_machine<W: Watcher>(
     watcher: &mut W,
 ) -> Result<Run, OutOfMemory>
     ensures run { IfOk result (λ r. r ≡ runs.Run (program_view program.now) choices.now steps) }
-    ensures seen { IfOk result (λ r. W.seen watcher.new ≡ seen_after W.after (W.seen watcher.old) (runs.Moments (program_view program.now) choices.now steps)) }
-    ensures front { OnErr result (SawFront W.after (runs.Moments (program_view program.now) choices.now steps) (W.seen watcher.old) (W.seen watcher.new)) }
+    ensures seen { IfOk result (λ r. W.seen watcher.new ≡ seen_after W.after (W.seen watcher.old)
+        (runs.Moments (program_view program.now) choices.now steps)) }
+    ensures front { OnErr result (SawFront W.after (runs.Moments (program_view program.now) choices.now steps)
+        (W.seen watcher.old) (W.seen watcher.new)) }
 {
     let code = compile(alloc, program)?;
     let mut machine = Machine::new(alloc, &code, choices)?;

@@ -18,8 +18,10 @@ use run_state::Halt;
 #[inline]
 fn pay(control: &mut Control, run: &mut Running, steps: u32) -> bool
     ensures enough { result ≡ nat_le (steps - control.old.paid) run.old.steps }
-    ensures paid { result ≡ true → (control.new ≡ record control.old { paid = 0 }) × (run.new ≡ record run.old { steps = run.old.steps - (steps - control.old.paid) }) }
-    ensures short { result ≡ false → (control.new ≡ record control.old { paid = control.old.paid + run.old.steps }) × (run.new ≡ record run.old { steps = 0 }) }
+    ensures paid { result ≡ true → (control.new ≡ record control.old { paid = 0 })
+        × (run.new ≡ record run.old { steps = run.old.steps - (steps - control.old.paid) }) }
+    ensures short { result ≡ false → (control.new ≡ record control.old { paid = control.old.paid + run.old.steps })
+        × (run.new ≡ record run.old { steps = 0 }) }
     ensures kept { KeepsStacks control.old control.new }
     ensures rooms { KeepsRooms run.old run.new }
 {
@@ -42,11 +44,15 @@ fn step<W: Watcher>(
     run: &mut Running,
     watcher: &mut W,
 ) -> Result<(), Halt>
-    ensures steps { Steps result (machine_of control.new run.new (W.seen watcher.new)) (step_of code.now W.Seen W.after (machine_of control.old run.old (W.seen watcher.old))) }
-    ensures front { OnBroken result (SawFront W.after (events_next code.now (machine_of control.old run.old [])) (W.seen watcher.old) (W.seen watcher.new)) }
+    ensures steps { Steps result (machine_of control.new run.new (W.seen watcher.new))
+        (step_of code.now W.Seen W.after (machine_of control.old run.old (W.seen watcher.old))) }
+    ensures front { OnBroken result (SawFront W.after (events_next code.now (machine_of control.old run.old []))
+        (W.seen watcher.old) (W.seen watcher.new)) }
     ensures kept { KeepsStacks control.old control.new }
     ensures rooms { KeepsRooms run.old run.new }
-    ensures lasting { W.sure → HasSpare control.old → IsCounted run.old → TurnsInRoom run.old (step_of code.now W.Seen W.after (machine_of control.old run.old (W.seen watcher.old))) → Lasts result }
+    ensures lasting { W.sure → HasSpare control.old → IsCounted run.old
+        → TurnsInRoom run.old (step_of code.now W.Seen W.after (machine_of control.old run.old (W.seen watcher.old)))
+        → Lasts result }
 {
     let Some(op) = code.ops.as_slice().get(control.at) else {
         return Err(Halt::Ends(End::Ended));
@@ -67,11 +73,14 @@ pub fn go<W: Watcher>(
 ) -> Halt
     requires paced { IsPaced code.now }
     requires order { IsInOrder code.now (machine_of control.old run.old (W.seen watcher.old)) }
-    ensures halts { Halts result (machine_of control.new run.new (W.seen watcher.new)) (λ n. steps_of code.now W.Seen W.after n (machine_of control.old run.old (W.seen watcher.old))) }
-    ensures front { IfBroken result (SawSome W.after (events_in code.now (machine_of control.old run.old [])) (W.seen watcher.old) (W.seen watcher.new)) }
+    ensures halts { Halts result (machine_of control.new run.new (W.seen watcher.new))
+        (λ n. steps_of code.now W.Seen W.after n (machine_of control.old run.old (W.seen watcher.old))) }
+    ensures front { IfBroken result (SawSome W.after (events_in code.now (machine_of control.old run.old []))
+        (W.seen watcher.old) (W.seen watcher.new)) }
     ensures kept { KeepsStacks control.old control.new }
     ensures rooms { KeepsRooms run.old run.new }
-    ensures lasting { W.sure → StaysWithin control.old run.old (λ n. steps_of code.now W.Seen W.after n (machine_of control.old run.old (W.seen watcher.old))) → IsEnd result }
+    ensures lasting { W.sure → StaysWithin control.old run.old
+        (λ n. steps_of code.now W.Seen W.after n (machine_of control.old run.old (W.seen watcher.old))) → IsEnd result }
 {
     'turns: loop {
         if let Err(halt) = step(code, control, run, watcher) {

@@ -1,6 +1,6 @@
-//! What a machine that steps code takes at most: laws on the code of a program. Each function's code has a shape before each of its operations, which
-//! is how many values and how many open scopes of its own there are then, and calls lead from one function's code into another's; and a
-//! budget of steps pays no more than so many operations.
+//! What a machine that steps code takes at most: laws on the code of a program. Each function's code has a shape before
+//! each of its operations, which is how many values and how many open scopes of its own there are then, and calls lead
+//! from one function's code into another's; and a budget of steps pays no more than so many operations.
 #![tactic(auto)]
 
 mod laws;

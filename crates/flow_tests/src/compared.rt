@@ -9,7 +9,8 @@ use wv_base::OutOfMemory;
 // The sizes of the parts that machines get a budget in.
 const PARTS: [u64; 6] = [1, 2, 3, 7, 10, 1000000];
 
-/// How many runs of machines were tried, how many of them differ from the interpreter's, and how the last one ends, with how many steps.
+/// How many runs of machines were tried, how many of them differ from the interpreter's, and how the last one ends,
+/// with how many steps.
 #[derive(Clone, Copy)]
 pub struct Found {
     pub tried: u64,

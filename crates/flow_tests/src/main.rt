@@ -1,6 +1,7 @@
-//! The machine beside the interpreter. For each source that a word names, in both data models and for both properties, the run of the program
-//! is taken under each budget of steps up to the last word's, by the interpreter and by machines that get the budget in parts of several sizes: the
-//! end, the steps, the draws, and each event with the cells of its moment are to be the same.
+//! The machine beside the interpreter. For each source that a word names, in both data models and for both properties,
+//! the run of the program is taken under each budget of steps up to the last word's, by the interpreter and by machines
+//! that get the budget in parts of several sizes: the end, the steps, the draws, and each event with the cells of its
+//! moment are to be the same.
 #![tactic(auto)]
 
 mod compared;

@@ -53,7 +53,8 @@ pub fn plain(
     Ok(Watched { run, events })
 }
 
-/// By a machine that gets the budget in parts of this size, the rest of it last; where they are larger than a step, behind `reserve`.
+/// By a machine that gets the budget in parts of this size, the rest of it last; where they are larger than a step,
+/// behind `reserve`.
 pub fn stepped(
     alloc: Global,
     code: &Code,

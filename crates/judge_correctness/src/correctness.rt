@@ -16,8 +16,8 @@ use sym_duties::SymFault;
 use sym_eval::obligations;
 use wv_base::Seq;
 
-/// Decides the obligations of a program with invariants, each with a budget of conflicts. No verdict is given where main
-/// reaches a cycle of calls, or where the obligations are too big.
+/// Decides the obligations of a program with invariants, each with a budget of conflicts. No verdict is given where
+/// main reaches a cycle of calls, or where the obligations are too big.
 pub fn judge_correctness(
     alloc: Global,
     program: &Program,

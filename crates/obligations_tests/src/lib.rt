@@ -1,6 +1,7 @@
-//! The nets of programs beside their havoc runs: under each input the failing bits and the live sites tell the end and the draws of the
-//! run that draws the same. Circuits and their clauses: each operator beside the calls on numbers, the clauses of a bit, logs of
-//! resolution that are wrong in one place. The crate has tests alone, above `sym_eval` and `clauses`.
+//! The nets of programs beside their havoc runs: under each input the failing bits and the live sites tell the end and
+//! the draws of the run that draws the same. Circuits and their clauses: each operator beside the calls on numbers, the
+//! clauses of a bit, logs of resolution that are wrong in one place. The crate has tests alone, above `sym_eval` and
+//! `clauses`.
 #![tactic(auto)]
 
 #[cfg(test)]

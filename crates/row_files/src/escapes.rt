@@ -1,6 +1,7 @@
-// What a text of a file of rows stands for. A control picture stands for its character: U+2400 to U+241F for the control characters
-// from NUL on (a line feed, a tab), U+2420 for a blank, U+2421 for DEL. Angle brackets U+27E8 and U+27E9 hold `x` and a byte in
-// hexadecimal digits, `U+` and a character's number, or a count, a blank and a text that stands there so many times.
+// What a text of a file of rows stands for. A control picture stands for its character: U+2400 to U+241F for the
+// control characters from NUL on (a line feed, a tab), U+2420 for a blank, U+2421 for DEL. Angle brackets U+27E8 and
+// U+27E9 hold `x` and a byte in hexadecimal digits, `U+` and a character's number, or a count, a blank and a text that
+// stands there so many times.
 use std::alloc::{AllocError, Global};
 
 /// The character that a character of a file stands for.

@@ -91,7 +91,8 @@ fn try_file<T: Trial>(files: &Files<'_>, file: &str) -> Result<Count, NotTried> 
     Ok(count)
 }
 
-/// Tries the rows of the files that the program's words name, and prints how many differ. A file that can't be tried counts as one that does.
+/// Tries the rows of the files that the program's words name, and prints how many differ. A file that can't be tried
+/// counts as one that does.
 fn try_named<T: Trial>(rt: &HostRuntime) -> io::Result<bool> {
     let files = Files { rt };
     let mut tried = 0_u64;
@@ -113,7 +114,8 @@ fn try_named<T: Trial>(rt: &HostRuntime) -> io::Result<bool> {
     Ok(differ == 0)
 }
 
-/// The status of a program that tries rows: 0 where none differs, 1 where one does, 2 where memory or output was wanting.
+/// The status of a program that tries rows: 0 where none differs, 1 where one does, 2 where memory or output was
+/// wanting.
 pub fn try_rows<T: Trial>(rt: &HostRuntime) -> ExitCode {
     match try_named::<T>(rt) {
         Ok(true) => ExitCode::from(0),

@@ -31,7 +31,8 @@ fn items_of<'v>(value: Option<&'v Value>) -> &'v [Value] {
     }
 }
 
-/// What a location lacks: a physical location has to name its artifact, and a region here has its first line and column.
+/// What a location lacks: a physical location has to name its artifact, and a region here has its first line and
+/// column.
 fn location_lacks(location: &Value) -> Option<&'static str> {
     if !is_text(location.pointer("/physicalLocation/artifactLocation/uri")) {
         return Some("artifactLocation.uri");

@@ -1,5 +1,5 @@
-// Rows of waypoints: segments over a program, and behind them the point of the first follow, the waypoint that isn't bound, or the
-// values that the follows give to the input calls.
+// Rows of waypoints: segments over a program, and behind them the point of the first follow, the waypoint that isn't
+// bound, or the values that the follows give to the input calls.
 use crate::check::checked_program;
 use crate::few::bind;
 use crate::schema::read_witness;

@@ -1,4 +1,5 @@
-// Rows of expressions: of a source, of a witness, and constraints on results, and behind them what they are in Lisp's form.
+// Rows of expressions: of a source, of a witness, and constraints on results, and behind them what they are in Lisp's
+// form.
 use crate::sources::parsed;
 use c_core::IntType;
 use c_parser::{ExprFault, Item, RawExpr, RawForm, RawNode, Source, parse_expr, parse_result};

@@ -16,8 +16,8 @@ fn suffix(unsigned: bool, longs: u8) -> &'static str {
     }
 }
 
-/// A token: its place, then a word as it is, a number as `#` with `d` where it is decimal and its suffix, a character as `'` and its
-/// value, a string as `"`, a sign by its name.
+/// A token: its place, then a word as it is, a number as `#` with `d` where it is decimal and its suffix, a character
+/// as `'` and its value, a string as `"`, a sign by its name.
 fn shown_token(alloc: Global, token: &Token) -> Result<String, AllocError> {
     let line = token.spot.line;
     let column = token.spot.column;

@@ -1,5 +1,6 @@
-//! Tries the rows of files of `data/`, whose names are its arguments: tokens, grammar, checks, waypoints, trees of witnesses.
-//! It prints each row that differs, and then `N rows, M differ`. The head of `row_files` says how rows are written.
+//! Tries the rows of files of `data/`, whose names are its arguments: tokens, grammar, checks, waypoints, trees of
+//! witnesses. It prints each row that differs, and then `N rows, M differ`. The head of `row_files` says how rows are
+//! written.
 #![tactic(auto)]
 
 mod bind;

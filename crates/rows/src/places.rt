@@ -1,5 +1,5 @@
-// Rows of places: a program's places in their order; the objects that are visible at a statement or a loop, innermost last; the objects
-// that a loop changes.
+// Rows of places: a program's places in their order; the objects that are visible at a statement or a loop, innermost
+// last; the objects that a loop changes.
 use crate::check::checked_program;
 use c_calls::changed;
 use c_core::{PlaceKind, Program, Spot};

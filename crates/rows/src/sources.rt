@@ -1,5 +1,5 @@
-// Rows of the grammar: a source, and behind it its items as text, with parentheses round each operation and brackets round each
-// statement that is a part; or the place where it fits no form.
+// Rows of the grammar: a source, and behind it its items as text, with parentheses round each operation and brackets
+// round each statement that is a part; or the place where it fits no form.
 use c_core::{BinOp, IntType, StepOp, UnOp};
 use c_parser::{
     Item, ParseFault, RawArm, RawDeclared, RawExpr, RawFirst, RawForm, RawInit, RawLabel, RawNode,

@@ -1,4 +1,5 @@
-// Rows of two command lines: what the first writes for the files of the row is a file of the second, whose words are the row's.
+// Rows of two command lines: what the first writes for the files of the row is a file of the second, whose words are
+// the row's.
 use crate::command_lines::{shelf, words};
 use crate::commands::{AMPLE, sink, told_over};
 use row_files::{Files, NotTried, Row};

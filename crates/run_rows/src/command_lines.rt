@@ -24,8 +24,8 @@ fn program_name(line: &str) -> &str {
     "p"
 }
 
-/// The files that a row gives: its program is `p`, and has the name that the words give to it; its property is `q`, its witness is `w`,
-/// its certificate, or its list of values, is `c`.
+/// The files that a row gives: its program is `p`, and has the name that the words give to it; its property is `q`, its
+/// witness is `w`, its certificate, or its list of values, is `c`.
 pub fn shelf(files: &Files<'_>, row: &Row) -> Result<MemoryShelf, NotTried> {
     let mut shelf = MemoryShelf::new(files.alloc(), 4096);
     if let Some(program) = program(files, row)? {

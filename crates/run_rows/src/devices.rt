@@ -3,8 +3,8 @@ use crate::command_lines::shelf;
 use crate::commands::{AMPLE, sink, told_over};
 use row_files::{Files, NotTried, Row};
 
-/// What fails: a call of the shelf, which begins files and reads them, or a write to the sink, both counted from 1; or each write after
-/// as many bytes as the sink has room for.
+/// What fails: a call of the shelf, which begins files and reads them, or a write to the sink, both counted from 1; or
+/// each write after as many bytes as the sink has room for.
 #[derive(Clone, Copy)]
 enum Failing {
     Shelf(u64),

@@ -1,11 +1,13 @@
-//! Tries the rows of files of `data/`, whose names are its arguments: command lines of `witval` and of `witval-view` over files in memory.
-//! It prints each row that differs, and then `N rows, M differ`. The head of the crate `row_files` says how rows are written.
+//! Tries the rows of files of `data/`, whose names are its arguments: command lines of `witval` and of `witval-view`
+//! over files in memory. It prints each row that differs, and then `N rows, M differ`. The head of the crate
+//! `row_files` says how rows are written.
 //! - `run`: the status of `witval` and its report; `shape`: the same without the values that are drawn.
-//! - `certificate`: the same of `recheck`, where the certificate `c` is the one that `certify` writes for the same files; `authored` and
-//!   `weeded`: the same where the witness `w` is the one that `author` writes for the values in `c`, or that `weed` writes.
+//! - `certificate`: the same of `recheck`, where the certificate `c` is the one that `certify` writes for the same
+//! files; `authored` and `weeded`: the same where the witness `w` is the one that `author` writes for the values in
+//! `c`, or that `weed` writes.
 //! - `device`: the same over a shelf or a sink that fails, as the field `fails` says.
-//! - `view`: the status of `witval-view` and all that it prints. Of each the reply of `witval::run` must stand before all else, and a SARIF
-//!   log must have the members that the schema of SARIF 2.1.0 requires.
+//! - `view`: the status of `witval-view` and all that it prints. Of each the reply of `witval::run` must stand before
+//! all else, and a SARIF log must have the members that the schema of SARIF 2.1.0 requires.
 //! - `list`: the same of a list, the field `text`, with one line of JSON for each of its lines.
 #![tactic(auto)]
 

@@ -1,4 +1,5 @@
-//! The state of a run of a checked program, and what its smallest parts do to it: steps, events, draws, cells, operators, calls.
+//! The state of a run of a checked program, and what its smallest parts do to it: steps, events, draws, cells,
+//! operators, calls.
 #![tactic(auto, using(crate::proofs::Giving::is_here, crate::proofs::Giving::is_on_front, crate::proofs::Giving::is_on_back))]
 
 mod arms;

@@ -1,5 +1,5 @@
-// The plain solver: decisions of the least open variable, units by scanning the clauses, conflicts, and a log of what is
-// derived from them. It stands behind the search: what it answers is right without a check.
+// The plain solver: decisions of the least open variable, units by scanning the clauses, conflicts, and a log of what
+// is derived from them. It stands behind the search: what it answers is right without a check.
 ghost use Rattle.std.specs.Prelude.{◌≡◌, ℕ, ◌+◌, ◌<◌, ◌≤◌, ◌^◌, [], ◌∷◌, ◌++◌, true, length, IfOk, OnOk, List, ℤ};
 ghost use Rattle.std.specs.List.{Contains};
 ghost use Rattle.clauses.specs.Clause.{IsClause};

@@ -1,6 +1,6 @@
-//! Whether a log is spent. Its promise: where `is_spent` says yes, the log is accepted and has exactly as many chains as the
-//! budget, each clause that it gives is new to unit propagation, and the budget is no more than the variables that decide the
-//! clauses allow.
+//! Whether a log is spent. Its promise: where `is_spent` says yes, the log is accepted and has exactly as many chains
+//! as the budget, each clause that it gives is new to unit propagation, and the budget is no more than the variables
+//! that decide the clauses allow.
 #![tactic(auto)]
 
 mod database;

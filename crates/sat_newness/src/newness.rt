@@ -1,6 +1,6 @@
 // Whether each clause that a log gives is new to unit propagation. Of each clause a table shows it: the table makes the
-// opposites of all its numbers but one true, doesn't make that one true, and leaves no unit among the earlier clauses. Where
-// the tables come from doesn't matter.
+// opposites of all its numbers but one true, doesn't make that one true, and leaves no unit among the earlier clauses.
+// Where the tables come from doesn't matter.
 ghost use Rattle.std.specs.Prelude.{◌≡◌, ◌+◌, ◌≤◌, ◌<◌, ℕ, length, take, IsTrue, IfOk, IfSome};
 ghost use Rattle.clauses.specs.Log.{given};
 ghost use Rattle.clauses.specs.Spent.{IsNew, AreNew};

@@ -1,5 +1,5 @@
-// Which clauses a table settles, so that none is a unit. Of each clause two numbers are kept that settled it last: mostly they
-// still do, and its other numbers aren't looked at.
+// Which clauses a table settles, so that none is a unit. Of each clause two numbers are kept that settled it last:
+// mostly they still do, and its other numbers aren't looked at.
 ghost use Rattle.std.specs.Prelude.{◌≡◌, ◌+◌, ◌≤◌, ◌++◌, [], ◌∷◌, replicate, length, IsTrue, IfOk, IfSome};
 ghost use Rattle.sat_newness.specs.Clauses.{clauses_of};
 ghost use Rattle.sat_newness.specs.Pairs.{ArePairs, Settles, IsFound, AreSettledTo};

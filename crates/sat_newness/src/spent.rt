@@ -23,8 +23,8 @@ fn is_earned(alloc: Global, cnf: &Cnf, budget: u64) -> Result<bool, OutOfMemory>
     Ok(undecided)
 }
 
-/// Whether a log is spent at a budget, by hints for the clauses that it gives: the numbers that were asserted when they were
-/// derived.
+/// Whether a log is spent at a budget, by hints for the clauses that it gives: the numbers that were asserted when they
+/// were derived.
 pub fn is_spent(
     alloc: Global,
     cnf: &Cnf,

@@ -1,5 +1,5 @@
-// Whether the first variables don't decide the clauses: a table shows it, which gives each of them a value, leaves no unit, and
-// leaves some variable open.
+// Whether the first variables don't decide the clauses: a table shows it, which gives each of them a value, leaves no
+// unit, and leaves some variable open.
 ghost use Rattle.std.specs.Prelude.{◌≡◌, ◌+◌, ◌^◌, ◌<◌, ◌≤◌, ℕ, IsTrue, IfOk, IfSome};
 ghost use Rattle.clauses.specs.Spent.{Decides};
 ghost use Rattle.sat_newness.specs.Weights.{HasAllTo, HasOpen};

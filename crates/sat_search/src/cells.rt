@@ -1,5 +1,5 @@
-// Tables of the search. Their reads and writes are tested against the end, so that nothing need be known of what the search
-// puts into them: what it finds is checked when it is there.
+// Tables of the search. Their reads and writes are tested against the end, so that nothing need be known of what the
+// search puts into them: what it finds is checked when it is there.
 use std::alloc::Global;
 use wv_base::OutOfMemory;
 

@@ -1,6 +1,6 @@
-// Tables of weights that show why a log is spent: by a search of their own, over the given clauses and what the log gives so
-// far. A table has two cells for each variable, that of its literal and that of the opposite: 2 where it is true, 1 where it
-// is open, 0 where it is false. Whoever takes a table checks what it shows.
+// Tables of weights that show why a log is spent: by a search of their own, over the given clauses and what the log
+// gives so far. A table has two cells for each variable, that of its literal and that of the opposite: 2 where it is
+// true, 1 where it is open, 0 where it is false. Whoever takes a table checks what it shows.
 use crate::cells::{at, filled, put};
 use crate::lit::Lit;
 use crate::search::Search;
@@ -70,8 +70,8 @@ fn leave_open(search: &mut Search, k: u32) -> Result<(), OutOfMemory> {
     Ok(())
 }
 
-/// Values of the first k variables, and what follows from them by the given clauses: no failure and not all values, where
-/// there are such.
+/// Values of the first k variables, and what follows from them by the given clauses: no failure and not all values,
+/// where there are such.
 pub fn weights_of_first(alloc: Global, cnf: &Cnf, k: u32) -> Result<Vec<u8>, OutOfMemory> {
     let mut search = Search::new(alloc, cnf.variables, true)?;
     let _ = search.add_all(&cnf.clauses)?;
@@ -115,8 +115,8 @@ impl Hints {
         Ok(())
     }
 
-    /// Writes a table of what follows from the opposites of a clause's numbers but its asserting one. The clause is one of the
-    /// search's from now on.
+    /// Writes a table of what follows from the opposites of a clause's numbers but its asserting one. The clause is one
+    /// of the search's from now on.
     pub fn next(&mut self, clause: &Clause, place: usize) -> Result<(), OutOfMemory> {
         let number = at(&self.asserting, place, 0);
         let _ = self.search.propagate()?;

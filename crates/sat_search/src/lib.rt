@@ -1,5 +1,5 @@
-//! A search for values that satisfy clauses, or for a refutation, as MiniSat makes it. It has contracts that it is safe, and none on what it
-//! finds: who calls it checks that.
+//! A search for values that satisfy clauses, or for a refutation, as MiniSat makes it. It has contracts that it is
+//! safe, and none on what it finds: who calls it checks that.
 #![tactic(auto)]
 
 mod arena;

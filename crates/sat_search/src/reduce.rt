@@ -1,4 +1,5 @@
-// Learned clauses that no longer help are looked at no more. They stay in the log, and in the arena as what chains rest on.
+// Learned clauses that no longer help are looked at no more. They stay in the log, and in the arena as what chains rest
+// on.
 use crate::cells::{at, put};
 use crate::search::Search;
 use crate::watches::{NO_WATCH, Watch};

@@ -1,5 +1,5 @@
-// DIMACS CNF: comment lines `c ..`, a header `p cnf VARIABLES CLAUSES`, then numbers, of which 0 ends a clause. A line that
-// begins with `%` ends the input.
+// DIMACS CNF: comment lines `c ..`, a header `p cnf VARIABLES CLAUSES`, then numbers, of which 0 ends a clause. A line
+// that begins with `%` ends the input.
 use clauses::{Clause, Cnf};
 use std::alloc::{AllocError, Global};
 use std::io;

@@ -1,10 +1,12 @@
-//! A SAT solver for the command line. It reads DIMACS CNF and answers as solvers at SAT competitions do: `s SATISFIABLE` with values
-//! in `v` lines and status 10, `s UNSATISFIABLE` with status 20, or `s UNKNOWN` with status 0, where more clauses would have to be
-//! derived than a word allows. Input that isn't DIMACS gets a line that names the line, and status 1.
+//! A SAT solver for the command line. It reads DIMACS CNF and answers as solvers at SAT competitions do: `s
+//! SATISFIABLE` with values in `v` lines and status 10, `s UNSATISFIABLE` with status 20, or `s UNKNOWN` with status 0,
+//! where more clauses would have to be derived than a word allows. Input that isn't DIMACS gets a line that names the
+//! line, and status 1.
 //!
-//! It answers standard input, or each file that a word names in turn, behind a comment with its name; the word `-` names standard
-//! input. The word `--log` adds a comment: how long the log is, and whether the checker takes it. Both `--log` and a budget are for the files behind
-//! them. The status is that of the last answer; a file that can't be read is the last.
+//! It answers standard input, or each file that a word names in turn, behind a comment with its name; the word `-`
+//! names standard input. The word `--log` adds a comment: how long the log is, and whether the checker takes it. Both
+//! `--log` and a budget are for the files behind them. The status is that of the last answer; a file that can't be read
+//! is the last.
 #![tactic(auto)]
 
 mod dimacs;

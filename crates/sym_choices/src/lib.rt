@@ -1,5 +1,5 @@
-//! The choice of an arm of a `switch`, as bits. Its one promise: for all inputs each arm's bit says whether the definition of runs does
-//! the arm, within a stated number of and-nodes.
+//! The choice of an arm of a `switch`, as bits. Its one promise: for all inputs each arm's bit says whether the
+//! definition of runs does the arm, within a stated number of and-nodes.
 #![tactic(auto)]
 
 mod cases;

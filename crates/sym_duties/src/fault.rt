@@ -1,8 +1,8 @@
 // Why a program with invariants has no obligations as a net.
 use wv_base::{OutOfMemory, Text};
 
-/// Main reaches a cycle of calls: the name of the first function in the source that lies on one. Or it is too big: a chain of calls
-/// from main has more than 32 calls, or the weight is over 2,000,000.
+/// Main reaches a cycle of calls: the name of the first function in the source that lies on one. Or it is too big: a
+/// chain of calls from main has more than 32 calls, or the weight is over 2,000,000.
 #[derive(Drop)]
 pub enum SymFault {
     Recursion(Text),

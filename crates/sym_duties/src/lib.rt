@@ -1,5 +1,5 @@
-//! The obligations of a program with invariants as a net. Its one promise stands in specs/Promise: what the answer of the
-//! evaluator says of the havoc runs.
+//! The obligations of a program with invariants as a net. Its one promise stands in specs/Promise: what the answer of
+//! the evaluator says of the havoc runs.
 #![tactic(auto)]
 
 mod fault;

@@ -15,8 +15,8 @@ use circuits::{Bit, Net, not};
 use std::alloc::Global;
 use wv_base::{OutOfMemory, Seq};
 
-/// A bit for each cell of an object, in order: is it the one where a run is? And binary digits that spell that cell: the first `inner` its
-/// column, lowest first, and the others its row.
+/// A bit for each cell of an object, in order: is it the one where a run is? And binary digits that spell that cell:
+/// the first `inner` its column, lowest first, and the others its row.
 #[derive(Debug, Drop)]
 pub struct Places {
     pub bits: Seq<Bit>,

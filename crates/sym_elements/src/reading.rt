@@ -27,7 +27,8 @@ fn numbers(digits: usize) -> u32
     u32::MAX
 }
 
-// How many cells this number of digits tells apart, of which the first `inner` are those of a column; at most the largest u32.
+// How many cells this number of digits tells apart, of which the first `inner` are those of a column; at most the
+// largest u32.
 fn told(digits: usize, inner: usize, columns: u32) -> u32
     ensures { result ≡ min (told_by inner columns digits) (2 ^ 32 - 1) }
 {
@@ -41,8 +42,8 @@ fn told(digits: usize, inner: usize, columns: u32) -> u32
     u32::MAX
 }
 
-/// The element at `low` + n, n being the cell that the digits spell, wherever n is below `count`: a tree of choices by the digits, the highest
-/// first.
+/// The element at `low` + n, n being the cell that the digits spell, wherever n is below `count`: a tree of choices by
+/// the digits, the highest first.
 pub fn read_among(
     alloc: Global,
     program: &Program,

@@ -145,8 +145,8 @@ fn turn(
     }
 }
 
-// A loop's head, before the turn: the invariants have to hold on arrival, what the loop changes is drawn, and runs go on only where the
-// invariants hold again.
+// A loop's head, before the turn: the invariants have to hold on arrival, what the loop changes is drawn, and runs go
+// on only where the invariants hold again.
 fn head(walk: &Walk, sym: &mut Sym, at: Spot, f: &Form) -> Result<(), OutOfMemory>
     requires walk { IsWalk walk.now }
     requires fits { IsState (program_of walk.now) sym.old }
@@ -162,7 +162,8 @@ fn head(walk: &Walk, sym: &mut Sym, at: Spot, f: &Form) -> Result<(), OutOfMemor
     Ok(())
 }
 
-// A loop: where the turn comes back to the head the invariants have to hold once more, and the run ends; runs that left the loop go on.
+// A loop: where the turn comes back to the head the invariants have to hold once more, and the run ends; runs that left
+// the loop go on.
 #[cycle(walk)]
 fn loop_scope(
     walk: &Walk,

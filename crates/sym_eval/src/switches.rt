@@ -1,4 +1,5 @@
-// `switch`: its test chooses an arm, and the arms are walked once, in order. Runs enter at the chosen arm, and run on into the next.
+// `switch`: its test chooses an arm, and the arms are walked once, in order. Runs enter at the chosen arm, and run on
+// into the next.
 ghost use Rattle.std.specs.Prelude.{IfOk};
 ghost use Rattle.c_core.specs.Tree as t;
 ghost use Rattle.c_core.specs.Typing.{labels_in};

@@ -1,5 +1,6 @@
-//! What a walk over a program reads, the numbers of its obligations, and its invariants over a symbolic state. Its one promise: each
-//! invariant of a place is tested in turn, in every run that is here, as the definition of havoc runs says.
+//! What a walk over a program reads, the numbers of its obligations, and its invariants over a symbolic state. Its one
+//! promise: each invariant of a place is tested in turn, in every run that is here, as the definition of havoc runs
+//! says.
 #![tactic(auto)]
 
 mod elements;

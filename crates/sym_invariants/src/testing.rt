@@ -76,8 +76,8 @@ fn assume_one(
     Ok(())
 }
 
-/// The invariants of a loop (true) or a statement (false) at a place are tested in turn: a run fails the obligation of the first that
-/// doesn't hold.
+/// The invariants of a loop (true) or a statement (false) at a place are tested in turn: a run fails the obligation of
+/// the first that doesn't hold.
 pub fn test_all(
     walk: &Walk,
     sym: &mut Sym,

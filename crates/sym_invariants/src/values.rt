@@ -17,8 +17,8 @@ use sym_state::Sym;
 use sym_values::test;
 use wv_base::OutOfMemory;
 
-/// The value of an expression in the cells as they are, with wrapping arithmetic. An expression that has steps, assignments
-/// or calls has none.
+/// The value of an expression in the cells as they are, with wrapping arithmetic. An expression that has steps,
+/// assignments or calls has none.
 #[cycle(value)]
 fn value_bits(
     alloc: Global,

@@ -1,5 +1,5 @@
-//! Values as bits: operators, conversions, tests, stores and input calls over a symbolic state. Its one promise: each call does to
-//! every run that is here what the definition of runs does, and lets all others be.
+//! Values as bits: operators, conversions, tests, stores and input calls over a symbolic state. Its one promise: each
+//! call does to every run that is here what the definition of runs does, and lets all others be.
 #![tactic(auto)]
 
 mod calls;

@@ -75,9 +75,9 @@ fn whole(weigher: Weigher, tallies: &[Tally]) -> Result<Total, OutOfMemory>
 }
 
 /// What a program with its invariants weighs, with all calls unfolded; `None` exactly where it is too big to be made a
-/// circuit: where a chain of calls from main has more than 32 calls, or the weight is over 2,000,000. What loops change is
-/// looked for only where the rest is within these limits, and only in the functions that main comes to: so no more text is
-/// gone through for it than the limits allow.
+/// circuit: where a chain of calls from main has more than 32 calls, or the weight is over 2,000,000. What loops change
+/// is looked for only where the rest is within these limits, and only in the functions that main comes to: so no more
+/// text is gone through for it than the limits allow.
 pub fn weigh(
     alloc: Global,
     program: &Program,

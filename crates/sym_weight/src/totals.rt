@@ -8,7 +8,8 @@ use crate::cost::Tally;
 use std::alloc::Global;
 use wv_base::OutOfMemory;
 
-/// Weight, drawn bits and the longest chain of calls, with calls unfolded; what is beyond the type's end counts as its end.
+/// Weight, drawn bits and the longest chain of calls, with calls unfolded; what is beyond the type's end counts as its
+/// end.
 #[derive(Clone, Copy, Debug, PartialEq, Eq)]
 pub struct Total {
     pub weight: u64,

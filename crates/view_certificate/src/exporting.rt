@@ -25,7 +25,8 @@ fn texts_of(
     Ok(Some(both))
 }
 
-/// The clauses of an obligation, by its number from 1, and its log in a certificate; none where there is none of this number.
+/// The clauses of an obligation, by its number from 1, and its log in a certificate; none where there is none of this
+/// number.
 pub fn exported(
     alloc: Global,
     obligations: &Obligations,

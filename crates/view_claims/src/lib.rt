@@ -1,5 +1,6 @@
-//! What a witness claims of a checked program, and what becomes of it: a waypoint or an invariant that isn't bound, a violation sequence
-//! whose run is as it says or isn't, an obligation of invariant sets that fails, that isn't decided or that holds.
+//! What a witness claims of a checked program, and what becomes of it: a waypoint or an invariant that isn't bound, a
+//! violation sequence whose run is as it says or isn't, an obligation of invariant sets that fails, that isn't decided
+//! or that holds.
 #![tactic(auto)]
 
 mod binding;

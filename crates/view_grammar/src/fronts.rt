@@ -35,7 +35,8 @@ fn push_part(text: &mut Vec<u8>, part: &str) -> Result<(), OutOfMemory> {
     Ok(())
 }
 
-/// Whether a front is a source with what is wanting, what closes its parentheses, what is wanting behind them, what closes its blocks.
+/// Whether a front is a source with what is wanting, what closes its parentheses, what is wanting behind them, what
+/// closes its blocks.
 fn is_spelled(
     alloc: Global,
     front: &[u8],
@@ -112,7 +113,8 @@ impl Front {
         Ok(())
     }
 
-    /// Adds a token, and leaves out the statements of the innermost block where the last of them is whole before the next token.
+    /// Adds a token, and leaves out the statements of the innermost block where the last of them is whole before the
+    /// next token.
     pub fn pass_shortened(
         &mut self,
         token: &Token,

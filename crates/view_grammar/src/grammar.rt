@@ -1,4 +1,5 @@
-// The token of an item that the grammar can't take: the first behind the longest front of the item that something completes to an item.
+// The token of an item that the grammar can't take: the first behind the longest front of the item that something
+// completes to an item.
 use crate::brackets::Walk;
 use crate::fronts::Front;
 use crate::sources::tokens_of;

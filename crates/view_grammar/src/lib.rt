@@ -1,5 +1,6 @@
-//! What the text of a program lacks, in places of it: where no token begins, which token the grammar can't take, how far an expression of a
-//! witness is one; and what to shrink in a program that isn't judged. The tokenizer and the parser are asked, on fronts of the text.
+//! What the text of a program lacks, in places of it: where no token begins, which token the grammar can't take, how
+//! far an expression of a witness is one; and what to shrink in a program that isn't judged. The tokenizer and the
+//! parser are asked, on fronts of the text.
 #![tactic(auto)]
 
 mod brackets;

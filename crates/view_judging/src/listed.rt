@@ -90,8 +90,8 @@ fn lines_in(text: &str) -> usize {
     count
 }
 
-/// Judges the tasks of all lines in their order, and passes empty lines over; the worst status. A file that isn't there is a status of
-/// its line, and the rest goes on.
+/// Judges the tasks of all lines in their order, and passes empty lines over; the worst status. A file that isn't there
+/// is a status of its line, and the rest goes on.
 pub fn judge_lines<S: Shelf, O: Sink, P: Progress>(
     alloc: Global,
     text: &str,

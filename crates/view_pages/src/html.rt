@@ -169,7 +169,8 @@ fn push_file(
     Ok(())
 }
 
-/// The page of a reply and what is told of it. The column of numbers at the left tells how often a line of the program was reached.
+/// The page of a reply and what is told of it. The column of numbers at the left tells how often a line of the program
+/// was reached.
 pub fn page_of(
     alloc: Global,
     files: &Files<'_>,

@@ -1,5 +1,5 @@
-//! What is shown of a verdict as a document: SARIF 2.1.0 for editors and services, and one page of HTML. Names, programs and witnesses are
-//! hostile: in both they are text.
+//! What is shown of a verdict as a document: SARIF 2.1.0 for editors and services, and one page of HTML. Names,
+//! programs and witnesses are hostile: in both they are text.
 #![tactic(auto)]
 
 mod escaped;

@@ -5,7 +5,8 @@ use std::alloc::Global;
 use view_text::{Files, Message};
 use wv_base::OutOfMemory;
 
-/// Messages as one SARIF log, compact, with a line feed at its end. The reply of the validator is its run's property `reply`.
+/// Messages as one SARIF log, compact, with a line feed at its end. The reply of the validator is its run's property
+/// `reply`.
 pub fn log_of(
     alloc: Global,
     files: &Files<'_>,

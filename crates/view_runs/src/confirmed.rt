@@ -1,4 +1,5 @@
-// A run that is confirmed: how often each line was reached, the values that were drawn, the event that passes each segment.
+// A run that is confirmed: how often each line was reached, the values that were drawn, the event that passes each
+// segment.
 use crate::spelled::{type_word, waypoint_text};
 use crate::tracker::Tracker;
 use c_core::Spot;

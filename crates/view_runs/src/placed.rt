@@ -6,8 +6,8 @@ use std::collections::BTreeMap;
 use way_match::{BoundSegment, Point};
 use wv_base::OutOfMemory;
 
-/// The numbers, from 0, of the segments that have a waypoint at a place, by its line and column, and of those that have a target. They
-/// rise, and one may come more than once.
+/// The numbers, from 0, of the segments that have a waypoint at a place, by its line and column, and of those that have
+/// a target. They rise, and one may come more than once.
 #[derive(Drop)]
 pub struct Placed {
     spots: BTreeMap<(u32, u32), Vec<usize>>,

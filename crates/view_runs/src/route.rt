@@ -1,4 +1,5 @@
-// The segments of a violation sequence in the program that is run, and what an event does to a way that waits for one of them.
+// The segments of a violation sequence in the program that is run, and what an event does to a way that waits for one
+// of them.
 use crate::passing::{is_at, passes};
 use crate::placed::Placed;
 use c_core::Program;
@@ -109,8 +110,8 @@ impl<'a> Route<'a> {
         (after, passed)
     }
 
-    /// What comes of the ways that wait for a segment, where one more may come to it, by an event that may pass two; and how a way
-    /// comes to the next segment by it.
+    /// What comes of the ways that wait for a segment, where one more may come to it, by an event that may pass two;
+    /// and how a way comes to the next segment by it.
     pub fn turn(
         &self,
         before: Waiting,

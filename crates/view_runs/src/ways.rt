@@ -9,7 +9,8 @@ use wv_base::OutOfMemory;
 #[derive(Drop)]
 pub struct Ways {
     waiting: Vec<Waiting>,
-    /// A way stays open for good at the segment of this number, or it is 0: what comes of the segments before is seen no more.
+    /// A way stays open for good at the segment of this number, or it is 0: what comes of the segments before is seen
+    /// no more.
     low: usize,
 }
 
@@ -34,8 +35,8 @@ impl Ways {
         Ok(Ways { waiting, low: 0 })
     }
 
-    /// One for each segment, and one behind the last. Of segments before one that is reached the counts may be those of an earlier
-    /// event.
+    /// One for each segment, and one behind the last. Of segments before one that is reached the counts may be those of
+    /// an earlier event.
     pub fn as_slice(&self) -> &[Waiting] {
         self.waiting.as_slice()
     }
@@ -53,8 +54,8 @@ impl Ways {
         }
     }
 
-    /// Takes the ways that wait for a segment past an event, and those that a way comes to by it, and gives the number of the segment
-    /// behind.
+    /// Takes the ways that wait for a segment past an event, and those that a way comes to by it, and gives the number
+    /// of the segment behind.
     fn carry(&mut self, route: &Route<'_>, from: usize, event: Event, memory: &Memory) -> usize {
         let mut comes = Coming::Not;
         let mut number = from;

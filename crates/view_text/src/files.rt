@@ -1,6 +1,7 @@
 use crate::message::File;
 
-/// The names of the judged files, as they were given, and the bytes that were read of them: program, property, witness, and a certificate.
+/// The names of the judged files, as they were given, and the bytes that were read of them: program, property, witness,
+/// and a certificate.
 #[derive(Clone, Copy, Debug)]
 pub struct Files<'a> {
     pub names: [&'a str; 4],

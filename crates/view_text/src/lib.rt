@@ -1,5 +1,6 @@
-//! What a person is shown of a verdict: messages with their places in the files that were judged, in the form of compilers. Files and
-//! witnesses are hostile: whatever is printed of them is printed as text, without control characters.
+//! What a person is shown of a verdict: messages with their places in the files that were judged, in the form of
+//! compilers. Files and witnesses are hostile: whatever is printed of them is printed as text, without control
+//! characters.
 #![tactic(auto)]
 
 mod files;

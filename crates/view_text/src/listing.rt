@@ -1,4 +1,5 @@
-// A confirmation as gcov prints a run: each line of the program with how often it was reached, and the notes below their lines.
+// A confirmation as gcov prints a run: each line of the program with how often it was reached, and the notes below
+// their lines.
 use crate::files::Files;
 use crate::message::{File, Message, Messages};
 use crate::noted::{by_line, parted_at};
@@ -76,7 +77,8 @@ fn without_last_end(text: &[u8]) -> &[u8] {
     }
 }
 
-/// Appends the program line by line, with counts and notes. A count of 0 is a dash, as that of a line without a statement.
+/// Appends the program line by line, with counts and notes. A count of 0 is a dash, as that of a line without a
+/// statement.
 pub fn push_listing(
     alloc: Global,
     out: &mut String,

@@ -40,7 +40,8 @@ pub struct Message {
     pub text: String,
 }
 
-/// Messages in the order in which they are shown; of a confirmation, notes, and how often each line of the program was reached.
+/// Messages in the order in which they are shown; of a confirmation, notes, and how often each line of the program was
+/// reached.
 #[derive(Debug, Drop)]
 pub struct Messages {
     alloc: Global,
@@ -63,8 +64,8 @@ impl Messages {
         self.list.as_slice()
     }
 
-    /// How often each line of the program was reached, from line 1; none where nothing is confirmed. Of a confirmation without a
-    /// run there are no counts.
+    /// How often each line of the program was reached, from line 1; none where nothing is confirmed. Of a confirmation
+    /// without a run there are no counts.
     pub fn counts(&self) -> Option<&[u64]> {
         match &self.counts {
             Some(counts) => Some(counts.as_slice()),

@@ -3,7 +3,8 @@ use crate::message::{File, Message};
 use std::alloc::Global;
 use wv_base::OutOfMemory;
 
-/// The messages that are about a place of a file: the line of each and its number among the messages, in the order of lines.
+/// The messages that are about a place of a file: the line of each and its number among the messages, in the order of
+/// lines.
 pub fn by_line(
     alloc: Global,
     messages: &[Message],

@@ -27,8 +27,8 @@ fn without_return(line: &[u8]) -> &[u8] {
     }
 }
 
-/// Appends bytes as one line of text: a tab stays, a carriage return at the end isn't shown, and what isn't printable or no UTF-8 is
-/// U+FFFD.
+/// Appends bytes as one line of text: a tab stays, a carriage return at the end isn't shown, and what isn't printable
+/// or no UTF-8 is U+FFFD.
 pub fn push_printable(alloc: Global, out: &mut String, bytes: &[u8]) -> Result<(), OutOfMemory> {
     let text = String::from_utf8_lossy(alloc, without_return(bytes))?;
     for c in text.as_str().chars() {

@@ -131,14 +131,14 @@ pub fn repeated_at(alloc: Global, text: &[u8]) -> Result<Spot, OutOfMemory> {
     Ok(spot_at(text, word_start(text, length)))
 }
 
-/// Whether a witness that can't be read is the front of one that can: at its end something is left open, or is wanting. One such
-/// is read once for each completion, however long it is.
+/// Whether a witness that can't be read is the front of one that can: at its end something is left open, or is wanting.
+/// One such is read once for each completion, however long it is.
 pub fn is_cut(alloc: Global, text: &[u8]) -> Result<bool, OutOfMemory> {
     Readable.has(alloc, text)
 }
 
-/// The place in a witness that can't be read behind which nothing that could follow makes it readable, as far as the completions
-/// that are tried tell.
+/// The place in a witness that can't be read behind which nothing that could follow makes it readable, as far as the
+/// completions that are tried tell.
 pub fn stopped_at(alloc: Global, text: &[u8]) -> Result<Spot, OutOfMemory> {
     let length = longest_front(alloc, text, &Readable)?;
     Ok(spot_at(text, length))

@@ -95,8 +95,8 @@ fn segments_of(witness: &Witness) -> &[Segment]
     }
 }
 
-/// The waypoints of a violation sequence, bound to the places and typed expressions of a program. It is meant for witnesses that
-/// meet the schema and hold a violation sequence; without one nothing is bound.
+/// The waypoints of a violation sequence, bound to the places and typed expressions of a program. It is meant for
+/// witnesses that meet the schema and hold a violation sequence; without one nothing is bound.
 pub fn bind_violation(
     alloc: Global,
     witness: &Witness,

@@ -1,8 +1,8 @@
 use c_parser::ExprFault;
 use wv_base::OutOfMemory;
 
-/// Why a witness isn't bound to a program: the number of its least waypoint or invariant that isn't, from 1 in document order, by
-/// the first test that this one fails.
+/// Why a witness isn't bound to a program: the number of its least waypoint or invariant that isn't, from 1 in document
+/// order, by the first test that this one fails.
 #[derive(Clone, Copy, Debug, PartialEq, Eq)]
 pub enum BindFault {
     /// Its place isn't there.

@@ -47,8 +47,8 @@ pub fn constraint_in(
     }
 }
 
-/// The typed tree of an expression of a witness, whose words are objects of the program: `names` are their numbers, innermost
-/// last, and a word is the last of its name.
+/// The typed tree of an expression of a witness, whose words are objects of the program: `names` are their numbers,
+/// innermost last, and a word is the last of its name.
 pub fn check_expr(
     alloc: Global,
     program: &Program,

@@ -1,5 +1,5 @@
-//! Waypoints, matching, given values and verdicts, computed on example programs by the definitions of `way_match`: no crate stands on
-//! it.
+//! Waypoints, matching, given values and verdicts, computed on example programs by the definitions of `way_match`: no
+//! crate stands on it.
 #![tactic(auto)]
 
 mod examples;

@@ -86,8 +86,8 @@ fn bind_sets(
     Ok(())
 }
 
-/// The invariants of all sets of a witness, in witness order, bound to the places and typed expressions of a program. It is meant for
-/// witnesses that meet the schema and hold invariant sets; without one nothing is bound.
+/// The invariants of all sets of a witness, in witness order, bound to the places and typed expressions of a program.
+/// It is meant for witnesses that meet the schema and hold invariant sets; without one nothing is bound.
 pub fn bind_correctness(
     alloc: Global,
     witness: &Witness,

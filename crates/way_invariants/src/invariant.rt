@@ -39,7 +39,8 @@ fn invariant_at(
     spot: Spot,
 ) -> Result<PlacedInvariant, Unbound>
     requires { IsTrue (is_scoped (program_view lookup.now.index) (place_of kind) spot) }
-    ensures { BindsThere (program_view lookup.now.index) (place_of kind) text.now (placed_at kind) spot (seen placed result) }
+    ensures { BindsThere (program_view lookup.now.index) (place_of kind) text.now (placed_at kind) spot
+        (seen placed result) }
 {
     let test = expression_at(alloc, lookup, place_of(kind), spot, text)?;
     Ok(PlacedInvariant {

@@ -10,5 +10,6 @@ ghost use Rattle.way_invariants.specs.Invariants.{BindsInvariants};
 
 /// Two answers about one witness and program agree, unless memory was wanted.
 pub fn one_answer()
-    ensures { (p : Program) (w : Witness) (a b : Result (List PlacedInvariant) BindFault) → BindsInvariants p w a → BindsInvariants p w b → AgreeBy placed_view a b }
+    ensures { (p : Program) (w : Witness) (a b : Result (List PlacedInvariant) BindFault) → BindsInvariants p w a
+        → BindsInvariants p w b → AgreeBy placed_view a b }
 {}

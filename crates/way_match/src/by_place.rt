@@ -11,8 +11,8 @@ use std::alloc::Global;
 use std::collections::BTreeMap;
 use wv_base::OutOfMemory;
 
-/// The numbers of the segments that have a waypoint at a place, by its line and column, and of those that have a target. Lines where
-/// a waypoint stands are marked: at most events a look at the line shows that they move no segment.
+/// The numbers of the segments that have a waypoint at a place, by its line and column, and of those that have a
+/// target. Lines where a waypoint stands are marked: at most events a look at the line shows that they move no segment.
 #[derive(Drop)]
 pub struct ByPlace {
     placed: BTreeMap<(u32, u32), Vec<usize>>,
@@ -47,7 +47,8 @@ impl ByPlace {
     fn add_at(&mut self, alloc: Global, spot: Spot, number: usize) -> Result<(), OutOfMemory>
         requires { IsClear self.old }
         ensures clear { OnOk result (IsClear self.new) }
-        ensures numbers { OnOk result ((at : Option Spot) → numbers_in self.new at ≡ numbers_in self.old at ++ cond (same_place (Some spot) at) (number ∷ []) []) }
+        ensures numbers { OnOk result ((at : Option Spot) → numbers_in self.new at ≡ numbers_in self.old at ++ cond
+            (same_place (Some spot) at) (number ∷ []) []) }
     {
         mark(&mut self.lines, spot.line)?;
         let place = (spot.line, spot.column);
@@ -63,7 +64,8 @@ impl ByPlace {
     fn add(&mut self, alloc: Global, point: &Point, number: usize) -> Result<(), OutOfMemory>
         requires { IsClear self.old }
         ensures clear { OnOk result (IsClear self.new) }
-        ensures numbers { OnOk result ((at : Option Spot) → numbers_in self.new at ≡ numbers_in self.old at ++ numbers_for at number (point_view point.now ∷ [])) }
+        ensures numbers { OnOk result ((at : Option Spot) → numbers_in self.new at
+            ≡ numbers_in self.old at ++ numbers_for at number (point_view point.now ∷ [])) }
     {
         match point {
             Point::Assume(spot, _) => self.add_at(alloc, *spot, number),
@@ -85,7 +87,8 @@ impl ByPlace {
     ) -> Result<(), OutOfMemory>
         requires { IsClear self.old }
         ensures clear { OnOk result (IsClear self.new) }
-        ensures numbers { OnOk result ((at : Option Spot) → numbers_in self.new at ≡ numbers_in self.old at ++ numbers_for at number (points_view points.now)) }
+        ensures numbers { OnOk result ((at : Option Spot) → numbers_in self.new at
+            ≡ numbers_in self.old at ++ numbers_for at number (points_view points.now)) }
     {
         for point in points {
             self.add(alloc, point, number)?;
@@ -95,7 +98,8 @@ impl ByPlace {
 
     /// The segments by the places of their waypoints.
     pub fn of(alloc: Global, segments: &[BoundSegment]) -> Result<ByPlace, OutOfMemory>
-        ensures numbers { IfOk result (λ found. (at : Option Spot) → numbers_in found at ≡ moved at 0 (each_segment_view segments.now)) }
+        ensures numbers { IfOk result (λ found. (at : Option Spot) → numbers_in found at
+            ≡ moved at 0 (each_segment_view segments.now)) }
         ensures clear { IfOk result IsClear }
     {
         let mut found = ByPlace::new(alloc);

@@ -93,7 +93,8 @@ fn constant_compared<'a>(object: u32, e: &'a Expr) -> Option<&'a Expr>
 }
 
 fn earlier<'a>(first: Option<&'a Expr>, second: Option<&'a Expr>) -> Option<&'a Expr>
-    ensures { expr_view_if (option_copied result) ≡ or_else (expr_view_if (option_copied first.entry)) (expr_view_if (option_copied second.entry)) }
+    ensures { expr_view_if (option_copied result) ≡ or_else (expr_view_if (option_copied first.entry))
+        (expr_view_if (option_copied second.entry)) }
 {
     match first {
         Some(found) => Some(found),

@@ -32,7 +32,8 @@ fn given_by_constant(
     call: InputCall,
     constant: &Expr,
 ) -> Option<GivenValue>
-    ensures { option_map value_view result ≡ given_by_constant (program_view program.now) (call_view call) (expr_view constant.now) }
+    ensures { option_map value_view result ≡ given_by_constant (program_view program.now) (call_view call)
+        (expr_view constant.now) }
 {
     let memory = Memory::new(alloc);
     match value_in(program, constant, &memory) {
@@ -45,7 +46,8 @@ fn given_by_constant(
 }
 
 fn given_in(alloc: Global, index: &Index, call: InputCall, constant: &Expr) -> Option<GivenValue>
-    ensures { option_map value_view result ≡ given_by_constant (program_view index.now) (call_view call) (expr_view constant.now) }
+    ensures { option_map value_view result ≡ given_by_constant (program_view index.now) (call_view call)
+        (expr_view constant.now) }
 {
     given_by_constant(alloc, index.program(), call, constant)
 }
@@ -65,7 +67,8 @@ fn given_by_return(
     close: Spot,
     test: &Option<ReturnTest>,
 ) -> Option<GivenValue>
-    ensures { option_map value_view result ≡ given_by_return (program_view index.now) (input_at (program_view index.now) close) (test_view_if test.now) }
+    ensures { option_map value_view result ≡ given_by_return (program_view index.now)
+        (input_at (program_view index.now) close) (test_view_if test.now) }
 {
     match input_at(index, close) {
         None => None,
@@ -92,7 +95,8 @@ fn stored_before(index: &Index, spot: Spot) -> Option<StoredInput>
 }
 
 fn given_by_assumption(alloc: Global, index: &Index, spot: Spot, test: &Expr) -> Option<GivenValue>
-    ensures { option_map value_view result ≡ given_by_assumption (program_view index.now) (and_then (stmt_before (program_view index.now) spot) stored_by) (expr_view test.now) }
+    ensures { option_map value_view result ≡ given_by_assumption (program_view index.now)
+        (and_then (stmt_before (program_view index.now) spot) stored_by) (expr_view test.now) }
 {
     match stored_before(index, spot) {
         None => None,
@@ -121,7 +125,8 @@ fn gather(
     index: &Index,
     segments: &[BoundSegment],
 ) -> Result<Vec<GivenValue>, OutOfMemory>
-    ensures { IfOk result (λ list. values_view list.items ≡ gathered (program_view index.now) (each_segment_view segments.now)) }
+    ensures { IfOk result (λ list. values_view list.items ≡ gathered (program_view index.now)
+        (each_segment_view segments.now)) }
 {
     let mut list = Vec::new(alloc);
     for segment in segments {

@@ -1,5 +1,5 @@
-//! Waypoints of violation witnesses bound to a program: what an event passes, at which positions a run's events match the
-//! segments, which values a witness gives, and which verdict is right.
+//! Waypoints of violation witnesses bound to a program: what an event passes, at which positions a run's events match
+//! the segments, which values a witness gives, and which verdict is right.
 #![tactic(auto)]
 
 mod by_place;

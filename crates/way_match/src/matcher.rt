@@ -76,7 +76,8 @@ impl<'a> Matcher<'a> {
     /// Positions that match the events seen, exactly where some do. It takes no memory.
     pub fn done(self) -> Option<Seq<u64>>
         ensures answer { result ≡ positions_of (last_way self.entry.ways) }
-        ensures exact { (p : Program) (b : Bound) (es : List Seen) → self.entry ≡ after_all (begun p b) es → Finds (program_view p) (segments_view b) es result }
+        ensures exact { (p : Program) (b : Bound) (es : List Seen) → self.entry ≡ after_all (begun p b) es
+            → Finds (program_view p) (segments_view b) es result }
     {
         let Matcher {
             states,

@@ -88,7 +88,9 @@ fn is_met(done: Done) -> bool
 }
 
 fn meets(program: &Program, test: &ReturnTest, comparison: Comparison, value: i128) -> bool
-    ensures { result ≡ is_true (and_then comparison.constant (λ w. wrapping (passing.compared (program_view program.now).model test.now.op comparison.ty value (type_of_exp (expr_view test.now.constant)) w))) }
+    ensures { result ≡ is_true (and_then comparison.constant
+        (λ w. wrapping (passing.compared (program_view program.now).model test.now.op comparison.ty value
+        (type_of_exp (expr_view test.now.constant)) w))) }
 {
     match comparison.constant {
         Some(constant) => is_met(compare(

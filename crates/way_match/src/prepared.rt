@@ -107,7 +107,8 @@ pub fn prepare(
     index: &Index,
     segments: &[BoundSegment],
 ) -> Result<Seq<Prepared>, OutOfMemory>
-    ensures { IfOk result (λ prepared. prepared ≡ all_prepared (program_view index.now) (each_segment_view segments.now)) }
+    ensures { IfOk result (λ prepared. prepared ≡ all_prepared (program_view index.now)
+        (each_segment_view segments.now)) }
 {
     let mut prepared = Seq::new(alloc);
     for segment in segments {

@@ -29,8 +29,8 @@ pub struct Node {
     pub previous: usize,
 }
 
-/// A state for each number of completed segments. No state from number `reach` on was ever live; no event can move the segments
-/// before number `low` any more.
+/// A state for each number of completed segments. No state from number `reach` on was ever live; no event can move the
+/// segments before number `low` any more.
 #[derive(Drop)]
 pub struct States {
     pub nodes: Vec<Node>,
@@ -49,7 +49,8 @@ fn stays(
     prepared: &Prepared,
 ) -> Option<usize>
     requires { prepared.now ≡ prepared_of (program_view sight.now.program.now) (segment_view segment.now) }
-    ensures { result ≡ only_if (not (passing.passes_any (program_view sight.now.program.now) (segment_view segment.now).avoids sight.now.event sight.now.memory.now.cells)) was }
+    ensures { result ≡ only_if (not (passing.passes_any (program_view sight.now.program.now)
+        (segment_view segment.now).avoids sight.now.event sight.now.memory.now.cells)) was }
 {
     if was.is_some()
         && passes_any(
@@ -83,7 +84,9 @@ fn goes(
     prepared: &Prepared,
 ) -> Option<usize>
     requires { prepared.now ≡ prepared_of (program_view sight.now.program.now) (segment_view segment.now) }
-    ensures { result ≡ only_if (passing.passes (program_view sight.now.program.now) (segment_view segment.now).follow sight.now.event sight.now.memory.now.cells && (is_there kept || (shares && passing.is_assumption (segment_view segment.now).follow))) now }
+    ensures { result ≡ only_if (passing.passes (program_view sight.now.program.now) (segment_view segment.now).follow
+        sight.now.event sight.now.memory.now.cells &&
+        (is_there kept || (shares && passing.is_assumption (segment_view segment.now).follow))) now }
 {
     if now.is_none() {
         return None;
@@ -113,8 +116,11 @@ fn arrives(
     nodes: &mut Vec<Node>,
 ) -> Option<usize>
     requires room { vec_len nodes.old < vec_capacity nodes.old }
-    ensures way { (k : ℕ) → IsHeld nodes.old.items k kept → IsFrom nodes.old.items k came → way_of nodes.new.items k result ≡ way_now event (way_of nodes.old.items k kept) (came_of nodes.old.items k came) }
-    ensures held { (k : ℕ) → IsHeld nodes.old.items k kept → IsFrom nodes.old.items k came → IsHeld nodes.new.items k result }
+    ensures way { (k : ℕ) → IsHeld nodes.old.items k kept → IsFrom nodes.old.items k came
+        → way_of nodes.new.items k result ≡ way_now event (way_of nodes.old.items k kept)
+        (came_of nodes.old.items k came) }
+    ensures held { (k : ℕ) → IsHeld nodes.old.items k kept → IsFrom nodes.old.items k came
+        → IsHeld nodes.new.items k result }
     ensures grown { Grown nodes.old.items nodes.new.items }
     ensures len { vec_len nodes.new ≤ vec_len nodes.old + 1 }
     ensures capacity { vec_capacity nodes.old ≤ vec_capacity nodes.new }
@@ -190,7 +196,8 @@ fn is_passed(segments: &[BoundSegment], live: &[Option<usize>], i: usize) -> boo
 impl States {
     /// No segment is completed yet.
     pub fn new(alloc: Global, count: usize) -> Result<States, OutOfMemory>
-        ensures { IfOk result (λ states. (states.nodes.items ≡ []) × (states.live.items ≡ Some 0 ∷ replicate count None) × (states.low ≡ 0)) }
+        ensures { IfOk result (λ states. (states.nodes.items ≡ []) × (states.live.items ≡ Some 0 ∷ replicate count None)
+            × (states.low ≡ 0)) }
     {
         let mut live = Vec::new(alloc);
         live.push(Some(0))?;
@@ -205,13 +212,15 @@ impl States {
         })
     }
 
-    /// Takes the state of segment number `i` past an event, and gives what comes to the next one, if that matters there.
+    /// Takes the state of segment number `i` past an event, and gives what comes to the next one, if that matters
+    /// there.
     fn turn(&mut self, sight: &Sight, i: usize, came: Option<usize>, shares: bool) -> Option<usize>
         requires within { i < length sight.now.segments.now }
         requires states { length self.old.live.items ≡ length sight.now.segments.now + 1 }
         requires room { vec_len self.old.nodes < vec_capacity self.old.nodes }
         requires from { IsFrom self.old.nodes.items i came }
-        ensures value { outcome sight.now self.new.nodes.items self.new.live.items (i + 1) result (assumes_at sight.now i) ≡ outcome sight.now self.old.nodes.items self.old.live.items i came shares }
+        ensures value { outcome sight.now self.new.nodes.items self.new.live.items (i + 1) result
+            (assumes_at sight.now i) ≡ outcome sight.now self.old.nodes.items self.old.live.items i came shares }
         ensures from { IsFrom self.new.nodes.items (i + 1) result }
         ensures states { length self.new.live.items ≡ length self.old.live.items }
         ensures len { vec_len self.new.nodes ≤ vec_len self.old.nodes + 1 }
@@ -232,19 +241,22 @@ impl States {
         }
     }
 
-    /// Takes the state of segment number `from` past an event, and then those that a way comes to. The answer has the number of the
-    /// segment behind, and the way that comes behind the last.
+    /// Takes the state of segment number `from` past an event, and then those that a way comes to. The answer has the
+    /// number of the segment behind, and the way that comes behind the last.
     fn carry(&mut self, sight: &Sight, from: usize) -> (usize, Option<usize>)
         requires within { from < length sight.now.segments.now }
         requires states { length self.old.live.items ≡ length sight.now.segments.now + 1 }
-        requires room { vec_len self.old.nodes + length sight.now.segments.now + 1 ≤ vec_capacity self.old.nodes + from }
-        ensures value { outcome sight.now self.new.nodes.items self.new.live.items result.0 result.1 false ≡ outcome sight.now self.old.nodes.items self.old.live.items from None false }
+        requires room { vec_len self.old.nodes + length sight.now.segments.now + 1
+            ≤ vec_capacity self.old.nodes + from }
+        ensures value { outcome sight.now self.new.nodes.items self.new.live.items result.0 result.1 false
+            ≡ outcome sight.now self.old.nodes.items self.old.live.items from None false }
         ensures more { from < result.0 }
         ensures within { result.0 ≤ length sight.now.segments.now }
         ensures ends { result.0 < length sight.now.segments.now → result.1 ≡ None }
         ensures from { IsFrom self.new.nodes.items result.0 result.1 }
         ensures states { length self.new.live.items ≡ length self.old.live.items }
-        ensures room { vec_len self.new.nodes + length sight.now.segments.now + 1 ≤ vec_capacity self.new.nodes + result.0 }
+        ensures room { vec_len self.new.nodes + length sight.now.segments.now + 1
+            ≤ vec_capacity self.new.nodes + result.0 }
         ensures low { self.new.low ≡ self.old.low }
     {
         let mut came = self.turn(sight, from, None, false);
@@ -265,7 +277,8 @@ impl States {
         requires states { length self.old.live.items ≡ length sight.now.segments.now + 1 }
         requires room { vec_len self.old.nodes < vec_capacity self.old.nodes }
         requires from { IsFrom self.old.nodes.items (length sight.now.segments.now) came }
-        ensures ways { ways_of self.new.nodes.items 0 self.new.live.items ≡ outcome sight.now self.old.nodes.items self.old.live.items (length sight.now.segments.now) came false }
+        ensures ways { ways_of self.new.nodes.items 0 self.new.live.items ≡ outcome sight.now self.old.nodes.items
+            self.old.live.items (length sight.now.segments.now) came false }
         ensures states { length self.new.live.items ≡ length self.old.live.items }
         ensures low { self.new.low ≡ self.old.low }
     {
@@ -281,7 +294,9 @@ impl States {
         requires room { vec_len self.old.nodes + length sight.now.segments.now + 1 ≤ vec_capacity self.old.nodes }
         requires passed { ArePassed (sighted sight.now) self.old.live.items self.old.low }
         requires moved { numbers.now ≡ moved (event_spot sight.now.event) 0 (sighted sight.now) }
-        ensures ways { ways_of self.new.nodes.items 0 self.new.live.items ≡ step (program_view sight.now.program.now) (seen_by sight.now) sight.now.count None false (sighted sight.now) (ways_of self.old.nodes.items 0 self.old.live.items) }
+        ensures ways { ways_of self.new.nodes.items 0 self.new.live.items ≡ step (program_view sight.now.program.now)
+            (seen_by sight.now) sight.now.count None false (sighted sight.now)
+            (ways_of self.old.nodes.items 0 self.old.live.items) }
         ensures states { length self.new.live.items ≡ length self.old.live.items }
         ensures low { self.new.low ≡ self.old.low }
     {
@@ -315,8 +330,12 @@ impl States {
     #[inline]
     pub fn pass_by(&mut self)
         requires { 0 < length self.old.live.items }
-        ensures ways { (p : tree.Program) (e : Seen) (n : ℕ) (ss : List points.BoundSegment) → length self.old.live.items ≡ length ss + 1 → moved (event_spot e.event) 0 ss ≡ [] → ways_of self.new.nodes.items 0 self.new.live.items ≡ step p e n None false ss (ways_of self.old.nodes.items 0 self.old.live.items) }
-        ensures passed { (ss : List points.BoundSegment) → length self.old.live.items ≡ length ss + 1 → ArePassed ss self.old.live.items self.old.low → ArePassed ss self.new.live.items self.new.low }
+        ensures ways { (p : tree.Program) (e : Seen) (n : ℕ) (ss : List points.BoundSegment)
+            → length self.old.live.items ≡ length ss + 1 → moved (event_spot e.event) 0 ss ≡ []
+            → ways_of self.new.nodes.items 0 self.new.live.items
+            ≡ step p e n None false ss (ways_of self.old.nodes.items 0 self.old.live.items) }
+        ensures passed { (ss : List points.BoundSegment) → length self.old.live.items ≡ length ss + 1
+            → ArePassed ss self.old.live.items self.old.low → ArePassed ss self.new.live.items self.new.low }
         ensures states { length self.new.live.items ≡ length self.old.live.items }
     {
         let last = self.live.len() - 1;
@@ -337,11 +356,15 @@ impl States {
         count: u64,
     ) -> Result<(), OutOfMemory>
         requires prepares { prepared.now ≡ all_prepared (program_view program.now) (each_segment_view segments.now) }
-        requires places { numbers_in by_place.now (event_spot event) ≡ moved (event_spot event) 0 (each_segment_view segments.now) }
+        requires places { numbers_in by_place.now (event_spot event)
+            ≡ moved (event_spot event) 0 (each_segment_view segments.now) }
         requires states { length self.old.live.items ≡ length segments.now + 1 }
         requires passed { ArePassed (each_segment_view segments.now) self.old.live.items self.old.low }
-        ensures ways { OnOk result (ways_of self.new.nodes.items 0 self.new.live.items ≡ step (program_view program.now) (record { event = event; cells = memory.now.cells }) count None false (each_segment_view segments.now) (ways_of self.old.nodes.items 0 self.old.live.items)) }
-        ensures refused { OnErr result (ways_of self.new.nodes.items 0 self.new.live.items ≡ ways_of self.old.nodes.items 0 self.old.live.items) }
+        ensures ways { OnOk result (ways_of self.new.nodes.items 0 self.new.live.items ≡ step (program_view program.now)
+            (record { event = event; cells = memory.now.cells }) count None false (each_segment_view segments.now)
+            (ways_of self.old.nodes.items 0 self.old.live.items)) }
+        ensures refused { OnErr result (ways_of self.new.nodes.items 0 self.new.live.items
+            ≡ ways_of self.old.nodes.items 0 self.old.live.items) }
         ensures passed { ArePassed (each_segment_view segments.now) self.new.live.items self.new.low }
         ensures states { length self.new.live.items ≡ length self.old.live.items }
     {

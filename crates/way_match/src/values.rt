@@ -14,7 +14,8 @@ use wv_base::{OutOfMemory, Seq};
 pub type Values = BTreeMap<(u32, u32), Seq<i128>>;
 
 fn put(alloc: Global, values: &mut Values, given: GivenValue) -> Result<(), OutOfMemory>
-    ensures { OnOk result ((q : Spot) → values_in values.new q ≡ values_in values.old q ++ value_if_at q (Some (value_view given))) }
+    ensures { OnOk result ((q : Spot) → values_in values.new q ≡ values_in values.old q ++ value_if_at q
+        (Some (value_view given))) }
 {
     let key = (given.spot.line, given.spot.column);
     let mut list = values.remove(&key).unwrap_or(Seq::new(alloc));

@@ -69,7 +69,8 @@ impl<'a> Names<'a> {
         })
     }
 
-    /// The objects that are visible at a statement or a loop, innermost last: the last of a name is the one that it names.
+    /// The objects that are visible at a statement or a loop, innermost last: the last of a name is the one that it
+    /// names.
     pub fn visible_at(
         &self,
         alloc: Global,

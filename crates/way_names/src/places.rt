@@ -29,7 +29,8 @@ pub fn scope_at(scopes: &ScopesAt, spot: Spot) -> Option<usize>
 }
 
 fn keep_first(scopes: &mut ScopesAt, spot: Spot, scope: Option<usize>) -> Result<(), OutOfMemory>
-    ensures { OnOk result ((q : Spot) → found_at scopes.new q ≡ or_else (found_at scopes.old q) (cond (same_spot spot q) (Some scope) None)) }
+    ensures { OnOk result ((q : Spot) → found_at scopes.new q ≡ or_else (found_at scopes.old q)
+        (cond (same_spot spot q) (Some scope) None)) }
 {
     let first = found_at(scopes, spot).unwrap_or(scope);
     scopes.insert((spot.line, spot.column), first)?;

@@ -5,7 +5,8 @@ ghost use Rattle.way_names.specs.Scopes.{HasNames, IsScope};
 use std::alloc::Global;
 use wv_base::OutOfMemory;
 
-/// A scope with one name more than the scope around it, which has a number too. The outermost has no names, and no number.
+/// A scope with one name more than the scope around it, which has a number too. The outermost has no names, and no
+/// number.
 #[derive(Clone, Copy)]
 pub struct Scope {
     pub outer: Option<usize>,

@@ -80,8 +80,10 @@ fn names(
     outer: Option<usize>,
     declared: &[Declared],
 ) -> Result<Option<usize>, OutOfMemory>
-    ensures scope { IfOk result (λ scope. scope ≡ innermost (walk_view walk.old) outer (objects_of_names (names_view declared.now))) }
-    ensures walk { OnOk result (walk_view walk.new ≡ with_names (walk_view walk.old) outer (objects_of_names (names_view declared.now))) }
+    ensures scope { IfOk result (λ scope. scope ≡ innermost (walk_view walk.old) outer
+        (objects_of_names (names_view declared.now))) }
+    ensures walk { OnOk result (walk_view walk.new ≡ with_names (walk_view walk.old) outer
+        (objects_of_names (names_view declared.now))) }
 {
     let mut scope = outer;
     for name in declared {
@@ -95,8 +97,10 @@ fn first_names(
     outer: Option<usize>,
     first: &First,
 ) -> Result<Option<usize>, OutOfMemory>
-    ensures scope { IfOk result (λ scope. scope ≡ innermost (walk_view walk.old) outer (objects_of_first (first_view first.now))) }
-    ensures walk { OnOk result (walk_view walk.new ≡ with_names (walk_view walk.old) outer (objects_of_first (first_view first.now))) }
+    ensures scope { IfOk result (λ scope. scope ≡ innermost (walk_view walk.old) outer
+        (objects_of_first (first_view first.now))) }
+    ensures walk { OnOk result (walk_view walk.new ≡ with_names (walk_view walk.old) outer
+        (objects_of_first (first_view first.now))) }
 {
     match first {
         First::Absent => Ok(outer),
@@ -107,8 +111,10 @@ fn first_names(
 
 /// The scope behind a statement of a block.
 fn behind(walk: &mut Walk, outer: Option<usize>, s: &Stmt) -> Result<Option<usize>, OutOfMemory>
-    ensures scope { IfOk result (λ scope. scope ≡ innermost (walk_view walk.old) outer (declared_by (stmt_view s.now))) }
-    ensures walk { OnOk result (walk_view walk.new ≡ with_names (walk_view walk.old) outer (declared_by (stmt_view s.now))) }
+    ensures scope { IfOk result (λ scope. scope ≡ innermost (walk_view walk.old) outer
+        (declared_by (stmt_view s.now))) }
+    ensures walk { OnOk result (walk_view walk.new ≡ with_names (walk_view walk.old) outer
+        (declared_by (stmt_view s.now))) }
 {
     match &s.form {
         Form::Declare(declared) => names(walk, outer, declared.as_slice()),
@@ -122,8 +128,10 @@ fn parentheses(
     outer: Option<usize>,
     form: &Form,
 ) -> Result<Option<usize>, OutOfMemory>
-    ensures scope { IfOk result (λ scope. scope ≡ innermost (walk_view walk.old) outer (in_parentheses (form_view form.now))) }
-    ensures walk { OnOk result (walk_view walk.new ≡ with_names (walk_view walk.old) outer (in_parentheses (form_view form.now))) }
+    ensures scope { IfOk result (λ scope. scope ≡ innermost (walk_view walk.old) outer
+        (in_parentheses (form_view form.now))) }
+    ensures walk { OnOk result (walk_view walk.new ≡ with_names (walk_view walk.old) outer
+        (in_parentheses (form_view form.now))) }
 {
     match form {
         Form::For { first, .. } => first_names(walk, outer, first),
@@ -148,7 +156,8 @@ fn push_loop_if(
     scope: Option<usize>,
     form: &Form,
 ) -> Result<(), OutOfMemory>
-    ensures { OnOk result (walk_view walk.new ≡ with_loop_if (is_loop (form_view form.now)) (walk_view walk.old) at scope) }
+    ensures { OnOk result (walk_view walk.new ≡ with_loop_if (is_loop (form_view form.now)) (walk_view walk.old) at
+        scope) }
 {
     if is_loop(form) {
         push_loop(walk, at, scope)?;
@@ -224,7 +233,8 @@ fn in_arms(walk: &mut Walk, outer: Option<usize>, arms: &[Arm]) -> Result<(), Ou
 }
 
 fn in_function(walk: &mut Walk, function: &Function) -> Result<(), OutOfMemory>
-    ensures { OnOk result (walk_view walk.new ≡ walked_body (walk_view walk.old) function.now.params (stmt_view function.now.body)) }
+    ensures { OnOk result (walk_view walk.new ≡ walked_body (walk_view walk.old) function.now.params
+        (stmt_view function.now.body)) }
 {
     let outer = params(walk, None, function.params.as_slice())?;
     let form = &function.body.form;

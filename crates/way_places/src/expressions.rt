@@ -14,8 +14,8 @@ use c_core::{
     Row, Spot, Stmt,
 };
 
-/// What an expression is sought for: a call that ends there, a full expression that starts at a place, a call of `reach_error` that
-/// does.
+/// What an expression is sought for: a call that ends there, a full expression that starts at a place, a call of
+/// `reach_error` that does.
 #[derive(Clone, Copy)]
 pub enum Wanted {
     EndsAt(Spot),

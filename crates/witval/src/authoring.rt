@@ -1,4 +1,5 @@
-// The output for a program, a property and values for a run's inputs: the refusals in their order, and then a violation witness.
+// The output for a program, a property and values for a run's inputs: the refusals in their order, and then a violation
+// witness.
 ghost use Rattle.std.specs.Prelude.{◌≡◌, ◌≤◌, IfOk, length};
 ghost use Rattle.std.specs.Str.{chars};
 ghost use Rattle.c_parser.specs.Formed.{AreOrderly};
@@ -31,8 +32,8 @@ use wv_schema::Segment;
 use wv_task::{identifier, property};
 use yaml_scalars::is_short;
 
-/// What a violation witness is made of besides values: the name of the program's file, what the witness is to say of itself, and the
-/// budget of steps of its run.
+/// What a violation witness is made of besides values: the name of the program's file, what the witness is to say of
+/// itself, and the budget of steps of its run.
 #[derive(Clone, Copy)]
 pub struct Draft<'a> {
     pub file: &'a str,

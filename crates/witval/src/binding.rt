@@ -40,8 +40,8 @@ fn segments_of(witness: &Witness) -> &[Segment]
     }
 }
 
-/// The segments bound to the program, or the least waypoint that isn't. A file of allowed length holds far fewer waypoints than can
-/// be numbered; more are answered as want of memory.
+/// The segments bound to the program, or the least waypoint that isn't. A file of allowed length holds far fewer
+/// waypoints than can be numbered; more are answered as want of memory.
 pub fn bind(alloc: Global, witness: &Witness, program: &Program) -> Result<Bound, BindFault>
     ensures { Binds (program_view program.now) witness.now result }
 {

@@ -23,7 +23,8 @@ pub enum Stop {
     OutOfMemory,
 }
 
-/// The bytes of the three files. Where a violation witness is made, values for a run's inputs stand in place of a witness.
+/// The bytes of the three files. Where a violation witness is made, values for a run's inputs stand in place of a
+/// witness.
 #[derive(Drop)]
 pub struct Inputs {
     pub program: Vec<u8>,

@@ -108,8 +108,8 @@ fn judge_witness(
     }
 }
 
-/// The output for the text of a program in a data model, and a witness about it: a certificate is made, or read, for invariant
-/// sets alone, and only they are weeded.
+/// The output for the text of a program in a data model, and a witness about it: a certificate is made, or read, for
+/// invariant sets alone, and only they are weeded.
 fn judge_model(
     alloc: Global,
     property: Property,

@@ -16,8 +16,8 @@ pub enum Unviolated {
     Undefined(Spot),
 }
 
-/// What is written: the report of a reply, the canonical form of a witness, its summary, the lines of a demo, a certificate, what
-/// checking one again came to, or why there is no violation witness of a run.
+/// What is written: the report of a reply, the canonical form of a witness, its summary, the lines of a demo, a
+/// certificate, what checking one again came to, or why there is no violation witness of a run.
 #[derive(Drop)]
 pub enum Output {
     Report(Reply),

@@ -43,9 +43,9 @@ fn run_words<S: Shelf, O: Sink>(alloc: Global, words: &[String], shelf: &mut S, 
     }
 }
 
-/// All that the program does: it reads the files that the words name, judges, shows or brings into canonical form, writes a certificate or
-/// checks one again, makes a violation witness of values, keeps the invariants that hold up together, or makes a demo and judges it, and
-/// writes.
+/// All that the program does: it reads the files that the words name, judges, shows or brings into canonical form,
+/// writes a certificate or checks one again, makes a violation witness of values, keeps the invariants that hold up
+/// together, or makes a demo and judges it, and writes.
 ///
 /// The status is the output's, 5 where a write failed, 6 where memory was wanted. All bytes stand in memory before the
 /// first of them is written.

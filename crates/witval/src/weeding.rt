@@ -19,7 +19,8 @@ use wv_report::Reply;
 use wv_schema::Witness;
 use wv_weed::{Weeded, weed};
 
-/// The output for a program and invariant sets about it: the witness with the invariants that hold up together, and no others.
+/// The output for a program and invariant sets about it: the witness with the invariants that hold up together, and no
+/// others.
 pub fn weed_sets(
     alloc: Global,
     program: &Program,

@@ -21,7 +21,8 @@ impl Progress for ProgressLine<'_> {
     }
 }
 
-/// The text of a list, which is standard input where it is named `-`; or 4 where it can't be read, 6 for want of memory.
+/// The text of a list, which is standard input where it is named `-`; or 4 where it can't be read, 6 for want of
+/// memory.
 fn list_text(rt: &HostRuntime, alloc: Global, name: &str) -> Result<String, u8> {
     let read = if name == "-" {
         io::read_to_string(alloc, rt.reader())

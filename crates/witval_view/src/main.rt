@@ -1,5 +1,5 @@
-//! The program that shows a verdict in the files that were judged: the words, the files and standard output of the process, handed to
-//! the calls of the crate below.
+//! The program that shows a verdict in the files that were judged: the words, the files and standard output of the
+//! process, handed to the calls of the crate below.
 #![tactic(auto)]
 
 mod listing;

@@ -65,7 +65,8 @@ fn budgets(matches: &ArgMatches<'_>) -> Option<Budgets>
 }
 
 fn validate<'a>(matches: &ArgMatches<'a>) -> Option<Request<'a>>
-    ensures { option_map wanted result ≡ validate_of (command_in (rows_of (found_of matches.now))) (budgets_in (rows_of (found_of matches.now))) }
+    ensures { option_map wanted result ≡ validate_of (command_in (rows_of (found_of matches.now)))
+        (budgets_in (rows_of (found_of matches.now))) }
 {
     Some(Request::Validate {
         names: names(matches)?,
@@ -74,7 +75,8 @@ fn validate<'a>(matches: &ArgMatches<'a>) -> Option<Request<'a>>
 }
 
 fn demo<'a>(matches: &ArgMatches<'a>) -> Option<Request<'a>>
-    ensures { option_map wanted result ≡ demo_of (made_number (rows_of (found_of matches.now))) (budgets_in (rows_of (found_of matches.now))) }
+    ensures { option_map wanted result ≡ demo_of (made_number (rows_of (found_of matches.now)))
+        (budgets_in (rows_of (found_of matches.now))) }
 {
     Some(Request::Demo {
         number: number(matches, "number", 0, MOST_NUMBER)?,
@@ -83,7 +85,8 @@ fn demo<'a>(matches: &ArgMatches<'a>) -> Option<Request<'a>>
 }
 
 fn certify<'a>(matches: &ArgMatches<'a>) -> Option<Request<'a>>
-    ensures { option_map wanted result ≡ certify_of (command_in (rows_of (found_of matches.now))) (conflicts_in (rows_of (found_of matches.now))) }
+    ensures { option_map wanted result ≡ certify_of (command_in (rows_of (found_of matches.now)))
+        (conflicts_in (rows_of (found_of matches.now))) }
 {
     Some(Request::Certify {
         names: names(matches)?,
@@ -92,7 +95,8 @@ fn certify<'a>(matches: &ArgMatches<'a>) -> Option<Request<'a>>
 }
 
 fn recheck<'a>(matches: &ArgMatches<'a>) -> Option<Request<'a>>
-    ensures { option_map wanted result ≡ recheck_of (command_in (rows_of (found_of matches.now))) (first_of (codes "certificate") (rows_of (found_of matches.now))) }
+    ensures { option_map wanted result ≡ recheck_of (command_in (rows_of (found_of matches.now)))
+        (first_of (codes "certificate") (rows_of (found_of matches.now))) }
 {
     Some(Request::Recheck {
         names: names(matches)?,
@@ -121,7 +125,8 @@ fn label<'a>(matches: &ArgMatches<'a>) -> Option<Label<'a>>
 }
 
 fn author<'a>(matches: &ArgMatches<'a>) -> Option<Request<'a>>
-    ensures { option_map wanted result ≡ author_of (sources_in (rows_of (found_of matches.now))) (label_in (rows_of (found_of matches.now))) (steps_in (rows_of (found_of matches.now))) }
+    ensures { option_map wanted result ≡ author_of (sources_in (rows_of (found_of matches.now)))
+        (label_in (rows_of (found_of matches.now))) (steps_in (rows_of (found_of matches.now))) }
 {
     let sources = sources(matches)?;
     let label = label(matches)?;
@@ -134,7 +139,8 @@ fn author<'a>(matches: &ArgMatches<'a>) -> Option<Request<'a>>
 }
 
 fn weed<'a>(matches: &ArgMatches<'a>) -> Option<Request<'a>>
-    ensures { option_map wanted result ≡ weed_of (command_in (rows_of (found_of matches.now))) (conflicts_in (rows_of (found_of matches.now))) }
+    ensures { option_map wanted result ≡ weed_of (command_in (rows_of (found_of matches.now)))
+        (conflicts_in (rows_of (found_of matches.now))) }
 {
     Some(Request::Weed {
         names: names(matches)?,

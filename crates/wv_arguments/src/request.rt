@@ -29,9 +29,9 @@ pub struct Budgets {
     pub conflicts: u64,
 }
 
-/// A verdict; a summary of a witness, by its file's name; its canonical form; a made program with its verdicts, by a number; a
-/// certificate; a certificate checked again, by its file's name; a violation witness, by the values of a run's inputs; the invariants
-/// that hold up together.
+/// A verdict; a summary of a witness, by its file's name; its canonical form; a made program with its verdicts, by a
+/// number; a certificate; a certificate checked again, by its file's name; a violation witness, by the values of a
+/// run's inputs; the invariants that hold up together.
 #[derive(Clone, Copy, Debug, PartialEq, Eq)]
 pub enum Request<'a> {
     Validate {

@@ -95,8 +95,8 @@ fn fixes(end: End, draws: &[Draw]) -> Result<(), AuthorFault>
     }
 }
 
-/// The segments of a violation witness that the run with these values in turn matches: one for each input that comes back, then that of
-/// the violation.
+/// The segments of a violation witness that the run with these values in turn matches: one for each input that comes
+/// back, then that of the violation.
 pub fn author(
     alloc: Global,
     program: &Program,

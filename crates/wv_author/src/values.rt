@@ -120,7 +120,8 @@ fn line_size(text: &[u8]) -> Option<usize>
     None
 }
 
-/// The numbers that stand in a text, each on a line of its own: an optional minus, one to twenty digits and a line feed.
+/// The numbers that stand in a text, each on a line of its own: an optional minus, one to twenty digits and a line
+/// feed.
 pub fn read_values(alloc: Global, bytes: &[u8]) -> Result<Seq<i128>, ValuesFault>
     ensures { ReadsValues bytes.now result }
 {

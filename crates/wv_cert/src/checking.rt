@@ -10,8 +10,8 @@ use clauses::{Refutation, accepts, cnf_of};
 use std::alloc::Global;
 use wv_base::{OutOfMemory, Seq};
 
-/// Each log refutes the clauses of its failing bit; or one doesn't, counted from 1, and those before it do; or there are
-/// not as many logs as failing bits.
+/// Each log refutes the clauses of its failing bit; or one doesn't, counted from 1, and those before it do; or there
+/// are not as many logs as failing bits.
 #[derive(Drop)]
 pub enum Rechecked {
     Yes { count: u32 },

@@ -1,6 +1,7 @@
-//! Certificates: a refutation of each obligation of a program, as a text. Its promises: `certify` writes exactly the text of
-//! the logs, and `read_certificate` reads exactly it; where `recheck` says yes, each log refutes the clauses of its failing
-//! bit, so no run of the program violates the property. It doesn't stand on the solver, which found the logs.
+//! Certificates: a refutation of each obligation of a program, as a text. Its promises: `certify` writes exactly the
+//! text of the logs, and `read_certificate` reads exactly it; where `recheck` says yes, each log refutes the clauses of
+//! its failing bit, so no run of the program violates the property. It doesn't stand on the solver, which found the
+//! logs.
 #![tactic(auto)]
 
 mod checking;

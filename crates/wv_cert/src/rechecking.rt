@@ -16,8 +16,8 @@ use std::alloc::Global;
 use sym_duties::Obligations;
 use wv_base::{OutOfMemory, Seq};
 
-/// Checks a log for each obligation of a program with invariants. Where all are refutations, no run of the program violates
-/// the property.
+/// Checks a log for each obligation of a program with invariants. Where all are refutations, no run of the program
+/// violates the property.
 pub fn recheck(
     alloc: Global,
     program: &Program,

@@ -1,4 +1,5 @@
-// The JSON report, written as text: drawn values and positions one after the other, so that a long list takes the memory of its text.
+// The JSON report, written as text: drawn values and positions one after the other, so that a long list takes the
+// memory of its text.
 ghost use Rattle.std.specs.Prelude.{◌≡◌, ◌++◌, OnOk, false, string_bytes};
 ghost use Rattle.std.specs.List.{All};
 ghost use Rattle.serde_json.specs.Data.{string};

@@ -44,7 +44,8 @@ fn invariant_fields_of(alloc: Global, at: &str, pairs: &[Pair]) -> Result<Invari
 }
 
 fn invariant_of(alloc: Global, at: &str, pairs: &[Pair]) -> Result<Invariant, SchemaFault>
-    ensures { Gives (λ (v : Invariant). v) result (first_fault at.now pairs.now (in_map (codes "invariant") invariant_fields))
+    ensures { Gives (λ (v : Invariant). v) result
+        (first_fault at.now pairs.now (in_map (codes "invariant") invariant_fields))
         (invariant_in (map_at (codes "invariant") pairs.now)) }
 {
     let inside = needed_map(alloc, at, pairs, "invariant")?;

@@ -1,5 +1,5 @@
-//! Software verification witnesses, format 2.0: the fields that the schema lists, as one value. `witness_of` is the witness of a
-//! YAML tree, or the first rule of the schema that isn't met; `tree_of` is the tree of a witness.
+//! Software verification witnesses, format 2.0: the fields that the schema lists, as one value. `witness_of` is the
+//! witness of a YAML tree, or the first rule of the schema that isn't met; `tree_of` is the tree of a witness.
 #![tactic(auto)]
 
 mod canonical;

@@ -36,7 +36,8 @@ fn location_fields_of(alloc: Global, at: &str, pairs: &[Pair]) -> Result<Locatio
 
 /// The map `location`.
 pub fn location_of(alloc: Global, at: &str, pairs: &[Pair]) -> Result<Location, SchemaFault>
-    ensures { Gives (λ (l : Location). l) result (first_fault at.now pairs.now (in_map (codes "location") location_fields))
+    ensures { Gives (λ (l : Location). l) result
+        (first_fault at.now pairs.now (in_map (codes "location") location_fields))
         (location_in (map_at (codes "location") pairs.now)) }
 {
     let inside = needed_map(alloc, at, pairs, "location")?;
@@ -66,7 +67,8 @@ fn way_of(alloc: Global, at: &str, pairs: &[Pair]) -> Result<Constraint, SchemaF
 }
 
 fn needed_expression(alloc: Global, at: &str, pairs: &[Pair]) -> Result<Constraint, SchemaFault>
-    ensures { Gives (λ (x : Constraint). x) result (first_fault at.now pairs.now (in_map (codes "constraint") expression_fields))
+    ensures { Gives (λ (x : Constraint). x) result
+        (first_fault at.now pairs.now (in_map (codes "constraint") expression_fields))
         (constraint_in (map_at (codes "constraint") pairs.now)) }
 {
     let inside = needed_map(alloc, at, pairs, "constraint")?;
@@ -75,7 +77,8 @@ fn needed_expression(alloc: Global, at: &str, pairs: &[Pair]) -> Result<Constrai
 }
 
 fn needed_way(alloc: Global, at: &str, pairs: &[Pair]) -> Result<Constraint, SchemaFault>
-    ensures { Gives (λ (x : Constraint). x) result (first_fault at.now pairs.now (in_map (codes "constraint") way_fields))
+    ensures { Gives (λ (x : Constraint). x) result
+        (first_fault at.now pairs.now (in_map (codes "constraint") way_fields))
         (way_in (map_at (codes "constraint") pairs.now)) }
 {
     let inside = needed_map(alloc, at, pairs, "constraint")?;
@@ -88,7 +91,8 @@ fn optional_expression(
     at: &str,
     pairs: &[Pair],
 ) -> Result<Option<Constraint>, SchemaFault>
-    ensures { Gives (λ (x : Option Constraint). x) result (first_fault at.now pairs.now (in_map_if (codes "constraint") expression_fields))
+    ensures { Gives (λ (x : Option Constraint). x) result
+        (first_fault at.now pairs.now (in_map_if (codes "constraint") expression_fields))
         (option_map constraint_in (map_of (codes "constraint") pairs.now)) }
 {
     match optional_map(alloc, at, pairs, "constraint")? {

@@ -49,7 +49,8 @@ fn producer_fields_of(alloc: Global, at: &str, pairs: &[Pair]) -> Result<Produce
 }
 
 fn producer_of(alloc: Global, at: &str, pairs: &[Pair]) -> Result<Producer, SchemaFault>
-    ensures { Gives (λ (p : Producer). p) result (first_fault at.now pairs.now (in_map (codes "producer") producer_fields))
+    ensures { Gives (λ (p : Producer). p) result
+        (first_fault at.now pairs.now (in_map (codes "producer") producer_fields))
         (producer_in (map_at (codes "producer") pairs.now)) }
 {
     let inside = needed_map(alloc, at, pairs, "producer")?;
@@ -120,7 +121,8 @@ fn hashes_of(alloc: Global, at: &str, pairs: &[Pair]) -> Result<Seq<FileHash>, S
 }
 
 fn input_hashes_of(alloc: Global, at: &str, pairs: &[Pair]) -> Result<Seq<FileHash>, SchemaFault>
-    ensures { Gives (λ (h : List FileHash). h) result (row_fault at.now pairs.now (needs (codes "input_file_hashes") TextMap))
+    ensures { Gives (λ (h : List FileHash). h) result
+        (row_fault at.now pairs.now (needs (codes "input_file_hashes") TextMap))
         (map hash_in (map_at (codes "input_file_hashes") pairs.now)) }
 {
     let inside = needed_map(alloc, at, pairs, "input_file_hashes")?;
@@ -179,7 +181,8 @@ fn metadata_fields_of(alloc: Global, at: &str, pairs: &[Pair]) -> Result<Metadat
 
 /// The map `metadata` of an entry.
 pub fn metadata_of(alloc: Global, at: &str, pairs: &[Pair]) -> Result<Metadata, SchemaFault>
-    ensures { Gives (λ (m : Metadata). m) result (first_fault at.now pairs.now (in_map (codes "metadata") metadata_fields))
+    ensures { Gives (λ (m : Metadata). m) result
+        (first_fault at.now pairs.now (in_map (codes "metadata") metadata_fields))
         (metadata_in (map_at (codes "metadata") pairs.now)) }
 {
     let inside = needed_map(alloc, at, pairs, "metadata")?;

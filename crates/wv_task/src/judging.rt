@@ -14,8 +14,8 @@ use wv_base::{OutOfMemory, Text};
 use wv_schema::{FileHash, Metadata, Witness};
 
 /// The data model of a witness about this program and property. Otherwise the first rule that an entry doesn't meet:
-/// one input file with one hash; the hash is the program's SHA-256; the property is this one; the language is C; the data
-/// model is `ILP32` or `LP64`, as in the first entry; the identifier is one.
+/// one input file with one hash; the hash is the program's SHA-256; the property is this one; the language is C; the
+/// data model is `ILP32` or `LP64`, as in the first entry; the identifier is one.
 pub fn judge_task(
     alloc: Global,
     witness: &Witness,

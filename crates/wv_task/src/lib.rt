@@ -1,5 +1,5 @@
-//! What a witness says about its task: the property, the program's hash, the data model, identifiers and creation times.
-//! `judge_task` gives the data model, or the first rule that an entry doesn't meet.
+//! What a witness says about its task: the property, the program's hash, the data model, identifiers and creation
+//! times. `judge_task` gives the data model, or the first rule that an entry doesn't meet.
 #![tactic(auto)]
 
 mod fault;

@@ -34,8 +34,8 @@ pub struct Open {
 }
 
 /// What a round has found: a flag for each invariant that was left, set where one of its obligations fails; the first
-/// obligation that is open; and a flag for each bit of the net, set where it is known that no inputs make it true. `asked`
-/// counts the calls of the solver, and `failed` those up to the last that found a failing obligation.
+/// obligation that is open; and a flag for each bit of the net, set where it is known that no inputs make it true.
+/// `asked` counts the calls of the solver, and `failed` those up to the last that found a failing obligation.
 #[derive(Drop)]
 pub struct Round {
     pub dropped: Vec<bool>,
@@ -166,8 +166,8 @@ fn is_enough(round: &Round) -> bool
 }
 
 /// Decides the obligations of the invariants that are left, in their order, but for those of an invariant that fails
-/// already and those that are known to hold. Where an obligation fails the round needn't be whole: it ends once the solver
-/// was asked twice as often as up to the last that fails.
+/// already and those that are known to hold. Where an obligation fails the round needn't be whole: it ends once the
+/// solver was asked twice as often as up to the last that fails.
 pub fn judge(trial: &Trial, never: Vec<bool>) -> Result<Round, OutOfMemory>
     requires trial { IsTrial trial.now }
     requires known { AreNever trial.now.obligations.now.net never.items }

@@ -115,12 +115,12 @@ fn ended(left: Seq<u32>, first: Option<Open>) -> Weeded
     }
 }
 
-/// Keeps of invariants the greatest inductive set. A round decides the obligations of the invariants that are left, each
-/// with a budget of conflicts, and drops those of which one fails; after a round without such an obligation the set is
-/// inductive, or one stays open. So n invariants take at most n + 1 rounds and n (n + 1) calls of the solver: in a round
-/// at most two for each that is left. Mostly it takes far fewer: a round that drops an invariant may end early, and what
-/// it has found to hold isn't asked again where the next net begins with the same nodes. For that the net of a round
-/// stays until the next one is made: two are alive at a time.
+/// Keeps of invariants the greatest inductive set. A round decides the obligations of the invariants that are left,
+/// each with a budget of conflicts, and drops those of which one fails; after a round without such an obligation the
+/// set is inductive, or one stays open. So n invariants take at most n + 1 rounds and n (n + 1) calls of the solver: in
+/// a round at most two for each that is left. Mostly it takes far fewer: a round that drops an invariant may end early,
+/// and what it has found to hold isn't asked again where the next net begins with the same nodes. For that the net of a
+/// round stays until the next one is made: two are alive at a time.
 pub fn weed(
     alloc: Global,
     program: &Program,

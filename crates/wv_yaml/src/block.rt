@@ -101,7 +101,8 @@ fn next_item(indent: usize, lines: &[Line<'_>]) -> usize
     ensures within { result ≤ length lines.now }
     ensures front { take result lines.now ≡ (chunked (is_item indent) lines.now).0 }
     ensures others { (chunked (is_item indent) (drop result lines.now)).1 ≡ (chunked (is_item indent) lines.now).1 }
-    ensures next { result < length lines.now → (l : SourceLine) → is_item indent (slice_index_or lines.now result l) ≡ true }
+    ensures next { result < length lines.now → (l : SourceLine) → is_item indent (slice_index_or lines.now result l)
+        ≡ true }
 {
     let mut at = 0;
     while at < lines.len() && !is_item_line(indent, &lines[at]) {
@@ -115,7 +116,8 @@ fn next_pair(indent: usize, lines: &[Line<'_>]) -> usize
     ensures within { result ≤ length lines.now }
     ensures front { take result lines.now ≡ (chunked (is_pair indent) lines.now).0 }
     ensures others { (chunked (is_pair indent) (drop result lines.now)).1 ≡ (chunked (is_pair indent) lines.now).1 }
-    ensures next { result < length lines.now → (l : SourceLine) → is_pair indent (slice_index_or lines.now result l) ≡ true }
+    ensures next { result < length lines.now → (l : SourceLine) → is_pair indent (slice_index_or lines.now result l)
+        ≡ true }
 {
     let mut at = 0;
     while at < lines.len() && !is_pair_line(indent, &lines[at]) {
@@ -163,7 +165,8 @@ fn sequence_of<'a, 'b>(
     requires dash { dash first.now.text ≡ true }
     requires column { IsSmall first.now }
     requires columns { All IsSmall rest.now }
-    ensures { Gives (λ (t : Tree). t) result (sequence (inline depth) key_bytes (block inline key_bytes depth) first.now rest.now) }
+    ensures { Gives (λ (t : Tree). t) result (sequence (inline depth) key_bytes (block inline key_bytes depth) first.now
+        rest.now) }
 {
     let mut items = Seq::new(alloc);
     let mut head = first;
@@ -195,7 +198,8 @@ fn mapping_of<'a, 'b>(
     requires loud { quiet first.now.text ≡ false }
     requires column { IsSmall first.now }
     requires columns { All IsSmall rest.now }
-    ensures { Gives (λ (t : Tree). t) result (mapping (inline depth) key_bytes (block inline key_bytes depth) first.now rest.now) }
+    ensures { Gives (λ (t : Tree). t) result (mapping (inline depth) key_bytes (block inline key_bytes depth) first.now
+        rest.now) }
 {
     let mut pairs = Seq::new(alloc);
     let mut head = first;
@@ -225,7 +229,8 @@ fn item_of<'a, 'b>(
     requires here { is_item indent head.now ≡ true }
     requires column { IsSmall head.now }
     requires columns { All IsSmall body.now }
-    ensures { Gives (λ (t : Tree). t) result (item (inline depth) key_bytes (block inline key_bytes depth) indent (head.now, body.now)) }
+    ensures { Gives (λ (t : Tree). t) result (item (inline depth) key_bytes (block inline key_bytes depth) indent
+        (head.now, body.now)) }
 {
     let after = rest_of(head.slice());
     let gap = gap_len(&Characters::of(after));
@@ -248,7 +253,8 @@ fn entry_value<'a, 'b>(
     requires indent { indent < 2 ^ 63 }
     requires column { IsSmall line.now }
     requires columns { All IsSmall body.now }
-    ensures { Gives (λ (t : Tree). t) result (entry_of (inline depth) key_bytes (block inline key_bytes depth) indent is_compact line.now body.now) }
+    ensures { Gives (λ (t : Tree). t) result (entry_of (inline depth) key_bytes (block inline key_bytes depth) indent
+        is_compact line.now body.now) }
 {
     if is_nothing(&line.text()) {
         below_of(alloc, depth, false, indent, body)
@@ -271,7 +277,8 @@ fn pair_of_lines(
     requires depth { depth < 2 ^ 32 }
     requires indent { indent < 2 ^ 63 }
     requires columns { All IsSmall body.now }
-    ensures { Gives (λ (p : Pair). p) result (pair (inline depth) key_bytes (block inline key_bytes depth) indent (head.now, body.now)) }
+    ensures { Gives (λ (p : Pair). p) result (pair (inline depth) key_bytes (block inline key_bytes depth) indent
+        (head.now, body.now)) }
 {
     let (key, at) = key_of(alloc, &head.text())?;
     let text = without_blanks(slice_from(head.slice(), at));
@@ -291,7 +298,8 @@ fn pair_value(
     requires depth { depth < 2 ^ 32 }
     requires indent { indent < 2 ^ 63 }
     requires columns { All IsSmall body.now }
-    ensures { Gives (λ (t : Tree). t) result (value_of (inline depth) key_bytes (block inline key_bytes depth) indent (chars text.now) body.now) }
+    ensures { Gives (λ (t : Tree). t) result (value_of (inline depth) key_bytes (block inline key_bytes depth) indent
+        (chars text.now) body.now) }
 {
     if is_nothing(&Characters::of(text)) {
         below_of(alloc, depth, true, indent, body)
@@ -312,7 +320,8 @@ fn below_of(
     requires depth { depth < 2 ^ 32 }
     requires indent { indent < 2 ^ 63 }
     requires columns { All IsSmall body.now }
-    ensures { Gives (λ (t : Tree). t) result (below (inline depth) key_bytes (block inline key_bytes depth) is_own indent (ahead body.now)) }
+    ensures { Gives (λ (t : Tree). t) result (below (inline depth) key_bytes (block inline key_bytes depth) is_own
+        indent (ahead body.now)) }
 {
     let lines = lines_from(body, quiet_len(body));
     if lines.is_empty() {

@@ -48,7 +48,8 @@ fn tokens_to(tokens: &[Token], end: usize) -> &[Token]
 fn part_len(tokens: &[Token]) -> usize
     ensures within { result ≤ length tokens.now }
     ensures front { take result tokens.now ≡ (parts 0 tokens.now).0 }
-    ensures next { result < length tokens.now → (parts 0 tokens.now).1 ≡ (parts 0 (drop (result + 1) tokens.now)).0 ∷ (parts 0 (drop (result + 1) tokens.now)).1 }
+    ensures next { result < length tokens.now → (parts 0 tokens.now).1 ≡ (parts 0 (drop (result + 1) tokens.now)).0 ∷
+        (parts 0 (drop (result + 1) tokens.now)).1 }
     ensures last { result ≡ length tokens.now → (parts 0 tokens.now).1 ≡ [] }
 {
     let mut at = 0;
@@ -72,7 +73,8 @@ fn does_close(is_list: bool, token: &Token) -> bool
 
 /// Whether the last token closes.
 fn is_closed(is_list: bool, tokens: &[Token]) -> bool
-    ensures closed { IsTrue result → before_last (closer is_list) tokens.now ≡ Some (take (length tokens.now - 1) tokens.now) }
+    ensures closed { IsTrue result → before_last (closer is_list) tokens.now
+        ≡ Some (take (length tokens.now - 1) tokens.now) }
     ensures other { result ≡ false → before_last (closer is_list) tokens.now ≡ None }
     ensures some { IsTrue result → 0 < length tokens.now }
 {

@@ -44,7 +44,8 @@ fn quoted_key_of(
     is_double: bool,
     text: &Characters<'_, '_>,
 ) -> Result<(Text, usize), YamlFault>
-    ensures value { Gives (λ (x : List ℕ × ℕ). (x.0, drop x.1 text.now)) result (named (quoted_key (quoted (step_in is_double) 0) text.now)) }
+    ensures value { Gives (λ (x : List ℕ × ℕ). (x.0, drop x.1 text.now)) result
+        (named (quoted_key (quoted (step_in is_double) 0) text.now)) }
     ensures within { IfOk result (λ x. x.1 ≤ length text.now) }
 {
     let mut out = String::new(alloc);
@@ -113,7 +114,8 @@ fn push_quoted_alone(
     is_double: bool,
     text: &Characters<'_, '_>,
 ) -> Result<(), YamlFault>
-    ensures { Gives (λ (_ : Unit {0}). string_bytes out.new) result (behind (string_bytes out.old) (quoted_alone (quoted (step_in is_double) 0) text.now)) }
+    ensures { Gives (λ (_ : Unit {0}). string_bytes out.new) result
+        (behind (string_bytes out.old) (quoted_alone (quoted (step_in is_double) 0) text.now)) }
 {
     let count = push_quoted(out, is_double, text)?;
     if !is_silent_text(alloc, &from_place(text, count))? {
@@ -132,7 +134,8 @@ fn push_scalar(
     body: &[Line<'_>],
 ) -> Result<(), YamlFault>
     requires { indent < 2 ^ 63 }
-    ensures { Gives (λ (_ : Unit {0}). string_bytes out.new) result (behind (string_bytes out.old) (scalar is_here indent (chars text.now) body.now)) }
+    ensures { Gives (λ (_ : Unit {0}). string_bytes out.new) result
+        (behind (string_bytes out.old) (scalar is_here indent (chars text.now) body.now)) }
 {
     if is_end(text) {
         return Err(YamlFault::Grammar);

@@ -1,5 +1,6 @@
-//! YAML 1.2.2 in a block and flow profile: `read` gives the tree that bytes spell, or the exact reason why they give none,
-//! `write` the canonical text of a tree, `quote` that of a scalar. What bytes spell a tree is defined in `specs/`.
+//! YAML 1.2.2 in a block and flow profile: `read` gives the tree that bytes spell, or the exact reason why they give
+//! none, `write` the canonical text of a tree, `quote` that of a scalar. What bytes spell a tree is defined in
+//! `specs/`.
 #![tactic(auto)]
 
 mod block;

@@ -32,7 +32,8 @@ fn push_pair(out: &mut String, first: char, second: char) -> Result<(), AllocErr
 /// Appends `\x` and two digits.
 fn push_code(out: &mut String, code: u32) -> Result<(), AllocError>
     requires { code < 256 }
-    ensures { OnOk result (string_bytes out.new ≡ string_bytes out.old ++ encode_utf8_all (92 ∷ 120 ∷ hex_of (code / 16) ∷ hex_of (code % 16) ∷ [])) }
+    ensures { OnOk result (string_bytes out.new ≡ string_bytes out.old ++ encode_utf8_all
+        (92 ∷ 120 ∷ hex_of (code / 16) ∷ hex_of (code % 16) ∷ [])) }
 {
     push_pair(out, '\\', 'x')?;
     push_pair(out, hex_digit_of(code / 16), hex_digit_of(code % 16))?;
@@ -41,7 +42,8 @@ fn push_code(out: &mut String, code: u32) -> Result<(), AllocError>
 
 /// Appends `\ufff` and a digit.
 fn push_last_code(out: &mut String, digit: char) -> Result<(), AllocError>
-    ensures { OnOk result (string_bytes out.new ≡ string_bytes out.old ++ encode_utf8_all (92 ∷ 117 ∷ 102 ∷ 102 ∷ 102 ∷ digit ∷ [])) }
+    ensures { OnOk result (string_bytes out.new ≡ string_bytes out.old ++ encode_utf8_all
+        (92 ∷ 117 ∷ 102 ∷ 102 ∷ 102 ∷ digit ∷ [])) }
 {
     push_pair(out, '\\', 'u')?;
     push_pair(out, 'f', 'f')?;

@@ -285,5 +285,6 @@ pub fn canonical_is_spelled()
 
 /// What `read` answers to the canonical text of a tree without repeated keys: that tree, unless memory runs out.
 pub fn canonical_is_read()
-    ensures { (t : Tree) (r : Result Tree YamlFault) → IsCollection t → Fits max_depth t → InUtf8 t → (Repeats t → ⊥) → IsAnswer (canon t) r → Gives (λ (u : Tree). u) r (Some t) }
+    ensures { (t : Tree) (r : Result Tree YamlFault) → IsCollection t → Fits max_depth t → InUtf8 t → (Repeats t → ⊥)
+        → IsAnswer (canon t) r → Gives (λ (u : Tree). u) r (Some t) }
 {}

@@ -104,8 +104,8 @@ fn is_small(column: usize, text: &str, lines: &[Line<'_>]) -> bool
     true
 }
 
-/// The text of a value that may go on over lines which are indented by a column or more: the rest of its first line, and the
-/// lines behind that, each with its break in front. Contracts see it as the list of its characters.
+/// The text of a value that may go on over lines which are indented by a column or more: the rest of its first line,
+/// and the lines behind that, each with its break in front. Contracts see it as the list of its characters.
 #[derive(Drop)]
 pub struct Characters<'a, 'b> {
     here: &'a str,

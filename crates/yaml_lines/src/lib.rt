@@ -1,5 +1,5 @@
-//! Lines and characters of a YAML text (YAML 1.2.2 5 and 6): its lines with their indentation, the text of a value that goes on
-//! over lines, and the marks within one line.
+//! Lines and characters of a YAML text (YAML 1.2.2 5 and 6): its lines with their indentation, the text of a value that
+//! goes on over lines, and the marks within one line.
 #![tactic(auto)]
 
 mod characters;

@@ -108,7 +108,8 @@ fn push_between(
     breaks: usize,
     is_blank: bool,
 ) -> Result<(), AllocError>
-    ensures { OnOk result (string_bytes out.new ≡ string_bytes out.old ++ encode_utf8_all (between folds before breaks is_blank)) }
+    ensures { OnOk result (string_bytes out.new ≡ string_bytes out.old ++ encode_utf8_all
+        (between folds before breaks is_blank)) }
 {
     if let Some(was_blank) = before {
         if folds && !(was_blank || is_blank) {
@@ -125,7 +126,8 @@ fn push_chomped(
     before: Option<bool>,
     breaks: usize,
 ) -> Result<(), AllocError>
-    ensures { OnOk result (string_bytes out.new ≡ string_bytes out.old ++ encode_utf8_all (chomped chomp before breaks)) }
+    ensures { OnOk result (string_bytes out.new ≡ string_bytes out.old ++ encode_utf8_all
+        (chomped chomp before breaks)) }
 {
     match chomp {
         Chomp::Strip => Ok(()),
@@ -179,7 +181,8 @@ fn break_count(line: &Line<'_>) -> usize
 
 /// Appends the text of a row of content: so many spaces, and what follows them.
 fn push_row(out: &mut String, extra: usize, text: &str) -> Result<(), AllocError>
-    ensures { OnOk result (string_bytes out.new ≡ string_bytes out.old ++ encode_utf8_all (indented extra (chars text.now))) }
+    ensures { OnOk result (string_bytes out.new ≡ string_bytes out.old ++ encode_utf8_all
+        (indented extra (chars text.now))) }
 {
     push_spaces(out, extra)?;
     out.push_str(text)?;
@@ -193,7 +196,8 @@ fn push_content(
     column: Option<usize>,
     lines: &[Line<'_>],
 ) -> Result<(), AllocError>
-    ensures { OnOk result (string_bytes out.new ≡ string_bytes out.old ++ encode_utf8_all (content header.folds header.chomp None 0 (map (row_in column) lines.now))) }
+    ensures { OnOk result (string_bytes out.new ≡ string_bytes out.old ++ encode_utf8_all
+        (content header.folds header.chomp None 0 (map (row_in column) lines.now))) }
 {
     let mut before = None;
     let mut breaks: usize = 0;
@@ -264,7 +268,8 @@ fn push_rows_at(
     column: usize,
     body: &[Line<'_>],
 ) -> Result<(), YamlFault>
-    ensures { Gives (λ (_ : Unit {0}). string_bytes out.new) result (behind (string_bytes out.old) (content_of header (rows_at column body.now))) }
+    ensures { Gives (λ (_ : Unit {0}). string_bytes out.new) result
+        (behind (string_bytes out.old) (content_of header (rows_at column body.now))) }
 {
     let len = content_len(column, body);
     if !are_quiet(lines_from(body, len)) {
@@ -281,7 +286,8 @@ fn push_rows_found(
     indent: usize,
     body: &[Line<'_>],
 ) -> Result<(), YamlFault>
-    ensures { Gives (λ (_ : Unit {0}). string_bytes out.new) result (behind (string_bytes out.old) (content_of header (rows_of indent 0 body.now))) }
+    ensures { Gives (λ (_ : Unit {0}). string_bytes out.new) result
+        (behind (string_bytes out.old) (content_of header (rows_of indent 0 body.now))) }
 {
     let len = spaces_lines(body);
     let rest = lines_from(body, len);
@@ -313,7 +319,8 @@ pub fn push_block(
     body: &[Line<'_>],
 ) -> Result<(), YamlFault>
     requires { indent < 2 ^ 63 }
-    ensures { Gives (λ (_ : Unit {0}). string_bytes out.new) result (behind (string_bytes out.old) (block_scalar folds indent text.now body.now)) }
+    ensures { Gives (λ (_ : Unit {0}). string_bytes out.new) result
+        (behind (string_bytes out.old) (block_scalar folds indent text.now body.now)) }
 {
     let Some(header) = header_in(folds, text) else {
         return Err(YamlFault::Grammar);

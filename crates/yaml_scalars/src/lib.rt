@@ -1,5 +1,5 @@
-//! Scalars of YAML 1.2.2 (7.3 and 8.1): plain, quoted and block scalars, and the tokens of flow collections. Each reader gives what
-//! the definition in `specs/` gives, or `Grammar`.
+//! Scalars of YAML 1.2.2 (7.3 and 8.1): plain, quoted and block scalars, and the tokens of flow collections. Each
+//! reader gives what the definition in `specs/` gives, or `Grammar`.
 #![tactic(auto)]
 
 mod block_scalar;

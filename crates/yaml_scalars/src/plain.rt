@@ -156,7 +156,8 @@ pub fn push_fold(out: &mut String, empties: usize) -> Result<(), AllocError>
 
 /// Appends what the lines behind a plain scalar add to it.
 fn push_continued(out: &mut String, indent: usize, lines: &[Line<'_>]) -> Result<(), YamlFault>
-    ensures { Gives (λ (_ : Unit {0}). string_bytes out.new) result (behind (string_bytes out.old) (goes_on indent 0 lines.now)) }
+    ensures { Gives (λ (_ : Unit {0}). string_bytes out.new) result
+        (behind (string_bytes out.old) (goes_on indent 0 lines.now)) }
 {
     let mut empties = 0;
     let mut left = lines;
@@ -206,7 +207,8 @@ pub fn push_plain(
     text: &Characters<'_, '_>,
     body: &[Line<'_>],
 ) -> Result<(), YamlFault>
-    ensures { Gives (λ (_ : Unit {0}). string_bytes out.new) result (behind (string_bytes out.old) (plain_lines indent text.now body.now)) }
+    ensures { Gives (λ (_ : Unit {0}). string_bytes out.new) result
+        (behind (string_bytes out.old) (plain_lines indent text.now body.now)) }
 {
     if !is_plain_start(false, text) {
         return Err(YamlFault::Grammar);

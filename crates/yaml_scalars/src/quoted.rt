@@ -57,7 +57,8 @@ fn feeds_in(text: &Characters<'_, '_>, len: usize) -> usize
 /// Appends what so many characters of white space within quotes stand for.
 fn push_white(out: &mut String, text: &Characters<'_, '_>, len: usize) -> Result<(), AllocError>
     requires { len ≤ length text.now }
-    ensures { OnOk result (string_bytes out.new ≡ string_bytes out.old ++ encode_utf8_all (white_stands (take len text.now) (count_of is_feed (take len text.now)))) }
+    ensures { OnOk result (string_bytes out.new ≡ string_bytes out.old ++ encode_utf8_all
+        (white_stands (take len text.now) (count_of is_feed (take len text.now)))) }
 {
     let feeds = feeds_in(text, len);
     if feeds == 0 {
@@ -145,7 +146,8 @@ fn push_number(
     text: &Characters<'_, '_>,
 ) -> Result<Option<usize>, YamlFault>
     requires { count ≤ 8 }
-    ensures value { Gives (λ (r : Option ℕ). (r, string_bytes out.new)) result (stepped (string_bytes out.old) (if_character (number count 0 text.now) (count + 1))) }
+    ensures value { Gives (λ (r : Option ℕ). (r, string_bytes out.new)) result
+        (stepped (string_bytes out.old) (if_character (number count 0 text.now) (count + 1))) }
     ensures within { IfOk result (λ r. IfSome r (λ more. more ≤ length text.now + 1)) }
 {
     let Some(code) = hex_number(count, text) else {
@@ -160,7 +162,8 @@ fn push_number(
 
 /// Appends what an escape stands for. The text follows its `\`.
 fn push_escape(out: &mut String, text: &Characters<'_, '_>) -> Result<Option<usize>, YamlFault>
-    ensures value { Gives (λ (r : Option ℕ). (r, string_bytes out.new)) result (stepped (string_bytes out.old) (escape text.now)) }
+    ensures value { Gives (λ (r : Option ℕ). (r, string_bytes out.new)) result
+        (stepped (string_bytes out.old) (escape text.now)) }
     ensures within { IfOk result (λ r. IfSome r (λ more. more ≤ length text.now)) }
 {
     if text.is_empty() {
@@ -187,7 +190,8 @@ fn push_escape(out: &mut String, text: &Characters<'_, '_>) -> Result<Option<usi
 /// Appends what the run of white space at the front stands for.
 fn push_white_run(out: &mut String, text: &Characters<'_, '_>) -> Result<Option<usize>, YamlFault>
     requires { IsTrue (begins_white text.now) }
-    ensures value { Gives (λ (r : Option ℕ). (r, string_bytes out.new)) result (stepped (string_bytes out.old) (white_run text.now)) }
+    ensures value { Gives (λ (r : Option ℕ). (r, string_bytes out.new)) result
+        (stepped (string_bytes out.old) (white_run text.now)) }
     ensures within { IfOk result (λ r. IfSome r (λ more. more + 1 ≤ length text.now)) }
 {
     let len = white_len(text);
@@ -201,15 +205,16 @@ fn does_begin_white(text: &Characters<'_, '_>) -> bool
     !text.is_empty() && is_white(text.first())
 }
 
-/// Appends what the front of a text between quotes stands for, and says how many more characters that takes; or says that
-/// the closing quote stands there.
+/// Appends what the front of a text between quotes stands for, and says how many more characters that takes; or says
+/// that the closing quote stands there.
 fn push_step(
     out: &mut String,
     is_double: bool,
     text: &Characters<'_, '_>,
 ) -> Result<Option<usize>, YamlFault>
     requires { 0 < length text.now }
-    ensures value { Gives (λ (r : Option ℕ). (r, string_bytes out.new)) result (stepped (string_bytes out.old) (first_step is_double text.now)) }
+    ensures value { Gives (λ (r : Option ℕ). (r, string_bytes out.new)) result
+        (stepped (string_bytes out.old) (first_step is_double text.now)) }
     ensures within { IfOk result (λ r. IfSome r (λ more. more + 1 ≤ length text.now)) }
 {
     let c = text.first();
@@ -236,13 +241,15 @@ fn push_step(
     Ok(Some(0))
 }
 
-/// Appends the value of a quoted scalar, whose text follows the opening quote, and says how many characters it has there.
+/// Appends the value of a quoted scalar, whose text follows the opening quote, and says how many characters it has
+/// there.
 pub fn push_quoted(
     out: &mut String,
     is_double: bool,
     text: &Characters<'_, '_>,
 ) -> Result<usize, YamlFault>
-    ensures value { Gives (λ (n : ℕ). (string_bytes out.new, n)) result (with_text (string_bytes out.old) (quoted (step_in is_double) 0 text.now)) }
+    ensures value { Gives (λ (n : ℕ). (string_bytes out.new, n)) result
+        (with_text (string_bytes out.old) (quoted (step_in is_double) 0 text.now)) }
     ensures within { IfOk result (λ n. n ≤ length text.now) }
 {
     let mut at = 0;

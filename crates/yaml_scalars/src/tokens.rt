@@ -47,7 +47,8 @@ pub fn is_quote_char(c: char) -> bool
 /// Appends the scalar at the front of a text, and says how many characters it has there.
 fn push_word(out: &mut String, text: &Characters<'_, '_>) -> Result<usize, YamlFault>
     requires { 0 < length text.now }
-    ensures value { Gives (λ (n : ℕ). (string_bytes out.new, n)) result (with_text (string_bytes out.old) (first_word text.now)) }
+    ensures value { Gives (λ (n : ℕ). (string_bytes out.new, n)) result
+        (with_text (string_bytes out.old) (first_word text.now)) }
     ensures within { IfOk result (λ n. n ≤ length text.now) }
 {
     if is_quote_char(text.first()) {
@@ -130,7 +131,8 @@ fn does_make_key(
     rest: &Characters<'_, '_>,
 ) -> bool
     requires { count ≤ length text.now }
-    ensures value { result ≡ (on_one_line (take count text.now) && (nat_le (length (chars value.now)) max_key && key_colon is_quoted (trimmed rest.now))) }
+    ensures value { result ≡ (on_one_line (take count text.now) &&
+        (nat_le (length (chars value.now)) max_key && key_colon is_quoted (trimmed rest.now))) }
     ensures more { IsTrue result → 0 < length (trimmed rest.now) }
 {
     is_on_one_line(text, count) && is_short(value) && is_key_colon(is_quoted, &without_gap(rest))
@@ -161,7 +163,8 @@ fn push_token(
     text: &Characters<'_, '_>,
 ) -> Result<(bool, usize), YamlFault>
     requires { 0 < length text.now }
-    ensures value { Gives (λ (x : Bool × ℕ). (x, out.new.items)) result (advanced out.old.items (token_step is_behind text.now)) }
+    ensures value { Gives (λ (x : Bool × ℕ). (x, out.new.items)) result
+        (advanced out.old.items (token_step is_behind text.now)) }
     ensures within { IfOk result (λ x. x.1 + 1 ≤ length text.now) }
 {
     let c = text.first();
