@@ -8,7 +8,8 @@ use Rattle.c_meaning.specs.declared.run.DutyKind.TheVariants.{Location, Entry, K
 use Rattle.c_meaning.specs.declared.run.HavocEnd.TheVariants.{Failed}
 use Rattle.c_meaning.specs.Duties.{Placed, Duties}
 use Rattle.c_meaning.specs.Havoc.{Havoc, ObligationHolds}
-use Rattle.c_inductive.specs.Picking.{is_among, picked, IsSelection, IsPartOf, IsUnionOf}
+use Rattle.c_inductive.specs.Picking.{picked, IsSelection, IsPartOf, IsUnionOf}
+use Rattle.c_core.specs.Scope.{is_in}
 
 -- an obligation of an invariant, and none of the property
 abbrev pub is_of_invariant : DutyKind → Bool
@@ -49,7 +50,7 @@ abbrev pub FailuresDrop : Program → List Placed → Type 0
 FailuresDrop p I = (left ms : List ℕ) (w : List ℤ) (index k n : ℕ) (d : Duty)
     → IsSelection (length I) left → (Havoc p (picked left I) w).end ≡ Failed (suc index)
     → slice_get (Duties p (picked left I)) index ≡ Some d → d.invariant ≡ Some k → slice_get left k ≡ Some n
-    → IsSelection (length I) ms → IsPartOf ms left → AreInductive p (picked ms I) → is_among n ms ≡ false
+    → IsSelection (length I) ms → IsPartOf ms left → AreInductive p (picked ms I) → is_in n ms ≡ false
 
 -- inductive sets are inductive together
 abbrev pub UnionsAreInductive : Program → List Placed → Type 0

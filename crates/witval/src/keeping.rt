@@ -1,6 +1,6 @@
 // A copy of a witness with some of its invariants.
 ghost use Rattle.std.specs.Prelude.{◌≡◌, ◌+◌, ◌∷◌, ◌++◌, [], IfOk, OnOk, cond};
-ghost use Rattle.c_inductive.specs.Picking.{is_among};
+ghost use Rattle.c_core.specs.Scope.{is_in};
 ghost use Rattle.witval.specs.Weeding.{claims_of, kept_claims, kept_entries, kept_entry, kept_from, kept_in};
 
 use std::alloc::Global;
@@ -107,8 +107,8 @@ fn number_behind(number: u32, count: usize) -> Result<u32, OutOfMemory>
     }
 }
 
-fn is_among(number: u32, numbers: &[u32]) -> bool
-    ensures { result ≡ is_among number numbers.now }
+fn is_in(number: u32, numbers: &[u32]) -> bool
+    ensures { result ≡ is_in number numbers.now }
 {
     numbers.iter().any(|other| number == *other)
 }
@@ -121,9 +121,9 @@ fn keep_invariant(
     number: u32,
     numbers: &[u32],
 ) -> Result<(), OutOfMemory>
-    ensures { OnOk result (kept.new ≡ kept.old ++ cond (is_among number numbers.now) (invariant.now ∷ []) []) }
+    ensures { OnOk result (kept.new ≡ kept.old ++ cond (is_in number numbers.now) (invariant.now ∷ []) []) }
 {
-    if is_among(number, numbers) {
+    if is_in(number, numbers) {
         let copy = copy_invariant(alloc, invariant)?;
         kept.push(copy)?;
     }
