@@ -93,22 +93,15 @@ fn form<'a>(
             Ok(choice)
         }
         RawForm::While { test, body } => {
-            let form = while_loop(context, walk, gives, within, spot, body, test)?;
-            Ok(form)
+            while_loop(context, walk, gives, within, spot, body, test)
         }
-        RawForm::Do { body, test } => {
-            let form = do_loop(context, walk, gives, within, spot, body, test)?;
-            Ok(form)
-        }
+        RawForm::Do { body, test } => { do_loop(context, walk, gives, within, spot, body, test) }
         RawForm::For {
             first,
             test,
             step,
             body,
-        } => {
-            let form = for_loop(context, walk, gives, within, spot, body, first, test, step)?;
-            Ok(form)
-        }
+        } => { for_loop(context, walk, gives, within, spot, body, first, test, step) }
         RawForm::Break => {
             leave(context, walk, within.breaks, spot);
             Ok(Form::Break)
@@ -117,17 +110,13 @@ fn form<'a>(
             leave(context, walk, within.continues, spot);
             Ok(Form::Continue)
         }
-        RawForm::Return(e) => {
-            let form = give(context, walk, gives, within, spot, e)?;
-            Ok(form)
-        }
+        RawForm::Return(e) => { give(context, walk, gives, within, spot, e) }
         RawForm::Label { of, .. } => {
             let of = arm(context, walk, gives, within, of)?;
             Ok(label_of(context.alloc, of)?)
         }
         RawForm::Switch { test, arms } => {
-            let form = switch(context, walk, gives, within, spot, arms.as_slice(), test)?;
-            Ok(form)
+            switch(context, walk, gives, within, spot, arms.as_slice(), test)
         }
     }
 }
