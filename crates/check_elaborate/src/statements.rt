@@ -13,6 +13,7 @@ ghost use Rattle.check_rules.specs.Scopes as scopes;
 ghost use Rattle.check_elaborate.specs.InArms.{typed_in_arm, after_in_arm, parts_in_arm};
 ghost use Rattle.check_elaborate.specs.Walks.{scope_at, bodies_in, IsNoted, else_of};
 
+use crate::arm_labels::ArmLabels;
 use crate::arms::{label, switch_type};
 use crate::context::Context;
 use crate::declaring::names;
@@ -261,7 +262,7 @@ fn arms<'a>(
         (arms_of (map raw_arm_view arms.now)))) }
 {
     let mut all = Seq::new(context.alloc);
-    let mut before = Seq::new(context.alloc);
+    let mut before = ArmLabels::new(context.alloc);
     for arm in arms {
         let label = label(context, walk, ty, &mut before, arm.spot, &arm.label)?;
         let body = in_arm(context, walk, gives, within, arm.body.as_slice())?;

@@ -369,6 +369,7 @@ arms-loop-arm-preserved t c =
     let u_is = body_scope ∙ ap (λ (y : Scope). after_in_arm m bodies y xs) at in
     let behind_it = after_in_arm m bodies s xs in
     record {
+      found = c.in_ok-label.ensures.found;
       typed = ap (λ (ys : List Arm). arms_before ys (typed_arms m bodies ty u rest)) pushed
           ∙ arms_before-one_more c.loop-arm.all c.arm_of.result (typed_arms m bodies ty u rest)
           ∙ ap (arms_before c.loop-arm.all) (arm_typed-next m bodies ty s u spot c.in_ok-label.label l c.in_ok-body.body xs rest
@@ -380,13 +381,13 @@ arms-loop-arm-preserved t c =
           ∙ sym (ap (after_arms m bodies s) next)
           ∙ c.loop-arm.invariant.scope;
       noted = ap (λ (ls : List (Option ArmLabel)). with_parts m items (found_at c.in_arm.new.walk) (parts_of_arms m bodies c.args.gives c.args.within ty ls u rest)) c.in_ok-label.ensures.before
-          ∙ found_on m items (found_at c.loop-arm.walk) (found_at c.in_arm.new.walk) _ (labelling c.loop-arm.before own spot (seen s) l ++ parts_in_arm m bodies c.args.gives c.args.within s xs)
-          (λ (y : Scope). parts_of_arms m bodies c.args.gives c.args.within ty (c.loop-arm.before ++ own ∷ []) y rest) behind_it u
-          (found_then m items (found_at c.loop-arm.walk) (found_at c.label.new.walk) (found_at c.in_arm.new.walk) (labelling c.loop-arm.before own spot (seen s) l)
+          ∙ found_on m items (found_at c.loop-arm.walk) (found_at c.in_arm.new.walk) _ (labelling c.loop-arm.before.all own spot (seen s) l ++ parts_in_arm m bodies c.args.gives c.args.within s xs)
+          (λ (y : Scope). parts_of_arms m bodies c.args.gives c.args.within ty (c.loop-arm.before.all ++ own ∷ []) y rest) behind_it u
+          (found_then m items (found_at c.loop-arm.walk) (found_at c.label.new.walk) (found_at c.in_arm.new.walk) (labelling c.loop-arm.before.all own spot (seen s) l)
           (λ (y : Scope). parts_in_arm m bodies c.args.gives c.args.within y xs) s v c.in_ok-label.ensures.noted at body_noted)
           u_is
-          (ap (with_parts m items (found_at c.loop-arm.walk)) (arm_parts m bodies c.args.gives c.args.within ty c.loop-arm.before s spot l xs rest)
-          ∙ sym (ap (λ (ys : raw.Stms). with_parts m items (found_at c.loop-arm.walk) (parts_of_arms m bodies c.args.gives c.args.within ty c.loop-arm.before s ys)) next)
+          (ap (with_parts m items (found_at c.loop-arm.walk)) (arm_parts m bodies c.args.gives c.args.within ty c.loop-arm.before.all s spot l xs rest)
+          ∙ sym (ap (λ (ys : raw.Stms). with_parts m items (found_at c.loop-arm.walk) (parts_of_arms m bodies c.args.gives c.args.within ty c.loop-arm.before.all s ys)) next)
           ∙ c.loop-arm.invariant.noted);
     }
 
@@ -401,7 +402,7 @@ arms-returns t c =
       scope = ap (λ (xs : List RawArm). after_arms m bodies (scope_at c.loop-arm.walk) (arms (map raw_arm_view xs))) (sym (drop_all c.loop-arm.arm-index c.args.arms.now c.loop-arm-test.false))
           ∙ c.loop-arm.invariant.scope;
       noted = with_none m (items_in c.args.context.now) (found_at c.loop-arm.walk)
-          ∙ ap (λ (xs : List RawArm). with_parts m (items_in c.args.context.now) (found_at c.loop-arm.walk) (parts_of_arms m bodies c.args.gives c.args.within c.args.ty c.loop-arm.before (scope_at c.loop-arm.walk) (arms (map raw_arm_view xs)))) (sym (drop_all c.loop-arm.arm-index c.args.arms.now c.loop-arm-test.false))
+          ∙ ap (λ (xs : List RawArm). with_parts m (items_in c.args.context.now) (found_at c.loop-arm.walk) (parts_of_arms m bodies c.args.gives c.args.within c.args.ty c.loop-arm.before.all (scope_at c.loop-arm.walk) (arms (map raw_arm_view xs)))) (sym (drop_all c.loop-arm.arm-index c.args.arms.now c.loop-arm-test.false))
           ∙ c.loop-arm.invariant.noted;
     }
 
