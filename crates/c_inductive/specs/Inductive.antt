@@ -35,14 +35,14 @@ DutiesNameInvariants p I = (index : ℕ) (d : Duty) → slice_get (Duties p I) i
     → is_of_invariant d.kind ≡ true → NamesInvariant I d
 
 -- every inductive set of invariants is part of this one
-abbrev pub HoldsInductive : Program → List Placed → List ℕ → Type 0
-HoldsInductive p I ns = (ms : List ℕ) → IsSelection (length I) ms → AreInductive p (picked ms I) → IsPartOf ms ns
+abbrev pub HasEveryInductive : Program → List Placed → List ℕ → Type 0
+HasEveryInductive p I ns = (ms : List ℕ) → IsSelection (length I) ms → AreInductive p (picked ms I) → IsPartOf ms ns
 
 -- the greatest inductive set: it is one, and every other is part of it
 pub record IsGreatest (p : Program) (I : List Placed) (ns : List ℕ) : Type 0 where
   pub selection : IsSelection (length I) ns
   pub inductive : AreInductive p (picked ns I)
-  pub greatest : HoldsInductive p I ns
+  pub greatest : HasEveryInductive p I ns
 
 -- where an obligation of the k-th invariant of a set fails, counted from 0, no inductive part of the set has that
 -- invariant

@@ -95,7 +95,7 @@ fn copy_metadata(alloc: Global, metadata: &Metadata) -> Result<Metadata, OutOfMe
 
 /// The number of the invariant that stands so many behind another. A file of allowed length holds far fewer than can be
 /// numbered; more are answered as want of memory.
-fn number_behind(number: u32, count: usize) -> Result<u32, OutOfMemory>
+fn number_after(number: u32, count: usize) -> Result<u32, OutOfMemory>
     ensures { IfOk result (λ next. next ≡ number + count) }
 {
     if count >= 1073741823 {
@@ -143,7 +143,7 @@ fn keep_invariants(
     let mut number = first;
     for invariant in invariants {
         keep_invariant(alloc, &mut kept, invariant, number, numbers)?;
-        number = number_behind(number, 1)?;
+        number = number_after(number, 1)?;
     }
     Ok(kept)
 }
@@ -204,7 +204,7 @@ fn keep_entries(
     for entry in entries {
         let copy = keep_entry(alloc, entry, numbers, first)?;
         kept.push(copy)?;
-        first = number_behind(first, claims_of(&entry.content))?;
+        first = number_after(first, claims_of(&entry.content))?;
     }
     Ok(kept)
 }

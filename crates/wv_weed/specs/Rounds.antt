@@ -2,7 +2,7 @@
 use Rattle.std.specs.Prelude.{◌≡◌, ℕ, suc, ◌+◌, ◌<◌, ◌≤◌, Bool, true, false, List, length, Option, Some, None, IfSome, slice_get, Result, Ok, Err}
 use Rattle.c_core.specs.Tree.{Program}
 use Rattle.c_core.specs.View.{program_view}
-use Rattle.c_inductive.specs.Inductive.{AreInductive, HoldsInductive, is_of_invariant}
+use Rattle.c_inductive.specs.Inductive.{AreInductive, HasEveryInductive, is_of_invariant}
 use Rattle.c_inductive.specs.Picking.{picked, IsSelection}
 use Rattle.c_core.specs.Scope.{is_in}
 use Rattle.c_meaning.specs.declared.run.Duty.{Duty}
@@ -35,7 +35,7 @@ AnswersWith p names I left (Err fault) = IsFault p names I fault
 -- what is left holds every inductive set
 pub record AreLeft (p : Program) (I : List Placed) (left : List ℕ) : Type 0 where
   pub selection : IsSelection (length I) left
-  pub holding : HoldsInductive p I left
+  pub holding : HasEveryInductive p I left
 
 abbrev pub program_of : Trial → Program
 program_of t = program_view t.program.now
