@@ -4,7 +4,7 @@ use Rattle.std.specs.List.{flat_map, list_all, range_with_len}
 use Rattle.std.proofs.lemmas.Bool.{or_from, or_left, or_right, or_cases, cases_Bool}
 use Rattle.std.proofs.lemmas.Bool.Decides.{nat_tests}
 use Rattle.std.proofs.lemmas.List.Folds.{list_any-append}
-use Rattle.c_core.specs.Parts.{every_exp, every_part, every_argument, every_statement, every_statement_in, every_statement_else, every_statement_of, own_fulls, names_in, names_in_form, names_in_else, names_in_block, names_of, names_of_first, DeclaredName, objects_of, exp_if, fulls_of_names, fulls_of_first, objects_of_names, objects_of_first}
+use Rattle.c_core.specs.Parts.{every_exp, every_part, every_argument, every_statement, every_statement_in, every_statement_else, every_statement_of, own_fulls, names_in, names_in_form, names_in_else, names_in_block, names_of, names_of_first, DeclaredName, objects_of, exp_if, fulls_of_names, fulls_of_first, objects_of_names, objects_of_first, type_of}
 use Rattle.c_core.specs.Program.{IsProgram}
 use Rattle.c_core.specs.Scope.{is_in, times_in, is_fixed, is_object, is_owned_once, owned_by}
 use Rattle.c_core.specs.Typing.{is_target, has_value, is_assignment, same_types, exp_fits, node_fits, is_typed, form_fits, statement_fits, function_fits}

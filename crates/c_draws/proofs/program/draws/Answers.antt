@@ -14,8 +14,7 @@ returns c x =
     let reached = c.in_ok-functions.ensures in
     let listed : c.push_functions.new.list.items ≡ flat_map (draws_of_function p) fs =
     c.in_ok-push_functions.ensures ∙ ap (λ l. l ++ flat_map (draws_of_function p) c.as_slice.result.now) c.new-list.ensures.items ∙ ap (flat_map (draws_of_function p)) c.as_slice.ensures.value in
-    let before = c.push_functions.new.list.items in
-    (
+    let before = c.push_functions.new.list.items in (
       λ there. all_drawn p fs (λ f m. (reached f).0 m) x (subst (λ l. Contains l x) listed (Contains-permutation _ before x (IsPermutation-sym _ _ c.sort.ensures) there)),
       λ drawn. Contains-permutation before _ x c.sort.ensures (subst (λ l. Contains l x) (sym listed) (all_listed p fs drawn.function x ((reached drawn.function).1 drawn.reached) drawn.there)),
     )
