@@ -1,5 +1,5 @@
 // Places at which a program draws.
-ghost use Rattle.std.specs.Prelude.{◌≤◌, ◌↔◌, IsTrue};
+ghost use Rattle.std.specs.Prelude.{◌≡◌, ◌≤◌, ◌↔◌, IsTrue};
 ghost use Rattle.std.specs.List.{Contains};
 ghost use Rattle.std.specs.List.Sorted.{IsPermutation};
 
@@ -59,6 +59,24 @@ pub fn sort(list: &mut Vec<DrawPlace>) -> Result<(), OutOfMemory>
     Ok(())
 }
 
+fn is_same(a: &DrawPlace, b: DrawPlace) -> bool
+    ensures { IsTrue result ↔ (a.now ≡ b) }
+{
+    *a == b
+}
+
+// In whatever order they are.
+fn is_among(places: &[DrawPlace], place: DrawPlace) -> bool
+    ensures { IsTrue result ↔ Contains places.now place }
+{
+    for other in places {
+        if is_same(other, place) {
+            return true;
+        }
+    }
+    false
+}
+
 /// Whether a place is one of these. It is quick where they are in order and the place is found; the answer rests on no
 /// order.
 pub fn is_listed(places: &[DrawPlace], place: DrawPlace) -> bool
@@ -66,7 +84,7 @@ pub fn is_listed(places: &[DrawPlace], place: DrawPlace) -> bool
 {
     let at = places.partition_point(|x| is_before(x, &place));
     match places.get(at) {
-        Some(found) if *found == place => true,
-        _ => places.contains(&place),
+        Some(found) if is_same(found, place) => true,
+        _ => is_among(places, place),
     }
 }
