@@ -1,9 +1,10 @@
 -- What is listed of the arms of a switch and of functions, and that this is what is drawn.
-use Rattle.std.proofs.Common.{◌≡◌, ℕ, zero, suc, ◌+◌, ◌<◌, List, [], ◌∷◌, ◌++◌, Option, Some, None, length, drop, get_or, nat_eq, slice_get, refl, sym, ap, ◌∙◌, subst, ⊎_elim, arith, eq-eqb, eqb→eq, true≢false}
+use Rattle.std.proofs.Common.{◌≡◌, ℕ, zero, suc, ◌+◌, ◌<◌, List, [], ◌∷◌, ◌++◌, Option, Some, None, length, drop, get_or, nat_eq, slice_get, refl, sym, ap, ◌∙◌, subst, ⊎_elim, arith, eq-eqb, true, true≢false}
 use Rattle.std.specs.Prelude.{IsTrue}
 use Rattle.std.specs.List.{Contains, flat_map}
 use Rattle.std.specs.Option.{option_map}
 use Rattle.std.proofs.lemmas.Bool.{or_cases, or_left, or_right}
+use Rattle.std.proofs.lemmas.Bool.Decides.{nat_tests}
 use Rattle.std.proofs.lemmas.List.Elements.{Contains-append_cases, Contains-append_left, Contains-append_right}
 use Rattle.c_core.specs.Tree.{Program}
 use Rattle.c_core.specs.TreeView.{function_view, functions_view, stmt_view, stmts_view, switch_view}
@@ -37,10 +38,13 @@ all_drawn p (f ∷ fs) h x there =
     (λ later. all_drawn p fs (λ g m. h g (or_right _ _ m)) x later)
     (Contains-append_cases (draws_of_function p f) (flat_map (draws_of_function p) fs) x there)
 
+same_number : (a b : ℕ) → nat_eq a b ≡ true → a ≡ b
+same_number a b h = grind (arith, nat_tests)
+
 -- where one of these functions draws is listed
 pub all_listed : (p : Program) (fs : List ℕ) (f : ℕ) (x : DrawPlace) → IsTrue (is_in f fs) → Contains (draws_of_function p f) x → Contains (flat_map (draws_of_function p) fs) x
 all_listed p [] f x m there = absurd (true≢false (sym m))
 all_listed p (g ∷ fs) f x m there =
-    ⊎_elim (λ same. Contains-append_left (draws_of_function p g) _ x (subst (λ k. Contains (draws_of_function p k) x) (eqb→eq f g same) there))
+    ⊎_elim (λ same. Contains-append_left (draws_of_function p g) _ x (subst (λ k. Contains (draws_of_function p k) x) (same_number f g same) there))
     (λ later. Contains-append_right (draws_of_function p g) _ x (all_listed p fs f x later there))
     (or_cases (nat_eq f g) (is_in f fs) m)
