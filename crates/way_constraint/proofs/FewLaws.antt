@@ -56,12 +56,12 @@ kind_at objects (Some n) = kind_of n (slice_get objects n)
 
 last_passes : (test : ℕ → Bool) (ns : List ℕ) (n : ℕ) → last_of test ns ≡ Some n → test n ≡ true
 last_passes test [] n e = cc
-last_passes test (m ∷ ns) n e = by_rest (last_of test ns) refl (test m) refl e
+last_passes test (m ∷ ns) n e = by_rest (last_passes test ns n) (last_of test ns) refl (test m) refl e
   where
-    by_rest : (o : Option ℕ) → last_of test ns ≡ o → (t : Bool) → test m ≡ t → or_other o (cond t (Some m) None) ≡ Some n → test n ≡ true
-    by_rest (Some k) r t s e = last_passes test ns n (r ∙ e)
-    by_rest None r true s e = ap test (sym (same_Some m n e)) ∙ s
-    by_rest None r false s e = cc
+    by_rest : (last_of test ns ≡ Some n → test n ≡ true) → (o : Option ℕ) → last_of test ns ≡ o → (t : Bool) → test m ≡ t → or_other o (cond t (Some m) None) ≡ Some n → test n ≡ true
+    by_rest rest (Some k) r t s e = rest (r ∙ e)
+    by_rest rest None r true s e = ap test (sym (same_Some m n e)) ∙ s
+    by_rest rest None r false s e = cc
 
 module _ (objects : List declared.Object) (x : List ℕ) where
   abbrev called : ℕ → Bool
@@ -137,7 +137,7 @@ module _ (objects : List declared.Object) (names : List ℕ) where
           ∙ eq-eqb n n refl
 
   -- what means nothing is none of the few
-  Sound : List ℕ → Type 0
+  abbrev Sound : List ℕ → Type 0
   Sound few = (x : List ℕ) → means x ≡ None → last_named objects few x ≡ None
 
   sound_more : (few : List ℕ) (y : List ℕ) (n : ℕ) → means y ≡ Some n → Sound few → Sound (few ++ n ∷ [])

@@ -96,22 +96,22 @@ key_read objects keys n e =
 
 first_low : (n : ℕ) (os : List Object) (x : List ℕ) (k : ℕ) → first_named n os x ≡ Some k → n ≤ k
 first_low n [] x k e = cc
-first_low n (o ∷ os) x k e = by_test (bytes_eq o.name x) e
+first_low n (o ∷ os) x k e = by_test (bytes_eq o.name x) (first_low (suc n) os x k) e
   where
-    by_test : (t : Bool) → cond t (Some n) (first_named (suc n) os x) ≡ Some k → n ≤ k
-    by_test true h = let s = same_Some n k h in omega (arith, s)
-    by_test false h = let l = first_low (suc n) os x k h in omega (arith, l)
+    by_test : (t : Bool) → (first_named (suc n) os x ≡ Some k → suc n ≤ k) → cond t (Some n) (first_named (suc n) os x) ≡ Some k → n ≤ k
+    by_test true rest h = let s = same_Some n k h in omega (arith, s)
+    by_test false rest h = let l = rest h in omega (arith, l)
 
 first_high : (n : ℕ) (os : List Object) (x : List ℕ) (k : ℕ) → first_named n os x ≡ Some k → k < n + length os
 first_high n [] x k e = cc
-first_high n (o ∷ os) x k e = by_test (bytes_eq o.name x) e
+first_high n (o ∷ os) x k e = by_test (bytes_eq o.name x) (first_high (suc n) os x k) e
   where
-    by_test : (t : Bool) → cond t (Some n) (first_named (suc n) os x) ≡ Some k → k < n + suc (length os)
-    by_test true h = let s = same_Some n k h in omega (arith, s)
-    by_test false h = let l = first_high (suc n) os x k h in omega (arith, l)
+    by_test : (t : Bool) → (first_named (suc n) os x ≡ Some k → k < suc n + length os) → cond t (Some n) (first_named (suc n) os x) ≡ Some k → k < n + suc (length os)
+    by_test true rest h = let s = same_Some n k h in omega (arith, s)
+    by_test false rest h = let l = rest h in omega (arith, l)
 
 pub key_within : (objects : List Object) (x : List ℕ) (key : ℕ) → key_of objects x ≡ Some key → key < length objects
-key_within objects x key e = first_high 0 objects x key e
+key_within objects x key e = let l = first_high 0 objects x key e in omega (arith, l)
 
 pub object_key_within : (objects : List Object) (o : Option Object) (key : ℕ) → key_at objects o ≡ Some key → key < length objects
 object_key_within objects None key e = cc
@@ -119,13 +119,14 @@ object_key_within objects (Some o) key e = key_within objects o.name key e
 
 one_name : (n : ℕ) (os : List Object) (x y : List ℕ) (k : ℕ) → first_named n os x ≡ Some k → first_named n os y ≡ Some k → x ≡ y
 one_name n [] x y k e h = cc
-one_name n (o ∷ os) x y k e h = by_tests (bytes_eq o.name x) (bytes_eq o.name y) refl refl e h
+one_name n (o ∷ os) x y k e h = by_tests (one_name (suc n) os x y k) (bytes_eq o.name x) (bytes_eq o.name y) refl refl e h
   where
-    by_tests : (t u : Bool) → bytes_eq o.name x ≡ t → bytes_eq o.name y ≡ u → cond t (Some n) (first_named (suc n) os x) ≡ Some k → cond u (Some n) (first_named (suc n) os y) ≡ Some k → x ≡ y
-    by_tests true true p q e h = sym ((bytes_eq-Decides o.name x).0 p) ∙ (bytes_eq-Decides o.name y).0 q
-    by_tests true false p q e h = let s = same_Some n k e in let l = first_low (suc n) os y k h in absurd (omega (arith, s, l))
-    by_tests false true p q e h = let s = same_Some n k h in let l = first_low (suc n) os x k e in absurd (omega (arith, s, l))
-    by_tests false false p q e h = one_name (suc n) os x y k e h
+    by_tests : (first_named (suc n) os x ≡ Some k → first_named (suc n) os y ≡ Some k → x ≡ y)
+        → (t u : Bool) → bytes_eq o.name x ≡ t → bytes_eq o.name y ≡ u → cond t (Some n) (first_named (suc n) os x) ≡ Some k → cond u (Some n) (first_named (suc n) os y) ≡ Some k → x ≡ y
+    by_tests rest true true p q e h = sym ((bytes_eq-Decides o.name x).0 p) ∙ (bytes_eq-Decides o.name y).0 q
+    by_tests rest true false p q e h = let s = same_Some n k e in let l = first_low (suc n) os y k h in absurd (omega (arith, s, l))
+    by_tests rest false true p q e h = let s = same_Some n k h in let l = first_low (suc n) os x k e in absurd (omega (arith, s, l))
+    by_tests rest false false p q e h = rest e h
 
 -- an object of this name has its key, and no other has
 has_its_key : (objects : List Object) (x : List ℕ) (key : ℕ) → key_of objects x ≡ Some key → (o : Option Object) → is_key (key_at objects o) key ≡ is_called o x
@@ -153,12 +154,13 @@ last_by_key objects x key e ns = last_alike (has_key objects key) (λ n. is_call
 -- no object has a name without a key
 uncalled : (m : ℕ) (os : List Object) (x : List ℕ) → first_named m os x ≡ None → (n : ℕ) → is_called (slice_get os n) x ≡ false
 uncalled m [] x e n = refl
-uncalled m (o ∷ os) x e n = by_test (bytes_eq o.name x) refl e n
+uncalled m (o ∷ os) x e n = by_test (uncalled (suc m) os x) (bytes_eq o.name x) refl e n
   where
-    by_test : (t : Bool) → bytes_eq o.name x ≡ t → cond t (Some m) (first_named (suc m) os x) ≡ None → (n : ℕ) → is_called (slice_get (o ∷ os) n) x ≡ false
-    by_test true p e n = cc
-    by_test false p e zero = p
-    by_test false p e (suc n) = uncalled (suc m) os x e n
+    by_test : (first_named (suc m) os x ≡ None → (k : ℕ) → is_called (slice_get os k) x ≡ false)
+        → (t : Bool) → bytes_eq o.name x ≡ t → cond t (Some m) (first_named (suc m) os x) ≡ None → (k : ℕ) → is_called (slice_get (o ∷ os) k) x ≡ false
+    by_test rest true p e k = cc
+    by_test rest false p e zero = p
+    by_test rest false p e (suc k) = rest e k
 
 none_last : (f : ℕ → Bool) → ((n : ℕ) → f n ≡ false) → (ns : List ℕ) → last_of f ns ≡ None
 none_last f none [] = refl

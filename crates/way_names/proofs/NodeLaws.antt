@@ -142,7 +142,7 @@ module _ (old mid new : List Node) (bits : ℕ) (at : Option ℕ) (key object : 
       longer [] x = omega arith
       longer (y ∷ xs) x = let l = longer xs x in omega (arith, l)
 
-  Finds : ℕ → Type 0
+  abbrev Finds : ℕ → Type 0
   Finds x = found_in new (suc bits) root x ≡ cond (nat_eq key x) (Some object) (found_in old (suc bits) at x)
 
   finds_this : (x : ℕ) → x < 2 ^ suc bits → is_odd x ≡ odd → Finds x
@@ -178,19 +178,23 @@ put_last nodes zero at key object e l = record {
 }
 put_last nodes (suc bits) at key object e l = absurd (omega (arith, e))
 
+one_less : (bits : ℕ) → suc bits - 1 ≡ bits
+one_less bits = omega arith
+
 pub key_below : (bits key : ℕ) → (bits ≡ 0 → ⊥) → key < 2 ^ bits → key / 2 < 2 ^ (bits - 1)
 key_below zero key more l = absurd (more refl)
-key_below (suc bits) key more l = half_below key bits l
+key_below (suc bits) key more l = subst (λ n. key / 2 < 2 ^ n) (sym (one_less bits)) (half_below key bits l)
 
 pub below_stands : (nodes : List Node) (bits : ℕ) (at : Option ℕ) (odd : Bool) → (bits ≡ 0 → ⊥) → Stands nodes bits at → Stands nodes (bits - 1) (half_of nodes odd at)
 below_stands nodes zero at odd more h = absurd (more refl)
-below_stands nodes (suc bits) at odd more h = half_stands nodes bits at odd h
+below_stands nodes (suc bits) at odd more h = subst (λ n. Stands nodes n (half_of nodes odd at)) (sym (one_less bits)) (half_stands nodes bits at odd h)
 
 pub put_more : (old mid new : List Node) (bits : ℕ) (at : Option ℕ) (key object : ℕ) (inner : Option ℕ) → (bits ≡ 0 → ⊥) → Stands old bits at
     → Puts old mid (bits - 1) (half_of old (is_odd key) at) (λ x. nat_eq (key / 2) x) object inner
     → new ≡ mid ++ node_of (is_odd key) inner (half_of old (not (is_odd key)) at) ∷ [] → Puts old new bits at (λ x. nat_eq key x) object (Some (length mid))
 put_more old mid new zero at key object inner more h p e = absurd (more refl)
-put_more old mid new (suc bits) at key object inner more h p e = puts_more old mid new bits at key object inner h p e
+put_more old mid new (suc bits) at key object inner more h p e =
+    puts_more old mid new bits at key object inner h (subst (λ n. Puts old mid n (half_of old (is_odd key) at) (λ x. nat_eq (key / 2) x) object inner) (one_less bits) p) e
 
 pub found_last : (nodes : List Node) (bits : ℕ) (at : Option ℕ) (key : ℕ) → bits ≡ 0 → at ≡ found_in nodes bits at key
 found_last nodes zero at key e = refl
@@ -198,7 +202,7 @@ found_last nodes (suc bits) at key e = absurd (omega (arith, e))
 
 pub found_more : (nodes : List Node) (bits : ℕ) (at : Option ℕ) (key : ℕ) → (bits ≡ 0 → ⊥) → found_in nodes (bits - 1) (half_of nodes (is_odd key) at) (key / 2) ≡ found_in nodes bits at key
 found_more nodes zero at key more = absurd (more refl)
-found_more nodes (suc bits) at key more = refl
+found_more nodes (suc bits) at key more = ap (λ n. found_in nodes n (half_of nodes (is_odd key) at) (key / 2)) (one_less bits)
 
 -- the same from what the code reads
 pub put_read : (old mid new : List Node) (bits : ℕ) (at : Option ℕ) (key object : ℕ) (odd : Bool) (before other inner number : Option ℕ) (node : Node) → (bits ≡ 0 → ⊥) → Stands old bits at → odd ≡ is_odd key

@@ -56,24 +56,20 @@ front_is_fixed p spot h = front_fixed 0 spot p.objects h.numbered
 -- ---- where they end
 
 -- all of these are declared later than a place
+later_by_storage : (a o : Spot) (n : ℕ) (rest : List (Spot × ℕ)) → is_before a o ≡ true → ((j : ℕ) (d : Spot × ℕ) → j < length rest → is_before a (get_or rest j d).0 ≡ true)
+    → (fixed : Bool) (j : ℕ) (d : Spot × ℕ) → j < length (cond fixed ((o, n) ∷ rest) rest) → is_before a (get_or (cond fixed ((o, n) ∷ rest) rest) j d).0 ≡ true
+later_by_storage a o n rest first later true zero d l = first
+later_by_storage a o n rest first later true (suc j) d l = later j d (omega (arith, l))
+later_by_storage a o n rest first later false j d l = later j d l
+
 later_all : (a : Spot) (n : ℕ) (os : List Object) → is_before_first a (spots_of_objects os) ≡ true → rises (spots_of_objects os) ≡ true
     → (j : ℕ) (d : Spot × ℕ) → j < length (statics_from n os) → is_before a (get_or (statics_from n os) j d).0 ≡ true
 later_all a n [] first up j d l = absurd (omega (arith, l))
-later_all a n (o ∷ os) first up = by_storage' o.fixed
-  where
-    next : is_before_first o.spot (spots_of_objects os) ≡ true
-    next = left (is_before_first o.spot (spots_of_objects os)) (rises (spots_of_objects os)) up
-
-    rest : (j : ℕ) (d : Spot × ℕ) → j < length (statics_from (suc n) os) → is_before a (get_or (statics_from (suc n) os) j d).0 ≡ true
-    rest j d l =
-        let later = later_all o.spot (suc n) os next (right (is_before_first o.spot (spots_of_objects os)) (rises (spots_of_objects os)) up) j d l in
-        is_before-then a o.spot (get_or (statics_from (suc n) os) j d).0 first later
-
-    by_storage' : (fixed : Bool) → (j : ℕ) (d : Spot × ℕ) → j < length (cond fixed ((o.spot, n) ∷ statics_from (suc n) os) (statics_from (suc n) os))
-        → is_before a (get_or (cond fixed ((o.spot, n) ∷ statics_from (suc n) os) (statics_from (suc n) os)) j d).0 ≡ true
-    by_storage' true zero d l = first
-    by_storage' true (suc j) d l = rest j d (omega (arith, l))
-    by_storage' false j d l = rest j d l
+later_all a n (o ∷ os) first up j d l =
+    let next = left (is_before_first o.spot (spots_of_objects os)) (rises (spots_of_objects os)) up in
+    let after = right (is_before_first o.spot (spots_of_objects os)) (rises (spots_of_objects os)) up in
+    later_by_storage a o.spot n (statics_from (suc n) os) first
+    (λ i e k. is_before-then a o.spot (get_or (statics_from (suc n) os) i e).0 first (later_all o.spot (suc n) os next after i e k)) o.fixed j d l
 
 -- what stands before a place stands before all that doesn't
 parted_more : {X : Type 0} (test : X → Bool) (x : X) (xs : List X) → ((j : ℕ) (d : X) → j < length xs → test (get_or xs j d) ≡ true → test x ≡ true) → IsPartitionedBy test xs
@@ -83,22 +79,18 @@ parted_more test x xs first rest zero (suc j) d low l h = first j d (omega (arit
 parted_more test x xs first rest (suc i) zero d low l h = absurd (omega (arith, low))
 parted_more test x xs first rest (suc i) (suc j) d low l h = rest i j d (omega (arith, low)) (omega (arith, l)) h
 
+parted_by_storage : (spot o : Spot) (n : ℕ) (rest : List (Spot × ℕ)) → ((j : ℕ) (d : Spot × ℕ) → j < length rest → is_before o (get_or rest j d).0 ≡ true)
+    → IsPartitionedBy (λ (s : Spot × ℕ). is_before s.0 spot) rest → (fixed : Bool) → IsPartitionedBy (λ (s : Spot × ℕ). is_before s.0 spot) (cond fixed ((o, n) ∷ rest) rest)
+parted_by_storage spot o n rest later h true =
+    parted_more (λ (s : Spot × ℕ). is_before s.0 spot) (o, n) rest (λ j d l e. is_before-then o (get_or rest j d).0 spot (later j d l) e) h
+parted_by_storage spot o n rest later h false = h
+
 pub statics_parted : (spot : Spot) (n : ℕ) (os : List Object) → rises (spots_of_objects os) ≡ true → IsPartitionedBy (λ (s : Spot × ℕ). is_before s.0 spot) (statics_from n os)
 statics_parted spot n [] up i j d low l h = absurd (omega (arith, l))
-statics_parted spot n (o ∷ os) up = by_storage' o.fixed
-  where
-    next : is_before_first o.spot (spots_of_objects os) ≡ true
-    next = left (is_before_first o.spot (spots_of_objects os)) (rises (spots_of_objects os)) up
-
-    after : rises (spots_of_objects os) ≡ true
-    after = right (is_before_first o.spot (spots_of_objects os)) (rises (spots_of_objects os)) up
-
-    by_storage' : (fixed : Bool) → IsPartitionedBy (λ (s : Spot × ℕ). is_before s.0 spot) (cond fixed ((o.spot, n) ∷ statics_from (suc n) os) (statics_from (suc n) os))
-    by_storage' true =
-        parted_more (λ (s : Spot × ℕ). is_before s.0 spot) (o.spot, n) (statics_from (suc n) os)
-        (λ j d l h. is_before-then o.spot (get_or (statics_from (suc n) os) j d).0 spot (later_all o.spot (suc n) os next after j d l) h)
-        (statics_parted spot (suc n) os after)
-    by_storage' false = statics_parted spot (suc n) os after
+statics_parted spot n (o ∷ os) up =
+    let next = left (is_before_first o.spot (spots_of_objects os)) (rises (spots_of_objects os)) up in
+    let after = right (is_before_first o.spot (spots_of_objects os)) (rises (spots_of_objects os)) up in
+    parted_by_storage spot o.spot n (statics_from (suc n) os) (later_all o.spot (suc n) os next after) (statics_parted spot (suc n) os after) o.fixed
 
 -- the first of them, up to the point where they end
 pub front_to_point : (spot : Spot) (statics : List (Spot × ℕ)) (count : ℕ) → count ≤ length statics

@@ -206,14 +206,14 @@ statics_begin objects v wide empty stand statics = record { wide = wide; counted
     of_count zero low = outermost_finds objects v [] refl
     of_count (suc n) low = absurd (omega (arith, low))
 
-module _ (objects : List Object) (statics : List (Spot × ℕ)) (v w : Versions) (i : ℕ) (s : Spot × ℕ) (known : FindStatics objects statics v i) (within : i < length statics) (read : s ≡ get_or statics i s)
+module _ (objects : List Object) (statics : List (Spot × ℕ)) (v w : Versions) (i : ℕ) (s d : Spot × ℕ) (known : FindStatics objects statics v i) (within : i < length statics) (read : s ≡ get_or statics i d)
     (h : AddsObject objects v w (behind i) s.1) where
   abbrev object : ℕ
   object = s.1
 
   one_more : numbers_of (take (suc i) statics) ≡ numbers_of (take i statics) ++ object ∷ []
   one_more =
-      ap numbers_of (take-suc statics i s within ∙ ap (λ (t : Spot × ℕ). take i statics ++ t ∷ []) (sym read)) ∙ map-append (λ (t : Spot × ℕ). t.1) (take i statics) (s ∷ [])
+      ap numbers_of (take-suc statics i d within ∙ ap (λ (t : Spot × ℕ). take i statics ++ t ∷ []) (sym read)) ∙ map-append (λ (t : Spot × ℕ). t.1) (take i statics) (s ∷ [])
 
   last_found : Finds objects w (Some i) (numbers_of (take (suc i) statics))
   last_found =

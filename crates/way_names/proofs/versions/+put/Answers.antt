@@ -3,8 +3,8 @@ use Rattle.way_names.specs.Versions.{half_of}
 use Rattle.way_names.proofs.NodeLaws.{put_read}
 use Rattle.way_names.proofs.versions.+put.Goals as goal
 
-pub put-returns : goal.put-returns
-put-returns g c =
+pub returns : goal.returns
+returns t c =
     let odd = c.is_odd-odd.result in
     let more : c.args.bits ≡ 0 → ⊥ = search rules in
     put_read c.args.nodes.now.items c.put-inner.new.nodes.items c.push_node-number.new.nodes.items c.args.bits c.args.at c.args.key c.args.object odd c.half_of-before.result c.half_of-other.result c.in_ok-inner.inner

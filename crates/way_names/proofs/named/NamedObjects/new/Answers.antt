@@ -10,26 +10,26 @@ use Rattle.way_names.proofs.ObjectLaws.{few_objects}
 use Rattle.way_names.proofs.WalkLaws.{loops_given, statements_given}
 use Rattle.way_names.proofs.named.NamedObjects.new.Goals as goal
 
-pub statics-statics-requires : goal.statics-statics-requires
-statics-statics-requires c =
+pub statics-requires : goal.statics-requires
+statics-requires c =
     let few : length c.args.program.now.objects ≤ 100000 = few_objects (program_view c.args.program.now) c.args.program.now.checked in
     let same : length c.as_slice-2.result.now ≡ length c.args.program.now.objects = ap length c.as_slice-2.ensures in
     omega arith
 
-pub of_statics-before-requires : goal.of_statics-before-requires
-of_statics-before-requires c =
+pub of_statics-requires : goal.of_statics-requires
+of_statics-requires c =
     let few : length c.args.program.now.objects ≤ 100000 = few_objects (program_view c.args.program.now) c.args.program.now.checked in
     let same : length c.in_ok-keys.keys.objects.now ≡ length c.args.program.now.objects = ap length (c.in_ok-keys.ensures ∙ c.as_slice.ensures) in
     omega arith
 
-pub of_scopes-nested-requires : goal.of_scopes-nested-requires
-of_scopes-nested-requires c =
+pub of_scopes-requires : goal.of_scopes-requires
+of_scopes-requires c =
     let few : length c.args.program.now.objects ≤ 100000 = few_objects (program_view c.args.program.now) c.args.program.now.checked in
     let same : length c.in_ok-keys.keys.objects.now ≡ length c.args.program.now.objects = ap length (c.in_ok-keys.ensures ∙ c.as_slice.ensures) in
     omega arith
 
-pub named_of-result : goal.named_of-result
-named_of-result c =
+pub invariant_of-result-clause-named : goal.invariant_of-result-clause-named
+invariant_of-result-clause-named c =
     let program = c.args.program.now in
     let p = program_view program in
     let walked = c.in_ok-walk.ensures ∙ ap (λ fs. walked_functions start (functions_view fs)) c.as_slice-3.ensures in

@@ -4,8 +4,8 @@ use Rattle.way_names.specs.Versions.{Puts, Stands, version_of}
 use Rattle.way_names.proofs.VersionLaws.{adds}
 use Rattle.way_names.proofs.versions.Versions.add.Goals as goal
 
-pub put_object-root-requires-clause-stands : goal.put_object-root-requires-clause-stands
-put_object-root-requires-clause-stands c =
+pub put_object-requires-clause-stands : goal.put_object-requires-clause-stands
+put_object-requires-clause-stands c =
     let v = c.args.self.now in
     let at = c.version_of-at.ensures ∙ ap (λ rs. version_of rs c.args.outer) c.as_slice.ensures.value in
     subst (Stands v.nodes.items v.bits) (sym at) (c.requires.stand c.args.outer)
@@ -16,5 +16,5 @@ returns c =
     let v = c.args.self.now in
     let at = c.version_of-at.ensures ∙ ap (λ rs. version_of rs c.args.outer) c.as_slice.ensures.value in
     adds objects v _ c.args.outer c.args.object c.in_ok-root.root c.requires.stand c.requires.wide
-    (subst (λ (a : Option ℕ). Puts v.nodes.items c.put_object-root.new.nodes.items v.bits a (λ key. has_key objects key c.args.object) c.args.object c.in_ok-root.root) at c.in_ok-root.ensures)
+    (subst (λ (a : Option ℕ). Puts v.nodes.items c.put_object.new.nodes.items v.bits a (λ key. has_key objects key c.args.object) c.args.object c.in_ok-root.root) at c.in_ok-root.ensures)
     c.in_ok-push.ensures.items refl
