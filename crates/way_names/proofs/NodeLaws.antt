@@ -33,10 +33,11 @@ module _ (nodes more : List Node) where
 
   stands_still : (bits : ℕ) (at : Option ℕ) → Stands nodes bits at → Stands (nodes ++ more) bits at
   stands_still zero at h = tt
-  stands_still (suc bits) at h =
-      (there_stays at h.0,
-      subst (Stands (nodes ++ more) bits) (sym (half_stays false at h.0)) (stands_still bits (half_of nodes false at) h.1),
-      subst (Stands (nodes ++ more) bits) (sym (half_stays true at h.0)) (stands_still bits (half_of nodes true at) h.2))
+  stands_still (suc bits) at h = (
+    there_stays at h.0,
+    subst (Stands (nodes ++ more) bits) (sym (half_stays false at h.0)) (stands_still bits (half_of nodes false at) h.1),
+    subst (Stands (nodes ++ more) bits) (sym (half_stays true at h.0)) (stands_still bits (half_of nodes true at) h.2),
+  )
 
 half_stands : (nodes : List Node) (bits : ℕ) (at : Option ℕ) (odd : Bool) → Stands nodes (suc bits) at → Stands nodes bits (half_of nodes odd at)
 half_stands nodes bits at true h = h.2

@@ -86,7 +86,7 @@ parted_by_storage spot o n rest later h true =
 parted_by_storage spot o n rest later h false = h
 
 pub statics_parted : (spot : Spot) (n : ℕ) (os : List Object) → rises (spots_of_objects os) ≡ true → IsPartitionedBy (λ (s : Spot × ℕ). is_before s.0 spot) (statics_from n os)
-statics_parted spot n [] up i j d low l h = absurd (omega (arith, l))
+statics_parted spot n [] up = λ i j d low l h. absurd (omega (arith, l))
 statics_parted spot n (o ∷ os) up =
     let next = left (is_before_first o.spot (spots_of_objects os)) (rises (spots_of_objects os)) up in
     let after = right (is_before_first o.spot (spots_of_objects os)) (rises (spots_of_objects os)) up in

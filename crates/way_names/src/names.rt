@@ -41,7 +41,12 @@ impl<'a> Model for Names<'a> {
 }
 
 /// By the kind of a place.
-pub fn scope_of(kind: PlaceKind, spot: Spot, statements: &ScopesAt, loops: &ScopesAt) -> Option<usize>
+pub fn scope_of(
+    kind: PlaceKind,
+    spot: Spot,
+    statements: &ScopesAt,
+    loops: &ScopesAt,
+) -> Option<usize>
     ensures { result ≡ scope_of kind spot statements.now loops.now }
 {
     match kind {

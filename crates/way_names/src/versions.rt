@@ -39,13 +39,7 @@ fn half_of(nodes: &[Node], odd: bool, at: Option<u32>) -> Option<u32>
         None => None,
         Some(number) => match nodes.get(number as usize) {
             None => None,
-            Some(node) => {
-                if odd {
-                    node.odd
-                } else {
-                    node.even
-                }
-            }
+            Some(node) => { if odd { node.odd } else { node.even } }
         },
     }
 }
