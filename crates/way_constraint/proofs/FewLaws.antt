@@ -17,7 +17,7 @@ use Rattle.check_rules.specs.Names.{Kind, Object, Entry, later, declared_as, nam
 use Rattle.check_rules.specs.Typed.{typed}
 use Rattle.way_places.specs.Seeking.{or_else as or_other}
 use Rattle.way_names.specs.Keys.{is_called, is_key, last_named, last_of}
-use Rattle.way_names.proofs.VersionLaws.{last_added}
+use Rattle.way_names.proofs.VersionLaws.{last_joined}
 use Rattle.way_constraint.specs.Constraints.{entries, entry_at, is_among, in_scope, is_refused, IsTyped, AnswersIn, FitsConstraint}
 use Rattle.way_constraint.specs.Known.{is_object}
 use Rattle.way_constraint.specs.Words.{all_pass, with_number, with_word, with_words}
@@ -53,6 +53,13 @@ kind_of n (Some o) = Some (Object n o.ty o.dims o.fixed)
 abbrev kind_at : List declared.Object → Option ℕ → Option Kind
 kind_at objects None = None
 kind_at objects (Some n) = kind_of n (slice_get objects n)
+
+or_test : (t : Bool) (n : ℕ) (o : Option ℕ) → or_other (cond t (Some n) None) o ≡ cond t (Some n) o
+or_test true n o = refl
+or_test false n o = refl
+
+last_added : (test : ℕ → Bool) (ns : List ℕ) (n : ℕ) → last_of test (ns ++ n ∷ []) ≡ cond (test n) (Some n) (last_of test ns)
+last_added test ns n = last_joined test ns (n ∷ []) ∙ or_test (test n) n (last_of test ns)
 
 last_passes : (test : ℕ → Bool) (ns : List ℕ) (n : ℕ) → last_of test ns ≡ Some n → test n ≡ true
 last_passes test [] n e = cc

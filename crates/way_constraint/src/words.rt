@@ -25,9 +25,10 @@ fn push_word(place: &NamesAt, few: &mut Vec<u32>, node: &RawNode) -> Result<(), 
     ensures { OnOk result (few.new.items ≡ with_word (meant place.now) (word_of (node_view node.now)) few.old.items) }
 {
     match name_in(node) {
-        Some(name) => push_number(few, place.object(name)),
-        None => Ok(()),
+        Some(name) => push_number(few, place.object(name))?,
+        None => {}
     }
+    Ok(())
 }
 
 // What all words of an expression mean.
@@ -36,7 +37,8 @@ fn push_words(place: &NamesAt, few: &mut Vec<u32>, e: &RawExpr) -> Result<(), Ou
     ensures { OnOk result (few.new.items ≡ with_words (meant place.now) (expr_view e.now) few.old.items) }
 {
     push_word(place, few, &e.node)?;
-    push_parts(place, few, &e.node)
+    push_parts(place, few, &e.node)?;
+    Ok(())
 }
 
 // Those of the parts of a node.
@@ -45,36 +47,37 @@ fn push_parts(place: &NamesAt, few: &mut Vec<u32>, node: &RawNode) -> Result<(),
     ensures { OnOk result (few.new.items ≡ with_words_in (meant place.now) (node_view node.now) few.old.items) }
 {
     match node {
-        RawNode::Number { .. } => Ok(()),
-        RawNode::Char(_) => Ok(()),
-        RawNode::Var { .. } => Ok(()),
-        RawNode::Index { at, .. } => push_all(place, few, at.as_slice()),
-        RawNode::Unary { of, .. } => push_words(place, few, of),
-        RawNode::Cast { of, .. } => push_words(place, few, of),
-        RawNode::Step { target, .. } => push_words(place, few, target),
+        RawNode::Number { .. } => {}
+        RawNode::Char(_) => {}
+        RawNode::Var { .. } => {}
+        RawNode::Index { at, .. } => push_all(place, few, at.as_slice())?,
+        RawNode::Unary { of, .. } => push_words(place, few, of)?,
+        RawNode::Cast { of, .. } => push_words(place, few, of)?,
+        RawNode::Step { target, .. } => push_words(place, few, target)?,
         RawNode::Binary { left, right, .. } => {
             push_words(place, few, left)?;
-            push_words(place, few, right)
+            push_words(place, few, right)?;
         }
         RawNode::Logic { left, right, .. } => {
             push_words(place, few, left)?;
-            push_words(place, few, right)
+            push_words(place, few, right)?;
         }
         RawNode::Choose { test, yes, no, .. } => {
             push_words(place, few, test)?;
             push_words(place, few, yes)?;
-            push_words(place, few, no)
+            push_words(place, few, no)?;
         }
         RawNode::Comma { first, last } => {
             push_words(place, few, first)?;
-            push_words(place, few, last)
+            push_words(place, few, last)?;
         }
         RawNode::Assign { target, from, .. } => {
             push_words(place, few, target)?;
-            push_words(place, few, from)
+            push_words(place, few, from)?;
         }
-        RawNode::Call { args, .. } => push_all(place, few, args.as_slice()),
+        RawNode::Call { args, .. } => push_all(place, few, args.as_slice())?,
     }
+    Ok(())
 }
 
 #[cycle(words)]
