@@ -122,7 +122,7 @@ fn note_columns(
     let listed = columns_text(alloc, found)?;
     let listed = listed.as_str();
     let kind = claim.kind;
-    let told = format!(in alloc; "on line {line} there is a place for {kind} at column {listed}")?;
+    let told = format!(in alloc; "on line {line} there is a place for {kind} at {listed}")?;
     out.note(File::Program, Some(first_spot(line, found)), told)
 }
 

@@ -75,15 +75,25 @@ pub fn nearest_line(index: &Index, text: &[u8], wanted: Wanted, line: u32) -> Op
     None
 }
 
-/// The places of a line at these columns, as a text.
+/// What stands before a column of so many in a list of them.
+fn between(at: usize, count: usize) -> &'static str {
+    if at == 0 {
+        ""
+    } else if at.saturating_add(1) == count {
+        " and "
+    } else {
+        ", "
+    }
+}
+
+/// The places of a line at these columns, as `column 3` or `columns 3, 10 and 12`.
 pub fn columns_text(alloc: Global, columns: &[u32]) -> Result<String, OutOfMemory> {
-    let mut text = String::new(alloc);
-    let mut between = "";
-    for column in columns {
-        text.push_str(between)?;
-        let digits = format!(in alloc; "{column}")?;
-        text.push_str(digits.as_str())?;
-        between = ", ";
+    let count = columns.len();
+    let noun = if count == 1 { "column " } else { "columns " };
+    let mut text = String::from_str(alloc, noun)?;
+    for (at, column) in columns.iter().enumerate() {
+        let between = between(at, count);
+        write!(text, "{between}{column}")?;
     }
     Ok(text)
 }

@@ -6,7 +6,7 @@ use c_core::{Program, Spot};
 use c_meaning::{Choices, End, Run};
 use flow_machine::run_machine;
 use std::alloc::Global;
-use view_runs::{Tracker, explain_unmatched, note_unfixed, show_run, waypoint_at};
+use view_runs::{Tracker, explain_ended, explain_unmatched, note_unfixed, show_run, waypoint_at};
 use view_text::{File, Files, Messages};
 use view_witness::waypoint_path;
 use way_bind::BindFault;
@@ -75,37 +75,6 @@ fn explain_deep(
         "over 1,000,000 cells would be live behind this statement: the violation needs fewer calls or smaller arrays",
     )?;
     out.warning("undecided", File::Program, tracker.last, told)
-}
-
-fn ended_text(alloc: Global, unfixed: u64) -> Result<String, OutOfMemory> {
-    if unfixed == 0 {
-        Ok(String::from_str(
-            alloc,
-            "the run that the witness gives ends without a violation: this is the last statement that it began; other values may violate the property",
-        )?)
-    } else {
-        Ok(format!(in alloc;
-            "the run that the witness gives ends without a violation: this is the last statement that it began; {unfixed} draws took 0 for want of a value"
-        )?)
-    }
-}
-
-fn explain_ended(
-    alloc: Global,
-    program: &Program,
-    judged: &Judged,
-    tracker: &Tracker<'_>,
-    out: &mut Messages,
-) -> Result<(), OutOfMemory> {
-    let told = ended_text(alloc, judged.run.unfixed)?;
-    out.warning("ended", File::Program, tracker.last, told)?;
-    note_unfixed(
-        alloc,
-        program,
-        &judged.choices,
-        judged.run.draws.as_slice(),
-        out,
-    )
 }
 
 fn explain_undefined(
@@ -204,6 +173,7 @@ fn explain_end(
     alloc: Global,
     files: &Files<'_>,
     program: &Program,
+    witness: &Witness,
     bound: &Bound,
     judged: &Judged,
     steps: u64,
@@ -211,7 +181,15 @@ fn explain_end(
 ) -> Result<(), OutOfMemory> {
     let tracker = tracked(alloc, files, program, bound, judged, steps)?;
     match judged.run.end {
-        End::Ended => explain_ended(alloc, program, judged, &tracker, out),
+        End::Ended => explain_ended(
+            alloc,
+            program,
+            segments_of(witness),
+            &judged.choices,
+            &judged.run,
+            &tracker,
+            out,
+        ),
         End::Undefined(spot) => explain_undefined(alloc, program, judged, spot, out),
         End::Spent => explain_spent(alloc, &tracker, steps, out),
         End::Deep => explain_deep(alloc, &tracker, out),
@@ -234,7 +212,7 @@ fn explain_run(
         End::Violated(_) => explain_violated(
             alloc, files, program, witness, bound, &judged, steps, out,
         ),
-        _ => explain_end(alloc, files, program, bound, &judged, steps, out),
+        _ => explain_end(alloc, files, program, witness, bound, &judged, steps, out),
     }
 }
 

@@ -19,6 +19,6 @@ pub use lines::{line_of, offset_of, spot_at};
 pub use listing::push_listing;
 pub use message::{File, Level, Message, Messages};
 pub use noted::{by_line, parted_at};
-pub use printed::{push_caret, push_printable};
+pub use printed::{push_caret, push_printable, shortened};
 pub use report::push_message;
 pub use rules::{advice, wanted_place};

@@ -1,9 +1,10 @@
 // A confirmation as gcov prints a run: each line of the program with how often it was reached, and the notes below
 // their lines.
 use crate::files::Files;
-use crate::message::{File, Message, Messages};
+use crate::message::{File, Level, Message, Messages};
 use crate::noted::{by_line, parted_at};
 use crate::printed::{push_caret, push_printable};
+use crate::report::push_message;
 use c_core::Spot;
 use std::alloc::Global;
 use wv_base::OutOfMemory;
@@ -77,14 +78,30 @@ fn without_last_end(text: &[u8]) -> &[u8] {
     }
 }
 
-/// Appends the program line by line, with counts and notes. A count of 0 is a dash, as that of a line without a
-/// statement.
+/// What a confirmation is warned of, as keys of the witness that aren't read.
+fn push_warnings(
+    alloc: Global,
+    out: &mut String,
+    files: &Files<'_>,
+    messages: &[Message],
+) -> Result<(), OutOfMemory> {
+    for message in messages {
+        if message.level != Level::Note {
+            push_message(alloc, out, files, message)?;
+        }
+    }
+    Ok(())
+}
+
+/// Appends warnings, and after them the program line by line, with counts and notes. A count of 0 is a dash, as that
+/// of a line without a statement.
 pub fn push_listing(
     alloc: Global,
     out: &mut String,
     files: &Files<'_>,
     messages: &Messages,
 ) -> Result<(), OutOfMemory> {
+    push_warnings(alloc, out, files, messages.as_slice())?;
     let counts = messages.counts().unwrap_or(&[]);
     let places = by_line(alloc, messages.as_slice(), File::Program)?;
     let mut later = places.as_slice();

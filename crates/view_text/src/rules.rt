@@ -47,6 +47,8 @@ pub fn advice(code: &str) -> &'static str {
         "recursion" =>
             "main reaches a cycle of calls, on which this function lies: invariants are judged of programs without recursion",
         "weight" => "the obligations are too big as a circuit",
+        "unknown-key" => "this key isn't read: the format doesn't have it in this map",
+        "file-name" => "a location is in the file that the witness is about",
         _ => "this release doesn't judge this form",
     }
 }
