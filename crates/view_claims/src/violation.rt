@@ -165,7 +165,7 @@ fn explain_violated(
     }
     let tracker = tracked(alloc, files, program, bound, judged, steps)?;
     let draws = judged.run.draws.as_slice();
-    show_run(alloc, segments, draws, events_of(judged), tracker, out)
+    show_run(alloc, segments, draws, events_of(judged), &tracker, out)
 }
 
 /// A run that ends otherwise.

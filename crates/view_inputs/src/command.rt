@@ -4,6 +4,7 @@ use clap::builder::ValueParser;
 use clap::error::ErrorKind;
 use clap::{Arg, ArgAction, ArgMatches, Command};
 use std::alloc::{AllocError, Global};
+use view_text::printable_text;
 use wv_arguments::{Budgets, Names};
 use wv_base::OutOfMemory;
 
@@ -64,7 +65,7 @@ pub enum Asked<'a> {
     },
     /// The help, as it is printed.
     Help(String),
-    /// What is wrong with the words.
+    /// What is wrong with the words, as it may be printed.
     Misuse(String),
 }
 
@@ -240,7 +241,10 @@ pub fn read_words(alloc: Global, words: &[String]) -> Result<Asked<'_>, OutOfMem
         Err(error) => match error.kind() {
             ErrorKind::OutOfMemory => Err(OutOfMemory),
             ErrorKind::DisplayHelp => Ok(Asked::Help(format!(in alloc; "{error}")?)),
-            _ => Ok(Asked::Misuse(format!(in alloc; "{error}")?)),
+            _ => {
+                let told = format!(in alloc; "{error}")?;
+                Ok(Asked::Misuse(printable_text(alloc, told.as_str())?))
+            }
         },
     }
 }

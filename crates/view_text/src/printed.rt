@@ -53,6 +53,15 @@ pub fn push_printable(alloc: Global, out: &mut String, bytes: &[u8]) -> Result<(
     Ok(())
 }
 
+/// A text of several lines as it may be printed: the ends of its lines stay.
+pub fn printable_text(alloc: Global, text: &str) -> Result<String, OutOfMemory> {
+    let mut out = String::new(alloc);
+    for c in text.chars() {
+        out.push(if c == '\n' { c } else { printable(c) })?;
+    }
+    Ok(out)
+}
+
 /// Appends blanks for these bytes, and tabs for their tabs, and then a caret.
 pub fn push_caret(alloc: Global, out: &mut String, before: &[u8]) -> Result<(), OutOfMemory> {
     let text = String::from_utf8_lossy(alloc, before)?;
