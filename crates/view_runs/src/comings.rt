@@ -1,6 +1,7 @@
 // What was seen when a run came by the place of a waypoint.
+use crate::passing::holds;
 use crate::reads::{Sample, push_samples, reads_of, samples_of};
-use c_core::{Expr, Program};
+use c_core::{Expr, Program, Spot};
 use c_meaning::{Event, Memory, Way};
 use std::alloc::Global;
 use way_match::{BoundSegment, Point};
@@ -8,6 +9,9 @@ use wv_base::OutOfMemory;
 
 /// So many comings are told, and the last.
 const MOST: usize = 5;
+
+/// At so many statements it is tried whether a constraint holds there.
+const MOST_TRIED: u32 = 100;
 
 /// An event by its number, with the memory of that moment.
 #[derive(Clone, Copy)]
@@ -32,12 +36,22 @@ pub struct Avoided {
     pub coming: Coming,
 }
 
+/// A statement at which the constraint of an assumption holds, and the event that begins it.
+#[derive(Clone, Copy)]
+pub struct Held {
+    pub spot: Spot,
+    pub number: u64,
+}
+
 /// What was seen of the waypoints of a segment while it was waited for.
 #[derive(Drop)]
 pub struct Comings {
     pub first: Vec<Coming>,
     pub last: Option<Coming>,
     pub avoided: Option<Avoided>,
+    /// Where the constraint held first, once the run had come by its place.
+    pub held: Option<Held>,
+    tried: u32,
 }
 
 /// The expression of an assumption.
@@ -72,6 +86,25 @@ impl Comings {
             first: Vec::new(alloc),
             last: None,
             avoided: None,
+            held: None,
+            tried: 0,
+        }
+    }
+
+    /// A statement is begun: once the run came by the waypoint to follow, its constraint is tried there.
+    pub fn try_at(&mut self, program: &Program, point: &Point, spot: Spot, moment: &Moment<'_>) {
+        let Some(test) = test_of(point) else {
+            return;
+        };
+        if self.first.len() == 0 || self.held.is_some() || self.tried >= MOST_TRIED {
+            return;
+        }
+        self.tried = self.tried.saturating_add(1);
+        if holds(program, test, moment.memory) {
+            self.held = Some(Held {
+                spot,
+                number: moment.number,
+            });
         }
     }
 

@@ -135,6 +135,10 @@ impl<'a> Watcher for Tracker<'a> {
             Event::Fail { .. } => self.violation = Some(event),
             _ => {}
         }
-        self.ways.pass(&self.route, &moment)
+        self.ways.pass(&self.route, &moment)?;
+        if let Event::At(spot) = event {
+            self.ways.try_at(&self.route, spot, &moment);
+        }
+        Ok(())
     }
 }

@@ -79,7 +79,8 @@ fn seen_text(
     Ok(text)
 }
 
-/// What is told of a segment of so many by its number, from 0, by that of its waypoint to follow, and by what was seen of it.
+/// What is told of a segment of so many by its number, from 0, by that of its waypoint to follow, and by what was seen
+/// of it.
 fn segment_text(
     alloc: Global,
     at: usize,
@@ -118,6 +119,29 @@ fn note_comings(
     let list = list.as_str();
     let told = format!(in alloc; "when the run came by here: {list}")?;
     out.note(File::Program, Some(spot), told)
+}
+
+/// The first statement behind a coming at which the constraint holds, where no waypoint to avoid ended the wait.
+fn note_held(
+    alloc: Global,
+    tracker: &Tracker<'_>,
+    at: usize,
+    out: &mut Messages,
+) -> Result<(), OutOfMemory> {
+    let Some(comings) = tracker.comings(at) else {
+        return Ok(());
+    };
+    let Some(held) = comings.held else {
+        return Ok(());
+    };
+    if comings.avoided.is_some() {
+        return Ok(());
+    }
+    let number = held.number;
+    let told = format!(in alloc;
+        "the constraint holds here, when event {number} begins this statement: the next one at which it does"
+    )?;
+    out.note(File::Program, Some(held.spot), told)
 }
 
 /// What is told of a waypoint to avoid by its number: the event that passed it, with its values.
@@ -246,6 +270,7 @@ fn explain_segment(
     note_unfit(alloc, tracker, out)?;
     note_avoided(alloc, files, witness, tracker, at, segment, number, out)?;
     note_comings(alloc, tracker, at, spot, waiting.visits, out)?;
+    note_held(alloc, tracker, at, out)?;
     note_violation(alloc, tracker, out)?;
     note_waypoint(
         alloc,

@@ -15,6 +15,8 @@ pub struct Ways {
     /// A way stays open for good at the segment of this number, or it is 0: what comes of the segments before is seen
     /// no more.
     low: usize,
+    /// The number of the last segment that a way came to.
+    high: usize,
 }
 
 /// What is seen of a segment before all events.
@@ -40,6 +42,7 @@ impl Ways {
             waiting,
             comings: no_comings(alloc, segments)?,
             low: 0,
+            high: 0,
         })
     }
 
@@ -85,8 +88,22 @@ impl Ways {
     }
 
     fn set(&mut self, number: usize, now: Waiting) {
+        if now.is_reached {
+            self.high = self.high.max(number);
+        }
         if number < self.waiting.len() {
             self.waiting[number] = now;
+        }
+    }
+
+    /// A statement is begun: the constraint of the last segment that a way came to is tried there.
+    pub fn try_at(&mut self, route: &Route<'_>, spot: Spot, moment: &Moment<'_>) {
+        let number = self.high;
+        let Some(segment) = route.behind(number).first() else {
+            return;
+        };
+        if let Some(comings) = self.comings.get_mut(number) {
+            comings.try_at(route.program(), &segment.follow, spot, moment);
         }
     }
 

@@ -8,7 +8,8 @@ use view_text::{File, Messages, shortened};
 use wv_base::OutOfMemory;
 use wv_yaml::Tree;
 
-/// A place is looked for by reading fronts of the witness: so many bytes of it for all the places together, once for each try.
+/// A place is looked for by reading fronts of the witness: so many bytes of it for all the places together, once for
+/// each try.
 const MOST_READ: usize = 262_144;
 
 /// For how many keys a place is looked for in a witness.
