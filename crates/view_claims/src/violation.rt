@@ -1,39 +1,16 @@
 // A violation sequence: a waypoint that isn't bound, or the given run.
-use crate::binding::{claim_of_waypoint, explain_claim, number_in};
 use crate::few::{bind, segments_of};
 use crate::nearest::line_count;
+use crate::unbound::explain_unbound_waypoints;
 use c_core::{Program, Spot};
 use c_meaning::{Choices, End, Run};
 use flow_machine::run_machine;
 use std::alloc::Global;
-use view_runs::{Tracker, explain_ended, explain_unmatched, note_unfixed, show_run, waypoint_at};
+use view_runs::{Tracker, explain_ended, explain_unmatched, note_unfixed, show_run};
 use view_text::{File, Files, Messages};
-use view_witness::waypoint_path;
-use way_bind::BindFault;
 use way_match::{Bound, Matcher, given};
 use wv_base::{OutOfMemory, Seq};
 use wv_schema::Witness;
-
-fn explain_unbound(
-    alloc: Global,
-    files: &Files<'_>,
-    program: &Program,
-    witness: &Witness,
-    fault: BindFault,
-    out: &mut Messages,
-) -> Result<(), OutOfMemory> {
-    let number = number_in(fault)?;
-    let Some(path) = waypoint_path(alloc, witness, number)? else {
-        return Ok(());
-    };
-    match waypoint_at(segments_of(witness), number) {
-        Some(found) => {
-            let claim = claim_of_waypoint(number, found, path.as_str());
-            explain_claim(alloc, files, program, fault, &claim, out)
-        }
-        None => Ok(()),
-    }
-}
 
 /// The line whose statements were begun most often, from 1, and how often.
 fn busiest(lines: &[u64]) -> (u32, u64) {
@@ -227,6 +204,6 @@ pub fn explain_sequence(
 ) -> Result<(), OutOfMemory> {
     match bind(alloc, witness, program) {
         Ok(bound) => explain_run(alloc, files, program, witness, &bound, steps, out),
-        Err(fault) => explain_unbound(alloc, files, program, witness, fault, out),
+        Err(fault) => explain_unbound_waypoints(alloc, files, program, witness, fault, out),
     }
 }

@@ -24,5 +24,5 @@ pub use numbers::{invariant_path, waypoint_path};
 pub use paths::{Step, place_of_path, reached, steps_of};
 pub use stopping::{first_bad, repeated_at, stopped_at};
 pub use tasks::explain_task;
-pub use warned::warn_of_unread;
+pub use warned::{places_in, warn_of_unread};
 pub use within::place_in_value;

@@ -12,8 +12,8 @@ use wv_yaml::Tree;
 /// each try.
 const MOST_READ: usize = 262_144;
 
-/// For how many keys a place is looked for in a witness.
-fn places_in(text: &[u8]) -> usize {
+/// For how many keys, or other things of one kind, a place is looked for in a witness.
+pub fn places_in(text: &[u8]) -> usize {
     let length = text.len();
     if length == 0 {
         return MOST;
