@@ -25,6 +25,8 @@ pub enum Form {
     Text,
     Sarif,
     Html,
+    /// One line of JSON.
+    Json,
 }
 
 /// What is handed out of a certificate, for other checkers.
@@ -103,7 +105,8 @@ fn list<'a>(alloc: Global) -> Result<Arg<'a>, AllocError> {
         .conflicts_with("property")?
         .conflicts_with("witness")?
         .conflicts_with("sarif")?
-        .conflicts_with("html")?;
+        .conflicts_with("html")?
+        .conflicts_with("json")?;
     Ok(arg)
 }
 
@@ -126,9 +129,16 @@ fn with_files<'a>(alloc: Global, command: Command<'a>) -> Result<Command<'a>, Al
 }
 
 fn with_forms<'a>(alloc: Global, command: Command<'a>) -> Result<Command<'a>, AllocError> {
+    let json = flag(
+        alloc,
+        "json",
+        "sarif",
+        "Prints one line of JSON instead, with the reply and the messages",
+    )?;
     let command = command
         .arg(flag(alloc, "sarif", "html", "Prints a SARIF 2.1.0 log instead")?)?
-        .arg(flag(alloc, "html", "sarif", "Prints one page of HTML instead")?)?;
+        .arg(flag(alloc, "html", "sarif", "Prints one page of HTML instead")?)?
+        .arg(json.conflicts_with("html")?)?;
     Ok(command)
 }
 
@@ -177,6 +187,8 @@ fn wanted_form(matches: &ArgMatches<'_>) -> Form {
         Form::Sarif
     } else if matches.get_flag("html") {
         Form::Html
+    } else if matches.get_flag("json") {
+        Form::Json
     } else {
         Form::Text
     }

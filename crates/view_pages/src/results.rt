@@ -35,7 +35,7 @@ fn place_value(alloc: Global, files: &Files<'_>, message: &Message) -> Result<Va
 }
 
 /// The text of a message, without hidden characters.
-fn text_of(alloc: Global, message: &Message) -> Result<String, OutOfMemory> {
+pub fn text_of(alloc: Global, message: &Message) -> Result<String, OutOfMemory> {
     let mut text = String::new(alloc);
     push_printable(alloc, &mut text, message.text.as_bytes())?;
     Ok(text)
