@@ -1,13 +1,12 @@
 // The first segment of a violation sequence that the given run doesn't pass.
-use crate::comings::{Avoided, comings_text, values_text};
-use crate::route::Waiting;
-use crate::segments::{number_in_segment, number_of_follow};
-use crate::spelled::{place_text, spot_of, times_text, waypoint_text};
-use crate::tracker::{Tracker, event_spot};
 use crate::unfit::note_unfit;
 use c_core::Spot;
 use c_meaning::Event;
 use std::alloc::Global;
+use view_runs::{
+    Avoided, Tracker, Waiting, comings_text, event_spot, number_in_segment, number_of_follow,
+    place_text, spot_of, times_text, values_text, waypoint_text,
+};
 use view_text::{File, Files, Messages};
 use view_witness::{place_of_path, steps_of, waypoint_path};
 use way_match::Point;

@@ -1,10 +1,10 @@
 // The draws of a run: what the witness gave, and for what it gave no value.
-use crate::spelled::{declared_at, is_same_spot, type_word};
 use crate::stored::stored_inputs;
 use c_core::{IntType, Program, Spot};
 use c_meaning::{Choices, Draw, DrawKind};
 use std::alloc::Global;
 use std::collections::BTreeMap;
+use view_runs::{declared_at, is_same_spot, type_word};
 use view_text::{File, Messages};
 use wv_base::OutOfMemory;
 

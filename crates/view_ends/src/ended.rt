@@ -1,11 +1,10 @@
 // A run that ends without a violation: the values that it drew, and the target that it didn't come to.
 use crate::draws::note_unfixed;
-use crate::spelled::{spot_of, times_text};
-use crate::tracker::Tracker;
 use crate::unfit::{first_unfit, note_unfit};
 use c_core::Program;
 use c_meaning::{Choices, Run};
 use std::alloc::Global;
+use view_runs::{Tracker, spot_of, times_text};
 use view_text::{File, Messages};
 use wv_base::OutOfMemory;
 use wv_schema::{Location, Segment};

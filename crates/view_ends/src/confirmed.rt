@@ -1,10 +1,9 @@
 // A run that is confirmed: how often each line was reached, the values that were drawn, the event that passes each
 // segment.
-use crate::spelled::{type_word, waypoint_text};
-use crate::tracker::Tracker;
 use c_core::{Place, PlaceKind, Spot};
 use c_meaning::{Draw, DrawKind};
 use std::alloc::Global;
+use view_runs::{Tracker, type_word, waypoint_text};
 use view_text::{File, Messages, Reached};
 use way_places::places;
 use wv_base::OutOfMemory;

@@ -1,10 +1,9 @@
 // Values of a witness that don't fit the types of the input calls that they are given to.
-use crate::spelled::type_word;
 use crate::stored::{Stored, stored_by};
-use crate::tracker::Tracker;
 use c_core::{BinOp, DataModel, Expr, IntType, Node, Program, Spot, convert, width};
 use c_meaning::{Memory, value_in};
 use std::alloc::Global;
+use view_runs::{Tracker, type_word};
 use view_text::{File, Messages};
 use way_match::{Point, ReturnTest};
 use way_places::{Index, InputCall, input_of};
