@@ -8,7 +8,7 @@ use wv_base::OutOfMemory;
 use wv_schema::Location;
 
 /// So many statements behind a declaration are tried.
-const MOST_TRIED: usize = 8;
+const MOST_TRIED: usize = 3;
 
 /// An object by its number, and where it is declared.
 #[derive(Clone, Copy)]
