@@ -1,6 +1,7 @@
 // How far the ways of a run come along the segments of a violation sequence.
 use crate::comings::{Comings, Moment, coming_of, no_comings};
 use crate::route::{Coming, Route, Waiting};
+use c_core::Spot;
 use std::alloc::Global;
 use way_match::BoundSegment;
 use wv_base::OutOfMemory;
