@@ -5,6 +5,7 @@ use c_core::PlaceKind;
 use std::alloc::Global;
 use way_bind::{BindFault, Lookup, Unbound, expression_at, place_named};
 use wv_base::OutOfMemory;
+use wv_schema::Location;
 
 /// The first claims that aren't bound, and how many there are.
 #[derive(Drop)]
@@ -14,31 +15,40 @@ pub struct Faults {
     most: usize,
 }
 
-/// Why a text is no expression over the names that a statement sees.
-fn lack_at_statement(alloc: Global, lookup: &Lookup, claim: &Claim<'_, '_>) -> Option<Unbound> {
-    match place_named(&lookup.index, PlaceKind::Statement, claim.location) {
+/// Why a text is no expression over the names that a statement at a location sees.
+fn lack_at_statement(
+    alloc: Global,
+    lookup: &Lookup,
+    location: &Location,
+    text: &str,
+) -> Option<Unbound> {
+    match place_named(&lookup.index, PlaceKind::Statement, location) {
         None => Some(Unbound::NoPlace),
-        Some(spot) => {
-            expression_at(alloc, lookup, PlaceKind::Statement, spot, claim.expression).err()
-        }
+        Some(spot) => expression_at(alloc, lookup, PlaceKind::Statement, spot, text).err(),
     }
 }
 
-/// Why a text is no expression over the names that a loop sees.
-fn lack_at_loop(alloc: Global, lookup: &Lookup, claim: &Claim<'_, '_>) -> Option<Unbound> {
-    match place_named(&lookup.index, PlaceKind::Loop, claim.location) {
+/// Why a text is no expression over the names that a loop at a location sees.
+fn lack_at_loop(
+    alloc: Global,
+    lookup: &Lookup,
+    location: &Location,
+    text: &str,
+) -> Option<Unbound> {
+    match place_named(&lookup.index, PlaceKind::Loop, location) {
         None => Some(Unbound::NoPlace),
-        Some(spot) => expression_at(alloc, lookup, PlaceKind::Loop, spot, claim.expression).err(),
+        Some(spot) => expression_at(alloc, lookup, PlaceKind::Loop, spot, text).err(),
     }
 }
 
 /// Why a claim isn't bound. Tests of a call's value and ways of a branching aren't looked at.
 fn lack_of_claim(alloc: Global, lookup: &Lookup, claim: &Claim<'_, '_>) -> Option<Unbound> {
+    let location = claim.location;
+    let text = claim.expression;
     match claim.wanted {
-        Wanted::Place(PlaceKind::Statement) => lack_at_statement(alloc, lookup, claim),
-        Wanted::Place(PlaceKind::Loop) => lack_at_loop(alloc, lookup, claim),
+        Wanted::Place(PlaceKind::Statement) => lack_at_statement(alloc, lookup, location, text),
+        Wanted::Place(PlaceKind::Loop) => lack_at_loop(alloc, lookup, location, text),
         _ => {
-            let location = claim.location;
             if stands(&lookup.index, claim.wanted, location.line, location.column) {
                 None
             } else {

@@ -6,4 +6,4 @@ use Rattle.view_claims.proofs.faults.lack_at_statement.Goals as goal
 
 pub expression_at-requires : goal.expression_at-requires
 expression_at-requires c =
-    named_is_one (program_view c.args.lookup.now.index) Statement c.args.claim.now.location.now c.in-Some.spot (sym c.place_named.ensures ∙ c.in-Some.is)
+    named_is_one (program_view c.args.lookup.now.index) Statement c.args.location.now c.in-Some.spot (sym c.place_named.ensures ∙ c.in-Some.is)
