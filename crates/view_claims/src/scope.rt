@@ -137,11 +137,8 @@ fn explain_names(
     if let Some(found) = object_named(program, word, claim.location.line) {
         note_seen_from(alloc, index, found, word, out)?;
     }
-    out.note(
-        File::Program,
-        Some(spot),
-        visible_text(alloc, program, objects)?,
-    )?;
+    let told = visible_text(alloc, program, objects)?;
+    out.note(File::Program, Some(spot), told)?;
     let at = offset_of_word(claim.expression, word);
     note_expression(alloc, files, claim, at, out)
 }

@@ -65,16 +65,16 @@ fn explain_invariant(
 
 /// Claims in their order, of which those behind a number are looked at.
 #[derive(Drop)]
-struct Walk<'a> {
+struct Walk<'l, 'p> {
     alloc: Global,
-    lookup: &'a Lookup<'a>,
+    lookup: &'l Lookup<'p>,
     /// The number of the claim that is told by the reply.
     told: u32,
     number: u32,
     faults: Faults,
 }
 
-impl<'a> Walk<'a> {
+impl<'l, 'p> Walk<'l, 'p> {
     fn pass_waypoint(&mut self, waypoint: &Waypoint, is_follow: bool) -> Result<(), OutOfMemory> {
         self.number = self.number.saturating_add(1);
         if self.number <= self.told {
