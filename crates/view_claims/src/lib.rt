@@ -4,14 +4,20 @@
 #![tactic(auto)]
 
 mod binding;
+mod claim;
+mod errors;
+mod faults;
 mod few;
 mod names;
 mod nearest;
 mod obligations;
+mod scope;
+mod seen;
 mod unbound;
 mod verdict;
 mod violation;
 mod weeding;
+mod words;
 
 pub use obligations::note_obligation;
 pub use unbound::explain_unbound_invariant;

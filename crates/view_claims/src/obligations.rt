@@ -1,6 +1,6 @@
 // An obligation that fails: its invariant, its place, and the values of the havoc run that ends there, by the names of
 // their objects.
-use crate::binding::{claim_of_invariant, head};
+use crate::claim::{claim_of_invariant, head};
 use crate::names::name_of;
 use crate::weeding::note_weeding;
 use c_calls::changed;

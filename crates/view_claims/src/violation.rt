@@ -1,39 +1,17 @@
 // A violation sequence: a waypoint that isn't bound, or the given run.
-use crate::binding::{claim_of_waypoint, explain_claim, number_in};
 use crate::few::{bind, segments_of};
 use crate::nearest::line_count;
+use crate::unbound::explain_unbound_waypoints;
 use c_core::{Program, Spot};
 use c_meaning::{Choices, End, Run};
 use flow_machine::run_machine;
 use std::alloc::Global;
-use view_runs::{Tracker, explain_unmatched, note_unfixed, show_run, waypoint_at};
+use view_ends::{explain_ended, explain_unmatched, note_unfixed, show_run};
+use view_runs::Tracker;
 use view_text::{File, Files, Messages};
-use view_witness::waypoint_path;
-use way_bind::BindFault;
 use way_match::{Bound, Matcher, given};
 use wv_base::{OutOfMemory, Seq};
 use wv_schema::Witness;
-
-fn explain_unbound(
-    alloc: Global,
-    files: &Files<'_>,
-    program: &Program,
-    witness: &Witness,
-    fault: BindFault,
-    out: &mut Messages,
-) -> Result<(), OutOfMemory> {
-    let number = number_in(fault)?;
-    let Some(path) = waypoint_path(alloc, witness, number)? else {
-        return Ok(());
-    };
-    match waypoint_at(segments_of(witness), number) {
-        Some(found) => {
-            let claim = claim_of_waypoint(number, found, path.as_str());
-            explain_claim(alloc, files, program, fault, &claim, out)
-        }
-        None => Ok(()),
-    }
-}
 
 /// The line whose statements were begun most often, from 1, and how often.
 fn busiest(lines: &[u64]) -> (u32, u64) {
@@ -75,37 +53,6 @@ fn explain_deep(
         "over 1,000,000 cells would be live behind this statement: the violation needs fewer calls or smaller arrays",
     )?;
     out.warning("undecided", File::Program, tracker.last, told)
-}
-
-fn ended_text(alloc: Global, unfixed: u64) -> Result<String, OutOfMemory> {
-    if unfixed == 0 {
-        Ok(String::from_str(
-            alloc,
-            "the run that the witness gives ends without a violation: this is the last statement that it began; other values may violate the property",
-        )?)
-    } else {
-        Ok(format!(in alloc;
-            "the run that the witness gives ends without a violation: this is the last statement that it began; {unfixed} draws took 0 for want of a value"
-        )?)
-    }
-}
-
-fn explain_ended(
-    alloc: Global,
-    program: &Program,
-    judged: &Judged,
-    tracker: &Tracker<'_>,
-    out: &mut Messages,
-) -> Result<(), OutOfMemory> {
-    let told = ended_text(alloc, judged.run.unfixed)?;
-    out.warning("ended", File::Program, tracker.last, told)?;
-    note_unfixed(
-        alloc,
-        program,
-        &judged.choices,
-        judged.run.draws.as_slice(),
-        out,
-    )
 }
 
 fn explain_undefined(
@@ -196,7 +143,7 @@ fn explain_violated(
     }
     let tracker = tracked(alloc, files, program, bound, judged, steps)?;
     let draws = judged.run.draws.as_slice();
-    show_run(alloc, segments, draws, events_of(judged), tracker, out)
+    show_run(alloc, segments, draws, events_of(judged), &tracker, out)
 }
 
 /// A run that ends otherwise.
@@ -204,6 +151,7 @@ fn explain_end(
     alloc: Global,
     files: &Files<'_>,
     program: &Program,
+    witness: &Witness,
     bound: &Bound,
     judged: &Judged,
     steps: u64,
@@ -211,7 +159,15 @@ fn explain_end(
 ) -> Result<(), OutOfMemory> {
     let tracker = tracked(alloc, files, program, bound, judged, steps)?;
     match judged.run.end {
-        End::Ended => explain_ended(alloc, program, judged, &tracker, out),
+        End::Ended => explain_ended(
+            alloc,
+            program,
+            segments_of(witness),
+            &judged.choices,
+            &judged.run,
+            &tracker,
+            out,
+        ),
         End::Undefined(spot) => explain_undefined(alloc, program, judged, spot, out),
         End::Spent => explain_spent(alloc, &tracker, steps, out),
         End::Deep => explain_deep(alloc, &tracker, out),
@@ -234,7 +190,7 @@ fn explain_run(
         End::Violated(_) => explain_violated(
             alloc, files, program, witness, bound, &judged, steps, out,
         ),
-        _ => explain_end(alloc, files, program, bound, &judged, steps, out),
+        _ => explain_end(alloc, files, program, witness, bound, &judged, steps, out),
     }
 }
 
@@ -249,6 +205,6 @@ pub fn explain_sequence(
 ) -> Result<(), OutOfMemory> {
     match bind(alloc, witness, program) {
         Ok(bound) => explain_run(alloc, files, program, witness, &bound, steps, out),
-        Err(fault) => explain_unbound(alloc, files, program, witness, fault, out),
+        Err(fault) => explain_unbound_waypoints(alloc, files, program, witness, fault, out),
     }
 }

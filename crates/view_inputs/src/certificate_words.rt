@@ -24,7 +24,8 @@ fn part<'a>(arg: Arg<'a>, others: [&'a str; 2]) -> Result<Arg<'a>, AllocError> {
         .conflicts_with(first)?
         .conflicts_with(second)?
         .conflicts_with("sarif")?
-        .conflicts_with("html")?;
+        .conflicts_with("html")?
+        .conflicts_with("json")?;
     Ok(arg)
 }
 

@@ -4,6 +4,7 @@ use clap::builder::ValueParser;
 use clap::error::ErrorKind;
 use clap::{Arg, ArgAction, ArgMatches, Command};
 use std::alloc::{AllocError, Global};
+use view_text::printable_text;
 use wv_arguments::{Budgets, Names};
 use wv_base::OutOfMemory;
 
@@ -24,6 +25,8 @@ pub enum Form {
     Text,
     Sarif,
     Html,
+    /// One line of JSON.
+    Json,
 }
 
 /// What is handed out of a certificate, for other checkers.
@@ -64,7 +67,7 @@ pub enum Asked<'a> {
     },
     /// The help, as it is printed.
     Help(String),
-    /// What is wrong with the words.
+    /// What is wrong with the words, as it may be printed.
     Misuse(String),
 }
 
@@ -102,7 +105,8 @@ fn list<'a>(alloc: Global) -> Result<Arg<'a>, AllocError> {
         .conflicts_with("property")?
         .conflicts_with("witness")?
         .conflicts_with("sarif")?
-        .conflicts_with("html")?;
+        .conflicts_with("html")?
+        .conflicts_with("json")?;
     Ok(arg)
 }
 
@@ -125,9 +129,16 @@ fn with_files<'a>(alloc: Global, command: Command<'a>) -> Result<Command<'a>, Al
 }
 
 fn with_forms<'a>(alloc: Global, command: Command<'a>) -> Result<Command<'a>, AllocError> {
+    let json = flag(
+        alloc,
+        "json",
+        "sarif",
+        "Prints one line of JSON instead, with the reply and the messages",
+    )?;
     let command = command
         .arg(flag(alloc, "sarif", "html", "Prints a SARIF 2.1.0 log instead")?)?
-        .arg(flag(alloc, "html", "sarif", "Prints one page of HTML instead")?)?;
+        .arg(flag(alloc, "html", "sarif", "Prints one page of HTML instead")?)?
+        .arg(json.conflicts_with("html")?)?;
     Ok(command)
 }
 
@@ -176,6 +187,8 @@ fn wanted_form(matches: &ArgMatches<'_>) -> Form {
         Form::Sarif
     } else if matches.get_flag("html") {
         Form::Html
+    } else if matches.get_flag("json") {
+        Form::Json
     } else {
         Form::Text
     }
@@ -240,7 +253,10 @@ pub fn read_words(alloc: Global, words: &[String]) -> Result<Asked<'_>, OutOfMem
         Err(error) => match error.kind() {
             ErrorKind::OutOfMemory => Err(OutOfMemory),
             ErrorKind::DisplayHelp => Ok(Asked::Help(format!(in alloc; "{error}")?)),
-            _ => Ok(Asked::Misuse(format!(in alloc; "{error}")?)),
+            _ => {
+                let told = format!(in alloc; "{error}")?;
+                Ok(Asked::Misuse(printable_text(alloc, told.as_str())?))
+            }
         },
     }
 }

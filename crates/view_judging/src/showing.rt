@@ -3,7 +3,7 @@ use crate::replying::{Replied, replied_to};
 use std::alloc::Global;
 use view_certificate::explain_certificate;
 use view_inputs::{Form, Keeping};
-use view_pages::{log_of, page_of};
+use view_pages::{json_of, log_of, page_of};
 use view_program::explain;
 use view_text::{File, Files, Messages, advice, push_listing, push_message};
 use wv_arguments::{Budgets, Names};
@@ -116,6 +116,7 @@ fn printed(
     let reply = reply.as_str();
     let text = match form {
         Form::Html => page_of(alloc, files, reply, messages)?,
+        Form::Json => json_of(alloc, files, reply, replied.status, messages.as_slice())?,
         _ => log_of(alloc, files, reply, replied.status, messages.as_slice())?,
     };
     Ok(text.into_bytes())

@@ -36,9 +36,12 @@ fn is_plain(byte: u8) -> bool {
         || byte == b'/'
 }
 
-/// The name of a file as a relative reference (RFC 3986 2.1).
+/// The name of a file as a relative reference (RFC 3986 2.1). Two slashes at its front aren't read as a host (3.3).
 pub fn reference_to(alloc: Global, name: &str) -> Result<String, OutOfMemory> {
     let mut out = String::new(alloc);
+    if name.starts_with("//") {
+        out.push_str("/.")?;
+    }
     for byte in name.as_bytes() {
         if is_plain(*byte) {
             out.push(*byte as char)?;

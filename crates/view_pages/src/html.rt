@@ -3,7 +3,7 @@ use crate::escaped::push_html;
 use crate::page::{HEAD, TAIL};
 use c_core::Spot;
 use std::alloc::Global;
-use view_text::{File, Files, Message, Messages, by_line, parted_at};
+use view_text::{File, Files, Message, Messages, Reached, by_line, parted_at};
 use wv_base::OutOfMemory;
 
 /// What the anchors of a file's lines begin with; the property and a certificate aren't shown.
@@ -98,6 +98,16 @@ fn push_notes(
     Ok(())
 }
 
+/// How often a line was reached, in gcov's words.
+fn push_count(out: &mut String, reached: Reached) -> Result<(), OutOfMemory> {
+    match reached {
+        Reached::NoStatement => out.push_str("-")?,
+        Reached::Times(0) => out.push_str("#####")?,
+        Reached::Times(count) => write!(out, "{count}")?,
+    }
+    Ok(())
+}
+
 /// A line with its number and how often it was reached; a line that something is told of stands out.
 fn push_line(
     alloc: Global,
@@ -105,15 +115,12 @@ fn push_line(
     word: &str,
     line: &[u8],
     number: u32,
-    count: Option<&u64>,
+    reached: Reached,
     is_told: bool,
 ) -> Result<(), OutOfMemory> {
     let class = if is_told { " class=\"told\"" } else { "" };
     write!(out, "<tr{class} id=\"{word}-{number}\"><td>")?;
-    match count {
-        Some(count) if *count > 0 => write!(out, "{count}")?,
-        _ => out.push_str("-")?,
-    }
+    push_count(out, reached)?;
     write!(out, "</td><td>{number}</td><td>")?;
     push_html(alloc, out, line)?;
     out.push_str("</td></tr>\n")?;
@@ -134,7 +141,7 @@ fn push_lines(
     out: &mut String,
     files: &Files<'_>,
     file: File,
-    counts: &[u64],
+    counts: &[Reached],
     messages: &[Message],
 ) -> Result<(), OutOfMemory> {
     let places = by_line(alloc, messages, file)?;
@@ -142,11 +149,12 @@ fn push_lines(
     let mut later = places.as_slice();
     let mut number = 0u32;
     for line in without_last_end(files.text(file)).split(|byte| *byte == b'\n') {
-        let count = counts.get(number as usize);
+        let reached = counts.get(number as usize).copied();
+        let reached = reached.unwrap_or(Reached::NoStatement);
         number = number.saturating_add(1);
         let (here, behind) = parted_at(later, number);
         later = behind;
-        push_line(alloc, out, word, line, number, count, !here.is_empty())?;
+        push_line(alloc, out, word, line, number, reached, !here.is_empty())?;
         push_notes(alloc, out, here, messages)?;
     }
     Ok(())
@@ -158,7 +166,7 @@ fn push_file(
     out: &mut String,
     files: &Files<'_>,
     file: File,
-    counts: &[u64],
+    counts: &[Reached],
     messages: &[Message],
 ) -> Result<(), OutOfMemory> {
     out.push_str("<h2>")?;

@@ -1,12 +1,14 @@
-//! What is shown of a verdict as a document: SARIF 2.1.0 for editors and services, and one page of HTML. Names,
-//! programs and witnesses are hostile: in both they are text.
+//! What is shown of a verdict as a document: SARIF 2.1.0 for editors and services, one page of HTML, one line of JSON.
+//! Names, programs and witnesses are hostile: in each they are text.
 #![tactic(auto)]
 
 mod escaped;
 mod html;
+mod json_line;
 mod page;
 mod results;
 mod sarif_log;
 
 pub use html::page_of;
+pub use json_line::json_of;
 pub use sarif_log::log_of;

@@ -3,7 +3,7 @@ use crate::escaped::reference_to;
 use c_core::Spot;
 use serde_json::{Value, json};
 use std::alloc::Global;
-use view_text::{Files, Level, Message, line_of, push_printable};
+use view_text::{Files, Level, Message, advice, line_of, push_printable};
 use wv_base::OutOfMemory;
 
 /// The column of a place in characters, from 1: that of a message counts bytes.
@@ -35,7 +35,7 @@ fn place_value(alloc: Global, files: &Files<'_>, message: &Message) -> Result<Va
 }
 
 /// The text of a message, without hidden characters.
-fn text_of(alloc: Global, message: &Message) -> Result<String, OutOfMemory> {
+pub fn text_of(alloc: Global, message: &Message) -> Result<String, OutOfMemory> {
     let mut text = String::new(alloc);
     push_printable(alloc, &mut text, message.text.as_bytes())?;
     Ok(text)
@@ -52,6 +52,27 @@ fn related_value(
     Ok(json!(in alloc; { "message": { "text": text }, "physicalLocation": place })?)
 }
 
+fn is_same_place(a: Option<Spot>, b: Option<Spot>) -> bool {
+    match (a, b) {
+        (Some(a), Some(b)) => a.line == b.line && a.column == b.column,
+        (None, None) => true,
+        _ => false,
+    }
+}
+
+/// Whether a message says the same as one before it: no two related places of a result are equal (3.27.22).
+fn is_repeated(before: &[Message], message: &Message) -> bool {
+    for other in before {
+        if other.file == message.file
+            && is_same_place(other.spot, message.spot)
+            && other.text.as_str() == message.text.as_str()
+        {
+            return true;
+        }
+    }
+    false
+}
+
 /// The notes that stand directly behind a message.
 fn related_values(
     alloc: Global,
@@ -59,9 +80,12 @@ fn related_values(
     behind: &[Message],
 ) -> Result<Vec<Value>, OutOfMemory> {
     let mut values = Vec::new(alloc);
-    for message in behind {
+    for (at, message) in behind.iter().enumerate() {
         if message.level != Level::Note {
             break;
+        }
+        if is_repeated(behind.get(..at).unwrap_or(&[]), message) {
+            continue;
         }
         let value = related_value(alloc, files, message)?;
         serde_json::push(&mut values, value)?;
@@ -107,7 +131,17 @@ pub fn results_of(
     Ok(values)
 }
 
-/// The rules that results name (3.49).
+/// A rule, with what it says (3.49).
+fn rule_value(alloc: Global, code: &str) -> Result<Value, OutOfMemory> {
+    let rule = advice(code);
+    Ok(json!(in alloc; {
+        "help": { "text": rule },
+        "id": code,
+        "shortDescription": { "text": rule }
+    })?)
+}
+
+/// The rules that results name.
 pub fn rules_of(alloc: Global, messages: &[Message]) -> Result<Vec<Value>, OutOfMemory> {
     let mut values = Vec::new(alloc);
     let mut codes: Vec<&str> = Vec::new(alloc);
@@ -115,7 +149,7 @@ pub fn rules_of(alloc: Global, messages: &[Message]) -> Result<Vec<Value>, OutOf
         let code = message.code.as_str();
         if message.level != Level::Note && !codes.as_slice().contains(&code) {
             codes.push(code)?;
-            let value = json!(in alloc; { "id": code })?;
+            let value = rule_value(alloc, code)?;
             serde_json::push(&mut values, value)?;
         }
     }

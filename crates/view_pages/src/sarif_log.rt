@@ -21,6 +21,7 @@ pub fn log_of(
         "$schema": "https://json.schemastore.org/sarif-2.1.0.json",
         "runs": [{
             "columnKind": "unicodeCodePoints",
+            "invocations": [{ "executionSuccessful": true, "exitCode": status }],
             "properties": { "reply": reply, "status": status },
             "results": results,
             "tool": { "driver": { "name": "witval-view", "rules": rules } }

@@ -10,7 +10,7 @@ use std::alloc::Global;
 use view_claims::explain_sequence;
 use view_grammar::{Spelling, explain_syntax, explain_tokens, read_source, word_text};
 use view_text::{File, Files, Messages, advice};
-use view_witness::{explain_schema, explain_task, explain_yaml};
+use view_witness::{explain_schema, explain_task, explain_yaml, warn_of_unread};
 use wv_arguments::Budgets;
 use wv_base::OutOfMemory;
 use wv_schema::{Content, Entry, Witness, witness_of};
@@ -169,7 +169,10 @@ fn explain_tree(
     out: &mut Messages,
 ) -> Result<(), OutOfMemory> {
     match witness_of(alloc, tree) {
-        Ok(witness) => explain_witness(alloc, files, budgets, property, &witness, out),
+        Ok(witness) => {
+            warn_of_unread(alloc, files.text(File::Witness), tree, out)?;
+            explain_witness(alloc, files, budgets, property, &witness, out)
+        }
         Err(fault) => explain_schema(alloc, files.text(File::Witness), tree, &fault, out),
     }
 }

@@ -1,23 +1,23 @@
-//! A violation sequence along the run that it gives: how far the run passes its segments, which values it draws, how
-//! often it begins each line; and the words that messages have for waypoints, types, places and objects.
+//! A violation sequence along the run that it gives: how far the run passes its segments, what its constraints read at
+//! each coming, how often it begins each line; and the words that messages have for waypoints, types, places and
+//! objects.
 #![tactic(auto)]
 
-mod confirmed;
-mod draws;
+mod comings;
 mod passing;
 mod placed;
+mod reads;
 mod route;
 mod segments;
 mod spelled;
 mod tracker;
-mod unmatched;
 mod ways;
 
-pub use confirmed::show_run;
-pub use draws::note_unfixed;
-pub use segments::{Numbered, waypoint_at};
+pub use comings::{Avoided, Coming, Comings, Held, comings_text, values_text};
+pub use route::{Route, Waiting};
+pub use segments::{Numbered, number_in_segment, number_of_follow, waypoint_at};
 pub use spelled::{
-    declared_at, invariant_word, is_same_spot, place_text, spot_of, type_word, way_word,
+    declared_at, invariant_word, is_same_spot, place_text, spot_of, times_text, type_word,
+    way_word, waypoint_text,
 };
-pub use tracker::Tracker;
-pub use unmatched::explain_unmatched;
+pub use tracker::{Tracker, event_spot};

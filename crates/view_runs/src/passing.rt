@@ -93,7 +93,8 @@ fn meets_if(
     }
 }
 
-fn holds(program: &Program, test: &Expr, memory: &Memory) -> bool {
+/// Whether an expression has a value other than 0.
+pub fn holds(program: &Program, test: &Expr, memory: &Memory) -> bool {
     match value_in(program, test, memory) {
         Some(value) => value != 0,
         None => false,

@@ -77,13 +77,28 @@ impl<'a> Route<'a> {
         passes(self.alloc, &self.index, point, event, memory)
     }
 
-    fn is_avoided(&self, segment: &BoundSegment, event: Event, memory: &Memory) -> bool {
-        for point in segment.avoids.as_slice() {
+    /// The waypoint to avoid of a segment, by its number in it from 0, that an event passes.
+    pub fn avoided_at(
+        &self,
+        segment: &BoundSegment,
+        event: Event,
+        memory: &Memory,
+    ) -> Option<usize> {
+        for (number, point) in segment.avoids.as_slice().iter().enumerate() {
             if self.is_passed(point, event, memory) {
-                return true;
+                return Some(number);
             }
         }
-        false
+        None
+    }
+
+    /// The program, and the places of what witnesses name in it.
+    pub fn index(&self) -> &Index<'a> {
+        &self.index
+    }
+
+    pub fn program(&self) -> &'a Program {
+        self.index.program()
     }
 
     /// What comes of a way that waits for a segment, and whether it passes it.
@@ -101,7 +116,7 @@ impl<'a> Route<'a> {
         if is_at(&segment.follow, event) {
             after.visits = after.visits.saturating_add(1);
         }
-        if self.is_avoided(segment, event, memory) {
+        if self.avoided_at(segment, event, memory).is_some() {
             after.is_open = false;
             after.avoided = after.avoided.saturating_add(1);
             return (after, false);

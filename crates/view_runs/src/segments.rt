@@ -42,3 +42,10 @@ pub fn number_of_follow(segments: &[Segment], at: usize) -> u32 {
     }
     number
 }
+
+/// The number of a waypoint to avoid of a segment, which is counted from 0 in it; the waypoint to follow has the given
+/// number.
+pub fn number_in_segment(segment: &Segment, follow: u32, at: usize) -> u32 {
+    let behind = segment.avoids.len().saturating_sub(at);
+    follow.saturating_sub(u32::try_from(behind).unwrap_or(u32::MAX))
+}

@@ -70,6 +70,15 @@ pub fn waypoint_text(alloc: Global, waypoint: &Waypoint) -> Result<String, OutOf
     }
 }
 
+/// How often something was, in words.
+pub fn times_text(alloc: Global, count: u64) -> Result<String, OutOfMemory> {
+    match count {
+        1 => Ok(String::from_str(alloc, "once")?),
+        2 => Ok(String::from_str(alloc, "twice")?),
+        _ => Ok(format!(in alloc; "{count} times")?),
+    }
+}
+
 /// Whether two places are the same.
 pub fn is_same_spot(a: Spot, b: Spot) -> bool {
     a.line == b.line && a.column == b.column

@@ -1,10 +1,11 @@
 // What a run comes by: the lines whose statements it begins, and how far it passes the segments.
+use crate::comings::{Comings, Moment};
 use crate::route::{Route, Waiting};
 use crate::ways::Ways;
 use c_core::{Program, Spot};
 use c_meaning::{Event, Memory, Watcher};
 use std::alloc::Global;
-use way_match::Bound;
+use way_match::{Bound, BoundSegment};
 use wv_base::OutOfMemory;
 
 /// Sees the events of a run. It claims nothing: what it keeps is shown, and no verdict rests on it.
@@ -74,6 +75,21 @@ impl<'a> Tracker<'a> {
         self.ways.as_slice()
     }
 
+    /// What was seen of the waypoints of a segment, by its number from 0.
+    pub fn comings(&self, number: usize) -> Option<&Comings> {
+        self.ways.comings(number)
+    }
+
+    /// A segment as it is bound, by its number from 0.
+    pub fn segment(&self, number: usize) -> Option<&BoundSegment> {
+        self.route.behind(number).first()
+    }
+
+    /// The segments in the program that is run.
+    pub fn route(&self) -> &Route<'a> {
+        &self.route
+    }
+
     /// Keeps the place of an event that is wanted; two neighbours may be passed by one event.
     fn keep(&mut self, event: Event) -> Result<(), OutOfMemory> {
         let wanted = self.wanted;
@@ -108,13 +124,21 @@ impl<'a> Watcher for Tracker<'a> {
 
     fn see(&mut self, event: Event, memory: &Memory) -> Result<(), OutOfMemory> {
         self.keep(event)?;
+        let moment = Moment {
+            number: self.events,
+            event,
+            memory,
+        };
         self.events = self.events.saturating_add(1);
         match event {
             Event::At(spot) => self.count_line(spot),
             Event::Fail { .. } => self.violation = Some(event),
             _ => {}
         }
-        self.ways.pass(&self.route, event, memory);
+        self.ways.pass(&self.route, &moment)?;
+        if let Event::At(spot) = event {
+            self.ways.try_at(&self.route, spot, &moment);
+        }
         Ok(())
     }
 }

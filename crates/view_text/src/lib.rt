@@ -10,6 +10,7 @@ mod listing;
 mod message;
 mod noted;
 mod printed;
+mod reached;
 mod report;
 mod rules;
 
@@ -19,6 +20,7 @@ pub use lines::{line_of, offset_of, spot_at};
 pub use listing::push_listing;
 pub use message::{File, Level, Message, Messages};
 pub use noted::{by_line, parted_at};
-pub use printed::{push_caret, push_printable};
+pub use printed::{printable_text, push_caret, push_printable, shortened};
+pub use reached::Reached;
 pub use report::push_message;
 pub use rules::{advice, wanted_place};

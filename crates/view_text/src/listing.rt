@@ -1,9 +1,11 @@
-// A confirmation as gcov prints a run: each line of the program with how often it was reached, and the notes below
-// their lines.
+// A confirmation in the layout of gcov: each line of the program with how often its statements were begun, and the
+// notes below their lines.
 use crate::files::Files;
-use crate::message::{File, Message, Messages};
+use crate::message::{File, Level, Message, Messages};
 use crate::noted::{by_line, parted_at};
 use crate::printed::{push_caret, push_printable};
+use crate::reached::Reached;
+use crate::report::push_message;
 use c_core::Spot;
 use std::alloc::Global;
 use wv_base::OutOfMemory;
@@ -11,10 +13,12 @@ use wv_base::OutOfMemory;
 /// So many bytes of a line are shown.
 const WIDEST: usize = 240;
 
-fn push_count(out: &mut String, count: Option<&u64>) -> Result<(), OutOfMemory> {
-    match count {
-        Some(count) if *count > 0 => write!(out, "{count:9}:")?,
-        _ => out.push_str("        -:")?,
+/// How often a line was reached, in gcov's words.
+fn push_count(out: &mut String, reached: Reached) -> Result<(), OutOfMemory> {
+    match reached {
+        Reached::NoStatement => out.push_str("        -:")?,
+        Reached::Times(0) => out.push_str("    #####:")?,
+        Reached::Times(count) => write!(out, "{count:9}:")?,
     }
     Ok(())
 }
@@ -60,9 +64,9 @@ fn push_line(
     out: &mut String,
     line: &[u8],
     number: u32,
-    count: Option<&u64>,
+    reached: Reached,
 ) -> Result<(), OutOfMemory> {
-    push_count(out, count)?;
+    push_count(out, reached)?;
     write!(out, "{number:5}:")?;
     push_printable(alloc, out, line.get(..WIDEST).unwrap_or(line))?;
     out.push_str("\n")?;
@@ -77,24 +81,41 @@ fn without_last_end(text: &[u8]) -> &[u8] {
     }
 }
 
-/// Appends the program line by line, with counts and notes. A count of 0 is a dash, as that of a line without a
-/// statement.
+/// What a confirmation is warned of, as keys of the witness that aren't read.
+fn push_warnings(
+    alloc: Global,
+    out: &mut String,
+    files: &Files<'_>,
+    messages: &[Message],
+) -> Result<(), OutOfMemory> {
+    for message in messages {
+        if message.level != Level::Note {
+            push_message(alloc, out, files, message)?;
+        }
+    }
+    Ok(())
+}
+
+/// Appends warnings, and after them the program line by line, with counts and notes: `#####` where statements stand and
+/// none was begun, a dash where none stands.
 pub fn push_listing(
     alloc: Global,
     out: &mut String,
     files: &Files<'_>,
     messages: &Messages,
 ) -> Result<(), OutOfMemory> {
+    push_warnings(alloc, out, files, messages.as_slice())?;
     let counts = messages.counts().unwrap_or(&[]);
     let places = by_line(alloc, messages.as_slice(), File::Program)?;
     let mut later = places.as_slice();
     let mut number = 0u32;
     for line in without_last_end(files.text(File::Program)).split(|byte| *byte == b'\n') {
-        let count = counts.get(number as usize);
+        let reached = counts.get(number as usize).copied();
+        let reached = reached.unwrap_or(Reached::NoStatement);
         number = number.saturating_add(1);
         let (here, behind) = parted_at(later, number);
         later = behind;
-        push_line(alloc, out, line, number, count)?;
+        push_line(alloc, out, line, number, reached)?;
         push_notes(alloc, out, line, here, messages.as_slice())?;
     }
     Ok(())

@@ -1,3 +1,4 @@
+use crate::reached::Reached;
 use c_core::Spot;
 use std::alloc::Global;
 use wv_base::OutOfMemory;
@@ -46,7 +47,7 @@ pub struct Message {
 pub struct Messages {
     alloc: Global,
     list: Vec<Message>,
-    counts: Option<Vec<u64>>,
+    counts: Option<Vec<Reached>>,
 }
 
 impl Messages {
@@ -66,7 +67,7 @@ impl Messages {
 
     /// How often each line of the program was reached, from line 1; none where nothing is confirmed. Of a confirmation
     /// without a run there are no counts.
-    pub fn counts(&self) -> Option<&[u64]> {
+    pub fn counts(&self) -> Option<&[Reached]> {
         match &self.counts {
             Some(counts) => Some(counts.as_slice()),
             None => None,
@@ -74,7 +75,7 @@ impl Messages {
     }
 
     /// What is shown is a confirmation, with these counts.
-    pub fn confirm(&mut self, counts: Vec<u64>) {
+    pub fn confirm(&mut self, counts: Vec<Reached>) {
         self.counts = Some(counts);
     }
 

@@ -27,6 +27,22 @@ fn without_return(line: &[u8]) -> &[u8] {
     }
 }
 
+/// The bytes of a word or of a file's name that a message shows at most.
+const LONGEST: usize = 80;
+
+/// The front of a long text, without a part of a character.
+pub fn shortened(text: &str) -> &str {
+    if text.len() <= LONGEST {
+        return text;
+    }
+    for back in 0..4 {
+        if let Some(front) = text.get(..LONGEST.saturating_sub(back)) {
+            return front;
+        }
+    }
+    ""
+}
+
 /// Appends bytes as one line of text: a tab stays, a carriage return at the end isn't shown, and what isn't printable
 /// or no UTF-8 is U+FFFD.
 pub fn push_printable(alloc: Global, out: &mut String, bytes: &[u8]) -> Result<(), OutOfMemory> {
@@ -35,6 +51,15 @@ pub fn push_printable(alloc: Global, out: &mut String, bytes: &[u8]) -> Result<(
         out.push(printable(c))?;
     }
     Ok(())
+}
+
+/// A text of several lines as it may be printed: the ends of its lines stay.
+pub fn printable_text(alloc: Global, text: &str) -> Result<String, OutOfMemory> {
+    let mut out = String::new(alloc);
+    for c in text.chars() {
+        out.push(if c == '\n' { c } else { printable(c) })?;
+    }
+    Ok(out)
 }
 
 /// Appends blanks for these bytes, and tabs for their tabs, and then a caret.

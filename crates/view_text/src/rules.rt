@@ -47,6 +47,15 @@ pub fn advice(code: &str) -> &'static str {
         "recursion" =>
             "main reaches a cycle of calls, on which this function lies: invariants are judged of programs without recursion",
         "weight" => "the obligations are too big as a circuit",
+        "unknown-key" => "this key isn't read: the format doesn't have it in this map",
+        "file-name" => "a location is in the file that the witness is about",
+        "ended" => "the run that the witness gives ends without a violation of the property",
+        "undefined" =>
+            "the run that the witness gives comes to undefined behaviour before it violates the property",
+        "unmatched" =>
+            "the run that the witness gives violates the property, but doesn't pass its segments in their order",
+        "undecided" => "a budget is spent: larger ones (--steps, --conflicts) may decide",
+        "obligation" => "an obligation of the invariants fails, with the values that are shown",
         _ => "this release doesn't judge this form",
     }
 }

@@ -1,6 +1,9 @@
 // What is wrong in a witness that can't be read, or doesn't meet the schema.
+use crate::formats::{GRAPHML, is_graphml, other_format, version_rule};
 use crate::paths::{Step, place_of_path, reached, steps_of};
+use crate::shape::explain_shape;
 use crate::stopping::{first_bad, is_cut, repeated_at, stopped_at};
+use crate::warned::warn_of_unread;
 use c_core::Spot;
 use std::alloc::Global;
 use view_text::{File, Messages, advice, spot_at};
@@ -50,6 +53,22 @@ fn unread(alloc: Global, text: &[u8], fault: YamlFault) -> Result<Shown, OutOfMe
     }
 }
 
+/// A document of XML, whose bytes spell no tree that is a witness.
+fn explain_graphml(alloc: Global, code: &str, out: &mut Messages) -> Result<(), OutOfMemory> {
+    let spot = Spot { line: 1, column: 1 };
+    let told = String::from_str(alloc, GRAPHML)?;
+    out.error(code, File::Witness, Some(spot), told)
+}
+
+/// The code of a text that spells no tree; `yaml-grammar` where memory ran out.
+fn yaml_code(fault: YamlFault) -> &'static str {
+    match fault {
+        YamlFault::Bytes => "yaml-bytes",
+        YamlFault::Duplicate => "yaml-duplicate",
+        YamlFault::Grammar | YamlFault::OutOfMemory => "yaml-grammar",
+    }
+}
+
 /// A witness whose bytes spell no tree.
 pub fn explain_yaml(
     alloc: Global,
@@ -57,6 +76,9 @@ pub fn explain_yaml(
     fault: YamlFault,
     out: &mut Messages,
 ) -> Result<(), OutOfMemory> {
+    if is_graphml(text) {
+        return explain_graphml(alloc, yaml_code(fault), out);
+    }
     let shown = unread(alloc, text, fault)?;
     let told = String::from_str(alloc, shown.rule)?;
     out.error(shown.code, File::Witness, Some(shown.spot), told)
@@ -128,6 +150,9 @@ fn wrong_kind(
         steps_of(alloc, path)?
     };
     let spot = place_of_path(alloc, text, steps.as_slice())?;
+    if path == "witness" && is_graphml(text) {
+        return explain_graphml(alloc, "schema-kind", out);
+    }
     let kind = kind_at(path);
     let told = format!(in alloc; "{path} has a value of another kind: {kind} has to stand here")?;
     out.error("schema-kind", File::Witness, Some(spot), told)
@@ -152,7 +177,8 @@ fn bad_value(
     let spot = place_of_path(alloc, text, steps.as_slice())?;
     let stands = text_at(tree, steps.as_slice());
     let may = allowed(path);
-    let told = format!(in alloc; "{path} is `{stands}`: may be {may}")?;
+    let of = other_format(stands);
+    let told = format!(in alloc; "{path} is `{stands}`{of}: may be {may}")?;
     out.error("schema-value", File::Witness, Some(spot), told)
 }
 
@@ -178,7 +204,8 @@ fn version(alloc: Global, text: &[u8], tree: &Tree, out: &mut Messages) -> Resul
     ];
     let spot = place_of_path(alloc, text, &steps)?;
     let stands = text_at(tree, &steps);
-    let told = format!(in alloc; "the version of the format is `{stands}`: it has to be \"2.0\"")?;
+    let rule = version_rule(stands);
+    let told = format!(in alloc; "the version of the format is `{stands}`: {rule}")?;
     out.error("schema-version", File::Witness, Some(spot), told)
 }
 
@@ -195,26 +222,8 @@ fn first_sequence(tree: &Tree) -> usize {
     0
 }
 
-fn shape(
-    alloc: Global,
-    text: &[u8],
-    tree: &Tree,
-    number: u32,
-    out: &mut Messages,
-) -> Result<(), OutOfMemory> {
-    let steps = [
-        Step::Item(first_sequence(tree)),
-        Step::Key("content"),
-        Step::Item((number as usize).saturating_sub(1)),
-    ];
-    let spot = place_of_path(alloc, text, &steps)?;
-    let rule = advice("schema-shape");
-    let told = format!(in alloc; "segment {number}: {rule}")?;
-    out.error("schema-shape", File::Witness, Some(spot), told)
-}
-
-/// A tree that is no witness: the path, its place, and what may stand there.
-pub fn explain_schema(
+/// What there is to say of a fault of the schema.
+fn explain_fault(
     alloc: Global,
     text: &[u8],
     tree: &Tree,
@@ -226,7 +235,9 @@ pub fn explain_schema(
         SchemaFault::WrongKind(path) => wrong_kind(alloc, text, path.as_str(), out),
         SchemaFault::BadValue(path) => bad_value(alloc, text, tree, path.as_str(), out),
         SchemaFault::Version => version(alloc, text, tree, out),
-        SchemaFault::Shape(number) => shape(alloc, text, tree, *number, out),
+        SchemaFault::Shape(number) => {
+            explain_shape(alloc, text, tree, first_sequence(tree), *number, out)
+        }
         SchemaFault::Entries => {
             let spot = Spot { line: 1, column: 1 };
             let told = String::from_str(alloc, advice("schema-entries"))?;
@@ -234,4 +245,16 @@ pub fn explain_schema(
         }
         SchemaFault::OutOfMemory => Err(OutOfMemory),
     }
+}
+
+/// A tree that is no witness: the path, its place, and what may stand there; and the keys that aren't read.
+pub fn explain_schema(
+    alloc: Global,
+    text: &[u8],
+    tree: &Tree,
+    fault: &SchemaFault,
+    out: &mut Messages,
+) -> Result<(), OutOfMemory> {
+    explain_fault(alloc, text, tree, fault, out)?;
+    warn_of_unread(alloc, text, tree, out)
 }

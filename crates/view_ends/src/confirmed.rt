@@ -1,11 +1,11 @@
 // A run that is confirmed: how often each line was reached, the values that were drawn, the event that passes each
 // segment.
-use crate::spelled::{type_word, waypoint_text};
-use crate::tracker::Tracker;
-use c_core::Spot;
+use c_core::{Place, PlaceKind, Spot};
 use c_meaning::{Draw, DrawKind};
 use std::alloc::Global;
-use view_text::{File, Messages};
+use view_runs::{Tracker, type_word, waypoint_text};
+use view_text::{File, Messages, Reached};
+use way_places::places;
 use wv_base::OutOfMemory;
 use wv_schema::Segment;
 
@@ -75,9 +75,37 @@ fn note_segments(
     Ok(())
 }
 
-/// How often each line was reached.
-fn lines_of(tracker: Tracker<'_>) -> Vec<u64> {
-    tracker.lines
+/// A line on which a statement stands has a count, if only 0.
+fn mark_statement(lines: &mut Vec<Reached>, place: Place) {
+    let at = (place.spot.line as usize).saturating_sub(1);
+    let Some(line) = lines.get_mut(at) else {
+        return;
+    };
+    if matches!(place.kind, PlaceKind::Statement) && *line == Reached::NoStatement {
+        *line = Reached::Times(0);
+    }
+}
+
+/// How often each line was reached, where it was.
+fn begun_lines(alloc: Global, counts: &[u64]) -> Result<Vec<Reached>, OutOfMemory> {
+    let mut lines = Vec::new(alloc);
+    for count in counts {
+        lines.push(match *count {
+            0 => Reached::NoStatement,
+            count => Reached::Times(count),
+        })?;
+    }
+    Ok(lines)
+}
+
+/// How often each line of the program was reached.
+fn lines_of(alloc: Global, tracker: &Tracker<'_>) -> Result<Vec<Reached>, OutOfMemory> {
+    let mut lines = begun_lines(alloc, tracker.lines.as_slice())?;
+    let places = places(alloc, tracker.route().program())?;
+    for place in places.as_slice() {
+        mark_statement(&mut lines, *place);
+    }
+    Ok(lines)
 }
 
 /// A run that violates the property as the witness says.
@@ -86,11 +114,11 @@ pub fn show_run(
     segments: &[Segment],
     draws: &[Draw],
     positions: &[u64],
-    tracker: Tracker<'_>,
+    tracker: &Tracker<'_>,
     out: &mut Messages,
 ) -> Result<(), OutOfMemory> {
     note_draws(alloc, draws, out)?;
     note_segments(alloc, segments, positions, tracker.found.as_slice(), out)?;
-    out.confirm(lines_of(tracker));
+    out.confirm(lines_of(alloc, tracker)?);
     Ok(())
 }
