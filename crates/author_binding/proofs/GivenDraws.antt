@@ -20,7 +20,7 @@ use Rattle.c_meaning.specs.declared.run.Given.{Given as GivenAt}
 use Rattle.way_match.specs.Given.{given_by_follow, given_by_return, input_calls, value_if_at, values_at}
 use Rattle.way_match.specs.Points.{BoundSegment, ReturnTest}
 use Rattle.author_runs.specs.Giving.{GivesDraws, HasInputAt, input_values_at, is_input, is_input_at, values_given_at}
-use Rattle.author_runs.specs.Returning.{CameBack, drawn_by, drawn_to, end_from, end_of_input, ends_by, has_end, inputs_in}
+use Rattle.author_runs.specs.Returning.{CameBack, came_of, drawn_to, end_from, end_of_input, ends_by, has_end, inputs_in}
 use Rattle.author_runs.proofs.OneCall.{same_place}
 use Rattle.author_binding.specs.ConstantTests.{IsEqualTo}
 use Rattle.author_binding.specs.Followed.{FollowEach, FollowsReturn}
@@ -61,7 +61,7 @@ module _ (p : Program) (spot : Spot) where
 
   of_kind : (kind : DrawKind) (d : Draw) (ds : List Draw) → ends_by kind (end_of_input p d.spot) ≡ true
       → values_of (drawn_here ds) ≡ values_back (inputs_in p ds)
-      → values_of (cond (is_input kind && same_spot d.spot spot) (d ∷ drawn_here ds) (drawn_here ds)) ≡ values_back (cons_option (drawn_by p kind d) (inputs_in p ds))
+      → values_of (cond (is_input kind && same_spot d.spot spot) (d ∷ drawn_here ds) (drawn_here ds)) ≡ values_back (cons_option (came_of p kind d) (inputs_in p ds))
   of_kind Input d ds ends h = input_draw d ds (end_of_input p d.spot) ends h
   of_kind Cell d ds ends h = h
   of_kind Havoc d ds ends h = h

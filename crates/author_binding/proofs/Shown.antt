@@ -26,7 +26,7 @@ use Rattle.way_match.specs.Matching.{Finds, Matches, Seen, seen_of}
 use Rattle.way_match.specs.Points.{BoundSegment}
 use Rattle.way_match.specs.Verdicts.{IsRightAt, verdict_at}
 use Rattle.author_runs.specs.Giving.{IsSameRun, OthersDrewZero}
-use Rattle.author_runs.specs.Returning.{CameBack, FailsLast, InputsComeBack, back_by, back_in, drawn_by, drawn_to, end_of_input, inputs_in, returns_in}
+use Rattle.author_runs.specs.Returning.{CameBack, FailsLast, InputsComeBack, back_by, back_in, came_of, drawn_to, end_of_input, inputs_in, returns_in}
 use Rattle.author_runs.proofs.ByPlace.{given_by_place}
 use Rattle.author_binding.specs.Followed.{FollowEach}
 use Rattle.author_binding.specs.Shown.{ConfirmsDraws, ShowsRun}
@@ -65,7 +65,7 @@ module _ (p : Program) where
   fits_drawn d bs (Some close) fit bits h = (fit, bits, h)
 
   fits_kind : (kind : DrawKind) (d : Draw) (bs : List CameBack) → IsFitting p.model d → IsIn64Bits d.value
-      → FitTypes p bs → FitTypes p (cons_option (drawn_by p kind d) bs)
+      → FitTypes p bs → FitTypes p (cons_option (came_of p kind d) bs)
   fits_kind Input d bs fit bits h = fits_drawn d bs (end_of_input p d.spot) fit bits h
   fits_kind Cell d bs fit bits h = h
   fits_kind Havoc d bs fit bits h = h

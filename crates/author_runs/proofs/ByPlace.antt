@@ -11,7 +11,7 @@ use Rattle.c_core.specs.declared.number.Spot.{Spot}
 use Rattle.c_core.proofs.Fits.{fit_kept}
 use Rattle.c_core.proofs.TextOrderLaws.{left, right, same_spot-self}
 use Rattle.c_meaning.specs.Drawn.{IsFitting}
-use Rattle.c_meaning.specs.Objects.{same_spot}
+use Rattle.c_core.specs.Parts.{same_spot}
 use Rattle.c_meaning.specs.Replay.{values_of}
 use Rattle.c_meaning.specs.Run.{Run, first_value, other_values, given_at, given_after, or_zero, one_if_none}
 use Rattle.c_meaning.specs.declared.run.Choices.{Choices}

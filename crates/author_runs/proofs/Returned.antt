@@ -19,7 +19,7 @@ use Rattle.c_meaning.specs.declared.run.Event.TheVariants.{At, Branch, Enter, Re
 use Rattle.c_meaning.specs.Acts.{Res, Go, Stop, Flow}
 use Rattle.c_meaning.specs.Cells.{Cell}
 use Rattle.c_meaning.specs.Run.{State, Moment, Told, Here, Head, Whole, state_of}
-use Rattle.author_runs.specs.Returning.{CameBack, InputsComeBack, back_at, back_in, drawn_by, drawn_to, has_end, inputs_in, returns_in}
+use Rattle.author_runs.specs.Returning.{CameBack, InputsComeBack, back_at, back_in, came_of, drawn_to, has_end, inputs_in, returns_in}
 use Rattle.author_runs.proofs.Bodies.{In, bodies}
 use Rattle.author_runs.proofs.Known.{Ends}
 use Rattle.author_runs.proofs.Runs as runs
@@ -36,8 +36,8 @@ module _ (p : Program) where
   one_more m xs = ap (returns_in p) (reverse-append (m ∷ []) xs) ∙ filter_map-append (back_in p) (reverse xs) (m ∷ [])
 
   one_drawn : (d : Draw) (ds : List Draw)
-      → inputs_in p (ds ++ d ∷ []) ≡ inputs_in p ds ++ cons_option (drawn_by p d.from d) []
-  one_drawn d ds = filter_map-append (λ d. drawn_by p d.from d) ds (d ∷ [])
+      → inputs_in p (ds ++ d ∷ []) ≡ inputs_in p ds ++ cons_option (came_of p d.from d) []
+  one_drawn d ds = filter_map-append (λ d. came_of p d.from d) ds (d ∷ [])
 
   still_ended : (d : Draw) (ds : List Draw) → has_end p d ≡ true → list_all (has_end p) ds ≡ true
       → list_all (has_end p) (ds ++ d ∷ []) ≡ true
@@ -80,7 +80,7 @@ module _ (p : Program) where
       let d : Draw = record { spot = spot; ty = ty; value = v; from = Input } in
       let came : CameBack = record { close = close; call = record { spot = spot; ty = ty }; value = v } in
       let back : back_in p (Told (Return close (Some v)) cs) ≡ Some came = ap (back_at close v) ends.0 in
-      let drawn : drawn_by p Input d ≡ Some came = ap (drawn_to d) ends.1 in record {
+      let drawn : came_of p Input d ≡ Some came = ap (drawn_to d) ends.1 in record {
         returned =
             one_more (Told (Return close (Some v)) cs) xs ∙ ap (λ o. returns_in p (reverse xs) ++ cons_option o []) back
             ∙ ap (λ l. l ++ came ∷ []) h.returned

@@ -71,13 +71,13 @@ drawn_to d None = None
 drawn_to d (Some close) = Some (record { close = close; call = record { spot = d.spot; ty = d.ty }; value = d.value })
 
 -- what a draw comes back as, if it is an input
-abbrev pub drawn_by : Program → DrawKind → Draw → Option CameBack
-drawn_by p Input d = drawn_to d (end_of_input p d.spot)
-drawn_by p _ d = None
+abbrev pub came_of : Program → DrawKind → Draw → Option CameBack
+came_of p Input d = drawn_to d (end_of_input p d.spot)
+came_of p _ d = None
 
 -- the inputs among draws, in their order
 abbrev pub inputs_in : Program → List Draw → List CameBack
-inputs_in p ds = filter_map (λ d. drawn_by p d.from d) ds
+inputs_in p ds = filter_map (λ d. came_of p d.from d) ds
 
 -- there is an end, if it is an input's
 abbrev pub ends_by : DrawKind → Option Spot → Bool

@@ -3,7 +3,8 @@ use Rattle.std.proofs.Common.{◌≡◌, ℕ, ◌<◌, Bool, true, false, cond, 
 use Rattle.std.specs.Prelude.{IsTrue}
 use Rattle.std.proofs.lemmas.Bool.{false_from_ne_true}
 use Rattle.c_core.specs.Tree.{Exp, Form, While, DoWhile, For, Program}
-use Rattle.c_meaning.specs.Changed.{body_of, called_from, changed_by, fulls_of_loop, is_fixed, is_fixed_in}
+use Rattle.c_meaning.specs.Changed.{body_of, called_from, changed_by, fulls_of_loop}
+use Rattle.c_core.specs.Scope.{is_fixed, is_fixed_object}
 use Rattle.c_meaning.specs.Meaning.{Loop, WhileLoop, DoLoop, ForLoop}
 use Rattle.c_meaning.specs.Parts.{some_of, some_node, those, is_in, changes, declared_in, fulls_of_function, object_numbers, numbers_from}
 use Rattle.c_core.specs.declared.tree.Object.{Object}
@@ -103,5 +104,5 @@ one_more_picked q n b e =
     ap (λ t. those q (numbers_from 0 n) ++ cond t (n ∷ []) []) e ∙ sym (those_append q (numbers_from 0 n) n)
     ∙ sym (ap (those q) (one_number_more 0 n ∙ (let f : 0 + n ≡ n = omega arith in ap (λ k. numbers_from 0 n ++ k ∷ []) f)))
 
-pub fixed_at : (os : List Object) (n : ℕ) (o : Object) → n < length os → o ≡ get_or os n o → is_fixed_in (slice_get os n) ≡ o.fixed
-fixed_at os n o inside at = ap is_fixed_in (slice_get_read os (length os) n o refl inside at)
+pub fixed_at : (os : List Object) (n : ℕ) (o : Object) → n < length os → o ≡ get_or os n o → is_fixed_object (slice_get os n) ≡ o.fixed
+fixed_at os n o inside at = ap is_fixed_object (slice_get_read os (length os) n o refl inside at)

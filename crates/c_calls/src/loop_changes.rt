@@ -1,7 +1,7 @@
 // What a loop changes.
 ghost use Rattle.std.specs.Prelude.{◌≡◌, ◌≤◌, length, IfOk, OnOk};
 ghost use Rattle.c_core.specs.View.{form_view, program_view};
-ghost use Rattle.c_meaning.specs.Changed.{is_fixed};
+ghost use Rattle.c_core.specs.Scope.{is_fixed};
 ghost use Rattle.c_meaning.specs.Parts.{some_of, is_in, those, object_numbers};
 ghost use Rattle.c_calls.specs.Loops.{loop_of, loop_at, changed_if, declared_in_loop};
 ghost use Rattle.c_calls.specs.Marks.{AreMarked, IsMarked, is_changed};

@@ -1,10 +1,11 @@
--- What is listed of the arms of a switch and of functions, and that what is listed is drawn.
-use Rattle.std.proofs.Common.{◌≡◌, ℕ, zero, suc, ◌+◌, ◌<◌, List, [], ◌∷◌, ◌++◌, Option, Some, None, length, drop, get_or, slice_get, refl, sym, ap, ◌∙◌, arith, eq-eqb}
+-- What is listed of the arms of a switch and of functions, and that this is what is drawn.
+use Rattle.std.proofs.Common.{◌≡◌, ℕ, zero, suc, ◌+◌, ◌<◌, List, [], ◌∷◌, ◌++◌, Option, Some, None, length, drop, get_or, nat_eq, slice_get, refl, sym, ap, ◌∙◌, subst, ⊎_elim, arith, eq-eqb, true, true≢false}
 use Rattle.std.specs.Prelude.{IsTrue}
-use Rattle.std.specs.List.{All, Contains, flat_map}
+use Rattle.std.specs.List.{Contains, flat_map}
 use Rattle.std.specs.Option.{option_map}
-use Rattle.std.proofs.lemmas.Bool.{or_left, or_right}
-use Rattle.std.proofs.lemmas.List.Elements.{All-nil, All-append, All-weaker, All-contains_itself}
+use Rattle.std.proofs.lemmas.Bool.{or_cases, or_left, or_right}
+use Rattle.std.proofs.lemmas.Bool.Decides.{nat_tests}
+use Rattle.std.proofs.lemmas.List.Elements.{Contains-append_cases, Contains-append_left, Contains-append_right}
 use Rattle.c_core.specs.Tree.{Program}
 use Rattle.c_core.specs.TreeView.{function_view, functions_view, stmt_view, stmts_view, switch_view}
 use Rattle.c_core.specs.declared.tree.Arm.{Arm, out-Arm}
@@ -29,23 +30,21 @@ no_body p fs i e = ap (λ o. draws_if p (option_map function_view o)) e ∙ sym 
 pub body_of : (p : Program) (fs : List Function) (i : ℕ) (f : Function) → Some f ≡ slice_get fs i → draws_of_statement p (stmt_view f.body) ≡ draws_if p (slice_get (functions_view fs) i)
 body_of p fs i f e = ap (λ o. draws_if p (option_map function_view o)) e ∙ sym (ap (draws_if p) (function_seen fs i))
 
-some_same : {A : Type 0} (a b : A) → Some a ≡ Some b → a ≡ b
-some_same a b e = cc
+-- each place that one of these functions draws at is drawn
+pub all_drawn : (p : Program) (fs : List ℕ) → ((f : ℕ) → IsTrue (is_in f fs) → IsReached p f) → (x : DrawPlace) → Contains (flat_map (draws_of_function p) fs) x → IsDrawn p x
+all_drawn p [] h x there = absurd (omega (arith, there.1))
+all_drawn p (f ∷ fs) h x there =
+    ⊎_elim (λ here. record { function = f; reached = h f (or_left _ _ (eq-eqb f f refl)); there = here })
+    (λ later. all_drawn p fs (λ g m. h g (or_right _ _ m)) x later)
+    (Contains-append_cases (draws_of_function p f) (flat_map (draws_of_function p) fs) x there)
 
-none_is_some : {A : Type 0} {B : Type 0} {a : A} → Some a ≡ None → B
-none_is_some e = cc
+same_number : (a b : ℕ) → nat_eq a b ≡ true → a ≡ b
+same_number a b h = grind (arith, nat_tests)
 
--- what is read at an index is one of the list
-pub contained : {A : Type 0} (xs : List A) (i : ℕ) (f x : A) → Some f ≡ slice_get xs i → f ≡ x → Contains xs x
-contained [] i f x s e = none_is_some s
-contained (y ∷ ys) zero f x s e = (0, omega arith, sym (some_same f y s) ∙ e)
-contained (y ∷ ys) (suc i) f x s e = let r = contained ys i f x s e in (suc r.0, omega (arith, r.1), r.2)
-
--- all that reached functions draw is drawn
-pub all_drawn : (p : Program) (fs : List ℕ) → ((f : ℕ) → IsTrue (is_in f fs) → IsReached p f) → All (IsDrawn p) (flat_map (draws_of_function p) fs)
-all_drawn p [] h = All-nil (IsDrawn p)
-all_drawn p (f ∷ fs) h =
-    let here = h f (or_left _ _ (eq-eqb f f refl)) in
-    All-append (IsDrawn p) (draws_of_function p f) (flat_map (draws_of_function p) fs)
-    (All-weaker (Contains (draws_of_function p f)) (IsDrawn p) (λ x there. record { function = f; reached = here; there = there }) (draws_of_function p f) (All-contains_itself (draws_of_function p f)))
-    (all_drawn p fs (λ g m. h g (or_right _ _ m)))
+-- where one of these functions draws is listed
+pub all_listed : (p : Program) (fs : List ℕ) (f : ℕ) (x : DrawPlace) → IsTrue (is_in f fs) → Contains (draws_of_function p f) x → Contains (flat_map (draws_of_function p) fs) x
+all_listed p [] f x m there = absurd (true≢false (sym m))
+all_listed p (g ∷ fs) f x m there =
+    ⊎_elim (λ same. Contains-append_left (draws_of_function p g) _ x (subst (λ k. Contains (draws_of_function p k) x) (same_number f g same) there))
+    (λ later. Contains-append_right (draws_of_function p g) _ x (all_listed p fs f x later there))
+    (or_cases (nat_eq f g) (is_in f fs) m)

@@ -8,7 +8,7 @@ use Rattle.c_core.specs.declared.tree.Callee.{Callee}
 use Rattle.c_core.specs.declared.tree.Callee.TheVariants.{Input}
 use Rattle.c_calls.specs.Calling.{IsReached}
 use Rattle.c_calls.specs.Loops.{loop_of, changed_if}
-use Rattle.c_meaning.specs.Changed.{is_fixed}
+use Rattle.c_core.specs.Scope.{is_fixed}
 use Rattle.c_meaning.specs.Objects.{type_of_object}
 use Rattle.c_meaning.specs.declared.run.DrawKind.{DrawKind}
 use Rattle.c_meaning.specs.declared.run.DrawKind.TheVariants.{Input as AnInput, Cell as ACell, Havoc as AChange}

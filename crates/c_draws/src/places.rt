@@ -1,5 +1,5 @@
 // Places at which a program draws.
-ghost use Rattle.std.specs.Prelude.{◌≡◌, ◌≤◌, IsTrue};
+ghost use Rattle.std.specs.Prelude.{◌≡◌, ◌≤◌, ◌↔◌, IsTrue};
 ghost use Rattle.std.specs.List.{Contains};
 ghost use Rattle.std.specs.List.Sorted.{IsPermutation};
 
@@ -51,12 +51,6 @@ fn is_before(a: &DrawPlace, b: &DrawPlace) -> bool {
     a.spot.line < b.spot.line || (a.spot.line == b.spot.line && column)
 }
 
-fn is_same(a: &DrawPlace, b: DrawPlace) -> bool
-    ensures { IsTrue result → a.now ≡ b }
-{
-    *a == b
-}
-
 /// Puts places in order.
 pub fn sort(list: &mut Vec<DrawPlace>) -> Result<(), OutOfMemory>
     ensures { IsPermutation list.old.items list.new.items }
@@ -65,14 +59,32 @@ pub fn sort(list: &mut Vec<DrawPlace>) -> Result<(), OutOfMemory>
     Ok(())
 }
 
-/// Whether a place is one of these, which are in order. The order saves time; that a place which is found is there
-/// rests on no order.
+fn is_same(a: &DrawPlace, b: DrawPlace) -> bool
+    ensures { IsTrue result ↔ (a.now ≡ b) }
+{
+    *a == b
+}
+
+// In whatever order they are.
+fn is_among(places: &[DrawPlace], place: DrawPlace) -> bool
+    ensures { IsTrue result ↔ Contains places.now place }
+{
+    for other in places {
+        if is_same(other, place) {
+            return true;
+        }
+    }
+    false
+}
+
+/// Whether a place is one of these. It is quick where they are in order and the place is found; the answer rests on no
+/// order.
 pub fn is_listed(places: &[DrawPlace], place: DrawPlace) -> bool
-    ensures { IsTrue result → Contains places.now place }
+    ensures { IsTrue result ↔ Contains places.now place }
 {
     let at = places.partition_point(|x| is_before(x, &place));
     match places.get(at) {
-        Some(found) => is_same(found, place),
-        None => false,
+        Some(found) if is_same(found, place) => true,
+        _ => is_among(places, place),
     }
 }

@@ -1,6 +1,6 @@
 // The places at which a program draws.
-ghost use Rattle.std.specs.Prelude.{◌≡◌, ◌++◌, OnOk, IfOk};
-ghost use Rattle.std.specs.List.{All, flat_map};
+ghost use Rattle.std.specs.Prelude.{◌≡◌, ◌++◌, ◌↔◌, OnOk, IfOk};
+ghost use Rattle.std.specs.List.{Contains, flat_map};
 ghost use Rattle.c_core.specs.View.{program_view};
 ghost use Rattle.c_draws.specs.Drawing.{draws_of_function, IsDrawn};
 
@@ -41,9 +41,9 @@ fn push_functions(
     Ok(())
 }
 
-/// The places at which main and the functions that it reaches draw, in order.
+/// Exactly the places at which main and the functions that it reaches draw, in order.
 pub fn draws(alloc: Global, program: &Program) -> Result<Vec<DrawPlace>, OutOfMemory>
-    ensures { IfOk result (λ list. All (IsDrawn (program_view program.now)) list.items) }
+    ensures { IfOk result (λ list. (x : DrawPlace) → Contains list.items x ↔ IsDrawn (program_view program.now) x) }
 {
     let functions = reached_functions(alloc, program)?;
     let mut list = Vec::new(alloc);

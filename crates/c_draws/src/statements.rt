@@ -1,7 +1,7 @@
 // The places at which statements draw.
 ghost use Rattle.std.specs.Prelude.{◌≡◌, ◌++◌, OnOk, map};
+ghost use Rattle.c_core.specs.Scope.{is_fixed};
 ghost use Rattle.c_core.specs.View.{first_view, form_view, init_view, names_view, program_view, stmt_view, stmts_view, switch_view};
-ghost use Rattle.c_meaning.specs.Changed as changed;
 ghost use Rattle.c_draws.specs.Drawing.{cells_by, change, changes_of, draws_of_block, draws_of_first, draws_of_form, draws_of_names, draws_of_statement};
 
 use crate::inputs::{push_expression, push_if, push_init};
@@ -13,7 +13,7 @@ use std::alloc::Global;
 use wv_base::OutOfMemory;
 
 fn is_fixed(program: &Program, object: u32) -> bool
-    ensures { result ≡ changed.is_fixed (program_view program.now) object }
+    ensures { result ≡ is_fixed (program_view program.now) object }
 {
     match program.objects.get(object as usize) {
         Some(found) => found.fixed,

@@ -6,7 +6,7 @@ use Rattle.std.proofs.lemmas.List.{map-append}
 use Rattle.std.proofs.lemmas.List.Elements.{Contains-append_cases, Contains-append_right}
 use Rattle.std.proofs.lemmas.List.Sorted.{Contains-permutation, IsPermutation-sym}
 use Rattle.c_core.specs.Operators.{is_prefix}
-use Rattle.c_core.specs.Parts.{same_spot}
+use Rattle.c_core.specs.Parts.{same_spot, spot_of, exps_in, exp_if, fulls_of_init, fulls_of_names, fulls_of_first}
 use Rattle.c_core.specs.Program.{IsProgram}
 use Rattle.c_core.specs.TextOrder.{is_before, is_before_first, rises, whole, spots_of, spots_of_arguments, spots_if, spots_of_init, spots_of_declarators, spots_of_first, spots_of_statement, spots_of_form, spots_of_else, spots_of_block, spots_of_functions}
 use Rattle.c_core.specs.Tree.{Exp, Expr, Const, Var, Index, Unary, Cast, Step, Binary, Logic, Choose, Comma, Assign, Call, Exps, NoExp, MoreExp, Init, Absent, One, Many, Rows, Names, NoName, MoreName, First, NoFirst, FirstExp, FirstNames, Stm, Stmt, Form, Empty, Do, Declare, Block, If, While, DoWhile, For, Break, Continue, Return, Label, Switch, Else, NoElse, OrElse, Stms, NoStm, MoreStm, MoreCase, Function, Program}
@@ -14,8 +14,7 @@ use Rattle.c_core.specs.declared.number.Spot.{Spot}
 use Rattle.c_core.proofs.TextOrderLaws.{left, right, IsPart, ends, skips, takes, part_none, part_append, part_front, before_all, rises-part}
 use Rattle.c_meaning.specs.declared.run.DutyKind.TheVariants.{Location, Entry, Kept, Property}
 use Rattle.c_meaning.specs.declared.run.Duty.{Duty}
-use Rattle.c_meaning.specs.Objects.{spot_of}
-use Rattle.c_meaning.specs.Parts.{some_node, exps_in, exp_if, fulls_of, fulls_of_form, fulls_of_else, fulls_of_block, fulls_of_init, fulls_of_names, fulls_of_first}
+use Rattle.c_meaning.specs.Parts.{some_node, fulls_of, fulls_of_form, fulls_of_else, fulls_of_block}
 use Rattle.c_meaning.specs.Duties.{Placed, Duties, duty, may_violate, property_duties, function_duties, invariant_duties, is_less, inserted, sorted}
 use Rattle.c_duties.specs.Ordered.{AllDiffer, unsorted}
 use Rattle.c_duties.proofs.Safe.{same_place}

@@ -10,7 +10,7 @@ use Rattle.c_meaning.specs.declared.run.DutyKind.TheVariants.{Property as AtProp
 use Rattle.c_meaning.specs.declared.run.Duty.{Duty}
 use Rattle.c_meaning.specs.Acts.{Res, Go, Stop, Flow, Next, Broken, Again, Gave}
 use Rattle.c_meaning.specs.Acts as acts
-use Rattle.c_meaning.specs.Objects.{spot_of}
+use Rattle.c_core.specs.Parts.{spot_of}
 use Rattle.c_meaning.specs.Parts.{some_node, fulls_of}
 use Rattle.c_meaning.specs.Run.{first_cells, cell_among, arm_for}
 use Rattle.c_meaning.specs.Duties.{Placed, duty, may_violate, property_duties, function_duties, invariant_duties}

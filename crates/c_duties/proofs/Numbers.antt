@@ -11,7 +11,7 @@ use Rattle.c_meaning.specs.declared.run.DutyKind.TheVariants.{Location, Entry, K
 use Rattle.c_meaning.specs.declared.run.Duty.{Duty}
 use Rattle.c_meaning.specs.declared.run.HavocEnd.TheVariants.{Failed}
 use Rattle.c_meaning.specs.Acts.{Res, Go, Stop, Flow}
-use Rattle.c_meaning.specs.Objects.{same_spot}
+use Rattle.c_core.specs.Parts.{same_spot}
 use Rattle.c_meaning.specs.Duties.{Placed, Duties, duty, kind_rank, number_among, same_duty, same_number}
 use Rattle.c_meaning.specs.Havoc.{Stopped, Passes, Dismisses, Fails, Left, havoc_in, havoc_run}
 use Rattle.c_duties.specs.Failing.{FailsAtDuties, IsFirstAt, IsFailure, TellsEach, TellsObligations}

@@ -23,7 +23,8 @@ use Rattle.c_meaning.specs.declared.run.DutyKind.TheVariants.{Location, Entry, K
 use Rattle.c_meaning.specs.declared.run.Duty.{Duty}
 use Rattle.c_meaning.specs.Cells.{Key}
 use Rattle.c_meaning.specs.Meaning.{Where, Site, Loop}
-use Rattle.c_meaning.specs.Objects.{same_spot, type_of_object, size_of_object}
+use Rattle.c_meaning.specs.Objects.{type_of_object, size_of_object}
+use Rattle.c_core.specs.Parts.{same_spot}
 use Rattle.c_meaning.specs.Acts.{Res, Go, Stop, Flow, Next, Broken, Again, Gave, bind, go_on, continuing, held, given}
 use Rattle.c_meaning.specs.Acts as acts
 use Rattle.c_meaning.specs.Value.{holds}

@@ -18,8 +18,10 @@ use Rattle.c_core.specs.declared.tree.Callee.TheVariants.{Defined, Input as Inpu
 use Rattle.c_meaning.specs.declared.run.DrawKind.{DrawKind}
 use Rattle.c_meaning.specs.declared.run.DrawKind.TheVariants.{Input, Cell}
 use Rattle.c_meaning.specs.Meaning.{Tick, AStatement, ANode, ACell, AParameter, Use, Used, Unused, Where, Site, Loop, WhileLoop, DoLoop, ForLoop, Meaning, Calls}
-use Rattle.c_meaning.specs.Objects.{spot_of, type_of, columns_of_object}
-use Rattle.c_meaning.specs.Parts.{some_node, some_part, some_argument, exps_in, exp_if, fulls_of, fulls_of_form, fulls_of_else, fulls_of_block, fulls_of_init, fulls_of_names, fulls_of_first}
+use Rattle.c_meaning.specs.Objects.{type_of, columns_of_object}
+use Rattle.c_core.specs.Parts.{spot_of}
+use Rattle.c_meaning.specs.Parts.{some_node, some_part, some_argument, fulls_of, fulls_of_form, fulls_of_else, fulls_of_block}
+use Rattle.c_core.specs.Parts.{exps_in, exp_if, fulls_of_init, fulls_of_names, fulls_of_first}
 use Rattle.c_meaning.specs.Duties.{may_violate, node_may_overflow}
 use Rattle.c_meaning.specs.Eval.{convert_to, operate, store, assign, tested, called, eval, node, target, place, evals}
 use Rattle.c_meaning.specs.Exec.{ticks, full, full_if, control, going, while_turn, do_turn, for_turn, draw_cells, initials, row_initials, initial, declare, first, exec, form, otherwise, execs, from_arm, body, with_params, call_of, run_in, run_if, run_main}

@@ -7,7 +7,7 @@ use Rattle.c_core.proofs.ArmLaws.{all_from}
 use Rattle.c_meaning.specs.declared.run.DutyKind.TheVariants.{Property}
 use Rattle.c_meaning.specs.declared.run.Duty.{Duty}
 use Rattle.c_meaning.specs.Duties.{duty, may_violate, property_duties}
-use Rattle.c_meaning.specs.Objects.{spot_of}
+use Rattle.c_core.specs.Parts.{spot_of}
 use Rattle.c_meaning.specs.Parts.{some_node, fulls_of, fulls_of_block}
 
 pub property_duties_both : (p : Program) (xs ys : List Exp) → property_duties p (xs ++ ys) ≡ property_duties p xs ++ property_duties p ys

@@ -2,6 +2,7 @@
 ghost use Rattle.std.specs.Prelude.{◌≡◌};
 ghost use Rattle.c_core.specs.Operators.{overflows as overflows_of, overflows_one as overflows_one_of};
 ghost use Rattle.c_core.specs.View.{expr_view, exprs_view, node_view};
+ghost use Rattle.c_core.specs.Places.{node_reaches_error};
 ghost use Rattle.c_meaning.specs.Duties as of_duties;
 ghost use Rattle.c_meaning.specs.Parts.{some_argument, some_node, some_part};
 
@@ -54,7 +55,7 @@ fn node_may_overflow(model: DataModel, node: &Node) -> bool
 }
 
 fn node_reaches(node: &Node) -> bool
-    ensures { result ≡ of_duties.node_reaches (node_view node.now) }
+    ensures { result ≡ node_reaches_error (node_view node.now) }
 {
     match node {
         Node::Call {

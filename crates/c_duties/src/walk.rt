@@ -3,7 +3,8 @@ ghost use Rattle.std.specs.Prelude.{◌≡◌, [], ◌∷◌, ◌++◌, OnOk};
 ghost use Rattle.std.specs.List.{flat_map};
 ghost use Rattle.c_core.specs.View.{expr_view, expr_view_if, exprs_view, first_view, form_view, functions_view, init_view, names_view, program_view, rows_view, stmt_view, stmts_view, switch_view};
 ghost use Rattle.c_meaning.specs.Duties.{function_duties, property_duties};
-ghost use Rattle.c_meaning.specs.Parts.{exp_if, exps_in, fulls_of, fulls_of_block, fulls_of_first, fulls_of_form, fulls_of_init, fulls_of_names};
+ghost use Rattle.c_meaning.specs.Parts.{fulls_of, fulls_of_block, fulls_of_form};
+ghost use Rattle.c_core.specs.Parts.{exp_if, exps_in, fulls_of_first, fulls_of_init, fulls_of_names};
 
 use crate::violating::violates;
 use c_core::{Arm, Declared, Expr, First, Form, Function, Init, Program, Row, Stmt};

@@ -4,8 +4,7 @@ use Rattle.std.specs.List.{flat_map, list_all, range_with_len}
 use Rattle.std.proofs.lemmas.Bool.{or_from, or_left, or_right, or_cases, cases_Bool}
 use Rattle.std.proofs.lemmas.Bool.Decides.{nat_tests}
 use Rattle.std.proofs.lemmas.List.Folds.{list_any-append}
-use Rattle.c_core.specs.Parts as parts
-use Rattle.c_core.specs.Parts.{every_exp, every_part, every_argument, every_statement, every_statement_in, every_statement_else, every_statement_of, own_fulls, names_in, names_in_form, names_in_else, names_in_block, names_of, names_of_first, DeclaredName, objects_of}
+use Rattle.c_core.specs.Parts.{every_exp, every_part, every_argument, every_statement, every_statement_in, every_statement_else, every_statement_of, own_fulls, names_in, names_in_form, names_in_else, names_in_block, names_of, names_of_first, DeclaredName, objects_of, exp_if, fulls_of_names, fulls_of_first, objects_of_names, objects_of_first, type_of}
 use Rattle.c_core.specs.Program.{IsProgram}
 use Rattle.c_core.specs.Scope.{is_in, times_in, is_fixed, is_object, is_owned_once, owned_by}
 use Rattle.c_core.specs.Typing.{is_target, has_value, is_assignment, same_types, exp_fits, node_fits, is_typed, form_fits, statement_fits, function_fits}
@@ -13,7 +12,7 @@ use Rattle.c_core.specs.Tree.{Exp, Expr, Node, Const, Var, Index, Unary, Cast, S
 use Rattle.c_core.specs.declared.number.IntType.{IntType}
 use Rattle.c_core.specs.declared.tree.Object.{Object}
 use Rattle.c_meaning.specs.Parts as own
-use Rattle.c_meaning.specs.Parts.{some_of, some_node, some_part, some_argument, exp_if, fulls_of, fulls_of_form, fulls_of_else, fulls_of_block, declared_in, declared_in_form, declared_in_else, declared_in_block}
+use Rattle.c_meaning.specs.Parts.{some_of, some_node, some_part, some_argument, fulls_of, fulls_of_form, fulls_of_else, fulls_of_block, declared_in, declared_in_form, declared_in_else, declared_in_block}
 use Rattle.c_meaning.specs.Related.{FitsS, with_names}
 use Rattle.c_meaning.proofs.Checked.{Asks, function_body}
 use Rattle.c_meaning.proofs.TypeFacts.{both, neither, at_every, of_both}
@@ -39,8 +38,8 @@ uncounted x os e = ⊎_elim (λ t. absurd (omega (arith, e, counted x os t))) (�
 
 module _ (p : Program) where
   targets_node : (ty : Option IntType) (n : Node) → IsTrue (node_fits p ty n) → assigns_no_target n ≡ false
-  targets_node ty (Step op a) t = ap not (both (is_target a) (same_types (parts.type_of a) ty) t).0
-  targets_node ty (Assign op a b) t = ap not (both (is_target a) (has_value b && (is_assignment op && same_types (parts.type_of a) ty)) t).0
+  targets_node ty (Step op a) t = ap not (both (is_target a) (same_types (type_of a) ty) t).0
+  targets_node ty (Assign op a b) t = ap not (both (is_target a) (has_value b && (is_assignment op && same_types (type_of a) ty)) t).0
   targets_node ty (Const v) t = refl
   targets_node ty (Var o) t = refl
   targets_node ty (Index o is) t = refl
@@ -87,36 +86,6 @@ module _ (p : Program) where
   none_append : (xs ys : List Exp) → some_of astray xs ≡ false → some_of astray ys ≡ false → some_of astray (xs ++ ys) ≡ false
   none_append xs ys f g = some-append astray xs ys ∙ or_from _ _ f g
 
-  same_exps : (es : Exps) → own.exps_in es ≡ parts.exps_in es
-  same_exps NoExp = refl
-  same_exps (MoreExp e es) = ap (λ xs. e ∷ xs) (same_exps es)
-
-  same_rows : (rows : List Exps) → flat_map own.exps_in rows ≡ flat_map parts.exps_in rows
-  same_rows [] = refl
-  same_rows (es ∷ rows) = ap₂ (λ a b. a ++ b) (same_exps es) (same_rows rows)
-
-  same_init : (i : Init) → own.fulls_of_init i ≡ parts.fulls_of_init i
-  same_init Absent = refl
-  same_init (One e) = refl
-  same_init (Many es) = same_exps es
-  same_init (Rows rows) = same_rows rows
-
-  same_fulls : (ns : Names) → own.fulls_of_names ns ≡ parts.fulls_of_names ns
-  same_fulls NoName = refl
-  same_fulls (MoreName spot o i ns) = ap₂ (λ a b. a ++ b) (same_init i) (same_fulls ns)
-
-  same_first : (i : First) → own.fulls_of_first i ≡ parts.fulls_of_first i
-  same_first NoFirst = refl
-  same_first (FirstExp e) = refl
-  same_first (FirstNames ns) = same_fulls ns
-
-  same_if : (e : Option Exp) → own.exp_if e ≡ parts.exp_if e
-  same_if None = refl
-  same_if (Some e) = refl
-
-  targets_if : (e : Option Exp) → IsTrue (list_all (is_typed p) (parts.exp_if e)) → some_of astray (exp_if e) ≡ false
-  targets_if e t = ap (some_of astray) (same_if e) ∙ targets_all (parts.exp_if e) t
-
   module _ (result : Option IntType) where
     abbrev test : Stm → Bool
     test s = statement_fits p result s
@@ -130,7 +99,7 @@ module _ (p : Program) where
       targets_f : (f : Form) → IsTrue (list_all (is_typed p) (own_fulls f)) → IsTrue (every_statement_in test f) → some_of astray (fulls_of_form f) ≡ false
       targets_f Empty t u = refl
       targets_f (Do e) t u = targets_all (e ∷ []) t
-      targets_f (Declare ns) t u = ap (some_of astray) (same_fulls ns) ∙ targets_all (parts.fulls_of_names ns) t
+      targets_f (Declare ns) t u = targets_all (fulls_of_names ns) t
       targets_f (Block b) t u = targets_b b u
       targets_f (If e a b) t u =
           let g = both (every_statement test a) (every_statement_else test b) u in
@@ -138,13 +107,13 @@ module _ (p : Program) where
       targets_f (While e b) t u = or_from _ _ (targets_e e (both (is_typed p e) true t).0) (targets_s b u)
       targets_f (DoWhile b e) t u = none_append (fulls_of b) (e ∷ []) (targets_s b u) (targets_all (e ∷ []) t)
       targets_f (For i e s b) t u =
-          let w = of_both (is_typed p) (parts.fulls_of_first i ++ parts.exp_if e) (parts.exp_if s) t in
-          let v = of_both (is_typed p) (parts.fulls_of_first i) (parts.exp_if e) w.0 in
-          none_append (own.fulls_of_first i ++ exp_if e ++ exp_if s) (fulls_of b)
-          (none_append (own.fulls_of_first i ++ exp_if e) (exp_if s) (none_append (own.fulls_of_first i) (exp_if e) (ap (some_of astray) (same_first i) ∙ targets_all (parts.fulls_of_first i) v.0) (targets_if e v.1)) (targets_if s w.1)) (targets_s b u)
+          let w = of_both (is_typed p) (fulls_of_first i ++ exp_if e) (exp_if s) t in
+          let v = of_both (is_typed p) (fulls_of_first i) (exp_if e) w.0 in
+          none_append (fulls_of_first i ++ exp_if e ++ exp_if s) (fulls_of b)
+          (none_append (fulls_of_first i ++ exp_if e) (exp_if s) (none_append (fulls_of_first i) (exp_if e) (targets_all (fulls_of_first i) v.0) (targets_all (exp_if e) v.1)) (targets_all (exp_if s) w.1)) (targets_s b u)
       targets_f Break t u = refl
       targets_f Continue t u = refl
-      targets_f (Return e) t u = targets_if e t
+      targets_f (Return e) t u = targets_all (exp_if e) t
       targets_f (Label b) t u = targets_s b u
       targets_f (Switch e b) t u = or_from _ _ (targets_e e (both (is_typed p e) true t).0) (targets_b b u)
 
@@ -165,11 +134,11 @@ objects-append : (xs ys : List DeclaredName) → objects_of (xs ++ ys) ≡ objec
 objects-append [] ys = refl
 objects-append (x ∷ xs) ys = ap (λ os. x.object ∷ os) (objects-append xs ys)
 
-same_objects : (ns : Names) → objects_of (names_of ns) ≡ own.objects_of_names ns
+same_objects : (ns : Names) → objects_of (names_of ns) ≡ objects_of_names ns
 same_objects NoName = refl
 same_objects (MoreName spot o i ns) = ap (λ os. o ∷ os) (same_objects ns)
 
-same_objects_first : (i : First) → objects_of (names_of_first i) ≡ own.objects_of_first i
+same_objects_first : (i : First) → objects_of (names_of_first i) ≡ objects_of_first i
 same_objects_first NoFirst = refl
 same_objects_first (FirstExp e) = refl
 same_objects_first (FirstNames ns) = same_objects ns
@@ -189,7 +158,7 @@ mutual
   declared_same_form (If e a b) = joined (names_in a) (names_in_else b) (declared_in a) (declared_in_else b) (declared_same a) (declared_same_else b)
   declared_same_form (While e b) = declared_same b
   declared_same_form (DoWhile b e) = declared_same b
-  declared_same_form (For i e s b) = joined (names_of_first i) (names_in b) (own.objects_of_first i) (declared_in b) (same_objects_first i) (declared_same b)
+  declared_same_form (For i e s b) = joined (names_of_first i) (names_in b) (objects_of_first i) (declared_in b) (same_objects_first i) (declared_same b)
   declared_same_form Break = refl
   declared_same_form Continue = refl
   declared_same_form (Return e) = refl

@@ -13,7 +13,7 @@ use Rattle.c_meaning.specs.Objects.{size_in, size_of_object}
 use Rattle.c_meaning.specs.Parts.{some_of, some_node, is_in, declared_in, changes, fulls_of_function, fulls_if, object_numbers}
 use Rattle.c_meaning.specs.Meaning.{Loop, Meaning}
 use Rattle.c_meaning.specs.Acts.{Go, Next}
-use Rattle.c_meaning.specs.Changed.{fulls_of_loop, body_of, is_fixed_in, changed_here, changed_there, changed_by, called_from}
+use Rattle.c_meaning.specs.Changed.{fulls_of_loop, body_of, changed_here, changed_there, changed_by, called_from}
 use Rattle.c_meaning.specs.Run.{State, Moment, real}
 use Rattle.c_meaning.specs.Exec.{turn, run_in}
 use Rattle.c_meaning.specs.Fitting.{calls_in}
@@ -25,10 +25,6 @@ use Rattle.c_frames.proofs.Framing.{none_high, over_same, Moves, moves_loop, fra
 use Rattle.c_frames.proofs.Refitting.{assigns_no_target, named, most, Fresh, Looped, OwnAgreesTo, Refit, refit_s, refit_loop}
 use Rattle.c_frames.proofs.Bodies.{in_same, counted, uncounted, found_below, params_of, fresh_body, targets_body, named_body, asks}
 use Rattle.c_frames.proofs.Members.{in_those, in_numbers, some_in, called_first, called_further}
-
-fixed_same : (o : Option Object) → is_fixed_in o ≡ scope.is_fixed_object o
-fixed_same None = refl
-fixed_same (Some o) = refl
 
 module _ (p : Program) where
   object_below : (o : ℕ) → 0 < size_of_object p o → o < length p.objects
@@ -62,7 +58,7 @@ module _ (p : Program) where
 
     there : (o g : ℕ) → scope.is_fixed p o ≡ true → is_in g (called_from p (fulls_of_loop l)) ≡ true → some_of (some_node (changes o)) (fulls_of_function p g) ≡ true → 0 < size_of_object p o → is_in o A ≡ true
     there o g f i c s =
-        changed_of o s (or_right (changed_here l o) _ (and_from _ _ (fixed_same (slice_get p.objects o) ∙ f) (some_in (λ f. some_of (some_node (changes o)) (fulls_of_function p f)) g (called_from p (fulls_of_loop l)) i c)))
+        changed_of o s (or_right (changed_here l o) _ (and_from _ _ f (some_in (λ f. some_of (some_node (changes o)) (fulls_of_function p f)) g (called_from p (fulls_of_loop l)) i c)))
 
     module _ (h : IsProgram p) (S : Type 0) (see : Moment → S → S) where
       abbrev Called : ℕ → Type 0

@@ -3,7 +3,7 @@ use Rattle.std.proofs.Common.{◌≡◌, ◌<◌, ◌≤◌, ◌+◌, ℕ, zero,
 use Rattle.std.specs.List.{flat_map}
 use Rattle.std.proofs.lemmas.Bool.{or_left, or_right}
 use Rattle.c_core.specs.Operators.{op_of_step}
-use Rattle.c_core.specs.Parts.{exps_in}
+use Rattle.c_core.specs.Parts.{exps_in, exp_if, fulls_of_init, fulls_of_names, fulls_of_first, objects_of_names, objects_of_first}
 use Rattle.c_core.specs.Scope.{is_reached, is_fixed, times_in}
 use Rattle.c_core.specs.Typing.{is_constant, is_target}
 use Rattle.c_core.specs.Tree.{Exp, Expr, Node, Const, Var, Index, Unary, Cast, Step, Binary, Logic, Choose, Comma, Assign, Call, Exps, NoExp, MoreExp, Init, Absent, One, Many, Rows, Names, NoName, MoreName, First, NoFirst, FirstExp, FirstNames, Stm, Stmt, Form, Empty, Do, Declare, Block, If, While, DoWhile, For, Break, Continue, Return, Label, Switch, Else, NoElse, OrElse, Stms, NoStm, MoreStm, MoreCase, Function, Program}
@@ -15,8 +15,7 @@ use Rattle.c_core.specs.declared.tree.Callee.{Callee}
 use Rattle.c_core.specs.declared.tree.Callee.TheVariants.{Defined, Input, ReachError, Abort, Exit}
 use Rattle.c_meaning.specs.Meaning.{Loop, WhileLoop, DoLoop, ForLoop, Meaning}
 use Rattle.c_meaning.specs.Objects.{object_of, type_of, type_or_int, size_of_object, columns_of_object}
-use Rattle.c_meaning.specs.Parts.{some_of, some_node, some_part, some_argument, exp_if, fulls_of, fulls_of_form, fulls_of_else, fulls_of_block, fulls_of_init, fulls_of_names, fulls_of_first, objects_of_names, objects_of_first, declared_in, declared_in_form, declared_in_else, declared_in_block, names_object, changes, calls}
-use Rattle.c_meaning.specs.Parts as own
+use Rattle.c_meaning.specs.Parts.{some_of, some_node, some_part, some_argument, fulls_of, fulls_of_form, fulls_of_else, fulls_of_block, declared_in, declared_in_form, declared_in_else, declared_in_block, names_object, changes, calls}
 use Rattle.c_meaning.specs.Changed.{fulls_of_loop, body_of}
 use Rattle.c_meaning.specs.Value.{in_memory}
 use Rattle.c_meaning.specs.Related.{Relation, FitsCallee, FitsCompound, FitsE, FitsV, FitsAs, FitsN, FitsT, FitsP, FitsEs, FitsIf, FitsTest, HasCells, FitsRows, FitsInit, after_names, FitsNames, after_first, FitsFirst, after, after_form, FitsReturn, FitsS, FitsF, FitsElse, FitsB, FitsArms, FitsLoop}
@@ -37,7 +36,7 @@ some-append q (x ∷ xs) ys = ap (λ b. q x || b) (some-append q xs ys) ∙ or_a
     or_assoc true b c = refl
     or_assoc false b c = refl
 
-pub some_exps : (q : Node → Bool) (es : Exps) → some_of (some_node q) (own.exps_in es) ≡ some_argument q es
+pub some_exps : (q : Node → Bool) (es : Exps) → some_of (some_node q) (exps_in es) ≡ some_argument q es
 some_exps q NoExp = refl
 some_exps q (MoreExp e es) = ap (λ b. some_node q e || b) (some_exps q es)
 
@@ -282,11 +281,11 @@ module _ (p : Program) where
           refit_cells o i zero f = tt
           refit_cells o i (suc n) f = (c.cell o i f.0, refit_cells o (suc i) n f.1)
 
-          refit_rows : (o i : ℕ) (rows : List Exps) → FitsRows p named L o i rows → Fulls (flat_map own.exps_in rows) → FitsRows p R K o i rows
+          refit_rows : (o i : ℕ) (rows : List Exps) → FitsRows p named L o i rows → Fulls (flat_map exps_in rows) → FitsRows p R K o i rows
           refit_rows o i [] f w = tt
           refit_rows o i (es ∷ rows) f w =
-              let front_seen = front (own.exps_in es) (flat_map own.exps_in rows) w in
-              (refit_cells o i (length (exps_in es)) f.0, refit_es es f.1 (λ q h. front_seen q (some_exps q es ∙ h)), refit_rows o (i + columns_of_object p o) rows f.2 (back (own.exps_in es) (flat_map own.exps_in rows) w))
+              let front_seen = front (exps_in es) (flat_map exps_in rows) w in
+              (refit_cells o i (length (exps_in es)) f.0, refit_es es f.1 (λ q h. front_seen q (some_exps q es ∙ h)), refit_rows o (i + columns_of_object p o) rows f.2 (back (exps_in es) (flat_map exps_in rows) w))
 
           refit_init : (o : ℕ) (i : Init) → FitsInit p named L o i → Fulls (fulls_of_init i) → FitsInit p R K o i
           refit_init o Absent f w = refit_cells o 0 (size_of_object p o) f

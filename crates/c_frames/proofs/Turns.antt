@@ -3,8 +3,7 @@ use Rattle.std.proofs.Common.{◌≡◌, ◌≤◌, ℕ, suc, Bool, true, ◌&&�
 use Rattle.std.specs.List.{All, flat_map, list_all}
 use Rattle.std.proofs.lemmas.Bool.{or_right}
 use Rattle.std.proofs.lemmas.List.Elements.{All-nil, All-cons, All-append}
-use Rattle.c_core.specs.Parts as parts
-use Rattle.c_core.specs.Parts.{every_statement, every_statement_in, every_statement_else, every_statement_of, declared_by, statements_of, statements_of_form, statements_of_else, statements_of_block, statements_of_program}
+use Rattle.c_core.specs.Parts.{every_statement, every_statement_in, every_statement_else, every_statement_of, declared_by, statements_of, statements_of_form, statements_of_else, statements_of_block, statements_of_program, exp_if, fulls_of_first, objects_of_first}
 use Rattle.c_core.specs.Program.{IsProgram}
 use Rattle.c_core.specs.Scope.{times_in, reaches, first_reaches, statement_reaches, form_reaches, else_reaches, block_reaches, function_reaches, statement_nests, is_block, function_nests}
 use Rattle.c_core.specs.Tree.{Names, NoName, MoreName, First, NoFirst, FirstExp, FirstNames, Stm, Stmt, Form, Empty, Do, Declare, Block, If, While, DoWhile, For, Break, Continue, Return, Label, Switch, Else, NoElse, OrElse, Stms, NoStm, MoreStm, MoreCase, Function, Program}
@@ -13,8 +12,7 @@ use Rattle.c_core.specs.declared.number.IntType.{IntType}
 use Rattle.c_core.specs.declared.number.Spot.{Spot}
 use Rattle.c_meaning.specs.Changed.{fulls_of_loop, body_of}
 use Rattle.c_meaning.specs.Meaning.{Loop, WhileLoop, DoLoop, ForLoop}
-use Rattle.c_meaning.specs.Parts as own
-use Rattle.c_meaning.specs.Parts.{some_of, some_node, exp_if, fulls_of, fulls_of_form, declared_in, declared_in_form, declared_in_else, declared_in_block}
+use Rattle.c_meaning.specs.Parts.{some_of, some_node, fulls_of, fulls_of_form, declared_in, declared_in_form, declared_in_else, declared_in_block}
 use Rattle.c_meaning.specs.Related.{FitsF, FitsLoop, after_first}
 use Rattle.c_meaning.proofs.Checked.{fits_s}
 use Rattle.c_meaning.proofs.TypeFacts.{both, at_every}
@@ -24,21 +22,12 @@ use Rattle.c_frames.proofs.Bodies.{targets_s, with_params, fresh_body, asks, see
 use Rattle.c_frames.proofs.Heads.{Seen, keep}
 use Rattle.c_frames.proofs.FramedTurns.{turn_framed}
 
-same_named : (ns : Names) → parts.objects_of_names ns ≡ own.objects_of_names ns
-same_named NoName = refl
-same_named (MoreName spot o i ns) = ap (λ os. o ∷ os) (same_named ns)
-
-same_named_first : (i : First) → parts.objects_of_first i ≡ own.objects_of_first i
-same_named_first NoFirst = refl
-same_named_first (FirstExp e) = refl
-same_named_first (FirstNames ns) = same_named ns
-
 none_of : (x n : ℕ) → times_in x [] ≤ n
 none_of x n = omega arith
 
 -- what a statement declares in its own scope is part of what it declares
 times_by : (x : ℕ) (s : Stm) → times_in x (declared_by s) ≤ times_in x (declared_in s)
-times_by x (Stmt at (Declare ns)) = let e = ap (times_in x) (same_named ns) in omega (arith, e)
+times_by x (Stmt at (Declare ns)) = omega arith
 times_by x (Stmt at Empty) = none_of x _
 times_by x (Stmt at (Do e)) = none_of x _
 times_by x (Stmt at (Block b)) = none_of x _
@@ -74,15 +63,14 @@ module _ (p : Program) where
     times_by x s,
   )
 
-  fresh_in : (reach : List ℕ) (i : First) (es : List ℕ) → Fresh p reach (own.objects_of_first i ++ es)
-      → Fresh p (reach ++ parts.objects_of_first i) es
+  fresh_in : (reach : List ℕ) (i : First) (es : List ℕ) → Fresh p reach (objects_of_first i ++ es)
+      → Fresh p (reach ++ objects_of_first i) es
   fresh_in reach i es f x =
       omega (
         arith,
         f x,
-        times-append x (own.objects_of_first i) es,
-        times-append x reach (parts.objects_of_first i),
-        ap (times_in x) (same_named_first i),
+        times-append x (objects_of_first i) es,
+        times-append x reach (objects_of_first i),
       )
 
   module _ (h : IsProgram p) (result : Option IntType) where
@@ -131,11 +119,11 @@ module _ (p : Program) where
           with_parts at (DoWhile b e) (turn_of reach at (DoLoop b e) (g.1, g.2) d w)
           (turns_s reach b t (both (statement_reaches p reach b) (reaches p reach e) r).0 n d)
       turns_f reach at (For i e s b) g w t r n d =
-          let first = own.fulls_of_first i in
-          let k = both (first_reaches p reach i) (list_all (reaches p (reach ++ parts.objects_of_first i))
-          (parts.exp_if e ++ parts.exp_if s) && statement_reaches p (reach ++ parts.objects_of_first i) b) r in
-          let j = both (list_all (reaches p (reach ++ parts.objects_of_first i)) (parts.exp_if e ++ parts.exp_if s))
-          (statement_reaches p (reach ++ parts.objects_of_first i) b) k.1 in
+          let first = fulls_of_first i in
+          let k = both (first_reaches p reach i) (list_all (reaches p (reach ++ objects_of_first i))
+          (exp_if e ++ exp_if s) && statement_reaches p (reach ++ objects_of_first i) b) r in
+          let j = both (list_all (reaches p (reach ++ objects_of_first i)) (exp_if e ++ exp_if s))
+          (statement_reaches p (reach ++ objects_of_first i) b) k.1 in
           let whole = ap (λ es. es ++ fulls_of b) (append_assoc first (exp_if e) (exp_if s))
           ∙ append_assoc first (exp_if e ++ exp_if s) (fulls_of b) in
           with_parts at (For i e s b)
@@ -144,7 +132,7 @@ module _ (p : Program) where
           (λ x. w (ap (some_of (some_node assigns_no_target)) whole
           ∙ some-append (some_node assigns_no_target) first (exp_if e ++ exp_if s ++ fulls_of b)
           ∙ or_right (some_of (some_node assigns_no_target) first) _ x)))
-          (turns_s (reach ++ parts.objects_of_first i) b t j.1 n (fresh_in reach i (declared_in b) d))
+          (turns_s (reach ++ objects_of_first i) b t j.1 n (fresh_in reach i (declared_in b) d))
       turns_f reach at Break g w t r n d = with_parts at Break tt (All-nil Q)
       turns_f reach at Continue g w t r n d = with_parts at Continue tt (All-nil Q)
       turns_f reach at (Return e) g w t r n d = with_parts at (Return e) tt (All-nil Q)

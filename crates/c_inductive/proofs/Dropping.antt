@@ -9,7 +9,8 @@ use Rattle.c_meaning.specs.Duties.{Placed, Duties, duty}
 use Rattle.c_meaning.specs.Havoc.{Fails, Left, havoc_in, havoc_run}
 use Rattle.c_duties.proofs.Numbers.{counted, fails_at_duties, tells_obligations}
 use Rattle.c_inductive.specs.Inductive.{is_of_invariant, AreInductive, FailuresDrop}
-use Rattle.c_inductive.specs.Picking.{is_among, picked}
+use Rattle.c_inductive.specs.Picking.{picked}
+use Rattle.c_core.specs.Scope.{is_in}
 use Rattle.c_inductive.proofs.Follows.{Result, Ends, goes, passes, violates, fails, fails_alone, dismissed, runs_end}
 use Rattle.c_inductive.proofs.Thinned.{is_kept, among_if, kept_is_part}
 
@@ -56,14 +57,14 @@ module _ (p : Program) where
 
   pub failures_drop : (I : List Placed) → FailuresDrop p I
   failures_drop I left ms w index k n d selection ended at own number part_selection part inductive =
-      by (is_among n ms) refl
+      by (is_in n ms) refl
     where
       runs : BothEnd (is_kept left ms) (picked left I) (picked ms I) w
       runs =
           subst (λ J. BothEnd (is_kept left ms) (picked left I) J w) (kept_is_part left ms I selection part)
           (runs_end (is_kept left ms) p (picked left I) depth w)
 
-      by : (b : Bool) → is_among n ms ≡ b → is_among n ms ≡ false
+      by : (b : Bool) → is_in n ms ≡ b → is_in n ms ≡ false
       by false e = e
       by true e =
           let f = tells_obligations p (picked left I) w (suc index) ended in

@@ -9,7 +9,7 @@ use Rattle.c_core.specs.declared.number.Spot.{Spot}
 use Rattle.c_meaning.specs.declared.run.Duty.{Duty}
 use Rattle.c_meaning.specs.declared.run.DutyKind.TheVariants.{Location, Entry, Kept, Property}
 use Rattle.c_meaning.specs.Duties.{Placed, Duties, duty, may_violate, property_duties, function_duties, invariant_duties}
-use Rattle.c_meaning.specs.Objects.{spot_of}
+use Rattle.c_core.specs.Parts.{spot_of}
 use Rattle.c_meaning.specs.Parts.{some_node, fulls_of}
 use Rattle.c_duties.specs.Ordered.{unsorted}
 use Rattle.c_duties.proofs.Stable.{sorted_moves}

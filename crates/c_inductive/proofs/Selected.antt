@@ -6,7 +6,8 @@ use Rattle.c_core.specs.Tree.{Program}
 use Rattle.c_meaning.specs.Duties.{Placed}
 use Rattle.c_meaning.specs.Parts.{numbers_from}
 use Rattle.c_meaning.specs.Placing.{IsInvariant}
-use Rattle.c_inductive.specs.Picking.{is_among, picked_from, Rise, AllArePicked, AsManyArePicked, PartsStayInvariants}
+use Rattle.c_inductive.specs.Picking.{picked_from, Rise, AllArePicked, AsManyArePicked, PartsStayInvariants}
+use Rattle.c_core.specs.Scope.{is_in}
 use Rattle.c_inductive.proofs.Thinned.{above, first_is_over, none_before}
 
 -- ---- all of them
@@ -26,7 +27,7 @@ all_picked i [] = refl
 all_picked i (x ∷ xs) =
     let rest : List ℕ = numbers_from (suc i) (length xs) in
     let others : List Placed = picked_from (suc i) (i ∷ rest) xs in
-    ap (λ b. cond (b || is_among i rest) (x ∷ others) others) (eq-eqb i i refl)
+    ap (λ b. cond (b || is_in i rest) (x ∷ others) others) (eq-eqb i i refl)
     ∙ ap (λ ys. x ∷ ys) (first_is_over (suc i) i rest xs (omega arith) ∙ all_picked (suc i) xs)
 
 pub all_are_picked : (I : List Placed) → AllArePicked I
@@ -42,7 +43,7 @@ parts_stay p I ns h = stay 1 I h
   where
     stay : (i : ℕ) (xs : List Placed) → All (IsInvariant p) xs → All (IsInvariant p) (picked_from i ns xs)
     stay i [] h = h
-    stay i (x ∷ xs) h = by (is_among i ns) (stay (suc i) xs (All-tail (IsInvariant p) x xs h))
+    stay i (x ∷ xs) h = by (is_in i ns) (stay (suc i) xs (All-tail (IsInvariant p) x xs h))
       where
         by : (b : Bool) → All (IsInvariant p) (picked_from (suc i) ns xs)
             → All (IsInvariant p) (cond b (x ∷ picked_from (suc i) ns xs) (picked_from (suc i) ns xs))
@@ -59,7 +60,7 @@ Counts last xs = (ns : List ℕ) → Rise last ns → All (λ n. n ≤ last + le
 passed : (last : ℕ) (x : Placed) (xs : List Placed) (ns : List ℕ) → Counts (suc last) xs → Rise (suc last) ns
     → All (λ n. n ≤ last + length (x ∷ xs)) ns → length (picked_from (suc last) ns (x ∷ xs)) ≡ length ns
 passed last x xs ns later h w =
-    let e : is_among (suc last) ns ≡ false = none_before (suc last) (suc last) ns (omega arith) h in
+    let e : is_in (suc last) ns ≡ false = none_before (suc last) (suc last) ns (omega arith) h in
     let same : last + length (x ∷ xs) ≡ suc last + length xs = omega arith in
     let rest : List Placed = picked_from (suc (suc last)) ns xs in
     ap (λ b. length (cond b (x ∷ rest) rest)) e
@@ -75,7 +76,7 @@ counted_in last n x xs ns later e h w =
     let there : nat_eq (suc last) n ≡ true = eq-eqb (suc last) n e in
     let rises : Rise (suc last) ns = subst (λ k. Rise k ns) (sym e) h in
     let behind : All (λ m. m ≤ last + length (x ∷ xs)) ns = All-tail (λ m. m ≤ last + length (x ∷ xs)) n ns w in
-    ap (λ b. length (cond (b || is_among (suc last) ns) (x ∷ rest) rest)) there
+    ap (λ b. length (cond (b || is_in (suc last) ns) (x ∷ rest) rest)) there
     ∙ ap suc (ap length (first_is_over (suc (suc last)) n ns xs (omega (arith, e)))
     ∙ later ns rises (subst (λ k. All (λ m. m ≤ k) ns) same behind))
 

@@ -1,7 +1,8 @@
 -- Some of the invariants of a list, by their places in it; a part of a set of invariants is some of the set's.
 use Rattle.std.proofs.Common.{◌≡◌, ◌≤◌, ◌<◌, ◌+◌, ℕ, suc, nat_eq, eqb-true, eq-eqb, Bool, true, false, cond, ◌||◌, List, [], ◌∷◌, length, Option, Some, None, slice_get, refl, sym, ap, ◌∙◌, subst, arith}
 use Rattle.c_meaning.specs.Duties.{Placed}
-use Rattle.c_inductive.specs.Picking.{is_among, picked_from, picked, Rise, IsSelection, IsPartOf}
+use Rattle.c_inductive.specs.Picking.{picked_from, picked, Rise, IsSelection, IsPartOf}
+use Rattle.c_core.specs.Scope.{is_in}
 
 -- of a list counted from i on, those at places that are like that
 abbrev pub thinned : (ℕ → Bool) → ℕ → List Placed → List Placed
@@ -11,7 +12,7 @@ thinned q i (x ∷ xs) = cond (q i) (x ∷ thinned q (suc i) xs) (thinned q (suc
 -- the number is there and among these
 abbrev pub among_if : List ℕ → Option ℕ → Bool
 among_if ms None = false
-among_if ms (Some n) = is_among n ms
+among_if ms (Some n) = is_in n ms
 
 -- the k-th number of a set is one of a part
 abbrev pub is_kept : List ℕ → List ℕ → ℕ → Bool
@@ -27,11 +28,11 @@ different a b h = by (nat_eq a b) refl
     by false e = e
 
 -- what lies before is none of them
-pub none_before : (i last : ℕ) (ns : List ℕ) → i ≤ last → Rise last ns → is_among i ns ≡ false
+pub none_before : (i last : ℕ) (ns : List ℕ) → i ≤ last → Rise last ns → is_in i ns ≡ false
 none_before i last [] l h = refl
 none_before i last (n ∷ ns) l h =
     let a : last < n = h.0 in
-    ap (λ b. b || is_among i ns) (different i n (λ e. omega (arith, e, l, a)))
+    ap (λ b. b || is_in i ns) (different i n (λ e. omega (arith, e, l, a)))
     ∙ none_before i n ns (omega (arith, l, a)) h.1
 
 -- the next number and another one after it
@@ -45,8 +46,8 @@ pub first_is_over : (i n : ℕ) (ns : List ℕ) (xs : List Placed) → n < i →
 first_is_over i n ns [] l = refl
 first_is_over i n ns (x ∷ xs) l =
     let rest : List Placed = picked_from (suc i) (n ∷ ns) xs in
-    ap (λ b. cond (b || is_among i ns) (x ∷ rest) rest) (different i n (λ e. omega (arith, e, l)))
-    ∙ ap (λ ys. cond (is_among i ns) (x ∷ ys) ys) (first_is_over (suc i) n ns xs (omega (arith, l)))
+    ap (λ b. cond (b || is_in i ns) (x ∷ rest) rest) (different i n (λ e. omega (arith, e, l)))
+    ∙ ap (λ ys. cond (is_in i ns) (x ∷ ys) ys) (first_is_over (suc i) n ns xs (omega (arith, l)))
 
 -- ---- the part of a set is what is kept of it
 
@@ -57,7 +58,7 @@ module _ (q : ℕ → Bool) (ms : List ℕ) where
 
   -- what lies behind and is of the part is one of the numbers
   abbrev Covers : ℕ → List ℕ → Type 0
-  Covers last ns = (n : ℕ) → last < n → is_among n ms ≡ true → is_among n ns ≡ true
+  Covers last ns = (n : ℕ) → last < n → is_in n ms ≡ true → is_in n ns ≡ true
 
   abbrev Picks : ℕ → List Placed → Type 0
   Picks last xs = (m : ℕ) (ns : List ℕ) → Rise last ns → Tells m ns → Covers last ns
@@ -72,14 +73,14 @@ module _ (q : ℕ → Bool) (ms : List ℕ) where
   covers_rest : (last n : ℕ) (ns : List ℕ) → suc last ≡ n → Covers last (n ∷ ns) → Covers (suc last) ns
   covers_rest last n ns e h k l f =
       let d : nat_eq k n ≡ false = different k n (λ g. omega (arith, e, g, l)) in
-      sym (ap (λ b. b || is_among k ns) d) ∙ h k (omega (arith, l)) f
+      sym (ap (λ b. b || is_in k ns) d) ∙ h k (omega (arith, l)) f
 
   -- none of them, so none of the part
-  none_of_part : (last : ℕ) (ns : List ℕ) → Covers last ns → is_among (suc last) ns ≡ false
-      → is_among (suc last) ms ≡ false
-  none_of_part last ns h e = by (is_among (suc last) ms) refl
+  none_of_part : (last : ℕ) (ns : List ℕ) → Covers last ns → is_in (suc last) ns ≡ false
+      → is_in (suc last) ms ≡ false
+  none_of_part last ns h e = by (is_in (suc last) ms) refl
     where
-      by : (b : Bool) → is_among (suc last) ms ≡ b → is_among (suc last) ms ≡ false
+      by : (b : Bool) → is_in (suc last) ms ≡ b → is_in (suc last) ms ≡ false
       by true f = let g = h (suc last) (omega arith) f in absurd (cc)
       by false f = f
 
@@ -88,8 +89,8 @@ module _ (q : ℕ → Bool) (ms : List ℕ) where
       → Tells m ns → Covers last ns
       → thinned q m (picked_from (suc last) ns (x ∷ xs)) ≡ picked_from (suc last) ms (x ∷ xs)
   skipped last m x xs ns later h t c =
-      let e : is_among (suc last) ns ≡ false = none_before (suc last) (suc last) ns (omega arith) h in
-      let f : is_among (suc last) ms ≡ false = none_of_part last ns c e in
+      let e : is_in (suc last) ns ≡ false = none_before (suc last) (suc last) ns (omega arith) h in
+      let f : is_in (suc last) ms ≡ false = none_of_part last ns c e in
       let rest : List Placed = picked_from (suc (suc last)) ns xs in
       let others : List Placed = picked_from (suc (suc last)) ms xs in
       ap (λ b. thinned q m (cond b (x ∷ rest) rest)) e
@@ -103,12 +104,12 @@ module _ (q : ℕ → Bool) (ms : List ℕ) where
   taken last m n x xs ns later e h t c =
       let rest : List Placed = picked_from (suc (suc last)) (n ∷ ns) xs in
       let same : m ≡ m + 0 = omega arith in
-      let own : q m ≡ is_among (suc last) ms = ap q same ∙ t 0 ∙ ap (λ k. is_among k ms) (sym e) in
+      let own : q m ≡ is_in (suc last) ms = ap q same ∙ t 0 ∙ ap (λ k. is_in k ms) (sym e) in
       let there : nat_eq (suc last) n ≡ true = eq-eqb (suc last) n e in
       let rises : Rise (suc last) ns = subst (λ k. Rise k ns) (sym e) h in
-      ap (λ b. thinned q m (cond (b || is_among (suc last) ns) (x ∷ rest) rest)) there
+      ap (λ b. thinned q m (cond (b || is_in (suc last) ns) (x ∷ rest) rest)) there
       ∙ ap (λ b. cond b (x ∷ thinned q (suc m) rest) (thinned q (suc m) rest)) own
-      ∙ ap (λ ys. cond (is_among (suc last) ms) (x ∷ ys) ys)
+      ∙ ap (λ ys. cond (is_in (suc last) ms) (x ∷ ys) ys)
       (ap (thinned q (suc m)) (first_is_over (suc (suc last)) n ns xs (omega (arith, e)))
       ∙ later (suc m) ns rises (tells_next m n ns t) (covers_rest last n ns e c))
 

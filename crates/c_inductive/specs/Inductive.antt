@@ -8,7 +8,8 @@ use Rattle.c_meaning.specs.declared.run.DutyKind.TheVariants.{Location, Entry, K
 use Rattle.c_meaning.specs.declared.run.HavocEnd.TheVariants.{Failed}
 use Rattle.c_meaning.specs.Duties.{Placed, Duties}
 use Rattle.c_meaning.specs.Havoc.{Havoc, ObligationHolds}
-use Rattle.c_inductive.specs.Picking.{is_among, picked, IsSelection, IsPartOf, IsUnionOf}
+use Rattle.c_inductive.specs.Picking.{picked, IsSelection, IsPartOf, IsUnionOf}
+use Rattle.c_core.specs.Scope.{is_in}
 
 -- an obligation of an invariant, and none of the property
 abbrev pub is_of_invariant : DutyKind → Bool
@@ -34,14 +35,14 @@ DutiesNameInvariants p I = (index : ℕ) (d : Duty) → slice_get (Duties p I) i
     → is_of_invariant d.kind ≡ true → NamesInvariant I d
 
 -- every inductive set of invariants is part of this one
-abbrev pub HoldsInductive : Program → List Placed → List ℕ → Type 0
-HoldsInductive p I ns = (ms : List ℕ) → IsSelection (length I) ms → AreInductive p (picked ms I) → IsPartOf ms ns
+abbrev pub HasEveryInductive : Program → List Placed → List ℕ → Type 0
+HasEveryInductive p I ns = (ms : List ℕ) → IsSelection (length I) ms → AreInductive p (picked ms I) → IsPartOf ms ns
 
 -- the greatest inductive set: it is one, and every other is part of it
 pub record IsGreatest (p : Program) (I : List Placed) (ns : List ℕ) : Type 0 where
   pub selection : IsSelection (length I) ns
   pub inductive : AreInductive p (picked ns I)
-  pub greatest : HoldsInductive p I ns
+  pub greatest : HasEveryInductive p I ns
 
 -- where an obligation of the k-th invariant of a set fails, counted from 0, no inductive part of the set has that
 -- invariant
@@ -49,7 +50,7 @@ abbrev pub FailuresDrop : Program → List Placed → Type 0
 FailuresDrop p I = (left ms : List ℕ) (w : List ℤ) (index k n : ℕ) (d : Duty)
     → IsSelection (length I) left → (Havoc p (picked left I) w).end ≡ Failed (suc index)
     → slice_get (Duties p (picked left I)) index ≡ Some d → d.invariant ≡ Some k → slice_get left k ≡ Some n
-    → IsSelection (length I) ms → IsPartOf ms left → AreInductive p (picked ms I) → is_among n ms ≡ false
+    → IsSelection (length I) ms → IsPartOf ms left → AreInductive p (picked ms I) → is_in n ms ≡ false
 
 -- inductive sets are inductive together
 abbrev pub UnionsAreInductive : Program → List Placed → Type 0

@@ -1,19 +1,16 @@
 -- Sets of invariants, by their numbers in witness order, from 1.
 use Rattle.std.specs.Prelude.{◌≡◌, ◌≤◌, ◌<◌, ℕ, suc, nat_eq, Bool, true, cond, ◌||◌, List, [], ◌∷◌, length}
 use Rattle.std.specs.List.{All, list_any}
+use Rattle.c_core.specs.Scope.{is_in}
 use Rattle.c_core.specs.Tree.{Program}
 use Rattle.c_meaning.specs.Duties.{Placed}
 use Rattle.c_meaning.specs.Parts.{numbers_from}
 use Rattle.c_meaning.specs.Placing.{IsInvariant}
 
--- a number is one of these
-abbrev pub is_among : ℕ → List ℕ → Bool
-is_among n ns = list_any (nat_eq n) ns
-
 -- of invariants numbered from i on, those with these numbers
 abbrev pub picked_from : ℕ → List ℕ → List Placed → List Placed
 picked_from i ns [] = []
-picked_from i ns (x ∷ xs) = cond (is_among i ns) (x ∷ picked_from (suc i) ns xs) (picked_from (suc i) ns xs)
+picked_from i ns (x ∷ xs) = cond (is_in i ns) (x ∷ picked_from (suc i) ns xs) (picked_from (suc i) ns xs)
 
 -- the invariants with these numbers, in witness order
 abbrev pub picked : List ℕ → List Placed → List Placed
@@ -31,13 +28,13 @@ pub record IsSelection (count : ℕ) (ns : List ℕ) : Type 0 where
 
 -- each of these numbers is one of those
 abbrev pub IsPartOf : List ℕ → List ℕ → Type 0
-IsPartOf ms ns = (n : ℕ) → is_among n ms ≡ true → is_among n ns ≡ true
+IsPartOf ms ns = (n : ℕ) → is_in n ms ≡ true → is_in n ns ≡ true
 
 -- it has the numbers of both, and no others
 pub record IsUnionOf (ms ns all : List ℕ) : Type 0 where
   pub first : IsPartOf ms all
   pub second : IsPartOf ns all
-  pub no_other : (n : ℕ) → is_among n all ≡ true → is_among n ms || is_among n ns ≡ true
+  pub no_other : (n : ℕ) → is_in n all ≡ true → is_in n ms || is_in n ns ≡ true
 
 -- the numbers from 1 on, as many as there are invariants, are a set: that of all of them
 pub record AllArePicked (I : List Placed) : Type 0 where

@@ -17,7 +17,8 @@ use Rattle.c_core.specs.declared.tree.Callee.TheVariants.{Defined, Input as Inpu
 use Rattle.c_meaning.specs.declared.run.DrawKind.{DrawKind}
 use Rattle.c_meaning.specs.declared.run.DrawKind.TheVariants.{Input, Cell as ACellDraw}
 use Rattle.c_meaning.specs.Objects.{type_of, type_of_object, size_of_object, columns_of_object}
-use Rattle.c_meaning.specs.Parts.{some_of, some_node, some_part, some_argument, exps_in, exp_if, fulls_of, fulls_of_form, fulls_of_else, fulls_of_block, fulls_of_init, fulls_of_names, fulls_of_first, objects_of_names, objects_of_first, declared_in, declared_in_form, declared_in_else, declared_in_block, calls}
+use Rattle.c_meaning.specs.Parts.{some_of, some_node, some_part, some_argument, fulls_of, fulls_of_form, fulls_of_else, fulls_of_block, declared_in, declared_in_form, declared_in_else, declared_in_block, calls}
+use Rattle.c_core.specs.Parts.{exps_in, exp_if, fulls_of_init, fulls_of_names, fulls_of_first, objects_of_names, objects_of_first}
 use Rattle.c_meaning.specs.Meaning.{Tick, AStatement, ANode, ACell, Use, Used, Unused, Where, Site, Loop, Meaning, Calls, ForLoop}
 use Rattle.c_meaning.specs.Eval.{convert_to, operate, store, assign, tested, called, eval, node, target, place, evals}
 use Rattle.c_meaning.specs.Exec.{ticks, full, full_if, control, going, for_turn, draw_cells, initials, row_initials, initial, declare, first, exec, form, otherwise, execs, from_arm, body, with_params}

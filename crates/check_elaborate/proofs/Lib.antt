@@ -11,5 +11,6 @@ mod ParameterLaws
 mod StartLaws
 mod SizeLaws
 mod RowLaws
+mod ArmLabelLaws
 mod ArmLaws
 mod ItemLaws

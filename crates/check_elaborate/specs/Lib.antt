@@ -1,3 +1,4 @@
+pub mod ArmLabels
 pub mod Items
 pub mod InArms
 pub mod Walks

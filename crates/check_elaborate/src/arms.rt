@@ -1,20 +1,20 @@
 // The labels of the arms of a `switch`.
 ghost use Rattle.std.specs.Prelude.{◌≡◌, ◌++◌, ◌∷◌, [], IfOk, OnOk};
-ghost use Rattle.std.specs.List.{list_any};
 ghost use Rattle.c_core.specs.View.{expr_view as typed_view};
 ghost use Rattle.c_parser.specs.SourceView.{label_view};
 ghost use Rattle.c_parser.specs.Tree as raw;
 ghost use Rattle.c_parser.specs.View.{expr_view};
 ghost use Rattle.check_rules.specs.Arms as arm;
 ghost use Rattle.check_rules.specs.Checked as checked;
-ghost use Rattle.check_rules.specs.Codes as codes;
 ghost use Rattle.check_rules.specs.Constants as constants;
 ghost use Rattle.check_rules.specs.Noting.{noted_part};
 ghost use Rattle.check_rules.specs.Parts as part;
 ghost use Rattle.check_rules.specs.Scopes.{seen};
 ghost use Rattle.check_rules.specs.Typed as typing;
+ghost use Rattle.check_elaborate.specs.ArmLabels.{AreFound};
 ghost use Rattle.check_elaborate.specs.Walks.{scope_at, bodies_in, items_in, IsNoted, labelling};
 
+use crate::arm_labels::ArmLabels;
 use crate::context::Context;
 use crate::full::full;
 use crate::sizes::keep;
@@ -23,7 +23,7 @@ use c_core::{DataModel, Expr, IntType, Label, Spot, convert, promote};
 use c_parser::{RawExpr, RawLabel};
 use check_rules::{CheckCode, Role, noted};
 use check_types::constant;
-use wv_base::{OutOfMemory, Seq};
+use wv_base::OutOfMemory;
 
 /// The type of case constants: the promoted one of the test; void counts as `int`.
 pub fn switch_type(model: DataModel, test: Option<IntType>) -> IntType
@@ -35,45 +35,21 @@ pub fn switch_type(model: DataModel, test: Option<IntType>) -> IntType
     }
 }
 
-fn is_same(one: Label, other: Option<Label>) -> bool
-    ensures { result ≡ codes.same_label one other }
-{
-    match (one, other) {
-        (Label::Case(one), Some(Label::Case(other))) => one == other,
-        (Label::Default, Some(Label::Default)) => true,
-        _ => false,
-    }
-}
-
-fn is_among(before: &[Option<Label>], label: Label) -> bool
-    ensures { result ≡ list_any (codes.same_label label) before.now }
-{
-    before.iter().any(|earlier| is_same(label, *earlier))
-}
-
-fn is_chosen(before: &[Option<Label>], label: Option<Label>) -> bool
-    ensures { result ≡ codes.is_chosen before.now label }
-{
-    match label {
-        None => false,
-        Some(label) => is_among(before, label),
-    }
-}
-
 fn note_label(
     context: &Context,
     walk: &mut Walk,
-    before: &[Option<Label>],
+    before: &ArmLabels,
     label: Option<Label>,
     spot: Spot,
 )
+    requires { AreFound before.now }
     ensures scope { scope_at walk.new ≡ scope_at walk.old }
     ensures noted { walk.new.best ≡ noted_part context.now.model (items_in context.now) walk.old.best
-        (part.ArmLabelling before.now label spot) }
+        (part.ArmLabelling before.now.all label spot) }
     ensures kept { walk.new.kept ≡ walk.old.kept }
 {
     let _ = context;
-    let again = is_chosen(before, label);
+    let again = before.has(label);
     walk.best = noted(walk.best, again, CheckCode::Again, spot);
 }
 
@@ -154,23 +130,25 @@ pub fn label(
     context: &Context,
     walk: &mut Walk,
     ty: IntType,
-    before: &mut Seq<Option<Label>>,
+    before: &mut ArmLabels,
     spot: Spot,
     label: &RawLabel,
 ) -> Result<Label, OutOfMemory>
+    requires { AreFound before.old }
     ensures typed { IfOk result (λ r. r
         ≡ checked.typed_label context.now.model (bodies_in context.now) (seen (scope_at walk.old)) ty
         (label_view label.now)) }
-    ensures before { OnOk result (before.new
-        ≡ before.old ++ arm.label_of context.now.model (bodies_in context.now) (seen (scope_at walk.old)) ty
+    ensures found { OnOk result (AreFound before.new) }
+    ensures before { OnOk result (before.new.all
+        ≡ before.old.all ++ arm.label_of context.now.model (bodies_in context.now) (seen (scope_at walk.old)) ty
         (label_view label.now) ∷ []) }
     ensures scope { OnOk result (scope_at walk.new ≡ scope_at walk.old) }
     ensures noted { OnOk result (IsNoted context.now walk.old walk.new
-        (labelling before.old (arm.label_of context.now.model (bodies_in context.now) (seen (scope_at walk.old)) ty
+        (labelling before.old.all (arm.label_of context.now.model (bodies_in context.now) (seen (scope_at walk.old)) ty
         (label_view label.now)) spot (seen (scope_at walk.old)) (label_view label.now))) }
 {
     let label = chosen(context, walk, ty, label)?;
-    note_label(context, walk, before.as_slice(), label, spot);
+    note_label(context, walk, before, label, spot);
     before.push(label)?;
     Ok(or_zero(label))
 }

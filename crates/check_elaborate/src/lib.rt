@@ -2,6 +2,7 @@
 //! jump is judged where it stands; the walk never stops at a refusal, but keeps the first so far.
 #![tactic(auto)]
 
+mod arm_labels;
 mod arms;
 mod context;
 mod declaring;

@@ -13,6 +13,7 @@ ghost use Rattle.check_rules.specs.Scopes as scopes;
 ghost use Rattle.check_elaborate.specs.InArms.{typed_in_arm, after_in_arm, parts_in_arm};
 ghost use Rattle.check_elaborate.specs.Walks.{scope_at, bodies_in, IsNoted, else_of};
 
+use crate::arm_labels::ArmLabels;
 use crate::arms::{label, switch_type};
 use crate::context::Context;
 use crate::declaring::names;
@@ -93,22 +94,15 @@ fn form<'a>(
             Ok(choice)
         }
         RawForm::While { test, body } => {
-            let form = while_loop(context, walk, gives, within, spot, body, test)?;
-            Ok(form)
+            while_loop(context, walk, gives, within, spot, body, test)
         }
-        RawForm::Do { body, test } => {
-            let form = do_loop(context, walk, gives, within, spot, body, test)?;
-            Ok(form)
-        }
+        RawForm::Do { body, test } => { do_loop(context, walk, gives, within, spot, body, test) }
         RawForm::For {
             first,
             test,
             step,
             body,
-        } => {
-            let form = for_loop(context, walk, gives, within, spot, body, first, test, step)?;
-            Ok(form)
-        }
+        } => { for_loop(context, walk, gives, within, spot, body, first, test, step) }
         RawForm::Break => {
             leave(context, walk, within.breaks, spot);
             Ok(Form::Break)
@@ -117,17 +111,13 @@ fn form<'a>(
             leave(context, walk, within.continues, spot);
             Ok(Form::Continue)
         }
-        RawForm::Return(e) => {
-            let form = give(context, walk, gives, within, spot, e)?;
-            Ok(form)
-        }
+        RawForm::Return(e) => { give(context, walk, gives, within, spot, e) }
         RawForm::Label { of, .. } => {
             let of = arm(context, walk, gives, within, of)?;
             Ok(label_of(context.alloc, of)?)
         }
         RawForm::Switch { test, arms } => {
-            let form = switch(context, walk, gives, within, spot, arms.as_slice(), test)?;
-            Ok(form)
+            switch(context, walk, gives, within, spot, arms.as_slice(), test)
         }
     }
 }
@@ -272,7 +262,7 @@ fn arms<'a>(
         (arms_of (map raw_arm_view arms.now)))) }
 {
     let mut all = Seq::new(context.alloc);
-    let mut before = Seq::new(context.alloc);
+    let mut before = ArmLabels::new(context.alloc);
     for arm in arms {
         let label = label(context, walk, ty, &mut before, arm.spot, &arm.label)?;
         let body = in_arm(context, walk, gives, within, arm.body.as_slice())?;

@@ -1,4 +1,5 @@
 pub mod Nets
+pub mod Nodes
 pub mod Composing
 pub mod Counting
 pub mod Reading

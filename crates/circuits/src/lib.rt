@@ -13,6 +13,7 @@ mod logic;
 mod net;
 mod products;
 mod quotients;
+mod shared;
 mod shifts;
 mod signs;
 mod sums;

@@ -3,6 +3,7 @@ ghost use Rattle.std.specs.Prelude.{◌≡◌, ℕ, ◌+◌, ◌<◌, ◌^◌, I
 ghost use Rattle.circuits.specs.declared.net.NetNode.TheVariants.{Constant, Input};
 ghost use Rattle.circuits.specs.Net.{holds, opposite, Grown, Means, IsIn, IsNet, IsFolded, Folds, Stands, bit_in, node_in, values_of, count_ands, count_inputs};
 
+use crate::shared::Shared;
 use std::alloc::Global;
 use std::marker::Model;
 use wv_base::OutOfMemory;
@@ -27,6 +28,7 @@ pub enum NetNode {
 pub struct Net {
     nodes: Vec<NetNode>,
     inputs: u32,
+    shared: Shared,
 }
 
 impl Model for Net {
@@ -78,7 +80,11 @@ impl Net {
     {
         let mut nodes = Vec::new(alloc);
         nodes.push(NetNode::Constant(true))?;
-        Ok(Net { nodes, inputs: 0 })
+        Ok(Net {
+            nodes,
+            inputs: 0,
+            shared: Shared::new(alloc),
+        })
     }
 
     /// The bit that is always true.
@@ -140,8 +146,8 @@ impl Net {
         })
     }
 
-    /// The conjunction. A refusal leaves the net as it was.
-    #[tactic(auto, using(crate::proofs::Nets::grown_not, crate::proofs::Nets::grown_pushed))]
+    /// The conjunction: of two bits one node, in either order. A refusal leaves the net as it was.
+    #[tactic(auto, using(crate::proofs::Nets::grown_not, crate::proofs::Nodes::means_swapped))]
     pub fn and(&mut self, a: Bit, b: Bit) -> Result<Bit, OutOfMemory>
         requires a_in { IsIn self.old a }
         requires b_in { IsIn self.old b }
@@ -151,15 +157,36 @@ impl Net {
         ensures folded { IsFolded a b → self.new ≡ self.old }
         ensures refused { IfErr result (λ e. self.new ≡ self.old) }
     {
-        let node = self.nodes.len() as u32;
+        let _ = self.nodes.len();
         if let Some(r) = folded(a, b) {
             return Ok(r);
         }
+        if b.node < a.node {
+            self.node_of(b, a)
+        } else {
+            self.node_of(a, b)
+        }
+    }
+
+    // the node of these arguments: one that is found, or a new one
+    #[tactic(auto, using(crate::proofs::Nets::grown_not, crate::proofs::Nets::grown_pushed))]
+    fn node_of(&mut self, a: Bit, b: Bit) -> Result<Bit, OutOfMemory>
+        requires a_in { IsIn self.old a }
+        requires b_in { IsIn self.old b }
+        requires stands { Stands a b }
+        requires room { length self.old < 2 ^ 31 }
+        ensures grown { Grown 1 self.old self.new }
+        ensures value { IfOk result (λ r. Means self.new r (λ v. holds v self.old a && holds v self.old b)) }
+        ensures refused { IfErr result (λ e. self.new ≡ self.old) }
+    {
+        let negated = false;
+        if let Some(node) = self.shared.find(&self.nodes, a, b) {
+            return Ok(Bit { node, negated });
+        }
+        let node = self.nodes.len() as u32;
         self.nodes.push(NetNode::And(a, b))?;
-        Ok(Bit {
-            node,
-            negated: false,
-        })
+        self.shared.add(&self.nodes, node, a, b);
+        Ok(Bit { node, negated })
     }
 
     /// The values of all nodes where input k has the value `inputs[k]`, and inputs beyond the last are false.

@@ -17,7 +17,8 @@ use Rattle.c_meaning.specs.Cells.{Cell, put}
 use Rattle.c_meaning.specs.Eval.{eval}
 use Rattle.c_meaning.specs.Exec.{exec, execs}
 use Rattle.c_meaning.specs.Meaning.{Meaning, Where, Used, Calls}
-use Rattle.c_meaning.specs.Objects.{same_spot, type_of_object, size_of_object}
+use Rattle.c_meaning.specs.Objects.{type_of_object, size_of_object}
+use Rattle.c_core.specs.Parts.{same_spot}
 use Rattle.c_meaning.specs.Run.{Told, State}
 use Rattle.demo_run.specs.Typed.{operation, input_call, input, error_if, error_block, main_alone}
 use Rattle.demo_run.proofs.LastCell.{key, cell, put_last}

@@ -8,7 +8,8 @@ use Rattle.c_core.specs.declared.number.Spot.{Spot}
 use Rattle.c_core.specs.declared.tree.Label.{Label as ArmLabel}
 use Rattle.c_core.specs.declared.tree.Label.TheVariants.{Case, Default}
 use Rattle.c_meaning.specs.Meaning.{Used, Unused}
-use Rattle.c_meaning.specs.Objects.{spot_of, type_of, type_of_object, size_of_object, columns_of_object}
+use Rattle.c_meaning.specs.Objects.{type_of, type_of_object, size_of_object, columns_of_object}
+use Rattle.c_core.specs.Parts.{spot_of}
 use Rattle.c_meaning.specs.Run.{first_label}
 use Rattle.run_state.specs.declared.machine.Around.{Around}
 use Rattle.flow_code.specs.declared.code.Place.TheVariants.{Fixed}

@@ -32,7 +32,8 @@ use Rattle.c_meaning.specs.Eval.{convert_to, operate, store, assign, tested, cal
 use Rattle.c_meaning.specs.Exec.{ticks, full, full_if, control, going, while_turn, do_turn, for_turn, draw_cells, initials, row_initials, initial, declare, first, exec, form, otherwise, execs, from_arm, turn, body, with_params, call_of, run_in}
 use Rattle.c_meaning.specs.Fitting.{keys, Grows, calls_in}
 use Rattle.c_meaning.specs.Meaning.{Tick, AStatement, ANode, ACell, AParameter, Use, Used, Unused, Where, Site, Loop, WhileLoop, DoLoop, ForLoop, Meaning, Calls}
-use Rattle.c_meaning.specs.Objects.{type_of, spot_of, type_of_object, size_of_object, columns_of_object}
+use Rattle.c_meaning.specs.Objects.{type_of, type_of_object, size_of_object, columns_of_object}
+use Rattle.c_core.specs.Parts.{spot_of}
 use Rattle.c_meaning.specs.Run as run
 use Rattle.c_meaning.specs.Run.{State, Moment, Head, cells_of, with_cells, cell_among, arm_for, way_for}
 use Rattle.c_meaning.proofs.Stateful.{grows_same, grows_on, keys_put}

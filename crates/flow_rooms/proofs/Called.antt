@@ -14,7 +14,8 @@ use Rattle.c_core.specs.declared.tree.Callee.{Callee}
 use Rattle.c_core.specs.declared.tree.Callee.TheVariants.{Defined, Input as InputOf, ReachError, Abort, Exit}
 use Rattle.c_meaning.specs.Meaning.{Use, Used, Unused}
 use Rattle.c_meaning.specs.Objects.{type_of, type_of_object, size_of_object, columns_of_object}
-use Rattle.c_meaning.specs.Parts.{some_of, some_node, some_part, some_argument, calls, calls_callee, exps_in, exp_if, fulls_of_init, fulls_of_names, fulls_of_first, fulls_of, fulls_of_form, fulls_of_else, fulls_of_block}
+use Rattle.c_meaning.specs.Parts.{some_of, some_node, some_part, some_argument, calls, calls_callee, fulls_of, fulls_of_form, fulls_of_else, fulls_of_block}
+use Rattle.c_core.specs.Parts.{exps_in, exp_if, fulls_of_init, fulls_of_names, fulls_of_first}
 use Rattle.run_state.specs.declared.machine.Around.{Around}
 use Rattle.run_state.specs.declared.machine.CallSite.{CallSite}
 use Rattle.flow_code.specs.declared.code.Action.{Action}

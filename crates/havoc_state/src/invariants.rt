@@ -3,7 +3,7 @@ ghost use Rattle.std.specs.Prelude.{◌≡◌, Some, IfOk};
 ghost use Rattle.c_core.specs.View.{program_view, expr_view};
 ghost use Rattle.c_meaning.specs.Duties.{duty};
 ghost use Rattle.c_meaning.specs.Havoc as havoc;
-ghost use Rattle.c_meaning.specs.Objects.{same_spot};
+ghost use Rattle.c_core.specs.Parts.{same_spot};
 ghost use Rattle.c_meaning.specs.Value as value;
 ghost use Rattle.run_state.specs.Interpreting.{same};
 ghost use Rattle.c_meaning.specs.Placing.{placed, placed_view};

@@ -5,6 +5,7 @@
 
 mod bind;
 mod check;
+mod draws;
 mod expressions;
 mod few;
 mod lexing;
@@ -42,6 +43,9 @@ impl Trial for Rows {
             "places" => places::listed(files, row),
             "visible" => places::visible(files, row),
             "changed" => places::changes(files, row),
+            // The functions that main reaches; the places at which these draw.
+            "reached" => draws::reached(files, row),
+            "draws" => draws::places(files, row),
             // The tree of a witness, read and made again.
             "same" => schema::tree_again(files, row),
             _ => Err(NotTried::Lacks("a kind, or it is no row")),

@@ -252,6 +252,27 @@ fn show_first(text: &mut String, first: &RawFirst) -> Result<(), AllocError> {
     }
 }
 
+/// A word and the test behind it.
+fn show_tested(text: &mut String, word: &str, test: &RawExpr) -> Result<(), AllocError> {
+    text.push_str(word)?;
+    text.push_str(" ")?;
+    show_expr(text, test)
+}
+
+/// The head of a `for`.
+fn show_head(
+    text: &mut String,
+    first: &RawFirst,
+    test: &Option<RawExpr>,
+    step: &Option<RawExpr>,
+) -> Result<(), AllocError> {
+    text.push_str("for ")?;
+    show_first(text, first)?;
+    show_if(text, test)?;
+    text.push_str(";")?;
+    show_if(text, step)
+}
+
 /// A statement that is a part, in brackets.
 #[cycle(shown_stmt)]
 fn show_part(text: &mut String, stmt: &RawStmt) -> Result<(), AllocError> {
@@ -275,8 +296,7 @@ fn show_stmt(text: &mut String, stmt: &RawStmt) -> Result<(), AllocError> {
             text.push_str("}")
         }
         RawForm::If { test, yes, no } => {
-            text.push_str("if ")?;
-            show_expr(text, test)?;
+            show_tested(text, "if", test)?;
             text.push_str(" ")?;
             show_part(text, yes)?;
             match no {
@@ -288,16 +308,14 @@ fn show_stmt(text: &mut String, stmt: &RawStmt) -> Result<(), AllocError> {
             }
         }
         RawForm::While { test, body } => {
-            text.push_str("while ")?;
-            show_expr(text, test)?;
+            show_tested(text, "while", test)?;
             text.push_str(" ")?;
             show_part(text, body)
         }
         RawForm::Do { body, test } => {
             text.push_str("do ")?;
             show_part(text, body)?;
-            text.push_str(" while ")?;
-            show_expr(text, test)
+            show_tested(text, " while", test)
         }
         RawForm::For {
             first,
@@ -305,11 +323,7 @@ fn show_stmt(text: &mut String, stmt: &RawStmt) -> Result<(), AllocError> {
             step,
             body,
         } => {
-            text.push_str("for ")?;
-            show_first(text, first)?;
-            show_if(text, test)?;
-            text.push_str(";")?;
-            show_if(text, step)?;
+            show_head(text, first, test, step)?;
             text.push_str(" ")?;
             show_part(text, body)
         }
@@ -326,8 +340,7 @@ fn show_stmt(text: &mut String, stmt: &RawStmt) -> Result<(), AllocError> {
             show_part(text, of)
         }
         RawForm::Switch { test, arms } => {
-            text.push_str("switch ")?;
-            show_expr(text, test)?;
+            show_tested(text, "switch", test)?;
             text.push_str(" {")?;
             show_arms(text, arms.as_slice())?;
             text.push_str("}")

@@ -5,7 +5,7 @@ use Rattle.std.specs.Vec.{vec_len}
 use Rattle.std.specs.declared.alloc.Global.{Global}
 use Rattle.std.proofs.lemmas.List.{reverse-append}
 use Rattle.c_core.specs.declared.number.Spot.{Spot}
-use Rattle.c_meaning.specs.Objects.{same_spot}
+use Rattle.c_core.specs.Parts.{same_spot}
 use Rattle.c_meaning.specs.Run.{first_value, other_values, given_at, given_after}
 use Rattle.run_state.specs.Drawing.{any_at, IsFirst}
 use Rattle.run_state.specs.Interpreting.{given_left, givens_left}

@@ -1,7 +1,7 @@
 -- Where the values left for a place lie.
 use Rattle.std.specs.Prelude.{◌≡◌, ◌<◌, ℕ, Bool, true, false, ◌||◌, List, [], ◌∷◌, length, take, slice_index_or}
 use Rattle.c_core.specs.declared.number.Spot.{Spot}
-use Rattle.c_meaning.specs.Objects.{same_spot}
+use Rattle.c_core.specs.Parts.{same_spot}
 use Rattle.run_state.specs.declared.machine.LeftAt.{LeftAt}
 
 -- is any at the spot

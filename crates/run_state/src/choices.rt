@@ -1,6 +1,6 @@
 // What is left of the choices: each draw takes the next one, or none.
 ghost use Rattle.std.specs.Prelude.{◌≡◌, ◌≤◌, ◌<◌, ◌+◌, ◌-◌, ◌^◌, false, pos, length, slice_index_or, IfOk, IsOk, IsOkUnless, MatchOption, reverse};
-ghost use Rattle.c_meaning.specs.Objects.{same_spot};
+ghost use Rattle.c_core.specs.Parts.{same_spot};
 ghost use Rattle.c_meaning.specs.Run as run;
 ghost use Rattle.run_state.specs.Drawing.{any_at, IsFirst};
 ghost use Rattle.run_state.specs.Interpreting.{choices_left, givens_left};

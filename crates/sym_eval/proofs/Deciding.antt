@@ -2,7 +2,7 @@
 use Rattle.std.proofs.Common.{◌≡◌, ℕ, ◌+◌, ◌≤◌, ◌<◌, ◌^◌, Bool, true, false, cond, not, ◌&&◌, ◌||◌, ℤ, List, [], ◌++◌, length, refl, sym, ◌∙◌, ap, ap₂, subst, arith, append-nil, Option, Some, None, IsTrue}
 use Rattle.c_core.specs.Tree.{Program, Exp, Expr}
 use Rattle.c_core.specs.Types.{width_of, is_zero}
-use Rattle.c_core.specs.Parts.{type_of as type_if}
+use Rattle.c_core.specs.Parts.{type_of as type_if, spot_of}
 use Rattle.c_core.specs.Typing.{has_value, is_typed}
 use Rattle.c_core.specs.declared.number.IntType.{IntType}
 use Rattle.c_core.specs.declared.number.IntType.TheVariants.{Bool as BoolType}
@@ -14,7 +14,7 @@ use Rattle.c_meaning.specs.Eval.{eval}
 use Rattle.c_meaning.specs.Exec.{full, full_if, control, going}
 use Rattle.c_meaning.specs.Havoc.{Stopped, Left, havoc}
 use Rattle.c_meaning.specs.Meaning.{Use, Used, Unused}
-use Rattle.c_meaning.specs.Objects.{type_of, spot_of}
+use Rattle.c_meaning.specs.Objects.{type_of}
 use Rattle.c_meaning.proofs.TypeFacts.{both, some_type}
 use Rattle.circuits.specs.declared.net.Bit.{Bit}
 use Rattle.circuits.specs.Net.{holds, IsIn, opposite}

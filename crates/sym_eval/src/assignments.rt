@@ -22,6 +22,7 @@ use wv_base::OutOfMemory;
 
 // The cell that an expression means (ISO C11 6.3.2.1).
 #[cycle(walk)]
+#[inline(never)]
 fn target(
     walk: &Walk,
     sym: &mut Sym,
@@ -158,6 +159,7 @@ pub fn assign(
 }
 
 #[cycle(walk)]
+#[inline(always)]
 fn replace(
     walk: &Walk,
     sym: &mut Sym,
@@ -181,6 +183,7 @@ fn replace(
 }
 
 #[cycle(walk)]
+#[inline(always)]
 fn update(
     walk: &Walk,
     sym: &mut Sym,

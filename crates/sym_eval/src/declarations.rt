@@ -166,6 +166,7 @@ fn introduce(
 
 /// Declared names, one after another.
 #[cycle(walk)]
+#[inline(never)]
 pub fn declare_names(
     walk: &Walk,
     sym: &mut Sym,
@@ -186,6 +187,7 @@ pub fn declare_names(
 
 /// What comes before the turns of a `for`.
 #[cycle(walk)]
+#[inline(never)]
 pub fn first(
     walk: &Walk,
     sym: &mut Sym,

@@ -20,8 +20,10 @@ use sym_values::{choose, convert, end, input, operate, operate_one, reach, test,
 use wv_base::{OutOfMemory, Seq};
 
 /// An expression, at a statement and a full expression, with calls at most `depth` deep. A void one gives any bits.
-/// Each form has a frame of its own, never inlined here: nested expressions take the stack of their own forms alone.
+/// This choice stands in the frames of its callers, and each form has one of its own, never inlined here: nested
+/// expressions take the stack of their own forms alone.
 #[cycle(walk)]
+#[inline(always)]
 pub fn eval(
     walk: &Walk,
     sym: &mut Sym,
@@ -73,6 +75,7 @@ pub fn eval(
     }
 }
 
+#[inline(never)]
 fn constant(
     walk: &Walk,
     sym: &mut Sym,
@@ -91,6 +94,7 @@ fn constant(
     Ok(r)
 }
 
+#[inline(never)]
 fn scalar(
     walk: &Walk,
     sym: &mut Sym,
@@ -232,6 +236,7 @@ fn comma(
 
 // An expression is evaluated in the runs in which a bit is true.
 #[cycle(walk)]
+#[inline(always)]
 fn eval_where(
     walk: &Walk,
     sym: &mut Sym,

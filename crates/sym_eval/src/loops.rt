@@ -23,6 +23,7 @@ use wv_base::OutOfMemory;
 
 // A loop's body: its cells end with it, and so does the way of `continue`.
 #[cycle(walk)]
+#[inline(always)]
 fn loop_body(
     walk: &Walk,
     sym: &mut Sym,
@@ -43,6 +44,7 @@ fn loop_body(
 }
 
 #[cycle(walk)]
+#[inline(always)]
 fn while_turn(
     walk: &Walk,
     sym: &mut Sym,
@@ -64,6 +66,7 @@ fn while_turn(
 }
 
 #[cycle(walk)]
+#[inline(always)]
 fn do_turn(
     walk: &Walk,
     sym: &mut Sym,
@@ -85,6 +88,7 @@ fn do_turn(
 }
 
 #[cycle(walk)]
+#[inline(always)]
 fn for_turn(
     walk: &Walk,
     sym: &mut Sym,
@@ -109,6 +113,7 @@ fn for_turn(
 
 // The turn of the loop that a form is; any other form has none.
 #[cycle(walk)]
+#[inline(always)]
 fn turn(
     walk: &Walk,
     sym: &mut Sym,
@@ -147,6 +152,7 @@ fn turn(
 
 // A loop's head, before the turn: the invariants have to hold on arrival, what the loop changes is drawn, and runs go
 // on only where the invariants hold again.
+#[inline(never)]
 fn head(walk: &Walk, sym: &mut Sym, at: Spot, f: &Form) -> Result<(), OutOfMemory>
     requires walk { IsWalk walk.now }
     requires fits { IsState (program_of walk.now) sym.old }
@@ -165,6 +171,7 @@ fn head(walk: &Walk, sym: &mut Sym, at: Spot, f: &Form) -> Result<(), OutOfMemor
 // A loop: where the turn comes back to the head the invariants have to hold once more, and the run ends; runs that left
 // the loop go on.
 #[cycle(walk)]
+#[inline(never)]
 fn loop_scope(
     walk: &Walk,
     sym: &mut Sym,
@@ -191,6 +198,7 @@ fn loop_scope(
 
 // A `for`: what its first part declares ends with it (C11 6.8.5p5).
 #[cycle(walk)]
+#[inline(always)]
 fn for_scope(
     walk: &Walk,
     sym: &mut Sym,
@@ -215,6 +223,7 @@ fn for_scope(
 
 /// A statement that is a loop: `while`, `do` or `for`.
 #[cycle(walk)]
+#[inline(never)]
 pub fn one_loop(
     walk: &Walk,
     sym: &mut Sym,

@@ -1,6 +1,6 @@
 // What the sites of a net stand for, also those at which no run is.
 ghost use Rattle.std.specs.Prelude.{IsTrue, OnOk};
-ghost use Rattle.std.specs.List.{All};
+ghost use Rattle.std.specs.List.{All, Contains};
 ghost use Rattle.c_core.specs.View.{program_view};
 ghost use Rattle.c_draws.specs.Drawing.{IsDrawn};
 ghost use Rattle.sym_duties.specs.Promise.{StandsFor};
@@ -13,7 +13,7 @@ use wv_base::OutOfMemory;
 
 // Whether each site is at one of the places at which the program draws.
 fn all_stand(program: &Program, places: &[DrawPlace], sites: &[DrawSite]) -> bool
-    requires { All (IsDrawn (program_view program.now)) places.now }
+    requires { (x : DrawPlace) → Contains places.now x → IsDrawn (program_view program.now) x }
     ensures { IsTrue result → All (StandsFor (program_view program.now)) sites.now }
 {
     for site in sites {

@@ -21,6 +21,7 @@ use wv_base::OutOfMemory;
 
 /// A statement: its location invariants are tested, and its form is done.
 #[cycle(walk)]
+#[inline(always)]
 pub fn statement(
     walk: &Walk,
     sym: &mut Sym,
@@ -108,6 +109,7 @@ pub fn form(
 
 // An expression for its effects.
 #[cycle(walk)]
+#[inline(never)]
 fn only(
     walk: &Walk,
     sym: &mut Sym,
@@ -175,6 +177,7 @@ fn give_value(
 
 // `return`, with a value or without.
 #[cycle(walk)]
+#[inline(never)]
 fn give_back(
     walk: &Walk,
     sym: &mut Sym,
@@ -224,6 +227,7 @@ pub fn execs(
 
 // A block: what is declared in it ends with it.
 #[cycle(walk)]
+#[inline(never)]
 fn block(
     walk: &Walk,
     sym: &mut Sym,
@@ -246,6 +250,7 @@ fn block(
 
 // A statement that is a scope of its own.
 #[cycle(walk)]
+#[inline(always)]
 fn arm(
     walk: &Walk,
     sym: &mut Sym,
@@ -289,6 +294,7 @@ fn otherwise(
 
 // `if`: runs part by the test, do the one arm or the other, and come together again.
 #[cycle(walk)]
+#[inline(never)]
 fn choose(
     walk: &Walk,
     sym: &mut Sym,

@@ -22,6 +22,7 @@ use wv_base::OutOfMemory;
 
 // The test is promoted, and its value chooses the arm: for each arm a bit, whether it is done.
 #[cycle(walk)]
+#[inline(never)]
 fn chosen(
     walk: &Walk,
     sym: &mut Sym,
@@ -47,6 +48,7 @@ fn chosen(
 
 // One arm: the runs for which it is done do its statements, and come together with the others.
 #[cycle(walk)]
+#[inline(always)]
 fn one_arm(
     walk: &Walk,
     sym: &mut Sym,
@@ -78,6 +80,7 @@ fn one_arm(
 
 // The arms, one after another.
 #[cycle(walk)]
+#[inline(always)]
 fn walk_arms(
     walk: &Walk,
     sym: &mut Sym,
@@ -99,6 +102,7 @@ fn walk_arms(
 
 /// A `switch`: a `break` in its arms leaves it.
 #[cycle(walk)]
+#[inline(never)]
 pub fn switch(
     walk: &Walk,
     sym: &mut Sym,

@@ -25,6 +25,7 @@ pub enum Target {
 }
 
 /// What a target of a type holds.
+#[inline(never)]
 pub fn look_target(
     alloc: Global,
     program: &Program,
@@ -53,6 +54,7 @@ pub fn look_target(
 }
 
 /// A value is converted to the type of a target, and stored in it.
+#[inline(never)]
 pub fn store_target(
     alloc: Global,
     program: &Program,

@@ -9,7 +9,7 @@ use Rattle.c_core.specs.declared.number.Spot.{Spot}
 use Rattle.c_meaning.specs.Acts.{Go}
 use Rattle.c_meaning.specs.Duties.{Placed, Duties, duty, function_duties, invariant_duties, is_less}
 use Rattle.c_meaning.specs.Havoc.{Left, stands, test_from, assume_all}
-use Rattle.c_meaning.specs.Objects.{same_spot}
+use Rattle.c_core.specs.Parts.{same_spot}
 use Rattle.c_meaning.specs.declared.run.Duty.{Duty}
 use Rattle.c_meaning.specs.declared.run.DutyKind.{DutyKind}
 use Rattle.c_meaning.specs.declared.run.DutyKind.TheVariants.{Location, Entry, Kept}

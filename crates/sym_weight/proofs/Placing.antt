@@ -9,7 +9,7 @@ use Rattle.c_core.specs.declared.number.Spot.{Spot}
 use Rattle.c_core.specs.Tree.{Program}
 use Rattle.c_meaning.specs.Duties.{Placed}
 use Rattle.c_meaning.specs.Havoc.{stands}
-use Rattle.c_meaning.specs.Objects.{same_spot}
+use Rattle.c_core.specs.Parts.{same_spot}
 use Rattle.sym_weight.specs.Tally.{capped, weight_at}
 use Rattle.sym_weight.specs.Weight.{evaluation, placed_weight}
 

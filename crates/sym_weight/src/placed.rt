@@ -3,7 +3,7 @@ ghost use Rattle.std.specs.Prelude.{◌≡◌, ◌+◌, cond, [], IfOk, OnOk};
 ghost use Rattle.c_core.specs.View.{expr_view, program_view};
 ghost use Rattle.c_core.specs.declared.number.Spot.{Spot};
 ghost use Rattle.c_meaning.specs.Havoc.{stands};
-ghost use Rattle.c_meaning.specs.Objects.{same_spot};
+ghost use Rattle.c_core.specs.Parts.{same_spot};
 ghost use Rattle.sym_weight.specs.Tally as tally;
 ghost use Rattle.sym_weight.specs.Tally.{capped};
 ghost use Rattle.c_meaning.specs.Placing.{placed, placed_view};

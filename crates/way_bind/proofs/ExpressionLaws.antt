@@ -45,12 +45,9 @@ pub typed_expression : (p : Program) (names bytes text : List ℕ) (e : RawExpr)
 typed_expression p names bytes text e tree same h k = (expr_view e, the_expression text e (subst (λ b. AnswersExpression b (Ok e)) same h), k)
 
 -- over the names that are visible at a place of one program
-pub visible_there : (typing naming p : rust.Program) (kind : PlaceKind) (names text : List ℕ) (spot : Spot) (answer : Result Exp Unbound) → typing ≡ p → naming ≡ p
-    → names ≡ names_at (typed.program_view naming) kind spot → BindsExpression (typed.program_view typing) names text answer
-    → BindsExpression (typed.program_view p) (names_at (typed.program_view p) kind spot) text answer
-visible_there typing naming p kind names text spot answer same one is h =
-    subst (λ (q : rust.Program). BindsExpression (typed.program_view q) (names_at (typed.program_view p) kind spot) text answer) same
-    (subst (λ ns. BindsExpression (typed.program_view typing) ns text answer) (is ∙ ap (λ (q : rust.Program). names_at (typed.program_view q) kind spot) one) h)
+pub visible_there : (q p : rust.Program) (kind : PlaceKind) (text : List ℕ) (spot : Spot) (answer : Result Exp Unbound) → q ≡ p
+    → BindsExpression (typed.program_view q) (names_at (typed.program_view q) kind spot) text answer → BindsExpression (typed.program_view p) (names_at (typed.program_view p) kind spot) text answer
+visible_there q p kind text spot answer same h = subst (λ (r : rust.Program). BindsExpression (typed.program_view r) (names_at (typed.program_view r) kind spot) text answer) same h
 
 -- at a place, whose names it reads
 pub there : {A : Type 0} (p : Program) (kind : PlaceKind) (text : List ℕ) (make : Spot → Exp → A) (spot : Spot) (tree : Expr) → BindsExpression p (names_at p kind spot) text (Ok (typed.expr_view tree)) → BindsThere p kind text make spot (Ok (make spot (typed.expr_view tree)))

@@ -2,18 +2,16 @@ ghost use Rattle.std.specs.Prelude.{◌≡◌, IfOk};
 
 use c_core::Program;
 use std::alloc::Global;
-use way_names::{Keys, Names};
+use way_names::NamedObjects;
 use way_places::Index;
 use wv_base::OutOfMemory;
 
-/// A program whose places, and the names that are visible there, are found without a walk.
+/// A program whose places, and what names mean there, are found without a walk.
 #[derive(Drop)]
 pub struct Lookup<'a> {
     pub index: Index<'a>,
-    pub names: Names<'a>,
-    pub keys: Keys<'a>,
-    ghost one_program: { names ≡ index },
-    ghost keyed: { keys.objects.now ≡ index.objects },
+    pub names: NamedObjects<'a>,
+    ghost one_program: { names.program.now ≡ index },
 }
 
 impl<'a> Lookup<'a> {
@@ -22,8 +20,7 @@ impl<'a> Lookup<'a> {
         ensures { IfOk result (λ lookup. lookup.index ≡ program.now) }
     {
         let index = Index::new(alloc, program)?;
-        let names = Names::new(alloc, program)?;
-        let keys = Keys::of(alloc, program.objects.as_slice())?;
-        Ok(Lookup { index, names, keys })
+        let names = NamedObjects::new(alloc, program)?;
+        Ok(Lookup { index, names })
     }
 }

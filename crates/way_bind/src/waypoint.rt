@@ -4,6 +4,7 @@ ghost use Rattle.c_core.specs.View.{program_view, expr_view};
 ghost use Rattle.c_core.specs.declared.place.PlaceKind.TheVariants.{Statement, Branch, CallEnd};
 ghost use Rattle.c_parser.specs.View.{expr_view as raw_view};
 ghost use Rattle.way_constraint.specs.Constraints.{AnswersConstraint};
+ghost use Rattle.way_names.specs.AtPlaces.{program_at, visible};
 ghost use Rattle.way_names.specs.Visible.{is_scoped, names_at};
 ghost use Rattle.way_match.specs.View.{aim_view, point_view, test_view};
 ghost use Rattle.way_bind.specs.Binding.{BindsAssumption, BindsBranching, BindsEntry, BindsExpression, BindsPoint, BindsReturn, BindsTest, BindsTested, WherePlaced, aim_of, is_suitable, is_valued, place_named, seen, target_at, text_of};
@@ -14,9 +15,9 @@ use crate::way::way_at;
 use c_core::{Expr, PlaceKind, Program, Spot};
 use c_parser::{ExprFault, RawExpr, parse_expr, parse_result};
 use std::alloc::Global;
-use way_constraint::{check_among, check_expr};
+use way_constraint::{check_at, check_expr};
 use way_match::{Aim, Point, ReturnTest};
-use way_names::Keys;
+use way_names::NamesAt;
 use way_places::Index;
 use wv_base::Seq;
 use wv_schema::{Constraint, Location, WayKind, Waypoint};
@@ -53,23 +54,16 @@ fn is_valued(index: &Index, close: Spot) -> bool
     }
 }
 
-/// The expression of a text over these names, typed.
-fn expression_of(
-    alloc: Global,
-    program: &Program,
-    keys: &Keys,
-    names: &Seq<u32>,
-    text: &str,
-) -> Result<Expr, Unbound>
-    requires { keys.now.objects.now ≡ program.now.objects }
-    ensures { BindsExpression (program_view program.now) names.now text.now (seen expr_view result) }
+/// The expression of a text over the names that are visible at a place, typed.
+fn expression_of(alloc: Global, place: &NamesAt, text: &str) -> Result<Expr, Unbound>
+    ensures { BindsExpression (program_at place.now) (visible place.now) text.now (seen expr_view result) }
 {
     let expr = parse_expr(alloc, text.as_bytes())?;
-    let test = check_among(alloc, program, keys, names, &expr)?;
+    let test = check_at(alloc, place, &expr)?;
     Ok(test)
 }
 
-/// The expression of a text over the names that are visible at a statement or a loop, typed.
+/// The same at a statement or a loop.
 pub fn expression_at(
     alloc: Global,
     lookup: &Lookup,
@@ -81,8 +75,12 @@ pub fn expression_at(
     ensures { BindsExpression (program_view lookup.now.index) (names_at (program_view lookup.now.index) kind spot)
         text.now (seen expr_view result) }
 {
-    let names = lookup.names.visible_at(alloc, kind, spot)?;
-    expression_of(alloc, lookup.index.program(), &lookup.keys, &names, text)
+    let place = NamesAt {
+        names: &lookup.names,
+        kind,
+        spot,
+    };
+    expression_of(alloc, &place, text)
 }
 
 /// A constant, which sees no names, typed.

@@ -1,8 +1,8 @@
 -- An expression over few of the names in scope, those of its words among them.
-use Rattle.std.proofs.Common.{◌≡◌, ℕ, Bool, true, false, cond, List, [], ◌∷◌, ◌++◌, Option, Some, None, refl, ap, sym, subst, ◌∙◌}
-use Rattle.std.specs.Prelude.{slice_get, filter, Result, Ok, Err, IfOk}
+use Rattle.std.proofs.Common.{◌≡◌, ℕ, Bool, true, false, cond, List, [], ◌∷◌, ◌++◌, Option, Some, None, refl, ap, sym, subst, ◌∙◌, eq-eqb, eqb-true}
+use Rattle.std.specs.Prelude.{slice_get, Result, Ok, Err, IfOk}
 use Rattle.std.specs.Str.{bytes_eq}
-use Rattle.std.proofs.lemmas.Bool.{false≢true}
+use Rattle.std.proofs.lemmas.Option.{same_Some}
 use Rattle.std.proofs.lemmas.Slice.Eq.{bytes_eq-Decides}
 use Rattle.c_core.specs.Tree as t
 use Rattle.c_core.specs.View.{expr_view}
@@ -15,13 +15,16 @@ use Rattle.c_parser.specs.declared.fault.ExprFault.TheVariants.{Expression, Scop
 use Rattle.check_rules.specs.Codes.{count_stated, or_else}
 use Rattle.check_rules.specs.Names.{Kind, Object, Entry, later, declared_as, named, built_in, or_built_in}
 use Rattle.check_rules.specs.Typed.{typed}
-use Rattle.way_names.specs.Keys.{is_marked, is_wanted, key_at, key_of}
+use Rattle.way_places.specs.Seeking.{or_else as or_other}
+use Rattle.way_names.specs.Keys.{is_called, is_key, last_named, last_of}
+use Rattle.way_names.proofs.VersionLaws.{last_joined}
 use Rattle.way_constraint.specs.Constraints.{entries, entry_at, is_among, in_scope, is_refused, IsTyped, AnswersIn, FitsConstraint}
 use Rattle.way_constraint.specs.Known.{is_object}
-use Rattle.way_constraint.specs.Words.{all_pass, is_word_marked, TakesFew}
+use Rattle.way_constraint.specs.Words.{all_pass, with_number, with_word, with_words}
 use Rattle.way_constraint.proofs.AnswerLaws.{fits, objects_in_scope}
 use Rattle.way_constraint.proofs.NameLaws.{same_words}
 use Rattle.way_constraint.proofs.SameLaws.{same_typed, same_refused, same_scope}
+use Rattle.way_constraint.proofs.WordLaws.{all_words_pass, kept}
 
 -- ---- what names make of a word
 
@@ -42,46 +45,143 @@ later_none : (k : Option Kind) → later None k ≡ k
 later_none None = refl
 later_none (Some k) = refl
 
-front_same : (x : List ℕ) (n : ℕ) (o : Option declared.Object) (es fs : List Entry) → declared_as es x ≡ declared_as fs x → declared_as (entry_at n o ++ es) x ≡ declared_as (entry_at n o ++ fs) x
-front_same x n None es fs h = h
-front_same x n (Some o) es fs h = ap (later (cond (bytes_eq o.name x) (Some (Object n o.ty o.dims o.fixed)) None)) h
+-- what an object's number stands for
+abbrev kind_of : ℕ → Option declared.Object → Option Kind
+kind_of n None = None
+kind_of n (Some o) = Some (Object n o.ty o.dims o.fixed)
 
-module _ (objects : List declared.Object) (marks : List Bool) (x : List ℕ) (h : is_word_marked (key_of objects) marks x ≡ true) where
-  abbrev wanted : ℕ → Bool
-  wanted n = is_wanted objects marks n
+abbrev kind_at : List declared.Object → Option ℕ → Option Kind
+kind_at objects None = None
+kind_at objects (Some n) = kind_of n (slice_get objects n)
 
-  is_kept : (n : ℕ) (o : declared.Object) → slice_get objects n ≡ Some o → bytes_eq o.name x ≡ true → is_wanted objects marks n ≡ true
-  is_kept n o at e =
-      ap (λ (s : Option declared.Object). is_marked marks (key_at objects s)) at
-      ∙ ap (λ (y : List ℕ). is_marked marks (key_of objects y)) ((bytes_eq-Decides o.name x).0 e) ∙ h
+or_test : (t : Bool) (n : ℕ) (o : Option ℕ) → or_other (cond t (Some n) None) o ≡ cond t (Some n) o
+or_test true n o = refl
+or_test false n o = refl
 
-  -- an object that isn't kept has another name
-  other_name : (n : ℕ) (s : Option declared.Object) (es : List Entry) → slice_get objects n ≡ s → is_wanted objects marks n ≡ false → declared_as (entry_at n s ++ es) x ≡ declared_as es x
-  other_name n None es at w = refl
-  other_name n (Some o) es at w = by_test (bytes_eq o.name x) refl
+last_added : (test : ℕ → Bool) (ns : List ℕ) (n : ℕ) → last_of test (ns ++ n ∷ []) ≡ cond (test n) (Some n) (last_of test ns)
+last_added test ns n = last_joined test ns (n ∷ []) ∙ or_test (test n) n (last_of test ns)
+
+last_passes : (test : ℕ → Bool) (ns : List ℕ) (n : ℕ) → last_of test ns ≡ Some n → test n ≡ true
+last_passes test [] n e = cc
+last_passes test (m ∷ ns) n e = by_rest (last_passes test ns n) (last_of test ns) refl (test m) refl e
+  where
+    by_rest : (last_of test ns ≡ Some n → test n ≡ true) → (o : Option ℕ) → last_of test ns ≡ o → (t : Bool) → test m ≡ t → or_other o (cond t (Some m) None) ≡ Some n → test n ≡ true
+    by_rest rest (Some k) r t s e = rest (r ∙ e)
+    by_rest rest None r true s e = ap test (sym (same_Some m n e)) ∙ s
+    by_rest rest None r false s e = cc
+
+module _ (objects : List declared.Object) (x : List ℕ) where
+  abbrev called : ℕ → Bool
+  called n = is_called (slice_get objects n) x
+
+  later_found : (k : Option Kind) (n : ℕ) (s : Option declared.Object) → is_called s x ≡ true → later k (kind_of n s) ≡ kind_of n s
+  later_found k n None h = cc
+  later_found None n (Some o) h = refl
+  later_found (Some k) n (Some o) h = refl
+
+  one_more : (n : ℕ) (s : Option declared.Object) (es : List Entry) (rest : Option ℕ) → slice_get objects n ≡ s → declared_as es x ≡ kind_at objects rest → ((k : ℕ) → rest ≡ Some k → called k ≡ true)
+      → declared_as (entry_at n s ++ es) x ≡ kind_at objects (or_other rest (cond (is_called s x) (Some n) None))
+  one_more n None es None at h k = h
+  one_more n None es (Some m) at h k = h
+  one_more n (Some o) es (Some m) at h k =
+      ap (later (cond (bytes_eq o.name x) (Some (Object n o.ty o.dims o.fixed)) None)) h ∙ later_found (cond (bytes_eq o.name x) (Some (Object n o.ty o.dims o.fixed)) None) m (slice_get objects m) (k m refl)
+  one_more n (Some o) es None at h k = ap (later (cond (bytes_eq o.name x) (Some (Object n o.ty o.dims o.fixed)) None)) h ∙ by_test (bytes_eq o.name x)
     where
-      by_test : (b : Bool) → bytes_eq o.name x ≡ b → later (cond b (Some (Object n o.ty o.dims o.fixed)) None) (declared_as es x) ≡ declared_as es x
-      by_test true e = absurd (false≢true (sym w ∙ is_kept n o at e))
-      by_test false e = later_none (declared_as es x)
+      by_test : (b : Bool) → later (cond b (Some (Object n o.ty o.dims o.fixed)) None) None ≡ kind_at objects (cond b (Some n) None)
+      by_test true = sym (ap (kind_of n) at)
+      by_test false = refl
 
-  declared_same : (ns : List ℕ) → declared_as (entries objects ns) x ≡ declared_as (entries objects (filter wanted ns)) x
-  declared_same [] = refl
-  declared_same (n ∷ ns) = by_test (is_wanted objects marks n) refl (declared_same ns)
+  -- names make of a word what the last object of that name is
+  declared_is : (ns : List ℕ) → declared_as (entries objects ns) x ≡ kind_at objects (last_named objects ns x)
+  declared_is [] = refl
+  declared_is (n ∷ ns) = one_more n (slice_get objects n) (entries objects ns) (last_named objects ns x) refl (declared_is ns) (λ k e. last_passes called ns k e)
+
+-- ---- few numbers by what words mean
+
+-- a word means this, where it means something
+abbrev settled_as : Option ℕ → Option ℕ → Bool
+settled_as None o = true
+settled_as (Some n) o = is_key o n
+
+module _ (objects : List declared.Object) (names : List ℕ) where
+  abbrev means : List ℕ → Option ℕ
+  means x = last_named objects names x
+
+  abbrev is_settled : List ℕ → List ℕ → Bool
+  is_settled few x = settled_as (means x) (last_named objects few x)
+
+  -- what words of one name mean is one
+  one_meaning : (x y : List ℕ) (n : ℕ) (s : Option declared.Object) → is_called s x ≡ true → is_called s y ≡ true → means y ≡ Some n → means x ≡ Some n
+  one_meaning x y n None h k e = cc
+  one_meaning x y n (Some o) h k e = ap means (sym ((bytes_eq-Decides o.name x).0 h) ∙ (bytes_eq-Decides o.name y).0 k) ∙ e
+
+  means_called : (y : List ℕ) (n : ℕ) → means y ≡ Some n → is_called (slice_get objects n) y ≡ true
+  means_called y n e = last_passes (λ m. is_called (slice_get objects m) y) names n e
+
+  settled_more : (few : List ℕ) (x y : List ℕ) (n : ℕ) → means y ≡ Some n → is_settled few x ≡ true → is_settled (few ++ n ∷ []) x ≡ true
+  settled_more few x y n e h = ap (settled_as (means x)) (last_added (λ m. is_called (slice_get objects m) x) few n) ∙ by_test (is_called (slice_get objects n) x) refl
     where
-      by_test : (b : Bool) → is_wanted objects marks n ≡ b → declared_as (entries objects ns) x ≡ declared_as (entries objects (filter wanted ns)) x
-          → declared_as (entry_at n (slice_get objects n) ++ entries objects ns) x ≡ declared_as (entries objects (cond b (n ∷ filter wanted ns) (filter wanted ns))) x
-      by_test true e k = front_same x n (slice_get objects n) (entries objects ns) (entries objects (filter wanted ns)) k
-      by_test false e k = other_name n (slice_get objects n) (entries objects ns) refl e ∙ k
+      by_test : (b : Bool) → is_called (slice_get objects n) x ≡ b → settled_as (means x) (cond b (Some n) (last_named objects few x)) ≡ true
+      by_test false k = h
+      by_test true k = ap (λ o. settled_as o (Some n)) (one_meaning x y n (slice_get objects n) k (means_called y n e) e) ∙ eq-eqb n n refl
+
+  by_meaning : (few : List ℕ) (x y : List ℕ) (m : Option ℕ) → means y ≡ m → is_settled few x ≡ true → is_settled (with_number m few) x ≡ true
+  by_meaning few x y None e h = h
+  by_meaning few x y (Some n) e h = settled_more few x y n e h
+
+  settled_stays : (w : Option (List ℕ)) (few x : List ℕ) → is_settled few x ≡ true → is_settled (with_word means w few) x ≡ true
+  settled_stays None few x h = h
+  settled_stays (Some y) few x h = by_meaning few x y (means y) refl h
+
+  settled_there : (x few : List ℕ) → is_settled (with_word means (Some x) few) x ≡ true
+  settled_there x few = by_what (means x) refl
+    where
+      by_what : (m : Option ℕ) → means x ≡ m → settled_as (means x) (last_named objects (with_number m few) x) ≡ true
+      by_what None e = ap (λ o. settled_as o (last_named objects few x)) e
+      by_what (Some n) e =
+          ap (λ o. settled_as o (last_named objects (few ++ n ∷ []) x)) e
+          ∙ ap (λ o. is_key o n) (last_added (λ m. is_called (slice_get objects m) x) few n ∙ ap (λ b. cond b (Some n) (last_named objects few x)) (means_called x n e))
+          ∙ eq-eqb n n refl
+
+  -- what means nothing is none of the few
+  abbrev Sound : List ℕ → Type 0
+  Sound few = (x : List ℕ) → means x ≡ None → last_named objects few x ≡ None
+
+  sound_more : (few : List ℕ) (y : List ℕ) (n : ℕ) → means y ≡ Some n → Sound few → Sound (few ++ n ∷ [])
+  sound_more few y n e h x none = last_added (λ m. is_called (slice_get objects m) x) few n ∙ by_test (is_called (slice_get objects n) x) refl
+    where
+      by_test : (b : Bool) → is_called (slice_get objects n) x ≡ b → cond b (Some n) (last_named objects few x) ≡ None
+      by_test false k = h x none
+      by_test true k = let e = one_meaning x y n (slice_get objects n) k (means_called y n e) e in cc
+
+  sound_stays : (w : Option (List ℕ)) (few : List ℕ) → Sound few → Sound (with_word means w few)
+  sound_stays None few h = h
+  sound_stays (Some y) few h = by_what (means y) refl
+    where
+      by_what : (m : Option ℕ) → means y ≡ m → Sound (with_number m few)
+      by_what None e = h
+      by_what (Some n) e = sound_more few y n e h
+
+  is_that : (o : Option ℕ) (n : ℕ) → is_key o n ≡ true → o ≡ Some n
+  is_that None n h = cc
+  is_that (Some k) n h = ap Some (eqb-true k n h)
+
+  -- a settled word means the same among the few
+  same_meaning : (few : List ℕ) → Sound few → (x : List ℕ) → is_settled few x ≡ true → means x ≡ last_named objects few x
+  same_meaning few h x settled = by_what (means x) refl settled
+    where
+      by_what : (m : Option ℕ) → means x ≡ m → settled_as m (last_named objects few x) ≡ true → means x ≡ last_named objects few x
+      by_what None e s = e ∙ sym (h x e)
+      by_what (Some n) e s = e ∙ sym (is_that (last_named objects few x) n s)
 
 -- ---- answers over few names
 
-module _ (m : DataModel) (objects : List declared.Object) (marks : List Bool) (numbers : List ℕ) (e : Exp)
-    (h : all_pass (is_word_marked (key_of objects) marks) e ≡ true) where
-  abbrev test : List ℕ → Bool
-  test x = is_word_marked (key_of objects) marks x
-
+module _ (m : DataModel) (objects : List declared.Object) (numbers : List ℕ) (e : Exp) where
   abbrev few : List ℕ
-  few = filter (is_wanted objects marks) numbers
+  few = with_words (means objects numbers) e []
+
+  abbrev test : List ℕ → Bool
+  test x = is_settled objects numbers few x
 
   abbrev all_names : List Entry
   all_names = entries objects numbers
@@ -89,8 +189,16 @@ module _ (m : DataModel) (objects : List declared.Object) (marks : List Bool) (n
   abbrev few_names : List Entry
   few_names = entries objects few
 
+  all_settled : all_pass test e ≡ true
+  all_settled = all_words_pass (means objects numbers) (is_settled objects numbers) (settled_stays objects numbers) (settled_there objects numbers) e []
+
+  few_sound : Sound objects numbers few
+  few_sound = kept (means objects numbers) (Sound objects numbers) (sound_stays objects numbers) e [] (λ x h. refl)
+
   named_same : (x : List ℕ) → test x ≡ true → named all_names x ≡ named few_names x
-  named_same x k = ap (λ (o : Option Kind). or_built_in o (built_in x)) (declared_same objects marks x k numbers)
+  named_same x k =
+      ap (λ (o : Option Kind). or_built_in o (built_in x))
+      (declared_is objects x numbers ∙ ap (kind_at objects) (same_meaning objects numbers few few_sound x k) ∙ sym (declared_is objects x few))
 
   stated_same : (x : List ℕ) → test x ≡ true → count_stated all_names x ≡ count_stated few_names x
   stated_same x k = none_stated objects numbers x ∙ sym (none_stated objects few x)
@@ -99,13 +207,13 @@ module _ (m : DataModel) (objects : List declared.Object) (marks : List Bool) (n
   among_same x k = sym (same_words objects numbers (Some x)) ∙ ap is_object (named_same x k) ∙ same_words objects few (Some x)
 
   scope_same : in_scope all_names e ≡ in_scope few_names e
-  scope_same = same_scope test all_names few_names among_same e h
+  scope_same = same_scope test all_names few_names among_same e all_settled
 
   refused_same : is_refused m all_names e ≡ is_refused m few_names e
-  refused_same = same_refused m test all_names few_names named_same stated_same e h
+  refused_same = same_refused m test all_names few_names named_same stated_same e all_settled
 
   tree_same : typed m [] all_names e ≡ typed m [] few_names e
-  tree_same = same_typed m test all_names few_names named_same stated_same e h
+  tree_same = same_typed m test all_names few_names named_same stated_same e all_settled
 
   typed_among : (tree : t.Exp) → IsTyped m few_names e tree → IsTyped m all_names e tree
   typed_among tree y = record { scope = scope_same ∙ y.scope; typing = refused_same ∙ y.typing; made = y.made ∙ sym tree_same }
@@ -121,16 +229,12 @@ module _ (m : DataModel) (objects : List declared.Object) (marks : List Bool) (n
 
 -- ---- where few names are taken
 
-module _ (m : DataModel) (objects : List declared.Object) (names few : List ℕ) (e : Exp) (h : TakesFew objects names e few) where
+module _ (m : DataModel) (objects : List declared.Object) (names few : List ℕ) (e : Exp) (h : few ≡ with_words (λ x. last_named objects names x) e []) where
   pub answer_of_few : (answer : Result stored.Expr ExprFault) → AnswersIn m (entries objects few) e answer → AnswersIn m (entries objects names) e answer
-  answer_of_few answer y =
-      answers_among m objects h.0 names e h.1 answer (subst (λ (ns : List ℕ). AnswersIn m (entries objects ns) e answer) h.2 y)
-
-  pub fit_of_few : (tree : t.Exp) → IsTyped m (entries objects few) e tree → FitsConstraint names e tree
-  fit_of_few tree y =
-      fits_among m objects h.0 names e h.1 tree
-      (typed_among m objects h.0 names e h.1 tree (subst (λ (ns : List ℕ). IsTyped m (entries objects ns) e tree) h.2 y))
+  answer_of_few answer y = answers_among m objects names e answer (subst (λ (ns : List ℕ). AnswersIn m (entries objects ns) e answer) h y)
 
   pub fits_if : (answer : Result stored.Expr ExprFault) → AnswersIn m (entries objects few) e answer → IfOk answer (λ tree. FitsConstraint names e (expr_view tree))
-  fits_if (Ok tree) y = fit_of_few (expr_view tree) y
+  fits_if (Ok tree) y =
+      fits_among m objects names e (expr_view tree)
+      (typed_among m objects names e (expr_view tree) (subst (λ (ns : List ℕ). IsTyped m (entries objects ns) e (expr_view tree)) h y))
   fits_if (Err fault) y = tt

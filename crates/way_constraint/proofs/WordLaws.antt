@@ -1,118 +1,110 @@
--- The keys of all words of an expression are marked.
-use Rattle.std.proofs.Common.{◌≡◌, ℕ, zero, suc, Bool, true, false, ◌&&◌, List, [], ◌∷◌, Option, Some, None, refl}
-use Rattle.std.specs.Prelude.{slice_get}
+-- What is kept while words are gone through, and that a test which each word passes behind its turn is passed by all.
+use Rattle.std.proofs.Common.{◌≡◌, ℕ, Bool, true, false, ◌&&◌, List, Option, Some, None, refl}
 use Rattle.c_parser.specs.Formed.{every_node, every_part, every_argument}
 use Rattle.c_parser.specs.Tree.{Exp, Expr, Node, Number, Char, Var, Index, Unary, Cast, Step, Binary, Logic, Choose, Comma, Assign, Call, Exps, NoExp, MoreExp}
 use Rattle.check_rules.specs.Codes.{word_of}
-use Rattle.way_names.specs.Keys.{is_marked, mark_or, with_key, with_mark}
-use Rattle.way_constraint.specs.Words.{all_pass, is_word_marked, passes, with_word, with_words, with_words_in, with_words_of}
-
--- what is marked in one is marked in the other
-abbrev Above : List Bool → List Bool → Type 0
-Above marks more = (key : Option ℕ) → is_marked marks key ≡ true → is_marked more key ≡ true
-
-mark_stays : (key : ℕ) (marks : List Bool) (k : ℕ) → mark_or (slice_get marks k) ≡ true → mark_or (slice_get (with_mark key marks) k) ≡ true
-mark_stays key [] k h = h
-mark_stays zero (mark ∷ marks) zero h = refl
-mark_stays zero (mark ∷ marks) (suc k) h = h
-mark_stays (suc key) (mark ∷ marks) zero h = h
-mark_stays (suc key) (mark ∷ marks) (suc k) h = mark_stays key marks k h
-
-mark_is_there : (key : ℕ) (marks : List Bool) → mark_or (slice_get (with_mark key marks) key) ≡ true
-mark_is_there key [] = refl
-mark_is_there zero (mark ∷ marks) = refl
-mark_is_there (suc key) (mark ∷ marks) = mark_is_there key marks
-
-key_stays : (key : Option ℕ) (marks : List Bool) → Above marks (with_key key marks)
-key_stays None marks k h = h
-key_stays (Some key) marks None h = refl
-key_stays (Some key) marks (Some k) h = mark_stays key marks k h
-
-key_is_marked : (key : Option ℕ) (marks : List Bool) → is_marked (with_key key marks) key ≡ true
-key_is_marked None marks = refl
-key_is_marked (Some key) marks = mark_is_there key marks
+use Rattle.way_constraint.specs.Words.{all_pass, passes, with_word, with_words, with_words_in, with_words_of}
 
 both_true : (a b : Bool) → a ≡ true → b ≡ true → (a && b) ≡ true
 both_true true b e h = h
 both_true false b e h = e
 
-module _ (key : List ℕ → Option ℕ) where
-  word_stays : (x : Option (List ℕ)) (marks : List Bool) → Above marks (with_word key x marks)
-  word_stays None marks k h = h
-  word_stays (Some x) marks k h = key_stays (key x) marks k h
+module _ (means : List ℕ → Option ℕ) where
+  -- ---- what each word keeps
 
-  mutual
-    words_stay : (e : Exp) (marks : List Bool) → Above marks (with_words key e marks)
-    words_stay (Expr p n) marks k h = words_stay_in n (with_word key (word_of n) marks) k (word_stays (word_of n) marks k h)
+  module _ (P : List ℕ → Type 0) (keeps : (w : Option (List ℕ)) (few : List ℕ) → P few → P (with_word means w few)) where
+    mutual
+      pub kept : (e : Exp) (few : List ℕ) → P few → P (with_words means e few)
+      kept (Expr p n) few h = kept_in n (with_word means (word_of n) few) (keeps (word_of n) few h)
 
-    words_stay_in : (n : Node) (marks : List Bool) → Above marks (with_words_in key n marks)
-    words_stay_in (Number v decimal unsigned longs) marks k h = h
-    words_stay_in (Char v) marks k h = h
-    words_stay_in (Var x w) marks k h = h
-    words_stay_in (Index x w is) marks k h = words_stay_of is marks k h
-    words_stay_in (Unary op a) marks k h = words_stay a marks k h
-    words_stay_in (Cast to a) marks k h = words_stay a marks k h
-    words_stay_in (Step op a) marks k h = words_stay a marks k h
-    words_stay_in (Binary op a b) marks k h = words_stay b (with_words key a marks) k (words_stay a marks k h)
-    words_stay_in (Logic both a b) marks k h = words_stay b (with_words key a marks) k (words_stay a marks k h)
-    words_stay_in (Choose mark e a b) marks k h =
-        words_stay b (with_words key a (with_words key e marks)) k (words_stay a (with_words key e marks) k (words_stay e marks k h))
-    words_stay_in (Comma a b) marks k h = words_stay b (with_words key a marks) k (words_stay a marks k h)
-    words_stay_in (Assign op a b) marks k h = words_stay b (with_words key a marks) k (words_stay a marks k h)
-    words_stay_in (Call f w gs close) marks k h = words_stay_of gs marks k h
+      pub kept_in : (n : Node) (few : List ℕ) → P few → P (with_words_in means n few)
+      kept_in (Number v decimal unsigned longs) few h = h
+      kept_in (Char v) few h = h
+      kept_in (Var x w) few h = h
+      kept_in (Index x w is) few h = kept_of is few h
+      kept_in (Unary op a) few h = kept a few h
+      kept_in (Cast to a) few h = kept a few h
+      kept_in (Step op a) few h = kept a few h
+      kept_in (Binary op a b) few h = kept b (with_words means a few) (kept a few h)
+      kept_in (Logic both a b) few h = kept b (with_words means a few) (kept a few h)
+      kept_in (Choose mark e a b) few h = kept b (with_words means a (with_words means e few)) (kept a (with_words means e few) (kept e few h))
+      kept_in (Comma a b) few h = kept b (with_words means a few) (kept a few h)
+      kept_in (Assign op a b) few h = kept b (with_words means a few) (kept a few h)
+      kept_in (Call f w gs close) few h = kept_of gs few h
 
-    words_stay_of : (gs : Exps) (marks : List Bool) → Above marks (with_words_of key gs marks)
-    words_stay_of NoExp marks k h = h
-    words_stay_of (MoreExp e gs) marks k h = words_stay_of gs (with_words key e marks) k (words_stay e marks k h)
+      pub kept_of : (gs : Exps) (few : List ℕ) → P few → P (with_words_of means gs few)
+      kept_of NoExp few h = h
+      kept_of (MoreExp e gs) few h = kept_of gs (with_words means e few) (kept e few h)
 
-  abbrev test : List Bool → Node → Bool
-  test marks n = passes (is_word_marked key marks) (word_of n)
+  -- ---- what is passed once and stays so
 
-  word_passes : (x : Option (List ℕ)) (marks more : List Bool) → Above (with_word key x marks) more → passes (is_word_marked key more) x ≡ true
-  word_passes None marks more up = refl
-  word_passes (Some x) marks more up = up (key x) (key_is_marked (key x) marks)
+  module _ (test : List ℕ → List ℕ → Bool)
+      (stays : (w : Option (List ℕ)) (few : List ℕ) (x : List ℕ) → test few x ≡ true → test (with_word means w few) x ≡ true)
+      (there : (x : List ℕ) (few : List ℕ) → test (with_word means (Some x) few) x ≡ true) where
+    abbrev Above : List ℕ → List ℕ → Type 0
+    Above few more = (x : List ℕ) → test few x ≡ true → test more x ≡ true
 
-  abbrev Pass : Exp → List Bool → Type 0
-  Pass e more = (marks : List Bool) → Above (with_words key e marks) more → every_node (test more) e ≡ true
+    higher : (few : List ℕ) (w : Option (List ℕ)) (more : List ℕ) → Above few more → Above few (with_word means w more)
+    higher few w more up x h = stays w more x (up x h)
 
-  two_pass : (a b : Exp) (marks more : List Bool) → Pass a more → Pass b more → Above (with_words key b (with_words key a marks)) more → (every_node (test more) a && every_node (test more) b) ≡ true
-  two_pass a b marks more left right up =
-      both_true (every_node (test more) a) (every_node (test more) b)
-      (left marks (λ k h. up k (words_stay b (with_words key a marks) k h)))
-      (right (with_words key a marks) up)
+    above : (e : Exp) (few : List ℕ) → Above few (with_words means e few)
+    above e few = kept (Above few) (higher few) e few (λ x h. h)
 
-  mutual
-    words_pass : (e : Exp) (marks more : List Bool) → Above (with_words key e marks) more → every_node (test more) e ≡ true
-    words_pass (Expr p n) marks more up =
-        both_true (test more n) (every_part (test more) n)
-        (word_passes (word_of n) marks more (λ k h. up k (words_stay_in n (with_word key (word_of n) marks) k h)))
-        (words_pass_in n (with_word key (word_of n) marks) more up)
+    above_in : (n : Node) (few : List ℕ) → Above few (with_words_in means n few)
+    above_in n few = kept_in (Above few) (higher few) n few (λ x h. h)
 
-    words_pass_in : (n : Node) (marks more : List Bool) → Above (with_words_in key n marks) more → every_part (test more) n ≡ true
-    words_pass_in (Number v decimal unsigned longs) marks more up = refl
-    words_pass_in (Char v) marks more up = refl
-    words_pass_in (Var x w) marks more up = refl
-    words_pass_in (Index x w is) marks more up = words_pass_of is marks more up
-    words_pass_in (Unary op a) marks more up = words_pass a marks more up
-    words_pass_in (Cast to a) marks more up = words_pass a marks more up
-    words_pass_in (Step op a) marks more up = words_pass a marks more up
-    words_pass_in (Binary op a b) marks more up = two_pass a b marks more (λ ms u. words_pass a ms more u) (λ ms u. words_pass b ms more u) up
-    words_pass_in (Logic both a b) marks more up = two_pass a b marks more (λ ms u. words_pass a ms more u) (λ ms u. words_pass b ms more u) up
-    words_pass_in (Choose mark e a b) marks more up =
-        let ms = with_words key e marks in
-        both_true (every_node (test more) e) (every_node (test more) a && every_node (test more) b)
-        (words_pass e marks more (λ k h. up k (words_stay b (with_words key a ms) k (words_stay a ms k h))))
-        (two_pass a b ms more (λ ns u. words_pass a ns more u) (λ ns u. words_pass b ns more u) up)
-    words_pass_in (Comma a b) marks more up = two_pass a b marks more (λ ms u. words_pass a ms more u) (λ ms u. words_pass b ms more u) up
-    words_pass_in (Assign op a b) marks more up = two_pass a b marks more (λ ms u. words_pass a ms more u) (λ ms u. words_pass b ms more u) up
-    words_pass_in (Call f w gs close) marks more up = words_pass_of gs marks more up
+    above_of : (gs : Exps) (few : List ℕ) → Above few (with_words_of means gs few)
+    above_of gs few = kept_of (Above few) (higher few) gs few (λ x h. h)
 
-    words_pass_of : (gs : Exps) (marks more : List Bool) → Above (with_words_of key gs marks) more → every_argument (test more) gs ≡ true
-    words_pass_of NoExp marks more up = refl
-    words_pass_of (MoreExp e gs) marks more up =
-        both_true (every_node (test more) e) (every_argument (test more) gs)
-        (words_pass e marks more (λ k h. up k (words_stay_of gs (with_words key e marks) k h)))
-        (words_pass_of gs (with_words key e marks) more up)
+    abbrev passing : List ℕ → Node → Bool
+    passing few n = passes (test few) (word_of n)
 
-  pub all_marked : (e : Exp) (marks : List Bool) → all_pass (is_word_marked key (with_words key e marks)) e ≡ true
-  all_marked e marks = words_pass e marks (with_words key e marks) (λ k h. h)
+    word_passes : (w : Option (List ℕ)) (few more : List ℕ) → Above (with_word means w few) more → passes (test more) w ≡ true
+    word_passes None few more up = refl
+    word_passes (Some x) few more up = up x (there x few)
+
+    abbrev Pass : Exp → List ℕ → Type 0
+    Pass e more = (few : List ℕ) → Above (with_words means e few) more → every_node (passing more) e ≡ true
+
+    two_pass : (a b : Exp) (few more : List ℕ) → Pass a more → Pass b more → Above (with_words means b (with_words means a few)) more
+        → (every_node (passing more) a && every_node (passing more) b) ≡ true
+    two_pass a b few more left right up =
+        both_true (every_node (passing more) a) (every_node (passing more) b)
+        (left few (λ x h. up x (above b (with_words means a few) x h)))
+        (right (with_words means a few) up)
+
+    mutual
+      words_pass : (e : Exp) (few more : List ℕ) → Above (with_words means e few) more → every_node (passing more) e ≡ true
+      words_pass (Expr p n) few more up =
+          both_true (passing more n) (every_part (passing more) n)
+          (word_passes (word_of n) few more (λ x h. up x (above_in n (with_word means (word_of n) few) x h)))
+          (words_pass_in n (with_word means (word_of n) few) more up)
+
+      words_pass_in : (n : Node) (few more : List ℕ) → Above (with_words_in means n few) more → every_part (passing more) n ≡ true
+      words_pass_in (Number v decimal unsigned longs) few more up = refl
+      words_pass_in (Char v) few more up = refl
+      words_pass_in (Var x w) few more up = refl
+      words_pass_in (Index x w is) few more up = words_pass_of is few more up
+      words_pass_in (Unary op a) few more up = words_pass a few more up
+      words_pass_in (Cast to a) few more up = words_pass a few more up
+      words_pass_in (Step op a) few more up = words_pass a few more up
+      words_pass_in (Binary op a b) few more up = two_pass a b few more (λ ns u. words_pass a ns more u) (λ ns u. words_pass b ns more u) up
+      words_pass_in (Logic both a b) few more up = two_pass a b few more (λ ns u. words_pass a ns more u) (λ ns u. words_pass b ns more u) up
+      words_pass_in (Choose mark e a b) few more up =
+          let next = with_words means e few in
+          both_true (every_node (passing more) e) (every_node (passing more) a && every_node (passing more) b)
+          (words_pass e few more (λ x h. up x (above b (with_words means a next) x (above a next x h))))
+          (two_pass a b next more (λ ns u. words_pass a ns more u) (λ ns u. words_pass b ns more u) up)
+      words_pass_in (Comma a b) few more up = two_pass a b few more (λ ns u. words_pass a ns more u) (λ ns u. words_pass b ns more u) up
+      words_pass_in (Assign op a b) few more up = two_pass a b few more (λ ns u. words_pass a ns more u) (λ ns u. words_pass b ns more u) up
+      words_pass_in (Call f w gs close) few more up = words_pass_of gs few more up
+
+      words_pass_of : (gs : Exps) (few more : List ℕ) → Above (with_words_of means gs few) more → every_argument (passing more) gs ≡ true
+      words_pass_of NoExp few more up = refl
+      words_pass_of (MoreExp e gs) few more up =
+          both_true (every_node (passing more) e) (every_argument (passing more) gs)
+          (words_pass e few more (λ x h. up x (above_of gs (with_words means e few) x h)))
+          (words_pass_of gs (with_words means e few) more up)
+
+    pub all_words_pass : (e : Exp) (few : List ℕ) → all_pass (test (with_words means e few)) e ≡ true
+    all_words_pass e few = words_pass e few (with_words means e few) (λ x h. h)

@@ -1,18 +1,19 @@
-ghost use Rattle.std.specs.Prelude.{◌≡◌, IfOk};
+ghost use Rattle.std.specs.Prelude.{IfOk};
 ghost use Rattle.c_core.specs.View.{program_view, expr_view as typed_view};
 ghost use Rattle.c_parser.specs.View.{expr_view};
+ghost use Rattle.way_names.specs.AtPlaces.{program_at, visible};
 ghost use Rattle.way_constraint.specs.Constraints.{AnswersConstraint, AnswersIn, FitsConstraint, entries};
 
 use crate::known::names_objects;
 use crate::names::names_in_scope;
-use crate::words::named_in;
+use crate::words::objects_named;
 use c_core::{DataModel, Expr, Object, Program};
 use c_parser::{ExprFault, RawExpr};
 use check_rules::Role;
 use check_scope::Functions;
 use check_types::expression;
 use std::alloc::Global;
-use way_names::Keys;
+use way_names::NamesAt;
 use wv_base::Seq;
 
 /// The typed tree of an expression whose words are objects, given by their numbers.
@@ -68,18 +69,13 @@ pub fn check_expr(
     Ok(tree)
 }
 
-/// The same, by the keys of the program's names: only those that are words of the expression are declared.
-pub fn check_among(
-    alloc: Global,
-    program: &Program,
-    keys: &Keys,
-    names: &Seq<u32>,
-    expr: &RawExpr,
-) -> Result<Expr, ExprFault>
-    requires { keys.now.objects.now ≡ program.now.objects }
-    ensures answer { AnswersConstraint (program_view program.now) names.now (expr_view expr.now) result }
-    ensures fits { IfOk result (λ tree. FitsConstraint names.now (expr_view expr.now) (typed_view tree)) }
+/// The same at a statement or a loop, over the objects that are visible there: only those that words of the expression
+/// mean are declared.
+pub fn check_at(alloc: Global, place: &NamesAt, expr: &RawExpr) -> Result<Expr, ExprFault>
+    ensures answer { AnswersConstraint (program_at place.now) (visible place.now) (expr_view expr.now) result }
+    ensures fits { IfOk result (λ tree. FitsConstraint (visible place.now) (expr_view expr.now) (typed_view tree)) }
 {
-    let few = named_in(alloc, keys, names, expr)?;
+    let few = objects_named(alloc, place, expr)?;
+    let program = place.names.program;
     constraint_in(alloc, program.model, &program.objects, few.as_slice(), expr)
 }

@@ -6,4 +6,4 @@ mod known;
 mod names;
 mod words;
 
-pub use check::{check_among, check_expr};
+pub use check::{check_at, check_expr};

@@ -1,102 +1,100 @@
-// The words of an expression, by which few of the names in scope are taken.
-ghost use Rattle.std.specs.Prelude.{◌≡◌, true, IfOk};
+// The objects that the words of an expression mean, which are few of those that are visible.
+ghost use Rattle.std.specs.Prelude.{◌≡◌, [], IfOk, OnOk};
 ghost use Rattle.c_parser.specs.Tree.{exps};
 ghost use Rattle.c_parser.specs.View.{expr_view, exprs_view, node_view};
 ghost use Rattle.check_rules.specs.Codes.{word_of};
-ghost use Rattle.way_constraint.specs.Words.{TakesFew, all_pass, is_word_marked, with_word, with_words, with_words_in, with_words_of};
-ghost use Rattle.way_names.specs.Keys.{key_of};
+ghost use Rattle.way_constraint.specs.Words.{meant, with_number, with_word, with_words, with_words_in, with_words_of};
 
 use crate::known::name_in;
 use c_parser::{RawExpr, RawNode};
 use std::alloc::Global;
-use way_names::{Keys, mark};
-use wv_base::{OutOfMemory, Seq};
+use way_names::NamesAt;
+use wv_base::OutOfMemory;
 
-// Marks the word that a node uses itself.
-fn mark_word(keys: &Keys, marks: &mut Vec<bool>, node: &RawNode)
-    ensures { marks.new.items ≡ with_word (key_of keys.now.objects.now) (word_of (node_view node.now)) marks.old.items }
+fn push_number(few: &mut Vec<u32>, number: Option<u32>) -> Result<(), OutOfMemory>
+    ensures { OnOk result (few.new.items ≡ with_number number few.old.items) }
 {
-    match name_in(node) {
-        Some(name) => mark(marks, keys.key(name)),
-        None => {}
+    if let Some(number) = number {
+        few.push(number)?;
     }
+    Ok(())
 }
 
-// Marks all words of an expression.
-#[cycle(words)]
-fn mark_words(keys: &Keys, marks: &mut Vec<bool>, e: &RawExpr)
-    ensures { marks.new.items ≡ with_words (key_of keys.now.objects.now) (expr_view e.now) marks.old.items }
+// What the word means that a node uses itself.
+fn push_word(place: &NamesAt, few: &mut Vec<u32>, node: &RawNode) -> Result<(), OutOfMemory>
+    ensures { OnOk result (few.new.items ≡ with_word (meant place.now) (word_of (node_view node.now)) few.old.items) }
 {
-    mark_word(keys, marks, &e.node);
-    mark_parts(keys, marks, &e.node);
+    match name_in(node) {
+        Some(name) => push_number(few, place.object(name))?,
+        None => {}
+    }
+    Ok(())
+}
+
+// What all words of an expression mean.
+#[cycle(words)]
+fn push_words(place: &NamesAt, few: &mut Vec<u32>, e: &RawExpr) -> Result<(), OutOfMemory>
+    ensures { OnOk result (few.new.items ≡ with_words (meant place.now) (expr_view e.now) few.old.items) }
+{
+    push_word(place, few, &e.node)?;
+    push_parts(place, few, &e.node)?;
+    Ok(())
 }
 
 // Those of the parts of a node.
 #[cycle(words)]
-fn mark_parts(keys: &Keys, marks: &mut Vec<bool>, node: &RawNode)
-    ensures { marks.new.items ≡ with_words_in (key_of keys.now.objects.now) (node_view node.now) marks.old.items }
+fn push_parts(place: &NamesAt, few: &mut Vec<u32>, node: &RawNode) -> Result<(), OutOfMemory>
+    ensures { OnOk result (few.new.items ≡ with_words_in (meant place.now) (node_view node.now) few.old.items) }
 {
     match node {
         RawNode::Number { .. } => {}
         RawNode::Char(_) => {}
         RawNode::Var { .. } => {}
-        RawNode::Index { at, .. } => mark_all(keys, marks, at.as_slice()),
-        RawNode::Unary { of, .. } => mark_words(keys, marks, of),
-        RawNode::Cast { of, .. } => mark_words(keys, marks, of),
-        RawNode::Step { target, .. } => mark_words(keys, marks, target),
+        RawNode::Index { at, .. } => push_all(place, few, at.as_slice())?,
+        RawNode::Unary { of, .. } => push_words(place, few, of)?,
+        RawNode::Cast { of, .. } => push_words(place, few, of)?,
+        RawNode::Step { target, .. } => push_words(place, few, target)?,
         RawNode::Binary { left, right, .. } => {
-            mark_words(keys, marks, left);
-            mark_words(keys, marks, right);
+            push_words(place, few, left)?;
+            push_words(place, few, right)?;
         }
         RawNode::Logic { left, right, .. } => {
-            mark_words(keys, marks, left);
-            mark_words(keys, marks, right);
+            push_words(place, few, left)?;
+            push_words(place, few, right)?;
         }
         RawNode::Choose { test, yes, no, .. } => {
-            mark_words(keys, marks, test);
-            mark_words(keys, marks, yes);
-            mark_words(keys, marks, no);
+            push_words(place, few, test)?;
+            push_words(place, few, yes)?;
+            push_words(place, few, no)?;
         }
         RawNode::Comma { first, last } => {
-            mark_words(keys, marks, first);
-            mark_words(keys, marks, last);
+            push_words(place, few, first)?;
+            push_words(place, few, last)?;
         }
         RawNode::Assign { target, from, .. } => {
-            mark_words(keys, marks, target);
-            mark_words(keys, marks, from);
+            push_words(place, few, target)?;
+            push_words(place, few, from)?;
         }
-        RawNode::Call { args, .. } => mark_all(keys, marks, args.as_slice()),
+        RawNode::Call { args, .. } => push_all(place, few, args.as_slice())?,
     }
+    Ok(())
 }
 
 #[cycle(words)]
-fn mark_all(keys: &Keys, marks: &mut Vec<bool>, es: &[RawExpr])
-    ensures { marks.new.items ≡ with_words_of (key_of keys.now.objects.now) (exps (exprs_view es.now)) marks.old.items }
+fn push_all(place: &NamesAt, few: &mut Vec<u32>, es: &[RawExpr]) -> Result<(), OutOfMemory>
+    ensures { OnOk result (few.new.items ≡ with_words_of (meant place.now) (exps (exprs_view es.now)) few.old.items) }
 {
     for e in es {
-        mark_words(keys, marks, e);
+        push_words(place, few, e)?;
     }
+    Ok(())
 }
 
-fn words_marked(alloc: Global, keys: &Keys, e: &RawExpr) -> Result<Vec<bool>, OutOfMemory>
-    ensures { IfOk result (λ marks.
-        all_pass (is_word_marked (key_of keys.now.objects.now) marks.items) (expr_view e.now) ≡ true) }
+/// What the words of an expression mean, in their order.
+pub fn objects_named(alloc: Global, place: &NamesAt, e: &RawExpr) -> Result<Vec<u32>, OutOfMemory>
+    ensures { IfOk result (λ few. few.items ≡ with_words (meant place.now) (expr_view e.now) []) }
 {
-    let mut marks = vec![in alloc; false; keys.objects.len()]?;
-    mark_words(keys, &mut marks, e);
-    Ok(marks)
-}
-
-/// Those of these objects whose names are words of an expression, in their order.
-pub fn named_in(
-    alloc: Global,
-    keys: &Keys,
-    names: &Seq<u32>,
-    e: &RawExpr,
-) -> Result<Vec<u32>, OutOfMemory>
-    ensures { IfOk result (λ few. TakesFew keys.now.objects.now names.now (expr_view e.now) few.items) }
-{
-    let marks = words_marked(alloc, keys, e)?;
-    let few = keys.among(alloc, marks.as_slice(), names.as_slice())?;
+    let mut few = Vec::new(alloc);
+    push_words(place, &mut few, e)?;
     Ok(few)
 }

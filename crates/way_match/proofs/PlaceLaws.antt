@@ -9,7 +9,7 @@ use Rattle.std.specs.BTreeMap.{BTreeMap, get, is_at}
 use Rattle.std.specs.declared.vec.Vec.{Vec}
 use Rattle.std.specs.declared.alloc.Global.{Global}
 use Rattle.c_core.specs.declared.number.Spot.{Spot}
-use Rattle.c_meaning.specs.Objects.{same_spot}
+use Rattle.c_core.specs.Parts.{same_spot}
 use Rattle.way_match.specs.inside.ByPlace.{spot_cmp, items_if, is_marked, IsClear, same_place, numbers_in}
 use Rattle.way_match.specs.declared.by_place.ByPlace.{ByPlace}
 

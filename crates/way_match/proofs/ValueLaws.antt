@@ -7,7 +7,7 @@ use Rattle.std.specs.Option.{unwrap_or}
 use Rattle.std.specs.Ordering.{nat_cmp}
 use Rattle.c_core.specs.Places as places
 use Rattle.c_core.specs.declared.number.Spot.{Spot}
-use Rattle.c_meaning.specs.Objects.{same_spot}
+use Rattle.c_core.specs.Parts.{same_spot}
 use Rattle.c_meaning.specs.declared.run.Given.{Given}
 use Rattle.way_places.specs.Inputs.{calls_view}
 use Rattle.way_places.specs.Maps.{found_at}

@@ -3,7 +3,7 @@ use Rattle.std.specs.Prelude.{ℕ, ℤ, Bool, true, false, cond, not, nat_eq, �
 use Rattle.std.specs.List.{filter_map}
 use Rattle.c_core.specs.Types.{fit}
 use Rattle.c_core.specs.Tree.{Exp, Expr, Node, Var, Index, Binary, Logic, Assign, Init, Absent, One, Many, Rows, Names, NoName, MoreName, Stm, Stmt, Form, Do, Declare, Program}
-use Rattle.c_core.specs.Parts.{exps_of_program}
+use Rattle.c_core.specs.Parts.{exps_of_program, same_spot}
 use Rattle.c_core.specs.Places.{InputCall, input_of, input_at, stmt_before, first_some}
 use Rattle.c_core.specs.declared.number.Spot.{Spot}
 use Rattle.c_core.specs.declared.number.BinOp.{BinOp}
@@ -11,7 +11,6 @@ use Rattle.c_core.specs.declared.number.BinOp.TheVariants.{Eq}
 use Rattle.c_meaning.specs.declared.run.Choices.{Choices}
 use Rattle.c_meaning.specs.declared.run.Choices.TheVariants.{Given}
 use Rattle.c_meaning.specs.declared.run.Run.{Run as GivenRun}
-use Rattle.c_meaning.specs.Objects.{same_spot}
 use Rattle.c_meaning.specs.Parts.{some_node}
 use Rattle.c_meaning.specs.Run.{Run}
 use Rattle.c_meaning.specs.Value.{and_then}

@@ -16,7 +16,8 @@ use Rattle.c_meaning.specs.declared.run.Event.TheVariants as event
 use Rattle.c_meaning.specs.declared.run.Way.{Way}
 use Rattle.c_meaning.specs.declared.run.Way.TheVariants.{Truth, Case, Default}
 use Rattle.c_meaning.specs.Cells.{Cell}
-use Rattle.c_meaning.specs.Objects.{same_spot, type_of}
+use Rattle.c_meaning.specs.Objects.{type_of}
+use Rattle.c_core.specs.Parts.{same_spot}
 use Rattle.c_meaning.specs.Value.{and_then, wrapping, value_of, is_true, holds}
 use Rattle.way_match.specs.Points.{Aim, At, Line, ReturnTest, Point, Assume, Target, Enter, Return, Branch}
 

@@ -2,7 +2,8 @@
 ghost use Rattle.std.specs.Prelude.{◌≡◌, length};
 ghost use Rattle.c_core.specs.Types.{common_of, IsPromoted};
 ghost use Rattle.c_core.specs.View.{program_view, expr_view};
-ghost use Rattle.c_meaning.specs.Objects.{same_spot as same_spot_of, type_of as type_of_exp};
+ghost use Rattle.c_meaning.specs.Objects.{type_of as type_of_exp};
+ghost use Rattle.c_core.specs.Parts.{same_spot as same_spot_of};
 ghost use Rattle.c_meaning.specs.Value.{and_then, is_true, wrapping, holds as holds_in};
 ghost use Rattle.way_match.specs.Passing as passing;
 ghost use Rattle.way_match.specs.inside.Prepared.{comparison_of, comparisons_of};

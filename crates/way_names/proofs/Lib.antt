@@ -6,3 +6,6 @@ pub mod StaticLaws
 pub mod ObjectLaws
 pub mod NamesLaws
 pub mod KeyLaws
+pub mod NodeLaws
+pub mod VersionLaws
+pub mod NamedLaws

@@ -21,7 +21,7 @@ pub scope_kept : (xs ys : List Scope) (scope : Option ℕ) (names : List ℕ) �
 scope_kept xs ys _ _ outermost = outermost
 scope_kept xs ys _ _ (inner n s names at low around) = inner n s names (get_front xs ys n s at) low (scope_kept xs ys s.outer names around)
 
-scope_within : (xs : List Scope) (scope : Option ℕ) (names : List ℕ) → IsScope xs scope names → height scope ≤ length xs
+pub scope_within : (xs : List Scope) (scope : Option ℕ) (names : List ℕ) → IsScope xs scope names → height scope ≤ length xs
 scope_within xs _ _ outermost = omega arith
 scope_within xs _ _ (inner n s names at low around) = omega (arith, slice_get_within xs n s at)
 

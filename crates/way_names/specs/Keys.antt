@@ -1,11 +1,12 @@
--- Objects by their names: those of one name have one key, and keys are marked.
-use Rattle.std.specs.Prelude.{ℕ, zero, suc, Bool, true, cond, List, [], ◌∷◌, Option, Some, None, slice_get}
+-- Objects by their names: those of one name have one key.
+use Rattle.std.specs.Prelude.{ℕ, suc, nat_eq, Bool, true, false, cond, List, [], ◌∷◌, Option, Some, None, slice_get}
 use Rattle.std.specs.BTreeMap.{BTreeMap, get_by}
 use Rattle.std.specs.Cmp.Lexicographic.{slice_cmp}
 use Rattle.std.specs.Ordering.{nat_cmp}
 use Rattle.std.specs.Str.{bytes_eq}
 use denote.Ref.{Bor}
 use Rattle.c_core.specs.declared.tree.Object.{Object}
+use Rattle.way_places.specs.Seeking.{or_else}
 
 -- of objects numbered from n, the number of the first of a name
 abbrev pub first_named : ℕ → List Object → List ℕ → Option ℕ
@@ -21,29 +22,27 @@ abbrev pub key_at : List Object → Option Object → Option ℕ
 key_at objects None = None
 key_at objects (Some o) = key_of objects o.name
 
--- what has no mark counts as marked
-abbrev pub mark_or : Option Bool → Bool
-mark_or None = true
-mark_or (Some mark) = mark
+abbrev pub is_key : Option ℕ → ℕ → Bool
+is_key None key = false
+is_key (Some k) key = nat_eq k key
 
-abbrev pub is_marked : List Bool → Option ℕ → Bool
-is_marked marks None = true
-is_marked marks (Some key) = mark_or (slice_get marks key)
+-- the name of the object of a number has this key
+abbrev pub has_key : List Object → ℕ → ℕ → Bool
+has_key objects key n = is_key (key_at objects (slice_get objects n)) key
 
--- the name of the object of a number is marked
-abbrev pub is_wanted : List Object → List Bool → ℕ → Bool
-is_wanted objects marks n = is_marked marks (key_at objects (slice_get objects n))
+-- the object, where there is one, has this name
+abbrev pub is_called : Option Object → List ℕ → Bool
+is_called None x = false
+is_called (Some o) x = bytes_eq o.name x
 
--- with a mark at a place of the list
-abbrev pub with_mark : ℕ → List Bool → List Bool
-with_mark key [] = []
-with_mark zero (mark ∷ marks) = true ∷ marks
-with_mark (suc key) (mark ∷ marks) = mark ∷ with_mark key marks
+-- the last of these that passes a test
+abbrev pub last_of : (ℕ → Bool) → List ℕ → Option ℕ
+last_of test [] = None
+last_of test (n ∷ ns) = or_else (last_of test ns) (cond (test n) (Some n) None)
 
--- with a key marked, where there is one
-abbrev pub with_key : Option ℕ → List Bool → List Bool
-with_key None marks = marks
-with_key (Some key) marks = with_mark key marks
+-- the last of the objects of these numbers that has this name
+abbrev pub last_named : List Object → List ℕ → List ℕ → Option ℕ
+last_named objects ns x = last_of (λ n. is_called (slice_get objects n) x) ns
 
 -- what a map has for a name
 abbrev pub number_in : BTreeMap (Bor (List ℕ)) ℕ → List ℕ → Option ℕ

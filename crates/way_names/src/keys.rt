@@ -1,8 +1,8 @@
-// Keys of names, by which few names are taken of many.
-ghost use Rattle.std.specs.Prelude.{◌≡◌, ℕ, cond, List, Some, None, map, IfOk, OnOk, filter, slice_get};
+// Keys of names.
+ghost use Rattle.std.specs.Prelude.{◌≡◌, ℕ, cond, List, Some, None, map, IfOk, OnOk, slice_get};
 ghost use Rattle.std.specs.Str.{bytes_eq};
 ghost use Rattle.c_core.specs.declared.tree.Object.{Object as SpecObject};
-ghost use Rattle.way_names.specs.Keys.{is_marked, is_wanted, key_of, number_in, with_key};
+ghost use Rattle.way_names.specs.Keys.{key_at, key_of, number_in};
 ghost use Rattle.way_places.specs.Seeking.{or_else};
 
 use c_core::Object;
@@ -42,29 +42,6 @@ fn keep_first<'a>(
     Ok(first)
 }
 
-fn is_marked(marks: &[bool], key: Option<usize>) -> bool
-    ensures { result ≡ is_marked marks.now key }
-{
-    match key {
-        None => true,
-        Some(key) => match marks.get(key) {
-            None => true,
-            Some(mark) => *mark,
-        },
-    }
-}
-
-/// Marks a key, unless it is beyond the end.
-pub fn mark(marks: &mut Vec<bool>, key: Option<usize>)
-    ensures { marks.new.items ≡ with_key key marks.old.items }
-{
-    if let Some(key) = key {
-        if key < marks.len() {
-            marks[key] = true;
-        }
-    }
-}
-
 impl<'a> Keys<'a> {
     /// In one pass over the objects of a program.
     pub fn of(alloc: Global, objects: &'a [Object]) -> Result<Keys<'a>, OutOfMemory>
@@ -89,33 +66,16 @@ impl<'a> Keys<'a> {
         number_in(&self.numbers, name)
     }
 
-    fn key_of_object(&self, number: u32) -> Option<usize>
+    fn read_key(&self, number: u32) -> Option<usize>
         ensures { result ≡ slice_get self.now.of_objects.items number }
     {
         self.of_objects.get(number as usize).copied()
     }
 
-    fn is_wanted(&self, marks: &[bool], number: u32) -> bool
-        ensures { result ≡ is_wanted self.now.objects.now marks.now number }
+    /// The key of an object's name.
+    pub fn key_of_object(&self, number: u32) -> Option<usize>
+        ensures { result ≡ key_at self.now.objects.now (slice_get self.now.objects.now number) }
     {
-        is_marked(marks, self.key_of_object(number))
-    }
-
-    /// Of these objects those whose name's key is marked, in their order.
-    pub fn among(
-        &self,
-        alloc: Global,
-        marks: &[bool],
-        numbers: &[u32],
-    ) -> Result<Vec<u32>, OutOfMemory>
-        ensures { IfOk result (λ few. few.items ≡ filter (is_wanted self.now.objects.now marks.now) numbers.now) }
-    {
-        let mut few = Vec::new(alloc);
-        for number in numbers {
-            if self.is_wanted(marks, *number) {
-                few.push(*number)?;
-            }
-        }
-        Ok(few)
+        self.read_key(number)
     }
 }

@@ -3,11 +3,13 @@
 
 mod examples;
 mod keys;
+mod named;
 mod names;
 mod places;
 mod scope;
 mod statics;
+mod versions;
 mod walk;
 
-pub use keys::{Keys, mark};
-pub use names::{Names, names_at};
+pub use named::{NamedObjects, NamesAt};
+pub use names::names_at;

@@ -15,7 +15,7 @@ use wv_base::{OutOfMemory, Seq};
 
 /// A program whose visible names are found without a walk.
 #[derive(Drop)]
-pub struct Names<'a> {
+struct Names<'a> {
     program: &'a Program,
     statics: Vec<(Spot, u32)>,
     scopes: Vec<Scope>,
@@ -40,7 +40,13 @@ impl<'a> Model for Names<'a> {
     ghost invariant = { λ x. IsNames (program_view x.program.now) x.statics.items x.scopes.items x.statements x.loops };
 }
 
-fn scope_of(kind: PlaceKind, spot: Spot, statements: &ScopesAt, loops: &ScopesAt) -> Option<usize>
+/// By the kind of a place.
+pub fn scope_of(
+    kind: PlaceKind,
+    spot: Spot,
+    statements: &ScopesAt,
+    loops: &ScopesAt,
+) -> Option<usize>
     ensures { result ≡ scope_of kind spot statements.now loops.now }
 {
     match kind {
@@ -53,7 +59,7 @@ fn scope_of(kind: PlaceKind, spot: Spot, statements: &ScopesAt, loops: &ScopesAt
 
 impl<'a> Names<'a> {
     /// The scopes of a program's names, in one walk over it.
-    pub fn new(alloc: Global, program: &'a Program) -> Result<Names<'a>, OutOfMemory>
+    fn new(alloc: Global, program: &'a Program) -> Result<Names<'a>, OutOfMemory>
         ensures { IfOk result (λ names. names ≡ program.now) }
     {
         let statics = statics(alloc, program.objects.as_slice())?;
@@ -69,9 +75,8 @@ impl<'a> Names<'a> {
         })
     }
 
-    /// The objects that are visible at a statement or a loop, innermost last: the last of a name is the one that it
-    /// names.
-    pub fn visible_at(
+    /// The objects that are visible at a statement or a loop, innermost last.
+    fn visible_at(
         &self,
         alloc: Global,
         kind: PlaceKind,
@@ -89,7 +94,8 @@ impl<'a> Names<'a> {
     }
 }
 
-/// The names that are visible at one place. For several make `Names` once.
+/// The objects that are visible at one place, innermost last: the last of a name is the one that it means. For what names
+/// mean at many places make `NamedObjects` once.
 pub fn names_at(
     alloc: Global,
     program: &Program,

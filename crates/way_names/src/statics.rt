@@ -1,7 +1,9 @@
 // The objects of static storage in the order of their declarations.
-ghost use Rattle.std.specs.Prelude.{◌≡◌, ◌≤◌, ◌++◌, IfOk, OnOk, length};
+ghost use Rattle.std.specs.Prelude.{◌≡◌, ◌≤◌, ◌++◌, IfOk, OnOk, length, take};
+ghost use Rattle.std.specs.List.Sorted.{IsPartitionedBy};
 ghost use Rattle.c_core.specs.TextOrder.{is_before};
 ghost use Rattle.way_names.specs.Scopes.{front_before, statics_from};
+ghost use Rattle.way_names.specs.Versions.{numbers_of};
 
 use c_core::{Object, Spot};
 use std::alloc::Global;
@@ -42,4 +44,13 @@ pub fn push_before(
         names.push(*number)?;
     }
     Ok(())
+}
+
+/// How many of them are declared before a place.
+pub fn count_before(spot: Spot, statics: &[(Spot, u32)]) -> usize
+    requires { IsPartitionedBy (λ s. is_before s.0 spot) statics.now }
+    ensures within { result ≤ length statics.now }
+    ensures front { numbers_of (take result statics.now) ≡ front_before spot statics.now }
+{
+    statics.partition_point(|object| is_before(object.0, spot))
 }

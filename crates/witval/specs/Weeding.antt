@@ -2,7 +2,7 @@
 use Rattle.std.specs.Prelude.{◌≡◌, ℕ, ◌+◌, List, [], ◌∷◌, length, cond}
 use Rattle.c_core.specs.View.{program_view}
 use Rattle.c_core.specs.declared.program.Program.{Program}
-use Rattle.c_inductive.specs.Picking.{is_among}
+use Rattle.c_core.specs.Scope.{is_in}
 use Rattle.c_meaning.specs.Duties.{Placed}
 use Rattle.c_meaning.specs.Placing.{placed_view}
 use Rattle.c_meaning.specs.declared.verdict.Cause.TheVariants.{Conflicts}
@@ -29,7 +29,7 @@ use Rattle.witval.specs.declared.output.Output.TheVariants.{Report}
 -- of invariants numbered from i on, those with these numbers
 abbrev pub kept_from : ℕ → List ℕ → List Invariant → List Invariant
 kept_from i ns [] = []
-kept_from i ns (v ∷ vs) = cond (is_among i ns) (v ∷ kept_from (i + 1) ns vs) (kept_from (i + 1) ns vs)
+kept_from i ns (v ∷ vs) = cond (is_in i ns) (v ∷ kept_from (i + 1) ns vs) (kept_from (i + 1) ns vs)
 
 -- the same of what an entry claims; a violation sequence has no invariants
 abbrev pub kept_claims : ℕ → List ℕ → Content → Content

@@ -1,6 +1,6 @@
 // A copy of a witness with some of its invariants.
 ghost use Rattle.std.specs.Prelude.{◌≡◌, ◌+◌, ◌∷◌, ◌++◌, [], IfOk, OnOk, cond};
-ghost use Rattle.c_inductive.specs.Picking.{is_among};
+ghost use Rattle.c_core.specs.Scope.{is_in};
 ghost use Rattle.witval.specs.Weeding.{claims_of, kept_claims, kept_entries, kept_entry, kept_from, kept_in};
 
 use std::alloc::Global;
@@ -95,7 +95,7 @@ fn copy_metadata(alloc: Global, metadata: &Metadata) -> Result<Metadata, OutOfMe
 
 /// The number of the invariant that stands so many behind another. A file of allowed length holds far fewer than can be
 /// numbered; more are answered as want of memory.
-fn number_behind(number: u32, count: usize) -> Result<u32, OutOfMemory>
+fn number_after(number: u32, count: usize) -> Result<u32, OutOfMemory>
     ensures { IfOk result (λ next. next ≡ number + count) }
 {
     if count >= 1073741823 {
@@ -107,8 +107,8 @@ fn number_behind(number: u32, count: usize) -> Result<u32, OutOfMemory>
     }
 }
 
-fn is_among(number: u32, numbers: &[u32]) -> bool
-    ensures { result ≡ is_among number numbers.now }
+fn is_in(number: u32, numbers: &[u32]) -> bool
+    ensures { result ≡ is_in number numbers.now }
 {
     numbers.iter().any(|other| number == *other)
 }
@@ -121,9 +121,9 @@ fn keep_invariant(
     number: u32,
     numbers: &[u32],
 ) -> Result<(), OutOfMemory>
-    ensures { OnOk result (kept.new ≡ kept.old ++ cond (is_among number numbers.now) (invariant.now ∷ []) []) }
+    ensures { OnOk result (kept.new ≡ kept.old ++ cond (is_in number numbers.now) (invariant.now ∷ []) []) }
 {
-    if is_among(number, numbers) {
+    if is_in(number, numbers) {
         let copy = copy_invariant(alloc, invariant)?;
         kept.push(copy)?;
     }
@@ -143,7 +143,7 @@ fn keep_invariants(
     let mut number = first;
     for invariant in invariants {
         keep_invariant(alloc, &mut kept, invariant, number, numbers)?;
-        number = number_behind(number, 1)?;
+        number = number_after(number, 1)?;
     }
     Ok(kept)
 }
@@ -204,7 +204,7 @@ fn keep_entries(
     for entry in entries {
         let copy = keep_entry(alloc, entry, numbers, first)?;
         kept.push(copy)?;
-        first = number_behind(first, claims_of(&entry.content))?;
+        first = number_after(first, claims_of(&entry.content))?;
     }
     Ok(kept)
 }

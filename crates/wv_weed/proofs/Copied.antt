@@ -90,8 +90,3 @@ one_passed_over flags ns others i lt within on so_far =
     (sym (both flags ns i lt within
     ∙ ap (λ b. unflagged (b ∷ drop (i + 1) flags) (get_or ns i 0 ∷ drop (i + 1) ns)) on))
     ∙ so_far
-
-pub all_looked_at : (flags : List Bool) (ns others : List ℕ) (i : ℕ) → length ns ≤ i
-    → others ++ unflagged (drop i flags) (drop i ns) ≡ unflagged flags ns → others ≡ unflagged flags ns
-all_looked_at flags ns others i le so_far =
-    sym (append-nil others) ∙ ap (λ xs. others ++ unflagged (drop i flags) xs) (sym (drop_all i ns le)) ∙ so_far

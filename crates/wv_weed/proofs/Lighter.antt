@@ -4,7 +4,8 @@ use Rattle.c_core.specs.Tree.{Program}
 use Rattle.c_core.specs.declared.number.Spot.{Spot}
 use Rattle.c_meaning.specs.Duties.{Placed}
 use Rattle.c_meaning.specs.Havoc.{stands}
-use Rattle.c_inductive.specs.Picking.{is_among, picked, picked_from}
+use Rattle.c_inductive.specs.Picking.{picked, picked_from}
+use Rattle.c_core.specs.Scope.{is_in}
 use Rattle.sym_weight.specs.Weight.{weighing, evaluation, placed_weight, weight_in, most_active, Weight, IsTooBig, most_weight}
 use Rattle.sym_weight.proofs.Relating.{Relates, related_function}
 
@@ -34,7 +35,7 @@ placed_lighter : (p : Program) (ns : List ℕ) (at_loop : Bool) (spot : Spot) (i
     → placed_weight p (picked_from i ns I) at_loop spot ≤ placed_weight p I at_loop spot
 placed_lighter p ns at_loop spot i [] = omega arith
 placed_lighter p ns at_loop spot i (x ∷ xs) =
-    front_lighter p at_loop spot x (picked_from (suc i) ns xs) xs (is_among i ns)
+    front_lighter p at_loop spot x (picked_from (suc i) ns xs) xs (is_in i ns)
     (placed_lighter p ns at_loop spot (suc i) xs)
 
 -- amounts that are at most the others stay so

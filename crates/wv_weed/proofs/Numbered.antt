@@ -5,7 +5,8 @@ use Rattle.std.specs.List.{All}
 use Rattle.std.proofs.lemmas.Bool.{cases_eq, eq-eqb, eqb-true, or_cases}
 use Rattle.std.proofs.lemmas.List.Elements.{All-head, All-tail}
 use Rattle.c_core.specs.Tree.{Program}
-use Rattle.c_inductive.specs.Picking.{is_among, Rise, AllArePicked}
+use Rattle.c_inductive.specs.Picking.{Rise, AllArePicked}
+use Rattle.c_core.specs.Scope.{is_in}
 use Rattle.c_meaning.specs.Duties.{Placed}
 use Rattle.c_meaning.specs.Parts.{numbers_from}
 use Rattle.wv_weed.specs.Rounds.{AreLeft}
@@ -18,28 +19,28 @@ one_more i (suc n) =
     ap (λ m. i ∷ (numbers_from (suc i) n ++ m ∷ [])) e ∙ ap (λ ms. i ∷ ms) (one_more (suc i) n)
 
 -- of numbers that rise, each is above the last before
-above : (last n : ℕ) (ms : List ℕ) → Rise last ms → is_among n ms ≡ true → last < n
+above : (last n : ℕ) (ms : List ℕ) → Rise last ms → is_in n ms ≡ true → last < n
 above last n [] rise among = absurd (false_true among)
 above last n (m ∷ ms) rise among =
     let less : last < m = rise.0 in
-    elim (or_cases (nat_eq n m) (is_among n ms) among) as (λ _. last < n) [
+    elim (or_cases (nat_eq n m) (is_in n ms) among) as (λ _. last < n) [
       | inl here ↦ omega (arith, less, eqb-true n m here)
       | inr later ↦ omega (arith, less, above m n ms rise.1 later)
     ]
 
-within : (count n : ℕ) (ms : List ℕ) → All (λ m. m ≤ count) ms → is_among n ms ≡ true → n ≤ count
+within : (count n : ℕ) (ms : List ℕ) → All (λ m. m ≤ count) ms → is_in n ms ≡ true → n ≤ count
 within count n [] all among = absurd (false_true among)
-within count n (m ∷ ms) all among = elim (or_cases (nat_eq n m) (is_among n ms) among) as (λ _. n ≤ count) [
+within count n (m ∷ ms) all among = elim (or_cases (nat_eq n m) (is_in n ms) among) as (λ _. n ≤ count) [
   | inl here ↦ let le : m ≤ count = All-head (λ k. k ≤ count) m ms all in omega (arith, le, eqb-true n m here)
   | inr later ↦ within count n ms (All-tail (λ k. k ≤ count) m ms all) later
 ]
 
-among_all : (i count n : ℕ) → i ≤ n → n < i + count → is_among n (numbers_from i count) ≡ true
+among_all : (i count n : ℕ) → i ≤ n → n < i + count → is_in n (numbers_from i count) ≡ true
 among_all i zero n from to = absurd (omega (arith, from, to))
-among_all i (suc count) n from to = elim (cases_eq n i) as (λ _. is_among n (i ∷ numbers_from (suc i) count) ≡ true) [
-  | inl e ↦ or_first (nat_eq n i) (is_among n (numbers_from (suc i) count)) (eq-eqb n i e)
+among_all i (suc count) n from to = elim (cases_eq n i) as (λ _. is_in n (i ∷ numbers_from (suc i) count) ≡ true) [
+  | inl e ↦ or_first (nat_eq n i) (is_in n (numbers_from (suc i) count)) (eq-eqb n i e)
   | inr other ↦
-      or_second (nat_eq n i) (is_among n (numbers_from (suc i) count))
+      or_second (nat_eq n i) (is_in n (numbers_from (suc i) count))
       (among_all (suc i) count n (omega (arith, from, other)) (omega (arith, to)))
 ]
 

@@ -5,7 +5,8 @@ use Rattle.std.proofs.lemmas.Bool.{cases_lt, ne_eqb, eq-eqb}
 use Rattle.std.proofs.lemmas.List.{drop_more, append_assoc}
 use Rattle.std.proofs.lemmas.Option.{none-some, same_Some}
 use Rattle.c_meaning.specs.Duties.{Placed}
-use Rattle.c_inductive.specs.Picking.{is_among, picked_from, picked, Rise, IsSelection}
+use Rattle.c_inductive.specs.Picking.{picked_from, picked, Rise, IsSelection}
+use Rattle.c_core.specs.Scope.{is_in}
 
 or_false : (a b : Bool) → a ≡ false → b ≡ false → (a || b) ≡ false
 or_false true b p q = p
@@ -27,11 +28,11 @@ same_front : (a b : Bool) (x : Placed) (xs ys : List Placed) → a ≡ b → xs 
 same_front a b x xs ys p q = ap (λ c. front c x xs) p ∙ ap (front b x) q
 
 -- no number up to the last before is one of those that rise
-not_among : (i last : ℕ) (ns : List ℕ) → Rise last ns → i ≤ last → is_among i ns ≡ false
+not_among : (i last : ℕ) (ns : List ℕ) → Rise last ns → i ≤ last → is_in i ns ≡ false
 not_among i last [] rise le = refl
 not_among i last (n ∷ ns) rise le =
     let less : last < n = rise.0 in
-    or_false (nat_eq i n) (is_among i ns) (ne_eqb i n (λ e. omega (arith, less, le, e)))
+    or_false (nat_eq i n) (is_in i ns) (ne_eqb i n (λ e. omega (arith, less, le, e)))
     (not_among i n ns rise.1 (omega (arith, less, le)))
 
 pub rise_weaker : (low last : ℕ) (ns : List ℕ) → low ≤ last → Rise last ns → Rise low ns
@@ -53,9 +54,9 @@ picked_none i (x ∷ xs) = picked_none (suc i) xs
 picked_passed : (i n : ℕ) (ns : List ℕ) (xs : List Placed) → n < i → picked_from i (n ∷ ns) xs ≡ picked_from i ns xs
 picked_passed i n ns [] lt = refl
 picked_passed i n ns (x ∷ xs) lt =
-    same_front (nat_eq i n || is_among i ns) (is_among i ns) x (picked_from (suc i) (n ∷ ns) xs)
+    same_front (nat_eq i n || is_in i ns) (is_in i ns) x (picked_from (suc i) (n ∷ ns) xs)
     (picked_from (suc i) ns xs)
-    (or_right (nat_eq i n) (is_among i ns) (ne_eqb i n (λ e. omega (arith, lt, e))))
+    (or_right (nat_eq i n) (is_in i ns) (ne_eqb i n (λ e. omega (arith, lt, e))))
     (picked_passed (suc i) n ns xs (omega (arith, lt)))
 
 -- the first number picks the first
@@ -69,11 +70,11 @@ picked_next i n ns (x ∷ xs) y le rise at =
     elim (cases_lt i n) as (λ _. picked_from i (n ∷ ns) (x ∷ xs) ≡ y ∷ picked_from i ns (x ∷ xs)) [
       | inl lt ↦
           let there : slice_get xs (n - suc i) ≡ Some y = ap (slice_get (x ∷ xs)) (later i n lt) ∙ at in
-          ap (λ b. front b x rest) (or_false (nat_eq i n) (is_among i ns) (ne_eqb i n (λ e. omega (arith, lt, e))) none)
+          ap (λ b. front b x rest) (or_false (nat_eq i n) (is_in i ns) (ne_eqb i n (λ e. omega (arith, lt, e))) none)
           ∙ picked_next (suc i) n ns xs y (omega (arith, lt)) rise there ∙ others
       | inr ge ↦
           let here : Some x ≡ Some y = ap (slice_get (x ∷ xs)) (now i n ge) ∙ at in
-          ap (λ b. front b x rest) (or_left (nat_eq i n) (is_among i ns) (eq-eqb i n (omega (arith, le, ge))))
+          ap (λ b. front b x rest) (or_left (nat_eq i n) (is_in i ns) (eq-eqb i n (omega (arith, le, ge))))
           ∙ ap (λ (z : Placed). z ∷ rest) (same_Some x y here)
           ∙ ap (λ (zs : List Placed). y ∷ zs) (picked_passed (suc i) n ns xs (omega (arith, ge)))
           ∙ others

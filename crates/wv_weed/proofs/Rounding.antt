@@ -1,8 +1,8 @@
 -- A round, one obligation after the other.
 use Rattle.std.proofs.Common.{◌≡◌, ℕ, suc, ◌+◌, ◌<◌, ◌≤◌, Bool, true, false, List, length, ℤ, sym, ◌∙◌, ap, subst, arith, inl, inr, Option, Some, None}
-use Rattle.std.specs.Prelude.{slice_get, slice_set, replicate}
+use Rattle.std.specs.Prelude.{slice_get, slice_set}
 use Rattle.std.proofs.lemmas.Bool.{cases_eq, cases_lt}
-use Rattle.std.proofs.lemmas.List.{length-set, length-replicate, get_or-replicate, get_or-set_other, get_or-set_same, get_or_past}
+use Rattle.std.proofs.lemmas.List.{length-set, get_or-set_other, get_or-set_same}
 use Rattle.std.proofs.lemmas.Option.{none-some, same_Some, slice_get_within}
 use Rattle.clauses.specs.declared.log.SpentAt.{SpentAt}
 use Rattle.c_core.specs.Tree.{Program}
@@ -13,13 +13,12 @@ use Rattle.c_meaning.specs.declared.run.HavocEnd.TheVariants.{Failed}
 use Rattle.c_meaning.specs.Duties.{Duties, Placed}
 use Rattle.c_meaning.specs.Havoc.{Havoc}
 use Rattle.wv_weed.specs.Numbers.{IsSet, unflagged}
-use Rattle.wv_weed.specs.Known.{AreNever, flag_place}
-use Rattle.wv_weed.specs.Rounds.{AreLeft, IsDutyOf, IsKeptFirst, IsLost, IsPassed, IsPlaceOf, IsRound, IsRoundOf, IsTrial, invariants_of, left_of, net_of, program_of}
+use Rattle.wv_weed.specs.Rounds.{AreLeft, IsDutyOf, IsKeptFirst, IsLost, IsPassed, IsPlaceOf, IsRound, IsRoundOf, invariants_of, program_of}
 use Rattle.wv_weed.specs.Weeded.{IsOpenAt}
 use Rattle.wv_weed.specs.declared.rounds.Open.{Open}
 use Rattle.wv_weed.specs.declared.rounds.Round.{Round}
 use Rattle.wv_weed.specs.declared.rounds.Trial.{Trial}
-use Rattle.wv_weed.proofs.Spared.{false_true, is_spared, none_replicated, none_set, spared_selected}
+use Rattle.wv_weed.proofs.Spared.{false_true, is_spared, none_set, spared_selected}
 
 some_none : (x : Open) → Some x ≡ None → ⊥
 some_none x e = none-some x (sym e)
@@ -110,14 +109,6 @@ module _ (N : ℕ) (p : Program) (I : List Placed) (left : List ℕ) where
     spent = r.spent;
   }
 
-  pub first_round : (flags : List Bool) → flags ≡ replicate (length left) false → IsRound N p I left 0 flags None
-  first_round flags e = subst (λ fs. IsRound N p I left 0 fs None) (sym e) (record {
-    many = length-replicate (length left) false;
-    lost = λ k on. absurd (none_replicated (length left) k on);
-    passed = λ unset none at lt. absurd (omega (arith, lt));
-    spent = tt;
-  })
-
   -- an invariant of which an obligation fails is in no inductive set
   pub lost_at : AreLeft p I left → FailuresDrop p I → (at k : ℕ) (w : List ℤ) → IsDutyOf (Duties p (picked left I)) at k
       → (Havoc p (picked left I) w).end ≡ Failed (suc at) → IsLost N p I left k
@@ -148,33 +139,13 @@ module _ (N : ℕ) (p : Program) (I : List Placed) (left : List ℕ) where
 
 -- ---- the round of a trial
 
-pub begins : (t : Trial) (r : Round) → r.dropped.items ≡ replicate (length t.left.now) false → r.first ≡ None
-    → r.failed ≡ 0
-    → AreNever (net_of t) r.never.items → IsRoundOf t 0 r
-begins t r unset none zero known =
-    let p = program_of t in
-    let I = invariants_of t in
-    let at_first = first_round t.conflicts p I t.left.now r.dropped.items unset in
-    record {
-      round = subst (IsRound t.conflicts p I t.left.now 0 r.dropped.items) (sym none) at_first;
-      failed = λ lt. absurd (omega (arith, lt, zero));
-      known = known;
-    }
-
 -- nothing was asked of one more obligation
 pub unasked : (t : Trial) (n : ℕ) (r : Round) → IsRoundOf t n r
     → IsRound t.conflicts (program_of t) (invariants_of t) t.left.now (n + 1) r.dropped.items r.first
     → IsRoundOf t (n + 1) r
 unasked t n r h more = record { round = more; failed = h.failed; known = h.known }
 
--- the whole round, or one that ends early
-pub whole : (t : Trial) (r : Round) → IsTrial t → IsRoundOf t (length t.obligations.now.failing) r
-    → IsRound t.conflicts (program_of t) (invariants_of t) t.left.now (length (Duties (program_of t) (left_of t)))
-    r.dropped.items r.first
-whole t r trial h =
-    subst (λ n. IsRound t.conflicts (program_of t) (invariants_of t) t.left.now n r.dropped.items r.first)
-    (trial.promised.many ∙ ap length trial.promised.list) h.round
-
+-- a round that drops an invariant may end early
 pub ends_early : (t : Trial) (n : ℕ) (r : Round) → IsRoundOf t n r → 0 < r.failed
     → IsRoundOf t (length t.obligations.now.failing) r
 ends_early t n r h some =

@@ -1,11 +1,10 @@
 -- Bits of a net that no inputs make true, and of another net that begins with the same nodes.
-use Rattle.std.proofs.Common.{◌≡◌, ℕ, ◌+◌, ◌-◌, ◌*◌, ◌<◌, ◌≤◌, Bool, true, false, List, [], ◌∷◌, ◌++◌, length, get_or, take, drop, refl, sym, ◌∙◌, ap, subst, arith, inl, inr}
+use Rattle.std.proofs.Common.{◌≡◌, ℕ, ◌+◌, ◌-◌, ◌*◌, ◌<◌, ◌≤◌, Bool, true, false, List, [], ◌∷◌, ◌++◌, length, get_or, take, drop, sym, ◌∙◌, ap, subst, arith, inl, inr}
 use Rattle.std.specs.Prelude.{slice_set, replicate}
 use Rattle.std.proofs.lemmas.Bool.{cases_eq, cases_lt}
 use Rattle.std.proofs.lemmas.List.{get_or-append_right, get_or-set_other, get_or-take, get_or_append_left, length-append, length-replicate, length-set, length-take-le, take-append-drop, take_more}
 use Rattle.circuits.specs.declared.net.Bit.{Bit}
 use Rattle.circuits.specs.declared.net.NetNode.{NetNode}
-use Rattle.circuits.specs.declared.net.NetNode.TheVariants.{Constant}
 use Rattle.circuits.specs.Net.{IsIn, holds}
 use Rattle.circuits.specs.Numbers.{digit}
 use Rattle.circuits.proofs.Nets.{holds-append}
@@ -39,13 +38,6 @@ flag_within net flags b known inside = omega (arith, known.many, inside, digit_s
 
 -- ---- what is known of one net
 
-pub nothing_known : (net : List NetNode) (flags : List Bool) → net ≡ Constant true ∷ [] → flags ≡ replicate 2 false
-    → AreNever net flags
-nothing_known net flags e none = record {
-  many = omega (arith, ap length e, ap length none, length-replicate 2 false);
-  never = λ b on. absurd (none_replicated 2 (flag_place b) (subst (λ fs. IsSet fs (flag_place b)) none on));
-}
-
 pub one_more_known : (net : List NetNode) (flags after : List Bool) (b : Bit) → AreNever net flags → IsNeverTrue net b
     → after ≡ slice_set flags (flag_place b) true → AreNever net after
 one_more_known net flags after b known never e = subst (AreNever net) (sym e) (record {
@@ -58,9 +50,6 @@ one_more_known net flags after b known never e = subst (AreNever net) (sym e) (r
 })
 
 -- ---- nets that begin with the same nodes
-
-pub none_shared : (one other : List NetNode) → AreShared one other 0
-none_shared one other = record { in_one = omega arith; in_other = omega arith; same = refl }
 
 pub one_more_shared : (one other : List NetNode) (n : ℕ) (d : NetNode) → AreShared one other n → n < length one
     → n < length other → get_or one n d ≡ get_or other n d → AreShared one other (n + 1)

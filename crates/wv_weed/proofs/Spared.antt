@@ -5,7 +5,8 @@ use Rattle.std.specs.List.{All}
 use Rattle.std.proofs.lemmas.Bool.{cases_lt, eqb-true, or_cases}
 use Rattle.std.proofs.lemmas.List.{get_or-replicate, get_or_past, length-replicate}
 use Rattle.std.proofs.lemmas.List.Elements.{All-cons, All-head, All-tail}
-use Rattle.c_inductive.specs.Picking.{is_among, Rise, IsSelection}
+use Rattle.c_inductive.specs.Picking.{Rise, IsSelection}
+use Rattle.c_core.specs.Scope.{is_in}
 use Rattle.wv_weed.specs.Numbers.{unflagged, IsSet}
 use Rattle.wv_weed.proofs.Picked.{rise_weaker}
 
@@ -66,20 +67,20 @@ none_set (false ∷ flags) (n ∷ ns) zero many le on = false_true on
 none_set (false ∷ flags) (n ∷ ns) (suc k) many le on = none_set flags ns k (omega (arith, many)) (omega (arith, le)) on
 
 -- a number at whose places no flag is set is left
-pub is_spared : (flags : List Bool) (ns : List ℕ) (m : ℕ) → is_among m ns ≡ true
-    → ((k : ℕ) → IsSet flags k → slice_get ns k ≡ Some m → ⊥) → is_among m (unflagged flags ns) ≡ true
+pub is_spared : (flags : List Bool) (ns : List ℕ) (m : ℕ) → is_in m ns ≡ true
+    → ((k : ℕ) → IsSet flags k → slice_get ns k ≡ Some m → ⊥) → is_in m (unflagged flags ns) ≡ true
 is_spared flags [] m among none = among
 is_spared [] (n ∷ ns) m among none = among
 is_spared (true ∷ flags) (n ∷ ns) m among none =
-    elim (or_cases (nat_eq m n) (is_among m ns) among) as (λ _. is_among m (unflagged flags ns) ≡ true) [
+    elim (or_cases (nat_eq m n) (is_in m ns) among) as (λ _. is_in m (unflagged flags ns) ≡ true) [
       | inl here ↦ absurd (none 0 refl (ap Some (sym (eqb-true m n here))))
       | inr later ↦ is_spared flags ns m later (λ k on there. none (suc k) on there)
     ]
 is_spared (false ∷ flags) (n ∷ ns) m among none =
-    elim (or_cases (nat_eq m n) (is_among m ns) among)
-    as (λ _. (nat_eq m n || is_among m (unflagged flags ns)) ≡ true) [
-      | inl here ↦ or_first (nat_eq m n) (is_among m (unflagged flags ns)) here
+    elim (or_cases (nat_eq m n) (is_in m ns) among)
+    as (λ _. (nat_eq m n || is_in m (unflagged flags ns)) ≡ true) [
+      | inl here ↦ or_first (nat_eq m n) (is_in m (unflagged flags ns)) here
       | inr later ↦
-          or_second (nat_eq m n) (is_among m (unflagged flags ns))
+          or_second (nat_eq m n) (is_in m (unflagged flags ns))
           (is_spared flags ns m later (λ k on there. none (suc k) on there))
     ]

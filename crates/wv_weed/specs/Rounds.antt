@@ -2,8 +2,9 @@
 use Rattle.std.specs.Prelude.{◌≡◌, ℕ, suc, ◌+◌, ◌<◌, ◌≤◌, Bool, true, false, List, length, Option, Some, None, IfSome, slice_get, Result, Ok, Err}
 use Rattle.c_core.specs.Tree.{Program}
 use Rattle.c_core.specs.View.{program_view}
-use Rattle.c_inductive.specs.Inductive.{AreInductive, HoldsInductive, is_of_invariant}
-use Rattle.c_inductive.specs.Picking.{is_among, picked, IsSelection}
+use Rattle.c_inductive.specs.Inductive.{AreInductive, HasEveryInductive, is_of_invariant}
+use Rattle.c_inductive.specs.Picking.{picked, IsSelection}
+use Rattle.c_core.specs.Scope.{is_in}
 use Rattle.c_meaning.specs.declared.run.Duty.{Duty}
 use Rattle.c_meaning.specs.Duties.{Duties, Placed}
 use Rattle.c_meaning.specs.Havoc.{ObligationHolds}
@@ -34,7 +35,7 @@ AnswersWith p names I left (Err fault) = IsFault p names I fault
 -- what is left holds every inductive set
 pub record AreLeft (p : Program) (I : List Placed) (left : List ℕ) : Type 0 where
   pub selection : IsSelection (length I) left
-  pub holding : HoldsInductive p I left
+  pub holding : HasEveryInductive p I left
 
 abbrev pub program_of : Trial → Program
 program_of t = program_view t.program.now
@@ -88,7 +89,7 @@ module _ (N : ℕ) (p : Program) (I : List Placed) (left : List ℕ) where
   -- no inductive set has the k-th of these invariants, counted from 0
   abbrev pub IsLost : ℕ → Type 0
   IsLost k = (ms : List ℕ) (n : ℕ) → IsSelection (length I) ms → AreInductive p (picked ms I)
-      → slice_get left k ≡ Some n → is_among n ms ≡ false
+      → slice_get left k ≡ Some n → is_in n ms ≡ false
 
   -- what the solver says of the obligation at an index, of the k-th invariant, by its failing bit
   abbrev pub IsFoundAs : List NetNode → ℕ → ℕ → Bit → Found → Type 0

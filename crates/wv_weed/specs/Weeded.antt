@@ -1,7 +1,7 @@
 -- The greatest inductive set among the invariants of a program, or where the budget was spent on the way to it.
 use Rattle.std.specs.Prelude.{◌≡◌, ℕ, ◌+◌, ◌-◌, ◌≤◌, ◌<◌, ◌^◌, true, List, length, Some, slice_get, Result, Ok, Err}
 use Rattle.c_core.specs.Tree.{Program}
-use Rattle.c_inductive.specs.Inductive.{HoldsInductive, IsGreatest, is_of_invariant}
+use Rattle.c_inductive.specs.Inductive.{HasEveryInductive, IsGreatest, is_of_invariant}
 use Rattle.c_inductive.specs.Picking.{IsSelection, picked}
 use Rattle.c_meaning.specs.declared.run.Duty.{Duty}
 use Rattle.c_meaning.specs.Duties.{Duties, Placed}
@@ -18,7 +18,7 @@ use Rattle.wv_weed.specs.declared.weeding.Weeded.TheVariants.{Kept, Spent}
 -- budget of N was spent on it
 pub record IsOpenAt (N : ℕ) (p : Program) (I : List Placed) (left : List ℕ) (number : ℕ) (at : SpentAt) : Type 0 where
   pub selection : IsSelection (length I) left
-  pub holding : HoldsInductive p I left
+  pub holding : HasEveryInductive p I left
   pub real : 0 < number
   pub duty : Duty
   pub named : slice_get (Duties p (picked left I)) (number - 1) ≡ Some duty

@@ -1,6 +1,6 @@
 use Rattle.std.proofs.Common.{◌≡◌, ◌++◌, drop}
 use Rattle.c_core.specs.TreeView.{names_view}
-use Rattle.c_meaning.specs.Parts.{objects_of_names}
+use Rattle.c_core.specs.Parts.{objects_of_names}
 use Rattle.c_calls.proofs.declared.push_names.Given as goal
 
 -- with what is left it becomes what the whole gives

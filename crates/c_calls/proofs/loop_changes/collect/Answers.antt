@@ -2,7 +2,7 @@ use Rattle.std.proofs.Common.{◌≡◌, ◌<◌, ℕ, Bool, true, false, List, 
 use Rattle.std.proofs.lemmas.List.{append-nil}
 use Rattle.c_core.specs.View.{program_view}
 use Rattle.c_core.specs.declared.tree.Object.{Object}
-use Rattle.c_meaning.specs.Changed.{is_fixed}
+use Rattle.c_core.specs.Scope.{is_fixed}
 use Rattle.c_meaning.specs.Parts.{those, numbers_from}
 use Rattle.c_calls.specs.Marks.{is_changed}
 use Rattle.c_calls.proofs.ChangedLaws.{fixed_at, one_more_picked}

@@ -1,6 +1,6 @@
 use Rattle.std.proofs.Common.{◌≡◌}
 use Rattle.c_core.specs.View.{program_view}
-use Rattle.c_meaning.specs.Changed.{is_fixed}
+use Rattle.c_core.specs.Scope.{is_fixed}
 use Rattle.c_meaning.specs.Parts.{those, numbers_from}
 use Rattle.c_calls.specs.Marks.{is_changed}
 use Rattle.c_calls.proofs.loop_changes.collect.Given as goal

@@ -6,7 +6,8 @@ use Rattle.c_core.specs.declared.tree.Arm.{out-Arm}
 use Rattle.c_core.specs.declared.tree.Form.TheVariants.{If as IfThen}
 use Rattle.c_meaning.specs.declared.run.Duty.{Duty}
 use Rattle.c_meaning.specs.Duties.{property_duties}
-use Rattle.c_meaning.specs.Parts.{exp_if, fulls_of, fulls_of_block, fulls_of_first, fulls_of_form}
+use Rattle.c_meaning.specs.Parts.{fulls_of, fulls_of_block, fulls_of_form}
+use Rattle.c_core.specs.Parts.{exp_if, fulls_of_first}
 use Rattle.c_core.proofs.ArmLaws.{item_first}
 use Rattle.c_core.proofs.View.{view_of_block, view_of_switch}
 use Rattle.c_duties.proofs.Walked.{fulls_from, then_more, with_the_rest}

@@ -1,6 +1,6 @@
 use Rattle.std.proofs.Common.{◌+◌, ap, drop}
 use Rattle.c_core.specs.View.{init_view, names_view, program_view}
-use Rattle.c_meaning.specs.Parts.{fulls_of_init, fulls_of_names}
+use Rattle.c_core.specs.Parts.{fulls_of_init, fulls_of_names}
 use Rattle.c_core.proofs.ArmLaws.{item_first}
 use Rattle.c_duties.proofs.Walked.{with_the_rest}
 use Rattle.c_duties.proofs.walk.push_names.Goals as goal

@@ -2,7 +2,7 @@ use Rattle.std.proofs.Common.{◌≡◌, ◌++◌, drop}
 use Rattle.c_core.specs.TreeView.{names_view}
 use Rattle.c_core.specs.View.{program_view}
 use Rattle.c_meaning.specs.Duties.{property_duties}
-use Rattle.c_meaning.specs.Parts.{fulls_of_names}
+use Rattle.c_core.specs.Parts.{fulls_of_names}
 use Rattle.c_duties.proofs.walk.push_names.Given as goal
 
 -- with what is left it becomes what the whole gives

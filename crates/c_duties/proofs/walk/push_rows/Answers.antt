@@ -3,7 +3,7 @@ use Rattle.std.specs.List.{flat_map}
 use Rattle.c_core.specs.View.{exprs_view, program_view, rows_view}
 use Rattle.c_core.proofs.ArmLaws.{item_first}
 use Rattle.c_meaning.specs.Duties.{property_duties}
-use Rattle.c_meaning.specs.Parts.{exps_in}
+use Rattle.c_core.specs.Parts.{exps_in}
 use Rattle.c_duties.proofs.Walked.{with_the_rest}
 use Rattle.c_duties.proofs.walk.push_rows.Goals as goal
 

@@ -2,7 +2,7 @@ use Rattle.std.proofs.Common.{◌≡◌, ◌++◌, drop}
 use Rattle.std.specs.List.{flat_map}
 use Rattle.c_core.specs.View.{program_view, rows_view}
 use Rattle.c_meaning.specs.Duties.{property_duties}
-use Rattle.c_meaning.specs.Parts.{exps_in}
+use Rattle.c_core.specs.Parts.{exps_in}
 use Rattle.c_duties.proofs.walk.push_rows.Given as goal
 
 -- with what is left it becomes what the whole gives

@@ -1,4 +1,4 @@
-use Rattle.std.proofs.Common.{◌≡◌, ◌++◌, ◌∷◌, [], List, Option, refl, ap, ◌∙◌}
+use Rattle.std.proofs.Common.{◌≡◌, ◌++◌, ◌∷◌, [], Option, refl, ap, ◌∙◌}
 use Rattle.c_core.specs.declared.tree.Label.{Label as ArmLabel}
 use Rattle.c_parser.specs.SourceView.{label_view}
 use Rattle.check_rules.specs.Arms.{label_of}
@@ -16,7 +16,10 @@ returns-clause-typed c = c.or_zero.ensures ∙ ap label_or_zero c.in_ok-label.en
 
 pub returns-clause-before : goal.returns-clause-before
 returns-clause-before c =
-    c.in_ok-push.ensures.ok ∙ ap (λ (l : Option ArmLabel). c.args.before.now ++ l ∷ []) c.in_ok-label.ensures.label
+    c.in_ok-push.ensures.all ∙ ap (λ (l : Option ArmLabel). c.args.before.now.all ++ l ∷ []) c.in_ok-label.ensures.label
+
+pub returns-clause-found : goal.returns-clause-found
+returns-clause-found c = c.in_ok-push.ensures.found
 
 pub returns-clause-noted : goal.returns-clause-noted
 returns-clause-noted c =
@@ -27,8 +30,8 @@ returns-clause-noted c =
     let label = label_of m (bodies_in c.args.context.now) es c.args.ty l in
     let b = found_at c.args.walk.now in
     let f = found_at c.chosen.new.walk in
-    before_found m items b f (found_at c.note_label.new.walk) (ArmLabelling c.args.before.now label c.args.spot) (parts_of_label es l)
+    before_found m items b f (found_at c.note_label.new.walk) (ArmLabelling c.args.before.now.all label c.args.spot) (parts_of_label es l)
     c.in_ok-label.ensures.noted
-    (c.note_label.ensures.noted ∙ ap (λ (xs : List (Option ArmLabel)). noted_part m items f.best (ArmLabelling xs c.in_ok-label.label c.args.spot)) c.as_slice.ensures
-    ∙ ap (λ (x : Option ArmLabel). noted_part m items f.best (ArmLabelling c.args.before.now x c.args.spot)) c.in_ok-label.ensures.label)
+    (c.note_label.ensures.noted
+    ∙ ap (λ (x : Option ArmLabel). noted_part m items f.best (ArmLabelling c.args.before.now.all x c.args.spot)) c.in_ok-label.ensures.label)
     (ap kept_views c.note_label.ensures.kept) refl

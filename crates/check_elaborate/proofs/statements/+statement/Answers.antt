@@ -1,13 +1,14 @@
-use Rattle.std.proofs.Common.{rules, ◌≡◌, ◌++◌, ◌+◌, ◌∷◌, [], true, List, Option, map, drop, refl, sym, ap, ◌∙◌}
+use Rattle.std.proofs.Common.{rules, ◌≡◌, ◌++◌, ◌+◌, ◌∷◌, [], true, List, Option, map, drop, refl, sym, ap, subst, IfOk, OnOk, ◌∙◌}
 use Rattle.std.specs.declared.boxed.Box.{Box}
 use Rattle.std.specs.declared.alloc.Global.{Global}
 use Rattle.std.proofs.lemmas.List.{drop_all}
 use Rattle.std.specs.Option.{option_map}
 use Rattle.c_core.specs.Tree as typ
 use Rattle.c_core.specs.Parts.{type_of}
-use Rattle.c_core.specs.View.{arm_view}
+use Rattle.c_core.specs.View.{arm_view, form_view as typed_form_view}
 use Rattle.c_core.specs.declared.number.IntType.{IntType}
 use Rattle.c_core.specs.declared.tree.Arm.{Arm}
+use Rattle.c_core.specs.declared.tree.Form.{Form}
 use Rattle.c_core.specs.declared.tree.Label.{Label as ArmLabel}
 use Rattle.c_core.specs.declared.tree.Stmt.{Stmt}
 use Rattle.c_parser.specs.Tree as raw
@@ -26,7 +27,7 @@ use Rattle.check_rules.specs.Typed.{typed}
 use Rattle.check_rules.specs.Arms.{switch_type, label_of}
 use Rattle.check_elaborate.specs.InArms.{behind, after_in_arm, typed_in_arm, parts_in_arm}
 use Rattle.check_elaborate.specs.Items.{kept_views}
-use Rattle.check_elaborate.specs.Walks.{scope_at, items_in, bodies_in, found_at, with_parts, labelling}
+use Rattle.check_elaborate.specs.Walks.{scope_at, items_in, bodies_in, found_at, with_parts, labelling, IsNoted}
 use Rattle.check_elaborate.proofs.ArmLaws.{next_arm, after_joined, arms_before, arms_before-none, arms_before-one_more, arm_typed-next, arm_parts}
 use Rattle.check_elaborate.proofs.BlockLaws.{next_in_list, next_statement, statements_before, statements_before-none, statements_before-one_more, raw_view_of_if, same_if, same_while, same_do, same_for, same_switch}
 use Rattle.check_elaborate.proofs.FoundLaws.{found_then, found_within, found_on, with_none, quiet}
@@ -214,49 +215,43 @@ form-returns-in_ok-choice-in-If t c =
           ∙ ap (λ (x : raw.Form). with_parts m items (found_at c.args.walk.now) (parts_of_form m bodies c.args.gives c.args.within s c.args.spot x)) (sym view);
     }
 
-pub form-returns-in_ok-form-in-While : goal.form-returns-in_ok-form-in-While
-form-returns-in_ok-form-in-While t c =
+pub form-returns-in-While : goal.form-returns-in-While
+form-returns-in-While t c =
     let m = c.args.context.now.model in
     let bodies = bodies_in c.args.context.now in
     let s = scope_at c.args.walk.now in
     let view : form_view c.args.f.now ≡ raw.While (expr_view c.in-While.test) (stmt_view c.deref-in-While.result.now) =
     ap form_view c.in-While.is ∙ ap (λ (x : RawStmt). raw.While (expr_view c.in-While.test) (stmt_view x)) (sym c.deref-in-While.ensures) in
-    let items = items_in c.args.context.now in
     record {
-      typed = c.in_ok-form-in-While.ensures.typed ∙ sym (ap (typed_form m bodies s) view);
-      scope = c.in_ok-form-in-While.ensures.scope ∙ sym (ap (after_form m bodies s) view);
-      noted = c.in_ok-form-in-While.ensures.noted
-          ∙ ap (λ (x : raw.Form). with_parts m items (found_at c.args.walk.now) (parts_of_form m bodies c.args.gives c.args.within s c.args.spot x)) (sym view);
+      typed = subst (λ (x : raw.Form). IfOk c.while_loop.result (λ (r : Form). typed_form_view r ≡ typed_form m bodies s x)) (sym view) c.while_loop.ensures.typed;
+      scope = subst (λ (x : raw.Form). OnOk c.while_loop.result (scope_at c.while_loop.new.walk ≡ after_form m bodies s x)) (sym view) c.while_loop.ensures.scope;
+      noted = subst (λ (x : raw.Form). OnOk c.while_loop.result (IsNoted c.args.context.now c.args.walk.now c.while_loop.new.walk (parts_of_form m bodies c.args.gives c.args.within s c.args.spot x))) (sym view) c.while_loop.ensures.noted;
     }
 
-pub form-returns-in_ok-form-in-Do : goal.form-returns-in_ok-form-in-Do
-form-returns-in_ok-form-in-Do t c =
+pub form-returns-in-Do : goal.form-returns-in-Do
+form-returns-in-Do t c =
     let m = c.args.context.now.model in
     let bodies = bodies_in c.args.context.now in
     let s = scope_at c.args.walk.now in
     let view : form_view c.args.f.now ≡ raw.DoWhile (stmt_view c.deref-in-Do.result.now) (expr_view c.in-Do.test) =
     ap form_view c.in-Do.is ∙ ap (λ (x : RawStmt). raw.DoWhile (stmt_view x) (expr_view c.in-Do.test)) (sym c.deref-in-Do.ensures) in
-    let items = items_in c.args.context.now in
     record {
-      typed = c.in_ok-form-in-Do.ensures.typed ∙ sym (ap (typed_form m bodies s) view);
-      scope = c.in_ok-form-in-Do.ensures.scope ∙ sym (ap (after_form m bodies s) view);
-      noted = c.in_ok-form-in-Do.ensures.noted
-          ∙ ap (λ (x : raw.Form). with_parts m items (found_at c.args.walk.now) (parts_of_form m bodies c.args.gives c.args.within s c.args.spot x)) (sym view);
+      typed = subst (λ (x : raw.Form). IfOk c.do_loop.result (λ (r : Form). typed_form_view r ≡ typed_form m bodies s x)) (sym view) c.do_loop.ensures.typed;
+      scope = subst (λ (x : raw.Form). OnOk c.do_loop.result (scope_at c.do_loop.new.walk ≡ after_form m bodies s x)) (sym view) c.do_loop.ensures.scope;
+      noted = subst (λ (x : raw.Form). OnOk c.do_loop.result (IsNoted c.args.context.now c.args.walk.now c.do_loop.new.walk (parts_of_form m bodies c.args.gives c.args.within s c.args.spot x))) (sym view) c.do_loop.ensures.noted;
     }
 
-pub form-returns-in_ok-form-in-For : goal.form-returns-in_ok-form-in-For
-form-returns-in_ok-form-in-For t c =
+pub form-returns-in-For : goal.form-returns-in-For
+form-returns-in-For t c =
     let m = c.args.context.now.model in
     let bodies = bodies_in c.args.context.now in
     let s = scope_at c.args.walk.now in
     let view : form_view c.args.f.now ≡ raw.For (first_view c.in-For.first) (option_map expr_view c.in-For.test) (option_map expr_view c.in-For.step) (stmt_view c.deref-in-For.result.now) =
     ap form_view c.in-For.is ∙ ap (λ (x : RawStmt). raw.For (first_view c.in-For.first) (option_map expr_view c.in-For.test) (option_map expr_view c.in-For.step) (stmt_view x)) (sym c.deref-in-For.ensures) in
-    let items = items_in c.args.context.now in
     record {
-      typed = c.in_ok-form-in-For.ensures.typed ∙ sym (ap (typed_form m bodies s) view);
-      scope = c.in_ok-form-in-For.ensures.scope ∙ sym (ap (after_form m bodies s) view);
-      noted = c.in_ok-form-in-For.ensures.noted
-          ∙ ap (λ (x : raw.Form). with_parts m items (found_at c.args.walk.now) (parts_of_form m bodies c.args.gives c.args.within s c.args.spot x)) (sym view);
+      typed = subst (λ (x : raw.Form). IfOk c.for_loop.result (λ (r : Form). typed_form_view r ≡ typed_form m bodies s x)) (sym view) c.for_loop.ensures.typed;
+      scope = subst (λ (x : raw.Form). OnOk c.for_loop.result (scope_at c.for_loop.new.walk ≡ after_form m bodies s x)) (sym view) c.for_loop.ensures.scope;
+      noted = subst (λ (x : raw.Form). OnOk c.for_loop.result (IsNoted c.args.context.now c.args.walk.now c.for_loop.new.walk (parts_of_form m bodies c.args.gives c.args.within s c.args.spot x))) (sym view) c.for_loop.ensures.noted;
     }
 
 pub form-returns-in-Break-clause-noted : goal.form-returns-in-Break-clause-noted
@@ -281,34 +276,30 @@ form-returns-in-Continue-clause-noted t c =
     quiet m items (found_at c.args.walk.now) (found_at c.leave-in-Continue.new.walk) (Leaving c.args.within.continues c.args.spot ∷ []) c.leave-in-Continue.ensures.noted (ap kept_views c.leave-in-Continue.ensures.kept) refl
     ∙ ap (λ (x : raw.Form). with_parts m items (found_at c.args.walk.now) (parts_of_form m bodies c.args.gives c.args.within s c.args.spot x)) (sym view)
 
-pub form-returns-in_ok-form-in-Return : goal.form-returns-in_ok-form-in-Return
-form-returns-in_ok-form-in-Return t c =
+pub form-returns-in-Return : goal.form-returns-in-Return
+form-returns-in-Return t c =
     let m = c.args.context.now.model in
     let bodies = bodies_in c.args.context.now in
     let s = scope_at c.args.walk.now in
     let view : form_view c.args.f.now ≡ raw.Return (option_map expr_view c.in-Return.e) =
     ap form_view c.in-Return.is in
-    let items = items_in c.args.context.now in
     record {
-      typed = c.in_ok-form-in-Return.ensures.typed ∙ sym (ap (typed_form m bodies s) view);
-      scope = c.in_ok-form-in-Return.ensures.scope ∙ sym (ap (after_form m bodies s) view);
-      noted = c.in_ok-form-in-Return.ensures.noted
-          ∙ ap (λ (x : raw.Form). with_parts m items (found_at c.args.walk.now) (parts_of_form m bodies c.args.gives c.args.within s c.args.spot x)) (sym view);
+      typed = subst (λ (x : raw.Form). IfOk c.give.result (λ (r : Form). typed_form_view r ≡ typed_form m bodies s x)) (sym view) c.give.ensures.typed;
+      scope = subst (λ (x : raw.Form). OnOk c.give.result (scope_at c.give.new.walk ≡ after_form m bodies s x)) (sym view) c.give.ensures.scope;
+      noted = subst (λ (x : raw.Form). OnOk c.give.result (IsNoted c.args.context.now c.args.walk.now c.give.new.walk (parts_of_form m bodies c.args.gives c.args.within s c.args.spot x))) (sym view) c.give.ensures.noted;
     }
 
-pub form-returns-in_ok-form-in-Switch : goal.form-returns-in_ok-form-in-Switch
-form-returns-in_ok-form-in-Switch t c =
+pub form-returns-in-Switch : goal.form-returns-in-Switch
+form-returns-in-Switch t c =
     let m = c.args.context.now.model in
     let bodies = bodies_in c.args.context.now in
     let s = scope_at c.args.walk.now in
     let view : form_view c.args.f.now ≡ raw.Switch (expr_view c.in-Switch.test) (arms (map raw_arm_view c.as_slice-in-Switch.result.now)) =
     ap form_view c.in-Switch.is ∙ view_of_switch c.in-Switch.test c.in-Switch.arms ∙ ap (λ (x : List RawArm). raw.Switch (expr_view c.in-Switch.test) (arms (map raw_arm_view x))) (sym c.as_slice-in-Switch.ensures) in
-    let items = items_in c.args.context.now in
     record {
-      typed = c.in_ok-form-in-Switch.ensures.typed ∙ sym (ap (typed_form m bodies s) view);
-      scope = c.in_ok-form-in-Switch.ensures.scope ∙ sym (ap (after_form m bodies s) view);
-      noted = c.in_ok-form-in-Switch.ensures.noted
-          ∙ ap (λ (x : raw.Form). with_parts m items (found_at c.args.walk.now) (parts_of_form m bodies c.args.gives c.args.within s c.args.spot x)) (sym view);
+      typed = subst (λ (x : raw.Form). IfOk c.switch.result (λ (r : Form). typed_form_view r ≡ typed_form m bodies s x)) (sym view) c.switch.ensures.typed;
+      scope = subst (λ (x : raw.Form). OnOk c.switch.result (scope_at c.switch.new.walk ≡ after_form m bodies s x)) (sym view) c.switch.ensures.scope;
+      noted = subst (λ (x : raw.Form). OnOk c.switch.result (IsNoted c.args.context.now c.args.walk.now c.switch.new.walk (parts_of_form m bodies c.args.gives c.args.within s c.args.spot x))) (sym view) c.switch.ensures.noted;
     }
 
 -- ---- the arms of a `switch`
@@ -378,6 +369,7 @@ arms-loop-arm-preserved t c =
     let u_is = body_scope ∙ ap (λ (y : Scope). after_in_arm m bodies y xs) at in
     let behind_it = after_in_arm m bodies s xs in
     record {
+      found = c.in_ok-label.ensures.found;
       typed = ap (λ (ys : List Arm). arms_before ys (typed_arms m bodies ty u rest)) pushed
           ∙ arms_before-one_more c.loop-arm.all c.arm_of.result (typed_arms m bodies ty u rest)
           ∙ ap (arms_before c.loop-arm.all) (arm_typed-next m bodies ty s u spot c.in_ok-label.label l c.in_ok-body.body xs rest
@@ -389,13 +381,13 @@ arms-loop-arm-preserved t c =
           ∙ sym (ap (after_arms m bodies s) next)
           ∙ c.loop-arm.invariant.scope;
       noted = ap (λ (ls : List (Option ArmLabel)). with_parts m items (found_at c.in_arm.new.walk) (parts_of_arms m bodies c.args.gives c.args.within ty ls u rest)) c.in_ok-label.ensures.before
-          ∙ found_on m items (found_at c.loop-arm.walk) (found_at c.in_arm.new.walk) _ (labelling c.loop-arm.before own spot (seen s) l ++ parts_in_arm m bodies c.args.gives c.args.within s xs)
-          (λ (y : Scope). parts_of_arms m bodies c.args.gives c.args.within ty (c.loop-arm.before ++ own ∷ []) y rest) behind_it u
-          (found_then m items (found_at c.loop-arm.walk) (found_at c.label.new.walk) (found_at c.in_arm.new.walk) (labelling c.loop-arm.before own spot (seen s) l)
+          ∙ found_on m items (found_at c.loop-arm.walk) (found_at c.in_arm.new.walk) _ (labelling c.loop-arm.before.all own spot (seen s) l ++ parts_in_arm m bodies c.args.gives c.args.within s xs)
+          (λ (y : Scope). parts_of_arms m bodies c.args.gives c.args.within ty (c.loop-arm.before.all ++ own ∷ []) y rest) behind_it u
+          (found_then m items (found_at c.loop-arm.walk) (found_at c.label.new.walk) (found_at c.in_arm.new.walk) (labelling c.loop-arm.before.all own spot (seen s) l)
           (λ (y : Scope). parts_in_arm m bodies c.args.gives c.args.within y xs) s v c.in_ok-label.ensures.noted at body_noted)
           u_is
-          (ap (with_parts m items (found_at c.loop-arm.walk)) (arm_parts m bodies c.args.gives c.args.within ty c.loop-arm.before s spot l xs rest)
-          ∙ sym (ap (λ (ys : raw.Stms). with_parts m items (found_at c.loop-arm.walk) (parts_of_arms m bodies c.args.gives c.args.within ty c.loop-arm.before s ys)) next)
+          (ap (with_parts m items (found_at c.loop-arm.walk)) (arm_parts m bodies c.args.gives c.args.within ty c.loop-arm.before.all s spot l xs rest)
+          ∙ sym (ap (λ (ys : raw.Stms). with_parts m items (found_at c.loop-arm.walk) (parts_of_arms m bodies c.args.gives c.args.within ty c.loop-arm.before.all s ys)) next)
           ∙ c.loop-arm.invariant.noted);
     }
 
@@ -410,7 +402,7 @@ arms-returns t c =
       scope = ap (λ (xs : List RawArm). after_arms m bodies (scope_at c.loop-arm.walk) (arms (map raw_arm_view xs))) (sym (drop_all c.loop-arm.arm-index c.args.arms.now c.loop-arm-test.false))
           ∙ c.loop-arm.invariant.scope;
       noted = with_none m (items_in c.args.context.now) (found_at c.loop-arm.walk)
-          ∙ ap (λ (xs : List RawArm). with_parts m (items_in c.args.context.now) (found_at c.loop-arm.walk) (parts_of_arms m bodies c.args.gives c.args.within c.args.ty c.loop-arm.before (scope_at c.loop-arm.walk) (arms (map raw_arm_view xs)))) (sym (drop_all c.loop-arm.arm-index c.args.arms.now c.loop-arm-test.false))
+          ∙ ap (λ (xs : List RawArm). with_parts m (items_in c.args.context.now) (found_at c.loop-arm.walk) (parts_of_arms m bodies c.args.gives c.args.within c.args.ty c.loop-arm.before.all (scope_at c.loop-arm.walk) (arms (map raw_arm_view xs)))) (sym (drop_all c.loop-arm.arm-index c.args.arms.now c.loop-arm-test.false))
           ∙ c.loop-arm.invariant.noted;
     }
 

@@ -1,7 +1,6 @@
 use Rattle.std.proofs.Common.{◌≡◌, true, arith, get_or, subst}
-use Rattle.std.proofs.lemmas.List.Elements.{All-contains, All-more}
+use Rattle.std.proofs.lemmas.List.Elements.{All-more}
 use Rattle.c_core.specs.View.{program_view}
-use Rattle.c_draws.specs.Drawing.{IsDrawn}
 use Rattle.sym_duties.specs.Promise.{StandsFor}
 use Rattle.sym_eval.proofs.sites.all_stand.Goals as goal
 
@@ -9,5 +8,5 @@ pub loop-site-preserved : goal.loop-site-preserved
 loop-site-preserved c =
     let p = program_view c.args.program.now in
     let listed : c.is_listed.result ≡ true = grind arith in
-    let here : StandsFor p c.site-item.result = All-contains (IsDrawn p) c.args.places.now _ c.requires (c.is_listed.ensures listed) in
+    let here : StandsFor p c.site-item.result = c.requires _ (c.is_listed.ensures.0 listed) in
     All-more (StandsFor p) c.args.sites.now c.loop-site.site-index c.site-item.result c.loop-site-test.true c.loop-site.invariant (subst (StandsFor p) c.site-item.is here)
