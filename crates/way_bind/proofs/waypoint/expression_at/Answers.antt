@@ -6,8 +6,8 @@ use Rattle.way_bind.specs.Binding.{seen}
 use Rattle.way_bind.proofs.ExpressionLaws.{visible_there}
 use Rattle.way_bind.proofs.waypoint.expression_at.Goals as goal
 
-pub there_of-place : goal.there_of-place
-there_of-place c = subst (λ (p : stored.Program). IsTrue (is_scoped (program_view p) c.args.kind c.args.spot)) (sym c.args.lookup.now.one_program) c.requires
+pub invariant_of-place : goal.invariant_of-place
+invariant_of-place c = record { there = subst (λ (p : stored.Program). IsTrue (is_scoped (program_view p) c.args.kind c.args.spot)) (sym c.args.lookup.now.one_program) c.requires }
 
 pub returns : goal.returns
 returns c =
