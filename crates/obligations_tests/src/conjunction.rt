@@ -36,3 +36,23 @@ fn one_conjunction(rt: HostRuntime) -> Result<(), Fail> {
     assert!(rt; !net.value(rt.alloc(), unused, &[true, false])?);
     Ok(())
 }
+
+// In either order, and however many come after it.
+#[test]
+fn equal_arguments_have_one_node(rt: HostRuntime) -> Result<(), Fail> {
+    let mut net = Net::new(rt.alloc())?;
+    let a = net.input()?;
+    let b = net.input()?;
+    let both = net.and(a, not(b))?;
+    for i in 0..1000u32 {
+        let more = net.input()?;
+        let _ = net.and(a, more)?;
+    }
+    let again = net.and(a, not(b))?;
+    let swapped = net.and(not(b), a)?;
+    let other = net.and(a, b)?;
+    assert!(rt; again == both && swapped == both);
+    assert!(rt; other.node != both.node);
+    assert_eq!(rt; net.ands(), 1002);
+    Ok(())
+}

@@ -1,0 +1,3 @@
+mod ExampleRunsWithBound
+mod ExampleSeekWeights
+mod ExampleSeeks

@@ -1,0 +1,4 @@
+pub mod SeekPrograms
+pub mod ExampleSeeks
+pub mod ExampleRunsWithBound
+pub mod ExampleSeekWeights

@@ -1,0 +1,5 @@
+//! Runs with a bound, which values are hits within it, and what such runs weigh, computed on example programs by the
+//! definitions of `seek_meaning` and `seek_weight`: no crate stands on it.
+#![tactic(auto)]
+
+mod examples;

@@ -1,0 +1,6 @@
+mod Agreeing
+mod Completed
+mod Decided
+mod Following
+mod Paying
+mod Short

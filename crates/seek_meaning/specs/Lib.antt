@@ -1,0 +1,5 @@
+pub mod Bounded
+pub mod Progress
+pub mod Seeking
+pub mod Sought
+pub mod Steps

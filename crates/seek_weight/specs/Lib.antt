@@ -1,0 +1,2 @@
+pub mod Tolls
+pub mod SeekWeight
