@@ -46,6 +46,14 @@ fn listed(alloc: Global, words: &[String]) -> Result<String, OutOfMemory> {
     Ok(text)
 }
 
+/// The first of words; empty where there is none.
+fn first_of(words: &[String]) -> &str {
+    match words.first() {
+        Some(word) => word.as_str(),
+        None => "",
+    }
+}
+
 /// The objects that a claim may name.
 fn visible(alloc: Global, index: &Index, claim: &Claim<'_, '_>) -> Result<Seq<u32>, OutOfMemory> {
     match claim.wanted {
@@ -130,10 +138,7 @@ fn explain_names(
     let spot = spot_of(claim.location);
     let told = format!(in alloc; "{head}: {lack}")?;
     out.error("scope", File::Program, Some(spot), told)?;
-    let word = match words.first() {
-        Some(word) => word.as_str(),
-        None => "",
-    };
+    let word = first_of(words.as_slice());
     if let Some(found) = object_named(program, word, claim.location.line) {
         note_seen_from(alloc, index, found, word, out)?;
     }

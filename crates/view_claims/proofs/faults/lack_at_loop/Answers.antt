@@ -1,4 +1,4 @@
-use Rattle.std.proofs.Common.{IsTrue, sym, ◌∙◌}
+use Rattle.std.proofs.Common.{sym, ◌∙◌}
 use Rattle.c_core.specs.View.{program_view}
 use Rattle.c_core.specs.declared.place.PlaceKind.TheVariants.{Loop}
 use Rattle.way_bind.proofs.NamedLaws.{named_is_one}
