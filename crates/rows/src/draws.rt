@@ -25,10 +25,12 @@ fn push_part(text: &mut String, part: &str) -> Result<(), AllocError> {
 
 fn names_among(alloc: Global, program: &Program, numbers: &[u32]) -> Result<String, AllocError> {
     let mut text = String::new(alloc);
-    for (number, function) in program.functions.iter().enumerate() {
-        if numbers.contains(&(number as u32)) {
+    let mut number: u32 = 0;
+    for function in program.functions.as_slice() {
+        if numbers.contains(&number) {
             push_part(&mut text, function.name.as_str())?;
         }
+        number = number.saturating_add(1);
     }
     Ok(text)
 }
