@@ -43,7 +43,8 @@ fn point_at(points: &[Point], at: usize) -> Option<&Point>
 
 /// The waypoint that stands there.
 pub fn avoid_in<'a>(segments: &'a [BoundSegment], avoided: Avoided) -> Option<&'a Point>
-    ensures { point_view_if (option_copied result) ≡ avoid_at (each_segment_view segments.now) avoided.segment avoided.at }
+    ensures { point_view_if (option_copied result) ≡ avoid_at (each_segment_view segments.now) avoided.segment
+        avoided.at }
 {
     match segments.get(avoided.segment) {
         None => None,
@@ -52,7 +53,8 @@ pub fn avoid_in<'a>(segments: &'a [BoundSegment], avoided: Avoided) -> Option<&'
 }
 
 fn is_same(segments: &[BoundSegment], avoided: Avoided, point: &Point) -> bool
-    ensures { result ≡ true → avoid_at (each_segment_view segments.now) avoided.segment avoided.at ≡ Some (point_view point.now) }
+    ensures { result ≡ true → avoid_at (each_segment_view segments.now) avoided.segment avoided.at
+        ≡ Some (point_view point.now) }
 {
     match avoid_in(segments, avoided) {
         None => false,
@@ -106,7 +108,8 @@ impl Avoids {
     }
 
     fn push(&mut self, alloc: Global, spot: Spot, avoided: Avoided) -> Result<(), OutOfMemory>
-        ensures { OnOk result ((q : Spot) → avoids_in self.new q ≡ avoids_in self.old q ++ cond (same_spot spot q) (avoided ∷ []) []) }
+        ensures { OnOk result ((q : Spot) → avoids_in self.new q
+            ≡ avoids_in self.old q ++ cond (same_spot spot q) (avoided ∷ []) []) }
     {
         let place = (spot.line, spot.column);
         let mut there = match self.placed.remove(&place) {
@@ -129,7 +132,8 @@ impl Avoids {
     ) -> Result<(), OutOfMemory>
         requires { avoid_at (each_segment_view segments.now) avoided.segment avoided.at ≡ Some (point_view point.now) }
         ensures longer { OnOk result ((q : Spot) → Longer (avoids_in self.old q) (avoids_in self.new q)) }
-        ensures there { OnOk result (Stands (each_segment_view segments.now) (avoids_in self.new spot) avoided.segment (point_view point.now)) }
+        ensures there { OnOk result (Stands (each_segment_view segments.now) (avoids_in self.new spot) avoided.segment
+            (point_view point.now)) }
     {
         let key = (spot.line, spot.column, key_of(point));
         let there = self.at(spot);
@@ -153,7 +157,8 @@ impl Avoids {
     ) -> Result<(), OutOfMemory>
         requires { avoid_at (each_segment_view segments.now) avoided.segment avoided.at ≡ Some (point_view point.now) }
         ensures longer { OnOk result ((q : Spot) → Longer (avoids_in self.old q) (avoids_in self.new q)) }
-        ensures there { OnOk result (StandsThere (each_segment_view segments.now) self.new avoided.segment (point_view point.now)) }
+        ensures there { OnOk result (StandsThere (each_segment_view segments.now) self.new avoided.segment
+            (point_view point.now)) }
     {
         match place_of(point) {
             None => Ok(()),
@@ -170,7 +175,9 @@ impl Avoids {
     ) -> Result<(), OutOfMemory>
         requires { number < length segments.now }
         ensures longer { OnOk result ((q : Spot) → Longer (avoids_in self.old q) (avoids_in self.new q)) }
-        ensures there { OnOk result ((i : ℕ) (x : pure.Point) → avoid_at (each_segment_view segments.now) number i ≡ Some x → StandsThere (each_segment_view segments.now) self.new number x) }
+        ensures there { OnOk result ((i : ℕ) (x : pure.Point)
+            → avoid_at (each_segment_view segments.now) number i ≡ Some x
+            → StandsThere (each_segment_view segments.now) self.new number x) }
     {
         let segment = &segments[number];
         let points = segment.avoids.as_slice();

@@ -1,10 +1,10 @@
 // Events that leave all live states as they are: the most that happen at a waypoint's place.
-ghost use Rattle.std.specs.Prelude.{◌≡◌, ℕ, ◌+◌, ◌<◌, true, false, List, length, Some};
+ghost use Rattle.std.specs.Prelude.{◌≡◌, ℕ, ◌+◌, ◌<◌, true, false, length, Some};
 ghost use Rattle.c_core.specs.Tree.{Program};
 ghost use Rattle.c_core.specs.View.{program_view};
 ghost use Rattle.way_match.specs.inside.Arena.{IsBlank};
-ghost use Rattle.way_match.specs.inside.Avoided.{avoid_at, compared_at, Stands};
-ghost use Rattle.way_match.specs.inside.ByPlace.{event_spot, may_pass};
+ghost use Rattle.way_match.specs.inside.Avoided.{avoid_at, compared_at, CoversAt};
+ghost use Rattle.way_match.specs.inside.ByPlace.{event_spot};
 ghost use Rattle.way_match.specs.inside.Prepared.{comparison_of};
 ghost use Rattle.way_match.specs.inside.Resting as resting;
 ghost use Rattle.way_match.specs.inside.Resting.{opens_at, AreStill, AvoidsNone, LeavesAll};
@@ -31,7 +31,8 @@ fn comparison_for(prepared: &[Prepared], avoided: Avoided) -> Option<Comparison>
 
 // Whether the event passes one of the waypoints to avoid.
 fn is_passing(sight: &Sight, avoided: Avoided) -> bool
-    ensures { result ≡ false → (x : Point) → avoid_at (sighted sight.now) avoided.segment avoided.at ≡ Some x → passing.passes (program_view sight.now.program.now) x sight.now.event sight.now.memory.now.cells ≡ false }
+    ensures { result ≡ false → (x : Point) → avoid_at (sighted sight.now) avoided.segment avoided.at ≡ Some x
+        → passing.passes (program_view sight.now.program.now) x sight.now.event sight.now.memory.now.cells ≡ false }
 {
     match avoid_in(sight.segments, avoided) {
         None => false,
@@ -42,10 +43,11 @@ fn is_passing(sight: &Sight, avoided: Avoided) -> bool
     }
 }
 
-// Whether the event passes no waypoint to avoid of the segments before a number, by those that stand for all at its place.
+// Whether the event passes no waypoint to avoid of the segments before a number, by those that stand for all there.
 fn avoids_none(sight: &Sight, there: &[Avoided], reach: usize) -> bool
-    requires { (k i : ℕ) (x : Point) → avoid_at (sighted sight.now) k i ≡ Some x → may_pass (event_spot sight.now.event) x ≡ true → Stands (sighted sight.now) there.now k x }
-    ensures { result ≡ true → AvoidsNone (program_view sight.now.program.now) (seen_by sight.now) (sighted sight.now) reach }
+    requires { CoversAt (sighted sight.now) (event_spot sight.now.event) there.now }
+    ensures { result ≡ true → AvoidsNone (program_view sight.now.program.now) (seen_by sight.now) (sighted sight.now)
+        reach }
 {
     for avoided in there {
         if avoided.segment < reach && is_passing(sight, *avoided) {
@@ -92,7 +94,8 @@ pub fn quiet_from(live: &[Option<usize>], low: usize, reach: usize) -> usize
 fn opens(sight: &Sight, live: &[Option<usize>], k: usize) -> bool
     requires within { k < length sight.now.segments.now }
     requires states { length live.now ≡ length sight.now.segments.now + 1 }
-    ensures { result ≡ false → opens_at (program_view sight.now.program.now) (seen_by sight.now) (sighted sight.now) live.now k ≡ false }
+    ensures { result ≡ false → opens_at (program_view sight.now.program.now) (seen_by sight.now) (sighted sight.now)
+        live.now k ≡ false }
 {
     if is_still(live, k) {
         return false;
@@ -111,7 +114,8 @@ fn opens_none(sight: &Sight, live: &[Option<usize>], quiet: usize, reach: usize)
     requires states { length live.now ≡ length sight.now.segments.now + 1 }
     requires still { AreStill live.now quiet }
     requires blank { IsBlank reach live.now }
-    ensures { result ≡ true → (k : ℕ) → k < length (sighted sight.now) → opens_at (program_view sight.now.program.now) (seen_by sight.now) (sighted sight.now) live.now k ≡ false }
+    ensures { result ≡ true → (k : ℕ) → k < length (sighted sight.now)
+        → opens_at (program_view sight.now.program.now) (seen_by sight.now) (sighted sight.now) live.now k ≡ false }
 {
     let mut k = quiet;
     while k < reach && k < sight.segments.len() {
@@ -134,8 +138,9 @@ pub fn rests(
     requires states { length live.now ≡ length sight.now.segments.now + 1 }
     requires still { AreStill live.now quiet }
     requires blank { IsBlank reach live.now }
-    requires covers { (k i : ℕ) (x : Point) → avoid_at (sighted sight.now) k i ≡ Some x → may_pass (event_spot sight.now.event) x ≡ true → Stands (sighted sight.now) there.now k x }
-    ensures { result ≡ true → LeavesAll (program_view sight.now.program.now) (seen_by sight.now) (sighted sight.now) live.now }
+    requires covers { CoversAt (sighted sight.now) (event_spot sight.now.event) there.now }
+    ensures { result ≡ true → LeavesAll (program_view sight.now.program.now) (seen_by sight.now) (sighted sight.now)
+        live.now }
 {
     avoids_none(sight, there, reach) && opens_none(sight, live, quiet, reach)
 }

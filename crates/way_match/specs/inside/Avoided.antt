@@ -49,7 +49,8 @@ Longer xs ys = (more : List Avoided) × (ys ≡ xs ++ more)
 
 -- one of these is that waypoint, in segment number k or in one before
 abbrev pub Stands : List BoundSegment → List Avoided → ℕ → pure.Point → Type 0
-Stands ss entries k x = (j : ℕ) × (a : Avoided) × (slice_get entries j ≡ Some a) × (a.segment ≤ k) × (avoid_at ss a.segment a.at ≡ Some x)
+Stands ss entries k x =
+    (j : ℕ) × (a : Avoided) × (slice_get entries j ≡ Some a) × (a.segment ≤ k) × (avoid_at ss a.segment a.at ≡ Some x)
 
 -- at each place where an event may pass it
 abbrev pub StandsThere : List BoundSegment → Avoids → ℕ → pure.Point → Type 0
@@ -58,3 +59,7 @@ StandsThere ss m k x = (spot : Spot) → may_pass (Some spot) x ≡ true → Sta
 -- each waypoint to avoid does
 abbrev pub Covers : List BoundSegment → Avoids → Type 0
 Covers ss m = (k i : ℕ) (x : pure.Point) → avoid_at ss k i ≡ Some x → StandsThere ss m k x
+
+-- each one that an event at a place may pass is among these
+abbrev pub CoversAt : List BoundSegment → Option Spot → List Avoided → Type 0
+CoversAt ss at there = (k i : ℕ) (x : pure.Point) → avoid_at ss k i ≡ Some x → may_pass at x ≡ true → Stands ss there k x

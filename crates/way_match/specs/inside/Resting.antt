@@ -28,7 +28,8 @@ opens_at p e ss live k = is_live live k && (follows_in p e (slice_get ss k) && n
 
 -- the event ends state number k, or may make the next one live
 abbrev pub moves_at : Program → Seen → List BoundSegment → List (Option ℕ) → ℕ → Bool
-moves_at p e ss live k = is_live live k && (avoids_in p e (slice_get ss k) || (follows_in p e (slice_get ss k) && not (is_next_live live k)))
+moves_at p e ss live k =
+    is_live live k && (avoids_in p e (slice_get ss k) || (follows_in p e (slice_get ss k) && not (is_next_live live k)))
 
 -- no event makes the state behind segment number k live: it is so already, or none comes from the state before
 abbrev pub is_still : List (Option ℕ) → ℕ → Bool
