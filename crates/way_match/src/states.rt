@@ -193,15 +193,16 @@ fn place_of(event: &Event) -> Option<Spot>
 
 // The waypoints to avoid of the live states' segments, once a state was changed.
 #[inline]
-fn reweighed(asked: usize, was: bool, now: bool, segment: &BoundSegment) -> usize {
-    if was == now {
-        return asked;
-    }
-    let avoids = segment.avoids.len();
-    if now {
-        asked.saturating_add(avoids)
-    } else {
-        asked.saturating_sub(avoids)
+fn reweighed(
+    asked: usize,
+    was: Option<usize>,
+    now: Option<usize>,
+    segment: &BoundSegment,
+) -> usize {
+    match (was, now) {
+        (None, Some(_)) => asked.saturating_add(segment.avoids.len()),
+        (Some(_), None) => asked.saturating_sub(segment.avoids.len()),
+        _ => asked,
     }
 }
 
@@ -273,7 +274,7 @@ impl States {
         let now = arrives(kept, came, sight.count, &mut self.nodes);
         self.live[i] = now;
         self.reach = reached(self.reach, i, now);
-        self.asked = reweighed(self.asked, was.is_some(), now.is_some(), segment);
+        self.asked = reweighed(self.asked, was, now, segment);
         if is_settled(sight.segments, self.live.as_slice(), i + 1) {
             None
         } else {
