@@ -8,7 +8,7 @@ use wv_base::{MemorySink, OutOfMemory};
 
 /// Whether a word of the viewer's is one of the validator's too.
 fn is_shared(word: &str) -> bool {
-    word != "validate" && word != "--sarif" && word != "--html"
+    word != "validate" && word != "--sarif" && word != "--html" && word != "--json"
 }
 
 /// The mode of the validator that the viewer's words are for.
