@@ -126,6 +126,26 @@ same 'all three' "$(outcomes as_it_comes)" 'judged0 line judged3'
 same 'lines of any bytes' "$ended $(outcomes out)" '0 judged0 line line line line line judged0'
 "$line" --list bytes --from 2 --step 3 --most 2 >out
 same 'each third from the second' "$(outcomes out)" 'line line'
+# a list that was cut goes on, wherever it was cut
+told_of() { python3 -c 'import json, sys; [print(*sorted((k, v) for k, v in json.loads(it).items() if k not in ("seconds", "megabytes"))) for it in open(sys.argv[1])]' "$1"; }
+"$line" --list bytes >whole
+for it in 0 30 "$(head -n 3 whole | wc -c)" "$(($(head -n 3 whole | wc -c) + 7))" "$(wc -c <whole)"; do
+  head -c "$it" whole >resumed
+  run "$line" --list bytes --resume resumed
+  same "gone on after $it bytes" "$status$found $(told_of resumed)" "0 $(told_of whole)"
+done
+run "$line" --list bytes --from 2 --step 3 --most 2 --resume each_third
+run "$line" --list bytes --from 2 --step 3 --most 2 --resume each_third
+same 'each third, twice' "$status $(outcomes each_third)" '0 line line'
+cp out strange
+run "$line" --list marked_other --resume strange
+same 'no list to go on with' "$status $(cat strange)" "1 $(cat out)"
+run "$line" --list bytes --from 3 --resume whole
+same 'the answers of other lines' "$status$found $(wc -l <whole)" '1 7'
+run "$line" --list bytes --resume /dev/full
+same 'gone on to a full disk' "$status $(cat "$room/complaint")" "5 witval-line: a line can't be written: No space left on device"
+run "$line" --list bytes --resume nosuch/out
+same 'gone on to no folder' "$status $(cat "$room/complaint")" "5 witval-line: 'nosuch/out' can't be written to: No such file or directory"
 { tr '\0' x </dev/zero || true; } | timeout 3 bash -c 'ulimit -v 400000; exec "$0" --list -' "$line" >out && ended=0 || ended=$?
 same 'a line without an end: its answer comes, in little memory' "$ended $(outcomes out)" '124 line'
 { yes || true; } | timeout 3 bash -c 'ulimit -v 400000; exec "$0" --list -' "$line" >out && ended=0 || ended=$?
@@ -138,7 +158,7 @@ run bash -c '"$0" "p.c unreach.prp w.yml" >&-' "$line"
 same 'no standard output' "$status" 5
 run bash -c 'set +o pipefail; "$0" --list bytes | true; exit ${PIPESTATUS[0]}' "$line"
 same 'a closed pipe' "$status $(cat "$room/complaint")" "5 witval-line: a line can't be written: Broken pipe"
-for it in '' '--seconds 0 x' '--seconds x x' '--list bytes x' '--list bytes --from 0' '--megabytes -1 x' '-x'; do
+for it in '' '--seconds 0 x' '--seconds x x' '--list bytes x' '--list bytes --from 0' '--megabytes -1 x' '-x' '--list - --resume out' '--resume out x'; do
   run "$line" $it
   same "misuse: $it" "$status$found" 2
 done
