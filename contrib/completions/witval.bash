@@ -5,13 +5,14 @@ _witval() {
     --program | --property | --witness | --certificate | --values | --list) COMPREPLY=($(compgen -f -- "$word")); return ;;
     --data-model | --model) COMPREPLY=($(compgen -W 'ILP32 LP64' -- "$word")); return ;;
     --language) COMPREPLY=($(compgen -W 'C' -- "$word")); return ;;
-    --steps | --conflicts | --number | --uuid | --time) return ;;
+    --steps | --conflicts | --number | --uuid | --time | --dimacs | --lrat) return ;;
   esac
-  words='--program --property --witness --steps --conflicts'
+  words='--program --property --witness --steps --conflicts --json'
+  if [ "$command ${COMP_WORDS[1]}" = 'witval view' ] && [ "$COMP_CWORD" -gt 1 ]; then command=witval-view; fi
   case $command in
     witval-view) words+=' --list --sarif --html --certificate --manifest --dimacs --lrat --help --version validate' ;;
-    witval-task) words+=' --data-model --language --json validate' ;;
-    *) words+=' --number --certificate --values --model --uuid --time --json --help --version validate show normalise demo certify recheck author weed view' ;;
+    witval-task) words+=' --data-model --language validate view' ;;
+    *) words+=' --number --certificate --values --model --uuid --time --help --version validate show normalise demo certify recheck author weed view' ;;
   esac
   COMPREPLY=($(compgen -W "$words" -- "$word"))
 }
