@@ -1,12 +1,15 @@
 #!/bin/sh
-# Stands at the top of the archive: confirms the witness of examples/first. It writes nothing, and may be called from any folder.
+# Stands at the top of the archive, and of the documents of the package: confirms the witness of examples/first by the
+# program beside it, or else by the one that is installed. It writes nothing, and may be called from any folder.
 # Status 0 and the line "smoke test passed" where the answer is as stored.
 top=$(dirname "$(readlink -f "$0")")
+witval=$top/witval
+[ -x "$witval" ] || witval=witval
 cd "$top/examples/first" || exit 1
-found=$("$top/witval" validate --program p.c --property unreach.prp --witness w.yml)
+found=$("$witval" validate --program p.c --property unreach.prp --witness w.yml)
 status=$?
 if [ "$status" = "$(cat status)" ] && [ "$found" = "$(cat answer)" ]; then
-  "$top/witval" --version && echo "smoke test passed"
+  "$witval" --version && echo "smoke test passed"
 else
   echo "smoke test FAILED: status $status, and it printed: $found"
   exit 1

@@ -23,30 +23,14 @@ same 'the smoke test' "$status ${found##*$'\n'}" '0 smoke test passed'
 same 'the version' "$(sed -n 1p <<<"$found")" "witval $version"
 same 'its sources are told' "$(sed -n 2p <<<"$found")" "$(sed -n '/^sources/p' "$top/release/STAMP")"
 
-# Each command of the README that has a prompt prints what stands below it.
-cat >transcripts.py <<'PY'
-import pathlib, re, subprocess, sys
-blocks = re.findall(r"(?m)((?:^    .*\n|^\n)+)", pathlib.Path("README.md").read_text())
-tried, wrong, where = 0, [], "."
-for line in "".join(it for block in blocks for it in re.split(r"(?m)^(?=    \$ )", block) if it.startswith("    $ ")).split("    $ ")[1:]:
-    command, _, rest = line.partition("\n")
-    wanted = "".join(it[4:] + "\n" for it in rest.splitlines() if it.strip() or it.startswith("    "))
-    ran = subprocess.run(["bash", "-c", f"cd {where} || exit; {command}; echo; pwd"], capture_output=True, text=True, stdin=subprocess.DEVNULL)
-    found, where = ran.stdout.rstrip("\n").rsplit("\n", 1)
-    tried += 1
-    if not command.startswith("cd ") and found.rstrip("\n") != wanted.rstrip("\n"):
-        wrong.append(command)
-print(tried, *wrong)
-PY
 cp -R "$there" writable
-run bash -c 'cd writable && sed -i "0,/^    cd examples/s//    \$ cd examples/" README.md && env -i PATH=/usr/bin:/bin HOME=/ /usr/bin/python3 ../transcripts.py'
-holds "the README's transcripts: $found" test "${found%% *}" -ge 8 -a "$found" = "${found%% *}"
-links=$(cd "$there" && for file in README.md docs/*.md; do
-  sed -n 's/](/\n](/gp' "$file" | sed -n 's/^](\([^)#]*\).*/\1/p' | while read -r it; do
-    case $it in http*) ;; *) [ -e "$(dirname "$file")/$it" ] || echo "$file: $it" ;; esac
-  done
-done)
-same 'all links lead somewhere' "$links" ''
+same "the README's transcripts" "$(cd writable && PATH=/usr/bin:/bin transcripts)" 6
+same 'all links lead somewhere' "$(broken_links "$there")" ''
+same 'CITATION.cff has the version' "$(sed -n 's/^version: //p' "$top/CITATION.cff")" "\"$version\""
+same 'CHANGELOG.md begins with it' "$(grep -m 1 '^## ' "$there/CHANGELOG.md")" "## $version"
+holds 'a page beside the programs says where the help is' grep -q 'witval --help' "$there/release/README"
+run alone contrib/styles-table
+same 'the table of TASKS.md, there' "$found" "$(grep '^|' "$there/docs/TASKS.md")"
 for it in Apache 'MIT' clap serde_json; do holds "LICENSES.txt has $it" grep -q "$it" "$there/LICENSES.txt"; done
 for it in crates crates.txt tools docs/ARCHITECTURE.md docs/DECISIONS.md docs/GATE.md release/licences; do holds "no $it" [ ! -e "$there/$it" ]; done
 for it in NOTICE CHANGELOG.md witval-task contrib/witval-line contrib/witval.py contrib/witval.yml contrib/cluster/by-parallel docs/CLUSTER.md; do

@@ -36,6 +36,36 @@ holds() {
 # The value of a key of a line of JSON, as Python prints it.
 key() { python3 -c 'import json, sys; print(json.load(sys.stdin).get(sys.argv[1]))' "$2" <<<"$1"; }
 
+# The links of the pages of an unpacked folder that lead nowhere.
+broken_links() {
+  (
+    cd "$1"
+    for file in README.md docs/*.md examples/README.md; do
+      sed 's/`[^`]*`//g; s/](/\n](/g' "$file" | sed -n 's/^](\([^)#]*\).*/\1/p' | while read -r it; do
+        case $it in '' | http*) ;; *) [ -e "$(dirname "$file")/$it" ] || echo "$file: $it" ;; esac
+      done
+    done
+  )
+}
+
+# Each command of the README in this folder prints what stands below it: how many were tried, and those that don't.
+transcripts() {
+  python3 - <<'PY'
+import pathlib, re, subprocess
+blocks = re.findall(r"(?m)((?:^    .*\n|^\n)+)", pathlib.Path("README.md").read_text())
+tried, wrong, where = 0, [], "."
+for line in "".join(it for block in blocks for it in re.split(r"(?m)^(?=    \$ )", block) if it.startswith("    $ ")).split("    $ ")[1:]:
+    command, _, rest = line.partition("\n")
+    wanted = "".join(it[4:] + "\n" for it in rest.splitlines() if it.strip() or it.startswith("    "))
+    ran = subprocess.run(["bash", "-c", f"cd {where} && {command} || echo status $?; echo; pwd"], capture_output=True, text=True, stdin=subprocess.DEVNULL)
+    found, where = ran.stdout.rstrip("\n").rsplit("\n", 1)
+    tried += 1
+    if found.rstrip("\n") != wanted.rstrip("\n"):
+        wrong.append(command)
+print(tried, *wrong)
+PY
+}
+
 told() {
   echo "$1: $((tried - failed)) of $tried passed"
   [ "$failed" = 0 ]
