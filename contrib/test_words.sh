@@ -80,7 +80,7 @@ run bash -c '"$0" validate '"$files"' >/dev/full' "$witval"
 same 'a full disk' "$status" 5
 run bash -c '"$0" validate '"$files"' >&-' "$witval"
 same 'no standard output' "$status" 5
-run bash -c 'set +o pipefail; (sleep 0.5; exec timeout 20 "$0" demo --number 7) | true; exit "${PIPESTATUS[0]}"' "$witval"
+run bash -c 'set +o pipefail; (sleep 0.5; exec timeout 300 "$0" demo --number 7) | true; exit "${PIPESTATUS[0]}"' "$witval"
 holds 'a closed pipe ends it' [ "$status" = 5 -o "$status" = 141 ]
 viewer=$room/witval/witval-view
 echo 'p.c unreach.prp w.yml' >list
