@@ -85,6 +85,13 @@ outcome 'processor time' time None --seconds 1 'hard.c unreach.prp hard.yml'
 about big.c >big.yml
 outcome 'memory' memory 6 --megabytes 50 'big.c unreach.prp big.yml'
 outcome 'more memory' judged 3 --megabytes 400 'big.c unreach.prp big.yml'
+printf 'big.c unreach.prp big.yml\n%s\n' "$fields" >begins_big
+run "$line" --megabytes 50 --list begins_big
+same 'a first line that runs out of memory costs one line' "$status $(python3 -c '
+import json, sys
+print(*(json.loads(it)["outcome"] for it in sys.stdin))' <<<"$found")" '0 memory judged'
+run bash -c 'ulimit -v 50000; "$0" --list begins_big' "$room/witval/witval-view"
+same "the viewer's list ends there, as docs/VIEW.md says" "$status $found" '6 '
 
 # becomes WHAT OUTCOME STATUS SCRIPT: this script stands for the validator
 becomes() {
