@@ -58,4 +58,6 @@ filled/tools/archive --unchecked >/dev/null
 holds 'the module has the URL' grep -qxF 'PROJECT_URL = "https://witval.example"' <(unzip -p "filled/witval-$version.zip" "witval-$version/contrib/witval.py")
 run "$top/tools/entry"
 holds 'and here what is missing is named' grep -q "doesn't state" "$room/complaint"
+same 'the entry in the archive is that' "$(cat "$there/contrib/witval.yml")" "$found"
+same 'the entry has the version' "$(sed -n 's/^  - version: //p' <<<"$found")" "\"$version\""
 told archive
