@@ -24,7 +24,7 @@ same 'the version' "$(sed -n 1p <<<"$found")" "witval $version"
 same 'its sources are told' "$(sed -n 2p <<<"$found")" "$(sed -n '/^sources/p' "$top/release/STAMP")"
 
 cp -R "$there" writable
-same "the README's transcripts" "$(cd writable && PATH=/usr/bin:/bin transcripts)" 6
+same "the README's transcripts" "$(cd writable && PATH=/usr/bin:/bin transcripts)" "$(grep -c '^    \$ ' writable/README.md)"
 same 'all links lead somewhere' "$(broken_links "$there")" ''
 same 'CITATION.cff has the version' "$(sed -n 's/^version: //p' "$top/CITATION.cff")" "\"$version\""
 same 'CHANGELOG.md begins with it' "$(grep -m 1 '^## ' "$there/CHANGELOG.md")" "## $version"

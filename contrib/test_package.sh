@@ -34,7 +34,7 @@ for it in first loop; do
   same "the viewer: the example $it" "$status $(head -n 1 <<<"$found")" "0 $(head -n 1 answer)"
 done
 cd "$doc"
-same "the README's transcripts" "$(PATH="$installed/usr/bin:/usr/bin:/bin" transcripts)" 6
+same "the README's transcripts" "$(PATH="$installed/usr/bin:/usr/bin:/bin" transcripts)" "$(grep -c '^    \$ ' README.md)"
 same 'all links lead somewhere' "$(broken_links "$doc")" ''
 holds 'a page beside the programs says where the help is' grep -q 'witval --help' "$installed/usr/lib/witval/release/README"
 cd examples/first
