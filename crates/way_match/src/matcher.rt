@@ -2,12 +2,13 @@ ghost use Rattle.std.specs.Prelude.{◌≡◌, List, IfOk};
 ghost use Rattle.c_core.specs.View.{program_view};
 ghost use Rattle.c_core.specs.declared.program.Program.{Program};
 ghost use Rattle.way_match.specs.Matching.{Seen, Finds};
+ghost use Rattle.way_match.specs.inside.Prepared.{all_prepared};
 ghost use Rattle.way_match.specs.inside.Steps.{Matching, begun, after, after_all, last_way, positions_of};
-ghost use Rattle.way_match.specs.View.{segments_view};
+ghost use Rattle.way_match.specs.View.{each_segment_view, segments_view};
 ghost use Rattle.way_match.specs.declared.point.Bound.{Bound};
 
 use crate::by_place::ByPlace;
-use crate::point::Bound;
+use crate::point::{Bound, BoundSegment};
 use crate::prepared::{Prepared, prepare};
 use crate::states::{States, fill};
 use c_core::Program;
@@ -47,6 +48,18 @@ impl<'a> Model for Matcher<'a> {
     ghost invariant = { λ m. Shaped (program_view m.program.now) m.bound.now.segments m.prepared m.by_place m.states m.room.items };
 }
 
+fn prepared(
+    alloc: Global,
+    program: &Program,
+    segments: &[BoundSegment],
+) -> Result<Seq<Prepared>, OutOfMemory>
+    ensures { IfOk result (λ prepared. prepared ≡ all_prepared (program_view program.now)
+        (each_segment_view segments.now)) }
+{
+    let places = Index::new(alloc, program)?;
+    Ok(prepare(alloc, &places, segments)?)
+}
+
 impl<'a> Matcher<'a> {
     /// Before all events.
     pub fn new(
@@ -57,7 +70,6 @@ impl<'a> Matcher<'a> {
         ensures { IfOk result (λ m. m ≡ begun program.now bound.now) }
     {
         let segments = bound.segments.as_slice();
-        let places = Index::new(alloc, program)?;
         let mut room = Vec::new(alloc);
         for _ in segments {
             room.push(0)?;
@@ -65,7 +77,7 @@ impl<'a> Matcher<'a> {
         Ok(Matcher {
             program,
             bound,
-            prepared: prepare(alloc, &places, segments)?,
+            prepared: prepared(alloc, program, segments)?,
             by_place: ByPlace::of(alloc, segments)?,
             states: States::new(alloc, segments.len())?,
             room,
