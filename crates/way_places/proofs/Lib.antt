@@ -5,8 +5,8 @@ pub mod CallLaws
 pub mod BeforeLaws
 pub mod ArmLaws
 pub mod SwitchLaws
+pub mod TextLaws
 pub mod OrderLaws
 pub mod FirstLaws
-pub mod LeftmostLaws
 pub mod NeighbourLaws
 pub mod IndexLaws

@@ -1,7 +1,6 @@
 -- What maps have at places.
-use Rattle.std.specs.Prelude.{ℕ, nat_eq, Bool, true, false, cond, List, [], ◌∷◌, Option, Some, None}
+use Rattle.std.specs.Prelude.{ℕ, cond, List, [], ◌∷◌, Option, Some, None}
 use Rattle.std.specs.BTreeMap.{BTreeMap, get_by}
-use Rattle.std.specs.Option.{option_cmp}
 use Rattle.std.specs.Ordering.{nat_cmp, ordering_then}
 use Rattle.c_core.specs.Parts.{same_spot}
 use Rattle.c_core.specs.declared.number.Spot.{Spot}
@@ -13,12 +12,3 @@ found_at m spot = get_by (λ k. ordering_then (nat_cmp spot.line k.0) (nat_cmp s
 abbrev pub first_in : {V : Type 0} → List (Spot × V) → Spot → Option V
 first_in [] q = None
 first_in (e ∷ es) q = cond (same_spot e.0 q) (Some e.1) (first_in es q)
-
--- the spot that a line names, or a line and a column
-abbrev pub named_in : BTreeMap (ℕ × Option ℕ) Spot → ℕ → Option ℕ → Option Spot
-named_in m line column = get_by (λ k. ordering_then (nat_cmp line k.0) (option_cmp nat_cmp column k.1)) m
-
-abbrev pub same_column : Option ℕ → Option ℕ → Bool
-same_column None None = true
-same_column (Some a) (Some b) = nat_eq a b
-same_column _ _ = false

@@ -1,45 +1,39 @@
-// The first of those that stand at one place.
-ghost use Rattle.std.specs.Prelude.{◌≡◌, cond, None, Some, IfOk, OnOk};
+// The first of those that stand at one place, in a list in the order of the text.
+ghost use Rattle.std.specs.Prelude.{◌≡◌, ◌≤◌, IsTrue, length, true, false};
+ghost use Rattle.std.specs.List.Sorted.{IsPartitionPoint};
+ghost use Rattle.std.specs.Option.{option_copied, option_map};
 ghost use Rattle.c_core.specs.Parts.{same_spot};
-ghost use Rattle.c_core.specs.declared.number.Spot.{Spot};
-ghost use Rattle.way_places.specs.Maps.{first_in, found_at};
-ghost use Rattle.way_places.specs.Seeking.{or_else};
+ghost use Rattle.c_core.specs.TextOrder.{is_before};
+ghost use Rattle.way_places.specs.Maps.{first_in};
+ghost use Rattle.way_places.specs.Ordered.{follow_by_spot, kept_if};
 
+use crate::expressions::is_same;
+use crate::order::is_before;
 use c_core::Spot;
-use std::alloc::Global;
-use std::collections::BTreeMap;
-use wv_base::OutOfMemory;
 
-/// What a map has at a place.
-pub fn found_at<V: Copy>(map: &BTreeMap<(u32, u32), V>, spot: Spot) -> Option<V>
-    ensures { result ≡ found_at map.now spot }
+fn earlier<V>(all: &[(Spot, V)], spot: Spot) -> usize
+    requires { IsTrue (follow_by_spot all.now) }
+    ensures within { result ≤ length all.now }
+    ensures point { IsPartitionPoint (λ e. is_before e.0 spot ≡ true) (λ e. is_before e.0 spot ≡ false) all.now result }
 {
-    map.get(&(spot.line, spot.column)).copied()
+    all.partition_point(|e| is_before(e.0, spot))
 }
 
-fn keep_first<V: Copy>(
-    map: &mut BTreeMap<(u32, u32), V>,
-    spot: Spot,
-    value: V,
-) -> Result<(), OutOfMemory>
-    ensures { OnOk result ((q : Spot) → found_at map.new q
-        ≡ or_else (found_at map.old q) (cond (same_spot spot q) (Some value) None)) }
+fn only_at<V: Copy>(e: Option<&(Spot, V)>, spot: Spot) -> Option<V>
+    ensures { result ≡ option_map (λ x. x.1) (kept_if (λ x. same_spot x.0 spot) (option_copied e.entry)) }
 {
-    let first = found_at(map, spot).unwrap_or(value);
-    map.insert((spot.line, spot.column), first)?;
-    Ok(())
-}
-
-/// The first at each place.
-pub fn firsts<V: Copy>(
-    alloc: Global,
-    all: &[(Spot, V)],
-) -> Result<BTreeMap<(u32, u32), V>, OutOfMemory>
-    ensures { IfOk result (λ map. (q : Spot) → found_at map q ≡ first_in all.now q) }
-{
-    let mut map = BTreeMap::new(alloc);
-    for (spot, value) in all {
-        keep_first(&mut map, *spot, *value)?;
+    match e {
+        Some(e) => { if is_same(e.0, spot) { Some(e.1) } else { None } }
+        None => None,
     }
-    Ok(map)
+}
+
+/// What a list has at a place.
+pub fn found_at<V: Copy>(all: &[(Spot, V)], spot: Spot) -> Option<V>
+    requires { IsTrue (follow_by_spot all.now) }
+    ensures { result ≡ first_in all.now spot }
+{
+    let index = earlier(all, spot);
+    let rest = &all[index..];
+    only_at(rest.first(), spot)
 }

@@ -1,22 +1,20 @@
-ghost use Rattle.std.specs.Prelude.{◌≡◌, ℕ, Option, IfOk};
-ghost use Rattle.std.specs.List.{filter};
+ghost use Rattle.std.specs.Prelude.{◌≡◌, IfOk};
 ghost use Rattle.std.specs.Option.{option_copied, option_map};
-ghost use Rattle.c_core.specs.Places.{aim_fits, call_at, is_named, leftmost, of_kind, place_at, stmt_before};
+ghost use Rattle.c_core.specs.Places.{aim_fits, call_at, of_kind, place_at, stmt_before};
 ghost use Rattle.c_core.specs.View.{expr_view_if, program_view, stmt_view};
 ghost use Rattle.way_places.specs.Switches.{switch_at};
-ghost use Rattle.way_places.specs.Maps.{named_in};
 
 use crate::aims::{aims, push_of_kind};
 use crate::calls::calls;
-use crate::first::{firsts, found_at};
+use crate::first::found_at;
 use crate::fulls::fulls;
-use crate::leftmost::{Spots, leftmosts, named_in};
+use crate::leftmost::named_in;
 use crate::listed::places;
 use crate::neighbours::neighbours;
+use crate::order::{sort_by_spot, sort_spots};
 use crate::tests::tests;
 use c_core::{Expr, IntType, Place, PlaceKind, Program, Spot, Stmt};
 use std::alloc::Global;
-use std::collections::BTreeMap;
 use std::marker::Model;
 use wv_base::OutOfMemory;
 
@@ -24,14 +22,14 @@ use wv_base::OutOfMemory;
 #[derive(Drop)]
 pub struct Index<'a> {
     program: &'a Program,
-    statements: Spots,
-    loops: Spots,
-    branches: Spots,
-    call_ends: Spots,
-    aims: Spots,
-    calls: BTreeMap<(u32, u32), &'a Expr>,
-    befores: BTreeMap<(u32, u32), &'a Stmt>,
-    switches: BTreeMap<(u32, u32), IntType>,
+    statements: Vec<Spot>,
+    loops: Vec<Spot>,
+    branches: Vec<Spot>,
+    call_ends: Vec<Spot>,
+    aims: Vec<Spot>,
+    calls: Vec<(Spot, &'a Expr)>,
+    befores: Vec<(Spot, &'a Stmt)>,
+    switches: Vec<(Spot, IntType)>,
 }
 
 impl<'a> Model for Index<'a> {
@@ -48,16 +46,15 @@ impl<'a> Model for Index<'a> {
 
     ghost view = { λ x. x.program.now };
 
-    ghost invariant = { λ x. IsIndex (program_view x.program.now) x.statements x.loops x.branches x.call_ends x.aims x.calls x.befores x.switches };
+    ghost invariant = { λ x. IsIndex (program_view x.program.now) x.statements.items x.loops.items x.branches.items x.call_ends.items x.aims.items x.calls.items x.befores.items x.switches.items };
 }
 
-fn spots_of_kind(alloc: Global, kind: PlaceKind, places: &[Place]) -> Result<Spots, OutOfMemory>
-    ensures { IfOk result (λ spots. (line : ℕ) (column : Option ℕ) → named_in spots line column
-        ≡ leftmost (filter (is_named line column) (of_kind kind places.now))) }
+fn spots_of_kind(alloc: Global, kind: PlaceKind, places: &[Place]) -> Result<Vec<Spot>, OutOfMemory>
+    ensures { IfOk result (λ spots. spots.items ≡ of_kind kind places.now) }
 {
     let mut spots = Vec::new(alloc);
     push_of_kind(&mut spots, kind, places)?;
-    Ok(leftmosts(alloc, spots.as_slice())?)
+    Ok(spots)
 }
 
 impl<'a> Index<'a> {
@@ -73,15 +70,14 @@ impl<'a> Index<'a> {
         let loops = spots_of_kind(alloc, PlaceKind::Loop, places)?;
         let branches = spots_of_kind(alloc, PlaceKind::Branch, places)?;
         let call_ends = spots_of_kind(alloc, PlaceKind::CallEnd, places)?;
-        let inner = calls(alloc, fulls)?;
-        let ended = inner.as_slice();
-        let spots = aims(alloc, program.property, places, fulls, ended)?;
-        let aims = leftmosts(alloc, spots.as_slice())?;
-        let calls = firsts(alloc, ended)?;
-        let pairs = neighbours(alloc, program)?;
-        let befores = firsts(alloc, pairs.as_slice())?;
-        let typed = tests(alloc, program)?;
-        let switches = firsts(alloc, typed.as_slice())?;
+        let mut calls = calls(alloc, fulls)?;
+        let mut aims = aims(alloc, program.property, places, fulls, calls.as_slice())?;
+        sort_spots(&mut aims)?;
+        sort_by_spot(&mut calls)?;
+        let mut befores = neighbours(alloc, program)?;
+        sort_by_spot(&mut befores)?;
+        let mut switches = tests(alloc, program)?;
+        sort_by_spot(&mut switches)?;
         Ok(Index {
             program,
             statements,
@@ -107,10 +103,10 @@ impl<'a> Index<'a> {
         ensures { result ≡ place_at (program_view self.now) kind line column }
     {
         match kind {
-            PlaceKind::Statement => named_in(&self.statements, line, column),
-            PlaceKind::Loop => named_in(&self.loops, line, column),
-            PlaceKind::Branch => named_in(&self.branches, line, column),
-            PlaceKind::CallEnd => named_in(&self.call_ends, line, column),
+            PlaceKind::Statement => named_in(self.statements.as_slice(), line, column),
+            PlaceKind::Loop => named_in(self.loops.as_slice(), line, column),
+            PlaceKind::Branch => named_in(self.branches.as_slice(), line, column),
+            PlaceKind::CallEnd => named_in(self.call_ends.as_slice(), line, column),
         }
     }
 
@@ -118,27 +114,27 @@ impl<'a> Index<'a> {
     pub fn aim_fits(&self, line: u32, column: Option<u32>) -> bool
         ensures { result ≡ aim_fits (program_view self.now) line column }
     {
-        named_in(&self.aims, line, column).is_some()
+        named_in(self.aims.as_slice(), line, column).is_some()
     }
 
     /// The call whose closing parenthesis stands there.
     pub fn call_at(&self, close: Spot) -> Option<&'a Expr>
         ensures { expr_view_if (option_copied result) ≡ call_at (program_view self.now) close }
     {
-        found_at(&self.calls, close)
+        found_at(self.calls.as_slice(), close)
     }
 
     /// The statement or declaration directly before the one at a place, in the same block.
     pub fn stmt_before(&self, spot: Spot) -> Option<&'a Stmt>
         ensures { option_map stmt_view (option_copied result) ≡ stmt_before (program_view self.now) spot }
     {
-        found_at(&self.befores, spot)
+        found_at(self.befores.as_slice(), spot)
     }
 
     /// The promoted type of the test of the switch at a place.
     pub fn switch_at(&self, spot: Spot) -> Option<IntType>
         ensures { result ≡ switch_at (program_view self.now) spot }
     {
-        found_at(&self.switches, spot)
+        found_at(self.switches.as_slice(), spot)
     }
 }

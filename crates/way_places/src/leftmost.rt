@@ -1,67 +1,56 @@
-// The spots that a line names, or a line and a column.
-ghost use Rattle.std.specs.Prelude.{◌≡◌, ◌&&◌, cond, ℕ, Option, None, Some, IfOk, OnOk, nat_eq};
+// The spot that a line names, or a line and a column, among spots in the order of the text.
+ghost use Rattle.std.specs.Prelude.{◌≡◌, ◌≤◌, IsTrue, length, true, false};
 ghost use Rattle.std.specs.List.{filter};
+ghost use Rattle.std.specs.List.Sorted.{IsPartitionPoint};
+ghost use Rattle.std.specs.Option.{option_copied};
 ghost use Rattle.c_core.specs.Places.{is_named, leftmost};
-ghost use Rattle.way_places.specs.Maps.{named_in, same_column};
-ghost use Rattle.way_places.specs.Seeking.{nearer};
+ghost use Rattle.c_core.specs.TextOrder.{is_before};
+ghost use Rattle.way_places.specs.Ordered.{follow, kept_if, start};
 
+use crate::order::is_before;
+use crate::place::names;
 use c_core::Spot;
-use std::alloc::Global;
-use std::collections::BTreeMap;
-use wv_base::OutOfMemory;
 
-/// The leftmost spot of each line, and each spot under its column.
-pub type Spots = BTreeMap<(u32, Option<u32>), Spot>;
-
-/// The place that a line, and maybe a column, names: without a column the leftmost on the line.
-pub fn named_in(spots: &Spots, line: u32, column: Option<u32>) -> Option<Spot>
-    ensures { result ≡ named_in spots.now line column }
+// Where what a location names begins, if it is there.
+fn start(line: u32, column: Option<u32>) -> Spot
+    ensures { result ≡ start line column }
 {
-    spots.get(&(line, column)).copied()
+    Spot {
+        line,
+        column: column.unwrap_or(0),
+    }
 }
 
-fn nearer(best: Option<Spot>, spot: Spot) -> Spot
-    ensures { result ≡ nearer best spot }
+fn earlier(spots: &[Spot], from: Spot) -> usize
+    requires { IsTrue (follow spots.now) }
+    ensures within { result ≤ length spots.now }
+    ensures point { IsPartitionPoint (λ s. is_before s from ≡ true) (λ s. is_before s from ≡ false) spots.now result }
 {
-    match best {
-        None => spot,
-        Some(best) => {
-            if spot.column < best.column {
-                spot
+    spots.partition_point(|spot| is_before(*spot, from))
+}
+
+fn only_named(spot: Option<&Spot>, line: u32, column: Option<u32>) -> Option<Spot>
+    ensures { result ≡ kept_if (is_named line column) (option_copied spot.entry) }
+{
+    match spot {
+        Some(spot) => {
+            if names(line, column, *spot) {
+                Some(*spot)
             } else {
-                best
+                None
             }
         }
+        None => None,
     }
 }
 
-fn keep_under(spots: &mut Spots, column: Option<u32>, spot: Spot) -> Result<(), OutOfMemory>
-    ensures { OnOk result ((line : ℕ) (q : Option ℕ) → named_in spots.new line q
-        ≡ cond (nat_eq spot.line line && same_column column q) (Some (nearer (named_in spots.old line q) spot))
-        (named_in spots.old line q)) }
+/// The spot that a location names: exactly there, or the leftmost on the line.
+pub fn named_in(spots: &[Spot], line: u32, column: Option<u32>) -> Option<Spot>
+    requires { IsTrue (follow spots.now) }
+    ensures { result ≡ leftmost (filter (is_named line column) spots.now) }
 {
-    let best = nearer(named_in(spots, spot.line, column), spot);
-    spots.insert((spot.line, column), best)?;
-    Ok(())
-}
-
-fn keep_leftmost(spots: &mut Spots, spot: Spot) -> Result<(), OutOfMemory>
-    ensures { OnOk result ((line : ℕ) (q : Option ℕ) → named_in spots.new line q
-        ≡ cond (is_named line q spot) (Some (nearer (named_in spots.old line q) spot)) (named_in spots.old line q)) }
-{
-    keep_under(spots, None, spot)?;
-    keep_under(spots, Some(spot.column), spot)?;
-    Ok(())
-}
-
-/// Of these spots those that lines and columns name.
-pub fn leftmosts(alloc: Global, all: &[Spot]) -> Result<Spots, OutOfMemory>
-    ensures { IfOk result (λ spots. (line : ℕ) (q : Option ℕ) → named_in spots line q
-        ≡ leftmost (filter (is_named line q) all.now)) }
-{
-    let mut spots = BTreeMap::new(alloc);
-    for spot in all {
-        keep_leftmost(&mut spots, *spot)?;
-    }
-    Ok(spots)
+    let from = start(line, column);
+    let index = earlier(spots, from);
+    let rest = &spots[index..];
+    only_named(rest.first(), line, column)
 }

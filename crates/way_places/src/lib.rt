@@ -12,6 +12,7 @@ mod inputs;
 mod leftmost;
 mod listed;
 mod neighbours;
+mod order;
 mod place;
 mod switches;
 mod tests;
