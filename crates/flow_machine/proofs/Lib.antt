@@ -6,6 +6,7 @@ pub mod Stored
 pub mod Passed
 pub mod Acted
 pub mod Exact
+pub mod Dividing
 pub mod Going
 pub mod Fronting
 pub mod Lasting

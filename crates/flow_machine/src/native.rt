@@ -18,13 +18,23 @@ macro_rules! kept {
     };
 }
 
-// Operators at one native type.
+// A result that an unsigned type always has, as it wraps.
+macro_rules! wrapped {
+    ($outcome:expr) => {{
+        let (r, _over) = $outcome;
+        Some(i128::from(r))
+    }};
+}
+
+// Operators at one native type, with its sums, differences and products.
 macro_rules! operators {
-    ($op:ident, $a:ident, $b:ident) => {
+    ($op:ident, $a:ident, $b:ident, $sum:expr, $difference:expr, $product:expr) => {
         match $op {
-            BinOp::Add => kept!($a.checked_add($b)),
-            BinOp::Sub => kept!($a.checked_sub($b)),
-            BinOp::Mul => kept!($a.checked_mul($b)),
+            BinOp::Add => $sum,
+            BinOp::Sub => $difference,
+            BinOp::Mul => $product,
+            BinOp::Div => kept!($a.checked_div($b)),
+            BinOp::Rem => kept!($a.checked_rem($b)),
             BinOp::And => Some(i128::from($a & $b)),
             BinOp::Xor => Some(i128::from($a ^ $b)),
             BinOp::Or => Some(i128::from($a | $b)),
@@ -39,12 +49,40 @@ macro_rules! operators {
     };
 }
 
+// At a signed type, which may not have a sum, difference or product.
+macro_rules! signed {
+    ($op:ident, $a:ident, $b:ident) => {
+        operators!(
+            $op,
+            $a,
+            $b,
+            kept!($a.checked_add($b)),
+            kept!($a.checked_sub($b)),
+            kept!($a.checked_mul($b))
+        )
+    };
+}
+
+// At an unsigned type.
+macro_rules! unsigned {
+    ($op:ident, $a:ident, $b:ident) => {
+        operators!(
+            $op,
+            $a,
+            $b,
+            wrapped!($a.overflowing_add($b)),
+            wrapped!($a.overflowing_sub($b)),
+            wrapped!($a.overflowing_mul($b))
+        )
+    };
+}
+
 /// At a signed type of 32 bits.
 #[inline(always)]
 pub fn signed_32(op: BinOp, a: i32, b: i32) -> Option<i128>
     ensures { IfSome result (λ r. apply_of Lp64 op Int a b ≡ Value r) }
 {
-    operators!(op, a, b)
+    signed!(op, a, b)
 }
 
 /// At an unsigned type of 32 bits.
@@ -52,7 +90,7 @@ pub fn signed_32(op: BinOp, a: i32, b: i32) -> Option<i128>
 pub fn unsigned_32(op: BinOp, a: u32, b: u32) -> Option<i128>
     ensures { IfSome result (λ r. apply_of Lp64 op UInt (pos a) (pos b) ≡ Value r) }
 {
-    operators!(op, a, b)
+    unsigned!(op, a, b)
 }
 
 /// At a signed type of 64 bits.
@@ -60,7 +98,7 @@ pub fn unsigned_32(op: BinOp, a: u32, b: u32) -> Option<i128>
 pub fn signed_64(op: BinOp, a: i64, b: i64) -> Option<i128>
     ensures { IfSome result (λ r. apply_of Lp64 op LongLong a b ≡ Value r) }
 {
-    operators!(op, a, b)
+    signed!(op, a, b)
 }
 
 /// At an unsigned type of 64 bits.
@@ -68,5 +106,5 @@ pub fn signed_64(op: BinOp, a: i64, b: i64) -> Option<i128>
 pub fn unsigned_64(op: BinOp, a: u64, b: u64) -> Option<i128>
     ensures { IfSome result (λ r. apply_of Lp64 op ULongLong (pos a) (pos b) ≡ Value r) }
 {
-    operators!(op, a, b)
+    unsigned!(op, a, b)
 }

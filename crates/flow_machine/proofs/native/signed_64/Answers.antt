@@ -1,4 +1,5 @@
 use Rattle.std.proofs.Common.{rules, arith, ap, ◌∙◌, FitsSigned, bit_and, bit_or, bit_xor, ◌+ℤ◌, ◌-ℤ◌, ◌*ℤ◌, sym}
+use Rattle.std.specs.Int.RustNames.{int_div, int_rem}
 use Rattle.std.specs.Int.{w64, w128, cast_unsigned}
 use Rattle.std.proofs.lemmas.Int.{to_z-of_z}
 use Rattle.std.proofs.lemmas.Nat.{and_le_l, or_lt, xor_lt}
@@ -6,6 +7,7 @@ use Rattle.flow_code.specs.declared.code.Word.TheVariants.{Signed64}
 use Rattle.c_core.specs.declared.number.Done.TheVariants.{Value}
 use Rattle.c_core.proofs.SignedOperators.{digits_below, bits_is, fits_is}
 use Rattle.flow_machine.proofs.Exact.{exact_fits}
+use Rattle.flow_machine.proofs.Dividing.{not_zero, divided, left_over, remainder_fits}
 use Rattle.flow_machine.proofs.native.signed_64.Goals as goal
 
 pub returns-in-Some : goal.returns-in-Some
@@ -55,3 +57,26 @@ returns-in-Or c =
     let fb = c.ranges.b in
     let f : FitsSigned w128 c.from-in-Or.result = search rules in
     rw c.in-Or.is (ap Value (sym (to_z-of_z w128 _ f ∙ c.from-in-Or.ensures ∙ bits_is w64 bit_or c.args.a c.args.b fa fb (or_lt 64 _ _ (digits_below w64 c.args.a fa) (digits_below w64 c.args.b fb)))))
+
+pub returns-in-Some-checked_div : goal.returns-in-Some-checked_div
+returns-in-Some-checked_div c =
+    let fa = c.ranges.a in
+    let fb = c.ranges.b in
+    let f : FitsSigned w128 c.from-in-Some-checked_div.result = search rules in
+    let h = simp to_z-of_z at c.in-Some-checked_div.ensures in
+    let fr : FitsSigned w64 c.in-Some-checked_div.r = rw h.1 h.0.1 in
+    rw c.in-Div.is
+    (divided Signed64 c.args.a c.args.b _ (not_zero w64 c.args.b h.0.0) (fits_is w64 (int_div c.args.a c.args.b) h.0.1)
+    (to_z-of_z w128 _ f ∙ c.from-in-Some-checked_div.ensures ∙ to_z-of_z w64 _ fr ∙ h.1))
+
+pub returns-in-Some-checked_rem : goal.returns-in-Some-checked_rem
+returns-in-Some-checked_rem c =
+    let fa = c.ranges.a in
+    let fb = c.ranges.b in
+    let f : FitsSigned w128 c.from-in-Some-checked_rem.result = search rules in
+    let h = simp to_z-of_z at c.in-Some-checked_rem.ensures in
+    let g = remainder_fits w64 c.args.a c.args.b fb h.0.0 in
+    let fr : FitsSigned w64 c.in-Some-checked_rem.r = rw h.1 g in
+    rw c.in-Rem.is
+    (left_over Signed64 c.args.a c.args.b _ (not_zero w64 c.args.b h.0.0) (fits_is w64 (int_div c.args.a c.args.b) h.0.1)
+    (fits_is w64 (int_rem c.args.a c.args.b) g) (to_z-of_z w128 _ f ∙ c.from-in-Some-checked_rem.ensures ∙ to_z-of_z w64 _ fr ∙ h.1))

@@ -1,33 +1,52 @@
-use Rattle.std.proofs.Common.{rules, arith, ap, ◌+◌, ◌-◌, ◌*◌, ◌∙◌, ◌<◌, pos, FitsSigned, ◌^◌, bit_and, bit_or, bit_xor, sym}
+use Rattle.std.proofs.Common.{rules, arith, ap, ◌/◌, ◌%◌, ◌∙◌, ◌<◌, pos, FitsSigned, ◌^◌, bit_and, bit_or, bit_xor, sym}
 use Rattle.std.specs.Int.{w32, w128, FitsUnsigned}
 use Rattle.std.proofs.lemmas.Int.{to_z-of_z, ints}
 use Rattle.std.proofs.lemmas.Bool.{lt-ltb}
 use Rattle.std.proofs.lemmas.Nat.{and_le_l, or_lt, xor_lt}
-use Rattle.std.proofs.Math.IntN.{pos-*ℤ-pos}
+use Rattle.std.proofs.Math.Nat.{div-le_self, mod-le}
 use Rattle.flow_code.specs.declared.code.Word.TheVariants.{Unsigned32}
 use Rattle.c_core.specs.declared.number.Done.TheVariants.{Value}
-use Rattle.c_core.proofs.UnsignedOperators.{bits_of}
-use Rattle.flow_machine.proofs.Exact.{exact_fits, difference_is}
+use Rattle.c_core.proofs.UnsignedOperators.{sum, difference, product, bits_of}
+use Rattle.flow_machine.proofs.Dividing.{not_zero, divided, left_over}
 use Rattle.flow_machine.proofs.native.unsigned_32.Goals as goal
+
+pub returns-in-Add : goal.returns-in-Add
+returns-in-Add c =
+    let f : FitsSigned w128 c.from.result = search rules in
+    let i : FitsUnsigned w32 (pos c.args.b) = (omega (arith, ints), omega (arith, ints, c.ranges.b.fits)) in
+    rw c.in-Add.is (ap Value (sym (to_z-of_z w128 _ f ∙ c.from.ensures ∙ ap pos c.overflowing_add-r.ensures.value ∙ sum w32 c.args.a (pos c.args.b) i)))
+
+pub returns-in-Sub : goal.returns-in-Sub
+returns-in-Sub c =
+    let f : FitsSigned w128 c.from-in-Sub.result = search rules in
+    let i : FitsUnsigned w32 (pos c.args.b) = (omega (arith, ints), omega (arith, ints, c.ranges.b.fits)) in
+    let l : c.overflowing_sub-r.result.0 < 2 ^ 32 = search rules in
+    rw c.in-Sub.is (ap Value (sym (to_z-of_z w128 _ f ∙ c.from-in-Sub.ensures ∙ difference w32 c.args.a _ (pos c.args.b) i l c.ranges.a.fits c.overflowing_sub-r.ensures.value)))
+
+pub returns-in-Mul : goal.returns-in-Mul
+returns-in-Mul c =
+    let f : FitsSigned w128 c.from-in-Mul.result = search rules in
+    let i : FitsUnsigned w32 (pos c.args.b) = (omega (arith, ints), omega (arith, ints, c.ranges.b.fits)) in
+    rw c.in-Mul.is (ap Value (sym (to_z-of_z w128 _ f ∙ c.from-in-Mul.ensures ∙ ap pos c.overflowing_mul-r.ensures.value ∙ product w32 c.args.a (pos c.args.b) i)))
 
 pub returns-in-Some : goal.returns-in-Some
 returns-in-Some c =
-    let f : FitsSigned w128 c.from.result = search rules in
+    let f : FitsSigned w128 c.from-in-Some.result = search rules in
     let h = c.in-Some.ensures in
-    rw c.in-Add.is (exact_fits Unsigned32 (pos (c.args.a + c.args.b)) _ (lt-ltb (c.args.a + c.args.b) (2 ^ 32) h.0) (to_z-of_z w128 _ f ∙ c.from.ensures ∙ ap pos h.1))
+    let l : c.args.a / c.args.b < 2 ^ 32 = omega (arith, div-le_self c.args.a c.args.b, c.ranges.a.fits) in
+    rw c.in-Div.is
+    (divided Unsigned32 (pos c.args.a) (pos c.args.b) _ (not_zero w32 (pos c.args.b) h.0) (lt-ltb (c.args.a / c.args.b) (2 ^ 32) l)
+    (to_z-of_z w128 _ f ∙ c.from-in-Some.ensures ∙ ap pos h.1))
 
-pub returns-in-Some-checked_sub : goal.returns-in-Some-checked_sub
-returns-in-Some-checked_sub c =
-    let f : FitsSigned w128 c.from-in-Some-checked_sub.result = search rules in
-    let h = c.in-Some-checked_sub.ensures in
-    let l : c.args.a - c.args.b < 2 ^ 32 = omega (arith, c.ranges.a.fits) in
-    rw (c.in-Sub.is, difference_is c.args.a c.args.b h.0) (exact_fits Unsigned32 (pos (c.args.a - c.args.b)) _ (lt-ltb (c.args.a - c.args.b) (2 ^ 32) l) (to_z-of_z w128 _ f ∙ c.from-in-Some-checked_sub.ensures ∙ ap pos h.1))
-
-pub returns-in-Some-checked_mul : goal.returns-in-Some-checked_mul
-returns-in-Some-checked_mul c =
-    let f : FitsSigned w128 c.from-in-Some-checked_mul.result = search rules in
-    let h = c.in-Some-checked_mul.ensures in
-    rw (c.in-Mul.is, pos-*ℤ-pos c.args.a c.args.b) (exact_fits Unsigned32 (pos (c.args.a * c.args.b)) _ (lt-ltb (c.args.a * c.args.b) (2 ^ 32) h.0) (to_z-of_z w128 _ f ∙ c.from-in-Some-checked_mul.ensures ∙ ap pos h.1))
+pub returns-in-Some-checked_rem : goal.returns-in-Some-checked_rem
+returns-in-Some-checked_rem c =
+    let f : FitsSigned w128 c.from-in-Some-checked_rem.result = search rules in
+    let h = c.in-Some-checked_rem.ensures in
+    let l : c.args.a / c.args.b < 2 ^ 32 = omega (arith, div-le_self c.args.a c.args.b, c.ranges.a.fits) in
+    let k : c.args.a % c.args.b < 2 ^ 32 = omega (arith, mod-le c.args.a c.args.b, c.ranges.a.fits) in
+    rw c.in-Rem.is
+    (left_over Unsigned32 (pos c.args.a) (pos c.args.b) _ (not_zero w32 (pos c.args.b) h.0) (lt-ltb (c.args.a / c.args.b) (2 ^ 32) l)
+    (lt-ltb (c.args.a % c.args.b) (2 ^ 32) k) (to_z-of_z w128 _ f ∙ c.from-in-Some-checked_rem.ensures ∙ ap pos h.1))
 
 pub returns-in-And : goal.returns-in-And
 returns-in-And c =
