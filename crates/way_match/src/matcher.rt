@@ -104,7 +104,7 @@ impl<'a> Watcher for Matcher<'a> {
     // it takes memory
     ghost sure = { ⊥ };
 
-    #[inline]
+    #[inline(always)]
     fn see(&mut self, event: Event, memory: &Memory) -> Result<(), OutOfMemory> {
         // A number that no u64 holds can't be kept.
         let Some(count) = self.count.checked_add(1) else {
