@@ -4,7 +4,7 @@ ghost use Rattle.c_core.specs.Types.{common_of, IsPromoted};
 ghost use Rattle.c_core.specs.View.{program_view, expr_view};
 ghost use Rattle.c_meaning.specs.Objects.{type_of as type_of_exp};
 ghost use Rattle.c_core.specs.Parts.{same_spot as same_spot_of};
-ghost use Rattle.c_meaning.specs.Value.{and_then, is_true, wrapping, holds as holds_in};
+ghost use Rattle.c_meaning.specs.Value.{and_then, is_true, wrapping};
 ghost use Rattle.way_match.specs.Passing as passing;
 ghost use Rattle.way_match.specs.inside.Prepared.{comparison_of, comparisons_of};
 ghost use Rattle.way_match.specs.Points.{Return};
@@ -12,8 +12,9 @@ ghost use Rattle.way_match.specs.View.{aim_view, point_view, points_view, test_v
 
 use crate::point::{Aim, Point, ReturnTest};
 use crate::prepared::{Comparison, type_of};
-use c_core::{BinOp, DataModel, Done, Expr, IntType, Program, Spot, apply, common, fitted};
-use c_meaning::{Event, Memory, Way, value_in};
+use c_core::{BinOp, DataModel, Done, IntType, Program, Spot, apply, common, fitted};
+use c_meaning::{Event, Memory, Way};
+use way_tests::holds;
 
 fn same_spot(a: Spot, b: Spot) -> bool
     ensures { result ≡ same_spot_of a b }
@@ -47,16 +48,6 @@ fn same_way(a: Way, b: Way) -> bool
         (Way::Case(a), Way::Case(b)) => a == b,
         (Way::Default, Way::Default) => true,
         _ => false,
-    }
-}
-
-// An assumption holds where its value is defined and isn't 0.
-fn holds(program: &Program, test: &Expr, memory: &Memory) -> bool
-    ensures { result ≡ holds_in (program_view program.now) (expr_view test.now) memory.now.cells }
-{
-    match value_in(program, test, memory) {
-        Some(value) => value != 0,
-        None => false,
     }
 }
 
