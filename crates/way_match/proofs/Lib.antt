@@ -9,6 +9,9 @@ mod Skips
 mod Numbers
 mod Passed
 mod PassedBy
+mod RestLaws
+mod AvoidLaws
+mod SameLaws
 pub mod PlaceLaws
 mod Begin
 mod Done

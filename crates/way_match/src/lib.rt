@@ -2,14 +2,18 @@
 //! the segments, which values a witness gives, and which verdict is right.
 #![tactic(auto)]
 
+mod avoided;
 mod by_place;
 mod compared;
 mod given_values;
+mod key;
 mod laws;
 mod matcher;
 mod passing;
 mod point;
 mod prepared;
+mod resting;
+mod same;
 mod sight;
 mod states;
 mod stored;
