@@ -1,2 +1,3 @@
 pub mod Passed
 pub mod Events
+pub mod Laws

@@ -3,7 +3,9 @@
 #![tactic(auto)]
 
 mod events;
+mod laws;
 mod segment;
 
 pub use events::{after, any, completes_all};
+pub use laws::events_are_followed;
 pub use segment::Passing;
