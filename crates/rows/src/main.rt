@@ -12,6 +12,7 @@ mod lexing;
 mod places;
 mod schema;
 mod sources;
+mod weights;
 
 use row_files::{Files, NotTried, Row, Trial, try_rows};
 use std::process::ExitCode;
@@ -46,6 +47,8 @@ impl Trial for Rows {
             // The functions that main reaches; the places at which these draw.
             "reached" => draws::reached(files, row),
             "draws" => draws::places(files, row),
+            // What runs within a bound weigh with the segments of a witness.
+            "weight" => weights::told(files, row),
             // The tree of a witness, read and made again.
             "same" => schema::tree_again(files, row),
             _ => Err(NotTried::Lacks("a kind, or it is no row")),

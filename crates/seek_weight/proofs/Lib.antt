@@ -1,1 +1,4 @@
+pub mod Arms
 mod Light
+pub mod Sums
+pub mod Tolling

@@ -1,2 +1,4 @@
 pub mod Tolls
 pub mod SeekWeight
+pub mod Weighed
+pub mod inside

@@ -9,7 +9,7 @@ ghost use Rattle.sym_weight.specs.Tally.{capped};
 ghost use Rattle.c_meaning.specs.Placing.{placed, placed_view};
 ghost use Rattle.sym_weight.specs.Weight as weight;
 
-use crate::expressions::expression;
+use crate::expressions::weight_of;
 use crate::table::tested;
 use c_core::{Expr, Program, Spot};
 use c_meaning::PlacedInvariant;
@@ -30,9 +30,8 @@ pub fn weight_at(weights: &Weights, spot: Spot) -> u64
 fn evaluation(alloc: Global, program: &Program, e: &Expr) -> Result<u64, OutOfMemory>
     ensures { IfOk result (λ w. w ≡ capped (weight.evaluation (program_view program.now) (expr_view e.now))) }
 {
-    let mut calls = Vec::new(alloc);
-    let cost = expression(program, &mut calls, e)?;
-    Ok(cost.weight.saturating_add(64 + tested(program.model, e)))
+    let weight = weight_of(alloc, program, e)?;
+    Ok(weight.saturating_add(64 + tested(program.model, e)))
 }
 
 fn add_weight(weights: &mut Weights, spot: Spot, weight: u64) -> Result<(), OutOfMemory>
