@@ -1,4 +1,4 @@
-// Texts as HTML and as references to files.
+// Texts as HTML, as messages of a log, and as references to files.
 use std::alloc::Global;
 use view_text::push_printable;
 use wv_base::OutOfMemory;
@@ -26,6 +26,31 @@ pub fn push_html(alloc: Global, out: &mut String, bytes: &[u8]) -> Result<(), Ou
     Ok(())
 }
 
+/// A text without hidden characters.
+pub fn plain_text(alloc: Global, text: &str) -> Result<String, OutOfMemory> {
+    let mut out = String::new(alloc);
+    push_printable(alloc, &mut out, text.as_bytes())?;
+    Ok(out)
+}
+
+/// A text as a message of a log (SARIF 2.1.0 3.11): a brace is written twice, so that nothing is put in its place
+/// (3.11.5), and `](` is parted, so that nothing is a link (3.11.6).
+pub fn logged_text(alloc: Global, text: &str) -> Result<String, OutOfMemory> {
+    let plain = plain_text(alloc, text)?;
+    let mut out = String::new(alloc);
+    let mut before = ' ';
+    for c in plain.as_str().chars() {
+        match c {
+            '{' => out.push_str("{{")?,
+            '}' => out.push_str("}}")?,
+            '(' if before == ']' => out.push_str(" (")?,
+            _ => out.push(c)?,
+        }
+        before = c;
+    }
+    Ok(out)
+}
+
 /// Whether a byte stands for itself in a reference to a file (RFC 3986 2.3, and the slash between folders).
 fn is_plain(byte: u8) -> bool {
     byte.is_ascii_alphanumeric()
@@ -36,11 +61,37 @@ fn is_plain(byte: u8) -> bool {
         || byte == b'/'
 }
 
-/// The name of a file as a relative reference (RFC 3986 2.1). Two slashes at its front aren't read as a host (3.3).
+/// A name without all slashes at its front but one: two would begin the name of a host (RFC 3986 4.2).
+fn with_one_slash(name: &str) -> &str {
+    let mut extra = 0usize;
+    for (at, byte) in name.as_bytes().iter().enumerate() {
+        if *byte != b'/' {
+            break;
+        }
+        extra = at;
+    }
+    name.get(extra..).unwrap_or(name)
+}
+
+/// Whether some reader may take the front of a name for a scheme, a drive or a host, were it not behind a folder.
+fn is_mistaken(name: &str) -> bool {
+    for byte in name.as_bytes() {
+        if *byte == b'/' {
+            return false;
+        }
+        if *byte == b':' || *byte == b'\\' {
+            return true;
+        }
+    }
+    name.is_empty()
+}
+
+/// The name of a file as a relative reference (RFC 3986 4.2), which no reader takes for that of a host or with a scheme.
 pub fn reference_to(alloc: Global, name: &str) -> Result<String, OutOfMemory> {
     let mut out = String::new(alloc);
-    if name.starts_with("//") {
-        out.push_str("/.")?;
+    let name = with_one_slash(name);
+    if is_mistaken(name) {
+        out.push_str("./")?;
     }
     for byte in name.as_bytes() {
         if is_plain(*byte) {

@@ -1,5 +1,5 @@
 // A judgement as one line of JSON: the members that a list's line has, and the messages.
-use crate::results::text_of;
+use crate::escaped::plain_text;
 use c_core::Spot;
 use serde_json::{Value, json};
 use std::alloc::Global;
@@ -13,7 +13,7 @@ fn placed_value(
     message: &Message,
     spot: Spot,
 ) -> Result<Value, OutOfMemory> {
-    let text = text_of(alloc, message)?;
+    let text = plain_text(alloc, message.text.as_str())?;
     let code = message.code.as_str();
     let level = message.level.word();
     let line = spot.line;
@@ -30,7 +30,7 @@ fn placed_value(
 
 /// A message about a whole file.
 fn unplaced_value(alloc: Global, name: &str, message: &Message) -> Result<Value, OutOfMemory> {
-    let text = text_of(alloc, message)?;
+    let text = plain_text(alloc, message.text.as_str())?;
     let code = message.code.as_str();
     let level = message.level.word();
     Ok(json!(in alloc; { "code": code, "file": name, "level": level, "text": text })?)

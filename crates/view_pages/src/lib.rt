@@ -2,11 +2,14 @@
 //! Names, programs and witnesses are hostile: in each they are text.
 #![tactic(auto)]
 
+mod confirmed;
 mod escaped;
 mod html;
 mod json_line;
 mod page;
+mod regions;
 mod results;
+mod rules;
 mod sarif_log;
 
 pub use html::page_of;
