@@ -1,106 +1,103 @@
-// The members that the published schema of SARIF 2.1.0 requires, of the objects that a log has.
+// A log, its run, its tool and its rules.
+use crate::fields::{are_unique, is_array_if, is_text, is_text_if, is_word_if, items_of, text_in};
+use crate::places::is_message;
+use crate::results::results_lack;
 use serde_json::Value;
 use std::alloc::Global;
 use wv_base::OutOfMemory;
 
-fn is_text(value: Option<&Value>) -> bool {
-    match value {
-        Some(value) => value.is_string(),
-        None => false,
-    }
-}
+const COLUMNS: [&str; 2] = ["utf16CodeUnits", "unicodeCodePoints"];
 
-/// Whether a number stands there that is at least 1.
-fn is_positive(value: Option<&Value>) -> bool {
-    match value {
-        Some(value) => match value.as_u64() {
-            Some(number) => number >= 1,
-            None => false,
-        },
-        None => false,
-    }
-}
-
-fn items_of<'v>(value: Option<&'v Value>) -> &'v [Value] {
-    match value {
-        Some(value) => match value.as_array() {
-            Some(items) => items.as_slice(),
-            None => &[],
-        },
-        None => &[],
-    }
-}
-
-/// What a location lacks: a physical location has to name its artifact, and a region here has its first line and
-/// column.
-fn location_lacks(location: &Value) -> Option<&'static str> {
-    if !is_text(location.pointer("/physicalLocation/artifactLocation/uri")) {
-        return Some("artifactLocation.uri");
-    }
-    if location.pointer("/physicalLocation/region").is_none() {
-        return None;
-    }
-    if !is_positive(location.pointer("/physicalLocation/region/startLine")) {
-        return Some("region.startLine");
-    }
-    if !is_positive(location.pointer("/physicalLocation/region/startColumn")) {
-        return Some("region.startColumn");
-    }
-    None
-}
-
-fn locations_lack(locations: &[Value]) -> Option<&'static str> {
-    for location in locations {
-        if let Some(member) = location_lacks(location) {
-            return Some(member);
+/// Whether a rule's name is one that another rule before it has.
+fn is_named_before(rule: &Value, before: &[Value]) -> bool {
+    for other in before {
+        if text_in(other.get("id")) == text_in(rule.get("id")) {
+            return true;
         }
     }
-    None
+    false
 }
 
-fn is_level(value: Option<&Value>) -> bool {
-    match value {
-        Some(value) => match value.as_str() {
-            Some("none") | Some("note") | Some("warning") | Some("error") => true,
-            _ => false,
-        },
-        None => false,
+/// What a rule lacks.
+fn rule_lacks(rule: &Value) -> Option<&'static str> {
+    if !is_text(rule.get("id")) {
+        return Some("rules[].id");
     }
-}
-
-/// What a result lacks.
-fn result_lacks(found: &Value) -> Option<&'static str> {
-    if !is_text(found.pointer("/message/text")) {
-        return Some("message.text");
+    if !is_message(rule.get("help")) {
+        return Some("rules[].help");
     }
-    if !is_level(found.get("level")) {
-        return Some("level");
-    }
-    if !is_text(found.get("ruleId")) {
-        return Some("ruleId");
-    }
-    if let Some(member) = locations_lack(items_of(found.get("locations"))) {
-        return Some(member);
-    }
-    locations_lack(items_of(found.get("relatedLocations")))
-}
-
-fn results_lack(results: &[Value]) -> Option<&'static str> {
-    for found in results {
-        if let Some(member) = result_lacks(found) {
-            return Some(member);
-        }
+    if !is_message(rule.get("shortDescription")) {
+        return Some("rules[].shortDescription");
     }
     None
 }
 
 fn rules_lack(rules: &[Value]) -> Option<&'static str> {
-    for rule in rules {
-        if !is_text(rule.get("id")) {
-            return Some("rules[].id");
+    if !are_unique(rules) {
+        return Some("rules that differ");
+    }
+    for (at, rule) in rules.iter().enumerate() {
+        if let Some(member) = rule_lacks(rule) {
+            return Some(member);
+        }
+        if is_named_before(rule, rules.get(..at).unwrap_or(&[])) {
+            return Some("rules with names that differ");
         }
     }
     None
+}
+
+/// What an invocation lacks: a success is one of the tool, and here a status says more.
+fn invocation_lacks(invocation: &Value) -> Option<&'static str> {
+    match invocation.get("executionSuccessful") {
+        Some(value) if value.is_boolean() => {}
+        _ => return Some("executionSuccessful"),
+    }
+    match invocation.get("exitCode") {
+        Some(value) if value.is_u64() => None,
+        _ => Some("exitCode"),
+    }
+}
+
+fn invocations_lack(invocations: &[Value]) -> Option<&'static str> {
+    for invocation in invocations {
+        if let Some(member) = invocation_lacks(invocation) {
+            return Some(member);
+        }
+    }
+    None
+}
+
+/// What a tool lacks.
+fn tool_lacks(run: &Value) -> Option<&'static str> {
+    if !is_text(run.pointer("/tool/driver/name")) {
+        return Some("tool.driver.name");
+    }
+    if !is_text_if(run.pointer("/tool/driver/version")) {
+        return Some("tool.driver.version");
+    }
+    if !is_array_if(run.pointer("/tool/driver/rules")) {
+        return Some("tool.driver.rules");
+    }
+    rules_lack(items_of(run.pointer("/tool/driver/rules")))
+}
+
+/// What a run lacks.
+fn run_lacks(run: &Value) -> Option<&'static str> {
+    if let Some(member) = tool_lacks(run) {
+        return Some(member);
+    }
+    if !is_word_if(run.get("columnKind"), COLUMNS.as_slice()) {
+        return Some("columnKind");
+    }
+    if let Some(member) = invocations_lack(items_of(run.get("invocations"))) {
+        return Some(member);
+    }
+    if run.get("results").is_none() || !is_array_if(run.get("results")) {
+        return Some("results");
+    }
+    let rules = items_of(run.pointer("/tool/driver/rules"));
+    results_lack(items_of(run.get("results")), rules)
 }
 
 /// What a log lacks, which has one run.
@@ -109,19 +106,13 @@ fn log_lacks(log: &Value) -> Option<&'static str> {
         Some(version) if version.as_str() == Some("2.1.0") => {}
         _ => return Some("version"),
     }
-    if items_of(log.get("runs")).len() != 1 {
-        return Some("runs");
+    match items_of(log.get("runs")) {
+        [run] => run_lacks(run),
+        _ => Some("runs"),
     }
-    if !is_text(log.pointer("/runs/0/tool/driver/name")) {
-        return Some("tool.driver.name");
-    }
-    if let Some(member) = rules_lack(items_of(log.pointer("/runs/0/tool/driver/rules"))) {
-        return Some(member);
-    }
-    results_lack(items_of(log.pointer("/runs/0/results")))
 }
 
-/// The first required member that a text of a status and a log lacks.
+/// The first rule that a text of a status and a log breaks, by the member that is wrong.
 pub fn lacking(alloc: Global, text: &str) -> Result<Option<&'static str>, OutOfMemory> {
     let (_, log) = text.split_once(' ').unwrap_or((text, ""));
     match Value::from_str(alloc, log) {
