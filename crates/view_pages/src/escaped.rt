@@ -86,7 +86,7 @@ fn is_mistaken(name: &str) -> bool {
     name.is_empty()
 }
 
-/// The name of a file as a relative reference (RFC 3986 4.2), which no reader takes for that of a host or with a scheme.
+/// A file's name as a relative reference (RFC 3986 4.2), which no reader takes for a host's or for one with a scheme.
 pub fn reference_to(alloc: Global, name: &str) -> Result<String, OutOfMemory> {
     let mut out = String::new(alloc);
     let name = with_one_slash(name);
