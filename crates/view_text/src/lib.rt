@@ -3,24 +3,29 @@
 //! characters.
 #![tactic(auto)]
 
+mod extent;
 mod files;
 mod growing;
 mod lines;
 mod listing;
+mod look;
 mod message;
 mod noted;
 mod printed;
 mod reached;
 mod report;
 mod rules;
+mod window;
 
+pub use extent::extent_of;
 pub use files::Files;
 pub use growing::{Growing, last_holding};
-pub use lines::{line_of, offset_of, spot_at};
-pub use listing::push_listing;
+pub use lines::{line_of, offset_of, spot_at, width_at};
+pub use listing::{lay_out_listing, push_listing};
+pub use look::Look;
 pub use message::{File, Level, Message, Messages};
 pub use noted::{by_line, parted_at};
-pub use printed::{printable_text, push_caret, push_printable, shortened};
+pub use printed::{escaped_json, printable_text, push_printable, shortened};
 pub use reached::Reached;
-pub use report::push_message;
+pub use report::{lay_out_message, push_message};
 pub use rules::{advice, wanted_place};

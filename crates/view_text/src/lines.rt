@@ -39,7 +39,7 @@ pub fn offset_of(text: &[u8], spot: Spot) -> usize {
     text.len()
 }
 
-/// The place behind so many bytes.
+/// The place after so many bytes.
 pub fn spot_at(text: &[u8], offset: usize) -> Spot {
     let mut line = 1u32;
     let mut column = 1u32;
@@ -52,4 +52,15 @@ pub fn spot_at(text: &[u8], offset: usize) -> Spot {
         }
     }
     Spot { line, column }
+}
+
+/// The length of a text that stands at a place word for word; 0 where another does.
+pub fn width_at(text: &[u8], spot: Spot, part: &str) -> usize {
+    let start = offset_of(text, spot);
+    let end = start.saturating_add(part.len());
+    if text.get(start..end) == Some(part.as_bytes()) {
+        part.len()
+    } else {
+        0
+    }
 }

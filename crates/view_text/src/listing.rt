@@ -1,17 +1,19 @@
 // A confirmation in the layout of gcov: each line of the program with how often its statements were begun, and the
 // notes below their lines.
 use crate::files::Files;
+use crate::look::{Look, Paint};
 use crate::message::{File, Level, Message, Messages};
 use crate::noted::{by_line, parted_at};
-use crate::printed::{push_caret, push_printable};
+use crate::printed::push_printable;
 use crate::reached::Reached;
-use crate::report::push_message;
+use crate::report::lay_out_message;
+use crate::window::{Window, push_blanks};
 use c_core::Spot;
 use std::alloc::Global;
 use wv_base::OutOfMemory;
 
-/// So many bytes of a line are shown.
-const WIDEST: usize = 240;
+/// So many bytes stand before a line of the program: its count and its number.
+const GUTTER: usize = 16;
 
 /// How often a line was reached, in gcov's words.
 fn push_count(out: &mut String, reached: Reached) -> Result<(), OutOfMemory> {
@@ -27,13 +29,19 @@ fn push_count(out: &mut String, reached: Reached) -> Result<(), OutOfMemory> {
 fn push_note(
     alloc: Global,
     out: &mut String,
+    look: Look,
     line: &[u8],
     spot: Spot,
     text: &str,
 ) -> Result<(), OutOfMemory> {
-    let column = (spot.column as usize).saturating_sub(1).min(WIDEST);
+    let column = (spot.column as usize)
+        .saturating_sub(1)
+        .min(look.room(GUTTER));
     out.push_str("                ")?;
-    push_caret(alloc, out, line.get(..column).unwrap_or(line))?;
+    push_blanks(alloc, out, line.get(..column).unwrap_or(line))?;
+    look.begin(out, Paint::Level(Level::Note))?;
+    out.push_str("^")?;
+    look.end(out)?;
     out.push_str(" ")?;
     push_printable(alloc, out, text.as_bytes())?;
     out.push_str("\n")?;
@@ -44,6 +52,7 @@ fn push_note(
 fn push_notes(
     alloc: Global,
     out: &mut String,
+    look: Look,
     line: &[u8],
     places: &[(u32, usize)],
     messages: &[Message],
@@ -52,7 +61,7 @@ fn push_notes(
         let (_, index) = *place;
         if let Some(message) = messages.get(index) {
             if let Some(spot) = message.spot {
-                push_note(alloc, out, line, spot, message.text.as_str())?;
+                push_note(alloc, out, look, line, spot, message.text.as_str())?;
             }
         }
     }
@@ -62,13 +71,14 @@ fn push_notes(
 fn push_line(
     alloc: Global,
     out: &mut String,
+    look: Look,
     line: &[u8],
     number: u32,
     reached: Reached,
 ) -> Result<(), OutOfMemory> {
     push_count(out, reached)?;
     write!(out, "{number:5}:")?;
-    push_printable(alloc, out, line.get(..WIDEST).unwrap_or(line))?;
+    Window::of(line, 0, 0, look.room(GUTTER)).push_line(alloc, out)?;
     out.push_str("\n")?;
     Ok(())
 }
@@ -85,26 +95,38 @@ fn without_last_end(text: &[u8]) -> &[u8] {
 fn push_warnings(
     alloc: Global,
     out: &mut String,
+    look: Look,
     files: &Files<'_>,
     messages: &[Message],
 ) -> Result<(), OutOfMemory> {
     for message in messages {
         if message.level != Level::Note {
-            push_message(alloc, out, files, message)?;
+            lay_out_message(alloc, out, look, files, message)?;
         }
     }
     Ok(())
 }
 
-/// Appends warnings, and after them the program line by line, with counts and notes: `#####` where statements stand and
-/// none was begun, a dash where none stands.
+/// Appends warnings and the program, as files and pipes have it.
 pub fn push_listing(
     alloc: Global,
     out: &mut String,
     files: &Files<'_>,
     messages: &Messages,
 ) -> Result<(), OutOfMemory> {
-    push_warnings(alloc, out, files, messages.as_slice())?;
+    lay_out_listing(alloc, out, Look::plain(), files, messages)
+}
+
+/// Appends warnings, and after them the program line by line, with counts and notes: `#####` where statements stand and
+/// none was begun, a dash where none stands.
+pub fn lay_out_listing(
+    alloc: Global,
+    out: &mut String,
+    look: Look,
+    files: &Files<'_>,
+    messages: &Messages,
+) -> Result<(), OutOfMemory> {
+    push_warnings(alloc, out, look, files, messages.as_slice())?;
     let counts = messages.counts().unwrap_or(&[]);
     let places = by_line(alloc, messages.as_slice(), File::Program)?;
     let mut later = places.as_slice();
@@ -115,8 +137,8 @@ pub fn push_listing(
         number = number.saturating_add(1);
         let (here, behind) = parted_at(later, number);
         later = behind;
-        push_line(alloc, out, line, number, reached)?;
-        push_notes(alloc, out, line, here, messages.as_slice())?;
+        push_line(alloc, out, look, line, number, reached)?;
+        push_notes(alloc, out, look, line, here, messages.as_slice())?;
     }
     Ok(())
 }

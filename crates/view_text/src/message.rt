@@ -38,6 +38,8 @@ pub struct Message {
     pub code: String,
     pub file: File,
     pub spot: Option<Spot>,
+    /// How many bytes it is about, from its place on; 0 where that is the word that stands there.
+    pub width: u32,
     pub text: String,
 }
 
@@ -93,8 +95,31 @@ impl Messages {
             code,
             file,
             spot,
+            width: 0,
             text,
         })?;
+        Ok(())
+    }
+
+    /// The last message is about so many bytes from its place on.
+    pub fn mark(&mut self, width: usize) {
+        if let Some(last) = self.list.last_mut() {
+            last.width = u32::try_from(width).unwrap_or(u32::MAX);
+        }
+    }
+
+    /// Adds messages after these.
+    pub fn extend_from(&mut self, others: &[Message]) -> Result<(), OutOfMemory> {
+        for other in others {
+            self.list.push(Message {
+                level: other.level,
+                code: other.code.clone()?,
+                file: other.file,
+                spot: other.spot,
+                width: other.width,
+                text: other.text.clone()?,
+            })?;
+        }
         Ok(())
     }
 

@@ -62,12 +62,17 @@ pub fn printable_text(alloc: Global, text: &str) -> Result<String, OutOfMemory> 
     Ok(out)
 }
 
-/// Appends blanks for these bytes, and tabs for their tabs, and then a caret.
-pub fn push_caret(alloc: Global, out: &mut String, before: &[u8]) -> Result<(), OutOfMemory> {
-    let text = String::from_utf8_lossy(alloc, before)?;
-    for c in text.as_str().chars() {
-        out.push(if c == '\t' { '\t' } else { ' ' })?;
+/// A JSON text in which no hidden character stands as itself: such a character stands in a string, so its escape (RFC
+/// 8259 7) says the same.
+pub fn escaped_json(alloc: Global, json: &str) -> Result<String, OutOfMemory> {
+    let mut out = String::new(alloc);
+    for c in json.chars() {
+        if is_hidden(c) && c != '\n' {
+            let number = u32::from(c);
+            write!(out, "\\u{number:04x}")?;
+        } else {
+            out.push(c)?;
+        }
     }
-    out.push_str("^")?;
-    Ok(())
+    Ok(out)
 }

@@ -4,7 +4,7 @@
 pub fn advice(code: &str) -> &'static str {
     match code {
         "fault" => "this file isn't there, or can't be read",
-        "usage" => "the words of the command line are misused",
+        "usage" => "the arguments of the command line are misused",
         "too-long" =>
             "the file is too long: 1,048,576 bytes of a program or a witness, 4,096 of a property, 67,108,864 of a certificate",
         "property" => "the file holds neither the property of unreach-call nor that of no-overflow",
@@ -17,20 +17,20 @@ pub fn advice(code: &str) -> &'static str {
         "schema-value" => "this text may not stand here",
         "schema-version" => "the version of the format has to be \"2.0\"",
         "schema-shape" =>
-            "a segment is waypoints to avoid and then one to follow; a target is the follow of the last segment and stands nowhere else",
+            "a segment is waypoints to avoid and then one to follow; the target is the waypoint to follow of the last segment, and stands nowhere else",
         "schema-entries" => "a witness is one violation sequence, or invariant sets alone",
         "kind" => "certificates are of invariant sets, and this witness is a violation sequence",
         "files" => "an entry names one input file, and one hash, whose key is that file's name",
-        "hash" => "the witness was made for other bytes of the program",
+        "hash" => "the witness was made for a program of other bytes",
         "specification" =>
-            "this isn't the property that was handed in: its whole text, or its inner formula, has to stand here",
+            "this isn't the given property: its whole text, or its inner formula, has to stand here",
         "language" => "the language has to be C",
         "model" => "the data model has to be ILP32 or LP64, and that of the first entry",
         "uuid" => "this is no identifier of RFC 9562",
         "token" => "no token of integer C stands here",
         "directive" =>
-            "a directive that isn't passed over: run the preprocessor first (#include, #line, #pragma and line markers are passed over)",
-        "syntax" => "the grammar can't take this token",
+            "a directive that isn't skipped: run the preprocessor first (#include, #line, #pragma and line markers are skipped)",
+        "syntax" => "this token can't stand here",
         "check-name" =>
             "this word names no object in scope, and no function that was declared before",
         "check-again" =>
@@ -45,8 +45,8 @@ pub fn advice(code: &str) -> &'static str {
         "check-main" => "main is missing, has parameters, or gives something other than int",
         "check-cells" => "with this declaration all objects have more than 100,000 cells",
         "recursion" =>
-            "main reaches a cycle of calls, on which this function lies: invariants are judged of programs without recursion",
-        "weight" => "the obligations are too big as a circuit",
+            "this function calls itself, maybe through others, and main reaches it: invariants are judged only of programs without recursion",
+        "weight" => "the obligations are too big as circuits",
         "unknown-key" => "this key isn't read: the format doesn't have it in this map",
         "file-name" => "a location is in the file that the witness is about",
         "ended" => "the run that the witness gives ends without a violation of the property",
