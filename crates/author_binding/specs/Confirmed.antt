@@ -1,4 +1,4 @@
--- What the binding of a witness of `author` comes to.
+-- What the binding of a witness of `author` gives.
 use Rattle.std.specs.Prelude.{ℕ, ℤ, List, Result, Ok, Err}
 use Rattle.c_core.specs.Tree.{Program}
 use Rattle.way_bind.specs.declared.fault.BindFault.{BindFault}

@@ -67,7 +67,7 @@ impl Memory {
         Ok(())
     }
 
-    /// Makes room for at least so many cells in all.
+    /// Makes room for at least this many cells in all.
     pub fn reserve(&mut self, cells: u32) -> Result<(), OutOfMemory>
         ensures cells { self.new.cells ≡ self.old.cells }
         ensures kept { self.old.room ≤ self.new.room }
@@ -99,7 +99,7 @@ impl Memory {
         self.cells.len()
     }
 
-    /// Keeps the first so many cells.
+    /// Keeps the first n cells.
     pub fn cut(&mut self, cells: usize)
         ensures cells { self.new.cells ≡ take cells self.old.cells }
         ensures kept { self.old.room ≤ self.new.room }

@@ -196,7 +196,7 @@ fn clashes(start: usize, past: Past, known: Known) -> bool
     }
 }
 
-/// Whether one more declaration clashes with one that stands at this place or behind.
+/// Whether one more declaration clashes with one that stands at this place or after.
 pub fn is_clash(start: usize, past: Option<Past>, known: Known) -> bool
     ensures { result ≡ Pasts.is_clash start past.entry known.entry }
 {

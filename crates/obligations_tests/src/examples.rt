@@ -1,4 +1,4 @@
-// What is told of example programs under values that were chosen by hand.
+// What is known of example programs under values that were chosen by hand.
 use crate::cases::{Claim, evaluate};
 use crate::inputs::input_of;
 use crate::told::{Told, told_by_net};
@@ -98,7 +98,7 @@ int main() {
 ";
 
 // A program with claims and a property, how many values a run draws at most and the values of some runs; and what is
-// told: the obligations, and of each run the number of the one that fails, or 0, and what it draws where.
+// what is known: the obligations, and of each run the number of the one that fails, or 0, and what it draws where.
 type Example = (
     &'static str,
     &'static [Claim],

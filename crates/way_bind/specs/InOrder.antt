@@ -34,7 +34,7 @@ TellsLeast {A} {B} binds first vs (fault.Expression n) = IsLeast binds first vs 
 TellsLeast {A} {B} binds first vs (fault.Scope n) = IsLeast binds first vs n Scope
 TellsLeast {A} {B} binds first vs fault.OutOfMemory = Unit {0}
 
--- how the item of a number that fails a test first is told
+-- how the item of a number that fails a test first is reported
 abbrev pub told : ℕ → Unbound → BindFault
 told n NoPlace = fault.NoPlace n
 told n Expression = fault.Expression n

@@ -30,7 +30,7 @@ fn run_asked<S: Shelf, O: Sink>(alloc: Global, asked: &Asked<'_>, shelf: &mut S,
     }
 }
 
-/// The same for the words of a command line.
+/// The same for the arguments of a command line.
 fn run_words<S: Shelf, O: Sink>(alloc: Global, words: &[String], shelf: &mut S, out: &mut O) -> u8
     ensures runs { Runs (map string_bytes words.now) (S.state shelf.old) (S.state shelf.new) (O.state out.old)
         (O.state out.new) result }
@@ -43,7 +43,7 @@ fn run_words<S: Shelf, O: Sink>(alloc: Global, words: &[String], shelf: &mut S, 
     }
 }
 
-/// All that the program does: it reads the files that the words name, judges, shows or brings into canonical form,
+/// All that the program does: it reads the files that the arguments name, judges, shows or brings into canonical form,
 /// writes a certificate or checks one again, makes a violation witness of values, keeps the invariants that hold up
 /// together, or makes a demo and judges it, and writes.
 ///

@@ -38,12 +38,12 @@ Gets IsFine text_of before (Err OutOfMemory) after = Unit {0}
 abbrev pub between : List ℕ → List ℕ → ℕ → List ℕ
 between first last number = first ++ decimal number ++ last
 
--- so many chains
+-- this many chains
 pub record HasChains (count : ℕ) (chains : List Chain) : Type 0 where
   pub many : length chains ≡ count
   pub fine : All IsChain chains
 
--- so many logs
+-- this many logs
 pub record HasLogs (count : ℕ) (logs : List Refutation) : Type 0 where
   pub many : length logs ≡ count
   pub fine : All IsLog logs

@@ -55,7 +55,7 @@ fn is_text_line(line: &Line<'_>) -> bool
     !(is_start_line(line) || is_stop_line(line))
 }
 
-/// Whether nothing but a comment stands behind a line's mark.
+/// Whether nothing but a comment stands after a line's mark.
 fn is_alone_line(line: &Line<'_>) -> bool
     ensures { result ≡ is_alone line.now }
 {
@@ -114,7 +114,7 @@ fn top_of(alloc: Global, lines: &[Line<'_>]) -> Result<Tree, YamlFault>
     block_of(alloc, 64, first, rest)
 }
 
-/// The document behind its first line `---`.
+/// The document after its first line `---`.
 fn framed_of(alloc: Global, lines: &[Line<'_>]) -> Result<Tree, YamlFault>
     requires { All IsSmall lines.now }
     ensures { Gives (λ (t : Tree). t) result (framed lines.now) }
