@@ -7,7 +7,7 @@ use Rattle.way_match.specs.View.{segments_view}
 use Rattle.way_match.specs.declared.point.Bound.{Bound}
 use Rattle.author_binding.specs.Shown.{ShowsRun}
 
--- the witness is bound to segments that show the run of these values, unless memory was wanted: no refusal applies
+-- the witness is bound to segments that show the run of these values, unless memory ran out: no refusal applies
 abbrev pub IsConfirmation : Program → List ℤ → ℕ → Result Bound BindFault → Type 0
 IsConfirmation p vs N (Ok bound) = ShowsRun p vs N (segments_view bound)
 IsConfirmation p vs N (Err (NoPlace n)) = ⊥

@@ -21,7 +21,7 @@ use Rattle.c_parser.specs.Signs.{◌>>=◌, sign_at, steps_behind, is_sign, Join
 use Rattle.c_parser.specs.ReadExpressions.{Read, assign_at, stepped}
 use Rattle.c_parser.specs.View.{expr_view, exprs_view}
 
--- nothing is read, unless memory was wanted
+-- nothing is read, unless memory ran out
 abbrev pub Fails : {X : Type 0} → Unread → Option X → Type 0
 Fails Unspelled read = read ≡ None
 Fails OutOfMemory read = Unit {0}

@@ -22,7 +22,7 @@ pub struct Lists<'a> {
     pub other: Option<usize>,
 }
 
-/// What all declarations of a name make of it together. With places in place of flags it tells of any
+/// What all declarations of a name make of it together. With places in place of flags it says of any
 /// scope what its own declarations say, so that no scope that begins or ends has to change it.
 #[derive(Clone, Copy)]
 pub struct Past<'a> {

@@ -97,8 +97,8 @@ int main() {
 }
 ";
 
-// A program with claims and a property, how many values a run draws at most and the values of some runs; and what is
-// what is known: the obligations, and of each run the number of the one that fails, or 0, and what it draws where.
+// A program with claims and a property, how many values a run draws at most and the values of some runs; then what is
+// known: the obligations, and of each run the number of the one that fails, or 0, and what it draws where.
 type Example = (
     &'static str,
     &'static [Claim],

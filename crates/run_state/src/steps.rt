@@ -45,7 +45,7 @@ pub fn room<W: Watcher>(machine: &Machine, cells: u64) -> Result<(), Halt>
     }
 }
 
-/// Ends the run with a violation at an expression, and tells so.
+/// Ends the run with a violation at an expression, and reports it.
 pub fn violate<W: Watcher>(
     machine: &Machine,
     watcher: &mut W,

@@ -41,7 +41,7 @@ told n Expression = fault.Expression n
 told n Scope = fault.Scope n
 told n OutOfMemory = fault.OutOfMemory
 
--- two answers are the same by this view, unless memory was wanted in one
+-- two answers are the same by this view, unless memory ran out in one
 abbrev pub AgreeBy : {A B : Type 0} → (A → B) → Result A BindFault → Result A BindFault → Type 0
 AgreeBy {A} {B} view (Ok a) (Ok b) = view a ≡ view b
 AgreeBy {A} {B} view (Ok a) (Err f) = f ≡ fault.OutOfMemory

@@ -43,11 +43,10 @@ fn run_words<S: Shelf, O: Sink>(alloc: Global, words: &[String], shelf: &mut S, 
     }
 }
 
-/// All that the program does: it reads the files that the arguments name, judges, shows or brings into canonical form,
-/// writes a certificate or checks one again, makes a violation witness of values, keeps the invariants that hold up
-/// together, or makes a demo and judges it, and writes.
+/// All that the program does. It reads the files that the arguments name, does what the mode asks for (`Request` lists
+/// the modes), and writes the output.
 ///
-/// The status is the output's, 5 where a write failed, 6 where memory was wanted. All bytes stand in memory before the
+/// The status is the output's, 5 where a write failed, 6 where memory ran out. All bytes stand in memory before the
 /// first of them is written.
 pub fn run<S: Shelf, O: Sink>(alloc: Global, words: &Vec<String>, shelf: &mut S, out: &mut O) -> u8
     ensures runs { Runs (map string_bytes words.now.items) (S.state shelf.old) (S.state shelf.new) (O.state out.old)
