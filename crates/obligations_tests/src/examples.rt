@@ -9,7 +9,7 @@ use std::test::Fail;
 use wv_base::OutOfMemory;
 use wv_schema::InvariantKind::Loop;
 
-// `count_up_down-1` of the competition's loops.
+/// `count_up_down-1` of the competition's loops.
 pub const COUNT_UP_DOWN: &str = "\
 extern void abort(void);
 extern void __assert_fail(const char *, const char *, unsigned int, const char *) __attribute__ ((__nothrow__ , __leaf__)) __attribute__ ((__noreturn__));
@@ -36,6 +36,7 @@ int main()
 }
 ";
 
+/// A loop that counts in a function that it calls.
 pub const COUNT_CALLS: &str = "\
 void reach_error() { }
 int g;

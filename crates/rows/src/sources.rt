@@ -457,6 +457,7 @@ pub fn parsed(alloc: Global, text: &[u8]) -> Option<Result<Source, ParseFault>> 
     Some(parse(alloc, &found))
 }
 
+/// The text of a refusal by the grammar.
 pub fn refused(alloc: Global, fault: ParseFault) -> Result<String, AllocError> {
     match fault {
         ParseFault::Syntax { line, column } => format!(in alloc; "syntax {line}:{column}"),
