@@ -37,7 +37,8 @@ impl Model for Memory {
 
     ghost view = { λ m. record { cells = cells_of m.cells.items; room = length m.slots.items / 2 } };
 
-    ghost invariant = { λ m. IsKept m.starts.items m.places.items (names_of m.cells.items) m.slots.items × (length m.slots.items / 2 ≤ vec_capacity m.cells) };
+    ghost invariant = { λ m. IsKept m.starts.items m.places.items (names_of m.cells.items) m.slots.items
+        × (length m.slots.items / 2 ≤ vec_capacity m.cells) };
 }
 
 impl Memory {
