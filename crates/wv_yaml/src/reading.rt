@@ -163,6 +163,8 @@ fn read_text(alloc: Global, text: &str) -> Result<Tree, YamlFault>
 
 /// The tree that bytes spell: `Bytes` where they are no characters that may stand in a document, `Grammar` where they
 /// spell no tree, `Duplicate` where they spell one and one of its maps has two equal keys.
+///
+/// Example: `canonical` in `crates/witval/src/canonical.rt`.
 pub fn read(alloc: Global, bytes: &[u8]) -> Result<Tree, YamlFault>
     ensures answer { IsAnswer bytes.now result }
     // The same, of what the definitions compute.
