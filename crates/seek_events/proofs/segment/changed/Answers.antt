@@ -2,7 +2,7 @@ use Rattle.std.proofs.Common.{arith}
 use Rattle.circuits.proofs.Nets.{grown_not, own, kept, opp, and_of, three}
 use Rattle.circuits.proofs.Composing.{or_of, pick_made}
 use Rattle.seek_events.proofs.Bits.{same_picked}
-use Rattle.seek_events.proofs.segment.pick.Goals as goal
+use Rattle.seek_events.proofs.segment.changed.Goals as goal
 
 pub returns-then-same-clause-grown : goal.returns-then-same-clause-grown
 returns-then-same-clause-grown c = grown_not 3 _
