@@ -9,6 +9,7 @@ pub mod View
 pub mod Gives
 pub mod Brackets
 pub mod Declarations
+pub mod Depth
 pub mod Statements
 pub mod ReadStatements
 pub mod Items

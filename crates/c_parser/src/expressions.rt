@@ -5,6 +5,7 @@ ghost use Rattle.c_parser.specs.Expressions.{has_room};
 ghost use Rattle.c_parser.specs.ReadExpressions.{read, within, full, stored, tail, choice, operand, operand_at, opened, prefixed, signed, in_parens, grouped, converted, name_words, with_steps, named, called, arguments, listed, bracketed, dimensions};
 ghost use Rattle.c_parser.specs.View.{expr_view};
 ghost use Rattle.c_parser.specs.Gives.{Gives, Fits, GivesAll, assignment_at, steps};
+ghost use Rattle.c_parser.specs.Depth.{IsSmall, tail_in, choice_in};
 
 use crate::cursor::Read;
 use crate::fault::Unread;
@@ -24,6 +25,13 @@ use c_core::{Spot, StepOp, UnOp};
 use c_tokens::{Punct, Token, TokenKind};
 use std::alloc::Global;
 use wv_base::Text;
+
+/// How far what is read may go: this many brackets open at one place, and parts of this height.
+#[derive(Clone, Copy)]
+struct Depth {
+    brackets: usize,
+    height: usize,
+}
 
 /// The expression at the front of tokens whose parts hold together with this strength at least, with at most this many
 /// brackets open at one place and of this height at most.
@@ -84,15 +92,8 @@ fn full_at<'a>(
 {
     let (first, rest) = operand_at(alloc, tokens, brackets, height, strength)?;
     let (left, rest) = stored_at(alloc, tokens, brackets, height, strength, first, rest)?;
-    let got = tail_at(
-        alloc,
-        place_at(tokens),
-        brackets,
-        height,
-        strength,
-        left,
-        rest,
-    )?;
+    let depth = Depth { brackets, height };
+    let got = tail_at(alloc, place_at(tokens), depth, strength, left, rest)?;
     Ok(got)
 }
 
@@ -121,16 +122,9 @@ fn stored_at<'a>(
             Ok(got)
         }
         None => {
-            let (test, end) = tail_at(
-                alloc,
-                spot,
-                brackets,
-                height,
-                strength.max(BINARY),
-                left,
-                rest,
-            )?;
-            let got = choice_at(alloc, spot, brackets, height, strength, test, end)?;
+            let depth = Depth { brackets, height };
+            let (test, end) = tail_at(alloc, spot, depth, strength.max(BINARY), left, rest)?;
+            let got = choice_at(alloc, spot, depth, strength, test, end)?;
             Ok(got)
         }
     }
@@ -141,27 +135,30 @@ fn stored_at<'a>(
 fn tail_at<'a>(
     alloc: Global,
     spot: Spot,
-    brackets: usize,
-    height: usize,
+    depth: Depth,
     strength: usize,
     first: Measured,
     tokens: &'a [Token],
 ) -> Read<'a, Measured>
-    requires brackets { brackets ≤ 2 ^ 15 }
-    requires height { height < 2 ^ 15 }
-    requires first { Fits (height + 1) first }
-    ensures { Gives (height + 1) result (tail (has_room brackets) (within brackets) (read brackets height) height height
-        spot strength (expr_view first.expr) tokens.now) }
+    requires depth { IsSmall depth }
+    requires first { Fits (depth.height + 1) first }
+    ensures { Gives (depth.height + 1) result (tail_in depth spot strength (expr_view first.expr) tokens.now) }
 {
     let mut left = first;
     let mut rest = tokens;
-    let mut more = height;
+    let mut more = depth.height;
     loop {
         let Some((own, joint)) = joint_at(strength, rest) else {
             return Ok((left, rest));
         };
-        let (right, end) = expression_at(alloc, behind(rest), brackets, height, own + 1)?;
-        (left, rest) = joined(alloc, height, spot, joint, left, right, end)?;
+        let (right, end) = expression_at(
+            alloc,
+            behind(rest),
+            depth.brackets,
+            depth.height,
+            own + 1,
+        )?;
+        (left, rest) = joined(alloc, depth.height, spot, joint, left, right, end)?;
         if more == 0 {
             return Err(Unread::Unspelled);
         }
@@ -174,24 +171,21 @@ fn tail_at<'a>(
 fn choice_at<'a>(
     alloc: Global,
     spot: Spot,
-    brackets: usize,
-    height: usize,
+    depth: Depth,
     strength: usize,
     test: Measured,
     tokens: &'a [Token],
 ) -> Read<'a, Measured>
-    requires brackets { brackets ≤ 2 ^ 15 }
-    requires height { height < 2 ^ 15 }
-    requires test { Fits (height + 1) test }
-    ensures { Gives (height + 1) result (choice (has_room brackets) (within brackets) (read brackets height) height spot
-        strength (expr_view test.expr, tokens.now)) }
+    requires depth { IsSmall depth }
+    requires test { Fits (depth.height + 1) test }
+    ensures { Gives (depth.height + 1) result (choice_in depth spot strength (expr_view test.expr, tokens.now)) }
 {
     if strength <= CONDITIONAL && is_sign(tokens, Punct::Question) {
         let mark = place_at(tokens);
-        let (yes, rest) = expression_at(alloc, behind(tokens), brackets, height, EXPR)?;
+        let (yes, rest) = expression_at(alloc, behind(tokens), depth.brackets, depth.height, EXPR)?;
         let second = closed(rest, Punct::Colon)?;
-        let (no, end) = expression_at(alloc, second, brackets, height, CONDITIONAL)?;
-        let got = chosen(alloc, height, spot, mark, test, yes, no, end)?;
+        let (no, end) = expression_at(alloc, second, depth.brackets, depth.height, CONDITIONAL)?;
+        let got = chosen(alloc, depth.height, spot, mark, test, yes, no, end)?;
         return Ok(got);
     }
     Ok((test, tokens))

@@ -82,8 +82,8 @@ listed_at-loop-more-preserved t c =
 
 pub tail_at-loop-own-preserved : goal.tail_at-loop-own-preserved
 tail_at-loop-own-preserved t c =
-    let b = c.args.brackets in
-    let h = c.args.height in
+    let b = c.args.depth.brackets in
+    let h = c.args.depth.height in
     let left = expr_view c.loop-own.left.expr in
     let right = c.in_ok-right.ensures in
     let got = c.in_ok-left.ensures in

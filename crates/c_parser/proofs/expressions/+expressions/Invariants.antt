@@ -22,10 +22,10 @@ abbrev pub decreases-operand_at : goal.decreases-operand_at
 decreases-operand_at l = 16 * (l.brackets + l.height) + 11
 
 abbrev pub decreases-tail_at : goal.decreases-tail_at
-decreases-tail_at l = 16 * (l.brackets + l.height) + 2
+decreases-tail_at l = 16 * (l.depth.brackets + l.depth.height) + 2
 
 abbrev pub decreases-choice_at : goal.decreases-choice_at
-decreases-choice_at l = 16 * (l.brackets + l.height) + 2
+decreases-choice_at l = 16 * (l.depth.brackets + l.depth.height) + 2
 
 abbrev pub decreases-kind_at : goal.decreases-kind_at
 decreases-kind_at l = 16 * (l.brackets + l.height) + 10
@@ -68,9 +68,9 @@ decreases-listed_at l = 16 * (l.brackets + l.height) + 5
 
 abbrev pub invariant-tail_at-loop-own : goal.invariant-tail_at-loop-own
 invariant-tail_at-loop-own l =
-    Fits (l.height + 1) l.left
-    × (tail (has_room l.brackets) (within l.brackets) (read l.brackets l.height) l.height l.more l.spot l.strength (expr_view l.left.expr) l.rest
-    ≡ tail (has_room l.brackets) (within l.brackets) (read l.brackets l.height) l.height l.height l.spot l.strength (expr_view l.fn.first.expr) l.fn.tokens)
+    Fits (l.depth.height + 1) l.left
+    × (tail (has_room l.depth.brackets) (within l.depth.brackets) (read l.depth.brackets l.depth.height) l.depth.height l.more l.spot l.strength (expr_view l.left.expr) l.rest
+    ≡ tail (has_room l.depth.brackets) (within l.depth.brackets) (read l.depth.brackets l.depth.height) l.depth.height l.depth.height l.spot l.strength (expr_view l.fn.first.expr) l.fn.tokens)
 
 abbrev pub decreases-tail_at-loop-own : goal.decreases-tail_at-loop-own
 decreases-tail_at-loop-own l = l.more
