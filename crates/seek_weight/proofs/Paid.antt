@@ -140,7 +140,7 @@ module _ (p : Program) (ss : List BoundSegment) (k : ℕ) where
     abbrev AllFit : List Exp → Type 0
     AllFit es = IsTrue (list_all (is_typed p) es)
 
-    -- the only one of a list
+    -- the only expression of a list
     one_of : (e : Exp) → AllFit (e ∷ []) → FitsIn e
     one_of e t = (both (is_typed p e) true t).0
 
@@ -195,7 +195,7 @@ module _ (p : Program) (ss : List BoundSegment) (k : ℕ) where
       abbrev q : Stm → Bool
       q = statement_fits p result
 
-      -- what its own full expressions are
+      -- its own full expressions are well typed
       abbrev OwnFit : Form → Type 0
       OwnFit f = AllFit (own_fulls f)
 
