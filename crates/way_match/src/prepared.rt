@@ -108,7 +108,7 @@ fn steps_for(
     }
 }
 
-fn ready(alloc: Global, index: &Index, point: &Point) -> Result<Ready, OutOfMemory>
+fn ready_point(alloc: Global, index: &Index, point: &Point) -> Result<Ready, OutOfMemory>
     ensures { IfOk result (λ found. found ≡ ready_of (program_view index.now) (point_view point.now)) }
 {
     let steps = steps_for(alloc, index.program(), point)?;
@@ -123,7 +123,7 @@ fn each_ready(alloc: Global, index: &Index, points: &[Point]) -> Result<Seq<Read
 {
     let mut found = Seq::new(alloc);
     for point in points {
-        found.push(ready(alloc, index, point)?)?;
+        found.push(ready_point(alloc, index, point)?)?;
     }
     Ok(found)
 }
@@ -140,7 +140,7 @@ pub fn prepare(
     let mut prepared = Seq::new(alloc);
     for segment in segments {
         let avoids = each_ready(alloc, index, segment.avoids.as_slice())?;
-        let follow = ready(alloc, index, &segment.follow)?;
+        let follow = ready_point(alloc, index, &segment.follow)?;
         prepared.push(Prepared { avoids, follow })?;
     }
     Ok(prepared)

@@ -7,5 +7,5 @@ use Rattle.way_match.proofs.passing.passes_any.Goals as goal
 pub passes-requires : goal.passes-requires
 passes-requires c =
     let lt : c.loop-i.i < length c.args.points.now = omega arith in
-    ap (λ (xs : List Ready). get_or xs c.loop-i.i c.index-each-i.result) c.requires.prepared ∙
+    c.index-each-i.is ∙ ap (λ (xs : List Ready). get_or xs c.loop-i.i c.index-each-i.result) c.requires.prepared ∙
     ready_at (program_view c.args.program.now) c.args.points.now c.loop-i.i c.index-points-i.result c.index-each-i.result lt c.index-points-i.is
