@@ -77,11 +77,19 @@ fn explain_place(
     let head = head.as_str();
     let rule = wanted_place(claim.kind);
     let told = format!(in alloc;
-        "{head}: nothing of this kind stands there; it is to name {rule}"
+        "{head}: nothing of this kind stands there; it has to name {rule}"
     )?;
     out.error("place", File::Program, Some(spot_of(claim.location)), told)?;
     note_places(alloc, files, index, claim, out)?;
-    note_location(alloc, files, claim, out)
+    let text = files.text(File::Program);
+    let line = claim.location.line;
+    let here = columns(alloc, index, text, claim.wanted, line)?;
+    match claim.location.column {
+        Some(column) if here.len() > 0 => {
+            note_location(alloc, files, claim, "column", column, out)
+        }
+        _ => note_location(alloc, files, claim, "line", line, out),
+    }
 }
 
 /// What is wrong with an expression.
@@ -97,7 +105,7 @@ fn lack_text(alloc: Global, claim: &Claim<'_, '_>, lack: &Lack) -> Result<String
             if rest.is_empty() {
                 Ok(String::from_str(alloc, "it isn't finished")?)
             } else {
-                Ok(format!(in alloc; "the grammar can't take `{rest}` (character {column})")?)
+                Ok(format!(in alloc; "`{rest}` can't stand there (character {column})")?)
             }
         }
         Lack::Unknown => Ok(String::from_str(alloc, "it isn't in the grammar")?),
@@ -129,14 +137,15 @@ fn explain_expression(
     } else {
         "a C expression without calls, assignments, steps and commas"
     };
-    let told = format!(in alloc; "{head}: {lack}; it is to be {rule}")?;
+    let told = format!(in alloc; "{head}: {lack}; it has to be {rule}")?;
     out.error(
         "expression",
         File::Program,
         Some(spot_of(claim.location)),
         told,
     )?;
-    note_expression(alloc, files, claim, front, out)
+    let rest = claim.expression.len().saturating_sub(front);
+    note_expression(alloc, files, claim, front, rest, out)
 }
 
 /// What a branching may state at its place.
@@ -147,8 +156,8 @@ fn ways_there(index: &Index, location: &Location) -> &'static str {
         None => None,
     };
     match switch {
-        Some(_) => "at a `switch` the value is to be an integer or `default`",
-        None => "the value is to be `true` or `false`, as no `switch` stands there",
+        Some(_) => "at a `switch` the value has to be an integer or `default`",
+        None => "the value has to be `true` or `false`, since no `switch` stands there",
     }
 }
 
@@ -170,7 +179,7 @@ fn explain_way(
         Some(spot_of(claim.location)),
         told,
     )?;
-    note_expression(alloc, files, claim, 0, out)
+    note_expression(alloc, files, claim, 0, claim.expression.len(), out)
 }
 
 /// The number in a fault.

@@ -3,8 +3,8 @@ use crate::nearest::Wanted;
 use c_core::PlaceKind;
 use std::alloc::Global;
 use view_runs::{Numbered, invariant_word, place_text, way_word};
-use view_text::{File, Files, Messages};
-use view_witness::{place_in_value, place_of_path, steps_of};
+use view_text::{File, Files, Messages, width_at};
+use view_witness::{place_in_value, steps_of};
 use wv_base::OutOfMemory;
 use wv_schema::{Constraint, Invariant, InvariantKind, Location, WayKind};
 
@@ -93,26 +93,33 @@ pub fn head(alloc: Global, claim: &Claim<'_, '_>) -> Result<String, OutOfMemory>
     Ok(text)
 }
 
-/// Says where the witness has the location of a claim.
+/// Says where the witness has a number of a claim's location, `line` or `column`.
 pub fn note_location(
     alloc: Global,
     files: &Files<'_>,
     claim: &Claim<'_, '_>,
+    key: &str,
+    number: u32,
     out: &mut Messages,
 ) -> Result<(), OutOfMemory> {
     let path = claim.path;
-    let whole = format!(in alloc; "{path}.location")?;
+    let whole = format!(in alloc; "{path}.location.{key}")?;
     let steps = steps_of(alloc, whole.as_str())?;
-    let spot = place_of_path(alloc, files.text(File::Witness), steps.as_slice())?;
-    out.remark(File::Witness, Some(spot), "the witness says it here")
+    let stated = format!(in alloc; "{number}")?;
+    let text = files.text(File::Witness);
+    let spot = place_in_value(alloc, text, steps.as_slice(), stated.as_str(), 0)?;
+    out.remark(File::Witness, Some(spot), "the witness says it here")?;
+    out.mark(width_at(text, spot, stated.as_str()));
+    Ok(())
 }
 
-/// Says where the witness has a byte of a claim's expression.
+/// Says where the witness has a part of a claim's expression: so many bytes from `at` on.
 pub fn note_expression(
     alloc: Global,
     files: &Files<'_>,
     claim: &Claim<'_, '_>,
     at: usize,
+    length: usize,
     out: &mut Messages,
 ) -> Result<(), OutOfMemory> {
     let path = claim.path;
@@ -124,5 +131,8 @@ pub fn note_expression(
     let steps = steps_of(alloc, whole.as_str())?;
     let text = files.text(File::Witness);
     let spot = place_in_value(alloc, text, steps.as_slice(), claim.expression, at)?;
-    out.remark(File::Witness, Some(spot), "the witness says it here")
+    let part = claim.expression.get(at..at.saturating_add(length));
+    out.remark(File::Witness, Some(spot), "the witness says it here")?;
+    out.mark(width_at(text, spot, part.unwrap_or("")));
+    Ok(())
 }

@@ -8,8 +8,8 @@ use c_core::{Object, Program, Spot};
 use c_meaning::{Draw, DrawKind, Duty, DutyKind, size_of_object};
 use std::alloc::Global;
 use view_runs::{declared_at, is_same_spot, type_word};
-use view_text::{File, Files, Messages};
-use view_witness::{invariant_path, place_of_path, steps_of};
+use view_text::{File, Files, Messages, width_at};
+use view_witness::{invariant_path, place_in_value, steps_of};
 use wv_base::OutOfMemory;
 use wv_schema::{Content, Entry, Invariant, Witness};
 
@@ -106,9 +106,18 @@ pub fn note_invariant(
     let Some(path) = invariant_path(alloc, witness, number.saturating_add(1))? else {
         return Ok(());
     };
-    let steps = steps_of(alloc, path.as_str())?;
-    let spot = place_of_path(alloc, files.text(File::Witness), steps.as_slice())?;
-    out.remark(File::Witness, Some(spot), "the invariant stands here")
+    let Some(invariant) = invariant_at(witness, number) else {
+        return Ok(());
+    };
+    let path = path.as_str();
+    let whole = format!(in alloc; "{path}.value")?;
+    let steps = steps_of(alloc, whole.as_str())?;
+    let text = files.text(File::Witness);
+    let stated = invariant.value.as_str();
+    let spot = place_in_value(alloc, text, steps.as_slice(), stated, 0)?;
+    out.remark(File::Witness, Some(spot), "the invariant stands here")?;
+    out.mark(width_at(text, spot, stated));
+    Ok(())
 }
 
 /// An obligation that belongs to the message before, with why it is told.

@@ -116,7 +116,7 @@ fn explain_no_value(
     let head = head.as_str();
     let told = format!(in alloc; "{head}: the call gives no value, so nothing can be said of it")?;
     out.error("scope", File::Program, Some(spot_of(claim.location)), told)?;
-    note_expression(alloc, files, claim, 0, out)
+    note_expression(alloc, files, claim, 0, claim.expression.len(), out)
 }
 
 /// Names that aren't visible, where the first of them would be, and what is visible.
@@ -145,7 +145,7 @@ fn explain_names(
     let told = visible_text(alloc, program, objects)?;
     out.note(File::Program, Some(spot), told)?;
     let at = offset_of_word(claim.expression, word);
-    note_expression(alloc, files, claim, at, out)
+    note_expression(alloc, files, claim, at, word.len(), out)
 }
 
 /// A claim that names what isn't visible at its place.

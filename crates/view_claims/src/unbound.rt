@@ -148,7 +148,7 @@ fn note_rest(
     if rest == 0 {
         return Ok(());
     }
-    let told = format!(in alloc; "{noun} that aren't bound either, and aren't told: {rest}")?;
+    let told = format!(in alloc; "{noun} that aren't bound either, and aren't shown: {rest}")?;
     out.note(File::Witness, None, told)
 }
 

@@ -50,7 +50,7 @@ fn explain_deep(
 ) -> Result<(), OutOfMemory> {
     let told = String::from_str(
         alloc,
-        "over 1,000,000 cells would be live behind this statement: the violation needs fewer calls or smaller arrays",
+        "over 1,000,000 cells would be live after this statement: the violation needs fewer calls or smaller arrays",
     )?;
     out.warning("undecided", File::Program, tracker.last, told)
 }

@@ -30,7 +30,7 @@ fn hint(
 ) -> Result<String, OutOfMemory> {
     if let Some(other) = owner(map, above, key) {
         let other = map_words(other);
-        return Ok(format!(in alloc; "it belongs into {other}")?);
+        return Ok(format!(in alloc; "it belongs in {other}")?);
     }
     let Some(known) = meant(map, key) else {
         return Ok(String::from_str(alloc, "docs/FORMATS.md lists the keys that are read")?);
@@ -39,7 +39,7 @@ fn hint(
         return Ok(format!(in alloc; "did you mean `{known}`?")?);
     }
     let other = map_words(owner(map, above, known).unwrap_or(map));
-    Ok(format!(in alloc; "did you mean `{known}`, which belongs into {other}?")?)
+    Ok(format!(in alloc; "did you mean `{known}`, which belongs in {other}?")?)
 }
 
 fn key_text(alloc: Global, unread: &Unread<'_>, found: Found<'_>) -> Result<String, OutOfMemory> {
@@ -56,7 +56,7 @@ fn name_text(alloc: Global, unread: &Unread<'_>, found: Found<'_>) -> Result<Str
     let name = shortened(found.key);
     let file = shortened(unread.file());
     Ok(format!(in alloc;
-        "this location names the file `{name}`, but the witness is about `{file}`: its line is looked for in `{file}`"
+        "this location names the file `{name}`, but the witness is about `{file}`: its line is taken as one of `{file}`"
     )?)
 }
 

@@ -27,8 +27,8 @@ fn length_of(step: Option<&Step<'_>>) -> usize {
     }
 }
 
-/// The place of a byte in the value at a path: that of the value's key where the witness writes the value otherwise, as
-/// with escapes.
+/// The place of a byte in the value at a path: that of the value's key where the value is empty, or where the witness
+/// writes it otherwise, as with escapes.
 pub fn place_in_value(
     alloc: Global,
     text: &[u8],
@@ -37,6 +37,9 @@ pub fn place_in_value(
     at: usize,
 ) -> Result<Spot, OutOfMemory> {
     let key = place_of_path(alloc, text, steps)?;
+    if value.is_empty() {
+        return Ok(key);
+    }
     let behind = offset_of(text, key).saturating_add(length_of(steps.last()));
     match start_of_value(text, behind, value.as_bytes()) {
         Some(start) => Ok(spot_at(text, start.saturating_add(at))),
