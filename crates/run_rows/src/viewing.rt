@@ -78,7 +78,7 @@ fn judged(
     match form {
         Form::Text => Ok(text),
         Form::Sarif => Ok(log),
-        Form::Html | Form::Json => shown_as(files, row, asked, form),
+        Form::Html | Form::Json | Form::Screen(_) => shown_as(files, row, asked, form),
     }
 }
 

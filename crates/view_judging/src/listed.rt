@@ -1,8 +1,10 @@
 // Many judgements in order: a line of JSON for each, and the worst status at the end.
 use crate::replying::{Replied, replied_to};
+use crate::showing::{Asking, files_of, output_of};
 use serde_json::json;
 use std::alloc::Global;
-use view_inputs::names_in;
+use view_inputs::{Form, Keeping, names_in};
+use view_text::escaped_json;
 use wv_arguments::{Budgets, Names};
 use wv_base::{OutOfMemory, Shelf, Sink, write_all};
 
@@ -39,8 +41,8 @@ pub trait Progress {
     fn begins(&mut self, number: usize, total: usize);
 }
 
-/// A judgement as one line of JSON.
-fn line_of(alloc: Global, names: &Names<'_>, replied: &Replied) -> Result<String, OutOfMemory> {
+/// A judgement as one line of JSON, without characters that a terminal takes for commands.
+fn line_of(alloc: Global, names: &Names<'_>, replied: &Replied) -> Result<Vec<u8>, OutOfMemory> {
     let reply = String::from_utf8_lossy(alloc, replied.reply.as_slice())?;
     let status = u32::from(replied.status);
     let program = names.program;
@@ -55,27 +57,68 @@ fn line_of(alloc: Global, names: &Names<'_>, replied: &Replied) -> Result<String
     })?;
     let mut line = value.to_string(alloc)?;
     line.push_str("\n")?;
-    Ok(line)
+    Ok(escaped_json(alloc, line.as_str())?.into_bytes())
+}
+
+/// A judgement as one line of JSON with its messages, as a single one is printed.
+fn line_with_messages<S: Shelf + Drop>(
+    alloc: Global,
+    names: &Names<'_>,
+    replied: &Replied,
+    budgets: Budgets,
+    shelf: &Keeping<S>,
+) -> Result<Vec<u8>, OutOfMemory> {
+    let program = shelf.kept(0);
+    let property = shelf.kept(1);
+    let witness = shelf.kept(2);
+    let files = files_of(
+        names.program,
+        names.property,
+        names.witness,
+        "",
+        program,
+        property,
+        witness,
+        &[],
+    );
+    let shown = output_of(alloc, &files, replied, Asking::Judge(budgets), Form::Json)?;
+    Ok(shown.bytes)
+}
+
+/// What is judged of each line, and what is printed of it.
+#[derive(Clone, Copy, Debug)]
+pub struct Judging {
+    pub budgets: Budgets,
+    /// Whether the messages stand in the line too.
+    pub has_messages: bool,
 }
 
 /// Judges the task of a line and writes what comes of it; its status.
-fn judge_line<S: Shelf, O: Sink>(
+fn judge_line<S: Shelf + Drop, O: Sink>(
     alloc: Global,
     number: usize,
     line: &str,
-    budgets: Budgets,
-    shelf: &mut S,
+    judging: Judging,
+    shelf: &mut Keeping<S>,
     out: &mut O,
 ) -> Result<u8, Stop> {
     let Some(names) = names_in(line) else {
         return Err(Stop::NoTask(number));
     };
-    let replied = replied_to(alloc, &names, None, budgets, shelf)?;
+    shelf.forget(alloc);
+    let replied = replied_to(alloc, &names, None, judging.budgets, shelf)?;
+    if shelf.is_lost() {
+        return Err(Stop::OutOfMemory);
+    }
     if replied.status > 4 {
         return Err(Stop::NoTask(number));
     }
-    let line = line_of(alloc, &names, &replied)?;
-    match write_all(out, line.as_bytes()) {
+    let line = if judging.has_messages {
+        line_with_messages(alloc, &names, &replied, judging.budgets, shelf)?
+    } else {
+        line_of(alloc, &names, &replied)?
+    };
+    match write_all(out, line.as_slice()) {
         Ok(()) => Ok(replied.status),
         Err(_) => Err(Stop::Unwritten),
     }
@@ -90,16 +133,17 @@ fn lines_in(text: &str) -> usize {
     count
 }
 
-/// Judges the tasks of all lines in their order, and passes empty lines over; the worst status. A file that isn't there
+/// Judges the tasks of all lines in their order, and skips empty lines; the worst status. A file that isn't there
 /// is a status of its line, and the rest goes on.
-pub fn judge_lines<S: Shelf, O: Sink, P: Progress>(
+pub fn judge_lines<S: Shelf + Drop, O: Sink, P: Progress>(
     alloc: Global,
     text: &str,
-    budgets: Budgets,
-    shelf: &mut S,
+    judging: Judging,
+    shelf: S,
     out: &mut O,
     progress: &mut P,
 ) -> Result<u8, Stop> {
+    let mut shelf = Keeping::new(alloc, shelf);
     let total = lines_in(text);
     let mut worst = 0u8;
     for (index, line) in text.lines().enumerate() {
@@ -107,7 +151,7 @@ pub fn judge_lines<S: Shelf, O: Sink, P: Progress>(
         let line = line.trim();
         progress.begins(number, total);
         if !line.is_empty() {
-            worst = worst.max(judge_line(alloc, number, line, budgets, shelf, out)?);
+            worst = worst.max(judge_line(alloc, number, line, judging, &mut shelf, out)?);
         }
     }
     Ok(worst)

@@ -5,7 +5,9 @@ use view_certificate::explain_certificate;
 use view_inputs::{Form, Keeping};
 use view_pages::{json_of, log_of, page_of};
 use view_program::explain;
-use view_text::{File, Files, Messages, advice, push_listing, push_message};
+use view_text::{
+    File, Files, Look, Messages, advice, escaped_json, lay_out_listing, lay_out_message,
+};
 use wv_arguments::{Budgets, Names};
 use wv_base::{OutOfMemory, Shelf};
 
@@ -74,31 +76,46 @@ fn messages_of(
 /// Messages one behind another, or a confirmation in the text of the program.
 fn shown_text(
     alloc: Global,
+    look: Look,
     files: &Files<'_>,
     messages: &Messages,
 ) -> Result<String, OutOfMemory> {
     let mut text = String::new(alloc);
     if messages.counts().is_some() {
-        push_listing(alloc, &mut text, files, messages)?;
+        lay_out_listing(alloc, &mut text, look, files, messages)?;
         return Ok(text);
     }
     for message in messages.as_slice() {
-        push_message(alloc, &mut text, files, message)?;
+        lay_out_message(alloc, &mut text, look, files, message)?;
     }
     Ok(text)
 }
 
-/// The reply's own bytes, and behind them what there is to look at.
-fn shown_behind(
+/// The reply's own bytes, and after them what there is to look at.
+fn shown_after(
     alloc: Global,
+    look: Look,
     files: &Files<'_>,
     replied: &Replied,
     messages: &Messages,
 ) -> Result<Vec<u8>, OutOfMemory> {
-    let text = shown_text(alloc, files, messages)?;
+    let text = shown_text(alloc, look, files, messages)?;
     let mut bytes = replied.reply.clone()?;
     bytes.extend_from_slice(text.as_bytes())?;
     Ok(bytes)
+}
+
+/// One line of JSON, without characters that a terminal takes for commands.
+fn json_line(
+    alloc: Global,
+    files: &Files<'_>,
+    replied: &Replied,
+    messages: &Messages,
+) -> Result<String, OutOfMemory> {
+    let reply = String::from_utf8_lossy(alloc, replied.reply.as_slice())?;
+    let messages = messages.as_slice();
+    let line = json_of(alloc, files, reply.as_str(), replied.status, messages)?;
+    escaped_json(alloc, line.as_str())
 }
 
 /// The whole of what is printed.
@@ -109,15 +126,14 @@ fn printed(
     messages: &Messages,
     form: Form,
 ) -> Result<Vec<u8>, OutOfMemory> {
-    if form == Form::Text {
-        return shown_behind(alloc, files, replied, messages);
-    }
     let reply = String::from_utf8_lossy(alloc, replied.reply.as_slice())?;
     let reply = reply.as_str();
     let text = match form {
+        Form::Text => return shown_after(alloc, Look::plain(), files, replied, messages),
+        Form::Screen(look) => return shown_after(alloc, look, files, replied, messages),
         Form::Html => page_of(alloc, files, reply, messages)?,
-        Form::Json => json_of(alloc, files, reply, replied.status, messages.as_slice())?,
-        _ => log_of(alloc, files, reply, replied.status, messages.as_slice())?,
+        Form::Json => json_line(alloc, files, replied, messages)?,
+        Form::Sarif => log_of(alloc, files, reply, replied.status, messages.as_slice())?,
     };
     Ok(text.into_bytes())
 }

@@ -2,8 +2,7 @@
 use std::alloc::Global;
 use std::io::{ErrorKind, IsTerminal};
 use std::{fs, io};
-use view_judging::{Progress, Stop, judge_lines};
-use wv_arguments::Budgets;
+use view_judging::{Judging, Progress, Stop, judge_lines};
 use wv_process::{FileShelf, OutSink};
 
 /// A line on standard error that says how far the list is, where that is a terminal.
@@ -11,6 +10,15 @@ use wv_process::{FileShelf, OutSink};
 struct ProgressLine<'a> {
     rt: &'a HostRuntime,
     is_watched: bool,
+}
+
+impl ProgressLine<'_> {
+    /// Wipes the line (ECMA-48 8.3.41, EL).
+    fn wipe(&self) {
+        if self.is_watched {
+            let _ = self.rt.eprint("\r\x1b[K");
+        }
+    }
 }
 
 impl Progress for ProgressLine<'_> {
@@ -21,8 +29,8 @@ impl Progress for ProgressLine<'_> {
     }
 }
 
-/// The text of a list, which is standard input where it is named `-`; or 4 where it can't be read, 6 for want of
-/// memory.
+/// The text of a list, which is standard input where it is named `-`; or 4 where it can't be read, 6 where
+/// memory runs out.
 fn list_text(rt: &HostRuntime, alloc: Global, name: &str) -> Result<String, u8> {
     let read = if name == "-" {
         io::read_to_string(alloc, rt.reader())
@@ -39,20 +47,20 @@ fn list_text(rt: &HostRuntime, alloc: Global, name: &str) -> Result<String, u8> 
     }
 }
 
-/// The status of a list that isn't judged to its end, which is told on standard error.
+/// The status of a list that isn't judged to its end, which standard error says.
 fn stopped(rt: &HostRuntime, stop: Stop) -> u8 {
     let _ = match stop {
         Stop::NoTask(number) => eprintln!(rt;
             "witval-view: line {number} of the list doesn't name a program, a property and a witness"
         ),
         Stop::Unwritten => eprintln!(rt; "witval-view: a line couldn't be written"),
-        Stop::OutOfMemory => eprintln!(rt; "witval-view: memory is wanting"),
+        Stop::OutOfMemory => eprintln!(rt; "witval-view: out of memory"),
     };
     stop.status()
 }
 
 /// Judges all lines of a list; the status that the program ends with.
-pub fn judge_list(rt: &HostRuntime, alloc: Global, name: &str, budgets: Budgets) -> u8 {
+pub fn judge_list(rt: &HostRuntime, alloc: Global, name: &str, judging: Judging) -> u8 {
     let text = match list_text(rt, alloc, name) {
         Ok(text) => text,
         Err(status) => return status,
@@ -61,19 +69,16 @@ pub fn judge_list(rt: &HostRuntime, alloc: Global, name: &str, budgets: Budgets)
         rt,
         is_watched: rt.stderr().is_terminal(),
     };
-    let mut shelf = FileShelf::new(rt, alloc);
     let mut out = OutSink::new(rt);
     let judged = judge_lines(
         alloc,
         text.as_str(),
-        budgets,
-        &mut shelf,
+        judging,
+        FileShelf::new(rt, alloc),
         &mut out,
         &mut progress,
     );
-    if progress.is_watched {
-        let _ = rt.eprint("\n");
-    }
+    progress.wipe();
     match judged {
         Ok(worst) => worst,
         Err(stop) => stopped(rt, stop),
