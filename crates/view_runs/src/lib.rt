@@ -3,7 +3,9 @@
 //! objects.
 #![tactic(auto)]
 
+mod code_lines;
 mod comings;
+mod counts;
 mod passing;
 mod placed;
 mod reads;
@@ -14,6 +16,7 @@ mod tracker;
 mod ways;
 
 pub use comings::{Avoided, Coming, Comings, Held, comings_text, values_text};
+pub use counts::Counts;
 pub use route::{Route, Waiting};
 pub use segments::{Numbered, number_in_segment, number_of_follow, waypoint_at};
 pub use spelled::{

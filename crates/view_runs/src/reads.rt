@@ -41,7 +41,7 @@ fn open_each<'a>(open: &mut Vec<&'a Expr>, list: &'a [Expr]) -> Result<(), OutOf
 }
 
 /// Opens the parts of an expression.
-fn open_parts<'a>(open: &mut Vec<&'a Expr>, e: &'a Expr) -> Result<(), OutOfMemory> {
+pub fn open_parts<'a>(open: &mut Vec<&'a Expr>, e: &'a Expr) -> Result<(), OutOfMemory> {
     match &e.node {
         Node::Const(_) => Ok(()),
         Node::Var(_) => Ok(()),
