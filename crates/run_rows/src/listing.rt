@@ -37,15 +37,8 @@ pub fn told(files: &Files<'_>, row: &Row) -> Result<String, NotTried> {
     let alloc: Global = files.alloc();
     let words = words(alloc, row.wanted_text("words")?)?;
     match read_words(alloc, words.as_slice())? {
-        Asked::List {
-            budgets,
-            has_messages,
-            ..
-        } => {
-            let judging = Judging {
-                budgets,
-                has_messages,
-            };
+        Asked::List { budgets, form, .. } => {
+            let judging = Judging { budgets, form };
             listed(files, row, judging)
         }
         _ => Err(NotTried::Lacks("the words for a list")),

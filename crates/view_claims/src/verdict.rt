@@ -35,7 +35,7 @@ pub fn show_obligations(
         }
         out.note(File::Program, Some(duty.spot), told)?;
     }
-    out.confirm(Vec::new(alloc));
+    out.confirm();
     Ok(())
 }
 

@@ -1,10 +1,9 @@
-// A run that is confirmed: how often each line was reached, the values that were drawn, the event that passes each
-// segment.
+// A run that is confirmed: the values that were drawn, and the event that passes each segment.
 use c_core::Spot;
 use c_meaning::{Draw, DrawKind};
 use std::alloc::Global;
 use view_runs::{Tracker, type_word, waypoint_text};
-use view_text::{File, Messages, Reached};
+use view_text::{File, Messages};
 use wv_base::OutOfMemory;
 use wv_schema::Segment;
 
@@ -114,37 +113,6 @@ fn note_segments(
     Ok(())
 }
 
-/// A line that has code has a count, if only 0.
-fn mark_coded(lines: &mut Vec<Reached>, number: u32) {
-    let at = (number as usize).saturating_sub(1);
-    if let Some(line) = lines.get_mut(at) {
-        if *line == Reached::NoStatement {
-            *line = Reached::Times(0);
-        }
-    }
-}
-
-/// How often each line was reached, where it was.
-fn begun_lines(alloc: Global, counts: &[u64]) -> Result<Vec<Reached>, OutOfMemory> {
-    let mut lines = Vec::new(alloc);
-    for count in counts {
-        lines.push(match *count {
-            0 => Reached::NoStatement,
-            count => Reached::Times(count),
-        })?;
-    }
-    Ok(lines)
-}
-
-/// How often each line of the program was reached.
-fn lines_of(alloc: Global, tracker: &Tracker<'_>) -> Result<Vec<Reached>, OutOfMemory> {
-    let mut lines = begun_lines(alloc, tracker.counts.as_slice())?;
-    for number in tracker.counts.coded() {
-        mark_coded(&mut lines, *number);
-    }
-    Ok(lines)
-}
-
 /// A run that violates the property as the witness says.
 pub fn show_run(
     alloc: Global,
@@ -162,6 +130,6 @@ pub fn show_run(
     let found = tracker.found.as_slice();
     note_segments(alloc, &mut left, segments, positions, found, out)?;
     left.note_up_to(alloc, u64::MAX, out)?;
-    out.confirm(lines_of(alloc, tracker)?);
+    out.confirm();
     Ok(())
 }

@@ -3,12 +3,12 @@ use crate::unfit::note_unfit;
 use c_core::Spot;
 use c_meaning::Event;
 use std::alloc::Global;
+use view_paths::{place_of_path, steps_of, waypoint_path};
 use view_runs::{
     Avoided, Tracker, Waiting, comings_text, event_spot, number_in_segment, number_of_follow,
     place_text, spot_of, times_text, values_text, waypoint_text,
 };
 use view_text::{File, Files, Messages};
-use view_witness::{place_of_path, steps_of, waypoint_path};
 use way_match::Point;
 use wv_base::OutOfMemory;
 use wv_schema::{Segment, WayKind, Waypoint, Witness};

@@ -33,6 +33,17 @@ pub enum Form {
     Json,
 }
 
+/// How the judgements of a list are shown.
+#[derive(Clone, Copy, Debug, PartialEq, Eq)]
+pub enum ListForm {
+    /// A line of JSON for each.
+    Lines,
+    /// The same with its messages.
+    Messages,
+    /// A page of HTML with a row for each.
+    Page,
+}
+
 /// What is handed out of a certificate, for other checkers.
 #[derive(Clone, Copy, Debug, PartialEq, Eq)]
 pub enum Part {
@@ -63,12 +74,14 @@ pub enum Asked<'a> {
         names: Names<'a>,
         certificate: &'a str,
         part: Part,
+        /// In which form is shown why it isn't handed out.
+        form: Form,
     },
-    /// Many judgements, by the name of their list, each as one line; whether their messages stand in it.
+    /// Many judgements, by the name of their list.
     List {
         name: &'a str,
         budgets: Budgets,
-        has_messages: bool,
+        form: ListForm,
     },
     /// The help, as it is printed.
     Help(String),
@@ -104,13 +117,12 @@ fn list<'a>(alloc: Global) -> Result<Arg<'a>, AllocError> {
         .long("list")
         .value_name("FILE")
         .help(
-            "Judges each line of a list, a program, a property and a witness parted by tabs or blanks, and prints a line of JSON for each, with its messages by --json; - is standard input",
+            "Judges each line of a list, a program, a property and a witness parted by tabs or blanks, and prints a line of JSON for each, with its messages by --json, or one page by --html; - is standard input",
         )
         .conflicts_with("program")?
         .conflicts_with("property")?
         .conflicts_with("witness")?
-        .conflicts_with("sarif")?
-        .conflicts_with("html")?;
+        .conflicts_with("sarif")?;
     Ok(arg)
 }
 
@@ -158,7 +170,11 @@ fn with_look<'a>(alloc: Global, command: Command<'a>) -> Result<Command<'a>, All
         .help(
             "Cuts the lines of files to this width, 40 to 1000 bytes; else to COLUMNS on a terminal, and to 240",
         );
-    let command = command.arg(colour)?.arg(width)?;
+    let counts = Arg::new(alloc, "counts")
+        .long("counts")
+        .action(ArgAction::SetTrue)
+        .help("Shows the program with its counts in text after the messages about a run, too");
+    let command = command.arg(colour)?.arg(width)?.arg(counts)?;
     Ok(command)
 }
 
@@ -218,6 +234,17 @@ fn wanted_form(matches: &ArgMatches<'_>, look: Look) -> Form {
     }
 }
 
+/// The form of a list that is asked for.
+fn list_form(matches: &ArgMatches<'_>) -> ListForm {
+    if matches.get_flag("html") {
+        ListForm::Page
+    } else if matches.get_flag("json") {
+        ListForm::Messages
+    } else {
+        ListForm::Lines
+    }
+}
+
 fn names<'a>(matches: &ArgMatches<'a>) -> Option<Names<'a>> {
     Some(Names {
         program: matches.get_str("program")?,
@@ -247,7 +274,7 @@ fn asked_by<'a>(
         return Ok(Asked::List {
             name,
             budgets,
-            has_messages: matches.get_flag("json"),
+            form: list_form(matches),
         });
     }
     match names(matches) {
@@ -275,6 +302,7 @@ fn asked_of<'a>(
             names,
             certificate,
             part,
+            form,
         },
         None => Asked::Recheck {
             names,

@@ -49,5 +49,10 @@ pub fn wanted_look(matches: &ArgMatches<'_>, screen: Screen) -> Option<Look> {
         Some(width) => u32::try_from(width).unwrap_or(u32::MAX),
         None => screen.width(),
     };
-    Some(Look { width, is_coloured })
+    Some(Look {
+        width,
+        is_coloured,
+        has_counts: matches.get_flag("counts"),
+        is_terminal: screen.is_terminal,
+    })
 }

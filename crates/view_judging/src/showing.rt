@@ -6,7 +6,8 @@ use view_inputs::{Form, Keeping};
 use view_pages::{json_of, log_of, page_of};
 use view_program::explain;
 use view_text::{
-    File, Files, Look, Messages, advice, escaped_json, lay_out_listing, lay_out_message,
+    File, Files, Look, Messages, advice, escaped_json, lay_out_counts, lay_out_listing,
+    lay_out_message, printable_text,
 };
 use wv_arguments::{Budgets, Names};
 use wv_base::{OutOfMemory, Shelf};
@@ -55,7 +56,7 @@ fn explain_reply(
 }
 
 /// What there is to say of a reply.
-fn messages_of(
+pub fn messages_of(
     alloc: Global,
     replied: &Replied,
     files: &Files<'_>,
@@ -73,7 +74,8 @@ fn messages_of(
     Ok(messages)
 }
 
-/// Messages one behind another, or a confirmation in the text of the program.
+/// Messages one after another, and the program with its counts where these are asked for; or a confirmation in the text
+/// of the program.
 fn shown_text(
     alloc: Global,
     look: Look,
@@ -81,14 +83,23 @@ fn shown_text(
     messages: &Messages,
 ) -> Result<String, OutOfMemory> {
     let mut text = String::new(alloc);
-    if messages.counts().is_some() {
+    if messages.is_confirmed() {
         lay_out_listing(alloc, &mut text, look, files, messages)?;
         return Ok(text);
     }
     for message in messages.as_slice() {
         lay_out_message(alloc, &mut text, look, files, message)?;
     }
+    if look.has_counts && !messages.counts().is_empty() {
+        lay_out_counts(alloc, &mut text, look, files, messages)?;
+    }
     Ok(text)
+}
+
+/// The reply as a terminal may have it.
+fn printable_reply(alloc: Global, replied: &Replied) -> Result<String, OutOfMemory> {
+    let reply = String::from_utf8_lossy(alloc, replied.reply.as_slice())?;
+    printable_text(alloc, reply.as_str())
 }
 
 /// The reply's own bytes, and after them what there is to look at.
@@ -100,13 +111,17 @@ fn shown_after(
     messages: &Messages,
 ) -> Result<Vec<u8>, OutOfMemory> {
     let text = shown_text(alloc, look, files, messages)?;
-    let mut bytes = replied.reply.clone()?;
+    let mut bytes = if look.is_terminal {
+        printable_reply(alloc, replied)?.into_bytes()
+    } else {
+        replied.reply.clone()?
+    };
     bytes.extend_from_slice(text.as_bytes())?;
     Ok(bytes)
 }
 
 /// One line of JSON, without characters that a terminal takes for commands.
-fn json_line(
+pub fn json_line(
     alloc: Global,
     files: &Files<'_>,
     replied: &Replied,
@@ -116,6 +131,19 @@ fn json_line(
     let messages = messages.as_slice();
     let line = json_of(alloc, files, reply.as_str(), replied.status, messages)?;
     escaped_json(alloc, line.as_str())
+}
+
+/// A log in one line, without such characters either.
+fn log_line(
+    alloc: Global,
+    files: &Files<'_>,
+    replied: &Replied,
+    messages: &Messages,
+) -> Result<String, OutOfMemory> {
+    let reply = String::from_utf8_lossy(alloc, replied.reply.as_slice())?;
+    let messages = messages.as_slice();
+    let log = log_of(alloc, files, reply.as_str(), replied.status, messages)?;
+    escaped_json(alloc, log.as_str())
 }
 
 /// The whole of what is printed.
@@ -133,7 +161,7 @@ fn printed(
         Form::Screen(look) => return shown_after(alloc, look, files, replied, messages),
         Form::Html => page_of(alloc, files, reply, messages)?,
         Form::Json => json_line(alloc, files, replied, messages)?,
-        Form::Sarif => log_of(alloc, files, reply, replied.status, messages.as_slice())?,
+        Form::Sarif => log_line(alloc, files, replied, messages)?,
     };
     Ok(text.into_bytes())
 }

@@ -9,7 +9,7 @@ use view_text::{File, Files, Message, Messages, offset_of};
 use wv_base::OutOfMemory;
 
 /// So many items are shown.
-const MOST: usize = 10;
+const MOST: usize = 50;
 
 /// So many bytes are read for them, once for each.
 const MOST_READ: usize = 524_288;

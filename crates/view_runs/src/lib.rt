@@ -1,11 +1,9 @@
 //! A violation sequence along the run that it gives: how far the run passes its segments, what its constraints read at
-//! each coming, how often it begins each line; and the words that messages have for waypoints, types, places and
+//! each coming, how often it comes to each line; and the words that messages have for waypoints, types, places and
 //! objects.
 #![tactic(auto)]
 
-mod code_lines;
 mod comings;
-mod counts;
 mod passing;
 mod placed;
 mod reads;
@@ -16,7 +14,6 @@ mod tracker;
 mod ways;
 
 pub use comings::{Avoided, Coming, Comings, Held, comings_text, values_text};
-pub use counts::Counts;
 pub use route::{Route, Waiting};
 pub use segments::{Numbered, number_in_segment, number_of_follow, waypoint_at};
 pub use spelled::{

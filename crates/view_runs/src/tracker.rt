@@ -1,11 +1,11 @@
 // What a run comes by: the lines whose statements it begins, and how far it passes the segments.
 use crate::comings::{Comings, Moment};
-use crate::counts::Counts;
 use crate::route::{Route, Waiting};
 use crate::ways::Ways;
 use c_core::{Callee, Node, Program, Spot};
 use c_meaning::{Event, Memory, Watcher};
 use std::alloc::Global;
+use view_counts::Counts;
 use way_match::{Bound, BoundSegment};
 use way_places::Index;
 use wv_base::OutOfMemory;

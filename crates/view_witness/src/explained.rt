@@ -1,12 +1,13 @@
 // What is wrong in a witness that can't be read, or doesn't meet the schema.
 use crate::formats::{GRAPHML, is_graphml, other_format, version_rule};
-use crate::paths::{Step, place_of_path, reached, steps_of};
 use crate::shape::explain_shape;
-use crate::stopping::{first_bad, is_cut, repeated_at, stopped_at};
 use crate::warned::warn_of_unread;
-use crate::within::place_in_value;
 use c_core::Spot;
 use std::alloc::Global;
+use view_paths::{
+    Step, first_bad, is_cut, place_in_value, place_of_path, reached, repeated_at, steps_of,
+    stopped_at,
+};
 use view_text::{File, Messages, advice, spot_at, width_at};
 use wv_base::OutOfMemory;
 use wv_schema::SchemaFault;

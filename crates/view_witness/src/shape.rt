@@ -1,6 +1,6 @@
 // A violation sequence whose segments don't have the form that they should.
-use crate::paths::{Step, place_of_path, reached};
 use std::alloc::Global;
+use view_paths::{Step, place_of_path, reached};
 use view_text::{File, Messages};
 use wv_base::OutOfMemory;
 use wv_yaml::Tree;

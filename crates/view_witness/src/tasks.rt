@@ -1,8 +1,7 @@
 // What is wrong in what a witness says of its task.
-use crate::paths::Step;
-use crate::within::place_in_value;
 use c_core::Property;
 use std::alloc::Global;
+use view_paths::{Step, place_in_value};
 use view_text::{File, Messages, advice, width_at};
 use wv_base::OutOfMemory;
 use wv_schema::{Entry, Metadata, Witness};

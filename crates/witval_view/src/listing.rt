@@ -1,21 +1,43 @@
 // A list that is named, read, and judged line by line.
 use std::alloc::Global;
 use std::io::{ErrorKind, IsTerminal};
+use std::time::Instant;
 use std::{fs, io};
 use view_judging::{Judging, Progress, Stop, judge_lines};
 use wv_process::{FileShelf, OutSink};
 
-/// A line on standard error that says how far the list is, where that is a terminal.
+/// A line on standard error that says how far a list is that takes over a second, where that is a terminal.
 #[derive(Drop)]
 struct ProgressLine<'a> {
     rt: &'a HostRuntime,
-    is_watched: bool,
+    /// When the list was begun; none where no terminal is written on.
+    begun: Option<Instant>,
+    is_shown: bool,
+}
+
+/// When a list is begun whose progress a terminal shows.
+fn watched_from(rt: &HostRuntime) -> Option<Instant> {
+    if rt.stderr().is_terminal() {
+        Instant::now(rt).ok()
+    } else {
+        None
+    }
 }
 
 impl ProgressLine<'_> {
+    fn is_due(&self) -> bool {
+        match self.begun {
+            Some(begun) => match begun.elapsed(self.rt) {
+                Ok(passed) => passed.as_secs() > 0,
+                Err(_) => false,
+            },
+            None => false,
+        }
+    }
+
     /// Wipes the line (ECMA-48 8.3.41, EL).
     fn wipe(&self) {
-        if self.is_watched {
+        if self.is_shown {
             let _ = self.rt.eprint("\r\x1b[K");
         }
     }
@@ -23,7 +45,8 @@ impl ProgressLine<'_> {
 
 impl Progress for ProgressLine<'_> {
     fn begins(&mut self, number: usize, total: usize) {
-        if self.is_watched {
+        if self.is_due() {
+            self.is_shown = true;
             let _ = eprint!(self.rt; "\rwitval-view: line {number} of {total} ");
         }
     }
@@ -67,7 +90,8 @@ pub fn judge_list(rt: &HostRuntime, alloc: Global, name: &str, judging: Judging)
     };
     let mut progress = ProgressLine {
         rt,
-        is_watched: rt.stderr().is_terminal(),
+        begun: watched_from(rt),
+        is_shown: false,
     };
     let mut out = OutSink::new(rt);
     let judged = judge_lines(

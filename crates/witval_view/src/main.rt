@@ -85,18 +85,22 @@ fn answered(rt: &HostRuntime, alloc: Global, asked: &Asked<'_>) -> u8 {
             names,
             certificate,
             part,
+            form,
         } => {
             let shelf = FileShelf::new(rt, alloc);
-            given_out(rt, hand_out(alloc, names, *certificate, *part, shelf))
+            given_out(
+                rt,
+                hand_out(alloc, names, *certificate, *part, *form, shelf),
+            )
         }
         Asked::List {
             name,
             budgets,
-            has_messages,
+            form,
         } => {
             let judging = Judging {
                 budgets: *budgets,
-                has_messages: *has_messages,
+                form: *form,
             };
             judge_list(rt, alloc, *name, judging)
         }

@@ -1,7 +1,7 @@
 // A waypoint or an invariant that isn't bound to the program.
 use crate::claim::{Claim, head, note_expression, note_location};
-use crate::errors::nearest_error;
-use crate::nearest::{Meant, Wanted, columns, columns_text, first_spot, nearest_line};
+use crate::near::{near_of, note_near};
+use crate::nearest::Wanted;
 use crate::scope::explain_scope;
 use c_core::PlaceKind;
 use std::alloc::Global;
@@ -12,59 +12,6 @@ use way_bind::BindFault;
 use way_places::Index;
 use wv_base::OutOfMemory;
 use wv_schema::Location;
-
-fn note_columns(
-    alloc: Global,
-    claim: &Claim<'_, '_>,
-    line: u32,
-    found: &[u32],
-    out: &mut Messages,
-) -> Result<(), OutOfMemory> {
-    let listed = columns_text(alloc, found)?;
-    let listed = listed.as_str();
-    let kind = claim.kind;
-    let told = format!(in alloc; "on line {line} there is a place for {kind} at {listed}")?;
-    out.note(File::Program, Some(first_spot(line, found)), told)
-}
-
-fn meant_by(claim: &Claim<'_, '_>) -> Meant {
-    Meant {
-        wanted: claim.wanted,
-        line: claim.location.line,
-        column: claim.location.column,
-        is_result: claim.is_result,
-    }
-}
-
-/// The places of the kind on the line that is named, or on the nearest; of a target, the call that it is meant for.
-fn note_places(
-    alloc: Global,
-    files: &Files<'_>,
-    index: &Index,
-    claim: &Claim<'_, '_>,
-    out: &mut Messages,
-) -> Result<(), OutOfMemory> {
-    let text = files.text(File::Program);
-    let line = claim.location.line;
-    let here = columns(alloc, index, text, claim.wanted, line)?;
-    if here.len() > 0 {
-        return note_columns(alloc, claim, line, here.as_slice(), out);
-    }
-    if let (Wanted::Aim, Some(call)) = (claim.wanted, nearest_error(index, text, line)) {
-        return out.remark(File::Program, Some(call), "`reach_error` is called here");
-    }
-    match nearest_line(alloc, index, text, meant_by(claim))? {
-        Some(near) => {
-            let there = columns(alloc, index, text, claim.wanted, near)?;
-            note_columns(alloc, claim, near, there.as_slice(), out)
-        }
-        None => out.remark(
-            File::Program,
-            None,
-            "the program has no place for it at all",
-        ),
-    }
-}
 
 fn explain_place(
     alloc: Global,
@@ -80,16 +27,11 @@ fn explain_place(
         "{head}: nothing of this kind stands there; it has to name {rule}"
     )?;
     out.error("place", File::Program, Some(spot_of(claim.location)), told)?;
-    note_places(alloc, files, index, claim, out)?;
-    let text = files.text(File::Program);
-    let line = claim.location.line;
-    let here = columns(alloc, index, text, claim.wanted, line)?;
-    match claim.location.column {
-        Some(column) if here.len() > 0 => {
-            note_location(alloc, files, claim, "column", column, out)
-        }
-        _ => note_location(alloc, files, claim, "line", line, out),
-    }
+    let near = near_of(alloc, files, index, claim)?;
+    note_near(alloc, claim, &near, out)?;
+    let is_line = near.is_elsewhere(claim.location.line);
+    let meant = near.spot(claim.location.column);
+    note_location(alloc, files, claim, is_line, meant, out)
 }
 
 /// What is wrong with an expression.
@@ -145,7 +87,7 @@ fn explain_expression(
         told,
     )?;
     let rest = claim.expression.len().saturating_sub(front);
-    note_expression(alloc, files, claim, front, rest, out)
+    note_expression(alloc, files, claim, front, rest, None, out)
 }
 
 /// What a branching may state at its place.
@@ -179,7 +121,7 @@ fn explain_way(
         Some(spot_of(claim.location)),
         told,
     )?;
-    note_expression(alloc, files, claim, 0, claim.expression.len(), out)
+    note_expression(alloc, files, claim, 0, claim.expression.len(), None, out)
 }
 
 /// The number in a fault.

@@ -110,3 +110,19 @@ pub fn place_of_path(alloc: Global, text: &[u8], steps: &[Step<'_>]) -> Result<S
     let end = length.saturating_add(1);
     Ok(spot_at(text, start_of(text, end, steps.last())))
 }
+
+/// A place is looked for by reading fronts of the witness: so many bytes of it for all the places together, once for
+/// each try.
+const MOST_READ: usize = 262_144;
+
+/// So many places at most.
+const MOST_PLACES: usize = 20;
+
+/// For how many keys, or other things of one kind, a place is looked for in a witness.
+pub fn places_in(text: &[u8]) -> usize {
+    let length = text.len();
+    if length == 0 {
+        return MOST_PLACES;
+    }
+    (MOST_READ / length).max(1).min(MOST_PLACES)
+}

@@ -4,7 +4,7 @@ use Rattle.c_core.specs.declared.place.PlaceKind.TheVariants.{Statement}
 use Rattle.c_core.specs.declared.program.Program.{Program}
 use Rattle.way_names.specs.Visible.{is_scoped}
 use Rattle.way_bind.proofs.NamedLaws.{named_is_one}
-use Rattle.view_claims.proofs.names.at_statement.Goals as goal
+use Rattle.view_binding.proofs.names.at_statement.Goals as goal
 
 pub names_at-requires : goal.names_at-requires
 names_at-requires c =

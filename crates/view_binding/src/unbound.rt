@@ -3,22 +3,27 @@ use crate::binding::{explain_claim, number_in};
 use crate::claim::{claim_of_invariant, claim_of_waypoint};
 use crate::faults::Faults;
 use crate::few::segments_of;
-use crate::obligations::invariant_numbered;
+use crate::invariants::invariant_numbered;
 use c_core::Program;
 use std::alloc::Global;
+use view_paths::{invariant_path, places_in, waypoint_path};
 use view_runs::{Numbered, waypoint_at};
 use view_text::{File, Files, Messages};
-use view_witness::{invariant_path, places_in, waypoint_path};
 use way_bind::{BindFault, Lookup};
 use wv_base::OutOfMemory;
 use wv_schema::{Content, Invariant, Segment, Waypoint, Witness};
 
-/// So many claims are told of beside the first.
-const MOST: usize = 9;
+/// So many claims are shown beside the first.
+const MOST: usize = 49;
 
 /// For how many claims beside the first a place is looked for in a witness.
-fn most_in(text: &[u8]) -> usize {
-    places_in(text).saturating_sub(1).min(MOST)
+fn sought_in(text: &[u8]) -> usize {
+    places_in(text).saturating_sub(1)
+}
+
+/// The path of a claim whose place is looked for; empty else.
+fn path_if(is_sought: bool, path: &str) -> &str {
+    if is_sought { path } else { "" }
 }
 
 /// What there is to say of the waypoint in a fault.
@@ -28,6 +33,7 @@ fn explain_waypoint(
     lookup: &Lookup,
     witness: &Witness,
     fault: BindFault,
+    is_sought: bool,
     out: &mut Messages,
 ) -> Result<(), OutOfMemory> {
     let number = number_in(fault)?;
@@ -36,7 +42,8 @@ fn explain_waypoint(
     };
     match waypoint_at(segments_of(witness), number) {
         Some(found) => {
-            let claim = claim_of_waypoint(number, found, path.as_str());
+            let path = path_if(is_sought, path.as_str());
+            let claim = claim_of_waypoint(number, found, path);
             explain_claim(alloc, files, &lookup.index, fault, &claim, out)
         }
         None => Ok(()),
@@ -50,6 +57,7 @@ fn explain_invariant(
     lookup: &Lookup,
     witness: &Witness,
     fault: BindFault,
+    is_sought: bool,
     out: &mut Messages,
 ) -> Result<(), OutOfMemory> {
     let number = number_in(fault)?;
@@ -59,7 +67,8 @@ fn explain_invariant(
     let Some(invariant) = invariant_numbered(witness, number) else {
         return Ok(());
     };
-    let claim = claim_of_invariant(number, invariant, path.as_str());
+    let path = path_if(is_sought, path.as_str());
+    let claim = claim_of_invariant(number, invariant, path);
     explain_claim(alloc, files, &lookup.index, fault, &claim, out)
 }
 
@@ -120,14 +129,13 @@ fn faults_behind(
     lookup: &Lookup,
     witness: &Witness,
     told: u32,
-    most: usize,
 ) -> Result<Faults, OutOfMemory> {
     let mut walk = Walk {
         alloc,
         lookup,
         told,
         number: 0,
-        faults: Faults::new(alloc, most),
+        faults: Faults::new(alloc, MOST),
     };
     for entry in witness.entries.as_slice() {
         match &entry.content {
@@ -163,11 +171,11 @@ pub fn explain_unbound_waypoints(
 ) -> Result<(), OutOfMemory> {
     let lookup = Lookup::new(alloc, program)?;
     let told = number_in(fault)?;
-    explain_waypoint(alloc, files, &lookup, witness, fault, out)?;
-    let most = most_in(files.text(File::Witness));
-    let faults = faults_behind(alloc, &lookup, witness, told, most)?;
-    for other in faults.first.as_slice() {
-        explain_waypoint(alloc, files, &lookup, witness, *other, out)?;
+    explain_waypoint(alloc, files, &lookup, witness, fault, true, out)?;
+    let sought = sought_in(files.text(File::Witness));
+    let faults = faults_behind(alloc, &lookup, witness, told)?;
+    for (at, other) in faults.first.as_slice().iter().enumerate() {
+        explain_waypoint(alloc, files, &lookup, witness, *other, at < sought, out)?;
     }
     note_rest(alloc, &faults, "waypoints", out)
 }
@@ -183,11 +191,11 @@ pub fn explain_unbound_invariant(
 ) -> Result<(), OutOfMemory> {
     let lookup = Lookup::new(alloc, program)?;
     let told = number_in(fault)?;
-    explain_invariant(alloc, files, &lookup, witness, fault, out)?;
-    let most = most_in(files.text(File::Witness));
-    let faults = faults_behind(alloc, &lookup, witness, told, most)?;
-    for other in faults.first.as_slice() {
-        explain_invariant(alloc, files, &lookup, witness, *other, out)?;
+    explain_invariant(alloc, files, &lookup, witness, fault, true, out)?;
+    let sought = sought_in(files.text(File::Witness));
+    let faults = faults_behind(alloc, &lookup, witness, told)?;
+    for (at, other) in faults.first.as_slice().iter().enumerate() {
+        explain_invariant(alloc, files, &lookup, witness, *other, at < sought, out)?;
     }
     note_rest(alloc, &faults, "invariants", out)
 }

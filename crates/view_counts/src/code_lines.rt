@@ -1,6 +1,6 @@
 // The lines on which a compiler makes code of a program, by what gcov shows of gcc's: which of them a statement is on,
 // and the tests of loops.
-use crate::reads::open_parts;
+use crate::parts::open_parts;
 use c_core::{Arm, Declared, Expr, First, Form, Init, Node, Program, Spot, Stmt};
 use std::alloc::Global;
 use std::collections::BTreeMap;

@@ -1,5 +1,6 @@
 // A claim that names what isn't visible at its place.
 use crate::claim::{Claim, head, note_expression};
+use crate::faults::{constant_in, gives_value};
 use crate::names::{at_loop, at_statement, name_of, names_of, names_text};
 use crate::nearest::Wanted;
 use crate::seen::{note_seen_from, object_named};
@@ -7,9 +8,9 @@ use crate::words::offset_of_word;
 use c_core::{PlaceKind, Program};
 use std::alloc::Global;
 use view_grammar::words_of;
+use view_paths::is_near;
 use view_runs::spot_of;
 use view_text::{File, Files, Messages};
-use view_witness::is_near;
 use way_places::Index;
 use wv_base::{OutOfMemory, Seq};
 
@@ -116,7 +117,42 @@ fn explain_no_value(
     let head = head.as_str();
     let told = format!(in alloc; "{head}: the call gives no value, so nothing can be said of it")?;
     out.error("scope", File::Program, Some(spot_of(claim.location)), told)?;
-    note_expression(alloc, files, claim, 0, claim.expression.len(), out)
+    note_expression(alloc, files, claim, 0, claim.expression.len(), None, out)
+}
+
+/// A test of a call's value that compares it with what is no constant: with this name.
+fn explain_no_constant(
+    alloc: Global,
+    files: &Files<'_>,
+    claim: &Claim<'_, '_>,
+    word: &str,
+    out: &mut Messages,
+) -> Result<(), OutOfMemory> {
+    let head = head(alloc, claim)?;
+    let head = head.as_str();
+    let told = format!(in alloc;
+        "{head}: `\\result` is compared with a constant, which names no object: `{word}`"
+    )?;
+    out.error("scope", File::Program, Some(spot_of(claim.location)), told)?;
+    let at = offset_of_word(claim.expression, word);
+    note_expression(alloc, files, claim, at, word.len(), None, out)
+}
+
+/// A test of a call's value that can't be made there.
+fn explain_result(
+    alloc: Global,
+    files: &Files<'_>,
+    index: &Index,
+    claim: &Claim<'_, '_>,
+    out: &mut Messages,
+) -> Result<(), OutOfMemory> {
+    let words = words_of(alloc, constant_in(claim.expression))?;
+    match words.first() {
+        Some(word) if gives_value(index, claim.location) => {
+            explain_no_constant(alloc, files, claim, word.as_str(), out)
+        }
+        _ => explain_no_value(alloc, files, claim, out),
+    }
 }
 
 /// Names that aren't visible, where the first of them would be, and what is visible.
@@ -145,7 +181,8 @@ fn explain_names(
     let told = visible_text(alloc, program, objects)?;
     out.note(File::Program, Some(spot), told)?;
     let at = offset_of_word(claim.expression, word);
-    note_expression(alloc, files, claim, at, word.len(), out)
+    let near = near_name(program, objects, word);
+    note_expression(alloc, files, claim, at, word.len(), near, out)
 }
 
 /// A claim that names what isn't visible at its place.
@@ -157,7 +194,7 @@ pub fn explain_scope(
     out: &mut Messages,
 ) -> Result<(), OutOfMemory> {
     if claim.is_result {
-        explain_no_value(alloc, files, claim, out)
+        explain_result(alloc, files, index, claim, out)
     } else {
         explain_names(alloc, files, index, claim, out)
     }
