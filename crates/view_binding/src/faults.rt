@@ -3,7 +3,7 @@ use crate::claim::Claim;
 use crate::nearest::{Wanted, stands};
 use c_core::PlaceKind;
 use std::alloc::Global;
-use view_grammar::{is_read, words_of};
+use view_grammar::is_read;
 use way_bind::{BindFault, Lookup, Unbound, expression_at, place_named};
 use way_places::Index;
 use wv_base::OutOfMemory;
@@ -44,21 +44,13 @@ fn lack_at_loop(
 }
 
 /// Whether the call that ends at a location gives a value.
-pub fn gives_value(index: &Index, location: &Location) -> bool {
+fn gives_value(index: &Index, location: &Location) -> bool {
     let Some(close) = place_named(index, PlaceKind::CallEnd, location) else {
         return false;
     };
     match index.call_at(close) {
         Some(call) => call.ty.is_some(),
         None => false,
-    }
-}
-
-/// The constant of a comparison of `\result`.
-pub fn constant_in(text: &str) -> &str {
-    match text.split_once("\\result") {
-        Some((_, rest)) => rest,
-        None => text,
     }
 }
 
@@ -75,8 +67,7 @@ fn lack_of_result(
     if !is_read(alloc, true, text.as_bytes())? {
         return Ok(Some(Unbound::Expression));
     }
-    let names = words_of(alloc, constant_in(text))?;
-    if gives_value(index, location) && names.is_empty() {
+    if gives_value(index, location) {
         Ok(None)
     } else {
         Ok(Some(Unbound::Scope))

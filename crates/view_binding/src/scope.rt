@@ -1,6 +1,5 @@
 // A claim that names what isn't visible at its place.
 use crate::claim::{Claim, head, note_expression};
-use crate::faults::{constant_in, gives_value};
 use crate::names::{at_loop, at_statement, name_of, names_of, names_text};
 use crate::nearest::Wanted;
 use crate::seen::{note_seen_from, object_named};
@@ -120,41 +119,6 @@ fn explain_no_value(
     note_expression(alloc, files, claim, 0, claim.expression.len(), None, out)
 }
 
-/// A test of a call's value that compares it with what is no constant: with this name.
-fn explain_no_constant(
-    alloc: Global,
-    files: &Files<'_>,
-    claim: &Claim<'_, '_>,
-    word: &str,
-    out: &mut Messages,
-) -> Result<(), OutOfMemory> {
-    let head = head(alloc, claim)?;
-    let head = head.as_str();
-    let told = format!(in alloc;
-        "{head}: `\\result` is compared with a constant, which names no object: `{word}`"
-    )?;
-    out.error("scope", File::Program, Some(spot_of(claim.location)), told)?;
-    let at = offset_of_word(claim.expression, word);
-    note_expression(alloc, files, claim, at, word.len(), None, out)
-}
-
-/// A test of a call's value that can't be made there.
-fn explain_result(
-    alloc: Global,
-    files: &Files<'_>,
-    index: &Index,
-    claim: &Claim<'_, '_>,
-    out: &mut Messages,
-) -> Result<(), OutOfMemory> {
-    let words = words_of(alloc, constant_in(claim.expression))?;
-    match words.first() {
-        Some(word) if gives_value(index, claim.location) => {
-            explain_no_constant(alloc, files, claim, word.as_str(), out)
-        }
-        _ => explain_no_value(alloc, files, claim, out),
-    }
-}
-
 /// Names that aren't visible, where the first of them would be, and what is visible.
 fn explain_names(
     alloc: Global,
@@ -194,7 +158,7 @@ pub fn explain_scope(
     out: &mut Messages,
 ) -> Result<(), OutOfMemory> {
     if claim.is_result {
-        explain_result(alloc, files, index, claim, out)
+        explain_no_value(alloc, files, claim, out)
     } else {
         explain_names(alloc, files, index, claim, out)
     }

@@ -135,13 +135,16 @@ impl Search {
         false
     }
 
-    /// Whether a message is about a name whose declaration is left out.
+    /// Whether a message is about a name whose declaration is left out, or about a `main` that is.
     fn is_follow_up(
         &self,
         program: &[u8],
         message: &Message,
         spot: Spot,
     ) -> Result<bool, OutOfMemory> {
+        if message.code.as_str() == "check-main" {
+            return Ok(self.is_lost(program, "main"));
+        }
         if message.code.as_str() != "check-name" {
             return Ok(false);
         }
