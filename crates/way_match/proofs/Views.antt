@@ -1,5 +1,5 @@
 -- Items of lists of waypoints, as pure ones and prepared.
-use Rattle.std.proofs.Common.{◌≡◌, ℕ, zero, suc, ◌<◌, List, [], ◌∷◌, length, get_or, slice_get, Bool, false, ◌||◌, Option, refl, sym, ◌∙◌, ap, arith}
+use Rattle.std.proofs.Common.{◌≡◌, ℕ, zero, suc, ◌<◌, List, [], ◌∷◌, length, get_or, slice_get, Bool, false, ◌||◌, refl, sym, ◌∙◌, ap, arith}
 use Rattle.c_core.specs.Tree.{Program}
 use Rattle.way_match.specs.Passing.{is_assumption}
 use Rattle.way_match.specs.inside.Turning.{assumes_in, avoids_none}
