@@ -1,6 +1,6 @@
-use Rattle.judge_obligations.proofs.Numbers.{counted_none, counted_next}
+use Rattle.bit_answers.proofs.Numbers.{counted_none, counted_next}
 use Rattle.std.proofs.Common.{refl}
-use Rattle.judge_obligations.proofs.draws.number_of.Goals as goal
+use Rattle.bit_answers.proofs.draws.number_of.Goals as goal
 
 pub loop-i-init : goal.loop-i-init
 loop-i-init c = counted_none _ _

@@ -6,7 +6,7 @@ ghost use Rattle.circuits.specs.declared.net.NetNode.{NetNode};
 ghost use Rattle.circuits.specs.Net.{values_of};
 ghost use Rattle.circuits.specs.Numbers.{digit, number};
 ghost use Rattle.sym_state.specs.Standing.{draw_at, draws_at};
-ghost use Rattle.judge_obligations.specs.Deciding.{inputs_of, IsWide};
+ghost use Rattle.bit_answers.specs.Deciding.{inputs_of, IsWide};
 
 use c_core::{Program, convert};
 use c_meaning::Draw;

@@ -1,4 +1,4 @@
--- What the solver's answer says of a failing bit.
+-- What the solver's answer says of a bit.
 use Rattle.std.proofs.Common.{◌≡◌, ℕ, Bool, true, false, not, List, [], get_or, ℤ, refl, sym, ◌∙◌, ap}
 use Rattle.std.proofs.lemmas.Bool.{false_from_ne_true}
 use Rattle.circuits.specs.declared.net.Bit.{Bit}
@@ -10,7 +10,7 @@ use Rattle.clauses.specs.Log.{Refutes}
 use Rattle.clauses.specs.Within.{AreOf}
 use Rattle.clauses.specs.declared.log.Chain.{Chain}
 use Rattle.clauses.proofs.Soundness.{refuted}
-use Rattle.judge_obligations.specs.Deciding.{IsNeverTrue}
+use Rattle.bit_answers.specs.Deciding.{IsNeverTrue}
 
 pub clash : {b : Bool} → b ≡ true → b ≡ false → ⊥
 clash {b} t f = let e : true ≡ false = sym t ∙ f in cc

@@ -1,7 +1,7 @@
-// One obligation: can its failing bit be true?
+// Can a bit be true?
 ghost use Rattle.std.specs.Prelude.{◌≤◌, ◌<◌, ◌^◌, IfOk, IsTrue, length};
 ghost use Rattle.circuits.specs.Net.{IsIn};
-ghost use Rattle.judge_obligations.specs.Deciding.{IsDecidedAs, IsNeverTrue};
+ghost use Rattle.bit_answers.specs.Deciding.{IsDecidedAs, IsNeverTrue};
 
 use circuits::{Bit, Net};
 use clauses::{Refutation, SpentAt, cnf_of};
@@ -9,12 +9,12 @@ use sat_core::{Answer, solve};
 use std::alloc::Global;
 use wv_base::{OutOfMemory, Seq};
 
-/// What is known of an obligation: it holds, by this log; it fails where the inputs of the net have the first of these
-/// values; or the budget was spent.
+/// What is known of a bit: no inputs make it true, by this log; it is true where the inputs of the net have the first
+/// of these values; or the budget was spent.
 #[derive(Drop)]
 pub enum Finding {
-    Holds(Refutation),
-    Fails(Seq<bool>),
+    NeverTrue(Refutation),
+    TrueUnder(Seq<bool>),
     Spent(SpentAt),
 }
 
@@ -26,7 +26,9 @@ pub fn is_false(net: &Net, bit: Bit) -> bool
     bit.node == 0 && bit.negated
 }
 
-/// Decides a failing bit by its clauses, with a budget of conflicts; the constant without any.
+/// Decides a bit by its clauses, with a budget of conflicts; the constant without any.
+///
+/// Example: `ask` in `crates/wv_weed/src/rounds.rt`.
 pub fn decide_bit(
     alloc: Global,
     net: &Net,
@@ -41,12 +43,12 @@ pub fn decide_bit(
 {
     let _ = net.nodes();
     if bit.node == 0 && !bit.negated {
-        return Ok(Finding::Fails(Seq::new(alloc)));
+        return Ok(Finding::TrueUnder(Seq::new(alloc)));
     }
     let clauses = cnf_of(alloc, net, bit)?;
     match solve(alloc, &clauses, conflicts)? {
-        Answer::Model(values) => Ok(Finding::Fails(values)),
-        Answer::Refuted(log) => Ok(Finding::Holds(log)),
+        Answer::Model(values) => Ok(Finding::TrueUnder(values)),
+        Answer::Refuted(log) => Ok(Finding::NeverTrue(log)),
         Answer::Spent(log) => Ok(Finding::Spent(SpentAt { clauses, log })),
     }
 }

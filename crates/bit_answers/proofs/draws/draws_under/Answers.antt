@@ -1,10 +1,10 @@
 use Rattle.std.proofs.Common.{◌∙◌, sym}
 use Rattle.c_core.specs.View.{program_view}
 use Rattle.circuits.proofs.Nets.{value_holds}
-use Rattle.judge_obligations.specs.Deciding.{inputs_of}
-use Rattle.judge_obligations.proofs.Drawn.{drawn, passed}
-use Rattle.judge_obligations.proofs.draws.draws_under.Goals as goal
-use Rattle.judge_obligations.proofs.draws.draws_under.Goals.{then-value_of_bit+in_ok-push, else-value_of_bit}
+use Rattle.bit_answers.specs.Deciding.{inputs_of}
+use Rattle.bit_answers.proofs.Drawn.{drawn, passed}
+use Rattle.bit_answers.proofs.draws.draws_under.Goals as goal
+use Rattle.bit_answers.proofs.draws.draws_under.Goals.{then-value_of_bit+in_ok-push, else-value_of_bit}
 
 pub loop-site-preserved : goal.loop-site-preserved
 loop-site-preserved c =

@@ -1,8 +1,8 @@
 use Rattle.std.proofs.Common.{◌∙◌, subst}
 use Rattle.sat_core.specs.Answers.{IsAnswer}
-use Rattle.judge_obligations.proofs.Found.{constant_is, refuted_never}
-use Rattle.judge_obligations.specs.Deciding.{inputs_of}
-use Rattle.judge_obligations.proofs.failing.decide_bit.Goals as goal
+use Rattle.bit_answers.proofs.Found.{constant_is, refuted_never}
+use Rattle.bit_answers.specs.Deciding.{inputs_of}
+use Rattle.bit_answers.proofs.deciding.decide_bit.Goals as goal
 
 pub returns-then-not-bit : goal.returns-then-not-bit
 returns-then-not-bit c = constant_is c.args.net.now c.args.bit (inputs_of c.new.result) c.nodes.ensures.fine c.if-bit-eq0.true ∙ c.if-not-bit.true

@@ -15,7 +15,7 @@ use Rattle.circuits.specs.Net.{holds, values_of, bit_in}
 use Rattle.circuits.specs.Numbers.{number, digit, read, typed}
 use Rattle.sym_state.specs.declared.state.DrawSite.{DrawSite}
 use Rattle.sym_state.specs.Standing.{AreSites}
-use Rattle.judge_obligations.specs.Deciding.{IsWide}
+use Rattle.bit_answers.specs.Deciding.{IsWide}
 
 -- the number of the last i bits
 pub record IsCounted (values : List Bool) (bits : List Bit) (i n : ℕ) : Type 0 where

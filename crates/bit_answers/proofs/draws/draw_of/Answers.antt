@@ -3,8 +3,8 @@ use Rattle.std.proofs.lemmas.Int.{to_z-of_z}
 use mir.Syntax.{w128}
 use Rattle.c_core.specs.Types.{fit}
 use Rattle.circuits.specs.Numbers.{typed}
-use Rattle.judge_obligations.proofs.Numbers.{drawn_value}
-use Rattle.judge_obligations.proofs.draws.draw_of.Goals as goal
+use Rattle.bit_answers.proofs.Numbers.{drawn_value}
+use Rattle.bit_answers.proofs.draws.draw_of.Goals as goal
 
 pub returns : goal.returns
 returns c v net e =
