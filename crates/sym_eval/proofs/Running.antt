@@ -1,5 +1,5 @@
 -- A function that is run: its parameters, its body, and what comes back from it.
-use Rattle.std.proofs.Common.{◌≡◌, ℕ, suc, ◌+◌, ◌<◌, ◌^◌, ℤ, Bool, not, ◌&&◌, List, length, sym, ◌∙◌, ap, subst, arith, Option}
+use Rattle.std.proofs.Common.{◌≡◌, ℕ, suc, ◌+◌, ◌<◌, ◌^◌, ℤ, Bool, not, ◌&&◌, List, length, sym, ◌∙◌, ap, subst, arith, Option, true, refl}
 use Rattle.c_core.specs.Tree.{Program, Form, Stmt, Function}
 use Rattle.c_core.specs.declared.number.IntType.{IntType}
 use Rattle.c_core.specs.declared.number.Spot.{Spot}

@@ -2,7 +2,7 @@
 --
 -- For each form one function; its contract is that of the whole: what `exec p (judged p W)` does to each run that is here, no more
 -- and-nodes than the statement weighs, no more inputs than it draws.
-use Rattle.std.specs.Prelude.{◌≡◌, ℕ, ◌+◌, ◌<◌, ◌^◌, ◌&&◌, not, length, List, Option, IsTrue, slice_get}
+use Rattle.std.specs.Prelude.{◌≡◌, ℕ, ◌+◌, ◌<◌, ◌^◌, ◌&&◌, not, length, List, Option, IsTrue, slice_get, true}
 use Rattle.std.specs.List.{list_all, flat_map}
 use Rattle.c_core.specs.Tree.{Program, Exp, Exps, Init, Names, First, Stm, Stmt, Form, Else, Stms}
 use Rattle.c_core.specs.Parts.{exps_in, fulls_of_init, fulls_of_names, fulls_of_first, every_statement, every_statement_else, every_statement_of}

@@ -1,5 +1,5 @@
 -- What the walk of a `switch` onto a net is to give: the choice of an arm, and the arms one after another (C11 6.8.4.2).
-use Rattle.std.specs.Prelude.{◌≡◌, ℕ, ◌+◌, ◌*◌, ◌<◌, ◌^◌, Bool, cond, List, [], ◌∷◌, length, map, Option, IsTrue}
+use Rattle.std.specs.Prelude.{◌≡◌, ℕ, ◌+◌, ◌*◌, ◌<◌, ◌^◌, Bool, cond, List, [], ◌∷◌, length, map, Option, IsTrue, true}
 use Rattle.std.specs.List.{list_all}
 use Rattle.c_core.specs.Tree.{Program, Exp, Stms}
 use Rattle.c_core.specs.Parts.{every_statement_of}

@@ -1,5 +1,5 @@
 -- What the state after main's body says of all havoc runs of a program.
-use Rattle.std.specs.Prelude.{suc, ◌^◌, ◌<◌, ◌≤◌, List, [], length}
+use Rattle.std.specs.Prelude.{suc, ◌^◌, ◌<◌, ◌≤◌, List, [], length, true}
 use Rattle.c_core.specs.Tree.{Program}
 use Rattle.c_meaning.specs.Duties.{Placed, Duties}
 use Rattle.c_meaning.specs.Exec.{run_main}

@@ -1,5 +1,5 @@
 -- Each form of statement, against the definition: from what its parts do, what it does.
-use Rattle.std.proofs.Common.{◌≡◌, ℕ, ◌+◌, ◌≤◌, Bool, ℤ, List, length, refl, sym, ◌∙◌, ap, arith, Option, Some}
+use Rattle.std.proofs.Common.{◌≡◌, ℕ, ◌+◌, ◌≤◌, Bool, ℤ, List, length, refl, sym, ◌∙◌, ap, arith, Option, Some, true}
 use Rattle.c_core.specs.Tree.{Program, Exp, FirstExp, FirstNames, Stmt, Form, Empty, Do, Return, NoStm, Function, Names}
 use Rattle.c_core.specs.Types.{fit}
 use Rattle.c_core.specs.declared.number.IntType.{IntType}

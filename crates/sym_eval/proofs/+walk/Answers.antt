@@ -1,7 +1,7 @@
 use mir.Val.{SFits, to_z, of_z}
 use mir.Syntax.{w128}
 use Rattle.std.proofs.lemmas.Int.{to_z-of_z}
-use Rattle.std.proofs.Common.{rules, cond, ◌≡◌, ◌∙◌, refl, sym, ap, ap₂, subst, arith, None, Some, length, vec_len, IfOk, IsTrue, ◌+◌, ◌*◌, take, ◌<◌, ◌^◌, ◌-◌, false, get_or, map}
+use Rattle.std.proofs.Common.{rules, cond, ◌≡◌, ◌∙◌, refl, sym, ap, ap₂, subst, arith, None, Some, length, vec_len, IfOk, IsTrue, ◌+◌, ◌*◌, take, ◌<◌, ◌^◌, ◌-◌, false, get_or, map, not, true}
 use Rattle.c_core.specs.Operators.{type_for, op_of_step, is_prefix}
 use Rattle.c_core.specs.Tree.{Expr, Const, Var, Index, Unary, Cast, Step, Binary, Logic, Choose, Comma, Assign, Call, MoreExp, NoExp, Many, Rows, FirstNames, Return, Declare, Block, If, Label, OrElse, While, DoWhile, For, Switch}
 use Rattle.c_core.specs.View.{expr_view, exprs_view, node_view, init_view, names_view, rows_view, first_view, expr_view_if, form_view, stmt_view, stmts_view, function_view, switch_view}
