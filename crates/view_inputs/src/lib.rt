@@ -1,5 +1,5 @@
-//! What the viewer goes by: the arguments of its command line, the lines of a list, the files as they were read once,
-//! and the reply as it was written.
+//! What the viewer goes by: the arguments of its command line, the lines of a list, the files as they were read once, and
+//! the reply as it was written.
 #![tactic(auto)]
 
 mod certificate_words;

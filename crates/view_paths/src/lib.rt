@@ -1,6 +1,6 @@
 //! Places in a witness: where its bytes stop to be readable, and where a path of its tree stands. The reader of
-//! witnesses reports no places, so they are found by reading fronts of the text: a front is completed by closing what
-//! is open in it, and the reader itself says whether it can be read, and what stands in it.
+//! witnesses reports no places, so they are found by reading fronts of the text: a front is completed by closing what is
+//! open in it, and the reader itself says whether it can be read, and what stands in it.
 #![tactic(auto)]
 
 mod fronts;
