@@ -174,8 +174,8 @@ pub fn note_location(
     }
 }
 
-/// Says where the witness has a part of a claim's expression, so many bytes from `at` on, and mends it where it is
-/// known what is meant.
+/// Says where the witness has a part of a claim's expression, so many bytes from `at` on, and mends it where it is known
+/// what is meant.
 pub fn note_expression(
     alloc: Global,
     files: &Files<'_>,

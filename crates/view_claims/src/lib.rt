@@ -1,5 +1,5 @@
-//! What becomes of a witness's claims about a checked program: a violation sequence whose run is as it says or isn't,
-//! an obligation of invariant sets that fails, that isn't decided or that holds.
+//! What becomes of a witness's claims about a checked program: a violation sequence whose run is as it says or isn't, an
+//! obligation of invariant sets that fails, that isn't decided or that holds.
 #![tactic(auto)]
 
 mod obligations;
