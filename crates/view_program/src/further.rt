@@ -8,10 +8,10 @@ use view_grammar::word_text;
 use view_text::{File, Files, Message, Messages, offset_of};
 use wv_base::OutOfMemory;
 
-/// So many items are shown.
+/// At most this many items are shown.
 const MOST: usize = 50;
 
-/// So many bytes are read for them, once for each.
+/// At most this many bytes are read for them, once for each.
 const MOST_READ: usize = 524_288;
 
 /// How many items are looked for in a program of this length.
@@ -92,17 +92,12 @@ impl Search {
         })
     }
 
-    /// The first fault of what is left.
-    fn next_fault(
-        &self,
-        files: &Files<'_>,
-        model: DataModel,
-        property: Property,
-    ) -> Result<Messages, OutOfMemory> {
-        let [_, second, third, fourth] = files.texts;
+    /// The first fault of what is left. What is said of it needs the text of the program alone.
+    fn next_fault(&self, model: DataModel, property: Property) -> Result<Messages, OutOfMemory> {
+        let text = self.text.as_slice();
         let left = Files {
-            names: files.names,
-            texts: [self.text.as_slice(), second, third, fourth],
+            names: [""; 4],
+            texts: [text; 4],
         };
         let mut messages = Messages::new(self.alloc);
         first_fault(self.alloc, &left, model, property, &mut messages)?;
@@ -155,12 +150,11 @@ impl Search {
     /// Looks for the next fault; whether there may be another one after it.
     fn look(
         &mut self,
-        files: &Files<'_>,
+        program: &[u8],
         model: DataModel,
         property: Property,
     ) -> Result<bool, OutOfMemory> {
-        let program = files.text(File::Program);
-        let messages = self.next_fault(files, model, property)?;
+        let messages = self.next_fault(model, property)?;
         let Some(first) = messages.as_slice().first() else {
             return Ok(false);
         };
@@ -181,16 +175,16 @@ impl Search {
         Ok(!is_last)
     }
 
-    /// Looks for the first faults of so many items; whether there are no others.
+    /// Looks for the first faults of at most this many items; whether there are no others.
     fn look_for(
         &mut self,
-        files: &Files<'_>,
+        program: &[u8],
         model: DataModel,
         property: Property,
         most: usize,
     ) -> Result<bool, OutOfMemory> {
         for _ in 0..most {
-            if !self.look(files, model, property)? {
+            if !self.look(program, model, property)? {
                 return Ok(true);
             }
         }
@@ -233,7 +227,7 @@ pub fn explain_refused(
     let program = files.text(File::Program);
     let most = most_in(program.len());
     let mut search = Search::new(alloc, program)?;
-    let are_all = search.look_for(files, model, property, most)?;
+    let are_all = search.look_for(program, model, property, most)?;
     search.show(out)?;
     if are_all {
         return Ok(());
