@@ -55,8 +55,7 @@ fn push_invariants(list: &mut Vec<Duty>, invariants: &[PlacedInvariant]) -> Resu
     Ok(())
 }
 
-/// The obligations by place, then kind, then in witness order. More invariants than numbers are
-/// answered as out of memory.
+/// The obligations by place, then kind, then in witness order. More invariants than numbers are want of memory.
 pub fn duties(
     alloc: Global,
     program: &Program,

@@ -4,7 +4,6 @@
 #![tactic(auto)]
 
 mod fields;
-mod fixes;
 mod members;
 mod places;
 mod results;

@@ -1,3 +1,1 @@
-pub mod Enough
 mod Light
-pub mod Paid

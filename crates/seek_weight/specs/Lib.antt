@@ -1,3 +1,2 @@
 pub mod Tolls
 pub mod SeekWeight
-pub mod Laws

@@ -32,7 +32,7 @@ fn declare_cell(
     Ok(())
 }
 
-/// This many cells more of an object, which hold 0.
+/// So many cells more of an object, which hold 0.
 pub fn declare(
     alloc: Global,
     program: &Program,

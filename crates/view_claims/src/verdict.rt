@@ -18,24 +18,20 @@ fn meaning_of(kind: DutyKind) -> &'static str {
     }
 }
 
-/// Obligations that hold, as a confirmation; of each how many chains its log has, where that is known.
+/// Obligations that hold, as a confirmation.
 pub fn show_obligations(
     alloc: Global,
     witness: &Witness,
     duties: &[Duty],
-    chains: &[u64],
     out: &mut Messages,
 ) -> Result<(), OutOfMemory> {
     let mut index = 0u32;
-    for (at, duty) in duties.iter().enumerate() {
+    for duty in duties {
         index = index.saturating_add(1);
-        let mut told = obligation_text(alloc, witness, index, *duty, meaning_of(duty.kind))?;
-        if let Some(count) = chains.get(at) {
-            write!(told, " (chains of its log: {count})")?;
-        }
+        let told = obligation_text(alloc, witness, index, *duty, meaning_of(duty.kind))?;
         out.note(File::Program, Some(duty.spot), told)?;
     }
-    out.confirm();
+    out.confirm(Vec::new(alloc));
     Ok(())
 }
 
@@ -82,7 +78,7 @@ pub fn explain_verdict(
         ),
         Verdict::CorrectnessConfirmed { .. } => {
             let list = duties(alloc, program, invariants)?;
-            show_obligations(alloc, witness, list.as_slice(), &[], out)
+            show_obligations(alloc, witness, list.as_slice(), out)
         }
         _ => Ok(()),
     }

@@ -3,7 +3,6 @@
 #![tactic(auto)]
 
 mod confirmed;
-mod counted;
 mod draws;
 mod ended;
 mod stored;
@@ -11,7 +10,6 @@ mod unfit;
 mod unmatched;
 
 pub use confirmed::show_run;
-pub use counted::count_lines;
 pub use draws::note_unfixed;
 pub use ended::explain_ended;
 pub use unmatched::explain_unmatched;

@@ -1,8 +1,8 @@
 // What is wrong in what a witness says of its task.
+use crate::paths::{Step, place_of_path};
 use c_core::Property;
 use std::alloc::Global;
-use view_paths::{Step, place_in_value};
-use view_text::{File, Messages, advice, width_at};
+use view_text::{File, Messages, advice};
 use wv_base::OutOfMemory;
 use wv_schema::{Entry, Metadata, Witness};
 use wv_task::{TaskFault, identifier, specification};
@@ -76,25 +76,15 @@ fn entry_of(
     Ok(0)
 }
 
-/// The code of a fault, the key that it speaks of, and what an entry states there; empty where that is more than one
-/// text.
-fn told_by<'a>(
-    fault: &'a TaskFault,
-    metadata: &'a Metadata,
-) -> (&'static str, &'static str, &'a str) {
+/// The code of a fault, and the key that it speaks of.
+fn told_by(fault: &TaskFault) -> (&'static str, &'static str) {
     match fault {
-        TaskFault::Files => ("files", "input_files", ""),
-        TaskFault::Hash { stated, .. } => ("hash", "input_file_hashes", stated.as_str()),
-        TaskFault::Specification => {
-            (
-                "specification",
-                "specification",
-                metadata.specification.as_str(),
-            )
-        }
-        TaskFault::Language => ("language", "language", metadata.language.as_str()),
-        TaskFault::Model => ("model", "data_model", metadata.data_model.as_str()),
-        TaskFault::Uuid | TaskFault::OutOfMemory => ("uuid", "uuid", metadata.uuid.as_str()),
+        TaskFault::Files => ("files", "input_files"),
+        TaskFault::Hash { .. } => ("hash", "input_file_hashes"),
+        TaskFault::Specification => ("specification", "specification"),
+        TaskFault::Language => ("language", "language"),
+        TaskFault::Model => ("model", "data_model"),
+        TaskFault::Uuid | TaskFault::OutOfMemory => ("uuid", "uuid"),
     }
 }
 
@@ -122,10 +112,7 @@ pub fn explain_task(
     out: &mut Messages,
 ) -> Result<(), OutOfMemory> {
     let entry = entry_of(alloc, property, fault, witness.entries.as_slice())?;
-    let Some(found) = witness.entries.get(entry) else {
-        return Ok(());
-    };
-    let (code, key, stated) = told_by(fault, &found.metadata);
+    let (code, key) = told_by(fault);
     let in_metadata = [Step::Item(entry), Step::Key("metadata"), Step::Key(key)];
     let in_task = [
         Step::Item(entry),
@@ -134,12 +121,10 @@ pub fn explain_task(
         Step::Key(key),
     ];
     let spot = if code == "uuid" {
-        place_in_value(alloc, text, &in_metadata, stated, 0)?
+        place_of_path(alloc, text, &in_metadata)?
     } else {
-        place_in_value(alloc, text, &in_task, stated, 0)?
+        place_of_path(alloc, text, &in_task)?
     };
     let told = text_of(alloc, code, fault)?;
-    out.error(code, File::Witness, Some(spot), told)?;
-    out.mark(width_at(text, spot, stated));
-    Ok(())
+    out.error(code, File::Witness, Some(spot), told)
 }

@@ -9,8 +9,6 @@ mod Skips
 mod Numbers
 mod Passed
 mod PassedBy
-mod RestLaws
-mod AvoidLaws
 pub mod PlaceLaws
 mod Begin
 mod Done

@@ -2,7 +2,6 @@
 //! the segments, which values a witness gives, and which verdict is right.
 #![tactic(auto)]
 
-mod avoided;
 mod by_place;
 mod compared;
 mod given_values;
@@ -11,8 +10,6 @@ mod matcher;
 mod passing;
 mod point;
 mod prepared;
-mod resting;
-mod same;
 mod sight;
 mod states;
 mod stored;

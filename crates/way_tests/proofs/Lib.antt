@@ -1,3 +1,1 @@
 pub mod TruthLaws
-pub mod StepLaws
-pub mod CodeLaws

@@ -94,7 +94,7 @@ fn certify<S: Shelf>(
     }
 }
 
-/// What comes of checking a certificate again.
+/// What checking a certificate again comes to.
 fn recheck_four(alloc: Global, four: FourInputs) -> Result<Output, OutOfMemory>
     requires { AreWithin four.inputs }
     ensures { IfOk result

@@ -1,3 +1,0 @@
-pub mod Mode
-pub mod Judged
-pub mod Obliging
