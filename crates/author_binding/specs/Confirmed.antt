@@ -1,4 +1,4 @@
--- What the binding of a witness of `author` comes to.
+-- What the binding of a witness of `author` gives.
 use Rattle.std.specs.Prelude.{ℕ, ℤ, List, Result, Ok, Err}
 use Rattle.c_core.specs.Tree.{Program}
 use Rattle.way_bind.specs.declared.fault.BindFault.{BindFault}
@@ -7,7 +7,7 @@ use Rattle.way_match.specs.View.{segments_view}
 use Rattle.way_match.specs.declared.point.Bound.{Bound}
 use Rattle.author_binding.specs.Shown.{ShowsRun}
 
--- the witness is bound to segments that show the run of these values, unless memory was wanted: no refusal applies
+-- the witness is bound to segments that show the run of these values, unless memory ran out: no refusal applies
 abbrev pub IsConfirmation : Program → List ℤ → ℕ → Result Bound BindFault → Type 0
 IsConfirmation p vs N (Ok bound) = ShowsRun p vs N (segments_view bound)
 IsConfirmation p vs N (Err (NoPlace n)) = ⊥

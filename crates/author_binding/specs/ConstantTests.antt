@@ -15,7 +15,7 @@ pub record IsEqualTo (p : Program) (v : ℤ) (t : ReturnTest) : Type 0 where
   pub value : constant_of p t.constant ≡ Some v
   pub met : (ty : IntType) → in_range p.model ty v ≡ true → meets p t ty v ≡ true
 
--- such a test, unless memory was wanted: no refusal applies
+-- such a test, unless memory ran out: no refusal applies
 abbrev pub IsTestFor : Program → ℤ → Result ReturnTest Unbound → Type 0
 IsTestFor p v (Ok t) = IsEqualTo p v t
 IsTestFor p v (Err NoPlace) = ⊥

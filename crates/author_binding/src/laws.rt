@@ -20,8 +20,8 @@ pub fn constants_are_bound()
         → v ≤ℤ pos (2 ^ 64 - 1) → BindsTest p true (result_text v) answer → IsTestFor p v answer }
 {}
 
-/// What `author` writes of a run is confirmed: a witness with these segments is bound, unless memory is wanted; the run
-/// that it gives is the run that it was written from; each right verdict confirms, and shows the draws of that run.
+/// What `author` writes of a run is confirmed: a witness with these segments is bound, unless memory runs out. The run
+/// that it gives is the run that it was written from. Each right verdict confirms, and shows the draws of that run.
 pub fn authored_sequences_are_confirmed()
     ensures { (p : Program) → IsProgram p → (file : List ℕ) (vs : List ℤ) (N : ℕ) (segments : List Segment)
         → IsAuthored p file vs N segments → (w : Witness) (answer : Result Bound BindFault) → segments_of w ≡ segments

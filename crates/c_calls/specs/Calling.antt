@@ -12,7 +12,7 @@ pub data IsCalledFrom (p : Program) (es : List Exp) : ℕ → Type 0 where
   directly : (f : ℕ) → IsCalledIn p es f → IsCalledFrom p es f
   further : (f g : ℕ) → IsCalledFrom p es f → IsCalledIn p (fulls_of_function p f) g → IsCalledFrom p es g
 
--- one function comes to a call of another
+-- one function reaches a call of another
 abbrev pub Reaches : Program → ℕ → ℕ → Type 0
 Reaches p f g = IsCalledFrom p (fulls_of_function p f) g
 
@@ -20,16 +20,16 @@ Reaches p f g = IsCalledFrom p (fulls_of_function p f) g
 pub record HasCalled (p : Program) (es : List Exp) (fs : List ℕ) : Type 0 where
   pub members : (f : ℕ) → IsTrue (is_in f fs) ↔ IsCalledFrom p es f
 
--- one of these functions, or one that they come to a call of
+-- one of these functions, or one of which they reach a call
 pub data ComesFrom (p : Program) (fs : List ℕ) : ℕ → Type 0 where
   itself : (f : ℕ) → IsTrue (is_in f fs) → ComesFrom p fs f
   calling : (f g : ℕ) → ComesFrom p fs f → IsCalledIn p (fulls_of_function p f) g → ComesFrom p fs g
 
--- a list holds these functions, those that they come to, and no others
+-- a list holds these functions, those that they reach, and no others
 pub record HasReached (p : Program) (fs all : List ℕ) : Type 0 where
   pub members : (f : ℕ) → IsTrue (is_in f all) ↔ ComesFrom p fs f
 
--- it is main, or main comes to it
+-- it is main, or main reaches it
 abbrev pub IsReached : Program → ℕ → Type 0
 IsReached p f = (f ≡ p.main) ⊎ Reaches p p.main f
 

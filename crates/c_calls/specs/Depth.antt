@@ -8,7 +8,7 @@ use Rattle.c_meaning.specs.Havoc.{Act, havoc}
 use Rattle.c_meaning.specs.Parts.{fulls_of_function}
 use Rattle.c_calls.specs.Calling.{IsCalledIn}
 
--- each of these functions has a call of the one behind it
+-- each of these functions has a call of the one after it
 abbrev pub IsChainFrom : Program → ℕ → List ℕ → Type 0
 IsChainFrom p f [] = Unit {0}
 IsChainFrom p f (g ∷ gs) = IsCalledIn p (fulls_of_function p f) g × IsChainFrom p g gs

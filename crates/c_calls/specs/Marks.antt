@@ -11,7 +11,7 @@ is_marked marks n = slice_index_or marks n false
 abbrev pub IsMarked : (ℕ → Bool) → List Bool → List Bool → Type 0
 IsMarked q before now = (n : ℕ) → n < length before → is_marked now n ≡ (is_marked before n || q n)
 
--- a function of a program of so many functions is appended, where it isn't among these
+-- a function of a program of this many functions is appended, where it isn't among these
 abbrev pub added : ℕ → List ℕ → ℕ → List ℕ
 added count fs f = cond (nat_lt f count && not (is_in f fs)) (fs ++ f ∷ []) fs
 
@@ -21,7 +21,7 @@ all_added count fs [] = fs
 all_added count fs (Changes o ∷ uses) = all_added count fs uses
 all_added count fs (Calls f ∷ uses) = all_added count (added count fs f) uses
 
--- of so many numbers those of a test are marked
+-- of this many numbers those of a test are marked
 abbrev pub AreMarked : ℕ → (ℕ → Bool) → List Bool → Type 0
 AreMarked count q marks = (n : ℕ) → n < count → is_marked marks n ≡ q n
 

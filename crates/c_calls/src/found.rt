@@ -17,7 +17,7 @@ pub struct Found {
     pub ghost counted: { count_by (λ b. b) marks.items ≡ length order.items },
 }
 
-/// None yet, of a program of so many functions.
+/// None yet, of a program of this many functions.
 pub fn nothing_found(alloc: Global, count: usize) -> Result<Found, OutOfMemory>
     ensures order { IfOk result (λ found. found.order.items ≡ []) }
     ensures count { IfOk result (λ found. length found.marks.items ≡ count) }

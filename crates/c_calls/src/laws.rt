@@ -14,7 +14,7 @@ pub fn called_functions_are_found()
     ensures { (p : Program) (es : List Exp) → HasCalled p es (called_from p es) }
 {}
 
-/// Where main reaches no cycle of calls, a chain of calls is no longer than there are functions; so the bound on the
+/// Where main reaches no cycle of calls, a chain of calls is no longer than there are functions. So the bound on the
 /// depth of calls with which havoc runs are defined is never met, and each larger bound gives the same run.
 pub fn depth_is_bounded()
     ensures chains { (p : Program) → IsTrue (has_main p) → IsFirstRecursion p None → ChainsAreShort p }

@@ -9,7 +9,7 @@ use wv_base::OutOfMemory;
 
 const NO_LEVEL: u32 = u32::MAX;
 
-// A step of a walk in depth: a function is come to, or left behind all that it calls.
+// A step of a walk in depth: a function is reached, or left after all that it calls.
 #[derive(Clone, Copy)]
 enum Visit {
     Enter(usize),
@@ -127,7 +127,7 @@ fn visit_from(
     Ok(())
 }
 
-// Each function behind those that it comes to, but for those that come back to it.
+// Each function after those that it reaches, but for those that reach it again.
 fn leaving_order(alloc: Global, callees: &[Vec<usize>]) -> Result<Vec<usize>, OutOfMemory> {
     let mut order = Vec::new(alloc);
     let mut seen = no_marks(alloc, callees.len())?;
@@ -145,7 +145,7 @@ fn is_without_level(levels: &mut [u32], function: usize, level: u32) -> bool {
     false
 }
 
-// Gives a level to a function and to those that come to it and have none.
+// Gives a level to a function and to those that reach it and have none.
 fn flood(
     alloc: Global,
     callers: &[Vec<usize>],

@@ -26,7 +26,7 @@ fn mark_changes(marks: &mut [bool], uses: &[Use])
     }
 }
 
-// Of so many objects those that are changed there.
+// Of this many objects those that are changed there.
 fn changed_there(alloc: Global, count: usize, uses: &[Use]) -> Result<Vec<bool>, OutOfMemory>
     ensures { IfOk result (λ marks. AreMarked count (λ o. some_of (is_change o) uses.now) marks.items) }
 {
@@ -43,7 +43,7 @@ fn mark_all(marks: &mut [bool], numbers: &[u32])
     }
 }
 
-// Of so many objects those that are declared in the body of a loop.
+// Of this many objects those that are declared in the body of a loop.
 fn declared_there(alloc: Global, count: usize, form: &Form) -> Result<Vec<bool>, OutOfMemory>
     ensures { IfOk result (λ marks. AreMarked count (λ o. is_in o (declared_in_loop (form_view form.now)))
         marks.items) }
@@ -77,7 +77,7 @@ fn mark_by_functions(
     Ok(())
 }
 
-// Of so many objects those that these functions change.
+// Of this many objects those that these functions change.
 fn changed_by_functions(
     alloc: Global,
     program: &Program,

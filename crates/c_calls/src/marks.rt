@@ -5,7 +5,7 @@ ghost use Rattle.c_calls.specs.Marks.{is_marked, IsMarked};
 use std::alloc::Global;
 use wv_base::OutOfMemory;
 
-/// So many numbers, none marked.
+/// This many numbers, none marked.
 pub fn no_marks(alloc: Global, count: usize) -> Result<Vec<bool>, OutOfMemory>
     ensures { IfOk result (λ marks. marks.items ≡ replicate count false) }
 {

@@ -16,7 +16,7 @@ use c_core::{Function, Program};
 use std::alloc::Global;
 use wv_base::OutOfMemory;
 
-// Main and the functions that it comes to.
+// Main and the functions that it reaches.
 fn from_main(alloc: Global, program: &Program) -> Result<Found, OutOfMemory>
     ensures members { IfOk result (λ found. HasReached (program_view program.now) (program.now.main ∷ [])
         found.order.items) }
@@ -88,7 +88,7 @@ fn all_rise(alloc: Global, program: &Program, levels: &[u32]) -> Result<bool, Ou
     Ok(true)
 }
 
-// Whether a function comes to a call of itself. Where its calls lead to higher levels alone, it doesn't.
+// Whether a function reaches a call of itself. Where its calls lead to higher levels alone, it doesn't.
 fn lies_on_cycle(
     alloc: Global,
     program: &Program,

@@ -28,7 +28,7 @@ pub fn function_uses(
     Ok(uses)
 }
 
-/// Appends the functions that these come to a call of, each body looked at once.
+/// Appends the functions of which these reach a call, each body looked at once.
 pub fn spread(alloc: Global, program: &Program, found: &mut Found) -> Result<(), OutOfMemory>
     requires { length found.old.marks.items ≡ length program.now.functions }
     ensures members { OnOk result (HasReached (program_view program.now) found.old.order.items found.new.order.items) }

@@ -21,7 +21,7 @@ Answers m property items (Ok p) = HasProgram m property items (program_view p) (
 Answers m property items (Err (Refused code spot)) = Refuses m items (refusal code spot)
 Answers m property items (Err OutOfMemory) = Unit {0}
 
--- two answers that contracts don't tell apart; want of memory says nothing
+-- two answers between which contracts see no difference; out of memory says nothing
 abbrev pub AreSame : Result Program CheckFault → Result Program CheckFault → Type 0
 AreSame (Err OutOfMemory) b = Unit {0}
 AreSame a (Err OutOfMemory) = Unit {0}

@@ -10,6 +10,8 @@ use check_rules::CheckFault;
 use std::alloc::Global;
 
 /// The program of a source in a data model and under a property, or the first refusal by place.
+///
+/// Example: `program_of` in `crates/flow_tests/src/main.rt`.
 pub fn check(
     alloc: Global,
     source: &Source,

@@ -54,7 +54,7 @@ pub fn wrong_main(items: &[Item]) -> Option<Spot>
     Some(Spot { line: 1, column: 1 })
 }
 
-// The number behind this one; the last of its type has none.
+// The number after this one; the last of its type has none.
 fn next(number: u32) -> Result<u32, OutOfMemory>
     ensures { IfOk result (λ n. n ≡ number + 1) }
 {

@@ -31,7 +31,7 @@ objects_fit p = list_all object_fits p.objects
 abbrev pub most_declared_cells : ℕ
 most_declared_cells = 100000
 
--- at most so many cells are declared (a limit of the profile)
+-- at most this many cells are declared (a limit of the profile)
 abbrev pub cells_fit : Program → Bool
 cells_fit p = nat_le (sum_by (λ o. o.cells) p.objects) most_declared_cells
 

@@ -126,7 +126,7 @@ fn operate_u64(op: BinOp, a: u64, b: i128) -> Done
     operate!(u64, false, op, a, b)
 }
 
-// The wrapped value, told as an overflow where it left the range of a signed type.
+// The wrapped value, reported as an overflow where it left the range of a signed type.
 fn judge(signed: bool, over: bool, value: i128) -> Done
     ensures { result ≡ cond (signed && over) (Overflow value) (Value value) }
 {

@@ -27,7 +27,7 @@ pub record IsFailure (p : Program) (I : List Placed) (w : List ℤ) (number : �
   pub counted : number ≡ suc index
   pub at : IsFirstAt (Duties p I) failed index
 
--- a number that is told is that of an obligation
+-- a number that is reported is that of an obligation
 abbrev pub TellsObligations : Program → List Placed → Type 0
 TellsObligations p I = (w : List ℤ) (number : ℕ) → (Havoc p I w).end ≡ Failed number → IsFailure p I w number
 

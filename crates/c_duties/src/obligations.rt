@@ -55,7 +55,8 @@ fn push_invariants(list: &mut Vec<Duty>, invariants: &[PlacedInvariant]) -> Resu
     Ok(())
 }
 
-/// The obligations by place, then kind, then in witness order. More invariants than numbers are want of memory.
+/// The obligations by place, then kind, then in witness order. More invariants than numbers are
+/// answered as out of memory.
 pub fn duties(
     alloc: Global,
     program: &Program,

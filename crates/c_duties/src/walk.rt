@@ -1,4 +1,4 @@
-// The duties of full expressions, in the order of the text.
+// The obligations of full expressions, in the order of the text.
 ghost use Rattle.std.specs.Prelude.{◌≡◌, [], ◌∷◌, ◌++◌, OnOk};
 ghost use Rattle.std.specs.List.{flat_map};
 ghost use Rattle.c_core.specs.View.{expr_view, expr_view_if, exprs_view, first_view, form_view, functions_view, init_view, names_view, program_view, rows_view, stmt_view, stmts_view, switch_view};
@@ -171,7 +171,7 @@ fn push_arms(list: &mut Vec<Duty>, program: &Program, arms: &[Arm]) -> Result<()
     Ok(())
 }
 
-/// Appends the duties of these functions' bodies.
+/// Appends the obligations of these functions' bodies.
 pub fn push_functions(
     list: &mut Vec<Duty>,
     program: &Program,

@@ -11,7 +11,7 @@ use c_meaning::PlacedInvariant;
 use havoc_state::{Ending, Halt, Machine, returned, set_parameters};
 use run_state::{CallSite, Flow, Typed};
 
-/// The body of a function, in which calls are at most so many deep.
+/// The body of a function, in which calls are at most this many deep.
 #[cycle(run)]
 pub fn body(
     program: &Program,
@@ -35,7 +35,7 @@ pub fn body(
     )
 }
 
-// The body, where calls may be so many deep; where none may, the run passes.
+// The body, where calls may be this many deep; where none may, the run passes.
 #[cycle(run)]
 fn body_within(
     program: &Program,

@@ -101,7 +101,7 @@ pub fn give(
     }
 }
 
-/// The test behind a turn of `do`.
+/// The test after a turn of `do`.
 #[cycle(run)]
 pub fn test_turn(
     program: &Program,

@@ -32,7 +32,7 @@ fn next(number: u32) -> Result<u32, OutOfMemory>
     }
 }
 
-// The number of a duty among duties, from 1.
+// The number of an obligation among obligations, from 1.
 fn number_among(duties: &[Duty], duty: Duty) -> Result<u32, OutOfMemory>
     ensures { IfOk result (λ number. number ≡ number_among_of duty duties.now) }
 {
@@ -46,7 +46,7 @@ fn number_among(duties: &[Duty], duty: Duty) -> Result<u32, OutOfMemory>
     Ok(number)
 }
 
-// The end of a run that failed, by the number of the duty.
+// The end of a run that failed, by the number of the obligation.
 fn failed(
     alloc: Global,
     program: &Program,
@@ -79,7 +79,7 @@ fn end_of(
     }
 }
 
-// The whole of `main`, with calls at most so many and one deep.
+// The whole of `main`, with calls at most this many and one deep.
 fn run_main(
     program: &Program,
     invariants: &[PlacedInvariant],

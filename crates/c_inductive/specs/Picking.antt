@@ -21,7 +21,7 @@ abbrev pub Rise : ℕ → List ℕ → Type 0
 Rise last [] = Unit {0}
 Rise last (n ∷ ns) = (last < n) × Rise n ns
 
--- a set among so many invariants: numbers from 1 on that rise
+-- a set among this many invariants: numbers from 1 on that rise
 pub record IsSelection (count : ℕ) (ns : List ℕ) : Type 0 where
   pub rising : Rise 0 ns
   pub within : All (λ n. n ≤ count) ns

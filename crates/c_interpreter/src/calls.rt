@@ -10,7 +10,7 @@ use run_state::{
     CallSite, Flow, Halt, Machine, Typed, one_more, returned, room, set_parameters, tick, ticks,
 };
 
-/// The body of a function, in which calls are at most so many deep.
+/// The body of a function, in which calls are at most this many deep.
 #[cycle(run)]
 pub fn body<W: Watcher>(
     program: &Program,
@@ -37,7 +37,7 @@ pub fn body<W: Watcher>(
     )
 }
 
-// The body, where calls may be so many deep; where none may, no step is left either.
+// The body, where calls may be this many deep; where none may, no step is left either.
 #[cycle(run)]
 fn body_within<W: Watcher>(
     program: &Program,

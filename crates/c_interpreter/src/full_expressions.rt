@@ -40,7 +40,7 @@ pub fn full<W: Watcher>(
     )
 }
 
-/// The test of the statement at a place, told as a branching.
+/// The test of the statement at a place, reported as a branching.
 #[cycle(run)]
 pub fn decide<W: Watcher>(
     program: &Program,
@@ -107,7 +107,7 @@ pub fn give<W: Watcher>(
     }
 }
 
-/// The test behind a turn of `do`.
+/// The test after a turn of `do`.
 #[cycle(run)]
 pub fn test_turn<W: Watcher>(
     program: &Program,

@@ -20,11 +20,13 @@ use run_state::{Flow, Halt, Machine, start};
 use std::alloc::Global;
 use wv_base::OutOfMemory;
 
-/// Runs a program with choices and at most so many steps; the watcher sees each event, with the memory of that moment.
-/// Where memory was wanting, it has seen the first of them, and none twice.
+/// Runs a program with choices and at most this many steps; the watcher sees each event, with the memory of then.
+/// Where memory ran out, it has seen the first of them, and none twice.
 ///
 /// Of its run hold the laws on every run: a loop leaves the cells as they were on arrival but for what it changes, and
 /// without recursion there is room.
+///
+/// Example: `plain` in `crates/flow_tests/src/runs.rt`.
 pub fn run_plain<W: Watcher>(
     alloc: Global,
     program: &Program,

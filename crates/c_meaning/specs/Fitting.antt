@@ -60,7 +60,7 @@ module _ (p : Program) where
   FitMoment (Here spot cs) = AreSound [] cs
   FitMoment (Head at l arrived cs) = AreSound [] arrived × AreSound [] cs
 
-  -- what is behind a statement sees sound cells too; a value that it gives is one of the function's result, and it gives none only where there is no result
+  -- what is after a statement sees sound cells too; a value that it gives is one of the function's result, and it gives none only where there is no result
   abbrev pub Leaves : List ℕ → Option IntType → Flow → List Cell → Type 0
   Leaves behind result Next cs = AreSound behind cs
   Leaves behind result Broken cs = Unit {0}

@@ -2,7 +2,7 @@
 use Rattle.std.specs.Prelude.{ℕ, ◌+◌, ◌-◌, ◌<◌, ◌≤◌, nat_lt, ◌&&◌, cond, List, length, slice_index_or, Option, Some, None}
 use Rattle.c_meaning.specs.Cells.{Key}
 
--- the number of an object's first name; behind the last object, how many names there are
+-- the number of an object's first name; after the last object, how many names there are
 abbrev pub start : List ℕ → ℕ → ℕ
 start starts object = slice_index_or starts object 0
 

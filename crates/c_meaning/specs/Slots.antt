@@ -42,7 +42,7 @@ abbrev pub place_in : Option Entry → Option ℕ
 place_in None = None
 place_in (Some e) = Some e.place
 
--- the first slot that is searched, of so many: neighbours in either number lie far apart (the factors are powers of the plastic number's inverse)
+-- the first slot that is searched, of this many: neighbours in either number lie far apart (the factors are powers of the plastic number's inverse)
 unfoldable pub home_of : Key → ℕ → ℕ
 home_of k size = (k.object * 13925035116211876495 % 2 ^ 64 + k.index * 10511698010929265437 % 2 ^ 64) % 2 ^ 64 * size / 2 ^ 64
 
@@ -69,7 +69,7 @@ pub record IsNext (k : Key) (t : List (Option Entry)) (from to i : ℕ) : Type 0
   pub here : stops k (slot t i) ≡ true
   pub passes : Passes k t from i
 
--- the slot, of so many, at which a search ends
+-- the slot, of this many, at which a search ends
 pub record Ends (k : Key) (size : ℕ) (t : List (Option Entry)) (i : ℕ) : Type 0 where
   pub within : i < size
   pub here : stops k (slot t i) ≡ true
@@ -81,7 +81,7 @@ pub record Enters (e : Entry) (size : ℕ) (old new : List (Option Entry)) : Typ
   pub ends : Ends (key_of e) size old i
   pub written : new ≡ slice_set old i (Some e)
 
--- the table, with so many slots, of these entries, the newest first, which came one by one
+-- the table, with this many slots, of these entries, the newest first, which came one by one
 abbrev pub IsTable : ℕ → List Entry → List (Option Entry) → Type 0
 IsTable size [] t = (length t ≡ size) × ((i : ℕ) → slot t i ≡ None)
 IsTable size (e ∷ es) t = (old : List (Option Entry)) × IsTable size es old × Enters e size old t

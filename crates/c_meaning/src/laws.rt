@@ -40,7 +40,7 @@ pub fn draws_fit()
 {}
 
 /// At every moment of a run of a checked program each cell holds a value of its object's type, and objects of static
-/// storage have their cells; at the end of a run or a havoc run the first still holds. An expression or a statement
+/// storage have their cells. At the end of a run or a havoc run the first still holds. An expression or a statement
 /// that begins where objects in reach have such cells gives a value of its type and leaves them such cells, and so do
 /// the parameters of a call and the draws at a loop's head.
 pub fn cells_fit()

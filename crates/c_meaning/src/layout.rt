@@ -6,7 +6,7 @@ ghost use Rattle.c_meaning.specs.Slots.{IsPlaced};
 use std::alloc::Global;
 use wv_base::OutOfMemory;
 
-/// The number of each object's first name, and behind the last object how many names there are.
+/// The number of each object's first name, and after the last object how many names there are.
 pub fn starts(alloc: Global, sizes: &[u32]) -> Result<Vec<usize>, OutOfMemory>
     ensures { IfOk result (λ s. Rising s.items) }
 {

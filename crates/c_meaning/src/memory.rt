@@ -37,7 +37,8 @@ impl Model for Memory {
 
     ghost view = { λ m. record { cells = cells_of m.cells.items; room = length m.slots.items / 2 } };
 
-    ghost invariant = { λ m. IsKept m.starts.items m.places.items (names_of m.cells.items) m.slots.items × (length m.slots.items / 2 ≤ vec_capacity m.cells) };
+    ghost invariant = { λ m. IsKept m.starts.items m.places.items (names_of m.cells.items) m.slots.items
+        × (length m.slots.items / 2 ≤ vec_capacity m.cells) };
 }
 
 impl Memory {
@@ -67,7 +68,7 @@ impl Memory {
         Ok(())
     }
 
-    /// Makes room for at least so many cells in all.
+    /// Makes room for at least this many cells in all.
     pub fn reserve(&mut self, cells: u32) -> Result<(), OutOfMemory>
         ensures cells { self.new.cells ≡ self.old.cells }
         ensures kept { self.old.room ≤ self.new.room }
@@ -99,7 +100,7 @@ impl Memory {
         self.cells.len()
     }
 
-    /// Keeps the first so many cells.
+    /// Keeps the first n cells.
     pub fn cut(&mut self, cells: usize)
         ensures cells { self.new.cells ≡ take cells self.old.cells }
         ensures kept { self.old.room ≤ self.new.room }

@@ -97,7 +97,7 @@ fn empty(alloc: Global, size: usize) -> Result<Vec<Option<Entry>>, OutOfMemory>
     Ok(slots)
 }
 
-/// The table of these cells, of those whose names have no number, with so many slots.
+/// The table of these cells, of those whose names have no number, with this many slots.
 pub fn table(
     alloc: Global,
     cells: &[Live],

@@ -37,26 +37,26 @@ module _ (Inner : List Token → List Token → Type 0) where
     PairPassed : {t : Token} {ts mid rest : List Token} {c : Punct} {q : Spot} →
         bracket t ≡ Opening c → Inner ts (sign_token c q ∷ mid) → Passed mid rest → Passed (t ∷ ts) rest
 
--- in one more pair of brackets, where so many may be open at one place
+-- in one more pair of brackets, where this many may be open at one place
 unfoldable pub PassedWithin : ℕ → List Token → List Token → Type 0
 PassedWithin zero ts rest = ⊥
 PassedWithin (suc b) ts rest = Passed (PassedWithin b) ts rest
 
 -- The same as a function, with the signs that have to close.
 
--- the signs that have to close behind a token
+-- the signs that have to close after a token
 abbrev pub stacked : ℕ → List Punct → Bracket → Option (List Punct)
 stacked b stack NoBracket = Some stack
 stacked b stack (Opening c) = if nat_lt (length stack) b then Some (c ∷ stack) else None
 stacked b [] (Closing c) = None
 stacked b (d ∷ stack) (Closing c) = if same_sign c d then Some stack else None
 
--- what stands behind the signs that have to close
+-- what stands after the signs that have to close
 abbrev pub skipped : ℕ → List Punct → List Token → Option (List Token)
 skipped b [] ts = Some ts
 skipped b (c ∷ stack) [] = None
 skipped b (c ∷ stack) (t ∷ ts) = stacked b (c ∷ stack) (bracket t) >>= λ s. skipped b s ts
 
--- what stands behind the closing sign of a pair that was opened
+-- what stands after the closing sign of a pair that was opened
 abbrev pub behind : ℕ → Punct → List Token → Option (List Token)
 behind b c ts = if nat_lt 0 b then skipped b (c ∷ []) ts else None

@@ -143,7 +143,7 @@ is_spelled_attribute (Some w) = is_attribute w
 
 -- at most b brackets open
 module _ (b : ℕ) where
-  -- what stands behind a pair of parentheses that begins here
+  -- what stands after a pair of parentheses that begins here
   abbrev pub behind_pair : List Token → Option (List Token)
   behind_pair ts = elim (is_sign sign.ParenOpen ts) [ true ↦ behind b sign.ParenClose (drop 1 ts) | false ↦ None ]
 

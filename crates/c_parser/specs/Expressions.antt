@@ -85,7 +85,7 @@ module _ (room : Bool) (Inner : ℕ → List Token → Exp → List Token → Ty
 abbrev pub has_room : ℕ → Bool
 has_room b = nat_lt 0 b
 
--- in one more pair of brackets, where so many may be open at one place
+-- in one more pair of brackets, where this many may be open at one place
 unfoldable pub Within : ℕ → ℕ → List Token → Exp → List Token → Type 0
 Within zero k ts e rest = ⊥
 Within (suc b) k ts e rest = Expression (has_room b) (Within b) k ts e rest

@@ -21,12 +21,12 @@ use Rattle.c_parser.specs.Signs.{◌>>=◌, sign_at, steps_behind, is_sign, Join
 use Rattle.c_parser.specs.ReadExpressions.{Read, assign_at, stepped}
 use Rattle.c_parser.specs.View.{expr_view, exprs_view}
 
--- nothing is read, unless memory was wanted
+-- nothing is read, unless memory ran out
 abbrev pub Fails : {X : Type 0} → Unread → Option X → Type 0
 Fails Unspelled read = read ≡ None
 Fails OutOfMemory read = Unit {0}
 
--- the thing and the tokens behind it are those that are read
+-- the thing and the tokens after it are those that are read
 abbrev pub Reads : {X Y : Type 0} → (X → Y) → Result (X × Bor (List Token)) Unread → Read Y → Type 0
 Reads view (Ok r) read = read ≡ Some (view r.0, r.1.now)
 Reads view (Err fault) read = Fails fault read
@@ -48,7 +48,7 @@ abbrev pub GivesAll : ℕ → Result (MeasuredRow × Bor (List Token)) Unread �
 GivesAll h (Ok r) read = (read ≡ Some (exprs_view r.0.exprs, r.1.now)) × FitsAll h r.0
 GivesAll h (Err fault) read = Fails fault read
 
--- the tokens behind this sign, if it stands first
+-- the tokens after this sign, if it stands first
 abbrev pub Closes : Punct → List Token → Result (Bor (List Token)) Unread → Type 0
 Closes s ts (Ok rest) = (is_sign s ts ≡ true) × (rest.now ≡ drop 1 ts)
 Closes s ts (Err Unspelled) = is_sign s ts ≡ false
@@ -69,11 +69,11 @@ abbrev pub texts : List (Bor (List ℕ)) → List (List ℕ)
 texts [] = []
 texts (t ∷ ts) = t.now ∷ texts ts
 
--- the step behind its target that stands first
+-- the step after its target that stands first
 abbrev pub step_at : List Token → Option StepOp
 step_at ts = sign_at ts >>= steps_behind
 
--- neither the assignment that stands behind an operand nor steps depend on what stands in brackets
+-- neither the assignment that stands after an operand nor steps depend on what stands in brackets
 abbrev pub assignment_at : List Token → ℕ → List Token → Option (Option BinOp)
 assignment_at = assign_at true (λ h k ts. None) (λ k ts. None) 0
 

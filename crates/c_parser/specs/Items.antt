@@ -65,7 +65,7 @@ abbrev pub ParametersWithin : ℕ → List Token → List Param → List Token �
 ParametersWithin zero ts xs rest = ⊥
 ParametersWithin (suc b) ts xs rest = Parameters (PassedWithin b) ts xs rest
 
--- a prototype's parameters, within so many open brackets more
+-- a prototype's parameters, within this many open brackets more
 abbrev pub TypesWithin : ℕ → List Token → Option (List IntType) → List Token → Type 0
 TypesWithin zero ts tys rest = ⊥
 TypesWithin (suc b) ts tys rest = ParameterTypes (PassedWithin b) ts tys rest
@@ -94,7 +94,7 @@ may_be_closed (kind.Char v) = false
 may_be_closed kind.Str = true
 may_be_closed (kind.Punct s) = is_closed_sign s
 
--- how many brackets are open behind a token
+-- how many brackets are open after a token
 abbrev pub depth_behind : ℕ → Bracket → ℕ
 depth_behind n NoBracket = n
 depth_behind n (Opening c) = suc n
@@ -135,7 +135,7 @@ AreLow h (d ∷ ds) = (heights (exps d.sizes) ≤ h) × ((height_of_init d.init 
 
 -- With at most b brackets open at one place, and at most the height h: what the front of the tokens spells.
 
--- a form of item: its tokens, the item that they spell if they spell one, the tokens behind it
+-- a form of item: its tokens, the item that they spell if they spell one, the tokens after it
 abbrev pub ItemForm : Type 1
 ItemForm = List Token → Option Item → List Token → Type 0
 

@@ -20,13 +20,13 @@ Answers ts (Ok s) = IsSource ts (source_view s)
 Answers ts (Err (Syntax line column)) = IsSyntax ts (record { line = line; column = column })
 Answers ts (Err OutOfMemory) = Unit {0}
 
--- these items are what was found, unless memory was wanted
+-- these items are what was found, unless memory ran out
 abbrev pub IsFound : Result Source ParseFault → List t.Item → Type 0
 IsFound (Ok s) xs = source_view s ≡ xs
 IsFound (Err (Syntax line column)) xs = ⊥
 IsFound (Err OutOfMemory) xs = Unit {0}
 
--- this is the place that was refused, unless memory was wanted
+-- this is the place that was refused, unless memory ran out
 abbrev pub IsRefused : Result Source ParseFault → Spot → Type 0
 IsRefused (Ok s) p = ⊥
 IsRefused (Err (Syntax line column)) p = p ≡ record { line = line; column = column }

@@ -18,7 +18,7 @@ use Rattle.c_parser.specs.Items.{or_later, closed_word}
 use Rattle.c_parser.specs.Brackets.{Bracket, NoBracket, Opening, Closing}
 use Rattle.c_parser.specs.Gives.{Fails}
 
--- the tokens behind are those that are read
+-- the tokens after are those that are read
 abbrev pub Passes : Result (Bor (List Token)) Unread → Option (List Token) → Type 0
 Passes (Ok rest) read = read ≡ Some rest.now
 Passes (Err fault) read = Fails fault read

@@ -17,7 +17,7 @@ use Rattle.c_parser.specs.Signs.{◌>>=◌, place, sign_at, word_at, is_sign, sa
 use Rattle.c_parser.specs.Words.{is_name, TypeWord, type_word, type_of}
 use Rattle.c_parser.specs.Expressions.{has_room}
 
--- what the front of the tokens is read as, and the tokens behind it
+-- what the front of the tokens is read as, and the tokens after it
 abbrev pub Read : Type 0 → Type 0
 Read X = Option (X × List Token)
 
@@ -94,7 +94,7 @@ module _ (room : Bool) (paren : ℕ → ℕ → List Token → Read Exp) (below 
   stepped_by again p e ts None = Some (e, ts)
   stepped_by again p e ts (Some op) = grown h p (node.Step op e) (drop 1 ts) >>= λ q. again q.0 q.1
 
-  -- at most n steps behind a primary expression, and one more
+  -- at most n steps after a primary expression, and one more
   abbrev pub stepped : ℕ → Spot → Exp → List Token → Read Exp
   stepped zero p e ts = stepped_by (λ x r. None) p e ts (sign_at ts >>= steps_behind)
   stepped (suc n) p e ts = stepped_by (stepped n p) p e ts (sign_at ts >>= steps_behind)
@@ -157,7 +157,7 @@ module _ (room : Bool) (paren : ℕ → ℕ → List Token → Read Exp) (below 
   stored ts k q None = tail h (place ts) (max k binary) q.0 q.1 >>= choice (place ts) k
   stored ts k q (Some op) = below assignment (drop 1 q.1) >>= λ r. grown h (place ts) (node.Assign op q.0 r.0) r.1
 
-  -- the sign of an assignment behind an operand that may be assigned to
+  -- the sign of an assignment after an operand that may be assigned to
   abbrev pub assign_at : List Token → ℕ → List Token → Option (Option BinOp)
   assign_at ts k rest = if nat_le k assignment && not (is_cast ts) then sign_at rest >>= assigns else None
 
@@ -169,7 +169,7 @@ unfoldable pub level : Bool → (ℕ → ℕ → List Token → Read Exp) → �
 level room paren zero k ts = None
 level room paren (suc h) k ts = full room paren (level room paren h) h k ts
 
--- in one more pair of brackets, where so many may be open: at the height h and the strength k
+-- in one more pair of brackets, where this many may be open: at the height h and the strength k
 unfoldable pub within : ℕ → ℕ → ℕ → List Token → Read Exp
 within zero h k ts = None
 within (suc b) h k ts = level (has_room b) (within b) h k ts

@@ -41,7 +41,7 @@ module _ (b : ℕ) where
     | false ↦ elim (is_void ts) [ true ↦ Some ([], drop 1 ts) | false ↦ read_parameter_list (length ts) ts ]
   ]
 
-  -- behind a type, a name may stand
+  -- after a type, a name may stand
   abbrev pub past_name : Option (List ℕ) → List Token → List Token
   past_name None ts = ts
   past_name (Some w) ts = drop 1 ts
@@ -80,7 +80,7 @@ abbrev pub is_end : List Punct → Bool
 is_end [] = true
 is_end (c ∷ stack) = false
 
--- the tokens before the first `;` outside brackets, and those behind it
+-- the tokens before the first `;` outside brackets, and those after it
 abbrev pub to_semicolon : ℕ → List Punct → List Token → Read (List Token)
 to_semicolon b stack [] = None
 to_semicolon b stack (t ∷ ts) = elim (is_end stack && is_sign sign.Semicolon (t ∷ [])) [

@@ -154,7 +154,7 @@ cast = 14
 abbrev pub unary : ℕ
 unary = 15
 
--- indices, calls and `++` or `--` behind (C11 6.5.2)
+-- indices, calls and `++` or `--` after (C11 6.5.2)
 abbrev pub postfix : ℕ
 postfix = 16
 
@@ -207,13 +207,13 @@ signs sign.Exclamation = Some one.Not
 signs sign.Tilde = Some one.BitNot
 signs _ = None
 
--- the steps before and behind their target
+-- the steps before and after their target
 abbrev pub steps_before : Punct → Option StepOp
 steps_before sign.PlusPlus = Some step.PreInc
 steps_before sign.MinusMinus = Some step.PreDec
 steps_before _ = None
 
--- `++` and `--` behind their operand
+-- `++` and `--` after their operand
 abbrev pub steps_behind : Punct → Option StepOp
 steps_behind sign.PlusPlus = Some step.PostInc
 steps_behind sign.MinusMinus = Some step.PostDec

@@ -28,7 +28,7 @@ abbrev pub with_item : Option Item → List Item → List Item
 with_item None xs = xs
 with_item (Some x) xs = x ∷ xs
 
--- the items of a source, one behind another
+-- the items of a source, one after another
 pub data Items (h b : ℕ) : List Token → List Item → Type 0 where
   NoMoreItems : Items h b [] []
   MoreItems : {ts rest : List Token} {x : Option Item} {xs : List Item} → Takes h b ts x rest → Items h b rest xs → Items h b ts (with_item x xs)
@@ -38,11 +38,11 @@ pub data Stops (h b : ℕ) : List Token → Spot → Type 0 where
   StopsHere : {t : Token} {ts : List Token} → ((x : Option Item) (rest : List Token) → Takes h b (t ∷ ts) x rest → ⊥) → Stops h b (t ∷ ts) t.spot
   StopsLater : {ts rest : List Token} {x : Option Item} {p : Spot} → Takes h b ts x rest → Stops h b rest p → Stops h b ts p
 
--- statements and expressions nest at most so deep
+-- statements and expressions nest at most this deep
 abbrev pub max_height : ℕ
 max_height = 200
 
--- so many brackets are open at one place at most
+-- this many brackets are open at one place at most
 abbrev pub max_brackets : ℕ
 max_brackets = 200
 

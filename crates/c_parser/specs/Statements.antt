@@ -22,7 +22,7 @@ module _ (Whole : List Token → Exp → List Token → Type 0) (Declares : List
     NoExpression : {rest : List Token} → Optional rest None rest
     AnExpression : {ts rest : List Token} {e : Exp} → Whole ts e rest → Optional ts (Some e) rest
 
-  -- the first part of `for (`, with the `;` behind it
+  -- the first part of `for (`, with the `;` after it
   pub data FirstPart : List Token → First → List Token → Type 0 where
     DeclaredFirst : {ts rest : List Token} {ds : List Declared} → Declares ts ds rest → FirstPart ts (FirstDeclared ds) rest
     ExpressionFirst : {ts rest : List Token} {e : Exp} {q : Spot} → Whole ts e (sign_token sign.Semicolon q ∷ rest) → FirstPart ts (FirstExp e) rest
@@ -109,7 +109,7 @@ unfoldable pub RowsWithin : ℕ → List Token → List Exps → List Token → 
 RowsWithin zero ts rows rest = ⊥
 RowsWithin (suc b) ts rows rest = UpToBrace Exps (Row (Within b)) ts rows rest
 
--- a declaration, within so many open brackets more
+-- a declaration, within this many open brackets more
 abbrev pub Declares : ℕ → Bool → List Token → List Declared → List Token → Type 0
 Declares b outside = Declaration (PassedWithin b) (Spells b) (Within b) (RowsWithin b) outside
 

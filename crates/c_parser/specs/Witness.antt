@@ -139,7 +139,7 @@ AnswersTest bytes (Err OutOfMemory) = Unit {0}
 abbrev pub compares_at : List Token → Option BinOp
 compares_at ts = sign_at ts >>= compares
 
--- what the tokens behind `\result` are read as, where so many parentheses have to close
+-- what the tokens after `\result` are read as, where this many parentheses have to close
 pub record IsComparison (parens : ℕ) (ts : List Token) (comparison : BinOp) (e : Exp) : Type 0 where
   pub closing : List Token
   pub compares : compares_at ts ≡ Some comparison
@@ -161,7 +161,7 @@ AnswersTokens place bytes (Err Expression) = (ts : List Token) → Reads false p
 AnswersTokens place bytes (Err Scope) = ⊥
 AnswersTokens place bytes (Err OutOfMemory) = Unit {0}
 
--- what stands behind `\result` at the front of a text
+-- what stands after `\result` at the front of a text
 abbrev pub IsBehindResult : List ℕ → Option (Bor (List ℕ)) → Type 0
 IsBehindResult text (Some behind) = text ≡ codes "\\result" ++ behind.now
 IsBehindResult text None = (behind : List ℕ) → text ≡ codes "\\result" ++ behind → ⊥

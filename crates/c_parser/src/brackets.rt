@@ -39,7 +39,7 @@ pub fn bracket_at(tokens: &[Token]) -> Bracket
     }
 }
 
-/// The tokens behind the sign that closes a pair, of which the tokens stand behind the sign that opened it; so many
+/// The tokens after the sign that closes a pair, of which the tokens stand after the sign that opened it; this many
 /// brackets may be open at one place, this one with them.
 pub fn behind_closing(tokens: &[Token], brackets: usize, close: Punct) -> Result<&[Token], Unread>
     ensures { Passes result (behind brackets close tokens.now) }

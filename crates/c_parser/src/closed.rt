@@ -19,7 +19,7 @@ use c_tokens::{Punct, Token, TokenKind};
 use std::alloc::Global;
 use wv_base::Text;
 
-/// The tokens before the first `;` outside brackets, and those behind it.
+/// The tokens before the first `;` outside brackets, and those after it.
 fn to_semicolon(tokens: &[Token], brackets: usize) -> Read<'_, &[Token]>
     ensures { Reads (λ front. front.now) result (to_semicolon brackets [] tokens.now) }
 {

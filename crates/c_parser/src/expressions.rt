@@ -1,4 +1,4 @@
-// Expressions, read by strength (C11 6.5): an operand, the steps and operators behind it, and what they join.
+// Expressions, read by strength (C11 6.5): an operand, the steps and operators after it, and what they join.
 ghost use Rattle.std.specs.Prelude.{◌≡◌, ◌≤◌, ◌<◌, ◌+◌, ◌^◌, ℕ, Some, None, length};
 ghost use Rattle.c_tokens.specs.declared.token.TokenKind.TheVariants as kind;
 ghost use Rattle.c_parser.specs.Expressions.{has_room};
@@ -25,7 +25,7 @@ use c_tokens::{Punct, Token, TokenKind};
 use std::alloc::Global;
 use wv_base::Text;
 
-/// The expression at the front of tokens whose parts hold together with this strength at least, with at most so many
+/// The expression at the front of tokens whose parts hold together with this strength at least, with at most this many
 /// brackets open at one place and of this height at most.
 #[cycle(expressions)]
 #[tactic(auto, unfolding(crate::specs::ReadExpressions::level))]
@@ -314,7 +314,7 @@ fn opened_at<'a>(
     Ok(got)
 }
 
-/// What stands behind a step or an operator before its operand.
+/// What stands after a step or an operator before its operand.
 #[cycle(expressions)]
 fn prefixed_at<'a>(
     alloc: Global,
@@ -348,7 +348,7 @@ fn prefixed_at<'a>(
     }
 }
 
-/// What stands behind an operator of one operand.
+/// What stands after an operator of one operand.
 #[cycle(expressions)]
 fn signed_at<'a>(
     alloc: Global,
@@ -378,7 +378,7 @@ fn signed_at<'a>(
     }
 }
 
-/// What stands behind an opening parenthesis: the type of a cast, or an expression.
+/// What stands after an opening parenthesis: the type of a cast, or an expression.
 #[cycle(expressions)]
 fn parens_at<'a>(
     alloc: Global,
@@ -405,7 +405,7 @@ fn parens_at<'a>(
     Ok(got)
 }
 
-/// A cast, from behind its parenthesis on.
+/// A cast, from after its parenthesis on.
 #[cycle(expressions)]
 fn converted_at<'a>(
     alloc: Global,
@@ -479,7 +479,7 @@ fn word_at<'a>(
     Ok(got)
 }
 
-/// A name, an element or a call, from behind the name on.
+/// A name, an element or a call, from after the name on.
 #[cycle(expressions)]
 fn named_at<'a>(
     alloc: Global,
@@ -551,7 +551,7 @@ fn bracketed_at<'a>(
     Ok((inside, end))
 }
 
-/// A call, from behind its parenthesis on.
+/// A call, from after its parenthesis on.
 #[cycle(expressions)]
 fn called_at<'a>(
     alloc: Global,
@@ -624,7 +624,7 @@ fn listed_at<'a>(
     Err(Unread::Unspelled)
 }
 
-/// The steps behind a primary expression.
+/// The steps after a primary expression.
 fn steps_at<'a>(
     alloc: Global,
     spot: Spot,

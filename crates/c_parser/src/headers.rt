@@ -147,7 +147,7 @@ pub fn test_in_parens<'a>(
     Ok((test.expr, rest))
 }
 
-/// What stands behind `return`, with its semicolon.
+/// What stands after `return`, with its semicolon.
 pub fn returned_at<'a>(
     alloc: Global,
     tokens: &'a [Token],
@@ -166,7 +166,7 @@ pub fn returned_at<'a>(
     Ok((Some(value.expr), rest))
 }
 
-/// What stands behind the body of a `do`.
+/// What stands after the body of a `do`.
 pub fn do_test_at<'a>(
     alloc: Global,
     tokens: &'a [Token],

@@ -71,7 +71,7 @@ pub fn place_at(tokens: &[Token]) -> Spot
     }
 }
 
-/// The tokens behind the first one.
+/// The tokens after the first one.
 pub fn behind(tokens: &[Token]) -> &[Token]
     ensures { result.now ≡ drop 1 tokens.now }
 {
@@ -81,7 +81,7 @@ pub fn behind(tokens: &[Token]) -> &[Token]
     }
 }
 
-/// The tokens behind this sign, if it stands first.
+/// The tokens after this sign, if it stands first.
 pub fn closed(tokens: &[Token], sign: Punct) -> Result<&[Token], Unread>
     ensures { Closes sign tokens.now result }
 {
@@ -163,7 +163,7 @@ pub fn step_before(sign: Punct) -> Option<StepOp>
     }
 }
 
-/// The step behind its target that stands first.
+/// The step after its target that stands first.
 pub fn step_behind(tokens: &[Token]) -> Option<StepOp>
     ensures { result ≡ step_at tokens.now }
 {
@@ -193,7 +193,7 @@ fn assign_of(sign: Punct) -> Option<Option<BinOp>>
     }
 }
 
-/// The assignment that stands behind an operand, where its strength and its first tokens allow one; with the operator
+/// The assignment that stands after an operand, where its strength and its first tokens allow one; with the operator
 /// of a compound one.
 pub fn assign_at(tokens: &[Token], strength: usize, rest: &[Token]) -> Option<Option<BinOp>>
     ensures { result ≡ assignment_at tokens.now strength rest.now }

@@ -145,7 +145,7 @@ pub fn chosen<'a>(
     Ok(got)
 }
 
-/// A step before or behind its target.
+/// A step before or after its target.
 pub fn stepped<'a>(
     alloc: Global,
     limit: usize,

@@ -79,7 +79,7 @@ pub fn parameters_at<'a>(
     Ok((params, rest))
 }
 
-/// The type of a parameter of a prototype, behind which a name may stand.
+/// The type of a parameter of a prototype, after which a name may stand.
 fn parameter_type_at(tokens: &[Token], brackets: usize) -> Read<'_, IntType>
     ensures { Reads (λ ty. ty) result (read_parameter_type brackets tokens.now) }
 {

@@ -17,10 +17,10 @@ use c_tokens::Token;
 use std::alloc::Global;
 use wv_base::{OutOfMemory, Seq};
 
-/// So many brackets are open at one place at most.
+/// This many brackets are open at one place at most.
 const MAX_BRACKETS: usize = 200;
 
-/// Statements and expressions nest at most so deep.
+/// Statements and expressions nest at most this deep.
 const MAX_HEIGHT: usize = 200;
 
 /// The source that tokens spell (C11 6.9), or the first token of the first item that fits no form.

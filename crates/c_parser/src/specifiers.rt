@@ -1,4 +1,4 @@
-// The specifiers of declarations and the attributes behind parameters (C11 6.7, 6.7.2).
+// The specifiers of declarations and the attributes after parameters (C11 6.7, 6.7.2).
 ghost use Rattle.std.specs.Prelude.{◌≡◌, length};
 ghost use Rattle.std.specs.Option.{option_copied};
 ghost use Rattle.c_parser.specs.Signs.{word_at, is_word};
@@ -138,7 +138,7 @@ fn is_attribute_at(tokens: &[Token]) -> bool
     }
 }
 
-/// The tokens behind a pair of parentheses that begins here.
+/// The tokens after a pair of parentheses that begins here.
 fn behind_pair(tokens: &[Token], brackets: usize) -> Result<&[Token], Unread>
     ensures { Passes result (behind_pair brackets tokens.now) }
 {
@@ -150,7 +150,7 @@ fn behind_pair(tokens: &[Token], brackets: usize) -> Result<&[Token], Unread>
     }
 }
 
-/// The tokens behind the attributes that stand here.
+/// The tokens after the attributes that stand here.
 pub fn behind_attributes(tokens: &[Token], brackets: usize) -> Result<&[Token], Unread>
     ensures { Passes result (behind_attributes brackets (length tokens.now) tokens.now) }
 {

@@ -49,7 +49,7 @@ fn count_part(counts: &mut WordCounts, part: Option<TypeWord>)
     }
 }
 
-/// How often each type word stands in the type name at the front, and the tokens behind it.
+/// How often each type word stands in the type name at the front, and the tokens after it.
 pub fn name_words(tokens: &[Token]) -> (WordCounts, &[Token])
     ensures words { result.0 ≡ counted (name_words tokens.now).0 }
     ensures rest { result.1.now ≡ (name_words tokens.now).1 }

@@ -16,7 +16,7 @@ use c_tokens::{Place, Punct, Token, TokenFault, first_place, lead, place_past, p
 use std::alloc::Global;
 use wv_base::Seq;
 
-/// So many brackets may be open at one place.
+/// This many brackets may be open at one place.
 pub const MAX_BRACKETS: usize = 200;
 /// So high may an expression be.
 pub const MAX_HEIGHT: usize = 200;
@@ -79,7 +79,7 @@ pub fn parse_result(alloc: Global, bytes: &[u8]) -> Result<ResultTest, ExprFault
     Ok(test)
 }
 
-/// What stands behind `\result` at the front of a text.
+/// What stands after `\result` at the front of a text.
 fn behind_result(text: &[u8]) -> Option<&[u8]>
     ensures { IsBehindResult text.now result }
 {
@@ -92,7 +92,7 @@ fn behind_result(text: &[u8]) -> Option<&[u8]>
     Some(&text[7..])
 }
 
-/// The comparison that tokens are read as, behind `\result` and up to so many closing parentheses.
+/// The comparison that tokens are read as, after `\result` and up to this many closing parentheses.
 fn comparison(alloc: Global, tokens: &[Token], parens: usize) -> Result<ResultTest, ExprFault>
     requires { parens ≤ 200 }
     ensures { AnswersComparison parens tokens.now result }
@@ -135,7 +135,7 @@ fn comparison_at(tokens: &[Token]) -> Option<BinOp>
     }
 }
 
-/// Whether these tokens are so many closing parentheses.
+/// Whether these tokens are this many closing parentheses.
 fn closes_all(tokens: &[Token], parens: usize) -> bool
     ensures { result ≡ (nat_eq (length tokens.now) parens && are_all ParenClose tokens.now) }
 {

@@ -26,7 +26,7 @@ abbrev pub close_length : List ℕ → Option ℕ
 close_length [] = None
 close_length (b ∷ text) = if closes (b ∷ text) then Some 2 else option_map (λ n. n + 1) (close_length text)
 
--- a comment of so many bytes up to its end, or one without an end
+-- a comment of this many bytes up to its end, or one without an end
 abbrev pub closed : Option ℕ → Gap
 closed None = Unclosed
 closed (Some n) = Space (n + 2)

@@ -9,7 +9,7 @@ use Rattle.c_tokens.specs.Bytes.{is_digit, is_octal_digit, is_hexadecimal_digit,
 abbrev pub number_in : ℕ → List ℕ → ℕ
 number_in radix digits = fold (λ n d. n * radix + digit_value d) 0 digits
 
--- letters behind a constant, and what they say of its type (C11 6.4.4.1)
+-- letters after a constant, and what they say of its type (C11 6.4.4.1)
 pub record Suffix : Type 0 where
   pub spelling : List ℕ
   pub unsigned : Bool

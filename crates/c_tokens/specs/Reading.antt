@@ -86,14 +86,14 @@ AnswersBy directives = AnswersFrom directives start
 abbrev pub Answers : List ℕ → Result (List Token) TokenFault → Type 0
 Answers = AnswersBy true
 
--- the answer is these tokens and this ending; want of memory alone may stand in their place
+-- the answer is these tokens and this ending; only out of memory may stand in their place
 abbrev pub IsOutcome : Result (List Token) TokenFault → List Token → Ending → Type 0
 IsOutcome (Ok found) ts end = (found ≡ ts) × (end ≡ Whole)
 IsOutcome (Err (TokenAt line column)) ts end = end ≡ NoToken (record { line = line; column = column })
 IsOutcome (Err (Directive line)) ts end = end ≡ BadDirective line
 IsOutcome (Err OutOfMemory) ts end = Unit {0}
 
--- blanks, comments and so many opening parentheses stand before the rest of the text
+-- blanks, comments and this many opening parentheses stand before the rest of the text
 pub data Leads : Place → List ℕ → ℕ → Place → List ℕ → Type 0 where
   NoLead : {at : Place} {text : List ℕ} → Leads at text 0 at text
   GapLeads : {at there : Place} {text rest : List ℕ} {n k : ℕ} →

@@ -19,7 +19,7 @@ use Rattle.c_tokens.specs.Characters.{simple_escapes}
 use Rattle.c_tokens.specs.Gaps.{begins_with, gap}
 use Rattle.c_tokens.specs.Reading.{LeadEnds, paren_open}
 
--- the bytes of a string behind its first quote, the closing quote included; the byte before passes this one or not
+-- the bytes of a string after its first quote, the closing quote included; the byte before passes this one or not
 abbrev pub string_end : Bool → List ℕ → Option ℕ
 string_end passing [] = None
 string_end passing (b ∷ text) =
@@ -31,16 +31,16 @@ abbrev pub value_among : List (ℕ × ℕ) → ℕ → Option ℕ
 value_among [] b = None
 value_among (row ∷ rows) b = if b == row.0 then Some row.1 else value_among rows b
 
--- the closing quote behind a body of n bytes and this value
+-- the closing quote after a body of n bytes and this value
 abbrev pub closed_after : ℕ → List ℕ → Option ℕ → Option (ℕ × ℕ)
 closed_after n text value = if begins_with quote text then option_map (λ v. (n + 1, v)) value else None
 
--- the value of at least one and at most so many digits
+-- the value of at least one and at most this many digits
 abbrev pub byte_in : ℕ → ℕ → List ℕ → Option ℕ
 byte_in radix most digits =
     if nat_lt 0 (length digits) && (nat_le (length digits) most && nat_lt (number_in radix digits) 256) then Some (number_in radix digits) else None
 
--- an escape of digits behind so many bytes of the body
+-- an escape of digits after this many bytes of the body
 abbrev pub digits_escape : ℕ → (ℕ → Bool) → ℕ → ℕ → List ℕ → Option (ℕ × ℕ)
 digits_escape radix is_digit_of most before text =
     closed_after (before + prefix_len is_digit_of text) (drop (prefix_len is_digit_of text) text) (byte_in radix most (take (prefix_len is_digit_of text) text))
@@ -53,7 +53,7 @@ escape_end (b ∷ text) =
     else if is_octal_digit b then digits_escape 8 is_octal_digit 3 1 (b ∷ text)
     else closed_after 2 text (value_among simple_escapes b)
 
--- the bytes of a character behind its first quote, the closing quote included, and its value
+-- the bytes of a character after its first quote, the closing quote included, and its value
 abbrev pub character_end : List ℕ → Option (ℕ × ℕ)
 character_end [] = None
 character_end (b ∷ text) =
@@ -80,11 +80,11 @@ abbrev pub number_scan : List ℕ → Option (ℕ × Option TokenKind)
 number_scan [] = None
 number_scan (b ∷ text) = let n = prefix_len is_number_byte text + 1 in Some (n, constant (take n (b ∷ text)))
 
--- a character behind its first quote
+-- a character after its first quote
 abbrev pub character_scan : List ℕ → Option (ℕ × Option TokenKind)
 character_scan text = option_map (λ c. (c.0 + 1, Some (Char (signed_of 8 c.1)))) (character_end text)
 
--- a string behind its first quote
+-- a string after its first quote
 abbrev pub string_scan : List ℕ → Option (ℕ × Option TokenKind)
 string_scan text = option_map (λ n. (n + 1, Some Str)) (string_end false text)
 
@@ -111,7 +111,7 @@ abbrev pub begins_word : List ℕ → Bool
 begins_word [] = false
 begins_word (b ∷ text) = is_letter b
 
--- a gap takes a byte at least, and so many at most
+-- a gap takes a byte at least, and this many at most
 abbrev pub Within : Gap → ℕ → Type 0
 Within (Space n) size = (1 ≤ n) × (n ≤ size)
 Within Refused size = Unit {0}

@@ -8,7 +8,7 @@ use crate::bytes::{blank_run, is_digit, line_length, word_run};
 /// What stands at a place before a token may.
 #[derive(Clone, Copy, Debug)]
 pub enum Gap {
-    /// So many bytes that are passed over.
+    /// This many bytes that are passed over.
     Space(usize),
     /// A directive that is not passed over.
     Refused,

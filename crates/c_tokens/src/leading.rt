@@ -19,7 +19,7 @@ fn lead_step(text: &[u8]) -> Option<(usize, usize)>
     }
 }
 
-/// How many opening parentheses the text begins with, blanks and comments between them, the place behind all of these
+/// How many opening parentheses the text begins with, blanks and comments between them, the place after all of these
 /// and the rest of the text from there on.
 pub fn lead(bytes: &[u8]) -> (usize, Place, &[u8])
     ensures leads { Leads start bytes.now result.0 result.1 result.2.now }

@@ -67,7 +67,7 @@ fn number_token(text: &[u8]) -> Option<(usize, TokenKind)>
     Some((length, kind))
 }
 
-/// A character behind its first quote.
+/// A character after its first quote.
 fn character_token(text: &[u8]) -> Option<(usize, TokenKind)>
     ensures { result ≡ Scan.good (Scan.character_scan text.now) }
 {
@@ -75,7 +75,7 @@ fn character_token(text: &[u8]) -> Option<(usize, TokenKind)>
     Some((length + 1, TokenKind::Char(char_value(byte))))
 }
 
-/// A string behind its first quote.
+/// A string after its first quote.
 fn string_token(text: &[u8]) -> Option<(usize, TokenKind)>
     ensures { result ≡ Scan.good (Scan.string_scan text.now) }
 {

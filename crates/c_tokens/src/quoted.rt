@@ -1,4 +1,4 @@
-// Characters and strings, behind their first quote.
+// Characters and strings, after their first quote.
 ghost use Rattle.std.specs.Prelude.{◌≡◌, ◌<◌, ◌≤◌, ◌+◌, ◌-◌, ◌^◌, false, length, IfSome};
 ghost use Rattle.c_tokens.specs.Scan;
 ghost use Rattle.c_tokens.specs.Characters.{simple_escapes};
@@ -66,7 +66,7 @@ fn escape_end(text: &[u8]) -> Option<(usize, u8)>
     }
 }
 
-/// The value of at least one and at most so many digits.
+/// The value of at least one and at most this many digits.
 fn byte_in(radix: u64, most: usize, digits: &[u8]) -> Option<u8>
     requires { 0 < radix }
     ensures { result ≡ Scan.byte_in radix most digits.now }

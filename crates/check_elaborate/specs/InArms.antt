@@ -10,7 +10,7 @@ use Rattle.check_rules.specs.Parts.{Part, parts_of_statement}
 use Rattle.check_rules.specs.Scopes.{Scope, opened, closed, after_statement}
 
 module _ (m : DataModel) (bodies : List (List ℕ)) where
-  -- the scope behind one of them
+  -- the scope after one of them
   abbrev pub behind : Scope → raw.Stm → Scope
   behind s x = closed s (after_statement m bodies (opened s) x)
 

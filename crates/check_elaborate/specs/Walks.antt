@@ -58,7 +58,7 @@ IsNoted context old new ps = (found_at new ≡ with_parts context.model (items_i
 abbrev pub IsJudged : Context → Walk → Walk → List Part → Type 0
 IsJudged context old new ps = (new.best ≡ noted_parts context.model (items_in context) old.best ps)
 
--- the innermost scope has ended, and of the names around so many stand outside the one that goes on
+-- the innermost scope has ended, and of the names around this many stand outside the one that goes on
 abbrev pub cut : ℕ → Scope → Scope
 cut outside s = scope (take outside s.outer) (drop outside s.outer) s.objects
 

@@ -29,6 +29,7 @@ fn add_constant(constants: &mut BTreeSet<i128>, constant: i128) -> Result<(), Ou
 }
 
 impl ArmLabels {
+    /// No labels yet.
     pub fn new(alloc: Global) -> ArmLabels
         ensures all { result.all ≡ [] }
         ensures found { AreFound result }

@@ -125,7 +125,7 @@ fn or_zero(label: Option<Label>) -> Label
     label.unwrap_or(Label::Case(0))
 }
 
-/// The label of an arm behind those before it in its `switch`, which it joins.
+/// The label of an arm after those before it in its `switch`, which it joins.
 pub fn label(
     context: &Context,
     walk: &mut Walk,

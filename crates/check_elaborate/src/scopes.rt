@@ -29,7 +29,7 @@ impl<'a> Walk<'a> {
         }
     }
 
-    /// The number of the next object. More than numbers of 32 bits tell apart are want of memory.
+    /// The number of the next object. More than numbers of 32 bits tell apart are answered as out of memory.
     pub fn next_number(&self) -> Result<u32, OutOfMemory>
         ensures number { IfOk result (λ n. n ≡ length self.now.objects) }
         ensures bound { IfOk result (λ n. n < 4294967295) }

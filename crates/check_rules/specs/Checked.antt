@@ -28,7 +28,7 @@ use Rattle.check_rules.specs.First.{IsUnrefused, wrong_main}
 abbrev pub padded : ℕ → List ℤ → List ℤ
 padded cells values = values ++ replicate (cells - length values) (pos 0)
 
--- the sizes to which values are filled, after so many cells: of one cell where they are refused or over the limit
+-- the sizes to which values are filled, after this many cells: of one cell where they are refused or over the limit
 abbrev pub filled_sizes : ℕ → raw.Init → Sizes → Sizes
 filled_sizes before init sizes = cond (is_wrong_size sizes init || is_over_limit before (cells_in sizes)) Scalar sizes
 
@@ -99,7 +99,7 @@ module _ (m : DataModel) (bodies : List (List ℕ)) where
     typed_else s raw.NoElse = t.NoElse
     typed_else s (raw.OrElse b) = t.OrElse (typed_statement (opened s) b)
 
-    -- the typed statements of a block, each in the scope behind the one before
+    -- the typed statements of a block, each in the scope after the one before
     pub typed_block : Scope → raw.Stms → t.Stms
     typed_block s raw.NoStm = t.NoStm
     typed_block s (raw.MoreStm x b) = t.MoreStm (typed_statement s x) (typed_block (after_statement m bodies s x) b)

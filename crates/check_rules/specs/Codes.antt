@@ -1,4 +1,4 @@
--- The refusals of a part, but for the order of operands: when each holds, and where it is told.
+-- The refusals of a part, but for the order of operands: when each holds, and at which place it is reported.
 use Rattle.std.specs.Prelude.{ℕ, ◌+◌, ◌*◌, nat_eq, nat_lt, nat_le, Bool, true, false, cond, not, ◌&&◌, ◌||◌, List, [], ◌∷◌, length, Option, Some, None, is_some, is_none}
 use Rattle.std.specs.List.{list_any, sum_by}
 use Rattle.std.specs.Str.{bytes_eq}
@@ -102,7 +102,7 @@ alters _ _ = false
 abbrev pub entry_of : Bool → Scope → raw.Declared → Entry
 entry_of fixed s d = entry d.name (kind.Object (length s.objects) d.ty (dims_of d.sizes) fixed)
 
--- they are of one constant, or both `default`; what is no constant is told apart from all
+-- they are of one constant, or both `default`; what is no constant differs from all
 abbrev pub same_label : ArmLabel → Option ArmLabel → Bool
 same_label l None = false
 same_label (Case c) (Some (Case d)) = int_eq c d
@@ -201,7 +201,7 @@ abbrev pub is_too_small : ℕ → Option ℕ → Bool
 is_too_small n None = true
 is_too_small n (Some size) = nat_lt size n
 
--- more values than so many rows of so many columns have room for: in a list without rows they fill cell by cell
+-- more values than this many rows of this many columns have room for: in a list without rows they fill cell by cell
 abbrev pub overfills : ℕ → ℕ → raw.Init → Bool
 overfills a b raw.Absent = false
 overfills a b (raw.One e) = false
@@ -325,7 +325,7 @@ place_of (Labelling before w p) = p
 place_of (ArmLabelling before l p) = p
 place_of (CaseConstant es e) = start e
 
--- that a word names nothing is told at the word
+-- that a word names nothing is reported at the word
 abbrev pub place_of_name : Part → Spot
 place_of_name (Expression es r (Expr p n)) = place_of_word p n
 place_of_name part = place_of part

@@ -20,7 +20,7 @@ use Rattle.check_rules.specs.Order.{IsUnordered}
 abbrev pub refusal : CheckCode → Spot → Refusal
 refusal c p = record { code = c; spot = p }
 
--- the order in which refusals at one place are told
+-- the order in which refusals at one place are reported
 abbrev pub rank : CheckCode → ℕ
 rank code.Name = 0
 rank code.Again = 1
@@ -100,7 +100,7 @@ wrong_main (raw.Function p name result xs body ∷ items) =
     elim (bytes_eq name (codes "main")) [ true ↦ unless_fit p (has_none xs && is_result_of_main result) | false ↦ wrong_main items ]
 wrong_main (item ∷ items) = wrong_main items
 
--- the refusal that is told: the first of a part, or else that of `main`
+-- the refusal that is reported: the first of a part, or else that of `main`
 pub data Refuses (m : DataModel) (items : List raw.Item) : Refusal → Type 0 where
   OfPart : {r : Refusal} → IsFirst m items r → Refuses m items r
   OfMain : {p : Spot} → IsUnrefused m items → wrong_main items ≡ Some p → Refuses m items (refusal code.Main p)

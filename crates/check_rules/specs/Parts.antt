@@ -116,7 +116,7 @@ module _ (m : DataModel) (bodies : List (List ℕ)) where
   abbrev pub parts_of_name : Bool → Scope → raw.Declared → List Part
   parts_of_name fixed s d = parts_of (seen s) (exps d.sizes) ++ Declaring fixed s d ∷ parts_of_init fixed (after_name m bodies fixed s d) d.init
 
-  -- the parts of declared names, each in the scope behind the one before
+  -- the parts of declared names, each in the scope after the one before
   abbrev pub parts_of_names : Bool → Scope → List raw.Declared → List Part
   parts_of_names fixed s [] = []
   parts_of_names fixed s (d ∷ ds) = parts_of_name fixed s d ++ parts_of_names fixed (after_name m bodies fixed s d) ds
@@ -159,13 +159,13 @@ module _ (m : DataModel) (bodies : List (List ℕ)) where
       parts_of_else within s raw.NoElse = []
       parts_of_else within s (raw.OrElse b) = parts_of_statement within (opened s) b
 
-      -- the parts of a block's statements, each in the scope behind the one before
+      -- the parts of a block's statements, each in the scope after the one before
       pub parts_of_block : Within → Scope → raw.Stms → List Part
       parts_of_block within s raw.NoStm = []
       parts_of_block within s (raw.MoreStm x b) = parts_of_statement within s x ++ parts_of_block within (after_statement m bodies s x) b
       parts_of_block within s (raw.MoreCase p l b) = parts_of_block within s b
 
-      -- the parts of the arms of a `switch`, whose constants are of the type ty, behind these labels
+      -- the parts of the arms of a `switch`, whose constants are of the type ty, after these labels
       pub parts_of_arms : Within → IntType → List (Option ArmLabel) → Scope → raw.Stms → List Part
       parts_of_arms within ty before s raw.NoStm = []
       parts_of_arms within ty before s (raw.MoreStm x b) =
@@ -210,7 +210,7 @@ abbrev pub parts_of_labels : List (List ℕ) → List Label → List Part
 parts_of_labels before [] = []
 parts_of_labels before (l ∷ ls) = Labelling before l.name l.spot ∷ parts_of_labels (before ++ l.name ∷ []) ls
 
--- the parts of parameters, each in the scope behind the one before
+-- the parts of parameters, each in the scope after the one before
 abbrev pub parts_of_parameters : Scope → List raw.Param → List Part
 parts_of_parameters s [] = []
 parts_of_parameters s (x ∷ xs) = Declaring false s (plain x) ∷ parts_of_parameters (with_object s (parameter x)) xs
@@ -232,7 +232,7 @@ module _ (m : DataModel) (bodies : List (List ℕ)) where
   parts_of_item s (raw.Global ds) = parts_of_names m bodies true s ds
   parts_of_item s (raw.Closed p name) = []
 
-  -- the parts of items, each in the scope behind the one before
+  -- the parts of items, each in the scope after the one before
   abbrev pub parts_of_items : Scope → List raw.Item → List Part
   parts_of_items s [] = []
   parts_of_items s (x ∷ xs) = parts_of_item s x ++ parts_of_items (after_item m bodies s x) xs

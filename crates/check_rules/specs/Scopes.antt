@@ -1,4 +1,4 @@
--- Scopes, and what is declared behind each part of a source (C11 6.2.1, 6.8p3).
+-- Scopes, and what is declared after each part of a source (C11 6.2.1, 6.8p3).
 use Rattle.std.specs.Prelude.{ℕ, ◌*◌, nat_le, Bool, true, false, cond, ◌&&◌, ℤ, pos, negsuc, List, [], ◌∷◌, ◌++◌, length, map, Option, Some, None}
 use Rattle.c_core.specs.declared.number.IntType.{IntType}
 use Rattle.c_core.specs.declared.number.DataModel.{DataModel}
@@ -29,7 +29,7 @@ scope outer inner objects = record { outer = outer; inner = inner; objects = obj
 abbrev pub opened : Scope → Scope
 opened s = scope (seen s) [] s.objects
 
--- the scope s again, behind a scope in it that ended as t
+-- the scope s again, after a scope in it that ended as t
 abbrev pub closed : Scope → Scope → Scope
 closed s t = scope s.outer s.inner t.objects
 
@@ -100,22 +100,22 @@ module _ (m : DataModel) (bodies : List (List ℕ)) where
   abbrev pub object_of : Bool → List Entry → raw.Declared → Object
   object_of fixed es d = record { name = d.name; ty = d.ty; cells = cells_of es d.sizes; columns = columns_of es d.sizes; dims = dims_of d.sizes; fixed = fixed; spot = d.spot }
 
-  -- a name is in scope behind its declarator, its initializer included (C11 6.2.1p7)
+  -- a name is in scope after its declarator, its initializer included (C11 6.2.1p7)
   abbrev pub after_name : Bool → Scope → raw.Declared → Scope
   after_name fixed s d = with_object s (object_of fixed (seen s) d)
 
-  -- the scope behind declared names
+  -- the scope after declared names
   abbrev pub after_names : Bool → Scope → List raw.Declared → Scope
   after_names fixed s [] = s
   after_names fixed s (d ∷ ds) = after_names fixed (after_name fixed s d) ds
 
-  -- the scope behind the first part of `for (`
+  -- the scope after the first part of `for (`
   abbrev pub after_first : Scope → raw.First → Scope
   after_first s raw.NoFirst = s
   after_first s (raw.FirstExp e) = s
   after_first s (raw.FirstDeclared ds) = after_names false s ds
 
-  -- what is declared behind a statement; a part of a statement is a block (C11 6.8.4p3, 6.8.5p5)
+  -- what is declared after a statement; a part of a statement is a block (C11 6.8.4p3, 6.8.5p5)
   abbrev mutual
     pub after_statement : Scope → raw.Stm → Scope
     after_statement s (raw.Stmt p f) = after_form s f
@@ -150,7 +150,7 @@ module _ (m : DataModel) (bodies : List (List ℕ)) where
 abbrev pub parameter : raw.Param → Object
 parameter x = record { name = x.name; ty = x.ty; cells = 1; columns = 1; dims = 0; fixed = false; spot = x.spot }
 
--- the scope behind parameters
+-- the scope after parameters
 abbrev pub after_parameters : Scope → List raw.Param → Scope
 after_parameters s [] = s
 after_parameters s (x ∷ xs) = after_parameters (with_object s (parameter x)) xs
@@ -181,7 +181,7 @@ abbrev pub inside : Scope → List ℕ → Option IntType → List raw.Param →
 inside s name result xs = opened (with_entry s (entry_of_function name result xs))
 
 module _ (m : DataModel) (bodies : List (List ℕ)) where
-  -- the scope behind an item
+  -- the scope after an item
   abbrev pub after_item : Scope → raw.Item → Scope
   after_item s (raw.Function p name result xs body) =
       closed (with_entry s (entry_of_function name result xs)) (after_block m bodies (after_parameters (inside s name result xs) xs) (statements_of body))
@@ -189,7 +189,7 @@ module _ (m : DataModel) (bodies : List (List ℕ)) where
   after_item s (raw.Global ds) = after_names m bodies true s ds
   after_item s (raw.Closed p name) = with_entry s (entry name kind.Closed)
 
-  -- the scope behind items
+  -- the scope after items
   abbrev pub after_items : Scope → List raw.Item → Scope
   after_items s [] = s
   after_items s (x ∷ xs) = after_items (after_item s x) xs

@@ -1,7 +1,7 @@
 use c_core::Spot;
 use wv_base::OutOfMemory;
 
-/// Why a source is no program, in the order in which refusals at one place are told.
+/// Why a source is no program, in the order in which refusals at one place are reported.
 #[derive(Clone, Copy, Debug, PartialEq, Eq)]
 pub enum CheckCode {
     /// A word names nothing that is in scope.
@@ -22,7 +22,7 @@ pub enum CheckCode {
     Cells,
 }
 
-/// A code with the place where it is told.
+/// A code with the place where it is reported.
 #[derive(Clone, Copy, Debug, PartialEq, Eq)]
 pub struct Refusal {
     pub code: CheckCode,

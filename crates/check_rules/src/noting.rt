@@ -13,7 +13,7 @@ fn is_before(a: Spot, b: Spot) -> bool
     a.line < b.line || (a.line == b.line && a.column < b.column)
 }
 
-// The order in which refusals at one place are told.
+// The order in which refusals at one place are reported.
 fn rank(code: CheckCode) -> u8
     ensures { result ≡ rank_of code }
 {

@@ -26,6 +26,6 @@ with_name s e = in_scope s.outer (s.inner ++ e ∷ [])
 abbrev pub opened : InScope → InScope
 opened s = in_scope (all_of s) []
 
--- the innermost scope has ended, and of the names around so many stand outside the one that goes on
+-- the innermost scope has ended, and of the names around this many stand outside the one that goes on
 abbrev pub closed : ℕ → InScope → InScope
 closed outside s = in_scope (take outside s.outer) (drop outside s.outer)

@@ -22,7 +22,7 @@ entries_of lines = map entry_of lines
 abbrev pub in_scope_at : ℕ → List Line → InScope
 in_scope_at start lines = in_scope (take start (entries_of lines)) (drop start (entries_of lines))
 
--- what is made of a name behind a declaration at a place
+-- what is made of a name after a declaration at a place
 abbrev pub past_after : ℕ → Option Past → Line → List ℕ → Option Past
 past_after n before l x = cond (bytes_eq l.name.now x) (Some (with_known n before l.known)) before
 

@@ -57,7 +57,7 @@ added n p (known.Function result stated has_body) = with_function n p result sta
 abbrev pub with_known : ℕ → Option Past → Known → Past
 with_known n before k = added n (or_blank before k) k
 
--- at a place or behind
+-- at a place or after
 abbrev pub is_since : ℕ → Option ℕ → Bool
 is_since start None = false
 is_since start (Some place) = nat_le start place
@@ -73,7 +73,7 @@ clashes_since start p (known.Function result stated has_body) =
     is_since start p.object || (is_since start (other_result p.results result) ||
     (is_since start (other_list p.lists (types_stated stated)) || (is_since start p.body && has_body)))
 
--- a declaration clashes with one that stands at this place or behind
+-- a declaration clashes with one that stands at this place or after
 abbrev pub is_clash : ℕ → Option Past → Known → Bool
 is_clash start None k = false
 is_clash start (Some p) k = clashes_since start p k

@@ -87,7 +87,7 @@ fn add_item<'a>(
 }
 
 impl<'a> Functions<'a> {
-    /// In one pass over the items. More functions than a number of 32 bits counts are want of memory.
+    /// In one pass over the items. More functions than a number of 32 bits counts are answered as out of memory.
     pub fn of(alloc: Global, items: &'a [Item]) -> Result<Functions<'a>, OutOfMemory>
         ensures { IfOk result (λ f. f.items.now ≡ items.now) }
     {

@@ -22,7 +22,7 @@ pub struct Lists<'a> {
     pub other: Option<usize>,
 }
 
-/// What all declarations of a name make of it together. With places in place of flags it tells of any
+/// What all declarations of a name make of it together. With places in place of flags it says of any
 /// scope what its own declarations say, so that no scope that begins or ends has to change it.
 #[derive(Clone, Copy)]
 pub struct Past<'a> {
@@ -196,7 +196,7 @@ fn clashes(start: usize, past: Past, known: Known) -> bool
     }
 }
 
-/// Whether one more declaration clashes with one that stands at this place or behind.
+/// Whether one more declaration clashes with one that stands at this place or after.
 pub fn is_clash(start: usize, past: Option<Past>, known: Known) -> bool
     ensures { result ≡ Pasts.is_clash start past.entry known.entry }
 {

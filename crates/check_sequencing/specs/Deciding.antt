@@ -33,7 +33,7 @@ bodies_of source = source.changed.bodies.now
 abbrev pub objects_of : Source → List Object
 objects_of source = source.declared.objects.now
 
--- so many functions have a body
+-- this many functions have a body
 abbrev pub count_of : Source → ℕ
 count_of source = source.declared.bodies
 

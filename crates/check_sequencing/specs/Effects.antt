@@ -132,7 +132,7 @@ unmarked [] = 0
 unmarked (true ∷ marks) = unmarked marks
 unmarked (false ∷ marks) = suc (unmarked marks)
 
--- ---- one operand behind others, effect by effect
+-- ---- one operand after others, effect by effect
 
 module _ (bodies : List (List Effect)) (objects : List Object) where
   -- an effect and a call of the function k, one of which changes what the other touches
@@ -147,7 +147,7 @@ module _ (bodies : List (List Effect)) (objects : List Object) where
   Meets es (does.Changes o) = Touches bodies objects o es
   Meets es (does.Calls k) = CallsOne es ⊎ OneOf (MeetsCall k) es
 
--- ---- operands one behind another
+-- ---- operands one after another
 
 module _ (bodies : List (List Effect)) (objects : List Object) where
   -- one of these operands has no order with those before it, taken together

@@ -61,7 +61,7 @@ fn does_by(marks: &[bool], body: &[Effect], only_changes: bool, object: u32) -> 
         || calls_marked(marks, *effect))
 }
 
-/// Marks a function that does so by the marks so far; tells whether it was added.
+/// Marks a function that does so by the marks so far; says whether it was added.
 fn visit(
     bodies: &[Seq<Effect>],
     marks: &mut [bool],
@@ -86,7 +86,7 @@ fn visit(
     true
 }
 
-/// Visits the functions in their order; tells whether a mark was added.
+/// Visits the functions in their order; says whether a mark was added.
 fn sweep_up(bodies: &[Seq<Effect>], marks: &mut [bool], only_changes: bool, object: u32) -> bool
     requires { length marks.old ≡ length bodies.now }
     ensures length { length marks.new ≡ length marks.old }

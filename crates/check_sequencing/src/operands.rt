@@ -122,7 +122,8 @@ impl<'a> Source<'a> {
         ensures same { IsSameSource self.old self.new }
         ensures told { IfOk result (λ b. Tells b (SomePairBy self.old
             (left_side_by self.old (expr_view target.now) ∷ effects_by self.old (expr_view from.now) ∷ [])
-            ⊎ (ChangedInIndexBy self.old (expr_view target.now) ⊎ ChangedBesideBy self.old (expr_view target.now) (expr_view from.now)))) }
+            ⊎ (ChangedInIndexBy self.old (expr_view target.now)
+            ⊎ ChangedBesideBy self.old (expr_view target.now) (expr_view from.now)))) }
     {
         let unsequenced = self.is_assigned_unordered(target, from)?;
         let in_index = self.is_changed_in_index(target)?;

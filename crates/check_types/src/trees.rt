@@ -1,4 +1,4 @@
-// Expressions, typed part by part. Each part is looked at once, behind its own parts.
+// Expressions, typed part by part. Each part is looked at once, after its own parts.
 ghost use Rattle.std.specs.Prelude.{◌≡◌, IfOk, OnOk};
 ghost use Rattle.c_core.specs.View.{expr_view as typed_view, exprs_view as typed_views};
 ghost use Rattle.c_parser.specs.Tree as raw;

@@ -45,7 +45,7 @@ abbrev pub node_of : t.Exp → t.Node
 node_of (t.Expr p ty n) = n
 
 module _ (m : DataModel) (items : List raw.Item) (objects : List Object) where
-  -- so many functions have a body
+  -- this many functions have a body
   abbrev pub count : ℕ
   count = length (bodies_of items)
 

@@ -25,7 +25,7 @@ module _ (m : DataModel) (items : List raw.Item) (objects : List Object) where
     pub found : Finds test
     pub there : place test ≡ p
 
-  -- one of these parts is unordered, told at this place
+  -- one of these parts is unordered, reported at this place
   pub record OneUnordered (ps : List Part) (p : Spot) : Type 0 where
     pub part : Part
     pub among : Contains ps part

@@ -22,6 +22,7 @@ mod unary;
 
 pub use binary::apply_bits;
 pub use bits::{Bits, Outcome, choose_bits, const_bits, convert_bits};
+pub use gates::{or, pick};
 pub use inputs::input_bits;
 pub use net::{Bit, Net, NetNode, not, value_of_bit};
 pub use unary::one_bits;

@@ -9,7 +9,7 @@ use Rattle.way_match.specs.declared.point.Bound.{Bound}
 use Rattle.way_bind.specs.declared.fault.BindFault.{BindFault}
 use Rattle.way_bind.specs.declared.fault.BindFault.TheVariants.{NoPlace, Expression, Scope, OutOfMemory}
 
--- these segments, unless memory was wanted
+-- these segments, unless memory ran out
 abbrev pub AreSegments : List BoundSegment → Result Bound BindFault → Type 0
 AreSegments ss (Ok bound) = segments_view bound ≡ ss
 AreSegments ss (Err (NoPlace n)) = ⊥
@@ -17,7 +17,7 @@ AreSegments ss (Err (Expression n)) = ⊥
 AreSegments ss (Err (Scope n)) = ⊥
 AreSegments ss (Err OutOfMemory) = Unit {0}
 
--- these invariants at their places, unless memory was wanted
+-- these invariants at their places, unless memory ran out
 abbrev pub ArePlaced : List Placed → Result (List PlacedInvariant) BindFault → Type 0
 ArePlaced xs (Ok ys) = placed_view ys ≡ xs
 ArePlaced xs (Err (NoPlace n)) = ⊥

@@ -18,7 +18,7 @@ ghost use Rattle.wv_author.specs.Sequence.{bounds, loop_count};
 ghost use Rattle.wv_author.specs.Witnesses.{invariants, violation};
 
 /// No waypoint of a demo's violation witness is refused: they are bound to the input that gives n and to the call
-/// behind it.
+/// after it.
 pub fn violations_are_bound()
     ensures { (n : ℕ) (bs text : List ℕ) (answer : Result Bound BindFault) → n < 2 ^ 31 → length bs ≡ loop_count
         → Binds (faulty_typed n bs) (violation n text) answer → AreSegments (demo_segments n (spot 1 12)) answer }

@@ -10,7 +10,7 @@ use Rattle.check_rules.specs.Checked.{program_of}
 use Rattle.check_rules.specs.declared.fault.CheckFault.{CheckFault}
 use Rattle.check_rules.specs.declared.fault.CheckFault.TheVariants.{Refused, OutOfMemory}
 
--- the program of these items, whose only function is `main`, unless memory was wanted
+-- the program of these items, whose only function is `main`, unless memory ran out
 abbrev pub IsProgramOf : DataModel → Property → List Item → Result Program CheckFault → Type 0
 IsProgramOf m property items (Ok p) = (program_view p ≡ program_of m property items) × (names_of p.functions ≡ codes "main" ∷ [])
 IsProgramOf m property items (Err (Refused code spot)) = ⊥

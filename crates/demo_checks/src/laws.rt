@@ -20,7 +20,7 @@ pub fn demos_have_programs()
         (codes "main" ∷ []) }
 {}
 
-/// So no answer of `check` to them is a refusal, and each that isn't want of memory is their program.
+/// So no answer of `check` to them is a refusal, and each that isn't out of memory is their program.
 pub fn demos_are_checked()
     ensures correct { (bs : List ℕ) (answer : Result Program CheckFault) → AreBounds bs
         → Answers Ilp32 UnreachCall (correct_items bs) answer

@@ -10,7 +10,7 @@ use Rattle.demo_laws.specs.Lines.{Piece}
 abbrev pub piece : ℕ → List ℕ → TokenKind → Piece
 piece blanks spelling kind = record { blanks = blanks; spelling = spelling; kind = kind }
 
--- a word, behind so many blanks
+-- a word, after this many blanks
 abbrev pub word : ℕ → List ℕ → Piece
 word blanks w = piece blanks w (Word w)
 
@@ -22,7 +22,7 @@ mark blanks w s = piece blanks w (Sign s)
 abbrev pub number : ℕ → ℕ → Piece
 number blanks v = piece blanks (decimal v) (Number v (not (nat_eq v 0)) false 0)
 
--- a positive number without a suffix, behind a blank
+-- a positive number without a suffix, after a blank
 abbrev pub positive : ℕ → Piece
 positive v = piece 1 (decimal v) (Number v true false 0)
 
@@ -104,7 +104,7 @@ input_pieces n = input_line ∷ head_line (codes "if") (codes "y") (codes "==") 
 abbrev pub opening_pieces : List (List Piece)
 opening_pieces = reach_line ∷ prototype_line ∷ main_line ∷ []
 
--- what stands behind the loops, or behind the input
+-- what stands after the loops, or after the input
 abbrev pub closing_pieces : List (List Piece)
 closing_pieces = return_line ∷ last_line ∷ []
 

@@ -1,4 +1,4 @@
--- A text as lines of pieces, each of so many blanks and a token behind them.
+-- A text as lines of pieces, each of this many blanks and a token after them.
 use Rattle.std.specs.Prelude.{◌≡◌, ℕ, ◌+◌, ◌==◌, Bool, true, not, List, [], ◌∷◌, ◌++◌, length, replicate, Some}
 use Rattle.std.specs.List.{list_all}
 use Rattle.c_core.specs.declared.number.Spot.{Spot}

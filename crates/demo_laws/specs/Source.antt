@@ -24,7 +24,7 @@ abbrev pub looped_at : ℕ → ℕ → ℕ → ℕ → Spot
 looped_at l k b =
     spot_in (line_tokens l 1 (head_line (codes "while") (name k) (codes "<") sign.Less (positive b)) ++ (line_tokens (l + 1) 1 (step_line (name k)) ++ line_tokens (l + 1 + 1) 1 end_line))
 
--- where those of the test behind the loop stand, from this line on
+-- where those of the test after the loop stand, from this line on
 abbrev pub tested_at : ℕ → ℕ → ℕ → ℕ → Spot
 tested_at l k b =
     spot_in (line_tokens l 1 (head_line (codes "if") (name k) (codes "!=") sign.NotEqual (positive b)) ++ (line_tokens (l + 1) 1 error_line ++ line_tokens (l + 1 + 1) 1 end_line))
@@ -39,17 +39,17 @@ abbrev pub loops_tokens : ℕ → ℕ → List ℕ → List Token
 loops_tokens l k [] = []
 loops_tokens l k (b ∷ bs) = loop_tokens l k b ++ loops_tokens (l + 1 + 1 + 1 + 1 + 1 + 1 + 1) (k + 1) bs
 
--- the three statements of the k-th loop, and others behind them
+-- the three statements of the k-th loop, and others after them
 abbrev pub loop_statements : ℕ → ℕ → ℕ → List Stm → List Stm
 loop_statements l k b ss =
     declaration_statement (name k) (declared_at l k) ∷ while_statement (name k) b (looped_at (l + 1) k b) ∷ test_statement (name k) b (tested_at (l + 1 + 1 + 1 + 1) k b) ∷ ss
 
--- the statements of loops, and others behind them
+-- the statements of loops, and others after them
 abbrev pub loops_statements : ℕ → ℕ → List ℕ → List Stm → List Stm
 loops_statements l k [] ss = ss
 loops_statements l k (b ∷ bs) ss = loop_statements l k b (loops_statements (l + 1 + 1 + 1 + 1 + 1 + 1 + 1) (k + 1) bs ss)
 
--- the line behind loops
+-- the line after loops
 abbrev pub line_behind : ℕ → List ℕ → ℕ
 line_behind l [] = l
 line_behind l (b ∷ bs) = line_behind (l + 1 + 1 + 1 + 1 + 1 + 1 + 1) bs
@@ -79,7 +79,7 @@ prototype_at = spot_in (line_tokens 2 1 prototype_line)
 abbrev pub main_at : ℕ → Spot
 main_at = spot_in (line_tokens 3 1 main_line)
 
--- what stands behind the loops: the end alone
+-- what stands after the loops: the end alone
 abbrev pub correct_end : ℕ → List Token
 correct_end l = end_tokens (ended_at l)
 
@@ -95,7 +95,7 @@ correct_last l = return_statement (ended_at l) ∷ []
 abbrev pub faulty_last : ℕ → ℕ → List Stm
 faulty_last l n = input_statement (drawn_at l) ∷ chosen_statement n (not (nat_eq n 0)) (chosen_at (l + 1) n) ∷ return_statement (ended_at (l + 1 + 1 + 1 + 1)) ∷ []
 
--- the tokens of a program whose loops have these bounds, with what stands behind them
+-- the tokens of a program whose loops have these bounds, with what stands after them
 abbrev pub program_tokens : List ℕ → List Token → List Token
 program_tokens bs end = reach_tokens reached_at ++ (prototype_tokens prototype_at ++ (main_tokens main_at ++ (loops_tokens 4 1 bs ++ end)))
 

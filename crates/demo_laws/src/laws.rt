@@ -34,7 +34,7 @@ pub fn demos_are_sources()
     ensures faulty { (n : ℕ) (bs : List ℕ) → IsSource (tokens_from 1 (faulty_pieces n bs)) (faulty_items n bs) }
 {}
 
-/// So no answer to these tokens is a refusal, and each that isn't want of memory has these items.
+/// So no answer to these tokens is a refusal, and each that isn't out of memory has these items.
 pub fn demos_are_parsed()
     ensures correct { (bs : List ℕ) (answer : Result Source ParseFault)
         → Answers (tokens_from 1 (correct_pieces bs)) answer → IsFound answer (correct_items bs) }

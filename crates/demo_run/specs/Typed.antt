@@ -71,7 +71,7 @@ end at = Stmt (at 0) (Return (Some (constant 0 (at 1))))
 
 -- ---- the program
 
--- the statements of loops with these bounds, the first of which stands on this line, is the k-th and counts in object o; and others behind them
+-- the statements of loops with these bounds, the first of which stands on this line, is the k-th and counts in object o; and others after them
 abbrev pub loops : ℕ → ℕ → ℕ → List ℕ → Stms → Stms
 loops l k o [] rest = rest
 loops l k o (b ∷ bs) rest =

@@ -24,7 +24,8 @@ pub fn demos_are_typed()
 /// violation witness.
 pub fn demos_violate()
     ensures { (n steps : ℕ) (at : Spot) → n ≤ 999999 → 100000 ≤ steps →
-        IsGivenViolation (program_of Ilp32 UnreachCall (faulty_items n (bounds n loop_count))) (demo_segments n at) steps }
+        IsGivenViolation (program_of Ilp32 UnreachCall (faulty_items n (bounds n loop_count)))
+        (demo_segments n at) steps }
 {}
 
 /// So each right verdict on it confirms the violation, by the number as the one drawn value.

@@ -18,7 +18,7 @@ ConfirmsDemo n (Judged verdict) = Confirms n verdict
 ConfirmsDemo n (Refused code detail) = ⊥
 ConfirmsDemo n (ReadFault file) = ⊥
 
--- both replies of a demo are verdicts, and with so many steps the one to the faulty program confirms
+-- both replies of a demo are verdicts, and with this many steps the one to the faulty program confirms
 pub record IsConfirmed (number : ℕ) (budgets : Budgets) (demo : Demonstration) : Type 0 where
   pub correct : IsVerdict demo.correct
   pub faulty : IsVerdict demo.faulty

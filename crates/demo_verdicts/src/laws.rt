@@ -58,7 +58,7 @@ pub fn faulty_demos_are_confirmed()
     demos_are_confirmed();
 }
 
-/// So what the mode `demo` tells of a number is two verdicts: no refusal applies to its programs and witnesses, and
+/// So what the mode `demo` prints of a number is two verdicts: no refusal applies to its programs and witnesses, and
 /// with 100,000 steps or more the second confirms the violation.
 pub fn demonstrations_are_confirmed()
     ensures { (n : ℕ) (budgets : Budgets) (demo : Demonstration) → n ≤ 999999 → IsDemonstration n budgets demo

@@ -1,4 +1,4 @@
-//! What the laws on a demo's programs come to: no stage of the validator refuses them, and the reply to the faulty one
+//! What follows from the laws on demos: no stage of the validator refuses them, and the reply to the faulty one
 //! confirms its violation.
 #![tactic(auto)]
 

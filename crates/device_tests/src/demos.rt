@@ -4,7 +4,7 @@ use std::test::Fail;
 use wv_author::demo;
 use wv_schema::Witness;
 
-/// The text has this line behind so many others.
+/// The text has this line after this many others.
 fn has_line(rt: &impl Abort, text: &str, before: usize, wanted: &str) {
     let line = text.lines().nth(before);
     assert!(rt; line == Some(wanted), "behind {before} lines");

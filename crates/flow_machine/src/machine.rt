@@ -23,6 +23,8 @@ use std::marker::Model;
 use wv_base::{OutOfMemory, Seq};
 
 /// A run of a program as code.
+///
+/// Example: `stepped` in `crates/flow_tests/src/runs.rt`.
 #[derive(Drop)]
 pub struct Machine<'a> {
     code: &'a Operations,

@@ -197,7 +197,7 @@ abbrev pub text_of_items : List Item → List ℕ
 text_of_items [] = []
 text_of_items (x ∷ xs) = text_of_item x ++ (codes "|" ++ text_of_items xs)
 
--- with at most so many brackets open and this height: an expression that is the whole text, or nothing
+-- with at most this many brackets open and this height: an expression that is the whole text, or nothing
 abbrev pub whole_of : Read Exp → List ℕ
 whole_of None = codes "none"
 whole_of (Some (e, [])) = text_of e

@@ -80,7 +80,7 @@ module _ (p : Program) (I : List Placed) where
       bind (operate p havocked at spot (op_of_step op) a (read k s.cells) Int (pos 1) s) (λ y.
       λ s1. bind (store p havocked k (type_for p.model (op_of_step op) a Int) a y s1) (λ z. λ s2. Go (cond (is_prefix op) z (read k s.cells)) s2))
 
-  -- calls at most so many deep
+  -- calls at most this many deep
   abbrev pub calls : ℕ → Calls havocked
   calls n site g vs = call_of p havocked (run_in p havocked n) site (slice_get p.functions g) vs
 
@@ -169,7 +169,7 @@ module _ (p : Program) (I : List Placed) where
   abbrev pub introduced : ℕ → Spot → Spot → ℕ → Init → Left → Res Stopped Left (Unit {0})
   introduced n at spot o i s = initialised n at spot o i (with_cells_left (s.cells ++ cells_from o 0 (size_of_object p o) []) s)
 
-  -- a function's body, with calls at most so many deep
+  -- a function's body, with calls at most this many deep
   abbrev pub in_function : ℕ → Function → Left → Res Stopped Left acts.Flow
   in_function n f s = run_in p havocked n f s
 

@@ -23,7 +23,7 @@ pub enum Ending {
     Fails(Duty),
 }
 
-/// Why a part of a havoc run gives no value: the run ends there, or memory is wanting.
+/// Why a part of a havoc run gives no value: the run ends there, or memory runs out.
 #[derive(Clone, Copy, Debug, PartialEq, Eq)]
 pub enum Halt {
     Ends(Ending),

@@ -9,7 +9,7 @@ use Rattle.c_meaning.specs.declared.verdict.Reason.TheVariants.{Ended, Undefined
 use Rattle.c_meaning.specs.declared.verdict.Cause.TheVariants.{Steps, Cells}
 use Rattle.way_match.specs.Verdicts.{verdict_at}
 
--- with a budget of so many steps and the positions found
+-- with a budget of this many steps and the positions found
 abbrev pub verdict_at_end : ℕ → GivenRun → Option (List ℕ) → End → Verdict
 verdict_at_end steps r found (end.Violated spot) = verdict_at r found
 verdict_at_end steps r found end.Ended = ViolationNot Ended r.unfixed

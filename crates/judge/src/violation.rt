@@ -12,6 +12,8 @@ use way_match::{Bound, Matcher, given};
 use wv_base::{OutOfMemory, Seq};
 
 /// The verdict on the run of a program that draws the values of a violation sequence, with a budget of steps.
+///
+/// Example: `judge_sequence` in `crates/witval/src/sequence.rt`.
 pub fn judge_violation(
     alloc: Global,
     program: &Program,

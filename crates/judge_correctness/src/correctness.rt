@@ -18,6 +18,8 @@ use wv_base::Seq;
 
 /// Decides the obligations of a program with invariants, each with a budget of conflicts. No verdict is given where
 /// main reaches a cycle of calls, or where the obligations are too big.
+///
+/// Example: `judge_sets` in `crates/witval/src/sets.rt`.
 pub fn judge_correctness(
     alloc: Global,
     program: &Program,

@@ -7,7 +7,7 @@ use Rattle.c_meaning.specs.declared.verdict.Cause.TheVariants.{Conflicts}
 use Rattle.clauses.specs.declared.log.SpentAt.{SpentAt}
 use Rattle.judge_obligations.specs.declared.judging.Judged.{Judged}
 
--- the obligation at an index is told with these draws
+-- the obligation at an index is reported with these draws
 pub record IsShown (list : List Duty) (at : ℕ) (draws : List Draw) (judged : Judged) : Type 0 where
   pub duty : Duty
   pub named : slice_get list at ≡ Some duty

@@ -29,7 +29,7 @@ pub record IsSpentOn (N : ℕ) (net : List NetNode) (b : Bit) (s : SpentAt) : Ty
   pub log : IsSpent s.clauses.variables s.clauses.clauses s.log.chains N
   pub bounded : N ≤ 2 ^ (count_inputs net + 1) - 2
 
--- a log of at most so many chains, none of which resolves on a variable twice
+-- a log of at most this many chains, none of which resolves on a variable twice
 pub record IsShort (budget : ℕ) (log : Refutation) : Type 0 where
   pub few : length log.chains ≤ budget
   pub once : AreAllOnce log.chains

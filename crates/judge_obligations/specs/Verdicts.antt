@@ -23,7 +23,7 @@ use Rattle.sym_weight.specs.Weight.{Weight, Bits}
 abbrev pub HoldUpTo : Program → List Placed → ℕ → Type 0
 HoldUpTo p I n = (i : ℕ) → 0 < i → i ≤ n → ObligationHolds p I i
 
--- all obligations hold, and so many they are
+-- all obligations hold, and this is how many they are
 pub record AllHold (p : Program) (I : List Placed) (count : ℕ) : Type 0 where
   pub counted : count ≡ length (Duties p I)
   pub hold : HoldUpTo p I count

@@ -72,7 +72,7 @@ fn undecided(at: usize, conflicts: u64, spent: SpentAt) -> Judged
     }
 }
 
-// One obligation: it holds, by its log; or the verdict that it gives, where those before it hold.
+/// One obligation: it holds, by its log; or the verdict that it gives, where those before it hold.
 #[derive(Drop)]
 pub enum Settled {
     Holds(Refutation),

@@ -111,14 +111,14 @@ pub record ExampleRuns : Type 0 where
         At (at 11 3) ∷ Branch (at 11 3) (Truth true) ∷ At (at 11 15) ∷ At (at 12 5) ∷ Enter (at 12 17) ∷ Fail (at 12 5) (at 12 5) (Some (at 12 5)) ∷
         []),
   )
-  -- the error behind a loop of three turns
+  -- the error after a loop of three turns
   pub error_after_three_turns : Outcome count_to_three (InTurn []) 200 ≡ (
     ended (Violated (at 8 3)) 46 [] 0,
     (At (at 3 3) ∷ At (at 4 3) ∷ Branch (at 4 3) (Truth true) ∷ At (at 4 17) ∷ At (at 5 5) ∷ At (at 6 5) ∷
         Branch (at 4 3) (Truth true) ∷ At (at 4 17) ∷ At (at 5 5) ∷ At (at 6 5) ∷ Branch (at 4 3) (Truth true) ∷ At (at 4 17) ∷ At (at 5 5) ∷ At (at 6 5) ∷
         Branch (at 4 3) (Truth false) ∷ At (at 8 3) ∷ Enter (at 8 15) ∷ Fail (at 8 3) (at 8 3) (Some (at 8 3)) ∷ []),
   )
-  -- the error behind a recursion of four calls
+  -- the error after a recursion of four calls
   pub error_after_recursion : Outcome recurse (InTurn []) 200 ≡ (
     ended (Violated (at 5 3)) 48 [] 0,
     (At (at 4 3) ∷ Enter (at 4 6) ∷ At (at 2 16) ∷ Branch (at 2 16) (Truth false) ∷ At (at 2 42) ∷

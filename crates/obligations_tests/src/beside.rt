@@ -10,7 +10,7 @@ use std::alloc::Global;
 use std::test::Fail;
 use wv_base::{OutOfMemory, Seq};
 
-// So many inputs are tried of each program under each property.
+// This many inputs are tried of each program under each property.
 const INPUTS: u64 = 100;
 
 fn values_of(alloc: Global, draws: &[Draw]) -> Result<Seq<i128>, OutOfMemory> {
@@ -42,7 +42,7 @@ fn is_alike(alloc: Global, judged: &Judged, number: u64) -> Result<bool, OutOfMe
     Ok(by_net.failed == by_run.failed && by_net.draws.as_slice() == by_run.draws.as_slice())
 }
 
-// Under so many inputs net and run differ.
+// Under this many inputs net and run differ.
 fn count_differing(alloc: Global, judged: &Judged) -> Result<u64, OutOfMemory> {
     let mut count: u64 = 0;
     for number in 0..INPUTS {
@@ -53,7 +53,7 @@ fn count_differing(alloc: Global, judged: &Judged) -> Result<u64, OutOfMemory> {
     Ok(count)
 }
 
-// Under so many inputs the net of a program and its run differ, under unreach-call in LP64 and no-overflow in ILP32.
+// Under this many inputs the net of a program and its run differ, under unreach-call in LP64 and no-overflow in ILP32.
 fn differing(alloc: Global, case: &Case) -> Result<u64, Fail> {
     let calls = evaluate(
         alloc,

@@ -2,6 +2,7 @@
 use crate::cases::Case;
 use wv_schema::InvariantKind::Location;
 
+/// The programs, each with its claims.
 pub const CASES: [Case; 4] = [
     Case {
         name: "choices",

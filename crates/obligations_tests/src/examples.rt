@@ -1,4 +1,4 @@
-// What is told of example programs under values that were chosen by hand.
+// What is known of example programs under values that were chosen by hand.
 use crate::cases::{Claim, evaluate};
 use crate::inputs::input_of;
 use crate::told::{Told, told_by_net};
@@ -9,7 +9,7 @@ use std::test::Fail;
 use wv_base::OutOfMemory;
 use wv_schema::InvariantKind::Loop;
 
-// `count_up_down-1` of the competition's loops.
+/// `count_up_down-1` of the competition's loops.
 pub const COUNT_UP_DOWN: &str = "\
 extern void abort(void);
 extern void __assert_fail(const char *, const char *, unsigned int, const char *) __attribute__ ((__nothrow__ , __leaf__)) __attribute__ ((__noreturn__));
@@ -36,6 +36,7 @@ int main()
 }
 ";
 
+/// A loop that counts in a function that it calls.
 pub const COUNT_CALLS: &str = "\
 void reach_error() { }
 int g;
@@ -97,8 +98,8 @@ int main() {
 }
 ";
 
-// A program with claims and a property, how many values a run draws at most and the values of some runs; and what is
-// told: the obligations, and of each run the number of the one that fails, or 0, and what it draws where.
+// A program with claims and a property, how many values a run draws at most and the values of some runs; then what is
+// known: the obligations, and of each run the number of the one that fails, or 0, and what it draws where.
 type Example = (
     &'static str,
     &'static [Claim],

@@ -3,7 +3,7 @@ use std::alloc::Global;
 use sym_state::DrawSite;
 use wv_base::OutOfMemory;
 
-// The state behind one of a generator (Marsaglia, Xorshift RNGs, 2003).
+// The state after one of a generator (Marsaglia, Xorshift RNGs, 2003).
 fn next(state: u64) -> u64 {
     let a = state ^ (state << 13);
     let b = a ^ (a >> 7);

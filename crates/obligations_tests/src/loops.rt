@@ -3,6 +3,7 @@ use crate::cases::Case;
 use crate::examples::{COUNT_CALLS, COUNT_UP_DOWN};
 use wv_schema::InvariantKind::{Location, Loop};
 
+/// The programs, each with its claims.
 pub const CASES: [Case; 6] = [
     Case {
         name: "nested loops",

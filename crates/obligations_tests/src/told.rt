@@ -53,6 +53,7 @@ fn draws(
     Ok(draws)
 }
 
+/// What the net says of the run that these inputs stand for.
 pub fn told_by_net(alloc: Global, judged: &Judged, inputs: &[bool]) -> Result<Told, OutOfMemory> {
     let all = &judged.all;
     let values = all.net.values(alloc, inputs)?;

@@ -4,6 +4,7 @@
 #![tactic(auto)]
 
 mod fields;
+mod fixes;
 mod members;
 mod places;
 mod results;

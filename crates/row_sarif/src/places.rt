@@ -68,7 +68,7 @@ fn is_paired(text: &str, sign: char) -> bool {
 }
 
 /// Whether the end of a region isn't before its start.
-fn is_ordered(region: &Value) -> bool {
+pub fn is_ordered(region: &Value) -> bool {
     let line = number_in(region.get("startLine"));
     let column = number_in(region.get("startColumn"));
     let (Some(line), Some(column)) = (line, column) else {
@@ -87,9 +87,8 @@ fn is_from(number: Option<u64>, least: u64) -> bool {
     }
 }
 
-/// What a physical location lacks: it has to name its artifact, and a region here has its first and last line and
-/// column.
-fn physical_lacks(place: &Value) -> Option<&'static str> {
+/// What the name of an artifact lacks.
+pub fn artifact_lacks(place: &Value) -> Option<&'static str> {
     let uri = place.pointer("/artifactLocation/uri");
     if !is_text(uri) {
         return Some("artifactLocation.uri");
@@ -97,6 +96,15 @@ fn physical_lacks(place: &Value) -> Option<&'static str> {
     let uri = text_in(uri);
     if !is_path(uri) || !is_escaped(uri.as_bytes()) {
         return Some("a reference to a file");
+    }
+    None
+}
+
+/// What a physical location lacks: it has to name its artifact, and a region here has its first and last line and
+/// column.
+fn physical_lacks(place: &Value) -> Option<&'static str> {
+    if let Some(member) = artifact_lacks(place) {
+        return Some(member);
     }
     match place.get("region") {
         Some(region) if !is_ordered(region) => Some("an ordered region"),

@@ -1,5 +1,6 @@
 // Results, with their code flows.
 use crate::fields::{is_index_if, is_text, is_word_if, items_of, number_in, text_in};
+use crate::fixes::fixes_lack;
 use crate::places::{is_message, location_lacks, locations_lack};
 use serde_json::Value;
 
@@ -113,6 +114,9 @@ fn result_lacks(found: &Value, rules: &[Value]) -> Option<&'static str> {
         return Some(member);
     }
     if let Some(member) = locations_lack(found.get("relatedLocations"), true) {
+        return Some(member);
+    }
+    if let Some(member) = fixes_lack(found.get("fixes")) {
         return Some(member);
     }
     flows_lack(items_of(found.get("codeFlows")))

@@ -1,4 +1,4 @@
-// Rows of waypoints: segments over a program, and behind them the point of the first follow, the waypoint that isn't
+// Rows of waypoints: segments over a program, and after them the point of the first follow, the waypoint that isn't
 // bound, or the values that the follows give to the input calls.
 use crate::check::checked_program;
 use crate::few::bind;
@@ -49,7 +49,7 @@ fn fault(alloc: Global, fault: BindFault) -> Result<String, AllocError> {
     }
 }
 
-/// What is told of a row's segments.
+/// What is said of a row's segments.
 pub fn told(files: &Files<'_>, row: &Row) -> Result<String, NotTried> {
     let alloc = files.alloc();
     let program = checked_program(files, row)?;

@@ -1,4 +1,4 @@
-// Rows of the checker: a source, and behind it the code and the place of its first refusal, or `program`.
+// Rows of the checker: a source, and after it the code and the place of its first refusal, or `program`.
 use crate::sources::{parsed, refused};
 use c_check::{CheckCode, CheckFault, check};
 use c_core::{DataModel, Program, Property};
@@ -50,7 +50,7 @@ fn in_models(alloc: Global, source: &Source, models: &str) -> Result<String, Not
     }
 }
 
-/// What is told of a row's source.
+/// What is said of a row's source.
 pub fn told(files: &Files<'_>, row: &Row) -> Result<String, NotTried> {
     let alloc = files.alloc();
     let models = row.wanted_text("model")?;

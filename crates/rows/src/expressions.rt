@@ -1,4 +1,4 @@
-// Rows of expressions: of a source, of a witness, and constraints on results, and behind them what they are in Lisp's
+// Rows of expressions: of a source, of a witness, and constraints on results, and after them what they are in Lisp's
 // form.
 use crate::sources::parsed;
 use c_core::IntType;

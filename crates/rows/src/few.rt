@@ -8,7 +8,7 @@ use way_bind::{BindFault, bind_violation};
 use way_match::Bound;
 use wv_schema::{Content, Segment, Witness};
 
-/// So many waypoints can be numbered.
+/// This many waypoints can be numbered.
 const MOST_WAYPOINTS: usize = 1073741823;
 
 fn are_few(segments: &[Segment]) -> bool
@@ -37,7 +37,7 @@ fn segments_of(witness: &Witness) -> &[Segment]
     }
 }
 
-/// What is bound; too many waypoints are answered as want of memory.
+/// What is bound; too many waypoints are answered as out of memory.
 pub fn bind(alloc: Global, witness: &Witness, program: &Program) -> Result<Bound, BindFault> {
     if !are_few(segments_of(witness)) {
         return Err(BindFault::OutOfMemory);

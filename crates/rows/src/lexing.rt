@@ -1,4 +1,4 @@
-// Rows of tokens: a source, and behind it its tokens, or the place where it has none.
+// Rows of tokens: a source, and after it its tokens, or the place where it has none.
 use c_tokens::{Token, TokenFault, TokenKind, plain_tokens, tokens};
 use row_files::{Files, NotTried, Row, program};
 use std::alloc::{AllocError, Global};

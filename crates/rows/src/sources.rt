@@ -1,4 +1,4 @@
-// Rows of the grammar: a source, and behind it its items as text, with parentheses round each operation and brackets
+// Rows of the grammar: a source, and after it its items as text, with parentheses round each operation and brackets
 // round each statement that is a part; or the place where it fits no form.
 use c_core::{BinOp, IntType, StepOp, UnOp};
 use c_parser::{
@@ -252,7 +252,7 @@ fn show_first(text: &mut String, first: &RawFirst) -> Result<(), AllocError> {
     }
 }
 
-/// A word and the test behind it.
+/// A word and the test after it.
 fn show_tested(text: &mut String, word: &str, test: &RawExpr) -> Result<(), AllocError> {
     text.push_str(word)?;
     text.push_str(" ")?;
@@ -457,6 +457,7 @@ pub fn parsed(alloc: Global, text: &[u8]) -> Option<Result<Source, ParseFault>> 
     Some(parse(alloc, &found))
 }
 
+/// The text of a refusal by the grammar.
 pub fn refused(alloc: Global, fault: ParseFault) -> Result<String, AllocError> {
     match fault {
         ParseFault::Syntax { line, column } => format!(in alloc; "syntax {line}:{column}"),

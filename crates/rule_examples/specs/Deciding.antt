@@ -32,7 +32,7 @@ module _ (m : DataModel) (items : List raw.Item) (bodies : List (List Part)) (ob
   abbrev pub numbers : List ℕ
   numbers = range_with_len 0 (length bodies)
 
-  -- calls in these parts lead to k by so many further calls at most
+  -- calls in these parts lead to k by this many further calls at most
   abbrev pub leads : ℕ → List Part → ℕ → Bool
   leads zero ps k = list_any (calls_function m items k) ps
   leads (suc n) ps k = leads n ps k || list_any (λ j. leads n ps j && list_any (calls_function m items k) (body_at bodies j)) numbers

@@ -3,8 +3,7 @@ use crate::command_lines::{shelf, words};
 use row_files::{Files, NotTried, Row};
 use std::alloc::Global;
 use view_inputs::{Asked, read_words};
-use view_judging::{Progress, Stop, judge_lines};
-use wv_arguments::Budgets;
+use view_judging::{Judging, Progress, Stop, judge_lines};
 use wv_base::MemorySink;
 
 /// Nobody is told.
@@ -22,12 +21,12 @@ fn status_of(judged: Result<u8, Stop>) -> u8 {
     }
 }
 
-fn listed(files: &Files<'_>, row: &Row, budgets: Budgets) -> Result<String, NotTried> {
+fn listed(files: &Files<'_>, row: &Row, judging: Judging) -> Result<String, NotTried> {
     let alloc = files.alloc();
-    let mut shelf = shelf(files, row)?;
+    let shelf = shelf(files, row)?;
     let mut out = MemorySink::new(alloc, 65536, 4096)?;
     let list = row.wanted_text("text")?;
-    let judged = judge_lines(alloc, list, budgets, &mut shelf, &mut out, &mut Quiet);
+    let judged = judge_lines(alloc, list, judging, shelf, &mut out, &mut Quiet);
     let status = status_of(judged);
     let lines = String::from_utf8_lossy(alloc, out.bytes())?;
     Ok(format!(in alloc; "{status} {lines}")?)
@@ -38,7 +37,10 @@ pub fn told(files: &Files<'_>, row: &Row) -> Result<String, NotTried> {
     let alloc: Global = files.alloc();
     let words = words(alloc, row.wanted_text("words")?)?;
     match read_words(alloc, words.as_slice())? {
-        Asked::List { budgets, .. } => listed(files, row, budgets),
+        Asked::List { budgets, form, .. } => {
+            let judging = Judging { budgets, form };
+            listed(files, row, judging)
+        }
         _ => Err(NotTried::Lacks("the words for a list")),
     }
 }

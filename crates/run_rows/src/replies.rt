@@ -8,7 +8,13 @@ use wv_base::{MemorySink, OutOfMemory};
 
 /// Whether a word of the viewer's is one of the validator's too.
 fn is_shared(word: &str) -> bool {
-    word != "validate" && word != "--sarif" && word != "--html" && word != "--json"
+    let is_form = matches!(word, "--sarif" | "--html" | "--json" | "--counts");
+    !is_form && word != "validate"
+}
+
+/// Whether a word is an option of the viewer's alone, after which its value stands.
+fn has_own_value(word: &str) -> bool {
+    word == "--width" || word == "--colour"
 }
 
 /// The mode of the validator that the viewer's words are for.
@@ -26,8 +32,11 @@ fn validator_words(alloc: Global, line: &str) -> Result<Vec<String>, OutOfMemory
     let mut words = Vec::new(alloc);
     words.push(String::from_str(alloc, "witval")?)?;
     words.push(String::from_str(alloc, mode_of(line))?)?;
+    let mut is_value = false;
     for word in line.split(' ').skip(1) {
-        if is_shared(word) {
+        let is_own = is_value || has_own_value(word);
+        is_value = !is_value && has_own_value(word);
+        if !is_own && is_shared(word) {
             words.push(String::from_str(alloc, word)?)?;
         }
     }

@@ -30,9 +30,10 @@ fn given_out(
     names: &Names<'_>,
     certificate: &str,
     part: Part,
+    form: Form,
 ) -> Result<String, NotTried> {
     let alloc = files.alloc();
-    let handed = hand_out(alloc, names, certificate, part, shelf(files, row)?)?;
+    let handed = hand_out(alloc, names, certificate, part, form, shelf(files, row)?)?;
     let status = handed.output.status;
     let text = String::from_utf8_lossy(alloc, handed.output.bytes.as_slice())?;
     let told = handed.told.as_str();
@@ -78,7 +79,7 @@ fn judged(
     match form {
         Form::Text => Ok(text),
         Form::Sarif => Ok(log),
-        Form::Html | Form::Json => shown_as(files, row, asked, form),
+        Form::Html | Form::Json | Form::Screen(_) => shown_as(files, row, asked, form),
     }
 }
 
@@ -123,7 +124,8 @@ pub fn told(files: &Files<'_>, row: &Row) -> Result<String, NotTried> {
             names,
             certificate,
             part,
-        } => given_out(files, row, &names, certificate, part),
+            form,
+        } => given_out(files, row, &names, certificate, part, form),
         Asked::Help(text) => Ok(format!(in alloc; "0 {text}")?),
         Asked::Misuse(text) => Ok(misused(alloc, text.as_str())?),
         Asked::List { .. } => Err(NotTried::Lacks("files, or it is a list")),

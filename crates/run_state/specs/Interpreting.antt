@@ -111,7 +111,7 @@ abbrev pub gave_as : DataModel → Option IntType → ℤ → acts.Flow
 gave_as m None v = acts.Gave (Some v)
 gave_as m (Some ty) v = acts.Gave (Some (fit m ty v))
 
--- the statement behind `else`, if any
+-- the statement after `else`, if any
 abbrev pub else_part : Option (Box Stmt Global) → t.Else
 else_part None = t.NoElse
 else_part (Some b) = t.OrElse (stmt_view b.value)
@@ -162,7 +162,7 @@ module _ (p : Program) (S : Type 0) (after : Event → List Cell → S → S) wh
   abbrev pub telling : Event → State S → Ran S (Unit {0})
   telling e s = w.wanting p S (seen_by after) (run.tell p S (seen_by after) e) s
 
-  -- room for so many cells more
+  -- room for this many cells more
   abbrev pub roomed : ℕ → State S → Ran S (Unit {0})
   roomed n s = watched.room n s
 
@@ -200,14 +200,14 @@ module _ (p : Program) (S : Type 0) (after : Event → List Cell → S → S) wh
       bound (operate p watched at spot (op_of_step op) a (read k s.cells) Int (pos 1) s) (λ y.
       λ s1. bound (store p watched k (type_for p.model (op_of_step op) a Int) a y s1) (λ z. λ s2. done (cond (is_prefix op) z (read k s.cells)) s2))
 
-  -- a value that comes back from a call, told so
+  -- a value that comes back from a call, reported as such
   abbrev pub handed_back : Spot → ℤ → State S → Ran S ℤ
   handed_back close v s = bound (telling (Return close (Some v)) s) (λ _ u. done v u)
 
   abbrev pub input_of : Site → IntType → State S → Ran S ℤ
   input_of site ty s = bound (drawing Input site.spot ty s) (handed_back site.close)
 
-  -- calls at most so many deep
+  -- calls at most this many deep
   abbrev pub calls : ℕ → Calls watched
   calls n site g vs = call_of p watched (run_in p watched n) site (slice_get p.functions g) vs
 
@@ -220,7 +220,7 @@ module _ (p : Program) (S : Type 0) (after : Event → List Cell → S → S) wh
   abbrev pub arrived : Spot → State S → Ran S (Unit {0})
   arrived spot s = watched.here spot s
 
-  -- is a value not 0, told as a branching
+  -- is a value not 0, reported as a branching
   abbrev pub branching : Spot → ℤ → State S → Ran S Bool
   branching spot v s = bound (telling (Branch spot (Truth (not (is_zero v)))) s) (λ _ u. done (not (is_zero v)) u)
 
@@ -231,7 +231,7 @@ module _ (p : Program) (S : Type 0) (after : Event → List Cell → S → S) wh
   abbrev pub fulled : ℕ → Spot → Use → Exp → State S → Ran S ℤ
   fulled n at want e s = full p watched (calls n) at want e s
 
-  -- a test, told as a branching
+  -- a test, reported as a branching
   abbrev pub decided : ℕ → Spot → Exp → State S → Ran S Bool
   decided n at e s = bound (fulled n at Used e s) (branching at)
 
@@ -296,7 +296,7 @@ module _ (p : Program) (S : Type 0) (after : Event → List Cell → S → S) wh
       bound (ticks p watched ACell (size_of_object p o) s) (λ _ u. bound (roomed (size_of_object p o) u) (λ _ v.
       bound (watched.declare o (size_of_object p o) v) (λ _. initialised n at spot o i)))
 
-  -- a function's body, with calls at most so many deep
+  -- a function's body, with calls at most this many deep
   abbrev pub in_function : ℕ → Function → State S → Ran S acts.Flow
   in_function n f s = run_in p watched n f s
 
@@ -368,7 +368,7 @@ module _ (p : Program) (S : Type 0) (after : Event → List Cell → S → S) wh
   turning n result at None s = done acts.Broken s
   turning n result at (Some l) s = turn p watched (calls n) result at l s
 
-  -- at most so many turns
+  -- at most this many turns
   abbrev pub rounds : ℕ → ℕ → Option IntType → Spot → Option Loop → State S → Ran S acts.Flow
   rounds zero n result at l s = record { result = Stop Spent s; way = [] }
   rounds (suc k) n result at l s = bound (turning n result at l s) (w.turned p S (seen_by after) (rounds k n result at l))

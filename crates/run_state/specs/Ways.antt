@@ -49,11 +49,11 @@ module _ (p : Program) (S : Type 0) (see : Moment → S → S) where
   abbrev pub either : {A : Type 0} → Bool → Act A → Act A → Act A
   either t a b s = cond t a b s
 
-  -- a truth value is told, then that way
+  -- a truth value is reported, then that way
   abbrev pub branched : {A : Type 0} → Spot → Bool → Act A → Act A → Act A
   branched spot t a b s = bound (wanting (run.tell p S see (Branch spot (Truth t))) s) (λ _. either t a b)
 
-  -- after a statement: the statements behind it, where it came to its end
+  -- after a statement: the statements after it, where it came to its end
   abbrev pub go_on : Act Flow → Flow → Act Flow
   go_on k Next = k
   go_on k Broken = quiet (λ s. Go Broken s)
@@ -67,7 +67,7 @@ module _ (p : Program) (S : Type 0) (see : Moment → S → S) where
   turned k Again = quiet (λ s. Go Again s)
   turned k (Gave v) = quiet (λ s. Go (Gave v) s)
 
-  -- the cells that a part brought are gone behind it
+  -- the cells that a part brought are gone after it
   abbrev pub scoped : {A : Type 0} → Act A → Act A
   scoped m s = record { result = acts.scoped End (State S) cells_of with_cells (λ t. (m t).result) s; way = (m s).way }
 

@@ -35,7 +35,7 @@ pub fn input<W: Watcher>(
     hand_back(program, machine, watcher, site.close, value)
 }
 
-// A value that comes back from a call, told so.
+// A value that comes back from a call, reported as such.
 fn hand_back<W: Watcher>(
     program: &Program,
     machine: &Machine,

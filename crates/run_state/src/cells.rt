@@ -13,7 +13,7 @@ use c_core::{Program, Spot};
 use c_meaning::{DrawKind, End, Memory, Watcher, size_of_object, type_of_object};
 use wv_base::OutOfMemory;
 
-/// Takes so many steps, or all that are left.
+/// Takes this many steps, or all that are left.
 pub fn ticks<W: Watcher>(machine: &mut Machine, count: u64) -> Result<(), Halt>
     ensures gives { (p : Tree) (tick : Tick) (x : W.Seen)
         → Gives same result (state_of machine.new x)
@@ -29,7 +29,7 @@ pub fn ticks<W: Watcher>(machine: &mut Machine, count: u64) -> Result<(), Halt>
     }
 }
 
-/// Appends so many cells of an object, which hold 0.
+/// Appends this many cells of an object, which hold 0.
 pub fn add_cells(memory: &mut Memory, object: u32, count: u32) -> Result<(), Halt>
     ensures cells { OnOk result (memory.new.cells ≡ memory.old.cells ++ cells_from object 0 count []) }
     ensures refused { IsOkUnless result Halt.NoMemory }
@@ -40,7 +40,7 @@ pub fn add_cells(memory: &mut Memory, object: u32, count: u32) -> Result<(), Hal
     Ok(())
 }
 
-/// Appends so many cells of an object, which hold these values and then 0.
+/// Appends this many cells of an object, which hold these values and then 0.
 pub fn add_started(
     memory: &mut Memory,
     object: u32,

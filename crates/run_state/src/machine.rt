@@ -33,7 +33,7 @@ pub struct Machine {
     pub unfixed: u64,
 }
 
-/// Why a part of a run gives no value: the run ends there, or memory is wanting.
+/// Why a part of a run gives no value: the run ends there, or memory runs out.
 #[derive(Clone, Copy, Debug, PartialEq, Eq)]
 pub enum Halt {
     Ends(End),

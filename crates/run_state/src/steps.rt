@@ -32,7 +32,7 @@ pub fn tell<W: Watcher>(machine: &Machine, watcher: &mut W, event: Event) -> Res
     Ok(())
 }
 
-/// Room for so many cells more.
+/// Room for this many cells more.
 pub fn room<W: Watcher>(machine: &Machine, cells: u64) -> Result<(), Halt>
     ensures gives { (p : Tree) (x : W.Seen)
         → Gives same result (state_of machine.now x) (roomed p W.Seen W.after cells (state_of machine.now x)) }
@@ -45,7 +45,7 @@ pub fn room<W: Watcher>(machine: &Machine, cells: u64) -> Result<(), Halt>
     }
 }
 
-/// Ends the run with a violation at an expression, and tells so.
+/// Ends the run with a violation at an expression, and reports it.
 pub fn violate<W: Watcher>(
     machine: &Machine,
     watcher: &mut W,
@@ -81,7 +81,7 @@ pub fn arrive<W: Watcher>(
     tell(machine, watcher, Event::At(spot))
 }
 
-/// Whether a value isn't 0, told as a branching.
+/// Whether a value isn't 0, reported as a branching.
 pub fn branch<W: Watcher>(
     program: &Program,
     machine: &Machine,

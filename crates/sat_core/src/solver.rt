@@ -51,6 +51,8 @@ fn find_checked(
 }
 
 /// Decides whether values of the variables satisfy every clause, by deriving at most `budget` clauses.
+///
+/// Example: `print_answer` in `crates/sat_solver/src/report.rt`.
 pub fn solve(alloc: Global, cnf: &Cnf, budget: u64) -> Result<Answer, OutOfMemory>
     requires few { length cnf.now.clauses < 2 ^ 30 }
     requires some { 1 ≤ budget }

@@ -4,8 +4,8 @@ ghost use Rattle.std.specs.List.{All, list_any};
 ghost use Rattle.circuits.specs.Net.{holds, Grown, Means, IsIn};
 ghost use Rattle.seek_events.specs.Events.{AreAfter, IsAll, IsHere};
 
-use crate::segment::{Passing, completes, or, segment_after};
-use circuits::{Bit, Net, not};
+use crate::segment::{Passing, completes, segment_after};
+use circuits::{Bit, Net, not, or};
 use std::alloc::Global;
 use wv_base::OutOfMemory;
 

@@ -3,7 +3,7 @@ ghost use Rattle.std.specs.Prelude.{◌≡◌, ◌+◌, ◌≤◌, ◌^◌, ◌&
 ghost use Rattle.circuits.specs.Net.{holds, Grown, Means, IsIn};
 ghost use Rattle.seek_events.specs.Events.{IsCompletion, IsHere, IsMoved, stays_in};
 
-use circuits::{Bit, Net, not};
+use circuits::{Bit, Net, not, or, pick};
 use wv_base::OutOfMemory;
 
 /// Which waypoints of a segment an event passes: one of those to avoid, and the one to follow; and whether that one is
@@ -22,18 +22,6 @@ pub struct Moved {
     pub came: Bit,
 }
 
-/// A disjunction, as one and-node.
-pub fn or(net: &mut Net, a: Bit, b: Bit) -> Result<Bit, OutOfMemory>
-    requires a_in { IsIn net.old a }
-    requires b_in { IsIn net.old b }
-    requires room { length net.old + 1 ≤ 2 ^ 31 }
-    ensures grown { IfOk result (λ r. Grown 1 net.old net.new) }
-    ensures value { IfOk result (λ r. Means net.new r (λ v. holds v net.old a || holds v net.old b)) }
-{
-    let neither = net.and(not(a), not(b))?;
-    Ok(not(neither))
-}
-
 fn is_same(a: Bit, b: Bit) -> bool
     ensures { result ≡ true → a ≡ b }
 {
@@ -41,7 +29,7 @@ fn is_same(a: Bit, b: Bit) -> bool
 }
 
 // `now` where the run is here, else what was before: a bit that stays costs nothing.
-fn pick(net: &mut Net, here: Bit, now: Bit, before: Bit) -> Result<Bit, OutOfMemory>
+fn changed(net: &mut Net, here: Bit, now: Bit, before: Bit) -> Result<Bit, OutOfMemory>
     requires here_in { IsIn net.old here }
     requires now_in { IsIn net.old now }
     requires before_in { IsIn net.old before }
@@ -54,10 +42,8 @@ fn pick(net: &mut Net, here: Bit, now: Bit, before: Bit) -> Result<Bit, OutOfMem
     if same {
         return Ok(before);
     }
-    let taken = net.and(here, now)?;
-    let left = net.and(not(here), before)?;
-    let picked = or(net, taken, left)?;
-    Ok(picked)
+    let changed = pick(net, here, now, before)?;
+    Ok(changed)
 }
 
 // The segments before this one stay completed.
@@ -141,7 +127,7 @@ pub fn segment_after(
     let next = completes(net, came, assumes, passing, completed)?;
     let stays = stays(net, passing, completed)?;
     let now = or(net, stays, came)?;
-    let kept = pick(net, here, now, completed)?;
+    let kept = changed(net, here, now, completed)?;
     Ok(Moved {
         completed: kept,
         came: next,

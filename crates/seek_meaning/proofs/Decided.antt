@@ -13,7 +13,7 @@ use Rattle.way_match.specs.Matching.{Seen as SeenEvent, seen_of, Matches}
 use Rattle.seek_meaning.specs.Progress.{completes_all}
 use Rattle.seek_meaning.specs.Bounded.{BoundedEnd, Within, Beyond, bounded_end, WholeBounded, StaysWithin, HasRoom}
 use Rattle.seek_meaning.specs.Seeking.{Hits, Misses, SeekState, SeekRun, hits, draws_sought}
-use Rattle.seek_meaning.specs.Sought.{Seeks, AreSought, IsDecided}
+use Rattle.seek_meaning.specs.Sought.{Seeks, AreSought, IsShownIn, IsDecided}
 use Rattle.seek_meaning.specs.Steps.{StepsWithin}
 use Rattle.seek_meaning.proofs.Agreeing.{agrees}
 use Rattle.seek_meaning.proofs.Following.{Seen, Result, Sought, leaving, IsSpent, IsMiss, completed_by, track, On, goes, violates, misses, deep, whole_takes, lt_or_more}
@@ -144,24 +144,30 @@ module _ (p : Program) (ss : List BoundSegment) (k : ℕ) where
     within_of : (N : ℕ) (spot : Spot) → StaysWithin p k (InTurn w) N → (Run p (InTurn w) N).end ≡ Violated spot → bounded_end (WholeBounded p k (InTurn w) N) ≡ Within (Violated spot)
     within_of N spot stays h = (agrees p never k (InTurn w) N stays).end ∙ ap Within h
 
-    found : HasRoom p k w → hits q ≡ true → AreSought p ss k w
-    found room h =
+    -- a hit is shown with as many steps as serve, and with any more
+    shown_with : HasRoom p k w → hits q ≡ true → (more : ℕ) → IsShownIn p ss k w ((whole_takes p ss k w).steps + more)
+    shown_with room h more =
         let t = whole_takes p ss k w in
-        let N : ℕ = t.steps + 0 in
-        let same : WholeBounded p k (InTurn w) N ≡ leaving 0 t.gives = t.enough 0 in
-        let end : bounded_end (WholeBounded p k (InTurn w) N) ≡ bounded_end t.gives = ap bounded_end same ∙ end_leaving 0 t.gives in
+        let N : ℕ = t.steps + more in
+        let same : WholeBounded p k (InTurn w) N ≡ leaving more t.gives = t.enough more in
+        let end : bounded_end (WholeBounded p k (InTurn w) N) ≡ bounded_end t.gives = ap bounded_end same ∙ end_leaving more t.gives in
         let e : Ends p ss k t.gives q = ends_hit t.gives q t.on h (λ z. room N (end ∙ z)) in
         let violated : bounded_end (WholeBounded p k (InTurn w) N) ≡ Within (Violated e.spot) = end ∙ e.violated in
         let stays : StaysWithin p k (InTurn w) N = λ z. true≢false (sym (ap is_beyond z) ∙ ap is_beyond violated) in
         let run = agrees p never k (InTurn w) N stays in
-        let seen : (state_of t.gives).seen ≡ (state_of (Whole p (InTurn w) N)).seen = sym (ap (λ (r : Result Flow). (state_of r).seen) same ∙ seen_leaving 0 t.gives) ∙ ap (λ (s : State Seen). s.seen) run.state in
-        let m = (matched_so (state_of t.gives).seen e.before e.last e.seen).0 (sym e.exact ∙ h) in (
-          m.0,
-          record {
+        let seen : (state_of t.gives).seen ≡ (state_of (Whole p (InTurn w) N)).seen = sym (ap (λ (r : Result Flow). (state_of r).seen) same ∙ seen_leaving more t.gives) ∙ ap (λ (s : State Seen). s.seen) run.state in
+        let m = (matched_so (state_of t.gives).seen e.before e.last e.seen).0 (sym e.exact ∙ h) in
+        record {
+          positions = m.0;
+          found = record {
             bounded = record { budget = N; violated = (e.spot, ap as_end (sym run.end ∙ violated)); stays = stays };
             matched = subst (λ xs. Matches p ss (seen_of (reverse xs)) m.0) seen m.1;
-          },
-        )
+          };
+          budget = refl;
+        }
+
+    found : HasRoom p k w → hits q ≡ true → AreSought p ss k w
+    found room h = let s = shown_with room h 0 in (s.positions, s.found)
 
     exactly : AreSought p ss k w → hits q ≡ true
     exactly (positions, f) =
@@ -189,6 +195,16 @@ decided p never ss k w room = record { exact = (found p ss k never w room, exact
 at_most : (p : Program) (k : ℕ) (w : List ℤ) (steps : ℕ) → ((n : ℕ) → n < steps → IsSpent (WholeBounded p k (InTurn w) n)) → steps ≤ StepsWithin p k
 at_most p k w zero fewer = omega arith
 at_most p k w (suc n) fewer = let h : n < StepsWithin p k = (short p k (InTurn w) n).steps (end_of_spent (WholeBounded p k (InTurn w) n) (fewer n (omega arith))) in omega (arith, h)
+
+-- a hit is shown with each number of steps that is enough
+pub shown : (p : Program) → AreNeverMet p → (ss : List BoundSegment) (k : ℕ) (w : List ℤ) → HasRoom p k w → hits (SeekRun p ss k w) ≡ true → (N : ℕ) → StepsWithin p k ≤ N → IsShownIn p ss k w N
+shown p never ss k w room h N enough =
+    let t = whole_takes p ss k w in
+    let few : t.steps ≤ StepsWithin p k = at_most p k w t.steps t.fewer in
+    elim (lt_or_more p ss k N t.steps) [
+      | inl less ↦ absurd (omega (arith, few, enough, less))
+      | inr more ↦ subst (IsShownIn p ss k w) (sym more.1) (shown_with p ss k never w room h more.0)
+    ]
 
 -- where all cells that its steps may bring to life have room, a run has room, whatever its budget
 pub have_room : (p : Program) (k : ℕ) → length (first_cells p) + StepsWithin p k ≤ most_cells → (w : List ℤ) → HasRoom p k w

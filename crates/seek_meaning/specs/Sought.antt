@@ -18,6 +18,12 @@ pub record Seeks (p : Program) (ss : List BoundSegment) (k : ℕ) (w : List ℤ)
 abbrev pub AreSought : Program → List BoundSegment → ℕ → List ℤ → Type 0
 AreSought p ss k w = (positions : List ℕ) × Seeks p ss k w positions
 
+-- the run with N steps on these values is such a run
+pub record IsShownIn (p : Program) (ss : List BoundSegment) (k : ℕ) (w : List ℤ) (N : ℕ) : Type 0 where
+  pub positions : List ℕ
+  pub found : Seeks p ss k w positions
+  pub budget : found.bounded.budget ≡ N
+
 -- no values are sought within the bound
 abbrev pub NoneAreSought : Program → List BoundSegment → ℕ → Type 0
 NoneAreSought p ss k = (w : List ℤ) → AreSought p ss k w → ⊥

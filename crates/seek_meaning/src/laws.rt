@@ -1,11 +1,12 @@
 // Laws, each the contract of a function whose body calls the laws that it needs.
-ghost use Rattle.std.specs.Prelude.{◌≤◌, ◌+◌, ℕ, ℤ, List, length};
+ghost use Rattle.std.specs.Prelude.{◌≡◌, ◌≤◌, ◌+◌, ℕ, ℤ, List, length, true};
 ghost use Rattle.c_core.specs.Tree.{Program};
 ghost use Rattle.c_meaning.specs.declared.run.Choices.{Choices};
 ghost use Rattle.c_meaning.specs.Run.{first_cells, most_cells};
 ghost use Rattle.way_match.specs.Points.{BoundSegment};
 ghost use Rattle.seek_meaning.specs.Bounded.{StaysWithin, HasRoom};
-ghost use Rattle.seek_meaning.specs.Sought.{IsTheRun, IsDecided};
+ghost use Rattle.seek_meaning.specs.Seeking.{SeekRun, hits};
+ghost use Rattle.seek_meaning.specs.Sought.{IsTheRun, IsDecided, IsShownIn};
 ghost use Rattle.seek_meaning.specs.Steps.{StepsWithin, IsShort};
 
 use c_bounds::bounds_are_never_met;
@@ -34,6 +35,14 @@ pub fn few_steps_have_room()
 /// run draws.
 pub fn hits_exactly()
     ensures { (p : Program) (ss : List BoundSegment) (k : ℕ) (w : List ℤ) → HasRoom p k w → IsDecided p ss k w }
+{
+    bounds_are_never_met();
+}
+
+/// A hit is shown by the run with any number of steps that is enough for runs within the bound.
+pub fn enough_steps_show()
+    ensures { (p : Program) (ss : List BoundSegment) (k : ℕ) (w : List ℤ) → HasRoom p k w →
+        hits (SeekRun p ss k w) ≡ true → (N : ℕ) → StepsWithin p k ≤ N → IsShownIn p ss k w N }
 {
     bounds_are_never_met();
 }

@@ -4,4 +4,7 @@
 
 mod laws;
 
-pub use laws::{bounded_runs_agree, bounded_runs_are_short, few_steps_have_room, hits_exactly};
+pub use laws::{
+    bounded_runs_agree, bounded_runs_are_short, enough_steps_show, few_steps_have_room,
+    hits_exactly,
+};

@@ -1,1 +1,3 @@
+pub mod Enough
 mod Light
+pub mod Paid

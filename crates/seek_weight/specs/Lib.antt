@@ -1,2 +1,3 @@
 pub mod Tolls
 pub mod SeekWeight
+pub mod Laws

@@ -1,7 +1,7 @@
-//! How much the runs of a program within a bound weigh as a circuit that follows the segments of a witness, and how
-//! many bits they draw.
+//! How much the runs of a program within a bound weigh as a circuit that follows the segments of a witness, how many
+//! bits they draw, and what a weight that isn't too big says of them.
 #![tactic(auto)]
 
 mod laws;
 
-pub use laws::draws_are_light;
+pub use laws::{decided_within_weight, draws_are_light, steps_are_light};

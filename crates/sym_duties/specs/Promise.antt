@@ -25,7 +25,7 @@ pub record Tells (p : Program) (I : List Placed) (o : Obligations) (v : ℕ → 
 abbrev pub StandsFor : Program → DrawSite → Type 0
 StandsFor p d = IsDrawn p (place d.spot d.ty d.from)
 
--- the obligations as a net of a weight, which draws so many bits
+-- the obligations as a net of a weight, which draws this many bits
 pub record AreObligations (p : Program) (I : List Placed) (weight bits : ℕ) (o : Obligations) : Type 0 where
   -- by place, kind and witness order; their numbers have 32 bits
   pub list : o.list ≡ Duties p I
@@ -36,7 +36,7 @@ pub record AreObligations (p : Program) (I : List Placed) (weight bits : ℕ) (o
   pub sites_in : AreSites p.model o.net 0 o.sites (count_inputs o.net)
   -- each site stands for something, also one at which no run is
   pub stand : All (StandsFor p) o.sites
-  -- all inputs tell the run that draws what they say, and each run is told by some inputs
+  -- all inputs tell the run that draws what they say, and each run is described by some inputs
   pub each : (v : ℕ → Bool) → Tells p I o v (values_of (draws_at p v o.net o.sites))
   pub all : (w : List ℤ) → (v : ℕ → Bool) × Tells p I o v w
   -- the net is small

@@ -53,7 +53,7 @@ module _ (p : Program) where
   abbrev pub found_row_cost : IntType → IntType → ℕ → ℕ
   found_row_cost row column o = 6 * size_of_object p o + (2 * (width_of p.model row + width_of p.model column) + 3)
 
-  -- of a tree of choices among so many elements
+  -- of a tree of choices among this many elements
   abbrev pub picked_cost : ℕ → ℕ → ℕ
   picked_cost o count = (count - 1) * (4 * width_of_element o)
 

@@ -6,7 +6,7 @@ use Rattle.circuits.specs.Net.{holds, Grown, Means}
 use Rattle.circuits.specs.Numbers.{number, AreIn}
 use Rattle.sym_state.specs.Standing.{marks}
 
--- so many bits of the net, of which under inputs that of number k from 1 on is true, or none where k is 0 or beyond the last
+-- this many bits of the net, of which under inputs that of number k from 1 on is true, or none where k is 0 or beyond the last
 pub record AreMarks (net : List NetNode) (bits : List Bit) (n : ℕ) (k : (ℕ → Bool) → ℕ) : Type 0 where
   pub inside : AreIn net bits
   pub wide : length bits ≡ n

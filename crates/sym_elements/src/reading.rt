@@ -17,7 +17,7 @@ use sym_state::{Sym, look};
 use sym_values::choose;
 use wv_base::OutOfMemory;
 
-// How many numbers have so many binary digits; at most the largest u32.
+// How many numbers have this many binary digits; at most the largest u32.
 fn numbers(digits: usize) -> u32
     ensures { result ≡ min (2 ^ digits) (2 ^ 32 - 1) }
 {

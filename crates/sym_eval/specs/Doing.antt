@@ -132,7 +132,7 @@ module _ (p : Program) (I : List Placed) (n : ℕ) where
     pub types : IsTrue (first_fits p i && list_all (is_typed p) (fulls_of_first i))
     pub room : length s.net + (weight_of_first i + bits_of_first i) < 2 ^ 27
 
-  -- with nothing behind it
+  -- with nothing after it
   abbrev pub FirstDoes : Spot → First → Sym → Sym → Type 0
   FirstDoes at i old new = (gives : Option IntType) → Runs (Duties p I) p gives (weight_of_first i) (bits_of_first i) old new (λ v. first p (havoc p I) calls at i (λ s. Go Next s))
 
@@ -154,7 +154,7 @@ module _ (p : Program) (I : List Placed) (n : ℕ) where
     abbrev pub Does : Stm → Sym → Sym → Type 0
     Does x old new = Runs (Duties p I) p gives (weight_of x) (bits_of x) old new (λ v. exec p (havoc p I) calls gives x)
 
-    -- a statement that is a scope of its own: behind it there are as many cells as before
+    -- a statement that is a scope of its own: after it there are as many cells as before
     pub record ScopeDoes (x : Stm) (old new : Sym) : Type 0 where
       pub runs : Runs (Duties p I) p gives (weight_of x) (bits_of x) old new (λ v. scoped Stopped Left cells_left with_cells_left (exec p (havoc p I) calls gives x))
       pub level : length new.cells.items ≡ length old.cells.items
@@ -181,7 +181,7 @@ module _ (p : Program) (I : List Placed) (n : ℕ) where
     abbrev pub bits_of_else : Else → ℕ
     bits_of_else x = sum.otherwise p (drawing (bits_in p n)) nowhere gives x
 
-    -- the arm behind `else`, if there is one
+    -- the arm after `else`, if there is one
     pub record ElseReady (s : Sym) (x : Else) : Type 0 where
       pub fits : IsState p s
       pub result : s.result ≡ type_or_int gives

@@ -29,7 +29,7 @@ use Rattle.sym_eval.specs.Doing.{calls, weight_of, bits_of, weight_of_first, bit
 abbrev pub turn_glue : ℕ
 turn_glue = 4
 
--- and those behind the turn: runs at the head again end, and those that left the loop go on
+-- and those after the turn: runs at the head again end, and those that left the loop go on
 abbrev pub loop_glue : ℕ
 loop_glue = 6
 

@@ -1,4 +1,4 @@
--- What the state behind main's body says of all havoc runs of a program.
+-- What the state after main's body says of all havoc runs of a program.
 use Rattle.std.specs.Prelude.{◌≡◌, ℕ, suc, ◌^◌, ◌<◌, ◌≤◌, List, length}
 use Rattle.c_core.specs.Tree.{Program}
 use Rattle.c_meaning.specs.Duties.{Placed, Duties}

@@ -127,7 +127,7 @@ fn at_row(
     Ok(Target::Element(object, places))
 }
 
-/// An assignment; its value is that of the target behind it (ISO C11 6.5.16).
+/// An assignment; its value is that of the target after it (ISO C11 6.5.16).
 #[cycle(walk)]
 #[inline(never)]
 pub fn assign(
@@ -212,14 +212,14 @@ fn update(
     Ok(r)
 }
 
-// The value of a step: that of the target behind it, or before it.
+// The value of a step: that of the target after it, or before it.
 fn value_of_step(prefix: bool, after: Bits, before: Bits) -> Bits
     ensures { result.bits ≡ cond prefix after.bits before.bits }
 {
     if prefix { after } else { before }
 }
 
-/// `++` or `--`, before or behind its target (ISO C11 6.5.2.4, 6.5.3.1).
+/// `++` or `--`, before or after its target (ISO C11 6.5.2.4, 6.5.3.1).
 #[cycle(walk)]
 #[inline(never)]
 pub fn step(

@@ -119,7 +119,7 @@ fn run_function(
     Ok(bits)
 }
 
-// The function of a number, where calls may be so many deep.
+// The function of a number, where calls may be this many deep.
 fn function_at(program: &Program, depth: u32, function: u32) -> Option<&Function>
     ensures { MatchOption result (0 < depth → slice_get (program_view program.now).functions function ≡ None)
         (λ f. (0 < depth) × (slice_get (program_view program.now).functions function ≡ Some (function_view f.now))) }

@@ -1,5 +1,5 @@
 //! Programs are evaluated onto nets. Its one promise: the answer of `obligations` tells, under every input of its net,
-//! at which obligation a havoc run ends and what it draws, and each havoc run is told by some inputs.
+//! at which obligation a havoc run ends and what it draws, and each havoc run is described by some inputs.
 #![tactic(auto)]
 
 mod assignments;

@@ -34,7 +34,7 @@ fn small(count: usize) -> Result<u32, OutOfMemory>
     }
 }
 
-// The first function that lies on a cycle of calls is told by its name.
+// The first function that lies on a cycle of calls is reported by its name.
 fn recursive(alloc: Global, program: &Program, function: u32) -> Result<Text, OutOfMemory>
     requires { IsFirstRecursion (program_view program.now) (Some function) }
     ensures { IfOk result (λ name. IsNamedRecursion (program_view program.now) (names_of program.now.functions) name) }
@@ -46,7 +46,7 @@ fn recursive(alloc: Global, program: &Program, function: u32) -> Result<Text, Ou
     Ok(name)
 }
 
-// The state behind main's body: what it says of all havoc runs.
+// The state after main's body: what it says of all havoc runs.
 fn whole(walk: &Walk) -> Result<Sym, OutOfMemory>
     requires walk { IsWalk walk.now }
     requires light { IsLight (program_of walk.now) (invariants_of walk.now) }

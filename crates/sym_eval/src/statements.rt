@@ -269,7 +269,7 @@ fn arm(
     Ok(())
 }
 
-// What stands behind `else`, if anything does.
+// What stands after `else`, if anything does.
 #[cycle(walk)]
 fn otherwise(
     walk: &Walk,

@@ -43,11 +43,11 @@ module _ (p : Program) (I : List Placed) where
     abbrev pub targeted : Around → Exp → Deed Key
     targeted at a v s = meaning.target p (havoc p I) (calls_in p (havoc p I) n) (where_of at) a s
 
-    -- a target was evaluated to the cell that it means, with so many and-nodes besides its weight
+    -- a target was evaluated to the cell that it means, with this many and-nodes besides its weight
     pub record Targets (at : Around) (cost : ℕ) (a : Exp) (keys : Keys) (old new : Sym) : Type 0 where
       pub follows : Follows (Duties p I) p (weight_of_target a + cost) (bits_of_target a) old new (λ v k. k ≡ keys v) (targeted at a)
 
-    -- a target can be evaluated from a state, at so many and-nodes besides its weight
+    -- a target can be evaluated from a state, at this many and-nodes besides its weight
     pub record TargetReady (at : Around) (cost : ℕ) (s : Sym) (a : Exp) : Type 0 where
       pub fits : IsState p s
       pub target : IsTrue (is_target a)

@@ -6,7 +6,7 @@ ghost use Rattle.circuits.specs.Net.{opposite};
 use c_core::StepOp;
 use circuits::{Bit, not};
 
-/// Is the value of a step that behind it?
+/// Is the value of a step the one after it?
 pub fn is_prefix(op: StepOp) -> bool
     ensures { result ≡ operators.is_prefix op }
 {

@@ -14,7 +14,7 @@ use Rattle.sym_state.specs.Standing.{Stand, stand, IsState, Added}
 abbrev pub fresh_function : Stand → Stand
 fresh_function s = record s { broken = false; again = false; gave = false; given = pos 0 }
 
--- behind a call around which was `around` with n cells. Where its value is needed, only runs that gave one go on (C11 6.9.1p12)
+-- after a call around which was `around` with n cells. Where its value is needed, only runs that gave one go on (C11 6.9.1p12)
 abbrev pub behind_call : Bool → Stand → ℕ → Stand → Stand
 behind_call needed around n s = record s {
   live = cond needed s.gave (s.live || (s.broken || (s.again || s.gave)));
@@ -32,7 +32,7 @@ pub record Enters (p : Program) (ty : IntType) (old new : Sym) : Type 0 where
   pub result : new.result ≡ ty
   pub is : (v : ℕ → Bool) → stand p v new ≡ fresh_function (stand p v old)
 
--- behind the body: from `around`, before the call, and `old`, at the body's end, to `new`
+-- after the body: from `around`, before the call, and `old`, at the body's end, to `new`
 pub record Returns (p : Program) (ands : ℕ) (needed : Bool) (around old new : Sym) : Type 0 where
   pub fits : IsState p new
   pub added : Added ands 0 old.net new.net
@@ -68,7 +68,7 @@ around_at p v s r = record (stand p v s) {
   given = typed p.model r.result v s.net r.given.bits;
 }
 
--- from the body's end to behind the call, around which were n cells; the bits are what the function gave
+-- from the body's end to after the call, around which were n cells; the bits are what the function gave
 pub record CameBack (p : Program) (needed : Bool) (r : Caller) (n : ℕ) (old new : Sym) (bits : List Bit) : Type 0 where
   pub fits : IsState p new
   pub added : Added 3 0 old.net new.net

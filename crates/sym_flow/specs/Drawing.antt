@@ -14,12 +14,12 @@ module _ (p : Program) where
   abbrev pub cell_drawn : DrawKind → Spot → ℕ → ℕ → Left → Res Stopped Left (Unit {0})
   cell_drawn from spot o i s = bind (draw p [] from spot (type_of_object p o) s) (λ z. write Stopped Left cells_left with_cells_left (key o i) z)
 
-  -- so many cells of an object, from an index on
+  -- this many cells of an object, from an index on
   abbrev pub cells_drawn : DrawKind → Spot → ℕ → ℕ → ℕ → Left → Res Stopped Left (Unit {0})
   cells_drawn from spot o i zero s = Go tt s
   cells_drawn from spot o i (suc n) s = bind (cell_drawn from spot o i s) (λ u. cells_drawn from spot o (suc i) n)
 
-  -- the bits of so many cells of an object
+  -- the bits of this many cells of an object
   abbrev pub bits_of_cells : ℕ → ℕ → ℕ
   bits_of_cells o n = n * width_of p.model (type_of_object p o)
 

@@ -1,6 +1,6 @@
 -- A statement, followed through all havoc runs at once.
 --
--- A statement takes each run that is here to where the definition takes it: on, to the statement behind it; out of a loop's body, a
+-- A statement takes each run that is here to where the definition takes it: on, to the statement after it; out of a loop's body, a
 -- loop or a function, where the run stands at the bit `again`, `broken` or `gave` and nowhere else; or to its end. A run that isn't
 -- here stays as it is, whatever the statement does.
 --
@@ -19,7 +19,7 @@ use Rattle.sym_state.specs.Standing.{Stand, stand, IsState, Added, Moves, IsHere
 use Rattle.sym_state.specs.Following.{left_of, Taken, Deed}
 
 -- a run on its way out, which failed nothing: it stands at one of the three bits. Its cells are those that it had when it set out, of
--- which so many stood before the statement; what is declared meanwhile stands behind them
+-- which this many stood before the statement; what is declared meanwhile stands after them
 pub record IsAway (ds : List Duty) (out on back : Bool) (around : ℕ) (rest : List ℤ) (s : Left) (new : Stand) : Type 0 where
   pub live : new.live ≡ false
   pub broken : new.broken ≡ out
@@ -38,7 +38,7 @@ IsGiven None new v = Unit {0}
 IsGiven (Some ty) new None = ⊥
 IsGiven (Some ty) new (Some z) = z ≡ new.given
 
--- where a statement of a function of this result took a run; so many cells stood before it
+-- where a statement of a function of this result took a run; this many cells stood before it
 module _ (ds : List Duty) (gives : Option IntType) (around : ℕ) where
   abbrev pub Went : Stand → List ℤ → Res Stopped Left Flow → Type 0
   Went new rest (Go Next s) = IsHere (length ds) new × (s ≡ left_of new rest)
@@ -47,7 +47,7 @@ module _ (ds : List Duty) (gives : Option IntType) (around : ℕ) where
   Went new rest (Go (Gave v) s) = IsAway ds false false true around rest s new × IsGiven gives new v
   Went new rest (Stop e s) = IsOver ds e new × (s.values ≡ rest) × (s.draws ≡ new.draws)
 
--- for all inputs: what the statement does from here; what it declares stands behind the cells of before
+-- for all inputs: what the statement does from here; what it declares stands after the cells of before
 pub record Runs (ds : List Duty) (p : Program) (gives : Option IntType) (ands inputs : ℕ) (old new : Sym) (deed : Deed Flow) : Type 0 where
   pub fits : IsState p new
   pub added : Added ands inputs old.net new.net

@@ -1,4 +1,4 @@
-// Around a function's body: what is around it is kept, and comes back behind it.
+// Around a function's body: what is around it is kept, and comes back after it.
 ghost use Rattle.std.specs.Prelude.{◌≡◌, ◌<◌, ◌^◌, ◌||◌, IfOk, cond, length};
 ghost use Rattle.c_core.specs.View.{program_view};
 ghost use Rattle.circuits.specs.Net.{holds, Grown, IsIn, Means};
@@ -51,7 +51,7 @@ pub fn enter(
     Ok(caller)
 }
 
-// Which runs go on behind a call: those that gave a value, where it is needed; else all that came to the body's end.
+// Which runs go on after a call: those that gave a value, where it is needed; else all that came to the body's end.
 fn going_on(
     net: &mut Net,
     live: Bit,
@@ -79,7 +79,7 @@ fn going_on(
     Ok(four)
 }
 
-/// Behind a function's body: the bits of what is around the call are back. Gives the value that the function gave.
+/// After a function's body: the bits of what is around the call are back. Gives the value that the function gave.
 pub fn come_back(
     program: &Program,
     sym: &mut Sym,

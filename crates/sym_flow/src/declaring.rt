@@ -32,7 +32,7 @@ fn declare_cell(
     Ok(())
 }
 
-/// So many cells more of an object, which hold 0.
+/// This many cells more of an object, which hold 0.
 pub fn declare(
     alloc: Global,
     program: &Program,

@@ -1,4 +1,4 @@
-// Scopes, bodies of loops, and loops: cells that end with them, and ways that come together behind them.
+// Scopes, bodies of loops, and loops: cells that end with them, and ways that come together after them.
 ghost use Rattle.std.specs.Prelude.{◌≡◌, ◌<◌, ◌^◌, IfOk, length};
 ghost use Rattle.c_core.specs.View.{program_view};
 ghost use Rattle.circuits.specs.Net.{holds, IsIn};
@@ -11,7 +11,7 @@ use circuits::Bit;
 use sym_state::Sym;
 use wv_base::OutOfMemory;
 
-/// A scope ends, around which were so many cells.
+/// A scope ends, around which were this many cells.
 pub fn cut(sym: &mut Sym, program: &Program, cells: usize)
     requires fits { IsState (program_view program.now) sym.old }
     ensures { Became (program_view program.now) 0 sym.old sym.new (λ v. cut_to cells) }
@@ -30,7 +30,7 @@ pub fn start_body(sym: &mut Sym, program: &Program) -> Bit
     kept
 }
 
-/// Behind a loop's body, around which were so many cells: runs that came to its end, and those that went there.
+/// After a loop's body, around which were this many cells: runs that came to its end, and those that went there.
 pub fn end_body(
     sym: &mut Sym,
     program: &Program,
@@ -61,7 +61,7 @@ pub fn start_loop(sym: &mut Sym, program: &Program) -> Bit
     kept
 }
 
-/// Behind a loop, around which were so many cells: runs that left it.
+/// After a loop, around which were this many cells: runs that left it.
 pub fn end_loop(
     sym: &mut Sym,
     program: &Program,

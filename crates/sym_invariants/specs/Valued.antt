@@ -69,7 +69,7 @@ abbrev pub side_type : Option IntType → IntType → Option IntType
 side_type None from = None
 side_type (Some to) from = Some from
 
--- what the last of the first so many cells holds whose place is true; none where no place is
+-- what the last of the first n cells holds whose place is true; none where no place is
 abbrev pub seen_last : (ℕ → Bool) → (ℕ → Option ℤ) → ℕ → Option ℤ
 seen_last place held zero = None
 seen_last place held (suc i) = cond (place i) (held i) (seen_last place held i)

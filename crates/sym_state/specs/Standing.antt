@@ -89,7 +89,7 @@ pub record IsState (p : Program) (s : Sym) : Type 0 where
   pub cells : All (IsCell p s.net) s.cells.items
   pub sites : AreSites p.model s.net 0 s.sites.items (count_inputs s.net)
 
--- at most so many and-nodes and inputs were added, behind all others
+-- at most this many and-nodes and inputs were added, after all others
 pub record Added (ands inputs : ℕ) (old new : List NetNode) : Type 0 where
   pub more : List NetNode
   pub is : new ≡ old ++ more
@@ -97,7 +97,7 @@ pub record Added (ands inputs : ℕ) (old new : List NetNode) : Type 0 where
   pub feeds : count_inputs more ≤ inputs
   pub few : length more ≤ ands + inputs
 
--- a run that isn't here stays as it was; what is declared meanwhile stands behind its cells
+-- a run that isn't here stays as it was; what is declared meanwhile stands after its cells
 pub record Kept (old new : Stand) : Type 0 where
   pub live : new.live ≡ old.live
   pub broken : new.broken ≡ old.broken
@@ -109,7 +109,7 @@ pub record Kept (old new : Stand) : Type 0 where
   pub junk : List Cell
   pub cells : new.cells ≡ old.cells ++ junk
 
--- what was drawn is behind what was drawn before; a run that isn't here draws nothing and stays as it is
+-- what was drawn is after what was drawn before; a run that isn't here draws nothing and stays as it is
 pub record Moves (old new : Stand) : Type 0 where
   pub more : List Draw
   pub draws : new.draws ≡ old.draws ++ more
@@ -175,7 +175,7 @@ stored b k z s = record s { cells = cond b (put k z s.cells) s.cells }
 abbrev pub drawing : Draw → Stand → Stand
 drawing d s = record s { draws = s.draws ++ cond s.live (d ∷ []) [] }
 
--- what a state becomes under each input, with at most so many and-nodes and inputs
+-- what a state becomes under each input, with at most this many and-nodes and inputs
 pub record Turned (p : Program) (ands inputs : ℕ) (old new : Sym) (f : (ℕ → Bool) → Stand → Stand) : Type 0 where
   pub fits : IsState p new
   pub added : Added ands inputs old.net new.net

@@ -16,13 +16,13 @@ pub record Sum : Type 1 where
   pub Amount : Type 0
   pub none : Amount
   pub both : Amount → Amount → Amount
-  -- something of this weight that draws so many bits
+  -- something of this weight that draws this many bits
   pub part : ℕ → ℕ → Amount
   -- a call of this function, by its number, goes through the function's body
   pub body : ℕ → Amount
 
 module _ (p : Program) (S : Sum) where
-  -- what a call does behind its arguments: they are put into the parameters, and the body is gone through
+  -- what a call does after its arguments: they are put into the parameters, and the body is gone through
   abbrev pub called : Callee → Exps → S.Amount
   called (Defined f) es = S.both (S.part (passed p (params_of (slice_get p.functions f)) es) 0) (S.body f)
   called Exit es = S.part (passed_to_exit p.model es) 0
@@ -142,7 +142,7 @@ module _ (p : Program) (S : Sum) where
         form at (Label b) = statement b
         form at (Switch e b) = S.both (expression e) (S.both (S.part (chooses p.model (type_of e) (labels_in b)) 0) (statements b))
 
-        -- the arm behind `else`
+        -- the arm after `else`
         pub otherwise : Else → S.Amount
         otherwise NoElse = S.none
         otherwise (OrElse b) = statement b

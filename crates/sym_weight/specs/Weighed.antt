@@ -1,4 +1,4 @@
--- What is told of a program: how much it weighs, or that it is too big.
+-- What is said of a program: how much it weighs, or that it is too big.
 use Rattle.std.specs.Prelude.{◌≡◌, nat_le, ◌&&◌, cond, List, Option, Some, None}
 use Rattle.c_core.specs.Tree.{Program}
 use Rattle.c_meaning.specs.Duties.{Placed}

@@ -24,7 +24,7 @@ pub fn weighs(weight: u64) -> Cost
     Cost { weight, bits: 0 }
 }
 
-/// Something of this weight that draws so many bits.
+/// Something of this weight that draws this many bits.
 pub fn draws(weight: u64, bits: u64) -> Cost
     ensures { result ≡ tally.cost weight bits }
 {

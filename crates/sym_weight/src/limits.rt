@@ -34,7 +34,7 @@ fn judged(total: Total) -> Option<Total>
     }
 }
 
-// What main comes to, by these tallies.
+// What main reaches, by these tallies.
 fn unfolded(alloc: Global, tallies: &[Tally], main: u32) -> Result<Total, OutOfMemory>
     ensures { IfOk result (λ t. t
         ≡ totals.total_at (totals.totals_after (tallies_view tallies.now) (min (suc (length tallies.now)) 33)) main) }
@@ -57,7 +57,7 @@ fn is_too_big(alloc: Global, tallies: &[Tally], main: u32) -> Result<bool, OutOf
     }
 }
 
-// The whole weight, by tallies without the heads of loops: heads are counted in the functions that main comes to.
+// The whole weight, by tallies without the heads of loops: heads are counted in the functions that main reaches.
 fn whole(weigher: Weigher, tallies: &[Tally]) -> Result<Total, OutOfMemory>
     requires { AreTallied (λ f. false) (tallies_view tallies.now)
         (all_tallies (program_view weigher.program.now) (placed_of weigher)) }
@@ -76,7 +76,7 @@ fn whole(weigher: Weigher, tallies: &[Tally]) -> Result<Total, OutOfMemory>
 
 /// What a program with its invariants weighs, with all calls unfolded; `None` exactly where it is too big to be made a
 /// circuit: where a chain of calls from main has more than 32 calls, or the weight is over 2,000,000. What loops change
-/// is looked for only where the rest is within these limits, and only in the functions that main comes to: so no more
+/// is looked for only where the rest is within these limits, and only in the functions that main reaches: so no more
 /// text is gone through for it than the limits allow.
 pub fn weigh(
     alloc: Global,

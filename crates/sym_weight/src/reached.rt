@@ -1,4 +1,4 @@
-// The functions that a chain of calls from main comes to: only their loops are looked at.
+// The functions that a chain of calls from main reaches: only their loops are looked at.
 ghost use Rattle.std.specs.Prelude.{◌≡◌, ℕ, IfOk, IsTrue, slice_get};
 ghost use Rattle.std.specs.List.{list_all};
 ghost use Rattle.sym_weight.specs.Reached.{IsClosed, calls_in, is_wanted};
@@ -77,7 +77,7 @@ fn push_called(
     }
 }
 
-// Main and the functions that it comes to, each taken once. Nothing rests on it: `reached` tests what it found.
+// Main and the functions that it reaches, each taken once. Nothing rests on it: `reached` tests what it found.
 fn search(alloc: Global, tallies: &[Tally], main: u32) -> Result<Vec<bool>, OutOfMemory> {
     let mut marks = vec![in alloc; false; tallies.len()]?;
     let mut stack = Vec::new(alloc);
@@ -91,7 +91,7 @@ fn search(alloc: Global, tallies: &[Tally], main: u32) -> Result<Vec<bool>, OutO
     Ok(marks)
 }
 
-/// Marks at least the functions that main comes to, main among them.
+/// Marks at least the functions that main reaches, main among them.
 pub fn reached(alloc: Global, tallies: &[Tally], main: u32) -> Result<Vec<bool>, OutOfMemory>
     ensures { IfOk result (λ marks. IsClosed marks.items (tallies_view tallies.now) main) }
 {

@@ -208,7 +208,7 @@ fn head(weigher: Weigher, spot: Spot, form: &Form) -> Result<Cost, OutOfMemory>
     })
 }
 
-// A loop's head, where heads are counted: only they take a look at all that a loop comes to.
+// A loop's head, where heads are counted: only they take a look at all that a loop reaches.
 fn counted_head(weigher: Weigher, spot: Spot, form: &Form) -> Result<Cost, OutOfMemory>
     ensures { IfOk result (λ c. IsCounted weigher.entry.heads c
         (sums.head (program_view weigher.entry.program.now) tallying (placed_of weigher.entry) spot

@@ -1,4 +1,4 @@
-// What functions come to with their calls unfolded, round by round.
+// What functions weigh with their calls unfolded, round by round.
 ghost use Rattle.std.specs.Prelude.{◌≡◌, max, map, IfOk};
 ghost use Rattle.sym_weight.specs.Tally.{capped, tallies_view, tally_view};
 ghost use Rattle.sym_weight.specs.Totals as totals;
@@ -88,7 +88,7 @@ fn next_totals(alloc: Global, tallies: &[Tally], all: &[Total]) -> Result<Vec<To
     Ok(next)
 }
 
-/// The totals after so many rounds.
+/// The totals after this many rounds.
 pub fn totals_after(
     alloc: Global,
     tallies: &[Tally],

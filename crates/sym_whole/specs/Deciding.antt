@@ -1,4 +1,4 @@
--- What a state behind a whole program says of its havoc runs: its failing bits tell at which obligation a run ends, and its sites what
+-- What a state after a whole program says of its havoc runs: its failing bits tell at which obligation a run ends, and its sites what
 -- it draws.
 use Rattle.std.specs.Prelude.{◌≡◌, ◌↔◌, ℕ, ◌+◌, ◌≤◌, Bool, true, ℤ, List, [], length, Some, slice_get}
 use Rattle.c_core.specs.Tree.{Program}
@@ -36,7 +36,7 @@ pub record Decides (ds : List Duty) (p : Program) (start : List Cell) (s : Sym) 
   pub each : (v : ℕ → Bool) → Tells p s v (havoc_run ds (run (started start (values_of (draws_at p v s.net s.sites.items)))))
   pub all : (w : List ℤ) → (v : ℕ → Bool) × Tells p s v (havoc_run ds (run (started start w)))
 
--- a state's net has at most so many and-nodes and inputs more than another's
+-- a state's net has at most this many and-nodes and inputs more than another's
 pub record IsLarger (ands inputs : ℕ) (old new : Sym) : Type 0 where
   pub gates : count_ands new.net ≤ count_ands old.net + ands
   pub feeds : count_inputs new.net ≤ count_inputs old.net + inputs

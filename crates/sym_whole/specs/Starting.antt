@@ -13,7 +13,7 @@ use Rattle.sym_whole.specs.Deciding.{IsStart}
 abbrev pub with_more : List Cell → Stand → Stand
 with_more cs s = record s { cells = s.cells ++ cs }
 
--- before a program of so many obligations
+-- before a program of this many obligations
 pub record IsFirst (p : Program) (count : ℕ) (s : Sym) : Type 0 where
   pub fits : IsState p s
   pub start : (ds : List Duty) → length ds ≡ count → IsStart ds p (first_cells p) s

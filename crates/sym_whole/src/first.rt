@@ -54,7 +54,7 @@ fn value_at(values: &[i128], index: u32) -> i128
     }
 }
 
-// So many cells of an object, which hold these values and then 0.
+// This many cells of an object, which hold these values and then 0.
 fn start_cells(
     alloc: Global,
     program: &Program,
@@ -131,7 +131,7 @@ fn start_objects(alloc: Global, program: &Program, sym: &mut Sym) -> Result<(), 
     Ok(())
 }
 
-/// Before a program of so many obligations: each run is there, with the cells of static objects.
+/// Before a program of this many obligations: each run is there, with the cells of static objects.
 pub fn start(alloc: Global, program: &Program, duties: u32) -> Result<Sym, OutOfMemory>
     ensures { IfOk result (λ s. IsFirst (program_view program.now) duties s) }
 {

@@ -23,7 +23,7 @@ pub fn found(program: &Program, sym: &Sym)
     let _nodes = sym.net.nodes();
 }
 
-/// A state behind a program decides its havoc runs: where they end, and what they draw.
+/// A state after a program decides its havoc runs: where they end, and what they draw.
 pub fn decides(program: &Program, first: &Sym, last: &Sym)
     ensures { (ds : List Duty) (result_type : Option NumberType) (ands inputs : ℕ) (start : List Cell)
         (run : Left → Res Stopped Left Flow) → IsStart ds (program_view program.now) start first.now

@@ -3,7 +3,7 @@ use c_meaning::{Duty, DutyKind};
 use serde_json::{Value, json};
 use sha2::{Digest, Sha256};
 use std::alloc::Global;
-use view_text::{File, Files};
+use view_text::{File, Files, escaped_json};
 use wv_base::OutOfMemory;
 
 /// A file by its name and its SHA-256.
@@ -76,5 +76,5 @@ pub fn manifest(alloc: Global, files: &Files<'_>, duties: &[Duty]) -> Result<Str
     })?;
     let mut line = value.to_string(alloc)?;
     line.push_str("\n")?;
-    Ok(line)
+    escaped_json(alloc, line.as_str())
 }

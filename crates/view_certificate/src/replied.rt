@@ -2,6 +2,7 @@
 use crate::form::explain_form;
 use crate::logs::explain_log;
 use crate::obliged::obliged_by;
+use crate::walk::log_in;
 use c_core::Spot;
 use std::alloc::Global;
 use view_claims::show_obligations;
@@ -16,12 +17,24 @@ const LEAST: Budgets = Budgets {
     conflicts: 1,
 };
 
+/// How many chains each log of a certificate has.
+fn chain_counts(alloc: Global, certificate: &[u8]) -> Result<Vec<u64>, OutOfMemory> {
+    let mut counts = Vec::new(alloc);
+    for line in certificate.split(|byte| *byte == b'\n') {
+        if let Some((_, count)) = log_in(line) {
+            counts.push(count)?;
+        }
+    }
+    Ok(counts)
+}
+
 /// The obligations of a certificate that is accepted.
 fn show_accepted(alloc: Global, files: &Files<'_>, out: &mut Messages) -> Result<(), OutOfMemory> {
     match obliged_by(alloc, files)? {
         Some(found) => {
             let list = found.obligations.list.as_slice();
-            show_obligations(alloc, &found.witness, list, out)
+            let chains = chain_counts(alloc, files.text(File::Certificate))?;
+            show_obligations(alloc, &found.witness, list, chains.as_slice(), out)
         }
         None => Ok(()),
     }

@@ -45,7 +45,7 @@ fn count_in(line: &[u8]) -> Option<u64> {
 }
 
 /// The obligation of a log and how many chains it has, by its first line.
-fn log_in(line: &[u8]) -> Option<(u64, u64)> {
+pub fn log_in(line: &[u8]) -> Option<(u64, u64)> {
     let text = str::from_utf8(line).ok()?;
     let behind = text.strip_prefix("obligation ")?;
     let (obligation, chains) = behind.split_once(" chains ")?;

@@ -1,46 +1,19 @@
 // An obligation that fails: its invariant, its place, and the values of the havoc run that ends there, by the names of
 // their objects.
-use crate::claim::{claim_of_invariant, head};
-use crate::names::name_of;
 use crate::weeding::note_weeding;
 use c_calls::changed;
 use c_core::{Object, Program, Spot};
 use c_meaning::{Draw, DrawKind, Duty, DutyKind, size_of_object};
 use std::alloc::Global;
+use view_binding::{claim_of_invariant, head, invariant_at, name_of};
+use view_paths::{invariant_path, place_in_value, steps_of};
 use view_runs::{declared_at, is_same_spot, type_word};
-use view_text::{File, Files, Messages};
-use view_witness::{invariant_path, place_of_path, steps_of};
+use view_text::{File, Files, Messages, width_at};
 use wv_base::OutOfMemory;
-use wv_schema::{Content, Entry, Invariant, Witness};
+use wv_schema::{Invariant, Witness};
 
 /// So many values are told.
 const MOST: usize = 60;
-
-/// The invariants of an entry.
-fn set_of(entry: &Entry) -> &[Invariant] {
-    match &entry.content {
-        Content::Invariants(set) => set.as_slice(),
-        Content::Violation(_) => &[],
-    }
-}
-
-/// The invariant of this number, from 0 over all sets.
-fn invariant_at(witness: &Witness, number: u32) -> Option<&Invariant> {
-    let mut before = number as usize;
-    for entry in witness.entries.as_slice() {
-        let set = set_of(entry);
-        if let Some(found) = set.get(before) {
-            return Some(found);
-        }
-        before = before.saturating_sub(set.len());
-    }
-    None
-}
-
-/// The invariant of this number, from 1, as it is told.
-pub fn invariant_numbered(witness: &Witness, number: u32) -> Option<&Invariant> {
-    invariant_at(witness, number.saturating_sub(1))
-}
 
 /// What it means that an obligation of a kind fails.
 fn meaning_of(kind: DutyKind) -> &'static str {
@@ -106,9 +79,18 @@ pub fn note_invariant(
     let Some(path) = invariant_path(alloc, witness, number.saturating_add(1))? else {
         return Ok(());
     };
-    let steps = steps_of(alloc, path.as_str())?;
-    let spot = place_of_path(alloc, files.text(File::Witness), steps.as_slice())?;
-    out.remark(File::Witness, Some(spot), "the invariant stands here")
+    let Some(invariant) = invariant_at(witness, number) else {
+        return Ok(());
+    };
+    let path = path.as_str();
+    let whole = format!(in alloc; "{path}.value")?;
+    let steps = steps_of(alloc, whole.as_str())?;
+    let text = files.text(File::Witness);
+    let stated = invariant.value.as_str();
+    let spot = place_in_value(alloc, text, steps.as_slice(), stated, 0)?;
+    out.remark(File::Witness, Some(spot), "the invariant stands here")?;
+    out.mark(width_at(text, spot, stated));
+    Ok(())
 }
 
 /// An obligation that belongs to the message before, with why it is told.

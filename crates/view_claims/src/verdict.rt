@@ -18,20 +18,24 @@ fn meaning_of(kind: DutyKind) -> &'static str {
     }
 }
 
-/// Obligations that hold, as a confirmation.
+/// Obligations that hold, as a confirmation; of each how many chains its log has, where that is known.
 pub fn show_obligations(
     alloc: Global,
     witness: &Witness,
     duties: &[Duty],
+    chains: &[u64],
     out: &mut Messages,
 ) -> Result<(), OutOfMemory> {
     let mut index = 0u32;
-    for duty in duties {
+    for (at, duty) in duties.iter().enumerate() {
         index = index.saturating_add(1);
-        let told = obligation_text(alloc, witness, index, *duty, meaning_of(duty.kind))?;
+        let mut told = obligation_text(alloc, witness, index, *duty, meaning_of(duty.kind))?;
+        if let Some(count) = chains.get(at) {
+            write!(told, " (chains of its log: {count})")?;
+        }
         out.note(File::Program, Some(duty.spot), told)?;
     }
-    out.confirm(Vec::new(alloc));
+    out.confirm();
     Ok(())
 }
 
@@ -78,7 +82,7 @@ pub fn explain_verdict(
         ),
         Verdict::CorrectnessConfirmed { .. } => {
             let list = duties(alloc, program, invariants)?;
-            show_obligations(alloc, witness, list.as_slice(), out)
+            show_obligations(alloc, witness, list.as_slice(), &[], out)
         }
         _ => Ok(()),
     }

@@ -1,12 +1,10 @@
 // A violation sequence: a waypoint that isn't bound, or the given run.
-use crate::few::{bind, segments_of};
-use crate::nearest::line_count;
-use crate::unbound::explain_unbound_waypoints;
 use c_core::{Program, Spot};
 use c_meaning::{Choices, End, Run};
 use flow_machine::run_machine;
 use std::alloc::Global;
-use view_ends::{explain_ended, explain_unmatched, note_unfixed, show_run};
+use view_binding::{bind, explain_unbound_waypoints, line_count, segments_of};
+use view_ends::{count_lines, explain_ended, explain_unmatched, note_unfixed, show_run};
 use view_runs::Tracker;
 use view_text::{File, Files, Messages};
 use way_match::{Bound, Matcher, given};
@@ -50,7 +48,7 @@ fn explain_deep(
 ) -> Result<(), OutOfMemory> {
     let told = String::from_str(
         alloc,
-        "over 1,000,000 cells would be live behind this statement: the violation needs fewer calls or smaller arrays",
+        "over 1,000,000 cells would be live after this statement: the violation needs fewer calls or smaller arrays",
     )?;
     out.warning("undecided", File::Program, tracker.last, told)
 }
@@ -137,11 +135,11 @@ fn explain_violated(
     out: &mut Messages,
 ) -> Result<(), OutOfMemory> {
     let segments = segments_of(witness);
+    let tracker = tracked(alloc, files, program, bound, judged, steps)?;
+    count_lines(alloc, &tracker, out)?;
     if judged.positions.is_none() {
-        let tracker = tracked(alloc, files, program, bound, judged, steps)?;
         return explain_unmatched(alloc, files, witness, segments, &tracker, out);
     }
-    let tracker = tracked(alloc, files, program, bound, judged, steps)?;
     let draws = judged.run.draws.as_slice();
     show_run(alloc, segments, draws, events_of(judged), &tracker, out)
 }
@@ -158,6 +156,7 @@ fn explain_end(
     out: &mut Messages,
 ) -> Result<(), OutOfMemory> {
     let tracker = tracked(alloc, files, program, bound, judged, steps)?;
+    count_lines(alloc, &tracker, out)?;
     match judged.run.end {
         End::Ended => explain_ended(
             alloc,

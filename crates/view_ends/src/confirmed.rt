@@ -1,11 +1,9 @@
-// A run that is confirmed: how often each line was reached, the values that were drawn, the event that passes each
-// segment.
-use c_core::{Place, PlaceKind, Spot};
+// A run that is confirmed: the values that were drawn, and the event that passes each segment.
+use c_core::Spot;
 use c_meaning::{Draw, DrawKind};
 use std::alloc::Global;
 use view_runs::{Tracker, type_word, waypoint_text};
-use view_text::{File, Messages, Reached};
-use way_places::places;
+use view_text::{File, Messages};
 use wv_base::OutOfMemory;
 use wv_schema::Segment;
 
@@ -21,13 +19,51 @@ fn draw_text(alloc: Global, draw: &Draw) -> Result<String, OutOfMemory> {
     }
 }
 
-/// A note for each value that the run draws.
-fn note_draws(alloc: Global, draws: &[Draw], out: &mut Messages) -> Result<(), OutOfMemory> {
-    for draw in draws.get(..MOST).unwrap_or(draws) {
-        let told = draw_text(alloc, draw)?;
-        out.note(File::Program, Some(draw.spot), told)?;
+/// The draws that aren't told yet, and the numbers of the events by which input calls give theirs.
+#[derive(Drop)]
+struct Left<'a> {
+    draws: &'a [Draw],
+    inputs: &'a [u64],
+    /// The event of the draw before.
+    event: u64,
+}
+
+impl<'a> Left<'a> {
+    /// The event of the next draw; what is drawn for an object without a value belongs to the draw before.
+    fn event_of(&self, draw: &Draw) -> u64 {
+        match draw.from {
+            DrawKind::Input => self.inputs.first().copied().unwrap_or(self.event),
+            _ => self.event,
+        }
     }
-    Ok(())
+
+    /// Passes the next draw over.
+    fn pass(&mut self, draw: &Draw) {
+        self.event = self.event_of(draw);
+        self.draws = self.draws.get(1..).unwrap_or(&[]);
+        if draw.from == DrawKind::Input {
+            self.inputs = self.inputs.get(1..).unwrap_or(&[]);
+        }
+    }
+
+    /// A note for each value that is drawn up to an event.
+    fn note_up_to(
+        &mut self,
+        alloc: Global,
+        event: u64,
+        out: &mut Messages,
+    ) -> Result<(), OutOfMemory> {
+        let draws = self.draws;
+        for draw in draws {
+            if self.event_of(draw) > event {
+                break;
+            }
+            let told = draw_text(alloc, draw)?;
+            out.note(File::Program, Some(draw.spot), told)?;
+            self.pass(draw);
+        }
+        Ok(())
+    }
 }
 
 /// A segment that an event passes, and the number of its waypoint to follow.
@@ -53,9 +89,10 @@ fn waypoints_in(segment: &Segment) -> u32 {
     }
 }
 
-/// A note for each segment whose event was found, at the place of that event.
+/// A note for each value that the run draws and each segment whose event was found, in the order of the run.
 fn note_segments(
     alloc: Global,
+    left: &mut Left<'_>,
     segments: &[Segment],
     positions: &[u64],
     found: &[Spot],
@@ -64,48 +101,16 @@ fn note_segments(
     let mut waypoint = 0u32;
     for (at, segment) in segments.iter().enumerate() {
         let Some(spot) = found.get(at) else {
-            return Ok(());
+            break;
         };
         waypoint = waypoint.saturating_add(waypoints_in(segment));
         let position = positions.get(at).copied().unwrap_or(0);
+        left.note_up_to(alloc, position, out)?;
         let number = at.saturating_add(1);
         let told = segment_text(alloc, segment, number, waypoint, position)?;
         out.note(File::Program, Some(*spot), told)?;
     }
     Ok(())
-}
-
-/// A line on which a statement stands has a count, if only 0.
-fn mark_statement(lines: &mut Vec<Reached>, place: Place) {
-    let at = (place.spot.line as usize).saturating_sub(1);
-    let Some(line) = lines.get_mut(at) else {
-        return;
-    };
-    if matches!(place.kind, PlaceKind::Statement) && *line == Reached::NoStatement {
-        *line = Reached::Times(0);
-    }
-}
-
-/// How often each line was reached, where it was.
-fn begun_lines(alloc: Global, counts: &[u64]) -> Result<Vec<Reached>, OutOfMemory> {
-    let mut lines = Vec::new(alloc);
-    for count in counts {
-        lines.push(match *count {
-            0 => Reached::NoStatement,
-            count => Reached::Times(count),
-        })?;
-    }
-    Ok(lines)
-}
-
-/// How often each line of the program was reached.
-fn lines_of(alloc: Global, tracker: &Tracker<'_>) -> Result<Vec<Reached>, OutOfMemory> {
-    let mut lines = begun_lines(alloc, tracker.lines.as_slice())?;
-    let places = places(alloc, tracker.route().program())?;
-    for place in places.as_slice() {
-        mark_statement(&mut lines, *place);
-    }
-    Ok(lines)
 }
 
 /// A run that violates the property as the witness says.
@@ -117,8 +122,14 @@ pub fn show_run(
     tracker: &Tracker<'_>,
     out: &mut Messages,
 ) -> Result<(), OutOfMemory> {
-    note_draws(alloc, draws, out)?;
-    note_segments(alloc, segments, positions, tracker.found.as_slice(), out)?;
-    out.confirm(lines_of(alloc, tracker)?);
+    let mut left = Left {
+        draws: draws.get(..MOST).unwrap_or(draws),
+        inputs: tracker.inputs.as_slice(),
+        event: 0,
+    };
+    let found = tracker.found.as_slice();
+    note_segments(alloc, &mut left, segments, positions, found, out)?;
+    left.note_up_to(alloc, u64::MAX, out)?;
+    out.confirm();
     Ok(())
 }

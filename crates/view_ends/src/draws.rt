@@ -78,7 +78,7 @@ fn tallies_of(alloc: Global, draws: &[Draw]) -> Result<BTreeMap<(u32, u32), Tall
 
 /// How a value is given to an input call.
 const REMEDY: &str =
-    "a waypoint gives one: function_return with `\\result == VALUE` at the closing parenthesis, or an assumption on the statement behind it";
+    "function_return with `\\result == VALUE` at the closing parenthesis gives one, or an assumption on the statement after it";
 
 /// The values of a place, as `1, 2, 3, 4, 5, .., 9`.
 fn values_text(alloc: Global, tally: &Tally) -> Result<String, OutOfMemory> {
@@ -109,7 +109,7 @@ fn one_text(alloc: Global, tally: &Tally, taker: &str, given: u64) -> Result<Str
         )?);
     }
     Ok(format!(in alloc;
-        "this input call drew one {ty}{taker}, which was 0 for want of a value; {remedy}"
+        "this input call drew one {ty}{taker}, which was 0, since no waypoint gives a value; {remedy}"
     )?)
 }
 
@@ -134,7 +134,7 @@ fn input_text(
         )?);
     }
     Ok(format!(in alloc;
-        "this input call drew {count} values of {ty}{taker}: {values}, the last {free} of them 0 for want of a value; {remedy}"
+        "this input call drew {count} values of {ty}{taker}: {values}, the last {free} of them 0, since no waypoint gives them; {remedy}"
     )?)
 }
 

@@ -20,8 +20,8 @@ fn why_text(alloc: Global, tracker: &Tracker<'_>, unfixed: u64) -> Result<String
             alloc,
             "the values that it drew, below, don't lead to the target",
         )?),
-        1 => Ok(String::from_str(alloc, "1 draw took 0 for want of a value")?),
-        _ => Ok(format!(in alloc; "{unfixed} draws took 0 for want of a value")?),
+        1 => Ok(String::from_str(alloc, "1 draw took 0, since no waypoint gives a value")?),
+        _ => Ok(format!(in alloc; "{unfixed} draws took 0, since no waypoint gives their values")?),
     }
 }
 

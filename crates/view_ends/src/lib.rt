@@ -3,6 +3,7 @@
 #![tactic(auto)]
 
 mod confirmed;
+mod counted;
 mod draws;
 mod ended;
 mod stored;
@@ -10,6 +11,7 @@ mod unfit;
 mod unmatched;
 
 pub use confirmed::show_run;
+pub use counted::count_lines;
 pub use draws::note_unfixed;
 pub use ended::explain_ended;
 pub use unmatched::explain_unmatched;

@@ -3,12 +3,12 @@ use crate::unfit::note_unfit;
 use c_core::Spot;
 use c_meaning::Event;
 use std::alloc::Global;
+use view_paths::{place_of_path, steps_of, waypoint_path};
 use view_runs::{
     Avoided, Tracker, Waiting, comings_text, event_spot, number_in_segment, number_of_follow,
     place_text, spot_of, times_text, values_text, waypoint_text,
 };
 use view_text::{File, Files, Messages};
-use view_witness::{place_of_path, steps_of, waypoint_path};
 use way_match::Point;
 use wv_base::OutOfMemory;
 use wv_schema::{Segment, WayKind, Waypoint, Witness};
@@ -29,11 +29,11 @@ fn visits_text(alloc: Global, kind: WayKind, visits: u64) -> Result<String, OutO
     if kind == WayKind::Target {
         Ok(String::from_str(alloc, "the violation isn't there")?)
     } else if visits == 0 {
-        Ok(String::from_str(alloc, "the run didn't come by there any more")?)
+        Ok(String::from_str(alloc, "the run didn't come to this place any more")?)
     } else {
         let times = times_text(alloc, visits)?;
         let times = times.as_str();
-        Ok(format!(in alloc; "the run came by there {times}, and it was never passed")?)
+        Ok(format!(in alloc; "the run came to this place {times}, and didn't pass the waypoint")?)
     }
 }
 
@@ -47,11 +47,11 @@ fn avoided_before(
     let event = avoided.coming.number;
     if count == 1 {
         return Ok(format!(in alloc;
-            "waypoint {number}, which is to avoid, was passed before it by event {event}"
+            "waypoint {number}, which has to be avoided, was passed before it by event {event}"
         )?);
     }
     Ok(format!(in alloc;
-        "waypoint {number}, which is to avoid, was passed before it by event {event}, the first of {count} times"
+        "waypoint {number}, which has to be avoided, was passed before it by event {event}, the first of {count} times"
     )?)
 }
 
@@ -116,7 +116,7 @@ fn note_comings(
     let program = tracker.route().program();
     let list = comings_text(alloc, program, &bound.follow, comings, visits)?;
     let list = list.as_str();
-    let told = format!(in alloc; "when the run came by here: {list}")?;
+    let told = format!(in alloc; "when the run came here: {list}")?;
     out.note(File::Program, Some(spot), told)
 }
 
@@ -156,7 +156,7 @@ fn avoided_text(
     let word = word.as_str();
     let event = avoided.coming.number;
     let mut told = format!(in alloc;
-        "waypoint {number}, {word}, is to avoid and was passed here by event {event}"
+        "waypoint {number}, {word}, has to be avoided, and was passed here by event {event}"
     )?;
     let bound = match tracker.segment(at) {
         Some(segment) => segment.avoids.get(avoided.at),

@@ -23,7 +23,7 @@ fn fault_of(alloc: Global, is_result: bool, text: &[u8]) -> Option<ExprFault> {
 }
 
 /// Whether a text is an expression, or a comparison of a result.
-fn is_read(alloc: Global, is_result: bool, text: &[u8]) -> Result<bool, OutOfMemory> {
+pub fn is_read(alloc: Global, is_result: bool, text: &[u8]) -> Result<bool, OutOfMemory> {
     match fault_of(alloc, is_result, text) {
         None => Ok(true),
         Some(ExprFault::OutOfMemory) => Err(OutOfMemory),

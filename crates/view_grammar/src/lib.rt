@@ -12,7 +12,7 @@ mod shrinking;
 mod sources;
 mod words;
 
-pub use constraint::{Lack, lack_of, words_of};
+pub use constraint::{Lack, is_read, lack_of, words_of};
 pub use refused::{explain_syntax, explain_tokens};
 pub use shrinking::{explain_recursion, explain_weight};
 pub use sources::{Spelling, read_source};

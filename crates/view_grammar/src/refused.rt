@@ -61,7 +61,7 @@ fn syntax_text(alloc: Global, text: &[u8], spot: Spot) -> Result<String, OutOfMe
     if word.is_empty() {
         Ok(String::from_str(alloc, rule)?)
     } else {
-        Ok(format!(in alloc; "{rule}, `{word}`")?)
+        Ok(format!(in alloc; "`{word}` can't stand here")?)
     }
 }
 

@@ -1,10 +1,11 @@
-// The words of the command line, read by `clap`.
+// The arguments of the command line, read by `clap`.
 use crate::certificate_words::{wanted_part, with_parts};
+use crate::screen::{Screen, wanted_look};
 use clap::builder::ValueParser;
 use clap::error::ErrorKind;
 use clap::{Arg, ArgAction, ArgMatches, Command};
 use std::alloc::{AllocError, Global};
-use view_text::printable_text;
+use view_text::{Look, printable_text};
 use wv_arguments::{Budgets, Names};
 use wv_base::OutOfMemory;
 
@@ -17,16 +18,30 @@ const AFTER: &str =
     "It prints the reply of `witval validate` or `witval recheck` word for word, and then messages in the form of compilers: \
 FILE:LINE:COLUMN: error: TEXT [code], the line, a caret. Messages are no verdicts of their own.\n\n\
 Status: that of `witval validate` or `witval recheck`: 0 confirmed, 1 not confirmed, 2 undecided, 3 refused, 4 a read fault, 5 a write fault, \
-6 want of memory, 7 misused words; 0 for this help.";
+6 out of memory, 7 misused arguments; 0 for this help.";
 
 /// How a judgement is shown.
 #[derive(Clone, Copy, Debug, PartialEq, Eq)]
 pub enum Form {
+    /// Plain text, as files and pipes have it.
     Text,
+    /// Text laid out for a screen.
+    Screen(Look),
     Sarif,
     Html,
     /// One line of JSON.
     Json,
+}
+
+/// How the judgements of a list are shown.
+#[derive(Clone, Copy, Debug, PartialEq, Eq)]
+pub enum ListForm {
+    /// A line of JSON for each.
+    Lines,
+    /// The same with its messages.
+    Messages,
+    /// A page of HTML with a row for each.
+    Page,
 }
 
 /// What is handed out of a certificate, for other checkers.
@@ -40,7 +55,7 @@ pub enum Part {
     Lrat(u64),
 }
 
-/// What the words ask for.
+/// What the arguments ask for.
 #[derive(Drop)]
 pub enum Asked<'a> {
     Judge {
@@ -59,15 +74,18 @@ pub enum Asked<'a> {
         names: Names<'a>,
         certificate: &'a str,
         part: Part,
+        /// In which form is shown why it isn't handed out.
+        form: Form,
     },
     /// Many judgements, by the name of their list.
     List {
         name: &'a str,
         budgets: Budgets,
+        form: ListForm,
     },
     /// The help, as it is printed.
     Help(String),
-    /// What is wrong with the words, as it may be printed.
+    /// What is wrong with the arguments, as it may be printed.
     Misuse(String),
 }
 
@@ -99,14 +117,12 @@ fn list<'a>(alloc: Global) -> Result<Arg<'a>, AllocError> {
         .long("list")
         .value_name("FILE")
         .help(
-            "Judges each line of a list, a program, a property and a witness parted by tabs or blanks, and prints a line of JSON for each; - is standard input",
+            "Judges each line of a list, a program, a property and a witness parted by tabs or blanks, and prints a line of JSON for each, with its messages by --json, or one page by --html; - is standard input",
         )
         .conflicts_with("program")?
         .conflicts_with("property")?
         .conflicts_with("witness")?
-        .conflicts_with("sarif")?
-        .conflicts_with("html")?
-        .conflicts_with("json")?;
+        .conflicts_with("sarif")?;
     Ok(arg)
 }
 
@@ -142,6 +158,26 @@ fn with_forms<'a>(alloc: Global, command: Command<'a>) -> Result<Command<'a>, Al
     Ok(command)
 }
 
+fn with_look<'a>(alloc: Global, command: Command<'a>) -> Result<Command<'a>, AllocError> {
+    let colour = Arg::new(alloc, "colour")
+        .long("colour")
+        .value_name("WHEN")
+        .help("Colours in text: always, never, or auto: on a terminal, unless NO_COLOR is set");
+    let width = Arg::new(alloc, "width")
+        .long("width")
+        .value_name("N")
+        .value_parser(ValueParser::unsigned(40, 1000))
+        .help(
+            "Cuts the lines of files to this width, 40 to 1000 bytes; else to COLUMNS on a terminal, and to 240",
+        );
+    let counts = Arg::new(alloc, "counts")
+        .long("counts")
+        .action(ArgAction::SetTrue)
+        .help("Shows the program with its counts in text after the messages about a run, too");
+    let command = command.arg(colour)?.arg(width)?.arg(counts)?;
+    Ok(command)
+}
+
 fn with_budgets<'a>(alloc: Global, command: Command<'a>) -> Result<Command<'a>, AllocError> {
     let command = command
         .arg(number(
@@ -164,7 +200,7 @@ fn with_budgets<'a>(alloc: Global, command: Command<'a>) -> Result<Command<'a>, 
 fn command<'a>(alloc: Global) -> Result<Command<'a>, AllocError> {
     let mode = Arg::new(alloc, "mode")
         .value_name("validate")
-        .help("May stand, as in the words of witval");
+        .help("May stand, as in a command of witval");
     let command = Command::new(alloc, "witval-view")
         .about(ABOUT)
         .after_help(AFTER)
@@ -172,6 +208,7 @@ fn command<'a>(alloc: Global) -> Result<Command<'a>, AllocError> {
     let command = with_files(alloc, command)?;
     let command = with_forms(alloc, command)?;
     let command = with_parts(alloc, command)?;
+    let command = with_look(alloc, command)?;
     with_budgets(alloc, command)
 }
 
@@ -182,15 +219,29 @@ fn budgets(matches: &ArgMatches<'_>) -> Budgets {
     }
 }
 
-fn wanted_form(matches: &ArgMatches<'_>) -> Form {
+/// The form that is asked for, where text is laid out like this.
+fn wanted_form(matches: &ArgMatches<'_>, look: Look) -> Form {
     if matches.get_flag("sarif") {
         Form::Sarif
     } else if matches.get_flag("html") {
         Form::Html
     } else if matches.get_flag("json") {
         Form::Json
-    } else {
+    } else if look == Look::plain() {
         Form::Text
+    } else {
+        Form::Screen(look)
+    }
+}
+
+/// The form of a list that is asked for.
+fn list_form(matches: &ArgMatches<'_>) -> ListForm {
+    if matches.get_flag("html") {
+        ListForm::Page
+    } else if matches.get_flag("json") {
+        ListForm::Messages
+    } else {
+        ListForm::Lines
     }
 }
 
@@ -206,24 +257,39 @@ fn misuse<'a>(alloc: Global, text: &str) -> Result<Asked<'a>, OutOfMemory> {
     Ok(Asked::Misuse(String::from_str(alloc, text)?))
 }
 
-fn asked_by<'a>(alloc: Global, matches: &ArgMatches<'a>) -> Result<Asked<'a>, OutOfMemory> {
+fn asked_by<'a>(
+    alloc: Global,
+    matches: &ArgMatches<'a>,
+    screen: Screen,
+) -> Result<Asked<'a>, OutOfMemory> {
     match matches.get_str("mode") {
         Some("validate") | None => {}
         Some(_) => return misuse(alloc, "error: the one mode is validate\n"),
     }
+    let Some(look) = wanted_look(matches, screen) else {
+        return misuse(alloc, "error: --colour is always, never or auto\n");
+    };
     let budgets = budgets(matches);
     if let Some(name) = matches.get_str("list") {
-        return Ok(Asked::List { name, budgets });
+        return Ok(Asked::List {
+            name,
+            budgets,
+            form: list_form(matches),
+        });
     }
     match names(matches) {
-        Some(names) => Ok(asked_of(matches, names, budgets)),
+        Some(names) => Ok(asked_of(matches, names, budgets, wanted_form(matches, look))),
         None => misuse(alloc, "error: a file isn't named\n"),
     }
 }
 
 /// What is asked of three files, and of a certificate where one is named.
-fn asked_of<'a>(matches: &ArgMatches<'a>, names: Names<'a>, budgets: Budgets) -> Asked<'a> {
-    let form = wanted_form(matches);
+fn asked_of<'a>(
+    matches: &ArgMatches<'a>,
+    names: Names<'a>,
+    budgets: Budgets,
+    form: Form,
+) -> Asked<'a> {
     let Some(certificate) = matches.get_str("certificate") else {
         return Asked::Judge {
             names,
@@ -236,6 +302,7 @@ fn asked_of<'a>(matches: &ArgMatches<'a>, names: Names<'a>, budgets: Budgets) ->
             names,
             certificate,
             part,
+            form,
         },
         None => Asked::Recheck {
             names,
@@ -245,11 +312,20 @@ fn asked_of<'a>(matches: &ArgMatches<'a>, names: Names<'a>, budgets: Budgets) ->
     }
 }
 
-/// What the words ask for, the first of which is the program's own name.
+/// What the arguments ask for, the first of which is the program's own name, where a file or a pipe is written.
 pub fn read_words(alloc: Global, words: &[String]) -> Result<Asked<'_>, OutOfMemory> {
+    read_words_at(alloc, words, Screen::file())
+}
+
+/// What the arguments ask for, where this screen is written on.
+pub fn read_words_at(
+    alloc: Global,
+    words: &[String],
+    screen: Screen,
+) -> Result<Asked<'_>, OutOfMemory> {
     let command = command(alloc)?;
     match command.try_get_matches_from(words) {
-        Ok(matches) => asked_by(alloc, &matches),
+        Ok(matches) => asked_by(alloc, &matches, screen),
         Err(error) => match error.kind() {
             ErrorKind::OutOfMemory => Err(OutOfMemory),
             ErrorKind::DisplayHelp => Ok(Asked::Help(format!(in alloc; "{error}")?)),

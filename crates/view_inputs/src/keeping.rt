@@ -28,7 +28,13 @@ impl<S> Keeping<S> {
         }
     }
 
-    /// Whether memory was wanting for what was read.
+    /// Forgets what was read, before other files are begun.
+    pub fn forget(&mut self, alloc: Global) {
+        self.kept = Vec::new(alloc);
+        self.is_lost = false;
+    }
+
+    /// Whether memory ran out for what was read.
     pub fn is_lost(&self) -> bool {
         self.is_lost
     }

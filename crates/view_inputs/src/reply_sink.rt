@@ -24,7 +24,7 @@ impl ReplySink {
         self.bytes
     }
 
-    /// Whether memory was wanting for what was written.
+    /// Whether memory ran out for what was written.
     pub fn has_failed(&self) -> bool {
         self.faults > 0
     }

@@ -75,12 +75,13 @@ fn part_of(
     }
 }
 
-/// A part of a certificate that is accepted; of another one what is shown of it.
+/// A part of a certificate that is accepted; of another one what is shown of it, in a form.
 pub fn hand_out<S: Shelf + Drop>(
     alloc: Global,
     names: &Names<'_>,
     certificate: &str,
     part: Part,
+    form: Form,
     shelf: S,
 ) -> Result<Handed, OutOfMemory> {
     let mut shelf = Keeping::new(alloc, shelf);
@@ -107,7 +108,7 @@ pub fn hand_out<S: Shelf + Drop>(
             return part_of(alloc, &files, &found, part);
         }
     }
-    let output = output_of(alloc, &files, &replied, Asking::Recheck, Form::Text)?;
+    let output = output_of(alloc, &files, &replied, Asking::Recheck, form)?;
     Ok(Handed {
         output,
         told: String::new(alloc),

@@ -5,7 +5,10 @@ use view_certificate::explain_certificate;
 use view_inputs::{Form, Keeping};
 use view_pages::{json_of, log_of, page_of};
 use view_program::explain;
-use view_text::{File, Files, Messages, advice, push_listing, push_message};
+use view_text::{
+    File, Files, Look, Messages, advice, escaped_json, lay_out_counts, lay_out_listing,
+    lay_out_message, printable_text,
+};
 use wv_arguments::{Budgets, Names};
 use wv_base::{OutOfMemory, Shelf};
 
@@ -53,7 +56,7 @@ fn explain_reply(
 }
 
 /// What there is to say of a reply.
-fn messages_of(
+pub fn messages_of(
     alloc: Global,
     replied: &Replied,
     files: &Files<'_>,
@@ -71,34 +74,76 @@ fn messages_of(
     Ok(messages)
 }
 
-/// Messages one behind another, or a confirmation in the text of the program.
+/// Messages one after another, and the program with its counts where these are asked for; or a confirmation in the text
+/// of the program.
 fn shown_text(
     alloc: Global,
+    look: Look,
     files: &Files<'_>,
     messages: &Messages,
 ) -> Result<String, OutOfMemory> {
     let mut text = String::new(alloc);
-    if messages.counts().is_some() {
-        push_listing(alloc, &mut text, files, messages)?;
+    if messages.is_confirmed() {
+        lay_out_listing(alloc, &mut text, look, files, messages)?;
         return Ok(text);
     }
     for message in messages.as_slice() {
-        push_message(alloc, &mut text, files, message)?;
+        lay_out_message(alloc, &mut text, look, files, message)?;
+    }
+    if look.has_counts && !messages.counts().is_empty() {
+        lay_out_counts(alloc, &mut text, look, files, messages)?;
     }
     Ok(text)
 }
 
-/// The reply's own bytes, and behind them what there is to look at.
-fn shown_behind(
+/// The reply as a terminal may have it.
+fn printable_reply(alloc: Global, replied: &Replied) -> Result<String, OutOfMemory> {
+    let reply = String::from_utf8_lossy(alloc, replied.reply.as_slice())?;
+    printable_text(alloc, reply.as_str())
+}
+
+/// The reply's own bytes, and after them what there is to look at.
+fn shown_after(
     alloc: Global,
+    look: Look,
     files: &Files<'_>,
     replied: &Replied,
     messages: &Messages,
 ) -> Result<Vec<u8>, OutOfMemory> {
-    let text = shown_text(alloc, files, messages)?;
-    let mut bytes = replied.reply.clone()?;
+    let text = shown_text(alloc, look, files, messages)?;
+    let mut bytes = if look.is_terminal {
+        printable_reply(alloc, replied)?.into_bytes()
+    } else {
+        replied.reply.clone()?
+    };
     bytes.extend_from_slice(text.as_bytes())?;
     Ok(bytes)
+}
+
+/// One line of JSON, without characters that a terminal takes for commands.
+pub fn json_line(
+    alloc: Global,
+    files: &Files<'_>,
+    replied: &Replied,
+    messages: &Messages,
+) -> Result<String, OutOfMemory> {
+    let reply = String::from_utf8_lossy(alloc, replied.reply.as_slice())?;
+    let messages = messages.as_slice();
+    let line = json_of(alloc, files, reply.as_str(), replied.status, messages)?;
+    escaped_json(alloc, line.as_str())
+}
+
+/// A log in one line, without such characters either.
+fn log_line(
+    alloc: Global,
+    files: &Files<'_>,
+    replied: &Replied,
+    messages: &Messages,
+) -> Result<String, OutOfMemory> {
+    let reply = String::from_utf8_lossy(alloc, replied.reply.as_slice())?;
+    let messages = messages.as_slice();
+    let log = log_of(alloc, files, reply.as_str(), replied.status, messages)?;
+    escaped_json(alloc, log.as_str())
 }
 
 /// The whole of what is printed.
@@ -109,15 +154,14 @@ fn printed(
     messages: &Messages,
     form: Form,
 ) -> Result<Vec<u8>, OutOfMemory> {
-    if form == Form::Text {
-        return shown_behind(alloc, files, replied, messages);
-    }
     let reply = String::from_utf8_lossy(alloc, replied.reply.as_slice())?;
     let reply = reply.as_str();
     let text = match form {
+        Form::Text => return shown_after(alloc, Look::plain(), files, replied, messages),
+        Form::Screen(look) => return shown_after(alloc, look, files, replied, messages),
         Form::Html => page_of(alloc, files, reply, messages)?,
-        Form::Json => json_of(alloc, files, reply, replied.status, messages.as_slice())?,
-        _ => log_of(alloc, files, reply, replied.status, messages.as_slice())?,
+        Form::Json => json_line(alloc, files, replied, messages)?,
+        Form::Sarif => log_line(alloc, files, replied, messages)?,
     };
     Ok(text.into_bytes())
 }

@@ -1,6 +1,6 @@
 // One page: the reply, the messages, and the program and the witness with the messages below their lines.
 use crate::escaped::push_html;
-use crate::page::{HEAD, TAIL};
+use crate::page::{HEAD, REPLY, TAIL};
 use c_core::Spot;
 use std::alloc::Global;
 use view_text::{File, Files, Message, Messages, Reached, by_line, parted_at};
@@ -26,7 +26,17 @@ fn push_spot(out: &mut String, file: File, spot: Spot) -> Result<(), OutOfMemory
     Ok(())
 }
 
-fn push_told(alloc: Global, out: &mut String, message: &Message) -> Result<(), OutOfMemory> {
+/// The lines of a reply.
+pub fn push_reply(alloc: Global, out: &mut String, reply: &str) -> Result<(), OutOfMemory> {
+    for line in reply.lines() {
+        push_html(alloc, out, line.as_bytes())?;
+        out.push_str("\n")?;
+    }
+    Ok(())
+}
+
+/// The level, the text and the code of a message.
+pub fn push_told(alloc: Global, out: &mut String, message: &Message) -> Result<(), OutOfMemory> {
     let level = message.level.word();
     write!(out, "{level}: ")?;
     push_html(alloc, out, message.text.as_bytes())?;
@@ -177,8 +187,8 @@ fn push_file(
     Ok(())
 }
 
-/// The page of a reply and what is told of it. The column of numbers at the left tells how often a line of the program
-/// was reached.
+/// The page of a reply and what is told of it. The column of numbers at the left tells how often the run came to a line
+/// of the program.
 pub fn page_of(
     alloc: Global,
     files: &Files<'_>,
@@ -186,14 +196,12 @@ pub fn page_of(
     messages: &Messages,
 ) -> Result<String, OutOfMemory> {
     let mut out = String::from_str(alloc, HEAD)?;
-    for line in reply.lines() {
-        push_html(alloc, &mut out, line.as_bytes())?;
-        out.push_str("\n")?;
-    }
+    out.push_str(REPLY)?;
+    push_reply(alloc, &mut out, reply)?;
     out.push_str("</pre>\n")?;
     let told = messages.as_slice();
     push_list(alloc, &mut out, files, told)?;
-    let counts = messages.counts().unwrap_or(&[]);
+    let counts = messages.counts();
     push_file(alloc, &mut out, files, File::Program, counts, told)?;
     push_file(alloc, &mut out, files, File::Witness, &[], told)?;
     out.push_str(TAIL)?;

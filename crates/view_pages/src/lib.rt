@@ -6,6 +6,7 @@ mod confirmed;
 mod escaped;
 mod html;
 mod json_line;
+mod list_page;
 mod page;
 mod regions;
 mod results;
@@ -14,4 +15,5 @@ mod sarif_log;
 
 pub use html::page_of;
 pub use json_line::json_of;
+pub use list_page::{list_head, list_row, list_tail};
 pub use sarif_log::log_of;

@@ -1,6 +1,6 @@
 // The parts of a page that are the same on each.
 
-/// What stands before the reply. The page asks for nothing from anywhere, and says so to the browser.
+/// What stands before the heading. The page asks for nothing from anywhere, and says so to the browser.
 pub const HEAD: &str = "<!DOCTYPE html>
 <html lang=\"en\">
 <head>
@@ -21,8 +21,16 @@ ul li { margin-bottom: 0.4em; }
 </style>
 </head>
 <body>
-<h1>Verdict</h1>
-<pre>";
+";
 
-/// What stands behind the files.
+/// What stands before the reply.
+pub const REPLY: &str = "<h1>Verdict</h1>\n<pre>";
+
+/// What stands before the judgements of a list.
+pub const LIST: &str = "<h1>Verdicts</h1>
+<table>
+<tr><td>line</td><td>status</td><td>files</td><td>reply</td><td>errors and warnings</td></tr>
+";
+
+/// What stands after the files, or after the table of a list.
 pub const TAIL: &str = "</body>\n</html>\n";

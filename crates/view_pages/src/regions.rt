@@ -1,10 +1,10 @@
 // Where messages stand, as SARIF has it (SARIF 2.1.0 3.29, 3.30): lines and columns from 1, columns in characters, and
 // the end behind the last character.
-use crate::escaped::reference_to;
+use crate::escaped::{plain_text, reference_to};
 use c_core::Spot;
 use serde_json::{Value, json};
 use std::alloc::Global;
-use view_text::{File, Files, Message};
+use view_text::{Change, File, Files, Message, extent_of};
 use wv_base::OutOfMemory;
 
 /// The files that are judged, with where the lines of each begin.
@@ -69,47 +69,6 @@ impl<'a> Sources<'a> {
     }
 }
 
-/// Whether a byte stands in a word, as of a name, a number or a text outside ASCII.
-fn is_word(byte: u8) -> bool {
-    byte.is_ascii_alphanumeric() || byte == b'_' || byte == b'\\' || byte >= 128
-}
-
-/// How many bytes the word has that a text begins with.
-fn word_length(text: &[u8]) -> usize {
-    let mut length = 0usize;
-    for byte in text {
-        if !is_word(*byte) {
-            break;
-        }
-        length = length.saturating_add(1);
-    }
-    length
-}
-
-/// A text without white space at its end.
-fn trimmed_length(text: &[u8]) -> usize {
-    let mut length = 0usize;
-    for (at, byte) in text.iter().enumerate() {
-        if !byte.is_ascii_whitespace() {
-            length = at.saturating_add(1);
-        }
-    }
-    length
-}
-
-/// How many bytes belong to what stands at the front of a text: a word, a sign of the program, or what is left of a
-/// line of another file.
-fn length_at(file: File, text: &[u8]) -> usize {
-    let length = word_length(text);
-    if length > 0 {
-        return length;
-    }
-    match file {
-        File::Program => text.len().min(1),
-        _ => trimmed_length(text),
-    }
-}
-
 /// How many characters bytes are.
 fn characters(alloc: Global, bytes: &[u8]) -> Result<u64, OutOfMemory> {
     let text = String::from_utf8_lossy(alloc, bytes)?;
@@ -120,17 +79,22 @@ fn characters(alloc: Global, bytes: &[u8]) -> Result<u64, OutOfMemory> {
     Ok(count)
 }
 
-/// The region of what stands at a place.
+/// The region of so many bytes from a place on, or, of 0, of what stands there.
 fn region_value(
     alloc: Global,
     sources: &Sources<'_>,
     file: File,
     spot: Spot,
+    width: u32,
 ) -> Result<Value, OutOfMemory> {
     let line = sources.line(file, spot.line);
     let at = (spot.column as usize).saturating_sub(1).min(line.len());
     let rest = line.get(at..).unwrap_or(&[]);
-    let own = rest.get(..length_at(file, rest)).unwrap_or(rest);
+    let length = match width {
+        0 => extent_of(file, rest),
+        _ => width as usize,
+    };
+    let own = rest.get(..length).unwrap_or(rest);
     let start = characters(alloc, line.get(..at).unwrap_or(&[]))?.saturating_add(1);
     let end = characters(alloc, own)?.saturating_add(start);
     let number = spot.line.max(1);
@@ -151,9 +115,37 @@ pub fn place_value(
     let uri = reference_to(alloc, sources.name(message.file))?;
     match message.spot {
         Some(spot) => {
-            let region = region_value(alloc, sources, message.file, spot)?;
+            let region = region_value(alloc, sources, message.file, spot, message.width)?;
             Ok(json!(in alloc; { "artifactLocation": { "uri": uri }, "region": region })?)
         }
         None => Ok(json!(in alloc; { "artifactLocation": { "uri": uri } })?),
     }
+}
+
+/// A text of the witness that is replaced (SARIF 2.1.0 3.57).
+fn replacement_value(
+    alloc: Global,
+    sources: &Sources<'_>,
+    change: &Change,
+) -> Result<Value, OutOfMemory> {
+    let region = region_value(alloc, sources, File::Witness, change.spot, change.width)?;
+    let text = plain_text(alloc, change.text.as_str())?;
+    Ok(json!(in alloc; { "deletedRegion": region, "insertedContent": { "text": text } })?)
+}
+
+/// Changes of the witness that together mend what a result is about (3.55, 3.56).
+pub fn fix_value(
+    alloc: Global,
+    sources: &Sources<'_>,
+    changes: &[Change],
+) -> Result<Value, OutOfMemory> {
+    let mut values = Vec::new(alloc);
+    for change in changes {
+        let value = replacement_value(alloc, sources, change)?;
+        serde_json::push(&mut values, value)?;
+    }
+    let uri = reference_to(alloc, sources.name(File::Witness))?;
+    Ok(json!(in alloc; {
+        "artifactChanges": [{ "artifactLocation": { "uri": uri }, "replacements": values }]
+    })?)
 }

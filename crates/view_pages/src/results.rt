@@ -1,6 +1,6 @@
 // The results of a SARIF log (SARIF 2.1.0 3.27): each error or warning, with the notes behind it as related places.
 use crate::escaped::logged_text;
-use crate::regions::{Sources, place_value};
+use crate::regions::{Sources, fix_value, place_value};
 use crate::rules::index_of;
 use serde_json::{Value, json};
 use std::alloc::Global;
@@ -38,6 +38,20 @@ fn related_values(
     Ok(values)
 }
 
+/// The changes that mend what a message is about, where they are known.
+fn fix_values(
+    alloc: Global,
+    sources: &Sources<'_>,
+    message: &Message,
+) -> Result<Vec<Value>, OutOfMemory> {
+    let mut values = Vec::new(alloc);
+    if message.changes.len() > 0 {
+        let value = fix_value(alloc, sources, message.changes.as_slice())?;
+        serde_json::push(&mut values, value)?;
+    }
+    Ok(values)
+}
+
 fn result_value(
     alloc: Global,
     sources: &Sources<'_>,
@@ -48,10 +62,12 @@ fn result_value(
     let text = logged_text(alloc, message.text.as_str())?;
     let place = place_value(alloc, sources, message)?;
     let related = related_values(alloc, sources, behind)?;
+    let fixes = fix_values(alloc, sources, message)?;
     let level = message.level.word();
     let code = message.code.as_str();
     let index = index_of(codes, code);
     Ok(json!(in alloc; {
+        "fixes": fixes,
         "level": level,
         "locations": [{ "physicalLocation": place }],
         "message": { "text": text },

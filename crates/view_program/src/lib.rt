@@ -3,6 +3,9 @@
 //! answer comes from here: the reply is that of `witval::run`, and this crate only says what a reader may look at.
 #![tactic(auto)]
 
+mod further;
+mod items;
+mod refusals;
 mod sets;
 mod stages;
 

@@ -1,14 +1,14 @@
 // The stages of the validator, in its order, up to the one that refuses or judges.
 ghost use Rattle.std.specs.Prelude.{◌≤◌};
 
+use crate::further::explain_refused;
 use crate::sets::explain_sets;
 use c_check::check;
 use c_core::{DataModel, Program, Property, Spot};
 use c_parser::Source;
-use check_rules::{CheckCode, CheckFault};
 use std::alloc::Global;
 use view_claims::explain_sequence;
-use view_grammar::{Spelling, explain_syntax, explain_tokens, read_source, word_text};
+use view_grammar::{Spelling, read_source};
 use view_text::{File, Files, Messages, advice};
 use view_witness::{explain_schema, explain_task, explain_yaml, warn_of_unread};
 use wv_arguments::Budgets;
@@ -31,47 +31,6 @@ fn limited(conflicts: u64) -> u64
         MOST_CONFLICTS
     } else {
         conflicts
-    }
-}
-
-fn code_of(code: CheckCode) -> &'static str {
-    match code {
-        CheckCode::Name => "check-name",
-        CheckCode::Again => "check-again",
-        CheckCode::Typing => "check-typing",
-        CheckCode::Size => "check-size",
-        CheckCode::Order => "check-order",
-        CheckCode::Body => "check-body",
-        CheckCode::Main => "check-main",
-        CheckCode::Cells => "check-cells",
-    }
-}
-
-/// A rule that is broken at a place, with the word that stands there.
-fn check_text(alloc: Global, code: &str, text: &[u8], spot: Spot) -> Result<String, OutOfMemory> {
-    let found = word_text(alloc, text, spot)?;
-    let word = found.as_str();
-    let rule = advice(code);
-    if word.is_empty() {
-        Ok(String::from_str(alloc, rule)?)
-    } else {
-        Ok(format!(in alloc; "`{word}`: {rule}")?)
-    }
-}
-
-fn explain_check(
-    alloc: Global,
-    files: &Files<'_>,
-    fault: CheckFault,
-    out: &mut Messages,
-) -> Result<(), OutOfMemory> {
-    match fault {
-        CheckFault::Refused { code, spot } => {
-            let name = code_of(code);
-            let told = check_text(alloc, name, files.text(File::Program), spot)?;
-            out.error(name, File::Program, Some(spot), told)
-        }
-        CheckFault::OutOfMemory => Err(OutOfMemory),
     }
 }
 
@@ -118,7 +77,7 @@ fn explain_source(
 ) -> Result<(), OutOfMemory> {
     match check(alloc, source, model, property) {
         Ok(program) => explain_program(alloc, files, budgets, &program, witness, out),
-        Err(fault) => explain_check(alloc, files, fault, out),
+        Err(_) => explain_refused(alloc, files, model, property, out),
     }
 }
 
@@ -135,8 +94,9 @@ fn explain_text(
         Spelling::Source(source) => explain_source(
             alloc, files, budgets, &source, model, property, witness, out,
         ),
-        Spelling::NoTokens(fault) => explain_tokens(alloc, files, fault, out),
-        Spelling::NoSource(fault) => explain_syntax(alloc, files, fault, out),
+        Spelling::NoTokens(_) | Spelling::NoSource(_) => {
+            explain_refused(alloc, files, model, property, out)
+        }
     }
 }
 

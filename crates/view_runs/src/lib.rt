@@ -1,5 +1,5 @@
 //! A violation sequence along the run that it gives: how far the run passes its segments, what its constraints read at
-//! each coming, how often it begins each line; and the words that messages have for waypoints, types, places and
+//! each coming, how often it comes to each line; and the words that messages have for waypoints, types, places and
 //! objects.
 #![tactic(auto)]
 

@@ -2,6 +2,7 @@
 use c_core::{Expr, Node, Program};
 use c_meaning::{Memory, value_in};
 use std::alloc::Global;
+use view_counts::open_parts;
 use wv_base::OutOfMemory;
 
 /// So many parts of an expression are looked at.
@@ -16,49 +17,6 @@ pub struct Sample {
     value: Option<i128>,
     row: Option<i128>,
     column: Option<i128>,
-}
-
-fn open_one<'a>(open: &mut Vec<&'a Expr>, e: &'a Expr) -> Result<(), OutOfMemory> {
-    open.push(e)?;
-    Ok(())
-}
-
-/// Opens the later part first, so that the earlier one is looked at before it.
-fn open_two<'a>(
-    open: &mut Vec<&'a Expr>,
-    left: &'a Expr,
-    right: &'a Expr,
-) -> Result<(), OutOfMemory> {
-    open_one(open, right)?;
-    open_one(open, left)
-}
-
-fn open_each<'a>(open: &mut Vec<&'a Expr>, list: &'a [Expr]) -> Result<(), OutOfMemory> {
-    for e in list {
-        open_one(open, e)?;
-    }
-    Ok(())
-}
-
-/// Opens the parts of an expression.
-fn open_parts<'a>(open: &mut Vec<&'a Expr>, e: &'a Expr) -> Result<(), OutOfMemory> {
-    match &e.node {
-        Node::Const(_) => Ok(()),
-        Node::Var(_) => Ok(()),
-        Node::Index { at, .. } => open_each(open, at.as_slice()),
-        Node::Unary { of, .. } => open_one(open, of),
-        Node::Cast(of) => open_one(open, of),
-        Node::Step { target, .. } => open_one(open, target),
-        Node::Logic { left, right, .. } => open_two(open, left, right),
-        Node::Binary { left, right, .. } => open_two(open, left, right),
-        Node::Comma { first, last } => open_two(open, first, last),
-        Node::Choose { test, yes, no, .. } => {
-            open_two(open, yes, no)?;
-            open_one(open, test)
-        }
-        Node::Assign { target, from, .. } => open_two(open, target, from),
-        Node::Call { args, .. } => open_each(open, args.as_slice()),
-    }
 }
 
 /// Whether two expressions are the same object.

@@ -2,10 +2,12 @@
 use crate::comings::{Comings, Moment};
 use crate::route::{Route, Waiting};
 use crate::ways::Ways;
-use c_core::{Program, Spot};
+use c_core::{Callee, Node, Program, Spot};
 use c_meaning::{Event, Memory, Watcher};
 use std::alloc::Global;
+use view_counts::Counts;
 use way_match::{Bound, BoundSegment};
+use way_places::Index;
 use wv_base::OutOfMemory;
 
 /// Sees the events of a run. It claims nothing: what it keeps is shown, and no verdict rests on it.
@@ -13,6 +15,8 @@ use wv_base::OutOfMemory;
 pub struct Tracker<'a> {
     route: Route<'a>,
     ways: Ways,
+    /// How often each line was come to, as gcov counts it.
+    pub counts: Counts,
     /// How often a statement of each line was begun; of line 1 at 0.
     pub lines: Vec<u64>,
     /// The statement that was begun last.
@@ -24,6 +28,28 @@ pub struct Tracker<'a> {
     wanted: &'a [u64],
     /// The places of those of them that came.
     pub found: Vec<Spot>,
+    /// The numbers of the first events by which input calls gave a value, rising.
+    pub inputs: Vec<u64>,
+}
+
+/// So many events of input calls are kept.
+const MOST_INPUTS: usize = 200;
+
+/// Whether an input call gives a value by an event.
+fn gives_input(index: &Index, event: Event) -> bool {
+    let Event::Return(close, _) = event else {
+        return false;
+    };
+    match index.call_at(close) {
+        Some(call) => matches!(
+            &call.node,
+            Node::Call {
+                callee: Callee::Input(_),
+                ..
+            }
+        ),
+        None => false,
+    }
 }
 
 /// The place of an event.
@@ -57,16 +83,19 @@ impl<'a> Tracker<'a> {
     ) -> Result<Tracker<'a>, OutOfMemory> {
         let route = Route::new(alloc, program, bound)?;
         let ways = Ways::new(alloc, bound.segments.as_slice())?;
+        let counts = Counts::new(alloc, program, line_count)?;
         let lines = no_counts(alloc, line_count)?;
         Ok(Tracker {
             route,
             ways,
+            counts,
             lines,
             last: None,
             violation: None,
             events: 0,
             wanted,
             found: Vec::new(alloc),
+            inputs: Vec::new(alloc),
         })
     }
 
@@ -103,6 +132,14 @@ impl<'a> Tracker<'a> {
         Ok(())
     }
 
+    /// Keeps the number of the event, where an input call gives a value by it.
+    fn keep_input(&mut self, event: Event) -> Result<(), OutOfMemory> {
+        if self.inputs.len() < MOST_INPUTS && gives_input(self.route.index(), event) {
+            self.inputs.push(self.events)?;
+        }
+        Ok(())
+    }
+
     fn count_line(&mut self, spot: Spot) {
         let at = (spot.line as usize).saturating_sub(1);
         if let Some(count) = self.lines.get_mut(at) {
@@ -124,6 +161,7 @@ impl<'a> Watcher for Tracker<'a> {
 
     fn see(&mut self, event: Event, memory: &Memory) -> Result<(), OutOfMemory> {
         self.keep(event)?;
+        self.keep_input(event)?;
         let moment = Moment {
             number: self.events,
             event,
@@ -135,6 +173,7 @@ impl<'a> Watcher for Tracker<'a> {
             Event::Fail { .. } => self.violation = Some(event),
             _ => {}
         }
+        self.counts.pass(self.route.index(), event)?;
         self.ways.pass(&self.route, &moment)?;
         if let Event::At(spot) = event {
             self.ways.try_at(&self.route, spot, &moment);

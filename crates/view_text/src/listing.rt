@@ -107,14 +107,28 @@ fn push_warnings(
     Ok(())
 }
 
-/// Appends warnings and the program, as files and pipes have it.
-pub fn push_listing(
+/// The lines of the program, each with its count and with the notes at these places below it.
+fn push_lines(
     alloc: Global,
     out: &mut String,
+    look: Look,
     files: &Files<'_>,
     messages: &Messages,
+    places: &[(u32, usize)],
 ) -> Result<(), OutOfMemory> {
-    lay_out_listing(alloc, out, Look::plain(), files, messages)
+    let counts = messages.counts();
+    let mut later = places;
+    let mut number = 0u32;
+    for line in without_last_end(files.text(File::Program)).split(|byte| *byte == b'\n') {
+        let reached = counts.get(number as usize).copied();
+        let reached = reached.unwrap_or(Reached::NoStatement);
+        number = number.saturating_add(1);
+        let (here, behind) = parted_at(later, number);
+        later = behind;
+        push_line(alloc, out, look, line, number, reached)?;
+        push_notes(alloc, out, look, line, here, messages.as_slice())?;
+    }
+    Ok(())
 }
 
 /// Appends warnings, and after them the program line by line, with counts and notes: `#####` where statements stand and
@@ -127,18 +141,17 @@ pub fn lay_out_listing(
     messages: &Messages,
 ) -> Result<(), OutOfMemory> {
     push_warnings(alloc, out, look, files, messages.as_slice())?;
-    let counts = messages.counts().unwrap_or(&[]);
     let places = by_line(alloc, messages.as_slice(), File::Program)?;
-    let mut later = places.as_slice();
-    let mut number = 0u32;
-    for line in without_last_end(files.text(File::Program)).split(|byte| *byte == b'\n') {
-        let reached = counts.get(number as usize).copied();
-        let reached = reached.unwrap_or(Reached::NoStatement);
-        number = number.saturating_add(1);
-        let (here, behind) = parted_at(later, number);
-        later = behind;
-        push_line(alloc, out, look, line, number, reached)?;
-        push_notes(alloc, out, look, line, here, messages.as_slice())?;
-    }
-    Ok(())
+    push_lines(alloc, out, look, files, messages, places.as_slice())
+}
+
+/// Appends the program line by line, with counts alone.
+pub fn lay_out_counts(
+    alloc: Global,
+    out: &mut String,
+    look: Look,
+    files: &Files<'_>,
+    messages: &Messages,
+) -> Result<(), OutOfMemory> {
+    push_lines(alloc, out, look, files, messages, &[])
 }

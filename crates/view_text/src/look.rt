@@ -15,6 +15,10 @@ pub struct Look {
     pub width: u32,
     /// Whether colours are asked for, by the sequences of ECMA-48 8.3.117 (SGR).
     pub is_coloured: bool,
+    /// Whether the lines of the program are shown with their counts where a run isn't confirmed, too.
+    pub has_counts: bool,
+    /// Whether a terminal reads it: then the reply, too, is shown without hidden characters.
+    pub is_terminal: bool,
 }
 
 /// A part of a message that has a colour of its own.
@@ -46,6 +50,8 @@ impl Look {
         Look {
             width: PLAIN_WIDTH,
             is_coloured: false,
+            has_counts: false,
+            is_terminal: false,
         }
     }
 

@@ -31,6 +31,15 @@ impl Level {
     }
 }
 
+/// A text of the witness that is to stand in the place of another one.
+#[derive(Debug, Drop)]
+pub struct Change {
+    pub spot: Spot,
+    /// How many bytes it replaces, from its place on.
+    pub width: u32,
+    pub text: String,
+}
+
 /// One message about a file, at a place of it where it has one. The code is that of the reply, and empty at a note.
 #[derive(Debug, Drop)]
 pub struct Message {
@@ -41,15 +50,20 @@ pub struct Message {
     /// How many bytes it is about, from its place on; 0 where that is the word that stands there.
     pub width: u32,
     pub text: String,
+    /// Where the change is known that mends the witness, what it consists of.
+    pub changes: Vec<Change>,
 }
 
-/// Messages in the order in which they are shown; of a confirmation, notes, and how often each line of the program was
-/// reached.
+/// Messages in the order in which they are shown; of a confirmation, notes; and of a run how often each line of the
+/// program was reached.
 #[derive(Debug, Drop)]
 pub struct Messages {
     alloc: Global,
     list: Vec<Message>,
-    counts: Option<Vec<Reached>>,
+    /// The number of the last error or warning.
+    last_grave: usize,
+    counts: Vec<Reached>,
+    is_confirmed: bool,
 }
 
 impl Messages {
@@ -58,7 +72,9 @@ impl Messages {
         Messages {
             alloc,
             list: Vec::new(alloc),
-            counts: None,
+            last_grave: 0,
+            counts: Vec::new(alloc),
+            is_confirmed: false,
         }
     }
 
@@ -67,18 +83,24 @@ impl Messages {
         self.list.as_slice()
     }
 
-    /// How often each line of the program was reached, from line 1; none where nothing is confirmed. Of a confirmation
-    /// without a run there are no counts.
-    pub fn counts(&self) -> Option<&[Reached]> {
-        match &self.counts {
-            Some(counts) => Some(counts.as_slice()),
-            None => None,
-        }
+    /// How often the run came to each line of the program, from line 1; empty where nothing was run.
+    pub fn counts(&self) -> &[Reached] {
+        self.counts.as_slice()
     }
 
-    /// What is shown is a confirmation, with these counts.
-    pub fn confirm(&mut self, counts: Vec<Reached>) {
-        self.counts = Some(counts);
+    /// Whether what is shown is a confirmation.
+    pub fn is_confirmed(&self) -> bool {
+        self.is_confirmed
+    }
+
+    /// The run came to each line so often.
+    pub fn count(&mut self, counts: Vec<Reached>) {
+        self.counts = counts;
+    }
+
+    /// What is shown is a confirmation.
+    pub fn confirm(&mut self) {
+        self.is_confirmed = true;
     }
 
     fn push(
@@ -90,6 +112,9 @@ impl Messages {
         text: String,
     ) -> Result<(), OutOfMemory> {
         let code = String::from_str(self.alloc, code)?;
+        if level != Level::Note {
+            self.last_grave = self.list.len();
+        }
         self.list.push(Message {
             level,
             code,
@@ -97,6 +122,7 @@ impl Messages {
             spot,
             width: 0,
             text,
+            changes: Vec::new(self.alloc),
         })?;
         Ok(())
     }
@@ -108,7 +134,20 @@ impl Messages {
         }
     }
 
-    /// Adds messages after these.
+    /// What the last error or warning is about is mended by this change of the witness, together with those before it.
+    pub fn mend(&mut self, spot: Spot, width: usize, text: &str) -> Result<(), OutOfMemory> {
+        let text = String::from_str(self.alloc, text)?;
+        if let Some(last) = self.list.get_mut(self.last_grave) {
+            last.changes.push(Change {
+                spot,
+                width: u32::try_from(width).unwrap_or(u32::MAX),
+                text,
+            })?;
+        }
+        Ok(())
+    }
+
+    /// Adds messages after these, without the changes that mend them.
     pub fn extend_from(&mut self, others: &[Message]) -> Result<(), OutOfMemory> {
         for other in others {
             self.list.push(Message {
@@ -118,6 +157,7 @@ impl Messages {
                 spot: other.spot,
                 width: other.width,
                 text: other.text.clone()?,
+                changes: Vec::new(self.alloc),
             })?;
         }
         Ok(())

@@ -94,16 +94,6 @@ fn push_level(out: &mut String, look: Look, level: Level) -> Result<(), OutOfMem
     Ok(())
 }
 
-/// Appends a message with the line that it speaks of, as files and pipes have it.
-pub fn push_message(
-    alloc: Global,
-    out: &mut String,
-    files: &Files<'_>,
-    message: &Message,
-) -> Result<(), OutOfMemory> {
-    lay_out_message(alloc, out, Look::plain(), files, message)
-}
-
 /// Appends a message with the line that it speaks of.
 pub fn lay_out_message(
     alloc: Global,

@@ -1,12 +1,14 @@
 // What is wrong in a witness that can't be read, or doesn't meet the schema.
 use crate::formats::{GRAPHML, is_graphml, other_format, version_rule};
-use crate::paths::{Step, place_of_path, reached, steps_of};
 use crate::shape::explain_shape;
-use crate::stopping::{first_bad, is_cut, repeated_at, stopped_at};
 use crate::warned::warn_of_unread;
 use c_core::Spot;
 use std::alloc::Global;
-use view_text::{File, Messages, advice, spot_at};
+use view_paths::{
+    Step, first_bad, is_cut, place_in_value, place_of_path, reached, repeated_at, steps_of,
+    stopped_at,
+};
+use view_text::{File, Messages, advice, spot_at, width_at};
 use wv_base::OutOfMemory;
 use wv_schema::SchemaFault;
 use wv_yaml::{Tree, YamlFault};
@@ -101,7 +103,7 @@ fn allowed(path: &str) -> &'static str {
     } else if path.ends_with("line") || path.ends_with("column") {
         "a number of 1 to 7 digits, at least 1"
     } else {
-        "docs/FORMATS.md lists what may stand there"
+        "one of the values that docs/FORMATS.md lists"
     }
 }
 
@@ -133,7 +135,7 @@ fn missing(alloc: Global, text: &[u8], path: &str, out: &mut Messages) -> Result
     let steps = steps_of(alloc, path)?;
     let spot = place_of_path(alloc, text, parent(steps.as_slice()))?;
     let told = format!(in alloc;
-        "the key {path} is missing: it belongs into the map that begins here"
+        "the key {path} is missing: it belongs in the map that begins here"
     )?;
     out.error("schema-missing", File::Witness, Some(spot), told)
 }
@@ -154,7 +156,7 @@ fn wrong_kind(
         return explain_graphml(alloc, "schema-kind", out);
     }
     let kind = kind_at(path);
-    let told = format!(in alloc; "{path} has a value of another kind: {kind} has to stand here")?;
+    let told = format!(in alloc; "{path} has a value of another kind: it has to be {kind}")?;
     out.error("schema-kind", File::Witness, Some(spot), told)
 }
 
@@ -174,12 +176,14 @@ fn bad_value(
     out: &mut Messages,
 ) -> Result<(), OutOfMemory> {
     let steps = steps_of(alloc, path)?;
-    let spot = place_of_path(alloc, text, steps.as_slice())?;
     let stands = text_at(tree, steps.as_slice());
+    let spot = place_in_value(alloc, text, steps.as_slice(), stands, 0)?;
     let may = allowed(path);
     let of = other_format(stands);
-    let told = format!(in alloc; "{path} is `{stands}`{of}: may be {may}")?;
-    out.error("schema-value", File::Witness, Some(spot), told)
+    let told = format!(in alloc; "{path} is `{stands}`{of}: it has to be {may}")?;
+    out.error("schema-value", File::Witness, Some(spot), told)?;
+    out.mark(width_at(text, spot, stands));
+    Ok(())
 }
 
 /// The first entry that states another version than 2.0.
@@ -202,11 +206,13 @@ fn version(alloc: Global, text: &[u8], tree: &Tree, out: &mut Messages) -> Resul
         Step::Key("metadata"),
         Step::Key("format_version"),
     ];
-    let spot = place_of_path(alloc, text, &steps)?;
     let stands = text_at(tree, &steps);
+    let spot = place_in_value(alloc, text, &steps, stands, 0)?;
     let rule = version_rule(stands);
     let told = format!(in alloc; "the version of the format is `{stands}`: {rule}")?;
-    out.error("schema-version", File::Witness, Some(spot), told)
+    out.error("schema-version", File::Witness, Some(spot), told)?;
+    out.mark(width_at(text, spot, stands));
+    Ok(())
 }
 
 /// The first entry that is a violation sequence.

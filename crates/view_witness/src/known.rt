@@ -1,5 +1,5 @@
 // The keys that the format has in each map of a witness.
-use crate::near::is_near;
+use view_paths::is_near;
 
 /// A map, a key that it may have, and the map or the list that stands at this key; empty where it is a text, or what
 /// isn't looked into.

@@ -1,6 +1,6 @@
 // A violation sequence whose segments don't have the form that they should.
-use crate::paths::{Step, place_of_path, reached};
 use std::alloc::Global;
+use view_paths::{Step, place_of_path, reached};
 use view_text::{File, Messages};
 use wv_base::OutOfMemory;
 use wv_yaml::Tree;
@@ -34,7 +34,7 @@ fn lack_before(front: &[Tree]) -> Option<Lack> {
         if is_followed(item) {
             return Some(Lack {
                 waypoint: Some(index),
-                told: "this waypoint is to follow, and others stand after it: a waypoint to follow ends its segment, so the next ones begin a segment of their own",
+                told: "the action of this waypoint is follow, and others stand after it: a waypoint to follow ends its segment, so the next ones belong in a segment of their own",
             });
         }
         if is_target(item) {
@@ -50,7 +50,7 @@ fn lack_before(front: &[Tree]) -> Option<Lack> {
 /// What is wrong with the last waypoint of a segment.
 fn lack_of_last(last: &Tree, at: usize, is_final: bool) -> Lack {
     let told = if !is_followed(last) {
-        "the last waypoint of a segment is the one to follow, and this one is to avoid"
+        "the action of the last waypoint of a segment has to be follow, and here it is avoid"
     } else if is_final {
         "the last segment has no target: its waypoint to follow has to be of type target, at the place of the violation"
     } else {

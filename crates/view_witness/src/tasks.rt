@@ -1,8 +1,8 @@
 // What is wrong in what a witness says of its task.
-use crate::paths::{Step, place_of_path};
 use c_core::Property;
 use std::alloc::Global;
-use view_text::{File, Messages, advice};
+use view_paths::{Step, place_in_value};
+use view_text::{File, Messages, advice, width_at};
 use wv_base::OutOfMemory;
 use wv_schema::{Entry, Metadata, Witness};
 use wv_task::{TaskFault, identifier, specification};
@@ -76,15 +76,25 @@ fn entry_of(
     Ok(0)
 }
 
-/// The code of a fault, and the key that it speaks of.
-fn told_by(fault: &TaskFault) -> (&'static str, &'static str) {
+/// The code of a fault, the key that it speaks of, and what an entry states there; empty where that is more than one
+/// text.
+fn told_by<'a>(
+    fault: &'a TaskFault,
+    metadata: &'a Metadata,
+) -> (&'static str, &'static str, &'a str) {
     match fault {
-        TaskFault::Files => ("files", "input_files"),
-        TaskFault::Hash { .. } => ("hash", "input_file_hashes"),
-        TaskFault::Specification => ("specification", "specification"),
-        TaskFault::Language => ("language", "language"),
-        TaskFault::Model => ("model", "data_model"),
-        TaskFault::Uuid | TaskFault::OutOfMemory => ("uuid", "uuid"),
+        TaskFault::Files => ("files", "input_files", ""),
+        TaskFault::Hash { stated, .. } => ("hash", "input_file_hashes", stated.as_str()),
+        TaskFault::Specification => {
+            (
+                "specification",
+                "specification",
+                metadata.specification.as_str(),
+            )
+        }
+        TaskFault::Language => ("language", "language", metadata.language.as_str()),
+        TaskFault::Model => ("model", "data_model", metadata.data_model.as_str()),
+        TaskFault::Uuid | TaskFault::OutOfMemory => ("uuid", "uuid", metadata.uuid.as_str()),
     }
 }
 
@@ -112,7 +122,10 @@ pub fn explain_task(
     out: &mut Messages,
 ) -> Result<(), OutOfMemory> {
     let entry = entry_of(alloc, property, fault, witness.entries.as_slice())?;
-    let (code, key) = told_by(fault);
+    let Some(found) = witness.entries.get(entry) else {
+        return Ok(());
+    };
+    let (code, key, stated) = told_by(fault, &found.metadata);
     let in_metadata = [Step::Item(entry), Step::Key("metadata"), Step::Key(key)];
     let in_task = [
         Step::Item(entry),
@@ -121,10 +134,12 @@ pub fn explain_task(
         Step::Key(key),
     ];
     let spot = if code == "uuid" {
-        place_of_path(alloc, text, &in_metadata)?
+        place_in_value(alloc, text, &in_metadata, stated, 0)?
     } else {
-        place_of_path(alloc, text, &in_task)?
+        place_in_value(alloc, text, &in_task, stated, 0)?
     };
     let told = text_of(alloc, code, fault)?;
-    out.error(code, File::Witness, Some(spot), told)
+    out.error(code, File::Witness, Some(spot), told)?;
+    out.mark(width_at(text, spot, stated));
+    Ok(())
 }

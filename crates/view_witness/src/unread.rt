@@ -1,12 +1,12 @@
 // What of a witness isn't read: keys that the format doesn't have, and names of other files than the program's.
 use crate::known::{inside, item_of};
-use crate::paths::{Step, reached};
 use std::alloc::Global;
+use view_paths::{Step, reached};
 use wv_base::OutOfMemory;
 use wv_yaml::{Pair, Tree};
 
-/// So many keys and names are told of each.
-pub const MOST: usize = 20;
+/// So many keys and names are kept of each.
+const MOST: usize = 100;
 
 /// A map or a list of which the format says what stands in it.
 #[derive(Clone, Copy)]
@@ -204,6 +204,14 @@ impl<'t> Unread<'t> {
         match self.nodes.get(number) {
             Some(node) => node.name,
             None => "",
+        }
+    }
+
+    /// Whether a map has a key, by the map's number.
+    pub fn has(&self, number: usize, key: &str) -> bool {
+        match self.nodes.get(number) {
+            Some(node) => reached(node.tree, &[Step::Key(key)]).is_some(),
+            None => false,
         }
     }
 

@@ -1,25 +1,12 @@
 // Warnings about what of a witness isn't read. The reply stays what it is, since the format lets such keys pass.
 use crate::known::{inside, map_words, meant, owner};
-use crate::paths::place_of_path;
-use crate::unread::{Finds, Found, MOST, Unread};
+use crate::unread::{Finds, Found, Unread};
 use c_core::Spot;
 use std::alloc::Global;
-use view_text::{File, Messages, shortened};
+use view_paths::{place_of_path, places_in};
+use view_text::{File, Messages, shortened, width_at};
 use wv_base::OutOfMemory;
 use wv_yaml::Tree;
-
-/// A place is looked for by reading fronts of the witness: so many bytes of it for all the places together, once for
-/// each try.
-const MOST_READ: usize = 262_144;
-
-/// For how many keys, or other things of one kind, a place is looked for in a witness.
-pub fn places_in(text: &[u8]) -> usize {
-    let length = text.len();
-    if length == 0 {
-        return MOST;
-    }
-    (MOST_READ / length).max(1).min(MOST)
-}
 
 /// Where a key belongs that stands in a map within another, or which one it is meant for.
 fn hint(
@@ -30,7 +17,7 @@ fn hint(
 ) -> Result<String, OutOfMemory> {
     if let Some(other) = owner(map, above, key) {
         let other = map_words(other);
-        return Ok(format!(in alloc; "it belongs into {other}")?);
+        return Ok(format!(in alloc; "it belongs in {other}")?);
     }
     let Some(known) = meant(map, key) else {
         return Ok(String::from_str(alloc, "docs/FORMATS.md lists the keys that are read")?);
@@ -39,7 +26,7 @@ fn hint(
         return Ok(format!(in alloc; "did you mean `{known}`?")?);
     }
     let other = map_words(owner(map, above, known).unwrap_or(map));
-    Ok(format!(in alloc; "did you mean `{known}`, which belongs into {other}?")?)
+    Ok(format!(in alloc; "did you mean `{known}`, which belongs in {other}?")?)
 }
 
 fn key_text(alloc: Global, unread: &Unread<'_>, found: Found<'_>) -> Result<String, OutOfMemory> {
@@ -56,7 +43,7 @@ fn name_text(alloc: Global, unread: &Unread<'_>, found: Found<'_>) -> Result<Str
     let name = shortened(found.key);
     let file = shortened(unread.file());
     Ok(format!(in alloc;
-        "this location names the file `{name}`, but the witness is about `{file}`: its line is looked for in `{file}`"
+        "this location names the file `{name}`, but the witness is about `{file}`: its line is taken as one of `{file}`"
     )?)
 }
 
@@ -90,6 +77,28 @@ fn warn_of_rest(
     out.warning(code, File::Witness, None, told)
 }
 
+/// Mends a key that stands at a place by the one of its map that it is most likely meant for, unless the map has that.
+fn mend_key(
+    text: &[u8],
+    unread: &Unread<'_>,
+    found: Found<'_>,
+    spot: Spot,
+    out: &mut Messages,
+) -> Result<(), OutOfMemory> {
+    let map = unread.name_of(found.node);
+    let above = unread.name_of(unread.above(found.node));
+    let width = width_at(text, spot, found.key);
+    if width == 0 || owner(map, above, found.key).is_some() {
+        return Ok(());
+    }
+    match meant(map, found.key) {
+        Some(known) if inside(map, known).is_some() && !unread.has(found.node, known) => {
+            out.mend(spot, width, known)
+        }
+        _ => Ok(()),
+    }
+}
+
 fn warn_of_keys(
     alloc: Global,
     text: &[u8],
@@ -101,6 +110,9 @@ fn warn_of_keys(
         let told = key_text(alloc, unread, *found)?;
         let spot = spot_of(alloc, text, unread, found.node, found.key, index < sought)?;
         out.warning("unknown-key", File::Witness, spot, told)?;
+        if let Some(spot) = spot {
+            mend_key(text, unread, *found, spot, out)?;
+        }
     }
     warn_of_rest(alloc, "unknown-key", &unread.keys, out)
 }

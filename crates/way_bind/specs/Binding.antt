@@ -202,7 +202,7 @@ AreBoundTo p ss bs = Each (IsBoundTo p) ss bs
 abbrev pub Tells : Program → ℕ → List Waypoint → BindFault → Type 0
 Tells p first vs f = TellsLeast (BindsPoint p) first vs f
 
--- the witness is bound, or its least waypoint that isn't is told, by its number from 1
+-- the witness is bound, or its least waypoint that isn't is reported, by its number from 1
 abbrev pub Binds : Program → Witness → Result Bound BindFault → Type 0
 Binds p w (Ok bound) = AreBoundTo p (segments_of w) (segments_view bound)
 Binds p w (Err f) = Tells p 1 (waypoints_in (segments_of w)) f

@@ -34,14 +34,14 @@ TellsLeast {A} {B} binds first vs (fault.Expression n) = IsLeast binds first vs 
 TellsLeast {A} {B} binds first vs (fault.Scope n) = IsLeast binds first vs n Scope
 TellsLeast {A} {B} binds first vs fault.OutOfMemory = Unit {0}
 
--- how the item of a number that fails a test first is told
+-- how the item of a number that fails a test first is reported
 abbrev pub told : ℕ → Unbound → BindFault
 told n NoPlace = fault.NoPlace n
 told n Expression = fault.Expression n
 told n Scope = fault.Scope n
 told n OutOfMemory = fault.OutOfMemory
 
--- two answers are the same by this view, unless memory was wanted in one
+-- two answers are the same by this view, unless memory ran out in one
 abbrev pub AgreeBy : {A B : Type 0} → (A → B) → Result A BindFault → Result A BindFault → Type 0
 AgreeBy {A} {B} view (Ok a) (Ok b) = view a ≡ view b
 AgreeBy {A} {B} view (Ok a) (Err f) = f ≡ fault.OutOfMemory

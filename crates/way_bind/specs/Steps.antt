@@ -9,7 +9,7 @@ use Rattle.way_match.specs.declared.point.BoundSegment.{BoundSegment}
 use Rattle.way_bind.specs.declared.fault.BindFault.{BindFault}
 use Rattle.way_bind.specs.Binding.{AreBound, AreBoundTo, IsBoundTo, Tells, waypoints_of, waypoints_in}
 
--- these waypoints, the first of this number, are bound, or the least that isn't is told
+-- these waypoints, the first of this number, are bound, or the least that isn't is reported
 abbrev pub BindsAll : Program → ℕ → List Waypoint → Result (List Point) BindFault → Type 0
 BindsAll p first vs (Ok xs) = AreBound p vs (points_view xs)
 BindsAll p first vs (Err f) = Tells p first vs f

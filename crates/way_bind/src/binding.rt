@@ -14,7 +14,7 @@ use way_match::{Bound, BoundSegment, Point};
 use wv_base::Seq;
 use wv_schema::{Content, Segment, Waypoint, Witness};
 
-/// A test that the waypoint or invariant of this number fails first, as it is told.
+/// A test that the waypoint or invariant of this number fails first, as it is reported.
 pub fn told(number: u32, lack: Unbound) -> BindFault
     ensures { result ≡ told number lack }
 {

@@ -7,7 +7,7 @@ ghost use Rattle.way_bind.specs.declared.fault.BindFault.{BindFault};
 ghost use Rattle.way_bind.specs.Agreement.{Agree};
 ghost use Rattle.way_bind.specs.Binding.{Binds};
 
-/// Two answers about one witness and program agree, unless memory was wanted.
+/// Two answers about one witness and program agree, unless memory ran out.
 pub fn one_answer()
     ensures { (p : Program) (w : Witness) (a b : Result Bound BindFault) → Binds p w a → Binds p w b → Agree a b }
 {}

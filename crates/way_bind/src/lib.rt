@@ -1,6 +1,6 @@
 //! Violation witnesses bound to a program: each waypoint to a place of its kind, its constraint to a typed expression
-//! over the names in scope there. The least waypoint in document order that isn't bound is told, by the first test that
-//! it fails.
+//! over the names in scope there. The least waypoint in document order that isn't bound is reported, by the first test
+//! that it fails.
 #![tactic(auto)]
 
 mod binding;

@@ -76,7 +76,7 @@ abbrev pub given_in_declaration : List ℤ → Choices
 given_in_declaration vs = Given (record { spot = at 2 9; values = vs } ∷ [])
 
 pub record ExampleGiven : Type 0 where
-  -- an assumption behind an assignment or a declaration of one object
+  -- an assumption after an assignment or a declaration of one object
   pub equals : given_by (before_use assigned) (assume (first_is 5)) ≡ given_there (pos 5 ∷ [])
   pub equals_turned : given_by (before_use assigned) (assume (operation 1 1 Eq (number 1 1 5) (object 1 6 0))) ≡
       given_there (pos 5 ∷ [])

@@ -46,7 +46,7 @@ five_then_target = returns 4 33 (number 1 12 5) ∷ target 6 5 ∷ []
 abbrev pub division : ℕ → ℕ → List BoundSegment
 division x y = returns 3 33 (minus LongLong x) ∷ returns 4 33 (minus Int y) ∷ target 5 3 ∷ []
 
--- of count_to_three: an assumption at the use of i in the loop, one before its step, the error behind the loop
+-- of count_to_three: an assumption at the use of i in the loop, one before its step, the error after the loop
 abbrev pub inside : Exp → Point
 inside e = Assume (at 6 5) e
 
@@ -86,7 +86,7 @@ pub record ExampleVerdicts : Type 0 where
   -- a target without column
   pub target_on_line : IsRightOnViolation (branch_on_input 0) (follow (Target (Line 6)) ∷ [])
       budget (ViolationConfirmed (drawn (at 4 11) Int (pos 0) ∷ []) (8 ∷ []))
-  -- an assumption behind the input gives its value
+  -- an assumption after the input gives its value
   pub assumed_five : IsRightOnViolation (branch_on_input 5) (follow (Assume (at 5 3) (first_is 5)) ∷ target 6 5 ∷ [])
       budget (ViolationConfirmed (drawn (at 4 11) Int (pos 5) ∷ []) (3 ∷ 8 ∷ []))
   -- an overflow is the violation of one property alone

@@ -1,5 +1,5 @@
 -- Invariant sets bound to the places and the typed expressions of a program. An invariant passes four tests, in this order: its place
--- exists; its expression is in the grammar; its names are in scope; its expression types. The least invariant that fails one is told,
+-- exists; its expression is in the grammar; its names are in scope; its expression types. The least invariant that fails one is reported,
 -- by the first test that it fails.
 use Rattle.std.specs.Prelude.{Bool, true, false, List, [], Result, Ok, Err}
 use Rattle.std.specs.List.{flat_map}
@@ -61,7 +61,7 @@ invariants_among es = flat_map set_of es
 abbrev pub invariants_of : Witness → List Invariant
 invariants_of w = invariants_among w.entries
 
--- all are bound, in witness order, or the least that isn't is told, by its number from 1
+-- all are bound, in witness order, or the least that isn't is reported, by its number from 1
 abbrev pub BindsInvariants : Program → Witness → Result (List PlacedInvariant) BindFault → Type 0
 BindsInvariants p w (Ok xs) = AllBound (BindsInvariant p) (invariants_of w) (placed_view xs)
 BindsInvariants p w (Err f) = TellsLeast (BindsInvariant p) 1 (invariants_of w) f

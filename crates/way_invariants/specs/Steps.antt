@@ -9,7 +9,7 @@ use Rattle.way_bind.specs.declared.fault.BindFault.{BindFault}
 use Rattle.way_bind.specs.InOrder.{AllBound, TellsLeast}
 use Rattle.way_invariants.specs.Invariants.{BindsInvariant}
 
--- these invariants are bound behind those that were, or the least of them that isn't is told
+-- these invariants are bound after those that were, or the least of them that isn't is reported
 abbrev pub BindsNext : Program → List Invariant → List PlacedInvariant → List PlacedInvariant → Result (Unit {0}) BindFault → Type 0
 BindsNext p vs old new (Ok done) = (xs : List Placed) × (placed_view new ≡ placed_view old ++ xs) × AllBound (BindsInvariant p) vs xs
 BindsNext p vs old new (Err f) = TellsLeast (BindsInvariant p) (length old + 1) vs f

@@ -14,10 +14,10 @@ use way_bind::{BindFault, Lookup, told};
 use wv_base::{OutOfMemory, Seq};
 use wv_schema::{Content, Entry, Invariant, Witness};
 
-/// So many invariants can be numbered.
+/// This many invariants can be numbered.
 const MOST_INVARIANTS: usize = 1073741823;
 
-/// The number of the invariant behind so many, from 1. More than a file of allowed length holds are want of memory.
+/// The number of the invariant after n others, from 1. More than a file of allowed length holds: out of memory.
 fn number_behind(count: usize) -> Result<u32, OutOfMemory>
     ensures { IfOk result (λ number. number ≡ count + 1) }
 {
@@ -27,7 +27,7 @@ fn number_behind(count: usize) -> Result<u32, OutOfMemory>
     Ok((count + 1) as u32)
 }
 
-/// An invariant bound behind those that are.
+/// An invariant bound after those that are.
 fn bind_next(
     alloc: Global,
     lookup: &Lookup,
@@ -46,7 +46,7 @@ fn bind_next(
     }
 }
 
-/// The invariants of a set, bound behind those of the sets before.
+/// The invariants of a set, bound after those of the sets before.
 fn bind_set(
     alloc: Global,
     lookup: &Lookup,

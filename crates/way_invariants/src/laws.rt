@@ -8,7 +8,7 @@ ghost use Rattle.way_bind.specs.InOrder.{AgreeBy};
 ghost use Rattle.way_bind.specs.declared.fault.BindFault.{BindFault};
 ghost use Rattle.way_invariants.specs.Invariants.{BindsInvariants};
 
-/// Two answers about one witness and program agree, unless memory was wanted.
+/// Two answers about one witness and program agree, unless memory ran out.
 pub fn one_answer()
     ensures { (p : Program) (w : Witness) (a b : Result (List PlacedInvariant) BindFault) → BindsInvariants p w a
         → BindsInvariants p w b → AgreeBy placed_view a b }

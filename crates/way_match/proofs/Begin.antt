@@ -1,5 +1,6 @@
 -- A matcher before all events.
-use Rattle.std.proofs.Common.{◌≡◌, ℕ, zero, suc, ◌≤◌, List, [], ◌∷◌, get_or, replicate, Option, Some, None, refl, sym, ◌∙◌, ap, subst, arith}
+use Rattle.std.proofs.Common.{◌≡◌, ℕ, zero, suc, ◌≤◌, List, [], ◌∷◌, get_or, length, ◌+◌, replicate, Option, Some, None, refl, sym, ◌∙◌, ap, subst, arith}
+use Rattle.std.proofs.lemmas.List.{length-replicate}
 use Rattle.way_match.specs.declared.states.Node.{Node}
 use Rattle.way_match.specs.inside.Arena.{ways_of, AreHeld, IsBlank}
 
@@ -28,3 +29,6 @@ begins_blank live n e k h = subst (λ (xs : List (Option ℕ)). get_or xs k None
 
 pub begins_ways : (ns : List Node) (live : List (Option ℕ)) (n m : ℕ) → live ≡ Some 0 ∷ replicate n None → n ≡ m → ways_of ns 0 live ≡ Some [] ∷ replicate m None
 begins_ways ns live n m e l = ap (ways_of ns 0) e ∙ ap (λ (t : List (Option (List ℕ))). Some [] ∷ t) (nones_ways ns 1 n ∙ ap (λ (j : ℕ). replicate j None) l)
+
+pub begins_each : (live : List (Option ℕ)) (n m : ℕ) → live ≡ Some 0 ∷ replicate n None → n ≡ m → length live ≡ m + 1
+begins_each live n m e l = let z : suc m ≡ m + 1 = omega arith in ap length e ∙ ap suc (length-replicate n None ∙ l) ∙ z

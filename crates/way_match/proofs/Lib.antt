@@ -9,6 +9,8 @@ mod Skips
 mod Numbers
 mod Passed
 mod PassedBy
+mod RestLaws
+mod AvoidLaws
 pub mod PlaceLaws
 mod Begin
 mod Done

@@ -33,13 +33,13 @@ equal_parts Less b = refl
 equal_parts Equal b = refl
 equal_parts Greater b = refl
 
-equal_places : (a b : Spot) → is_eq (spot_cmp (a.line, a.column) (b.line, b.column)) ≡ same_spot a b
+pub equal_places : (a b : Spot) → is_eq (spot_cmp (a.line, a.column) (b.line, b.column)) ≡ same_spot a b
 equal_places a b =
     equal_parts (nat_cmp a.line b.line) (nat_cmp a.column b.column) ∙
     ap (λ (x : Bool). x && is_eq (nat_cmp a.column b.column)) (equal_numbers a.line b.line) ∙
     ap (λ (x : Bool). nat_eq a.line b.line && x) (equal_numbers a.column b.column)
 
-same_spots : (a b : Spot) → same_spot a b ≡ true → a ≡ b
+pub same_spots : (a b : Spot) → same_spot a b ≡ true → a ≡ b
 same_spots a b e =
     let p = both _ _ e in
     let l : a.line ≡ b.line = eqb-true a.line b.line p.0 in

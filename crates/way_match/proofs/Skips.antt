@@ -94,7 +94,7 @@ only_none : (b : Bool) → ◌≡◌ {A = Option (List ℕ)} (only_if b None) No
 only_none true = refl
 only_none false = refl
 
-stays_away : (pr : Program) (e : Seen) (n : ℕ) (sh : Bool) (s : BoundSegment) (ss : List BoundSegment) (ws : List (Option (List ℕ))) →
+pub stays_away : (pr : Program) (e : Seen) (n : ℕ) (sh : Bool) (s : BoundSegment) (ss : List BoundSegment) (ws : List (Option (List ℕ))) →
     step pr e n None sh (s ∷ ss) (None ∷ ws) ≡ None ∷ step pr e n None (is_assumption s.follow) ss ws
 stays_away pr e n sh s ss ws =
     let b : Bool = not (passes_any pr s.avoids e.event e.cells) in

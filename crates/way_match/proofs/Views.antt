@@ -1,14 +1,14 @@
 -- Items of lists of waypoints, as pure ones and prepared.
-use Rattle.std.proofs.Common.{◌≡◌, ℕ, zero, suc, ◌<◌, List, [], ◌∷◌, length, get_or, slice_get, Bool, false, ◌||◌, Option, refl, sym, ◌∙◌, ap, arith}
+use Rattle.std.proofs.Common.{◌≡◌, ℕ, zero, suc, ◌<◌, List, [], ◌∷◌, length, get_or, slice_get, Bool, false, ◌||◌, refl, sym, ◌∙◌, ap, arith}
 use Rattle.c_core.specs.Tree.{Program}
 use Rattle.way_match.specs.Passing.{is_assumption}
 use Rattle.way_match.specs.inside.Turning.{assumes_in, avoids_none}
-use Rattle.way_match.specs.inside.Prepared.{comparison_of, comparisons_of, prepared_of, all_prepared}
+use Rattle.way_match.specs.inside.Prepared.{all_ready, ready_of, prepared_of, all_prepared}
 use Rattle.way_match.specs.View.{point_view, points_view, segment_view, each_segment_view}
 use Rattle.way_match.specs.declared.point.Point.{Point}
 use Rattle.way_match.specs.declared.point.BoundSegment.{BoundSegment}
-use Rattle.way_match.specs.declared.prepared.Comparison.{Comparison}
 use Rattle.way_match.specs.declared.prepared.Prepared.{Prepared}
+use Rattle.way_match.specs.declared.prepared.Ready.{Ready}
 
 pub segments_length : (ss : List BoundSegment) → length (each_segment_view ss) ≡ length ss
 segments_length [] = refl
@@ -18,9 +18,9 @@ pub prepared_length : (p : Program) (ss : List BoundSegment) → length (all_pre
 prepared_length p [] = refl
 prepared_length p (s ∷ ss) = ap suc (prepared_length p ss)
 
-pub comparisons_length : (p : Program) (xs : List Point) → length (comparisons_of p (points_view xs)) ≡ length xs
-comparisons_length p [] = refl
-comparisons_length p (x ∷ xs) = ap suc (comparisons_length p xs)
+pub ready_length : (p : Program) (xs : List Point) → length (all_ready p (points_view xs)) ≡ length xs
+ready_length p [] = refl
+ready_length p (x ∷ xs) = ap suc (ready_length p xs)
 
 pub segment_at : (ss : List BoundSegment) (i : ℕ) (s : BoundSegment) → i < length ss → s ≡ get_or ss i s →
     segment_view s ≡ get_or (each_segment_view ss) i (segment_view s)
@@ -54,11 +54,11 @@ pub prepared_there : (p : Program) (ss : List BoundSegment) (ps : List Prepared)
 prepared_there p ss ps i s d e h q =
     ap (λ (xs : List Prepared). get_or xs i d) e ∙ prepared_at p ss i s d h q ∙ ap (λ (y : BoundSegment). prepared_of p (segment_view y)) q
 
-pub comparison_at : (p : Program) (xs : List Point) (i : ℕ) (x : Point) (d : Option Comparison) → i < length xs → x ≡ get_or xs i x →
-    get_or (comparisons_of p (points_view xs)) i d ≡ comparison_of p (point_view x)
-comparison_at p [] i x d h e = absurd (omega arith)
-comparison_at p (y ∷ xs) zero x d h e = ap (λ (z : Point). comparison_of p (point_view z)) (sym e)
-comparison_at p (y ∷ xs) (suc i) x d h e = comparison_at p xs i x d (omega arith) e
+pub ready_at : (p : Program) (xs : List Point) (i : ℕ) (x : Point) (d : Ready) → i < length xs → x ≡ get_or xs i x →
+    get_or (all_ready p (points_view xs)) i d ≡ ready_of p (point_view x)
+ready_at p [] i x d h e = absurd (omega arith)
+ready_at p (y ∷ xs) zero x d h e = ap (λ (z : Point). ready_of p (point_view z)) (sym e)
+ready_at p (y ∷ xs) (suc i) x d h e = ready_at p xs i x d (omega arith) e
 
 or_false : (a b : Bool) → a ≡ false → (a || b) ≡ b
 or_false a b e = ap (λ (x : Bool). x || b) e

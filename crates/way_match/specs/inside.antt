@@ -2,6 +2,8 @@ pub mod Prepared
 pub mod Steps
 pub mod Arena
 pub mod ByPlace
+pub mod Avoided
 pub mod Turning
+pub mod Resting
 pub mod Shape
 pub mod Gathered

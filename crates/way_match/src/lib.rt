@@ -2,6 +2,7 @@
 //! the segments, which values a witness gives, and which verdict is right.
 #![tactic(auto)]
 
+mod avoided;
 mod by_place;
 mod compared;
 mod given_values;
@@ -10,6 +11,8 @@ mod matcher;
 mod passing;
 mod point;
 mod prepared;
+mod resting;
+mod same;
 mod sight;
 mod states;
 mod stored;

@@ -7,6 +7,7 @@ ghost use Rattle.way_match.specs.inside.Steps.{Matching, begun, after, after_all
 ghost use Rattle.way_match.specs.View.{each_segment_view, segments_view};
 ghost use Rattle.way_match.specs.declared.point.Bound.{Bound};
 
+use crate::avoided::Avoids;
 use crate::by_place::ByPlace;
 use crate::point::{Bound, BoundSegment};
 use crate::prepared::{Prepared, prepare};
@@ -18,6 +19,14 @@ use std::marker::Model;
 use way_places::Index;
 use wv_base::{OutOfMemory, Seq};
 
+// No segment is completed at first, so the first one's waypoints to avoid are asked about.
+fn first_avoids(segments: &[BoundSegment]) -> usize {
+    match segments.get(0) {
+        Some(segment) => segment.avoids.len(),
+        None => 0,
+    }
+}
+
 /// Sees the events of a run and keeps which segments some fitting positions among them have completed.
 #[derive(Drop)]
 pub struct Matcher<'a> {
@@ -25,6 +34,7 @@ pub struct Matcher<'a> {
     bound: &'a Bound,
     prepared: Seq<Prepared>,
     by_place: ByPlace,
+    avoids: Avoids,
     states: States,
     room: Vec<u64>,
     count: u64,
@@ -45,7 +55,7 @@ impl<'a> Model for Matcher<'a> {
 
     ghost view = { λ m. record { program = m.program.now; bound = m.bound.now; count = m.count; ways = ways_of m.states.nodes.items 0 m.states.live.items } };
 
-    ghost invariant = { λ m. Shaped (program_view m.program.now) m.bound.now.segments m.prepared m.by_place m.states m.room.items };
+    ghost invariant = { λ m. Shaped (program_view m.program.now) m.bound.now.segments m.prepared m.by_place m.avoids m.states m.room.items };
 }
 
 fn prepared(
@@ -79,7 +89,8 @@ impl<'a> Matcher<'a> {
             bound,
             prepared: prepared(alloc, program, segments)?,
             by_place: ByPlace::of(alloc, segments)?,
-            states: States::new(alloc, segments.len())?,
+            avoids: Avoids::of(alloc, segments)?,
+            states: States::new(alloc, segments.len(), first_avoids(segments))?,
             room,
             count: 0,
         })
@@ -132,6 +143,7 @@ impl<'a> Watcher for Matcher<'a> {
             self.bound.segments.as_slice(),
             self.prepared.as_slice(),
             &self.by_place,
+            &self.avoids,
             event,
             memory,
             self.count,

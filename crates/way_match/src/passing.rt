@@ -6,15 +6,15 @@ ghost use Rattle.c_meaning.specs.Objects.{type_of as type_of_exp};
 ghost use Rattle.c_core.specs.Parts.{same_spot as same_spot_of};
 ghost use Rattle.c_meaning.specs.Value.{and_then, is_true, wrapping};
 ghost use Rattle.way_match.specs.Passing as passing;
-ghost use Rattle.way_match.specs.inside.Prepared.{comparison_of, comparisons_of};
+ghost use Rattle.way_match.specs.inside.Prepared.{all_ready, comparison_of, ready_of};
 ghost use Rattle.way_match.specs.Points.{Return};
 ghost use Rattle.way_match.specs.View.{aim_view, point_view, points_view, test_view, test_view_if};
 
 use crate::point::{Aim, Point, ReturnTest};
-use crate::prepared::{Comparison, type_of};
+use crate::prepared::{Comparison, Ready, type_of};
 use c_core::{BinOp, DataModel, Done, IntType, Program, Spot, apply, common, fitted};
 use c_meaning::{Event, Memory, Way};
-use way_tests::holds;
+use way_tests::holds_by;
 
 fn same_spot(a: Spot, b: Spot) -> bool
     ensures { result ≡ same_spot_of a b }
@@ -120,16 +120,16 @@ fn meets_at(
 pub fn passes(
     program: &Program,
     point: &Point,
-    comparison: Option<Comparison>,
+    ready: &Ready,
     event: Event,
     memory: &Memory,
 ) -> bool
-    requires { comparison ≡ comparison_of (program_view program.now) (point_view point.now) }
+    requires { ready.now ≡ ready_of (program_view program.now) (point_view point.now) }
     ensures { result ≡ passing.passes (program_view program.now) (point_view point.now) event memory.now.cells }
 {
     match (point, event) {
         (Point::Assume(spot, test), Event::At(at)) => {
-            same_spot(*spot, at) && holds(program, test, memory)
+            same_spot(*spot, at) && holds_by(program, test, &ready.steps, memory)
         }
         (
             Point::Target(aim),
@@ -141,7 +141,7 @@ pub fn passes(
         ) => aims(*aim, statement) || aims(*aim, full) || aims_if(*aim, call),
         (Point::Enter(close), Event::Enter(at)) => same_spot(*close, at),
         (Point::Return(close, test), Event::Return(at, value)) => {
-            same_spot(*close, at) && meets_at(program, *close, test, comparison, value)
+            same_spot(*close, at) && meets_at(program, *close, test, ready.comparison, value)
         }
         (Point::Branch(spot, way), Event::Branch(at, taken)) => {
             same_spot(*spot, at) && same_way(*way, taken)
@@ -154,17 +154,16 @@ pub fn passes(
 pub fn passes_any(
     program: &Program,
     points: &[Point],
-    comparisons: &[Option<Comparison>],
+    each: &[Ready],
     event: Event,
     memory: &Memory,
 ) -> bool
-    requires prepared { comparisons.now ≡ comparisons_of (program_view program.now) (points_view points.now) }
-    requires one_each { length comparisons.now ≡ length points.now }
+    requires prepared { each.now ≡ all_ready (program_view program.now) (points_view points.now) }
+    requires one_each { length each.now ≡ length points.now }
     ensures { result ≡ passing.passes_any (program_view program.now) (points_view points.now) event memory.now.cells }
 {
     for (i, point) in points.iter().enumerate() {
-        let comparison = comparisons[i];
-        if passes(program, point, comparison, event, memory) {
+        if passes(program, point, &each[i], event, memory) {
             return true;
         }
     }

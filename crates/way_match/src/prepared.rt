@@ -5,7 +5,7 @@ ghost use Rattle.c_core.specs.View.{program_view, expr_view};
 ghost use Rattle.c_meaning.specs.Objects as objects;
 ghost use Rattle.way_match.specs.Passing as passing;
 ghost use Rattle.way_match.specs.Points.{Return};
-ghost use Rattle.way_match.specs.inside.Prepared.{all_prepared, comparison_of, comparisons_of};
+ghost use Rattle.way_match.specs.inside.Prepared.{all_prepared, all_ready, comparison_of, ready_of, steps_of};
 ghost use Rattle.way_match.specs.View.{each_segment_view, point_view, points_view, test_view_if};
 
 use crate::point::{BoundSegment, Point, ReturnTest};
@@ -13,6 +13,7 @@ use c_core::{Expr, IntType, Program, Spot};
 use c_meaning::{Memory, value_in};
 use std::alloc::Global;
 use way_places::Index;
+use way_tests::{Step, compiled};
 use wv_base::{OutOfMemory, Seq};
 
 /// Of `\result op constant`: the type of the call that returns, and the constant's value, if it is defined.
@@ -22,11 +23,18 @@ pub struct Comparison {
     pub constant: Option<i128>,
 }
 
-/// The comparisons of a segment's waypoints, none for those without.
+/// What a waypoint needs of the program: its comparison, and the steps of its constraint; none of what it hasn't.
+#[derive(Drop)]
+pub struct Ready {
+    pub comparison: Option<Comparison>,
+    pub steps: Option<Seq<Step>>,
+}
+
+/// What a segment's waypoints need.
 #[derive(Drop)]
 pub struct Prepared {
-    pub avoids: Seq<Option<Comparison>>,
-    pub follow: Option<Comparison>,
+    pub avoids: Seq<Ready>,
+    pub follow: Ready,
 }
 
 /// The type of an expression; that of a void one isn't asked for.
@@ -87,21 +95,40 @@ fn comparison_for(alloc: Global, index: &Index, point: &Point) -> Option<Compari
     }
 }
 
-fn comparisons(
+fn steps_for(
     alloc: Global,
-    index: &Index,
-    points: &[Point],
-) -> Result<Seq<Option<Comparison>>, OutOfMemory>
-    ensures { IfOk result (λ found. found ≡ comparisons_of (program_view index.now) (points_view points.now)) }
+    program: &Program,
+    point: &Point,
+) -> Result<Option<Seq<Step>>, OutOfMemory>
+    ensures { IfOk result (λ steps. steps ≡ steps_of (program_view program.now) (point_view point.now)) }
+{
+    match point {
+        Point::Assume(_, test) => compiled(alloc, program, test),
+        _ => Ok(None),
+    }
+}
+
+fn ready_point(alloc: Global, index: &Index, point: &Point) -> Result<Ready, OutOfMemory>
+    ensures { IfOk result (λ found. found ≡ ready_of (program_view index.now) (point_view point.now)) }
+{
+    let steps = steps_for(alloc, index.program(), point)?;
+    Ok(Ready {
+        comparison: comparison_for(alloc, index, point),
+        steps,
+    })
+}
+
+fn each_ready(alloc: Global, index: &Index, points: &[Point]) -> Result<Seq<Ready>, OutOfMemory>
+    ensures { IfOk result (λ found. found ≡ all_ready (program_view index.now) (points_view points.now)) }
 {
     let mut found = Seq::new(alloc);
     for point in points {
-        found.push(comparison_for(alloc, index, point))?;
+        found.push(ready_point(alloc, index, point)?)?;
     }
     Ok(found)
 }
 
-/// The comparisons of all segments.
+/// What the waypoints of all segments need.
 pub fn prepare(
     alloc: Global,
     index: &Index,
@@ -112,8 +139,8 @@ pub fn prepare(
 {
     let mut prepared = Seq::new(alloc);
     for segment in segments {
-        let avoids = comparisons(alloc, index, segment.avoids.as_slice())?;
-        let follow = comparison_for(alloc, index, &segment.follow);
+        let avoids = each_ready(alloc, index, segment.avoids.as_slice())?;
+        let follow = ready_point(alloc, index, &segment.follow)?;
         prepared.push(Prepared { avoids, follow })?;
     }
     Ok(prepared)

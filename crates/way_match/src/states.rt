@@ -3,6 +3,8 @@ ghost use Rattle.std.specs.Prelude.{◌≡◌, ℕ, ◌+◌, ◌<◌, ◌≤◌,
 ghost use Rattle.c_core.specs.Tree as tree;
 ghost use Rattle.c_core.specs.View.{program_view};
 ghost use Rattle.way_match.specs.inside.Arena.{chain, Held, way_of, IsHeld, ways_of, AreHeld, AreHeld-prop, came_of, IsFrom, Grown, IsBlank};
+ghost use Rattle.way_match.specs.inside.Avoided.{Covers};
+ghost use Rattle.way_match.specs.inside.Resting.{AreStill, LeavesAll};
 ghost use Rattle.way_match.specs.inside.ByPlace.{event_spot, moved, numbers_in};
 ghost use Rattle.way_match.specs.Passing as passing;
 ghost use Rattle.way_match.specs.inside.Prepared.{all_prepared, prepared_of};
@@ -12,15 +14,20 @@ ghost use Rattle.way_match.specs.Points as points;
 ghost use Rattle.way_match.specs.Matching.{Seen};
 ghost use Rattle.way_match.specs.View.{each_segment_view, segment_view};
 
+use crate::avoided::{Avoided, Avoids};
 use crate::by_place::ByPlace;
 use crate::passing::{is_assumption, passes, passes_any};
 use crate::point::BoundSegment;
 use crate::prepared::Prepared;
+use crate::resting::{quiet_from, rests};
 use crate::sight::Sight;
-use c_core::Program;
+use c_core::{Program, Spot};
 use c_meaning::{Event, Memory};
 use std::alloc::Global;
 use wv_base::OutOfMemory;
+
+// Of fewer waypoints to avoid no two that are the same need be found.
+const LEAST_ASKED: usize = 4;
 
 /// The position of a segment's follow, and the place of the node of the segment before.
 #[derive(Clone, Copy, Debug, PartialEq, Eq)]
@@ -30,13 +37,16 @@ pub struct Node {
 }
 
 /// A state for each number of completed segments. No state from number `reach` on was ever live; no event can move the
-/// segments before number `low` any more.
+/// segments before number `low` any more; behind those before number `quiet` no event makes a state live. The segments
+/// of the live states have `asked` waypoints to avoid.
 #[derive(Drop)]
 pub struct States {
     pub nodes: Vec<Node>,
     pub live: Vec<Option<usize>>,
     pub reach: usize,
     pub low: usize,
+    pub quiet: usize,
+    pub asked: usize,
     ghost held: { AreHeld nodes.items 0 live.items } by { AreHeld-prop nodes.items 0 live.items },
     ghost blank: { IsBlank reach live.items },
 }
@@ -98,7 +108,7 @@ fn goes(
     if passes(
         sight.program,
         follow,
-        prepared.follow,
+        &prepared.follow,
         sight.event,
         sight.memory,
     ) {
@@ -168,6 +178,34 @@ pub fn fill(nodes: &[Node], last: usize, room: &mut [u64])
     }
 }
 
+// The place of an event; a failure has none of its own.
+fn place_of(event: &Event) -> Option<Spot>
+    ensures { result ≡ event_spot event.now }
+{
+    match event {
+        Event::At(spot) => Some(*spot),
+        Event::Enter(close) => Some(*close),
+        Event::Return(close, _) => Some(*close),
+        Event::Branch(spot, _) => Some(*spot),
+        Event::Fail { .. } => None,
+    }
+}
+
+// The waypoints to avoid of the live states' segments, once a state was changed.
+#[inline]
+fn reweighed(
+    asked: usize,
+    was: Option<usize>,
+    now: Option<usize>,
+    segment: &BoundSegment,
+) -> usize {
+    match (was, now) {
+        (None, Some(_)) => asked.saturating_add(segment.avoids.len()),
+        (Some(_), None) => asked.saturating_sub(segment.avoids.len()),
+        _ => asked,
+    }
+}
+
 // Whether a state stays live past every event, so that no way to it matters.
 fn is_settled(segments: &[BoundSegment], live: &[Option<usize>], i: usize) -> bool
     requires { length live.now ≡ length segments.now + 1 }
@@ -195,9 +233,9 @@ fn is_passed(segments: &[BoundSegment], live: &[Option<usize>], i: usize) -> boo
 
 impl States {
     /// No segment is completed yet.
-    pub fn new(alloc: Global, count: usize) -> Result<States, OutOfMemory>
+    pub fn new(alloc: Global, count: usize, asked: usize) -> Result<States, OutOfMemory>
         ensures { IfOk result (λ states. (states.nodes.items ≡ []) × (states.live.items ≡ Some 0 ∷ replicate count None)
-            × (states.low ≡ 0)) }
+            × (states.low ≡ 0) × (states.quiet ≡ 0)) }
     {
         let mut live = Vec::new(alloc);
         live.push(Some(0))?;
@@ -209,6 +247,8 @@ impl States {
             live,
             reach: 1,
             low: 0,
+            quiet: 0,
+            asked,
         })
     }
 
@@ -234,6 +274,7 @@ impl States {
         let now = arrives(kept, came, sight.count, &mut self.nodes);
         self.live[i] = now;
         self.reach = reached(self.reach, i, now);
+        self.asked = reweighed(self.asked, was, now, segment);
         if is_settled(sight.segments, self.live.as_slice(), i + 1) {
             None
         } else {
@@ -326,6 +367,50 @@ impl States {
         }
     }
 
+    // Goes on past segments behind which no event makes a state live, where that may be asked.
+    fn calm(&mut self)
+        requires { 0 < length self.old.live.items }
+        ensures still { (ss : List points.BoundSegment) → length self.old.live.items ≡ length ss + 1
+            → ArePassed ss self.old.live.items self.old.low → AreStill self.new.live.items self.new.quiet }
+        ensures nodes { self.new.nodes.items ≡ self.old.nodes.items }
+        ensures live { self.new.live.items ≡ self.old.live.items }
+        ensures low { self.new.low ≡ self.old.low }
+    {
+        let reach = if self.asked < LEAST_ASKED {
+            self.low
+        } else {
+            self.reach
+        };
+        let quiet = quiet_from(self.live.as_slice(), self.low, reach);
+        self.quiet = quiet;
+    }
+
+    // Whether the live states' segments have at least twice as many waypoints to avoid as the place has different ones.
+    fn is_worth_asking(&self, there: &[Avoided]) -> bool {
+        !there.is_empty() && there.len() < self.asked / 2
+    }
+
+    // Whether the event leaves all states but the last as they are, where that is asked.
+    fn rests(&self, sight: &Sight, avoids: &Avoids) -> bool
+        requires states { length self.now.live.items ≡ length sight.now.segments.now + 1 }
+        requires still { AreStill self.now.live.items self.now.quiet }
+        requires covers { Covers (sighted sight.now) avoids.now }
+        ensures { result ≡ true → LeavesAll (program_view sight.now.program.now) (seen_by sight.now)
+            (sighted sight.now) self.now.live.items }
+    {
+        if self.asked < LEAST_ASKED {
+            return false;
+        }
+        match place_of(&sight.event) {
+            None => false,
+            Some(spot) => {
+                let there = avoids.at(spot);
+                self.is_worth_asking(there)
+                    && rests(sight, there, self.live.as_slice(), self.quiet, self.reach)
+            }
+        }
+    }
+
     /// Takes all states past an event that can move no segment: only the state behind all segments doesn't stay.
     #[inline]
     pub fn pass_by(&mut self)
@@ -334,8 +419,13 @@ impl States {
             → length self.old.live.items ≡ length ss + 1 → moved (event_spot e.event) 0 ss ≡ []
             → ways_of self.new.nodes.items 0 self.new.live.items
             ≡ step p e n None false ss (ways_of self.old.nodes.items 0 self.old.live.items) }
+        ensures rested { (p : tree.Program) (e : Seen) (n : ℕ) (ss : List points.BoundSegment)
+            → length self.old.live.items ≡ length ss + 1 → LeavesAll p e ss self.old.live.items
+            → ways_of self.new.nodes.items 0 self.new.live.items
+            ≡ step p e n None false ss (ways_of self.old.nodes.items 0 self.old.live.items) }
         ensures passed { (ss : List points.BoundSegment) → length self.old.live.items ≡ length ss + 1
             → ArePassed ss self.old.live.items self.old.low → ArePassed ss self.new.live.items self.new.low }
+        ensures still { AreStill self.old.live.items self.old.quiet → AreStill self.new.live.items self.new.quiet }
         ensures states { length self.new.live.items ≡ length self.old.live.items }
     {
         let last = self.live.len() - 1;
@@ -351,6 +441,7 @@ impl States {
         segments: &[BoundSegment],
         prepared: &[Prepared],
         by_place: &ByPlace,
+        avoids: &Avoids,
         event: Event,
         memory: &Memory,
         count: u64,
@@ -358,14 +449,17 @@ impl States {
         requires prepares { prepared.now ≡ all_prepared (program_view program.now) (each_segment_view segments.now) }
         requires places { numbers_in by_place.now (event_spot event)
             ≡ moved (event_spot event) 0 (each_segment_view segments.now) }
+        requires covers { Covers (each_segment_view segments.now) avoids.now }
         requires states { length self.old.live.items ≡ length segments.now + 1 }
         requires passed { ArePassed (each_segment_view segments.now) self.old.live.items self.old.low }
+        requires still { AreStill self.old.live.items self.old.quiet }
         ensures ways { OnOk result (ways_of self.new.nodes.items 0 self.new.live.items ≡ step (program_view program.now)
             (record { event = event; cells = memory.now.cells }) count None false (each_segment_view segments.now)
             (ways_of self.old.nodes.items 0 self.old.live.items)) }
         ensures refused { OnErr result (ways_of self.new.nodes.items 0 self.new.live.items
             ≡ ways_of self.old.nodes.items 0 self.old.live.items) }
         ensures passed { ArePassed (each_segment_view segments.now) self.new.live.items self.new.low }
+        ensures still { AreStill self.new.live.items self.new.quiet }
         ensures states { length self.new.live.items ≡ length self.old.live.items }
     {
         let numbers = by_place.numbers(event);
@@ -373,7 +467,6 @@ impl States {
             self.pass_by();
             return Ok(());
         }
-        self.nodes.reserve(self.live.len())?;
         let sight = Sight {
             program,
             segments,
@@ -382,8 +475,14 @@ impl States {
             memory,
             count,
         };
+        if self.rests(&sight, avoids) {
+            self.pass_by();
+            return Ok(());
+        }
+        self.nodes.reserve(self.live.len())?;
         self.advance(&sight, numbers);
         self.raise(segments);
+        self.calm();
         Ok(())
     }
 }

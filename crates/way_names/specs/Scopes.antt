@@ -12,7 +12,7 @@ use Rattle.way_places.specs.Maps.{found_at}
 use Rattle.way_names.specs.Visible.{names_or, seen_from, sights_in_functions}
 use Rattle.way_names.specs.declared.scope.Scope.{Scope}
 
--- a scope with this many may lie behind it
+-- a scope with this many may lie after it
 abbrev pub height : Option ℕ → ℕ
 height None = 0
 height (Some number) = suc number

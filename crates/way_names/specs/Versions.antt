@@ -21,7 +21,7 @@ abbrev pub half_of : List Node → Bool → Option ℕ → Option ℕ
 half_of nodes odd None = None
 half_of nodes odd (Some number) = half odd (slice_get nodes number)
 
--- what a tree over so many bits has for a key
+-- what a tree over this many bits has for a key
 abbrev pub found_in : List Node → ℕ → Option ℕ → ℕ → Option ℕ
 found_in nodes zero at key = at
 found_in nodes (suc bits) at key = found_in nodes bits (half_of nodes (is_odd key) at) (key / 2)
@@ -70,7 +70,7 @@ pub record AddsObject (objects : List Object) (old new : Versions) (outer : Opti
 abbrev pub Finds : List Object → Versions → Option ℕ → List ℕ → Type 0
 Finds objects v scope names = (key : ℕ) → key < length objects → look v scope key ≡ last_of (has_key objects key) names
 
--- the number of the last of so many
+-- the number of the last of n
 abbrev pub behind : ℕ → Option ℕ
 behind zero = None
 behind (suc n) = Some n

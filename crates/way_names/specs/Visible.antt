@@ -69,7 +69,7 @@ abbrev mutual
   sights_in_else kind names NoElse = []
   sights_in_else kind names (OrElse b) = sights_in kind names b
 
-  -- what a declaration declares is visible behind it
+  -- what a declaration declares is visible after it
   pub sights_in_block : PlaceKind → List ℕ → Stms → List Sight
   sights_in_block kind names NoStm = []
   sights_in_block kind names (MoreStm s b) = sights_in kind names s ++ sights_in_block kind (names ++ declared_by s) b

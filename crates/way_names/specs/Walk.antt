@@ -68,14 +68,14 @@ is_loop (For i e s b) = true
 is_loop _ = false
 
 abbrev mutual
-  -- behind a statement
+  -- after a statement
   pub walked : Walk → Option ℕ → Stm → Walk
   walked w scope (Stmt at f) =
       walked_form
       (with_loop_if (is_loop f) (with_names (with_statement w at scope) scope (in_parentheses f)) at (innermost (with_statement w at scope) scope (in_parentheses f)))
       (innermost (with_statement w at scope) scope (in_parentheses f)) f
 
-  -- behind the statements in it, which see this scope
+  -- after the statements in it, which see this scope
   pub walked_form : Walk → Option ℕ → Form → Walk
   walked_form w scope Empty = w
   walked_form w scope (Do e) = w
@@ -95,7 +95,7 @@ abbrev mutual
   walked_else w scope NoElse = w
   walked_else w scope (OrElse b) = walked w scope b
 
-  -- what a declaration declares is visible behind it
+  -- what a declaration declares is visible after it
   pub walked_block : Walk → Option ℕ → Stms → Walk
   walked_block w scope NoStm = w
   walked_block w scope (MoreStm s b) =
@@ -113,11 +113,11 @@ scope_behind w scope (MoreCase spot l b) = scope_behind w scope b
 abbrev pub walked_within : Walk → Option ℕ → Stm → Walk
 walked_within w scope (Stmt at f) = walked_form (with_names w scope (in_parentheses f)) (innermost w scope (in_parentheses f)) f
 
--- behind a body, which sees the parameters
+-- after a body, which sees the parameters
 abbrev pub walked_body : Walk → List ℕ → Stm → Walk
 walked_body w objects s = walked_within (with_names w None objects) (innermost w None objects) s
 
--- behind these functions
+-- after these functions
 abbrev pub walked_functions : Walk → List Function → Walk
 walked_functions w [] = w
 walked_functions w (f ∷ fs) = walked_functions (walked_body w f.params f.body) fs

@@ -61,7 +61,7 @@ hidden_names = record {
 -- objects by number, innermost last
 pub record WorkedNames : Type 0 where
   pub checked : IsProgram hidden_names
-  -- a declaration is not before itself; what is declared behind the function is not visible
+  -- a declaration is not before itself; what is declared after the function is not visible
   pub before_the_first : names_at hidden_names Statement (at 3 3) ≡ 0 ∷ []
   pub before_the_loop : names_at hidden_names Statement (at 4 3) ≡ 0 ∷ 1 ∷ []
   -- the controlling expression sees what is declared in the parentheses

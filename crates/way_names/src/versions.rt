@@ -18,7 +18,7 @@ pub struct Node {
     pub odd: Option<u32>,
 }
 
-/// A version for each of some scopes, over keys of so many bits.
+/// A version for each of some scopes, over keys of this many bits.
 #[derive(Drop)]
 pub struct Versions {
     pub nodes: Vec<Node>,
@@ -137,7 +137,7 @@ fn version_of(roots: &[Option<u32>], scope: Option<usize>) -> Option<u32>
     }
 }
 
-/// So many bits tell apart so many keys.
+/// How many keys this many bits tell apart.
 fn bits_of(count: usize) -> u32
     requires { count ≤ 100000 }
     ensures { count ≤ 2 ^ result }
@@ -152,7 +152,7 @@ fn bits_of(count: usize) -> u32
 }
 
 impl Versions {
-    /// For so many keys, of no scope yet.
+    /// For this many keys, of no scope yet.
     fn new(alloc: Global, count: usize) -> Versions
         requires { count ≤ 100000 }
         ensures wide { count ≤ 2 ^ result.bits }
@@ -199,7 +199,7 @@ pub fn of_scopes(alloc: Global, keys: &Keys, scopes: &[Scope]) -> Result<Version
     Ok(versions)
 }
 
-/// The number of the last of so many.
+/// The number of the last of n.
 pub fn behind(count: usize) -> Option<usize>
     ensures { result ≡ behind count }
 {

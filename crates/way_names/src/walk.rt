@@ -58,7 +58,7 @@ fn push_loop(walk: &mut Walk, at: Spot, scope: Option<usize>) -> Result<(), OutO
     Ok(())
 }
 
-/// The innermost scope behind parameters.
+/// The innermost scope after parameters.
 fn params(
     walk: &mut Walk,
     outer: Option<usize>,
@@ -74,7 +74,7 @@ fn params(
     Ok(scope)
 }
 
-/// The innermost scope behind declared names.
+/// The innermost scope after declared names.
 fn names(
     walk: &mut Walk,
     outer: Option<usize>,
@@ -109,7 +109,7 @@ fn first_names(
     }
 }
 
-/// The scope behind a statement of a block.
+/// The scope after a statement of a block.
 fn behind(walk: &mut Walk, outer: Option<usize>, s: &Stmt) -> Result<Option<usize>, OutOfMemory>
     ensures scope { IfOk result (λ scope. scope ≡ innermost (walk_view walk.old) outer
         (declared_by (stmt_view s.now))) }

@@ -1,1 +1,3 @@
 pub mod TruthLaws
+pub mod StepLaws
+pub mod CodeLaws

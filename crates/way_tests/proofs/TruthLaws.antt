@@ -1,5 +1,5 @@
 -- Truth of chains of `&&` and `||`.
-use Rattle.std.proofs.Common.{◌≡◌, ℤ, pos, List, Bool, true, false, not, cond, Option, Some, None, refl, sym, ap, ◌∙◌}
+use Rattle.std.proofs.Common.{◌≡◌, ℤ, pos, List, Bool, true, false, not, cond, Option, Some, None, refl, sym, ap}
 use Rattle.c_core.specs.Types.{is_zero, number_of}
 use Rattle.c_core.specs.Tree.{Program, Exp}
 use Rattle.c_meaning.specs.Cells.{Cell}

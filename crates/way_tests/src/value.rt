@@ -19,8 +19,8 @@ fn look(program: &Program, memory: &Memory, object: u32) -> Option<i128>
     }
 }
 
-// An overflow wraps.
-fn wrapping(done: Done) -> Option<i128>
+/// An overflow wraps.
+pub fn wrapping(done: Done) -> Option<i128>
     ensures { result ≡ wrapping_of done }
 {
     match done {

@@ -30,12 +30,12 @@ use Rattle.witval.specs.declared.output.Output.{Output}
 use Rattle.witval.specs.declared.output.Output.TheVariants.{Report, Unviolated}
 use Rattle.witval.specs.declared.output.Unviolated.TheVariants as unviolated
 
--- the refusal of bytes that are no list of values; want of memory is no refusal
+-- the refusal of bytes that are no list of values; out of memory is no refusal
 abbrev pub IsValuesRefusal : ValuesFault → Reply → Type 0
 IsValuesRefusal listing.Form reply = reply ≡ plain (codes "values")
 IsValuesRefusal listing.OutOfMemory reply = ⊥
 
--- a file's name that a witness can state: it is a key there, which has at most so many characters
+-- a file's name that a witness can state: it is a key there, which has at most this many characters
 abbrev pub stated_file : List ℕ → Option (List ℕ)
 stated_file name = if nat_le (length (chars name)) max_key then Some name else None
 

@@ -30,7 +30,7 @@ Obliges program I answer = AnswersFor (program_view program) (names_of program.f
 
 -- ---- certificates that are written
 
--- the text of logs, one for each obligation: each refutes the clauses of its failing bit in at most so many chains, none of which
+-- the text of logs, one for each obligation: each refutes the clauses of its failing bit in at most n chains, none of which
 -- resolves on a variable twice. All obligations hold, and so no run violates the property, and each invariant holds whenever its
 -- place is reached
 pub record IsCertificateFor (conflicts : ℕ) (p : t.Program) (I : List Placed) (o : Obligations) (text : List ℕ) : Type 0 where

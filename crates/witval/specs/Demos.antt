@@ -62,12 +62,12 @@ pub record IsDemonstration (number : ℕ) (budgets : Budgets) (demo : Demonstrat
 abbrev pub first_line : List ℕ → List ℕ
 first_line report = take (position_or_len (λ b. b == 10) report) report
 
--- each drawn value, behind a blank
+-- each drawn value, after a blank
 abbrev pub drawn_values : List Draw → List ℕ
 drawn_values [] = []
 drawn_values (draw ∷ draws) = codes " " ++ signed_decimal draw.value ++ drawn_values draws
 
--- what a confirmation has behind its first line: the drawn values, or the number of obligations
+-- what a confirmation has after its first line: the drawn values, or the number of obligations
 abbrev pub numbers_of : Reply → List ℕ
 numbers_of (Judged (ViolationConfirmed draws positions)) = drawn_values draws
 numbers_of (Judged (CorrectnessConfirmed count)) = codes " " ++ decimal count

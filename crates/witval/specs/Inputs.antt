@@ -24,7 +24,7 @@ number_of Program = 1
 number_of Property = 2
 number_of Witness = 3
 
--- the name of each file, as the words state it
+-- the name of each file, as the arguments state it
 abbrev pub name_of : Command → File → List ℕ
 name_of command Program = command.program
 name_of command Property = command.property
@@ -65,7 +65,7 @@ first_too_long program property witness =
     else (if nat_lt (limit_of Property) (length property) then Some Property
     else too_long_alone witness)
 
--- so many files were begun, and this name was asked for last
+-- this many files were begun, and this name was asked for last
 pub record Reached (count : ℕ) (name : List ℕ) (old new : ShelfState) : Type 0 where
   pub begins : new.begins ≡ min (old.begins + count) (2 ^ 64 - 1)
   pub asked : new.asked ≡ name
@@ -98,15 +98,15 @@ TookTooMuchOf command file old new = TookTooMuch (number_of file) (name_of comma
 abbrev pub OfFiles : Command → Files → (List ℕ → List ℕ → List ℕ → Type 0) → Type 0
 OfFiles command files P = P (file_of files command.program) (file_of files command.property) (file_of files command.witness)
 
--- where the files are told, this holds of the three that the command names
+-- where the shelf tells its files, this holds of the three that the command names
 abbrev pub Told : Command → ShelfState → (List ℕ → List ℕ → List ℕ → Type 0) → Type 0
 Told command shelf P = IfSome shelf.files (λ files. OfFiles command files P)
 
--- where the files are told, this holds of the one with the name
+-- where the shelf tells its files, this holds of the one with the name
 abbrev pub ToldOne : List ℕ → ShelfState → (List ℕ → Type 0) → Type 0
 ToldOne name shelf P = IfSome shelf.files (λ files. P (file_of files name))
 
--- this holds of some bytes of the three files; where the files are told, these are theirs
+-- this holds of some bytes of the three files; where the shelf tells its files, these are theirs
 abbrev pub OfBytes : Command → ShelfState → (List ℕ → List ℕ → List ℕ → Type 0) → Type 0
 OfBytes command shelf P =
     (program : List ℕ) × (property : List ℕ) × (witness : List ℕ) × P program property witness

@@ -29,7 +29,7 @@ use Rattle.yaml_scalars.specs.declared.fault.YamlFault.TheVariants.{Bytes, Gramm
 abbrev pub plain : List ℕ → Reply
 plain code = Refused code []
 
--- the refusal of bytes that are no tree; want of memory is no refusal
+-- the refusal of bytes that are no tree; out of memory is no refusal
 abbrev pub IsRefusal : YamlFault → Reply → Type 0
 IsRefusal Bytes reply = reply ≡ plain (codes "yaml-bytes")
 IsRefusal Grammar reply = reply ≡ plain (codes "yaml-grammar")
@@ -64,7 +64,7 @@ IsTaskRefusal task.OutOfMemory reply = ⊥
 abbrev pub place_text : ℕ → ℕ → List ℕ
 place_text line column = decimal line ++ 58 ∷ decimal column
 
--- the refusal of bytes that are no certificate; want of memory is no refusal
+-- the refusal of bytes that are no certificate; out of memory is no refusal
 abbrev pub IsCertificateRefusal : CertFault → Reply → Type 0
 IsCertificateRefusal cert.Form reply = reply ≡ plain (codes "certificate")
 IsCertificateRefusal cert.OutOfMemory reply = ⊥
@@ -103,8 +103,8 @@ IsBindRefusal (bind.Expression number) reply = reply ≡ Refused (codes "express
 IsBindRefusal (bind.Scope number) reply = reply ≡ Refused (codes "scope") (decimal number)
 IsBindRefusal bind.OutOfMemory reply = ⊥
 
--- the refusal of invariant sets about a program whose obligations aren't judged: it has a recursion, told by a function's name, or it
--- is too big
+-- the refusal of invariant sets about a program whose obligations aren't judged: it has a recursion, reported by a function's
+-- name, or it is too big
 abbrev pub IsObligationRefusal : SymFault → Reply → Type 0
 IsObligationRefusal (duties.Recursion name) reply = reply ≡ Refused (codes "recursion") name
 IsObligationRefusal duties.TooBig reply = reply ≡ plain (codes "weight")

@@ -48,8 +48,8 @@ TooLongBy command old new code detail = (bytes_eq code too_long ≡ false) ⊎ (
 abbrev pub FaultedBy : Command → ShelfState → ShelfState → List ℕ → Type 0
 FaultedBy command old new text = (file : File) × (text ≡ word_of file) × FaultedAt command file old new
 
--- the reply to a command: a read fault by the shelf's counts, or else what the bytes of three files call for, which are the told ones
--- where the files are told
+-- the reply to a command: a read fault by the shelf's counts, or else what the bytes of three files call for: those of the shelf
+-- where it tells its files
 abbrev pub RightFor : Command → Purpose → ShelfState → ShelfState → Reply → Type 0
 RightFor command purpose old new (ReadFault text) = FaultedBy command old new text
 RightFor command purpose old new (Refused code detail) = OfBytes command old (RightOnBytes purpose (Report (Refused code detail))) × TooLongBy command old new code detail
@@ -85,7 +85,7 @@ RightWeed command conflicts old new (Certificate text) = ⊥
 RightWeed command conflicts old new (Rechecked answer) = ⊥
 RightWeed command conflicts old new (Unviolated why) = ⊥
 
--- the reply where reading one of three files stopped; want of memory is no reply
+-- the reply where reading one of three files stopped; out of memory is no reply
 abbrev pub IsStopped : Stop → Reply → Type 0
 IsStopped (stop.Fault file) reply = reply ≡ ReadFault (word_of file)
 IsStopped (stop.TooLong file) reply = reply ≡ Refused too_long (word_of file)
@@ -109,7 +109,7 @@ abbrev pub RightOnFour : Output → List ℕ → List ℕ → List ℕ → List 
 RightOnFour output program property witness certificate =
     RightAfter (first_too_long program property witness) (RightAfterCertificate certificate (RightOnInputs (Rechecking certificate) program property witness)) output
 
--- this holds of some bytes of three files and a certificate; where the files are told, these are theirs
+-- this holds of some bytes of three files and a certificate; where the shelf tells its files, these are theirs
 abbrev pub OfFour : Command → List ℕ → ShelfState → (List ℕ → List ℕ → List ℕ → List ℕ → Type 0) → Type 0
 OfFour command name shelf P = OfBytes command shelf (λ program property witness. OfOne name shelf (P program property witness))
 
@@ -149,7 +149,7 @@ abbrev pub AuthorsOnBytes : Label → ℕ → List ℕ → Output → List ℕ �
 AuthorsOnBytes label steps name output program property values =
     RightAfterSources (first_too_long program property values) (AuthorsOnInputs label steps name program property values) output
 
--- the same where the files are told; else of some bytes
+-- the same where the shelf tells its files; else of some bytes
 abbrev pub AuthorsOn : Sources → Label → ℕ → ShelfState → Output → Type 0
 AuthorsOn sources label steps old output = OfBytes (in_order sources) old (AuthorsOnBytes label steps sources.program output)
 
@@ -239,8 +239,8 @@ OnWitness Within output witness = AfterLength (too_long_alone witness) Within ou
 abbrev pub TooLongAlone : List ℕ → ShelfState → ShelfState → List ℕ → List ℕ → Type 0
 TooLongAlone name old new code detail = (bytes_eq code too_long ≡ false) ⊎ ((detail ≡ word_of WitnessFile) × TookTooMuch 1 name (limit_of WitnessFile) old new)
 
--- the output for a witness's name: a read fault by the shelf's counts, or else what the bytes of a file call for, which are the told
--- ones where the files are told
+-- the output for a witness's name: a read fault by the shelf's counts, or else what the bytes of a file call for: that of the shelf
+-- where it tells its files
 abbrev pub RightAlone : (Output → List ℕ → Type 0) → List ℕ → ShelfState → ShelfState → Output → Type 0
 RightAlone Within name old new (Report (ReadFault text)) = (text ≡ word_of WitnessFile) × Faulted 1 name old new
 RightAlone Within name old new (Report (Refused code detail)) = OfOne name old (OnWitness Within (Report (Refused code detail))) × TooLongAlone name old new code detail
@@ -252,7 +252,7 @@ RightAlone Within name old new (Certificate text) = ⊥
 RightAlone Within name old new (Rechecked answer) = ⊥
 RightAlone Within name old new (Unviolated why) = ⊥
 
--- words that ask for nothing
+-- arguments that ask for nothing
 abbrev pub usage : Output
 usage = Report (plain (codes "usage"))
 
@@ -266,7 +266,7 @@ RightDemo number budgets (Certificate text) = ⊥
 RightDemo number budgets (Rechecked answer) = ⊥
 RightDemo number budgets (Unviolated why) = ⊥
 
--- the output that is owed to what the words ask for
+-- the output that is owed to what the arguments ask for
 abbrev pub Right : Option Wanted → ShelfState → ShelfState → Output → Type 0
 Right None old new output = output ≡ usage
 Right (Some (Validate command budgets)) old new output = RightVerdict command budgets old new output

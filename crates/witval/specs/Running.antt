@@ -1,4 +1,4 @@
--- What the program does with its words, a shelf and a sink.
+-- What the program does with its arguments, a shelf and a sink.
 use Rattle.std.specs.Prelude.{◌≡◌, ◌≢◌, ◌<◌, ◌-◌, ◌^◌, ℕ, List, ◌++◌, take, Bool, true, false, Some, codes, decimal}
 use Rattle.wv_base.specs.Causes.{Rose}
 use Rattle.wv_base.specs.Shelf.{ShelfState, Files, file_of}
@@ -80,7 +80,7 @@ abbrev pub CutShort : Asked → ShelfState → ShelfState → SinkState → Sink
 CutShort asked old new before after =
     (output : Output) × (n : ℕ) × Right asked.wanted old new output × Gained before.written after.written (take n (bytes_by asked.json output))
 
--- for what is asked: status 6 is want of memory, 5 a write fault; each other status is that of a right output
+-- for what is asked: status 6 is out of memory, 5 a write fault; each other status is that of a right output
 pub record RunsFor (asked : Asked) (old new : ShelfState) (before after : SinkState) (status : ℕ) : Type 0 where
   pub same_files : new.files ≡ old.files
   pub memory : status ≡ 6 → after ≡ before
@@ -88,7 +88,7 @@ pub record RunsFor (asked : Asked) (old new : ShelfState) (before after : SinkSt
   pub prefix : status ≡ 5 → CutShort asked old new before after
   pub replied : status ≢ 5 → status ≢ 6 → Replied asked old new before after status
 
--- the same for the words of a command line, the program's own name being the first
+-- the same for the arguments of a command line, the program's own name being the first
 abbrev pub Runs : List (List ℕ) → ShelfState → ShelfState → SinkState → SinkState → ℕ → Type 0
 Runs words old new before after status = RunsFor (asked_by words) old new before after status
 
@@ -121,12 +121,12 @@ abbrev pub Answered : Bool → Wanted → Files → SinkState → SinkState → 
 Answered json wanted files before after status =
     (output : Output) × CallsFor wanted files output × (status ≡ status_by output) × Gained before.written after.written (bytes_by json output)
 
--- over told files, without a fault and with memory, what they call for is answered
+-- over files that the shelf tells, without a fault and with memory, what they call for is answered
 abbrev pub CompleteFor : Asked → ShelfState → ShelfState → SinkState → SinkState → ℕ → Type 0
 CompleteFor asked old new before after status =
     (wanted : Wanted) (files : Files) → asked.wanted ≡ Some wanted → old.files ≡ Some files → Undisturbed old new before after → status ≢ 6
     → Answered asked.json wanted files before after status
 
--- the same for the words of a command line
+-- the same for the arguments of a command line
 abbrev pub Complete : List (List ℕ) → ShelfState → ShelfState → SinkState → SinkState → ℕ → Type 0
 Complete words old new before after status = CompleteFor (asked_by words) old new before after status

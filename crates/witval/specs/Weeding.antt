@@ -56,7 +56,7 @@ kept_in ns witness = record { entries = kept_entries 1 ns witness.entries }
 
 -- ---- the output
 
--- the output for what weeding comes to: the witness with the invariants of the greatest inductive set alone; or the open obligation
+-- the output for what was weeded: the witness with the invariants of the greatest inductive set alone; or the open obligation
 abbrev pub TellsWeeded : ℕ → Witness → Weeded → Output → Type 0
 TellsWeeded conflicts witness (Kept ns) output = IsWritten (kept_in ns witness) output
 TellsWeeded conflicts witness (Spent left number at) output = output ≡ Report (Judged (Undecided (Conflicts number conflicts)))

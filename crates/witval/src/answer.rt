@@ -94,7 +94,7 @@ fn certify<S: Shelf>(
     }
 }
 
-/// What checking a certificate again comes to.
+/// What comes of checking a certificate again.
 fn recheck_four(alloc: Global, four: FourInputs) -> Result<Output, OutOfMemory>
     requires { AreWithin four.inputs }
     ensures { IfOk result

@@ -276,7 +276,7 @@ fn unauthored(alloc: Global, fault: AuthorFault, steps: u64) -> Result<Output, O
     }
 }
 
-/// The output for the end of a run. One that violates the property is no such end, and answered as want of memory.
+/// The output for the end of a run. One that violates the property is no such end, and answered as out of memory.
 fn tell_end(end: End, steps: u64) -> Result<Output, OutOfMemory>
     ensures { IfOk result (TellsEnd steps end) }
 {

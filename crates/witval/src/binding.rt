@@ -9,10 +9,10 @@ use way_bind::{BindFault, bind_violation};
 use way_match::Bound;
 use wv_schema::{Content, Segment, Witness};
 
-/// So many waypoints can be numbered.
+/// This many waypoints can be numbered.
 const MOST_WAYPOINTS: usize = 1073741823;
 
-/// Whether segments hold at most so many waypoints.
+/// Whether segments hold at most this many waypoints.
 fn are_few(segments: &[Segment]) -> bool
     ensures { result ≡ true → length (waypoints_in segments.now) < 2 ^ 30 }
 {
@@ -41,7 +41,7 @@ fn segments_of(witness: &Witness) -> &[Segment]
 }
 
 /// The segments bound to the program, or the least waypoint that isn't. A file of allowed length holds far fewer
-/// waypoints than can be numbered; more are answered as want of memory.
+/// waypoints than can be numbered; more are answered as out of memory.
 pub fn bind(alloc: Global, witness: &Witness, program: &Program) -> Result<Bound, BindFault>
     ensures { Binds (program_view program.now) witness.now result }
 {

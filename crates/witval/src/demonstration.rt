@@ -1,4 +1,4 @@
-// The demo of a number: both of its programs are judged, and told in a line each.
+// The demo of a number: both of its programs are judged, with a line for each.
 ghost use Rattle.std.specs.Prelude.{◌≡◌, ◌≤◌, ◌++◌, IfOk, OnOk, length, string_bytes};
 ghost use Rattle.sha2.specs.Sha256.{sha256};
 ghost use Rattle.c_core.specs.declared.number.DataModel.TheVariants.{Ilp32};
@@ -124,7 +124,7 @@ fn add_values(out: &mut String, draws: &[Draw]) -> Result<(), OutOfMemory>
     Ok(())
 }
 
-/// What a confirmation has behind its first line.
+/// What a confirmation has after its first line.
 fn numbers_of(alloc: Global, reply: &Reply) -> Result<String, OutOfMemory>
     ensures { IfOk result (λ numbers. string_bytes numbers ≡ numbers_of reply.now) }
 {

@@ -93,8 +93,8 @@ fn copy_metadata(alloc: Global, metadata: &Metadata) -> Result<Metadata, OutOfMe
     })
 }
 
-/// The number of the invariant that stands so many behind another. A file of allowed length holds far fewer than can be
-/// numbered; more are answered as want of memory.
+/// The number of the invariant that stands n after another. A file of allowed length holds far fewer than can be
+/// numbered; more are answered as out of memory.
 fn number_after(number: u32, count: usize) -> Result<u32, OutOfMemory>
     ensures { IfOk result (λ next. next ≡ number + count) }
 {
@@ -158,7 +158,7 @@ fn claims_of(content: &Content) -> usize
 }
 
 /// The same of what an entry claims. The schema leaves no violation sequence beside invariant sets; one is answered as
-/// want of memory.
+/// out of memory.
 fn keep_claims(
     alloc: Global,
     content: &Content,

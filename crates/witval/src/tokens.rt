@@ -6,7 +6,7 @@ use c_tokens::{Token, TokenFault, tokens};
 use std::alloc::Global;
 use wv_base::Seq;
 
-/// The tokens of a program of allowed length, one behind the other.
+/// The tokens of a program of allowed length, one after the other.
 pub fn program_tokens(alloc: Global, program: &[u8]) -> Result<Seq<Token>, TokenFault>
     requires { length program.now ≤ 1048576 }
     ensures found { Answers program.now result }

@@ -30,7 +30,7 @@ fn run_asked<S: Shelf, O: Sink>(alloc: Global, asked: &Asked<'_>, shelf: &mut S,
     }
 }
 
-/// The same for the words of a command line.
+/// The same for the arguments of a command line.
 fn run_words<S: Shelf, O: Sink>(alloc: Global, words: &[String], shelf: &mut S, out: &mut O) -> u8
     ensures runs { Runs (map string_bytes words.now) (S.state shelf.old) (S.state shelf.new) (O.state out.old)
         (O.state out.new) result }
@@ -43,11 +43,10 @@ fn run_words<S: Shelf, O: Sink>(alloc: Global, words: &[String], shelf: &mut S, 
     }
 }
 
-/// All that the program does: it reads the files that the words name, judges, shows or brings into canonical form,
-/// writes a certificate or checks one again, makes a violation witness of values, keeps the invariants that hold up
-/// together, or makes a demo and judges it, and writes.
+/// All that the program does. It reads the files that the arguments name, does what the mode asks for (`Request` lists
+/// the modes), and writes the output.
 ///
-/// The status is the output's, 5 where a write failed, 6 where memory was wanted. All bytes stand in memory before the
+/// The status is the output's, 5 where a write failed, 6 where memory ran out. All bytes stand in memory before the
 /// first of them is written.
 pub fn run<S: Shelf, O: Sink>(alloc: Global, words: &Vec<String>, shelf: &mut S, out: &mut O) -> u8
     ensures runs { Runs (map string_bytes words.now.items) (S.state shelf.old) (S.state shelf.new) (O.state out.old)

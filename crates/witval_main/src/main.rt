@@ -1,4 +1,4 @@
-//! The program: the words, the files and standard output of the process, handed to the top call.
+//! The program: the arguments, the files and standard output of the process, handed to the top call.
 #![tactic(auto)]
 
 use std::process::ExitCode;

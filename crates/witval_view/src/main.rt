@@ -3,12 +3,14 @@
 #![tactic(auto)]
 
 mod listing;
+mod screen;
 
 use listing::judge_list;
+use screen::screen_of;
 use std::alloc::Global;
 use std::process::ExitCode;
-use view_inputs::{Asked, read_words};
-use view_judging::{Handed, Output, hand_out, shown, usage_reply};
+use view_inputs::{Asked, read_words_at};
+use view_judging::{Handed, Judging, Output, hand_out, shown, usage_reply};
 use wv_arguments::Budgets;
 use wv_base::{OutOfMemory, write_all};
 use wv_process::{FileShelf, OutSink, words_of};
@@ -28,7 +30,7 @@ fn written(rt: &HostRuntime, bytes: &[u8], status: u8) -> u8 {
     }
 }
 
-/// The answer to misused words: the validator's on standard output, what is wrong on standard error.
+/// The answer to misused arguments: the validator's on standard output, what is wrong on standard error.
 fn misused(rt: &HostRuntime, alloc: Global, text: &str) -> u8 {
     match usage_reply(alloc) {
         Ok(replied) => {
@@ -83,11 +85,25 @@ fn answered(rt: &HostRuntime, alloc: Global, asked: &Asked<'_>) -> u8 {
             names,
             certificate,
             part,
+            form,
         } => {
             let shelf = FileShelf::new(rt, alloc);
-            given_out(rt, hand_out(alloc, names, *certificate, *part, shelf))
+            given_out(
+                rt,
+                hand_out(alloc, names, *certificate, *part, *form, shelf),
+            )
         }
-        Asked::List { name, budgets } => judge_list(rt, alloc, *name, *budgets),
+        Asked::List {
+            name,
+            budgets,
+            form,
+        } => {
+            let judging = Judging {
+                budgets: *budgets,
+                form: *form,
+            };
+            judge_list(rt, alloc, *name, judging)
+        }
         Asked::Help(text) => written(rt, text.as_bytes(), 0),
         Asked::Misuse(text) => misused(rt, alloc, text.as_str()),
     }
@@ -99,7 +115,7 @@ fn main(rt: HostRuntime) -> ExitCode {
         Ok(words) => words,
         Err(status) => return ExitCode::from(status),
     };
-    match read_words(alloc, words.as_slice()) {
+    match read_words_at(alloc, words.as_slice(), screen_of(&rt)) {
         Ok(asked) => ExitCode::from(answered(&rt, alloc, &asked)),
         Err(_) => ExitCode::from(6),
     }

@@ -51,7 +51,7 @@ pub record ReadsModes : Type 0 where
 abbrev pub IsMisused : List Text → Type 0
 IsMisused words = asked_by words ≡ record { wanted = None; json = false }
 
--- words for which clap has a fault: none, help and version, an unknown option, a number beyond its range, a flag given twice
+-- arguments for which clap has a fault: none, help and version, an unknown option, a number beyond its range, a flag given twice
 pub record RefusesWords : Type 0 where
   pub no_words : IsMisused []
   pub help : IsMisused (codes "witval" ∷ codes "--help" ∷ [])
@@ -59,7 +59,7 @@ pub record RefusesWords : Type 0 where
   pub unknown : IsMisused (codes "witval" ∷ codes "show" ∷ codes "--wit" ∷ codes "w" ∷ [])
   pub no_steps : IsMisused (codes "witval" ∷ codes "show" ∷ codes "--witness" ∷ codes "w" ∷ codes "--steps" ∷ codes "0" ∷ [])
   pub twice : IsMisused (codes "witval" ∷ codes "show" ∷ codes "--json" ∷ codes "--json" ∷ [])
-  -- words that clap takes, but with a mode that isn't there, or without what the mode needs
+  -- arguments that clap takes, but with a mode that isn't there, or without what the mode needs
   pub no_mode : asked_by (codes "witval" ∷ codes "judge" ∷ codes "--json" ∷ []) ≡ record { wanted = None; json = true }
   pub no_program : asked_by (codes "witval" ∷ codes "validate" ∷ codes "--json" ∷ []) ≡ record { wanted = None; json = true }
   pub no_certificate : asked_by (codes "witval" ∷ codes "recheck" ∷ codes "--program=p" ∷ codes "--property=q" ∷ codes "--witness=w" ∷ []) ≡ record { wanted = None; json = false }

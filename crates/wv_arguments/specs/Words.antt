@@ -1,4 +1,4 @@
--- What the words of a command line ask for.
+-- What the arguments of a command line ask for.
 use Rattle.std.specs.Prelude.{ℕ, List, [], ◌∷◌, Bool, false, Option, Some, None, unwrap_or, bytes_eq, codes, if◌then◌else◌}
 use Rattle.std.specs.Option.{option_map_or}
 use Rattle.std.specs.Str.Parse.{digits_value, without_leading_plus}
@@ -44,7 +44,7 @@ pub data Wanted : Type 0 where
   Author : Sources → Label → ℕ → Wanted
   Weed : Command → ℕ → Wanted
 
--- what is asked for, where the words ask for something, and whether reports are JSON
+-- what is asked for, where the arguments ask for something, and whether reports are JSON
 pub record Asked : Type 0 where
   pub wanted : Option Wanted
   pub json : Bool
@@ -172,6 +172,6 @@ abbrev pub asked_of : Kinds → List Row → Asked
 asked_of [] rows = asked_in rows
 asked_of (kind ∷ kinds) rows = record { wanted = None; json = false }
 
--- what the words ask for, the program's own name being the first
+-- what the arguments ask for, the program's own name being the first
 abbrev pub asked_by : List Text → Asked
 asked_by words = asked_of (fault_of command words) (matches_of command words)

@@ -1,4 +1,4 @@
-//! The words of the command line. `read_words` tells what they ask for, as the crate `clap` reads them.
+//! The arguments of the command line. `read_words` says what they ask for, as the crate `clap` reads them.
 #![tactic(auto)]
 
 mod command;

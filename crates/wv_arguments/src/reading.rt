@@ -174,7 +174,7 @@ fn asked<'a>(matches: &ArgMatches<'a>) -> Asked<'a>
     }
 }
 
-/// What the words ask for, the first of which is the program's own name.
+/// What the arguments ask for, the first of which is the program's own name.
 pub fn read_words(alloc: Global, words: &[String]) -> Result<Asked<'_>, OutOfMemory>
     ensures { IfOk result (λ asked. stated asked ≡ asked_by (map string_bytes words.now)) }
 {

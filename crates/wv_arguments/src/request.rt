@@ -63,7 +63,7 @@ pub enum Request<'a> {
     },
 }
 
-/// What the words ask for, `None` where they are misused, and whether reports are JSON.
+/// What the arguments ask for, `None` where they are misused, and whether reports are JSON.
 #[derive(Clone, Copy, Debug, PartialEq, Eq)]
 pub struct Asked<'a> {
     pub request: Option<Request<'a>>,

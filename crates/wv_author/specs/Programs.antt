@@ -6,7 +6,7 @@ use Rattle.wv_author.specs.Sequence.{bounds, loop_count}
 abbrev pub opening : List ℕ
 opening = codes "void reach_error() { }\nint __VERIFIER_nondet_int();\nint main() {\n"
 
--- the k-th loop counts up to its bound b, and the count is tested behind it: seven lines
+-- the k-th loop counts up to its bound b, and the count is tested after it: seven lines
 unfoldable pub loop_lines : ℕ → ℕ → List ℕ
 loop_lines k b =
     codes "  int x" ++ decimal k ++ codes " = 0;\n"
@@ -38,6 +38,6 @@ closing = codes "  return 0;\n}\n"
 unfoldable pub correct_program : ℕ → List ℕ
 correct_program n = opening ++ loops_lines 1 (bounds n loop_count) ++ closing
 
--- the same loops, and behind them the input
+-- the same loops, and after them the input
 unfoldable pub faulty_program : ℕ → List ℕ
 faulty_program n = opening ++ loops_lines 1 (bounds n loop_count) ++ input_lines n ++ closing

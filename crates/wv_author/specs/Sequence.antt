@@ -19,6 +19,6 @@ unfoldable pub bounds : ℕ → ℕ → List ℕ
 bounds n zero = []
 bounds n (suc k) = bounds n k ++ bound (sequence n (suc k)) ∷ []
 
--- a demo has so many loops
+-- a demo has this many loops
 abbrev pub loop_count : ℕ
 loop_count = 40

@@ -37,7 +37,7 @@ abbrev pub HasNoFeed : List ℕ → Type 0
 HasNoFeed [] = Unit {0}
 HasNoFeed (b ∷ bs) = (b ≡ 10 → ⊥) × HasNoFeed bs
 
--- the first line has so many bytes before its line feed
+-- the first line has this many bytes before its line feed
 pub record IsLine (text : List ℕ) (size : ℕ) : Type 0 where
   pub within : size < length text
   pub ended : text ≡ take size text ++ 10 ∷ drop (size + 1) text

@@ -9,7 +9,7 @@ const OPENING: &str = "void reach_error() { }\nint __VERIFIER_nondet_int();\nint
 
 const CLOSING: &str = "  return 0;\n}\n";
 
-/// A loop up to its bound, and the test of its variable behind it.
+/// A loop up to its bound, and the test of its variable after it.
 fn add_loop(out: &mut String, k: u32, bound: u32) -> Result<(), OutOfMemory>
     ensures { OnOk result (string_bytes out.new ≡ string_bytes out.old ++ loop_lines k bound) }
 {
@@ -58,7 +58,7 @@ pub fn correct_program(alloc: Global, bounds: &[u32]) -> Result<Text, OutOfMemor
     Text::of(alloc, out.as_str())
 }
 
-/// The program that reaches the error behind its loops, where its input is the number.
+/// The program that reaches the error after its loops, where its input is the number.
 pub fn faulty_program(alloc: Global, bounds: &[u32], number: u32) -> Result<Text, OutOfMemory>
     requires { length bounds.now < 2 ^ 16 }
     ensures { IfOk result (λ text. text ≡ opening ++ loops_lines 1 bounds.now ++ input_lines number ++ closing) }

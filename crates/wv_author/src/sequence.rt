@@ -5,7 +5,7 @@ ghost use Rattle.wv_author.specs.Sequence.{bound, bounds, loop_count, next};
 use std::alloc::Global;
 use wv_base::OutOfMemory;
 
-/// A demo has so many loops.
+/// A demo has this many loops.
 const LOOPS: u32 = 40;
 
 /// The number after this one.

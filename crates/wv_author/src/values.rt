@@ -7,7 +7,7 @@ ghost use Rattle.wv_author.specs.Values.{AreDigits, FindsLine, OneListOfValues, 
 use std::alloc::Global;
 use wv_base::{OutOfMemory, Seq};
 
-/// The bytes aren't such lines; or memory was wanted and not found.
+/// The bytes aren't such lines; or memory ran out.
 #[derive(Clone, Copy, Debug, PartialEq, Eq)]
 pub enum ValuesFault {
     Form,

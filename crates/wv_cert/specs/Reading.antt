@@ -28,7 +28,7 @@ abbrev pub Finds : {A : Type 0} → (A → Type 0) → (A → List ℕ) → List
 Finds IsFine text_of before (Some a) after = IsFine a × (before ≡ text_of a ++ after)
 Finds {A} IsFine text_of before None after = (a : A) (rest : List ℕ) → IsFine a → before ≡ text_of a ++ rest → ⊥
 
--- the same where memory is wanted: `Form` exactly where the text begins with no such thing
+-- the same where memory runs out: `Form` exactly where the text begins with no such thing
 abbrev pub Gets : {A : Type 0} → (A → Type 0) → (A → List ℕ) → List ℕ → Result A CertFault → List ℕ → Type 0
 Gets IsFine text_of before (Ok a) after = IsFine a × (before ≡ text_of a ++ after)
 Gets {A} IsFine text_of before (Err Form) after = (a : A) (rest : List ℕ) → IsFine a → before ≡ text_of a ++ rest → ⊥
@@ -38,12 +38,12 @@ Gets IsFine text_of before (Err OutOfMemory) after = Unit {0}
 abbrev pub between : List ℕ → List ℕ → ℕ → List ℕ
 between first last number = first ++ decimal number ++ last
 
--- so many chains
+-- this many chains
 pub record HasChains (count : ℕ) (chains : List Chain) : Type 0 where
   pub many : length chains ≡ count
   pub fine : All IsChain chains
 
--- so many logs
+-- this many logs
 pub record HasLogs (count : ℕ) (logs : List Refutation) : Type 0 where
   pub many : length logs ≡ count
   pub fine : All IsLog logs

@@ -1,7 +1,7 @@
 // Why bytes are no certificate.
 use wv_base::OutOfMemory;
 
-/// No logs have these bytes as their text; or memory was wanted and not found.
+/// No logs have these bytes as their text; or memory ran out.
 #[derive(Clone, Copy, Debug, PartialEq, Eq)]
 pub enum CertFault {
     Form,

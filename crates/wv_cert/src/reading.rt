@@ -66,7 +66,7 @@ fn chain(alloc: Global, text: &mut Cursor<'_>) -> Result<Chain, CertFault>
     })
 }
 
-/// The lines of so many chains.
+/// The lines of this many chains.
 fn chains(alloc: Global, text: &mut Cursor<'_>, count: u64) -> Result<Seq<Chain>, CertFault>
     ensures { Gets (HasChains count) (flat_map chain_line) text.old result text.new }
 {
@@ -115,7 +115,7 @@ fn log(alloc: Global, text: &mut Cursor<'_>, obligation: u64) -> Result<Refutati
     Ok(Refutation { chains })
 }
 
-/// So many logs, numbered from 1.
+/// This many logs, numbered from 1.
 fn logs(alloc: Global, text: &mut Cursor<'_>, count: u64) -> Result<Seq<Refutation>, CertFault>
     ensures { Gets (HasLogs count) (log_texts 1) text.old result text.new }
 {

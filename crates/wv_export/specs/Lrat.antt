@@ -23,6 +23,6 @@ unfoldable pub lrat_lines : ℕ → List Chain → List ℕ
 lrat_lines number [] = []
 lrat_lines number (chain ∷ chains) = lrat_line number chain ++ lrat_lines (number + 1) chains
 
--- the whole text, over so many clauses
+-- the whole text, over this many clauses
 abbrev pub lrat_text : ℕ → List Chain → List ℕ
 lrat_text clauses chains = lrat_lines (clauses + 1) chains

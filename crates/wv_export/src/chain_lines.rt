@@ -37,7 +37,7 @@ fn add_line(out: &mut String, number: usize, chain: &Chain) -> Result<(), OutOfM
     Ok(())
 }
 
-/// The text of a log over so many clauses.
+/// The text of a log over this many clauses.
 pub fn lrat(alloc: Global, clauses: usize, log: &Refutation) -> Result<Vec<u8>, OutOfMemory>
     requires numbered { clauses + length log.now.chains < 2 ^ 64 }
     ensures { IfOk result (λ bytes. bytes.items ≡ lrat_text clauses log.now.chains) }

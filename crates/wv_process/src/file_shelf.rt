@@ -33,7 +33,15 @@ impl<'a> FileShelf<'a> {
 }
 
 impl Shelf for FileShelf<'_> {
-    ghost state = { λ s. record { files = None; rest = (if is_some s.file then None else Some []); taken = s.taken; begins = s.begins; asked = s.asked; faults = s.faults; mark = s.mark } };
+    ghost state = { λ s. record {
+      files = None;
+      rest = (if is_some s.file then None else Some []);
+      taken = s.taken;
+      begins = s.begins;
+      asked = s.asked;
+      faults = s.faults;
+      mark = s.mark;
+    } };
 
     fn begin(&mut self, alloc: Global, name: &str) -> Result<(), BeginFault> {
         self.begins = self.begins.saturating_add(1);

@@ -1,4 +1,4 @@
-//! The process that a program runs in: its words, its files and its standard output, as the top call wants them.
+//! The process that a program runs in: its arguments, its files and its standard output, as the top call wants them.
 #![tactic(auto)]
 
 mod file_shelf;

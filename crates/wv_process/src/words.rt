@@ -5,7 +5,7 @@ use std::io::ErrorKind;
 /// Words are shorter, and fewer, than this.
 const MANY: usize = 1 << 30;
 
-/// The words of the command line, or the status that the program ends with: 6 for want of memory, 7 for a word that
+/// The arguments of the command line, or the status that the program ends with: 6 where memory ran out, 7 for one that
 /// isn't UTF-8.
 pub fn words_of(rt: &HostRuntime, alloc: Global) -> Result<Vec<String>, u8> {
     let args = match env::args(rt) {

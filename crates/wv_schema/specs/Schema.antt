@@ -49,7 +49,7 @@ fault_of_items (Some ts) = option_or (items_fault entry_fault [] 0 ts) (entries_
 unfoldable pub schema_fault : Tree → Option SchemaFault
 schema_fault t = fault_of_items (items_in t)
 
--- A refusal says what isn't met; want of memory is free.
+-- A refusal says what isn't met; out of memory may be answered at any time.
 abbrev pub Fails : SchemaFault → Option SchemaFault → Type 0
 Fails (Missing path) fault = fault ≡ Some (Missing path)
 Fails (WrongKind path) fault = fault ≡ Some (WrongKind path)

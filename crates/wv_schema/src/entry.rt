@@ -44,7 +44,8 @@ fn content_of(
 fn entry_in_map(alloc: Global, at: &str, pairs: &[Pair]) -> Result<Entry, SchemaFault>
     ensures { Gives (λ (v : Entry). v) result
         (option_or (first_fault at.now pairs.now entry_fields)
-        (content_fault (key_place at.now (codes "content")) (is_violation pairs.now) (list_at (codes "content") pairs.now)))
+        (content_fault (key_place at.now (codes "content")) (is_violation pairs.now)
+        (list_at (codes "content") pairs.now)))
         (entry_by pairs.now) }
 {
     let word = needed_str(alloc, at, pairs, "entry_type", TextRule::EntryType)?;

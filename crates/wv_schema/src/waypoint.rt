@@ -73,7 +73,8 @@ fn waypoint_fields_of(alloc: Global, at: &str, pairs: &[Pair]) -> Result<Step, S
 
 fn waypoint_of(alloc: Global, at: &str, pairs: &[Pair]) -> Result<Step, SchemaFault>
     ensures { Gives (λ (s : Step). s) result
-        (first_fault at.now pairs.now (in_map (codes "waypoint") (waypoint_fields (kind_at (map_at (codes "waypoint") pairs.now)))))
+        (first_fault at.now pairs.now (in_map (codes "waypoint")
+        (waypoint_fields (kind_at (map_at (codes "waypoint") pairs.now)))))
         (step_by (map_at (codes "waypoint") pairs.now)) }
 {
     let inside = needed_map(alloc, at, pairs, "waypoint")?;

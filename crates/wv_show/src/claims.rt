@@ -7,7 +7,7 @@ use std::alloc::Global;
 use wv_base::OutOfMemory;
 use wv_schema::{Constraint, Content, Invariant, Location, Segment, Waypoint};
 
-/// The number after this one; one that can't be kept is want of memory.
+/// The number after this one; one that can't be kept is answered as out of memory.
 fn next(number: u64) -> Result<u64, OutOfMemory>
     ensures { IfOk result (λ after. after ≡ number + 1) }
 {

@@ -83,7 +83,7 @@ abbrev pub judged : List ℕ → Property → List Entry → Result DataModel Ta
 judged digest property entries =
     result_and (entries_met digest property (first_model_of entries) entries) (ok_or (model_of (first_model_of entries)) Model)
 
--- the answer is this one; want of memory alone may stand in its place
+-- the answer is this one; only out of memory may stand in its place
 abbrev pub Gives : {T : Type 0} → Result T TaskFault → Result T TaskFault → Type 0
 Gives given (Ok x) = given ≡ Ok x
 Gives given (Err OutOfMemory) = Unit {0}

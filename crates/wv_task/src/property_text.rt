@@ -70,7 +70,7 @@ fn reads_as(text: &[u8], formula: &[u8]) -> bool
     next_token(rest).is_none()
 }
 
-/// The first token, and what is left behind it.
+/// The first token, and what is left after it.
 fn next_token(text: &[u8]) -> Option<(&[u8], &[u8])>
     ensures token { MatchOption result (spec.tokens text.now ≡ [])
         (λ next. spec.tokens text.now ≡ next.0.now ∷ spec.tokens next.1.now) }

@@ -33,7 +33,7 @@ abbrev pub IsWeeded : ℕ → Program → List Placed → Weeded → Type 0
 IsWeeded N p I (Kept ns) = IsGreatest p I ns
 IsWeeded N p I (Spent left number at) = IsOpenAt N p I left number at
 
--- the answer: why the obligations of the whole list can't be judged, or else what weeding comes to
+-- the answer: why the obligations of the whole list can't be judged, or else the result of weeding
 abbrev pub Weeds : ℕ → Program → List (List ℕ) → List Placed → Result Weeded SymFault → Type 0
 Weeds N p names I (Ok weeded) = CanBeJudged p I × IsWeeded N p I weeded
 Weeds N p names I (Err fault) = IsFault p names I fault

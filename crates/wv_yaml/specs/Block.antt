@@ -37,7 +37,7 @@ opens key text = dash text || has_key (key text)
 abbrev pub is_under : Bool → ℕ → Line → Bool
 is_under own n l = nat_lt n l.indent || (own && is_item n l)
 
--- `inline here n text body`: the scalar or flow collection that begins with this text behind an indicator at n, and goes on
+-- `inline here n text body`: the scalar or flow collection that begins with this text after an indicator at n, and goes on
 -- over the body's lines up to their end; `here` tells whether it stands on the indicator's line.
 -- `key text`: the key that the text begins with, and what follows its colon. `read`: the collection that lines are.
 module _ (inline : Bool → ℕ → List ℕ → List Line → Option Tree) (key : List ℕ → Option (List ℕ × List ℕ)) where
@@ -76,7 +76,7 @@ module _ (inline : Bool → ℕ → List ℕ → List Line → Option Tree) (key
   collection read l ls =
       if dash l.text then sequence read l ls else (if quiet l.text then None else mapping read l ls)
 
--- with at most so many collections in one another
+-- with at most this many collections in one another
 unfoldable pub block : (ℕ → Bool → ℕ → List ℕ → List Line → Option Tree) → (List ℕ → Option (List ℕ × List ℕ)) → ℕ → List Line → Option Tree
 block inline key zero ls = None
 block inline key (suc d) [] = None

@@ -92,12 +92,12 @@ is_inline (Text v) = true
 is_inline (List' s row) = not (has_items row)
 is_inline (Map' s row) = not (has_pairs row)
 
--- what stands before an item: nothing behind an indicator, else a line's indentation
+-- what stands before an item: nothing after an indicator, else a line's indentation
 abbrev pub lead : ℕ → Bool → List ℕ
 lead n true = []
 lead n false = indented n []
 
--- what stands behind a colon: a space, or the next line's indentation
+-- what stands after a colon: a space, or the next line's indentation
 abbrev pub after_colon : ℕ → Bool → List ℕ
 after_colon n true = 32 ∷ []
 after_colon n false = 10 ∷ indented n []
@@ -134,7 +134,7 @@ unfoldable pub canon : Tree → List ℕ
 canon t = form 0 false t
 
 abbrev mutual
-  -- lists and maps nest at most so deep, and each key has at most so many characters
+  -- lists and maps nest at most this deep, and each key has at most this many characters
   pub Fits : ℕ → Tree → Type 0
   Fits d (Text v) = Unit {0}
   Fits d (List' s row) = (e : ℕ) × (d ≡ suc e) × ItemsFit e row

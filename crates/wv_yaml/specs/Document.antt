@@ -11,7 +11,7 @@ use Rattle.wv_yaml.specs.Inline.{key_bytes, inline, begins_flow, flow_text, KeyT
 use Rattle.wv_yaml.specs.Block.{block}
 use Rattle.wv_yaml.specs.Spelled.{Block}
 
--- lists and maps nest at most so deep
+-- lists and maps nest at most this deep
 abbrev pub max_depth : ℕ
 max_depth = 64
 
@@ -34,7 +34,7 @@ is_stop l = (l.indent == 0) && is_triple 46 l.text
 abbrev pub is_plain_line : Line → Bool
 is_plain_line l = not (is_start l || is_stop l)
 
--- a marker with nothing but a comment behind it
+-- a marker with nothing but a comment after it
 abbrev pub is_alone : Line → Bool
 is_alone l = is_tail (drop 3 l.text)
 
@@ -93,7 +93,7 @@ pub data Top : List Line → Tree → Type 0 where
   TopFlow : (l : Line) (ls : List Line) (t : Tree) → begins_flow (trimmed l.text) ≡ true → FlowText max_depth (joined 0 (trimmed l.text) ls) t → Top (l ∷ ls) t
   TopBlock : (l : Line) (ls : List Line) (t : Tree) → begins_flow (trimmed l.text) ≡ false → Block KeyText Inline max_depth (l ∷ ls) t → Top (l ∷ ls) t
 
--- quiet lines, maybe a line `---`, quiet lines, the top node, and maybe a line `...` with quiet lines behind it
+-- quiet lines, maybe a line `---`, quiet lines, the top node, and maybe a line `...` with quiet lines after it
 pub record Document (lines : List Line) (t : Tree) : Type 0 where
   pub before : List Line
   pub first : Line

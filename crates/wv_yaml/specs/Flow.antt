@@ -45,7 +45,7 @@ closes_map Comma = false
 closes_map (Key v) = false
 closes_map (Word v) = false
 
--- how many collections are open behind a token
+-- how many collections are open after a token
 abbrev pub open_after : ℕ → Token → ℕ
 open_after k OpenList = suc k
 open_after k OpenMap = suc k
@@ -105,7 +105,7 @@ flow_value read (OpenList ∷ ts) = before_last closes_list ts >>= λ inner. as_
 flow_value read (OpenMap ∷ ts) = before_last closes_map ts >>= λ inner. as_map (collected (flow_pair read) (entries_of inner))
 flow_value read (t ∷ ts) = flow_word (t ∷ ts)
 
--- with at most so many collections in one another
+-- with at most this many collections in one another
 unfoldable pub flow : ℕ → List Token → Option Tree
 flow zero ts = flow_word ts
 flow (suc d) ts = flow_value (flow d) ts
@@ -137,7 +137,7 @@ pub data FlowValue (R : List Token → Tree → Type 0) : List Token → Tree �
 abbrev pub IsFlowWord : List Token → Tree → Type 0
 IsFlowWord ts t = (v : List ℕ) × (ts ≡ Word v ∷ []) × (t ≡ tree.Text v)
 
--- with at most so many collections in one another
+-- with at most this many collections in one another
 unfoldable pub Flow : ℕ → List Token → Tree → Type 0
 Flow zero ts t = IsFlowWord ts t
 Flow (suc d) ts t = FlowValue (Flow d) ts t

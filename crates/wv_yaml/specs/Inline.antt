@@ -14,12 +14,12 @@ use Rattle.yaml_scalars.specs.BlockScalar.{block_scalar, BlockText}
 use Rattle.yaml_scalars.specs.Tokens.{max_key, tokens, is_silent, Lexed}
 use Rattle.wv_yaml.specs.Flow.{flow, Flow}
 
--- a name, where a colon with a blank or the line's end behind it follows; and what follows the colon
+-- a name, where a colon with a blank or the line's end after it follows; and what follows the colon
 abbrev pub colon : List ℕ → List ℕ → Option (List ℕ × List ℕ)
 colon name [] = None
 colon name (c ∷ cs) = provided ((c == 58) && (parted cs && nat_le (length name) max_key)) (Some (name, cs))
 
--- a colon with a blank or the line's end behind it
+-- a colon with a blank or the line's end after it
 abbrev pub is_colon : List ℕ → Bool
 is_colon [] = false
 is_colon (c ∷ cs) = (c == 58) && parted cs
@@ -48,7 +48,7 @@ key_bytes text = named (key text)
 abbrev pub as_text : Option (List ℕ) → Option Tree
 as_text o = o >>= λ v. Some (tree.Text (encode_utf8_all v))
 
--- a quoted scalar with nothing behind it
+-- a quoted scalar with nothing after it
 abbrev pub quoted_alone : (List ℕ → Option (List ℕ × ℕ)) → List ℕ → Option (List ℕ)
 quoted_alone inside cs = inside cs >>= λ r. provided (is_silent (drop r.1 cs)) (Some r.0)
 
@@ -59,7 +59,7 @@ flow_text d text = tokens false 0 text >>= λ ts. flow d ts
 abbrev pub opens_flow : ℕ → Bool
 opens_flow c = (c == 91) || (c == 123)
 
--- The scalar or flow collection that begins with a text behind an indicator at n, and goes on over the lines of the body, up
+-- The scalar or flow collection that begins with a text after an indicator at n, and goes on over the lines of the body, up
 -- to its end. `here` tells whether it stands on the indicator's line; d more collections may be open.
 abbrev pub scalar : Bool → ℕ → List ℕ → List Line → Option (List ℕ)
 scalar here n [] body = None
@@ -85,7 +85,7 @@ pub record KeyEnd (name gap rest : List ℕ) : Type 0 where
   pub apart : parted rest ≡ true
   pub short : length name ≤ max_key
 
--- a key with the blanks before its colon, and what is behind it (YAML 1.2.2, 7.4, 8.2.2)
+-- a key with the blanks before its colon, and what is after it (YAML 1.2.2, 7.4, 8.2.2)
 pub data KeyAt : List ℕ → List ℕ → List ℕ → Type 0 where
   PlainKey : (text name rest : List ℕ) → plain_start parted text ≡ true → Part stops text name (58 ∷ rest) → KeyEnd name [] rest → KeyAt text name rest
   DoubleKey : (inner name gap rest : List ℕ) → Double inner name (gap ++ (58 ∷ rest)) → KeyEnd name gap rest → KeyAt (34 ∷ inner) name rest

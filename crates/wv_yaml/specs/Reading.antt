@@ -8,7 +8,7 @@ use Rattle.wv_yaml.specs.Repeats.{Repeats}
 
 -- The answer to bytes: the tree that they spell, where none of its maps repeats a key; that they are no characters which may
 -- stand; that they are, and spell no tree; or that they spell a tree with a repeated key. Each answer comes exactly where its
--- condition holds, since no two of them hold together; want of memory is free.
+-- condition holds, since no two of them hold together; out of memory may be answered at any time.
 abbrev pub IsAnswer : List ℕ → Result Tree YamlFault → Type 0
 IsAnswer bytes (Ok t) = Spelled t bytes × (Repeats t → ⊥)
 IsAnswer bytes (Err Bytes) = (cs : List ℕ) → Characters bytes cs → ⊥

@@ -10,7 +10,7 @@ use Rattle.wv_yaml.specs.Flow.{pair_of}
 use Rattle.wv_yaml.specs.Block.{Chunk, is_item, is_pair, is_under, all_spaces}
 
 -- `KeyAt text name rest`: the text begins with this key and its colon, and the rest follows. `Inline here n body text t`: the
--- tree is the scalar or flow collection that begins with this text behind an indicator at n, and ends with the body's lines.
+-- tree is the scalar or flow collection that begins with this text after an indicator at n, and ends with the body's lines.
 module _ (KeyAt : List ℕ → List ℕ → List ℕ → Type 0) (Inline : Bool → ℕ → List Line → List ℕ → Tree → Type 0) where
   -- a block collection begins so
   abbrev pub Begins : List ℕ → Type 0
@@ -92,7 +92,7 @@ module _ (KeyAt : List ℕ → List ℕ → List ℕ → Type 0) (Inline : Bool 
       Items : Sequence l.indent l ls t → Collection l ls t
       Pairs : Mapping l.indent l ls t → Collection l ls t
 
--- with at most so many collections in one another
+-- with at most this many collections in one another
 unfoldable pub Block : (List ℕ → List ℕ → List ℕ → Type 0) → (ℕ → Bool → ℕ → List Line → List ℕ → Tree → Type 0) → ℕ → List Line → Tree → Type 0
 Block KeyAt Inline zero ls t = ⊥
 Block KeyAt Inline (suc d) [] t = ⊥

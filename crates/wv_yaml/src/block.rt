@@ -32,7 +32,7 @@ pub fn quiet_len(lines: &[Line<'_>]) -> usize
     at
 }
 
-/// Whether so many characters are spaces.
+/// Whether this many characters are spaces.
 fn are_spaces(text: &Characters<'_, '_>, count: usize) -> bool
     requires { count ≤ length text.now }
     ensures { result ≡ all_spaces (take count text.now) }
@@ -82,7 +82,7 @@ fn does_open(alloc: Global, text: &Characters<'_, '_>) -> Result<bool, YamlFault
     }
 }
 
-/// Whether a text behind `-` and a gap begins a block collection.
+/// Whether a text after `-` and a gap begins a block collection.
 fn does_open_compact(
     alloc: Global,
     is_compact: bool,
@@ -126,7 +126,7 @@ fn next_pair(indent: usize, lines: &[Line<'_>]) -> usize
     at
 }
 
-/// The block collection whose first line is this one, with at most so many collections in one another.
+/// The block collection whose first line is this one, with at most this many collections in one another.
 #[cycle(block)]
 #[tactic(auto, unfolding(crate::specs::Block::block))]
 pub fn block_of<'a, 'b>(

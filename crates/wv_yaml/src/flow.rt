@@ -81,7 +81,7 @@ fn is_closed(is_list: bool, tokens: &[Token]) -> bool
     !tokens.is_empty() && does_close(is_list, &tokens[tokens.len() - 1])
 }
 
-/// The tree that tokens are, with at most so many collections in one another.
+/// The tree that tokens are, with at most this many collections in one another.
 #[cycle(flow)]
 #[tactic(auto, unfolding(crate::specs::Flow::flow))]
 pub fn flow_of(alloc: Global, depth: usize, tokens: &[Token]) -> Result<Tree, YamlFault>

@@ -107,7 +107,7 @@ fn is_silent_text(alloc: Global, text: &Characters<'_, '_>) -> Result<bool, Yaml
     }
 }
 
-/// Appends a quoted scalar with nothing behind it. Its text follows the opening quote.
+/// Appends a quoted scalar with nothing after it. Its text follows the opening quote.
 fn push_quoted_alone(
     alloc: Global,
     out: &mut String,
@@ -124,7 +124,7 @@ fn push_quoted_alone(
     Ok(())
 }
 
-/// Appends the scalar that begins with a text behind an indicator, and goes on over the lines of the body.
+/// Appends the scalar that begins with a text after an indicator, and goes on over the lines of the body.
 fn push_scalar(
     alloc: Global,
     out: &mut String,
@@ -179,7 +179,7 @@ pub fn flow_text_of(
     }
 }
 
-/// The scalar or flow collection that begins with a text behind an indicator, and goes on over the lines of the body.
+/// The scalar or flow collection that begins with a text after an indicator, and goes on over the lines of the body.
 pub fn inline_of(
     alloc: Global,
     depth: usize,

@@ -55,7 +55,7 @@ fn is_text_line(line: &Line<'_>) -> bool
     !(is_start_line(line) || is_stop_line(line))
 }
 
-/// Whether nothing but a comment stands behind a line's mark.
+/// Whether nothing but a comment stands after a line's mark.
 fn is_alone_line(line: &Line<'_>) -> bool
     ensures { result ≡ is_alone line.now }
 {
@@ -114,7 +114,7 @@ fn top_of(alloc: Global, lines: &[Line<'_>]) -> Result<Tree, YamlFault>
     block_of(alloc, 64, first, rest)
 }
 
-/// The document behind its first line `---`.
+/// The document after its first line `---`.
 fn framed_of(alloc: Global, lines: &[Line<'_>]) -> Result<Tree, YamlFault>
     requires { All IsSmall lines.now }
     ensures { Gives (λ (t : Tree). t) result (framed lines.now) }
@@ -163,6 +163,8 @@ fn read_text(alloc: Global, text: &str) -> Result<Tree, YamlFault>
 
 /// The tree that bytes spell: `Bytes` where they are no characters that may stand in a document, `Grammar` where they
 /// spell no tree, `Duplicate` where they spell one and one of its maps has two equal keys.
+///
+/// Example: `canonical` in `crates/witval/src/canonical.rt`.
 pub fn read(alloc: Global, bytes: &[u8]) -> Result<Tree, YamlFault>
     ensures answer { IsAnswer bytes.now result }
     // The same, of what the definitions compute.

@@ -2,13 +2,13 @@
 use Rattle.std.specs.Prelude.{ℕ, ◌+◌, ◌<◌, ◌^◌, List, length, Bool, refl}
 use Rattle.std.specs.Coded.{Coded, code_by, coded×, coded_ℕ, coded_list, coded_bool}
 
--- so many spaces, the characters behind them, and whether a line break ends it
+-- this many spaces, the characters after them, and whether a line break ends it
 pub record Line : Type 0 where
   pub indent : ℕ
   pub text : List ℕ
   pub ended : Bool
 
--- a line by its spaces, the text behind them and whether a break ends it
+-- a line by its spaces, the text after them and whether a break ends it
 abbrev pub line_at : ℕ → List ℕ → Bool → Line
 line_at n text ended = record { indent = n; text = text; ended = ended }
 

@@ -93,7 +93,7 @@ AreLines cs (l ∷ ls) = (rest : List ℕ) × LineAt cs l rest × AreLines rest 
 -- A value that may go on over lines is read as one text with its line breaks: 10 is a break, and 13 is one before a line that
 -- is not indented enough.
 
--- the break before a line: 13 where the line is neither empty nor indented by so much
+-- the break before a line: 13 where the line is neither empty nor indented by this much
 abbrev pub break_before : ℕ → Line → ℕ
 break_before column l = if is_empty l || nat_le column l.indent then 10 else 13
 

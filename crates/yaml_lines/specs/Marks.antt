@@ -63,12 +63,12 @@ ahead (l ∷ ls) = if quiet l.text then ahead ls else l ∷ ls
 abbrev pub is_empty : Line → Bool
 is_empty l = is_end (trimmed l.text)
 
--- what may stand behind a value on its line: nothing, or blanks and maybe a comment
+-- what may stand after a value on its line: nothing, or blanks and maybe a comment
 abbrev pub is_tail : List ℕ → Bool
 is_tail [] = true
 is_tail (c ∷ cs) = blank c && quiet cs
 
--- behind an indicator stands a blank or the line's end
+-- after an indicator stands a blank or the line's end
 abbrev pub parted : List ℕ → Bool
 parted [] = true
 parted (c ∷ cs) = blank c
@@ -78,12 +78,12 @@ abbrev pub dash : List ℕ → Bool
 dash [] = false
 dash (c ∷ cs) = (c == 45) && parted cs
 
--- so many spaces in front of a text
+-- this many spaces in front of a text
 abbrev pub indented : ℕ → List ℕ → List ℕ
 indented zero text = text
 indented (suc n) text = 32 ∷ indented n text
 
--- so many line feeds
+-- this many line feeds
 abbrev pub breaks : ℕ → List ℕ
 breaks zero = []
 breaks (suc k) = 10 ∷ breaks k

@@ -41,7 +41,7 @@ pub fn rest_of(text: &str) -> &str
     }
 }
 
-/// What follows so many characters.
+/// What follows this many characters.
 pub fn slice_from(text: &str, count: usize) -> &str
     requires { count ≤ length (chars text.now) }
     ensures { chars result.now ≡ drop count (chars text.now) }
@@ -105,7 +105,7 @@ fn is_small(column: usize, text: &str, lines: &[Line<'_>]) -> bool
 }
 
 /// The text of a value that may go on over lines which are indented by a column or more: the rest of its first line,
-/// and the lines behind that, each with its break in front. Contracts see it as the list of its characters.
+/// and the lines after that, each with its break in front. Contracts see it as the list of its characters.
 #[derive(Drop)]
 pub struct Characters<'a, 'b> {
     here: &'a str,

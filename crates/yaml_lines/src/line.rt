@@ -5,7 +5,7 @@ ghost use Rattle.yaml_lines.specs.Line.{line_at};
 use crate::characters::Characters;
 use std::marker::Model;
 
-/// One line of a document: how many spaces it begins with, the text behind them, and whether a line break ends it.
+/// One line of a document: how many spaces it begins with, the text after them, and whether a line break ends it.
 #[derive(Drop)]
 pub struct Line<'a> {
     spaces: usize,
@@ -50,7 +50,7 @@ impl<'a> Line<'a> {
         Characters::of(self.rest)
     }
 
-    /// The text behind its spaces.
+    /// The text after its spaces.
     pub fn slice(&self) -> &'a str
         ensures { chars result.now ≡ self.now.text }
     {

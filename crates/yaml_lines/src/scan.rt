@@ -95,7 +95,7 @@ pub fn is_dash(text: &Characters<'_, '_>) -> bool
     !text.is_empty() && text.first() == '-' && is_parted(&text.rest())
 }
 
-/// How many of so many characters stand before the blanks at their end.
+/// How many of the first n characters stand before the blanks at their end.
 pub fn len_without_end(text: &Characters<'_, '_>, len: usize) -> usize
     requires { len ≤ length text.now }
     ensures within { result ≤ len }

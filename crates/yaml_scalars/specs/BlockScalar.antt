@@ -28,7 +28,7 @@ abbrev pub after_sign : Bool → Chomp → List ℕ → Option Header
 after_sign folds chomp [] = header_by folds 0 chomp []
 after_sign folds chomp (c ∷ cs) = if is_digit c then header_by folds (c - 48) chomp cs else header_by folds 0 chomp (c ∷ cs)
 
--- the header behind `|` or `>`
+-- the header after `|` or `>`
 abbrev pub header_of : Bool → List ℕ → Option Header
 header_of folds [] = header_by folds 0 Clip []
 header_of folds (c ∷ cs) =
@@ -39,7 +39,7 @@ header_of folds (c ∷ cs) =
 abbrev pub Row : Type 0
 Row = List ℕ × Bool
 
--- a line without so many of its spaces
+-- a line without this many of its spaces
 abbrev pub row_at : ℕ → Line → Row
 row_at m l = (indented (l.indent - m) l.text, l.ended)
 
@@ -106,7 +106,7 @@ abbrev pub past : {X : Type 0} → (X → Bool) → List X → List X
 past p [] = []
 past p (x ∷ xs) = if p x then past p xs else x ∷ xs
 
--- the content's rows at a known indentation, with nothing behind them
+-- the content's rows at a known indentation, with nothing after them
 abbrev pub rows_at : ℕ → List Line → Option (List Row)
 rows_at m body = provided (all_quiet (past (belongs m) body)) (Some (map (row_at m) (while (belongs m) body)))
 
@@ -115,7 +115,7 @@ abbrev pub no_deeper : ℕ → List Line → Bool
 no_deeper m [] = true
 no_deeper m (l ∷ ls) = nat_le l.indent m && no_deeper m ls
 
--- the rows where the first line that isn't spaces alone, behind an indicator at n, says where the content stands
+-- the rows where the first line that isn't spaces alone, after an indicator at n, says where the content stands
 abbrev pub rows_found : ℕ → List Line → List Line → List Line → Option (List Row)
 rows_found n body spaces [] = Some (map empty_row spaces)
 rows_found n body spaces (l ∷ ls) =
@@ -130,7 +130,7 @@ rows_of n (suc d) body = rows_at (n + suc d) body
 abbrev pub content_of : Header → Option (List Row) → Option (List ℕ)
 content_of h o = o >>= λ rows. Some (content h.folds h.chomp None 0 rows)
 
--- the block scalar whose header follows `|` or `>` behind an indicator at n, with the lines after it
+-- the block scalar whose header follows `|` or `>` after an indicator at n, with the lines after it
 abbrev pub block_scalar : Bool → ℕ → List ℕ → List Line → Option (List ℕ)
 block_scalar folds n header body =
     header_of folds header >>= λ h. content_of h (rows_of n h.digit body)
@@ -157,7 +157,7 @@ pub data IsHeader (folds : Bool) : List ℕ → Header → Type 0 where
   SignDigit : (s d : ℕ) (chomp : Chomp) (rest : List ℕ) → IsSign s chomp → is_digit d ≡ true → Tail rest →
       IsHeader folds (s ∷ d ∷ rest) (record { folds = folds; digit = d - 48; chomp = chomp })
 
--- rows of content spell a text, after a content line and so many line breaks
+-- rows of content spell a text, after a content line and this many line breaks
 pub data Content (folds : Bool) (chomp : Chomp) : Option Bool → ℕ → List Row → List ℕ → Type 0 where
   Over : (before : Option Bool) (p : ℕ) (empties : List Row) → Each is_empty_row empties →
       Content folds chomp before p empties (chomped chomp before (p + count_of has_break empties))
@@ -165,7 +165,7 @@ pub data Content (folds : Bool) (chomp : Chomp) : Option Bool → ℕ → List R
       Each is_empty_row empties → is_end text ≡ false → Content folds chomp (Some (begins_blank text)) (if ended then 1 else 0) rows more →
       Content folds chomp before p (empties ++ ((text, ended) ∷ rows)) (between folds before (p + count_of has_break empties) (begins_blank text) ++ (text ++ more))
 
--- content at the indentation m, and nothing behind it
+-- content at the indentation m, and nothing after it
 pub record RowsAt (m : ℕ) (body : List Line) (rows : List Row) : Type 0 where
   pub lines : List Line
   pub others : List Line

@@ -5,7 +5,7 @@ use Rattle.yaml_scalars.specs.Quoted.{Step, Refused, Closed, Stands}
 use Rattle.yaml_scalars.specs.declared.fault.YamlFault.{YamlFault}
 use Rattle.yaml_scalars.specs.declared.fault.YamlFault.TheVariants.{Bytes, Grammar, Duplicate, OutOfMemory}
 
--- a refusal where nothing is given; want of memory is free
+-- a refusal where nothing is given; out of memory may be answered at any time
 abbrev pub Fails : {Y : Type 0} → YamlFault → Option Y → Type 0
 Fails Bytes given = ⊥
 Fails Grammar given = given ≡ None
@@ -16,7 +16,7 @@ abbrev pub Gives : {X Y : Type 0} → (X → Y) → Result X YamlFault → Optio
 Gives view (Ok x) given = given ≡ Some (view x)
 Gives view (Err e) given = Fails e given
 
--- a text that is written behind another
+-- a text that is written after another
 abbrev pub behind : List ℕ → Option (List ℕ) → Option (List ℕ)
 behind front None = None
 behind front (Some more) = Some (front ++ encode_utf8_all more)
@@ -27,7 +27,7 @@ stepped front Refused = None
 stepped front Closed = Some (None, front)
 stepped front (Stands v more) = Some (Some more, front ++ encode_utf8_all v)
 
--- a value that is written behind another text, and the characters that it takes
+-- a value that is written after another text, and the characters that it takes
 abbrev pub with_text : List ℕ → Option (List ℕ × ℕ) → Option (List ℕ × ℕ)
 with_text front None = None
 with_text front (Some r) = Some (front ++ encode_utf8_all r.0, r.1)

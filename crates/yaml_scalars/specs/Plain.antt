@@ -13,12 +13,12 @@ abbrev pub is_sign : ℕ → Bool
 is_sign c =
     flow_sign c || (c == 35) || (c == 38) || (c == 42) || (c == 33) || (c == 124) || (c == 62) || (c == 39) || (c == 34) || (c == 37) || (c == 64) || (c == 96)
 
--- whether a plain scalar begins with these, where `ends` tells what ends it behind `-`, `?` or `:`
+-- whether a plain scalar begins with these, where `ends` tells what ends it after `-`, `?` or `:`
 abbrev pub plain_start : (List ℕ → Bool) → List ℕ → Bool
 plain_start ends [] = false
 plain_start ends (c ∷ cs) = not (is_sign c || blank c) && not (((c == 45) || (c == 63) || (c == 58)) && ends cs)
 
--- in block context a plain scalar stops before a colon with a blank or the line's end, and before a `#` behind a blank
+-- in block context a plain scalar stops before a colon with a blank or the line's end, and before a `#` after a blank
 abbrev pub stops : Bool → ℕ → List ℕ → Bool
 stops behind c cs = ((c == 58) && parted cs) || ((c == 35) && behind)
 
@@ -31,7 +31,7 @@ flow_parted (c ∷ cs) = blank c || (c == 10) || (c == 13) || flow_sign c
 abbrev pub flow_stops : Bool → ℕ → List ℕ → Bool
 flow_stops behind c cs = (c == 10) || (c == 13) || flow_sign c || ((c == 58) && flow_parted cs) || ((c == 35) && behind)
 
--- what ends a plain scalar behind an indicator, and what stops it: in flow, or in block context
+-- what ends a plain scalar after an indicator, and what stops it: in flow, or in block context
 abbrev pub parted_in : Bool → List ℕ → Bool
 parted_in true = flow_parted
 parted_in false = parted
@@ -48,7 +48,7 @@ abbrev pub cut : (Bool → ℕ → List ℕ → Bool) → Bool → List ℕ → 
 cut stop behind [] = ([], [])
 cut stop behind (c ∷ cs) = if stop behind c cs then ([], c ∷ cs) else first_to c (cut stop (blank c) cs)
 
--- what the lines after a plain scalar behind an indicator at n add to it, k empty lines having come
+-- what the lines after a plain scalar after an indicator at n add to it, k empty lines having come
 abbrev pub goes_on : ℕ → ℕ → List Line → Option (List ℕ)
 goes_on n k [] = Some []
 goes_on n k (l ∷ ls) =
@@ -60,7 +60,7 @@ goes_on n k (l ∷ ls) =
     else provided (nothing part.1 && all_quiet ls) (Some (folded k ++ without_end part.0)))
     else None))
 
--- a plain scalar behind an indicator at n, with what the lines add to it
+-- a plain scalar after an indicator at n, with what the lines add to it
 abbrev pub plain_lines : ℕ → List ℕ → List Line → Option (List ℕ)
 plain_lines n text body =
     let part = cut stops false text in
@@ -76,7 +76,7 @@ RunsTo stop behind [] [] = Unit {0}
 RunsTo stop behind [] (c ∷ cs) = stop behind c cs ≡ true
 RunsTo stop behind (c ∷ front) rest = (stop behind c (front ++ rest) ≡ false) × RunsTo stop (blank c) front rest
 
--- a part of a plain scalar on one line, and what follows it and the blanks behind it there
+-- a part of a plain scalar on one line, and what follows it and the blanks after it there
 pub record Part (stop : Bool → ℕ → List ℕ → Bool) (text value rest : List ℕ) : Type 0 where
   pub gap : List ℕ
   pub whole : text ≡ (value ++ gap) ++ rest
@@ -84,7 +84,7 @@ pub record Part (stop : Bool → ℕ → List ℕ → Bool) (text value rest : L
   pub blanks : Each blank gap
   pub ends : EndsWell value
 
--- the lines go on with a plain scalar behind an indicator at n, and add this to it
+-- the lines go on with a plain scalar after an indicator at n, and add this to it
 pub data Continues (n : ℕ) : List Line → List ℕ → Type 0 where
   Done : (ls : List Line) → Quiet ls → Continues n ls []
   Next : (empties : List Line) (l : Line) (ls : List Line) (value more : List ℕ) → Each is_empty empties → quiet l.text ≡ false → n < l.indent →

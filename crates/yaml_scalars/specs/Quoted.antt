@@ -27,7 +27,7 @@ pub data Step : Type 0 where
   Refused : Step
   -- the closing quote
   Closed : Step
-  -- what stands for these characters, with so many more behind its first
+  -- what stands for these characters, with this many more after its first
   Stands : List ℕ → ℕ → Step
 
 abbrev pub white_step : ℕ → List ℕ → Step
@@ -66,7 +66,7 @@ digit c =
     if nat_le 48 c && nat_le c 57 then Some (c - 48)
     else (if nat_le 97 c && nat_le c 102 then Some (c - 87) else (if nat_le 65 c && nat_le c 70 then Some (c - 55) else None))
 
--- the number of n hexadecimal digits, behind those that gave v
+-- the number of n hexadecimal digits, after those that gave v
 abbrev pub number : ℕ → ℕ → List ℕ → Option ℕ
 number zero v cs = Some v
 number (suc n) v [] = None
@@ -119,7 +119,7 @@ on_step Refused more = None
 on_step Closed more = Some ([], 1)
 on_step (Stands v k) more = more k >>= λ r. Some (v ++ r.0, suc r.1)
 
--- behind an opening quote: the value, and how many characters stand up to the closing quote, it included; the first k
+-- after an opening quote: the value, and how many characters stand up to the closing quote, it included; the first k
 -- characters are passed over
 abbrev pub quoted : (ℕ → List ℕ → Step) → ℕ → List ℕ → Option (List ℕ × ℕ)
 quoted step k [] = None
@@ -152,16 +152,16 @@ pub data DoublePiece (rest : List ℕ) : List ℕ → List ℕ → Type 0 where
   -- a line break that is taken away
   Joined : (w : List ℕ) → White w rest → DoublePiece rest (92 ∷ 10 ∷ w) (breaks (count_of is_feed w))
 
--- behind an opening quote: the text spells this value, and the rest follows the closing quote
+-- after an opening quote: the text spells this value, and the rest follows the closing quote
 pub data Inside (quote : ℕ) (closes : List ℕ → Bool) (Piece : List ℕ → List ℕ → List ℕ → Type 0) : List ℕ → List ℕ → List ℕ → Type 0 where
   Close : (rest : List ℕ) → closes rest ≡ true → Inside quote closes Piece (quote ∷ rest) [] rest
   More : (spelled meant text value rest : List ℕ) → Piece text spelled meant → Inside quote closes Piece text value rest →
       Inside quote closes Piece (spelled ++ text) (meant ++ value) rest
 
--- behind the opening quote: the value of a text in double quotes, and what is left (YAML 1.2.2, 7.3.1)
+-- after the opening quote: the value of a text in double quotes, and what is left (YAML 1.2.2, 7.3.1)
 abbrev pub Double : List ℕ → List ℕ → List ℕ → Type 0
 Double text value rest = Inside 34 (λ _. true) DoublePiece text value rest
 
--- behind the opening quote: the value of a text in single quotes, and what is left (YAML 1.2.2, 7.3.2)
+-- after the opening quote: the value of a text in single quotes, and what is left (YAML 1.2.2, 7.3.2)
 abbrev pub Single : List ℕ → List ℕ → List ℕ → Type 0
 Single text value rest = Inside 39 (λ rest. not (begins_with 39 rest)) SinglePiece text value rest

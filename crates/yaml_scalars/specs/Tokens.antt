@@ -35,7 +35,7 @@ abbrev pub word : ℕ → List ℕ → Option (List ℕ × ℕ)
 word c cs =
     if c == 34 then with_quote (quoted double_step 0 cs) else (if c == 39 then with_quote (quoted single_step 0 cs) else plain_word (c ∷ cs))
 
--- a colon that makes the scalar before it a key: behind a quoted one anything may follow it
+-- a colon that makes the scalar before it a key: after a quoted one anything may follow it
 abbrev pub line_parted : List ℕ → Bool
 line_parted [] = true
 line_parted (c ∷ cs) = blank c || is_break c
@@ -50,11 +50,11 @@ abbrev pub on_one_line : List ℕ → Bool
 on_one_line [] = true
 on_one_line (c ∷ cs) = not (is_break c) && on_one_line cs
 
--- a scalar in flow style that is a key: on one line, short enough, with a colon behind it
+-- a scalar in flow style that is a key: on one line, short enough, with a colon after it
 abbrev pub is_key : Bool → List ℕ → List ℕ → List ℕ → Bool
 is_key is_quoted spelled value rest = on_one_line spelled && (nat_le (length value) max_key && key_colon is_quoted (trimmed rest))
 
--- the token that a scalar is, and how many characters it has behind its first
+-- the token that a scalar is, and how many characters it has after its first
 abbrev pub token_of : Bool → List ℕ → List ℕ → ℕ → Token × ℕ
 token_of is_quoted text value n =
     if is_key is_quoted (take n text) value (drop n text) then (token.Key (encode_utf8_all value), n + length (gap (drop n text)))
@@ -102,7 +102,7 @@ first_quote (c ∷ cs) = is_quote c
 abbrev pub word_token : List ℕ → Option (Token × ℕ)
 word_token text = first_word text >>= λ w. Some (token_of (first_quote text) text w.0 w.1)
 
--- tokens that are found behind others
+-- tokens that are found after others
 abbrev pub advanced : List Token → Option (List Token × (Bool × ℕ)) → Option ((Bool × ℕ) × List Token)
 advanced front None = None
 advanced front (Some s) = Some (s.1, front ++ s.0)
@@ -125,7 +125,7 @@ abbrev pub EndsLine : List ℕ → Type 0
 EndsLine [] = Unit {0}
 EndsLine (c ∷ cs) = is_break c ≡ true
 
--- a text, behind a blank or not, is these tokens
+-- a text, after a blank or not, is these tokens
 pub data Lexed : Bool → List ℕ → List Token → Type 0 where
   NoMore : (behind : Bool) → Lexed behind [] []
   Blank : (behind : Bool) (c : ℕ) (text : List ℕ) (ts : List Token) → white c ≡ true → Lexed true text ts → Lexed behind (c ∷ text) ts

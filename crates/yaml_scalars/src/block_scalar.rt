@@ -68,7 +68,7 @@ fn header_after_sign(folds: bool, chomp: Chomp, text: &Characters<'_, '_>) -> Op
     header_with(folds, 0, chomp, text)
 }
 
-/// The header behind `|` or `>`.
+/// The header after `|` or `>`.
 fn header_in(folds: bool, text: &Characters<'_, '_>) -> Option<Header>
     ensures value { result ≡ header_of folds text.now }
     ensures digit { IfSome result (λ h. h.digit ≤ 9) }
@@ -179,7 +179,7 @@ fn break_count(line: &Line<'_>) -> usize
     if line.is_ended() { 1 } else { 0 }
 }
 
-/// Appends the text of a row of content: so many spaces, and what follows them.
+/// Appends the text of a row of content: this many spaces, and what follows them.
 fn push_row(out: &mut String, extra: usize, text: &str) -> Result<(), AllocError>
     ensures { OnOk result (string_bytes out.new ≡ string_bytes out.old ++ encode_utf8_all
         (indented extra (chars text.now))) }
@@ -261,7 +261,7 @@ fn are_no_deeper(column: usize, lines: &[Line<'_>]) -> bool
     true
 }
 
-/// Appends the content that stands at a column, behind which nothing may stand.
+/// Appends the content that stands at a column, after which nothing may stand.
 fn push_rows_at(
     out: &mut String,
     header: Header,
@@ -279,7 +279,7 @@ fn push_rows_at(
     Ok(())
 }
 
-/// Appends the content that stands where its first line says, behind an indicator.
+/// Appends the content that stands where its first line says, after an indicator.
 fn push_rows_found(
     out: &mut String,
     header: Header,
@@ -310,7 +310,7 @@ fn push_rows_found(
     push_rows_at(out, header, column, body)
 }
 
-/// Appends a block scalar, whose header follows `|` or `>` behind an indicator.
+/// Appends a block scalar, whose header follows `|` or `>` after an indicator.
 pub fn push_block(
     out: &mut String,
     folds: bool,

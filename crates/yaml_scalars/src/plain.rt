@@ -111,7 +111,7 @@ pub fn cut_len(is_flow: bool, text: &Characters<'_, '_>) -> usize
     at
 }
 
-/// Appends so many characters.
+/// Appends this many characters.
 pub fn push_chars(
     out: &mut String,
     text: &Characters<'_, '_>,
@@ -142,7 +142,7 @@ pub fn push_breaks(out: &mut String, count: usize) -> Result<(), AllocError>
     Ok(())
 }
 
-/// A line break with so many empty lines behind it, folded.
+/// A line break with this many empty lines after it, folded.
 pub fn push_fold(out: &mut String, empties: usize) -> Result<(), AllocError>
     ensures { OnOk result (string_bytes out.new ≡ string_bytes out.old ++ encode_utf8_all (folded empties)) }
 {
@@ -154,7 +154,7 @@ pub fn push_fold(out: &mut String, empties: usize) -> Result<(), AllocError>
     Ok(())
 }
 
-/// Appends what the lines behind a plain scalar add to it.
+/// Appends what the lines after a plain scalar add to it.
 fn push_continued(out: &mut String, indent: usize, lines: &[Line<'_>]) -> Result<(), YamlFault>
     ensures { Gives (λ (_ : Unit {0}). string_bytes out.new) result
         (behind (string_bytes out.old) (goes_on indent 0 lines.now)) }
@@ -200,7 +200,7 @@ fn push_continued(out: &mut String, indent: usize, lines: &[Line<'_>]) -> Result
     }
 }
 
-/// Appends a plain scalar behind an indicator, with what the lines behind it add to it.
+/// Appends a plain scalar after an indicator, with what the lines after it add to it.
 pub fn push_plain(
     out: &mut String,
     indent: usize,

@@ -33,7 +33,7 @@ fn white_len(text: &Characters<'_, '_>) -> usize
     at
 }
 
-/// How many of so many characters are line breaks.
+/// How many of the first n characters are line breaks.
 fn feeds_in(text: &Characters<'_, '_>, len: usize) -> usize
     requires { len ≤ length text.now }
     ensures count { result ≡ count_of is_feed (take len text.now) }
@@ -54,7 +54,7 @@ fn feeds_in(text: &Characters<'_, '_>, len: usize) -> usize
     count
 }
 
-/// Appends what so many characters of white space within quotes stand for.
+/// Appends what this many characters of white space within quotes stand for.
 fn push_white(out: &mut String, text: &Characters<'_, '_>, len: usize) -> Result<(), AllocError>
     requires { len ≤ length text.now }
     ensures { OnOk result (string_bytes out.new ≡ string_bytes out.old ++ encode_utf8_all
@@ -116,7 +116,7 @@ fn hex_digit(c: char) -> Option<u32>
     }
 }
 
-/// The number of so many hexadecimal digits.
+/// The number of this many hexadecimal digits.
 fn hex_number(count: usize, text: &Characters<'_, '_>) -> Option<u32>
     requires { count ≤ 8 }
     ensures value { result ≡ number count 0 text.now }

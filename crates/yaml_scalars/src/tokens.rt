@@ -63,7 +63,7 @@ fn push_word(out: &mut String, text: &Characters<'_, '_>) -> Result<usize, YamlF
     Ok(count)
 }
 
-/// Whether none of so many characters is a line break.
+/// Whether none of the first n characters is a line break.
 fn is_on_one_line(text: &Characters<'_, '_>, count: usize) -> bool
     requires { count ≤ length text.now }
     ensures { result ≡ on_one_line (take count text.now) }
@@ -138,7 +138,7 @@ fn does_make_key(
     is_on_one_line(text, count) && is_short(value) && is_key_colon(is_quoted, &without_gap(rest))
 }
 
-/// The token of the scalar at the front of a text, and how many characters it has behind its first.
+/// The token of the scalar at the front of a text, and how many characters it has after its first.
 fn scalar_token(alloc: Global, text: &Characters<'_, '_>) -> Result<(Token, usize), YamlFault>
     requires { 0 < length text.now }
     ensures value { Gives (λ (x : Token × ℕ). x) result (word_token text.now) }
@@ -155,7 +155,7 @@ fn scalar_token(alloc: Global, text: &Characters<'_, '_>) -> Result<(Token, usiz
 }
 
 /// Appends the tokens at the front of a text, and says whether it leaves a blank or a line break behind, and how many
-/// characters it has behind its first.
+/// characters it has after its first.
 fn push_token(
     alloc: Global,
     out: &mut Vec<Token>,

@@ -1,4 +1,4 @@
--- Keys that may be written: the files whose hashes a witness states have names of at most so many characters.
+-- Keys that may be written: the files whose hashes a witness states have names of at most this many characters.
 use Rattle.std.specs.Prelude.{◌≤◌, length}
 use Rattle.std.specs.List.{AllByRecursion}
 use Rattle.std.specs.Str.{chars}

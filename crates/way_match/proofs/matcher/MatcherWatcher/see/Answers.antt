@@ -23,9 +23,11 @@ invariant_of-self c =
       prepares = c.self.invariant.prepares;
       places = c.self.invariant.places;
       clear = c.self.invariant.clear;
+      covers = c.self.invariant.covers;
       states_each = c.pass_by.ensures.states ∙ c.self.invariant.states_each;
       rooms = c.self.invariant.rooms;
       passed = c.pass_by.ensures.passed (each_segment_view c.self.inside.bound.now.segments) states c.self.invariant.passed;
+      still = c.pass_by.ensures.still c.self.invariant.still;
     }
 
 pub returns-then-not-is_watched-clause-ok : goal.returns-then-not-is_watched-clause-ok

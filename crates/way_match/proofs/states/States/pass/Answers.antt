@@ -1,4 +1,4 @@
-use Rattle.std.proofs.Common.{◌≡◌, ◌+◌, [], length, sym, ◌∙◌, arith}
+use Rattle.std.proofs.Common.{◌≡◌, ◌+◌, [], length, sym, ◌∙◌, ap, arith}
 use Rattle.c_core.specs.View.{program_view}
 use Rattle.way_match.specs.inside.ByPlace.{event_spot, moved}
 use Rattle.way_match.specs.View.{each_segment_view}
@@ -26,3 +26,28 @@ returns-then-is_empty-clause-passed c =
     let l = segments_length c.args.segments.now in
     let states : length c.args.self.now.live.items ≡ length (each_segment_view c.args.segments.now) + 1 = omega (arith, l, c.requires.states) in
     c.pass_by.ensures.passed (each_segment_view c.args.segments.now) states c.requires.passed
+
+pub returns-then-rests-clause-ways : goal.returns-then-rests-clause-ways
+returns-then-rests-clause-ways c =
+    let l = segments_length c.args.segments.now in
+    let states : length c.args.self.now.live.items ≡ length (each_segment_view c.args.segments.now) + 1 = omega (arith, l, c.requires.states) in
+    c.pass_by-then-rests.ensures.rested (program_view c.args.program.now) (record { event = c.args.event; cells = c.args.memory.now.cells }) c.args.count (each_segment_view c.args.segments.now) states
+    (c.rests.ensures c.if-rests.true)
+
+pub returns-then-rests-clause-passed : goal.returns-then-rests-clause-passed
+returns-then-rests-clause-passed c =
+    let l = segments_length c.args.segments.now in
+    let states : length c.args.self.now.live.items ≡ length (each_segment_view c.args.segments.now) + 1 = omega (arith, l, c.requires.states) in
+    c.pass_by-then-rests.ensures.passed (each_segment_view c.args.segments.now) states c.requires.passed
+
+pub returns-clause-still : goal.returns-clause-still
+returns-clause-still c =
+    let l = segments_length c.args.segments.now in
+    let same : length c.raise.new.self.live.items ≡ length c.advance.new.self.live.items = ap length c.raise.ensures.live in
+    let states : length c.raise.new.self.live.items ≡ length (each_segment_view c.args.segments.now) + 1 = omega (arith, l, same, c.advance.ensures.states, c.requires.states) in
+    c.calm.ensures.still (each_segment_view c.args.segments.now) states c.raise.ensures.passed
+
+pub calm-requires : goal.calm-requires
+calm-requires c =
+    let same : length c.raise.new.self.live.items ≡ length c.advance.new.self.live.items = ap length c.raise.ensures.live in
+    omega (arith, same, c.advance.ensures.states, c.requires.states)

@@ -1,0 +1,3 @@
+pub mod Mode
+pub mod Judged
+pub mod Obliging

@@ -1,6 +1,0 @@
-use Rattle.std.proofs.Common.{arith}
-use Rattle.view_claims.proofs.FewWaypoints.{few}
-use Rattle.view_claims.proofs.few.are_few.Goals as goal
-
-pub returns : goal.returns
-returns c e = few c.loop-segment.segment-index c.loop-segment.room c.args.segments.now c.loop-segment.invariant (omega arith)
